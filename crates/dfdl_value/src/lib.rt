@@ -1,0 +1,15 @@
+// Values of the simple types: what each type's values are, exact decimal arithmetic, and the reading and
+// writing of a value as text. The contracts cite `IsOfType` of specs/Types.antt, which says what values a
+// type has, and the definitions of what a text means. It serves the chapter 'The DFDL Information Set' of
+// the DFDL 1.0 specification, GFD.240.
+#![tactic(auto)]
+
+pub mod fixed;
+pub mod held;
+pub mod simple;
+pub mod value;
+
+pub use fixed::Fixed;
+pub use held::{ByteValue, TextValue};
+pub use simple::Simple;
+pub use value::Value;

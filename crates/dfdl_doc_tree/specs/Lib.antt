@@ -1,0 +1,4 @@
+pub mod Node
+pub mod Content
+pub mod Document
+pub mod Shown

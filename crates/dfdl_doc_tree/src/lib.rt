@@ -1,0 +1,10 @@
+// The tree of a schema document. `read` answers the tree of the bytes that `IsDocument` gives them, and refuses all
+// others; the rest are the accessors of a tree. A document is a small subset of XML in ASCII. Serves the chapter
+// 'DFDL Schema Component Model', whose components are written as XML.
+#![tactic(auto)]
+
+mod fault;
+mod tree;
+
+pub use fault::DocFault;
+pub use tree::Tree;

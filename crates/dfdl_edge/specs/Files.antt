@@ -1,0 +1,14 @@
+-- What a load of a file answers.
+use Rattle.std.specs.Prelude.{Option, Some, None, Result, Ok, Err, ◌≡◌, ℕ, List, ◌<◌, ◌≤◌, length, Vec}
+use Rattle.std.specs.declared.alloc.Global.{Global}
+use Rattle.dfdl_edge.specs.declared.loading.LoadFault.{LoadFault}
+use Rattle.dfdl_edge.specs.declared.loading.LoadFault.TheVariants.{Failed, TooLarge, OutOfMemory}
+
+-- Where the bytes are told and the load has not failed, the file is too large exactly where it is longer than
+-- `most`, and the size is its length.
+abbrev pub IsTooLargeExactly : Option (List ℕ) → ℕ → Result (Vec ℕ Global) LoadFault → Type 0
+IsTooLargeExactly None most result = Unit {0}
+IsTooLargeExactly (Some all) most (Err Failed) = Unit {0}
+IsTooLargeExactly (Some all) most (Err (TooLarge size)) = (most < length all) × (size ≡ length all)
+IsTooLargeExactly (Some all) most (Err OutOfMemory) = length all ≤ most
+IsTooLargeExactly (Some all) most (Ok bytes) = length all ≤ most

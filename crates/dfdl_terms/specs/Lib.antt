@@ -1,0 +1,4 @@
+pub mod Causes
+pub mod Record
+pub mod RecordShown
+pub mod Rows

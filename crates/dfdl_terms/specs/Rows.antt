@@ -1,0 +1,47 @@
+-- Tables of rows: each row's children stand below it.
+use Rattle.std.specs.Prelude.{◌≡◌, ℕ, ◌<◌, ◌≤◌, List, length, All, slice_get, Some}
+use Rattle.dfdl_terms.specs.declared.row.Primitive.{Primitive}
+use Rattle.dfdl_terms.specs.declared.row.Row.{Row}
+use Rattle.dfdl_terms.specs.declared.row.Row.TheVariants.{Leaf, Elem, Group}
+
+-- the rows of a schema, and what they name by numbers
+pub record Table : Type 0 where
+  pub rows : List Row
+  pub primitives : List Primitive
+
+-- the most rows of one schema
+abbrev pub most_rows : ℕ
+most_rows = 65535
+
+-- each child of the row is below the bound
+abbrev pub ChildrenBelow : ℕ → Row → Type 0
+ChildrenBelow bound (Leaf prim) = Unit {0}
+ChildrenBelow bound (Elem name simple body) = body < bound
+ChildrenBelow bound (Group children) = All (λ c. c < bound) children
+
+-- each child is below its row, for the first so many rows
+abbrev pub NestsBelow : ℕ → List Row → Type 0
+NestsBelow count rows = (i : ℕ) (row : Row) → i < count → slice_get rows i ≡ Some row → ChildrenBelow i row
+
+abbrev pub Nests : List Row → Type 0
+Nests rows = NestsBelow (length rows) rows
+
+-- the row has a child that isn't below it, and no row before it has one
+pub record IsFirstBad (rows : List Row) (at : ℕ) : Type 0 where
+  pub row : Row
+  pub there : slice_get rows at ≡ Some row
+  pub bad : ChildrenBelow at row → ⊥
+  pub before : NestsBelow at rows
+
+-- the row's numbers are in the tables
+abbrev pub NamesWithin : ℕ → Row → Type 0
+NamesWithin primitives (Leaf prim) = prim < primitives
+NamesWithin primitives (Elem name simple body) = Unit {0}
+NamesWithin primitives (Group children) = Unit {0}
+
+-- rows that can be a schema's
+pub record IsTable (t : Table) : Type 0 where
+  pub some : 0 < length t.rows
+  pub few : length t.rows ≤ most_rows
+  pub nests : Nests t.rows
+  pub named : All (NamesWithin (length t.primitives)) t.rows

@@ -1,0 +1,118 @@
+ghost use Rattle.std.specs.Prelude.{◌≡◌, ◌<◌, List};
+
+use dfdl_int_binary::IntForm;
+use dfdl_value::{Simple, TextValue};
+use std::marker::Model;
+
+/// The number of a row, counted from 0.
+#[derive(Debug, Clone, Copy, PartialEq, Eq)]
+pub struct RowId {
+    number: u32,
+}
+
+impl Model for RowId {
+    ghost use Rattle.std.specs.Prelude.{ℕ};
+
+    ghost Value = { ℕ };
+
+    ghost view = { λ r. r.number };
+
+    ghost inverse = { λ n. record { number = n } };
+}
+
+impl RowId {
+    pub fn new(number: u32) -> RowId
+        ensures { result ≡ number }
+    {
+        RowId { number }
+    }
+
+    pub fn number(self) -> u32
+        ensures { result ≡ self }
+    {
+        self.number
+    }
+}
+
+/// Rows in the order of the schema.
+#[derive(Debug, Drop)]
+pub struct RowList {
+    ids: Vec<RowId>,
+}
+
+impl Model for RowList {
+    ghost use Rattle.std.specs.Prelude.{List, ℕ};
+
+    ghost Value = { List ℕ };
+
+    ghost view = { λ r. r.ids.items };
+}
+
+impl RowList {
+    pub fn new(ids: Vec<RowId>) -> RowList
+        ensures { result ≡ ids.items }
+    {
+        RowList { ids }
+    }
+
+    pub fn as_slice(&self) -> &[RowId]
+        ensures { result.now ≡ self.now }
+    {
+        self.ids.as_slice()
+    }
+}
+
+/// How the content of a simple element lies in its box.
+#[derive(Debug, Clone, Copy, PartialEq, Eq)]
+pub enum Primitive {
+    /// A binary integer ('Simple Types').
+    Integer(IntForm),
+}
+
+/// One step of the data syntax grammar.
+#[derive(Debug, Drop)]
+pub enum Row {
+    /// Reads the box by the primitive of this number in the tables.
+    Leaf {
+        prim: u32,
+    },
+    /// One element: its local name, its simple type if it has one, and its content.
+    Elem {
+        name: TextValue,
+        simple: Option<Simple>,
+        body: RowId,
+    },
+    /// A sequence of rows.
+    Group {
+        children: RowList,
+    },
+}
+
+/// What rows name by numbers.
+#[derive(Debug, Drop)]
+pub struct Tables {
+    primitives: Vec<Primitive>,
+}
+
+impl Model for Tables {
+    ghost use Rattle.std.specs.Prelude.{List};
+    ghost use Rattle.dfdl_terms.specs.declared.row.Primitive.{Primitive};
+
+    ghost Value = { List Primitive };
+
+    ghost view = { λ t. t.primitives.items };
+}
+
+impl Tables {
+    pub fn new(primitives: Vec<Primitive>) -> Tables
+        ensures { result ≡ primitives.items }
+    {
+        Tables { primitives }
+    }
+
+    pub fn primitives(&self) -> &[Primitive]
+        ensures { result.now ≡ self.now }
+    {
+        self.primitives.as_slice()
+    }
+}

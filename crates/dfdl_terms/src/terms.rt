@@ -1,0 +1,113 @@
+ghost use Rattle.dfdl_terms.specs.Rows.{most_rows, Nests, IsFirstBad, ChildrenBelow};
+ghost use Rattle.std.specs.Prelude.{ℕ, IfSome, IfNone, ◌≡◌, ◌<◌, ◌≤◌, ◌↔◌, ◌-◌, List, length, All, IsTrue, IfOk, IsOk, IsErrOf, Some, slice_get, vec_len};
+
+use super::row::{Row, RowId, Tables};
+use std::alloc::Global;
+use std::marker::Model;
+use thiserror::Error;
+
+/// The rows of a schema with what they name, each row's children below it. The last row is the root element's.
+#[derive(Debug, Drop)]
+pub struct Terms {
+    rows: Vec<Row>,
+    tables: Tables,
+}
+
+impl Model for Terms {
+    ghost use Rattle.dfdl_terms.specs.Rows.{Table, IsTable};
+
+    ghost Value = { Table };
+
+    ghost view = { λ t. record { rows = t.rows.items; primitives = t.tables } };
+
+    ghost invariant = { λ t. IsTable (record { rows = t.rows.items; primitives = t.tables }) };
+}
+
+/// Why rows are no terms.
+#[derive(Debug, Clone, Copy, PartialEq, Eq, Error)]
+pub enum TermFault {
+    /// There are more than 65,535 rows.
+    #[error("more rows than a schema may have")]
+    TooMany,
+    /// A child of this row isn't below it; it is the first such row.
+    #[error("a row that is not above its children")]
+    BadChild { row: RowId },
+    /// Answered by no call of today: a place is kept for tables that are copied.
+    #[error("out of memory")]
+    OutOfMemory,
+}
+
+/// The most rows of one schema.
+pub const MOST_ROWS: usize = 65535;
+
+// The first row with a child that isn't below it.
+fn first_bad(rows: &[Row]) -> Option<RowId>
+    requires { length rows.now ≤ most_rows }
+    ensures some { IfSome result (IsFirstBad rows.now) }
+    ensures none { IfNone result (Nests rows.now) }
+{
+    for (at, row) in rows.iter().enumerate() {
+        let id = RowId::new(at as u32);
+        if !has_children_below(row, id) {
+            return Some(id);
+        }
+    }
+    None
+}
+
+// Whether each child of the row is below the bound.
+fn has_children_below(row: &Row, bound: RowId) -> bool
+    ensures { IsTrue result ↔ ChildrenBelow bound row.now }
+{
+    match row {
+        Row::Leaf { .. } => true,
+        Row::Elem { body, .. } => body.number() < bound.number(),
+        Row::Group { children } => children
+            .as_slice()
+            .iter()
+            .all(|child| child.number() < bound.number()),
+    }
+}
+
+impl Terms {
+    ghost use Rattle.dfdl_terms.specs.Rows.{most_rows, Nests, ChildrenBelow, NamesWithin, IsFirstBad, IsTable};
+
+    pub fn build(_alloc: Global, rows: Vec<Row>, tables: Tables) -> Result<Terms, TermFault>
+        requires some { 0 < vec_len rows }
+        requires named { All (NamesWithin (length tables)) rows.items }
+        ensures ok { IfOk result (λ t. t ≡ record { rows = rows.items; primitives = tables }) }
+        ensures too_many { IsErrOf result TermFault.TooMany ↔ most_rows < vec_len rows }
+        ensures bad_child { (row : ℕ) → result ≡ Err (TermFault.BadChild row) → IsFirstBad rows.items row }
+        ensures nests { IsOk result ↔ ((vec_len rows ≤ most_rows) × Nests rows.items) }
+    {
+        if rows.len() > MOST_ROWS {
+            return Err(TermFault::TooMany);
+        }
+        match first_bad(&rows) {
+            Some(row) => Err(TermFault::BadChild { row }),
+            None => Ok(Terms { rows, tables }),
+        }
+    }
+
+    pub fn rows(&self) -> u32
+        ensures count { result ≡ length self.now.rows }
+        ensures table { IsTable self.now }
+    {
+        self.rows.len() as u32
+    }
+
+    pub fn row(&self, id: RowId) -> &Row
+        requires { id < length self.now.rows }
+        ensures row { slice_get self.now.rows id ≡ Some result.now }
+        ensures nests { ChildrenBelow id result.now }
+        ensures named { NamesWithin (length self.now.primitives) result.now }
+    {
+        &self.rows[id.number() as usize]
+    }
+
+    pub fn tables(&self) -> &Tables
+        ensures { result.now ≡ self.now.primitives }
+    {
+        &self.tables
+    }
+}

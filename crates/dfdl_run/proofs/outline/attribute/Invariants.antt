@@ -1,0 +1,10 @@
+use Rattle.std.proofs.Common.{◌≡◌, drop}
+use Rattle.dfdl_doc_tree.specs.Node.{node_at}
+use Rattle.dfdl_run.specs.Schema.{value_of}
+use Rattle.dfdl_run.proofs.outline.attribute.Given as goal
+
+-- the attributes that are left give the same answer as all
+abbrev pub invariant-loop-at : goal.invariant-loop-at
+invariant-loop-at l =
+    let attributes = (node_at l.tree l.element).attributes in
+    value_of l.name attributes ≡ value_of l.name (drop l.at attributes)

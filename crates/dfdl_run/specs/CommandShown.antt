@@ -1,0 +1,6 @@
+-- What a clause sees of a command.
+use Rattle.dfdl_run.specs.Command.{Order}
+use Rattle.dfdl_run.specs.declared.command.Command.{Command}
+
+abbrev pub order_shown : Command → Order
+order_shown c = record { verb = c.verb; schema = c.schema.now }

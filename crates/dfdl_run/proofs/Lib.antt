@@ -1,1 +1,5 @@
+pub mod Different
+pub mod FieldLists
+pub mod RowLemmas
+pub mod Shapes
 pub mod Words

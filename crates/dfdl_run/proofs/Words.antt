@@ -1,10 +1,10 @@
 -- The place at which words stop being a command.
-use Rattle.std.proofs.Common.{◌≡◌, ◌≢◌, ℕ, ◌+◌, ◌<◌, ◌≤◌, ◌-◌, List, [], ◌∷◌, ◌++◌, length, take, drop, map, get_or, refl, sym, ap, subst, arith, codes, ◌∙◌}
+use Rattle.std.proofs.Common.{◌≡◌, ℕ, ◌<◌, ◌≤◌, ◌-◌, List, [], ◌∷◌, length, take, drop, map, get_or, refl, sym, ap, subst, arith, codes, ◌∙◌}
 use Rattle.std.proofs.Math.Seq.{take-length}
-use Rattle.dfdl_fronts.specs.Fronts.{IsFront, IsPlace}
+use Rattle.dfdl_fronts.specs.Fronts.{IsPlace}
 use Rattle.dfdl_run.specs.declared.command.Verb.{Verb}
 use Rattle.dfdl_run.specs.declared.command.Verb.TheVariants.{Parse}
-use Rattle.dfdl_run.specs.Command.{Order, Orders, IsCommand, IsOperand, verb_word}
+use Rattle.dfdl_run.specs.Command.{IsCommand, IsOperand, verb_word}
 
 -- each verb has a command, with an operand of one letter
 a_command : (verb : Verb) → IsCommand (verb_word verb ∷ (codes "s" ∷ []))

@@ -1,10 +1,10 @@
 -- What the data of a record comes to: its infoset and what is left, or the place at which the data ends.
-use Rattle.std.specs.Prelude.{ℕ, ◌+◌, ◌*◌, ◌-◌, if◌then◌else◌, nat_le, List, [], ◌∷◌, ◌++◌, length, fold, decimal}
+use Rattle.std.specs.Prelude.{ℕ, ◌+◌, ◌*◌, if◌then◌else◌, nat_le, List, [], ◌∷◌, ◌++◌, length, fold, decimal}
 use Rattle.serde_json.specs.Data.{Data, string, object, Members, no_members, put}
 use Rattle.serde_json.specs.Written.{compact_text}
 use Rattle.dfdl_bits.specs.Bits.{number_of}
 use Rattle.dfdl_int_binary.specs.declared.form.IntForm.{IntForm}
-use Rattle.dfdl_terms.specs.Record.{Field, Record}
+use Rattle.dfdl_terms.specs.Record.{Field}
 
 -- an element's name and its number
 pub record Item : Type 0 where

@@ -1,6 +1,6 @@
 -- Which documents are schemas of a record: a root element whose content is a sequence of binary unsigned integers.
-use Rattle.std.specs.Prelude.{◌≡◌, ◌≢◌, ℕ, ◌+◌, ◌<◌, ◌≤◌, ◌==◌, ◌&&◌, ◌||◌, Bool, true, false, if◌then◌else◌, List, [], ◌∷◌, length, map, Option, None, Some, option_map, option_and_then, codes, bytes_eq, is_some}
-use Rattle.std.specs.List.{list_all, AllPairs}
+use Rattle.std.specs.Prelude.{◌≡◌, ◌≢◌, ℕ, ◌<◌, ◌≤◌, ◌==◌, ◌&&◌, Bool, false, if◌then◌else◌, List, [], ◌∷◌, length, map, Option, None, Some, option_map, option_and_then, codes, bytes_eq}
+use Rattle.std.specs.List.{AllPairs}
 use Rattle.dfdl_bits.specs.declared.order.BitOrder.TheVariants.{MostFirst}
 use Rattle.dfdl_bits.specs.declared.order.ByteOrder.{ByteOrder}
 use Rattle.dfdl_bits.specs.declared.order.ByteOrder.TheVariants.{Big, Little}

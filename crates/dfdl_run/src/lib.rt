@@ -7,4 +7,5 @@
 #![tactic(auto)]
 
 mod command;
+mod compile;
 mod outline;

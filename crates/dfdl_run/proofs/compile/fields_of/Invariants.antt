@@ -1,0 +1,11 @@
+use Rattle.std.proofs.Common.{◌≡◌, [], map, drop}
+use Rattle.dfdl_doc_tree.specs.Node.{node_at}
+use Rattle.dfdl_terms.specs.RecordShown.{field_shown}
+use Rattle.dfdl_run.specs.Schema.{field_of}
+use Rattle.dfdl_run.proofs.FieldLists.{with_left}
+use Rattle.dfdl_run.proofs.compile.fields_of.Given as goal
+
+-- the fields so far and those of the elements that are left are those of all
+abbrev pub invariant-loop-element : goal.invariant-loop-element
+invariant-loop-element l =
+    with_left (λ e. field_of (node_at l.tree e)) [] l.elements ≡ with_left (λ e. field_of (node_at l.tree e)) (map field_shown l.fields.items) (drop l.element-index l.elements)

@@ -1,0 +1,7 @@
+use Rattle.std.proofs.Common.{map}
+use Rattle.dfdl_terms.specs.RecordShown.{field_shown}
+use Rattle.dfdl_run.proofs.RowLemmas.{IsMade}
+use Rattle.dfdl_run.proofs.compile.rows_of_fields.Given as goal
+
+abbrev pub invariant-loop-at : goal.invariant-loop-at
+invariant-loop-at l = IsMade l.rows.items l.elements.items l.primitives.items l.at (map field_shown l.fields)

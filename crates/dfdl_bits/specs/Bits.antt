@@ -41,7 +41,16 @@ unfoldable pub number_of : List ℕ → ℕ → ℕ → ByteOrder → BitOrder �
 number_of bytes bit len bytes_by bits_by =
     sum_below len (λ i. data_bit bits_by bytes (bit + i) * 2 ^ weight_of bytes_by bits_by len i)
 
+-- a byte with part in place of its len bits from the place low on
+unfoldable pub patched : ℕ → ℕ → ℕ → ℕ → ℕ
+patched byte low len part = (byte / 2 ^ (low + len) * 2 ^ len + part) * 2 ^ low + byte % 2 ^ low
+
 -- the data keeps each bit outside of the len bits that begin at a bit
 pub record KeepsOutside (bits_by : BitOrder) (old new : List ℕ) (bit len : ℕ) : Type 0 where
   pub before : (k : ℕ) → k < bit → data_bit bits_by new k ≡ data_bit bits_by old k
   pub after : (k : ℕ) → bit + len ≤ k → data_bit bits_by new k ≡ data_bit bits_by old k
+
+-- the len bits that begin at a bit now have this number, and all other bits are as before
+pub record Puts (bytes_by : ByteOrder) (bits_by : BitOrder) (old new : List ℕ) (bit len value : ℕ) : Type 0 where
+  pub number : number_of new bit len bytes_by bits_by ≡ value
+  pub kept : KeepsOutside bits_by old new bit len

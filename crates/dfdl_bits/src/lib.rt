@@ -1,7 +1,21 @@
 // Bits and bytes of the data: the number of a range of bits under each bit order and byte order, and the
 // window through which a parser looks at bytes while they come in pieces.
-// The contracts cite `number_of` (`specs/Bits.antt`) and `seen_at` (`specs/Held.antt`).
+// The contracts cite `number_of` (`specs/Bits.antt`) and `seen_at` (`specs/Window.antt`).
 // Serves 'Properties Common to both Content and Framing' and 'Simple Types'.
 #![tactic(auto)]
 
+mod number;
 pub mod order;
+mod put;
+mod ring;
+pub mod steps;
+pub mod window;
+
+pub use number::number_at;
+pub use order::{BitOrder, ByteOrder};
+pub use put::put_number;
+pub use steps::Steps;
+pub use window::{Seen, Window};
+
+#[cfg(test)]
+mod tests;

@@ -4,3 +4,5 @@ pub mod Source
 pub mod Sink
 pub mod Files
 pub mod Patterns
+pub mod Memory
+pub mod Whole

@@ -11,7 +11,7 @@ use thiserror::Error;
 #[derive(Clone, Copy, Debug, PartialEq, Eq, Error)]
 pub enum PatternRefusal {
     /// The text is no pattern, or its pattern would be too big.
-    #[error("refused")]
+    #[error("the pattern is refused")]
     Refused,
     #[error("out of memory")]
     OutOfMemory,

@@ -6,11 +6,25 @@
 #![tactic(auto)]
 
 mod building;
+mod calls;
 mod loading;
+mod memory_bytes;
+mod memory_files;
+mod patterns_of_regex;
 mod reading;
+mod system;
+mod whole;
 mod writing;
 
 pub use building::{PatternRefusal, Patterns};
 pub use loading::{Files, LoadFault};
+pub use memory_bytes::{MemorySink, MemorySource};
+pub use memory_files::{MemoryFile, MemoryFiles};
+pub use patterns_of_regex::{MemoryPatterns, RegexPatterns};
 pub use reading::{Failed, Source};
+pub use system::{DirFiles, StdSink, StdSource};
+pub use whole::{ReadFault, read_to_limit};
 pub use writing::Sink;
+
+#[cfg(test)]
+mod tests;

@@ -10,10 +10,10 @@ use thiserror::Error;
 #[derive(Clone, Copy, Debug, PartialEq, Eq, Error)]
 pub enum LoadFault {
     /// The file is missing or can't be read.
-    #[error("failed")]
+    #[error("the file is missing or can not be read")]
     Failed,
     /// The file is longer than was allowed: `size` is its length in bytes.
-    #[error("too large: {size} bytes")]
+    #[error("the file has {size} bytes, more than are allowed")]
     TooLarge { size: u64 },
     #[error("out of memory")]
     OutOfMemory,

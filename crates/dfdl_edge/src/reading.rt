@@ -6,7 +6,7 @@ use thiserror::Error;
 
 /// A read or a write failed.
 #[derive(Clone, Copy, Debug, PartialEq, Eq, Error)]
-#[error("failed")]
+#[error("a read or a write failed")]
 pub struct Failed;
 
 /// Bytes that come in, as the data that is parsed.

@@ -1,2 +1,5 @@
 pub mod Decimal
+pub mod Reading
+pub mod Texts
 pub mod Types
+pub mod Writing

@@ -1,25 +1,12 @@
 -- What values each simple type has.
-use Rattle.std.specs.Prelude.{ℕ, ◌-◌, ◌^◌, ◌<◌, ℤ, pos, neg_ℤ, ◌≤ℤ◌}
+use Rattle.std.specs.Prelude.{ℕ, ◌-◌, ◌^◌, ◌<◌, ◌≤◌, ℤ, pos, neg_ℤ, ◌≤ℤ◌}
 use Rattle.dfdl_value.specs.declared.simple.Simple.{Simple}
 use Rattle.dfdl_value.specs.declared.simple.Simple.TheVariants.{String, HexBinary, Boolean, Decimal, Integer, NonNegativeInteger, Byte, Short, Int as IntType, Long, UnsignedByte, UnsignedShort, UnsignedInt, UnsignedLong}
+use Rattle.dfdl_value.specs.declared.simple.Form.{Form}
+use Rattle.dfdl_value.specs.declared.simple.Form.TheVariants.{Signed, Unsigned, Fixed, Characters, Truths, Octets}
 use Rattle.dfdl_value.specs.declared.value.Value.{Value}
 use Rattle.dfdl_value.specs.declared.value.Value.TheVariants.{Int, Uns, Dec, Text, Truth, Bytes}
 use Rattle.dfdl_value.specs.Decimal.{IsFixed}
-
--- the form of a type's values
-pub data Form : Type 0 where
-  -- whole numbers from -2 ^ (bits - 1) to 2 ^ (bits - 1) - 1
-  Signed : ℕ → Form
-  -- whole numbers from 0 to 2 ^ bits - 1
-  Unsigned : ℕ → Form
-  -- decimal numbers that `Fixed` carries
-  Fixed : Form
-  -- texts
-  Characters : Form
-  -- true and false
-  Truths : Form
-  -- bytes
-  Octets : Form
 
 -- the form of each type's values, and the bits of each integer type
 abbrev pub form_of : Simple → Form
@@ -37,6 +24,18 @@ form_of Decimal = Fixed
 form_of String = Characters
 form_of Boolean = Truths
 form_of HexBinary = Octets
+
+-- values of this form hold memory of their own
+abbrev pub HoldsMemory : Form → Type 0
+HoldsMemory Characters = Unit {0}
+HoldsMemory Octets = Unit {0}
+HoldsMemory _ = ⊥
+
+-- whole numbers of this form have from 1 to 128 bits
+abbrev pub HasFewBits : Form → Type 0
+HasFewBits (Signed bits) = (1 ≤ bits) × (bits ≤ 128)
+HasFewBits (Unsigned bits) = (1 ≤ bits) × (bits ≤ 128)
+HasFewBits _ = Unit {0}
 
 -- the least and the greatest number of a signed type
 abbrev pub least_signed : ℕ → ℤ

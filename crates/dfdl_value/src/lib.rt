@@ -4,12 +4,19 @@
 // the DFDL 1.0 specification, GFD.240.
 #![tactic(auto)]
 
+mod decimal;
 pub mod fixed;
 pub mod held;
+mod integer;
+mod octets;
+pub mod read;
 pub mod simple;
+mod text;
 pub mod value;
+mod write;
 
 pub use fixed::Fixed;
 pub use held::{ByteValue, TextValue};
-pub use simple::Simple;
+pub use read::ReadFault;
+pub use simple::{Form, Simple};
 pub use value::Value;

@@ -1,0 +1,7 @@
+pub mod Sums
+pub mod Numbers
+pub mod Shifts
+pub mod Reading
+pub mod Patches
+pub mod Putting
+pub mod Rings

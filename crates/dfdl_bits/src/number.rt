@@ -1,0 +1,119 @@
+// The number of a range of bits, read by whole bytes.
+ghost use Rattle.std.specs.Prelude.{◌≡◌, ◌+◌, ◌*◌, ◌/◌, ◌%◌, ◌^◌, ◌<◌, ◌≤◌, length};
+ghost use Rattle.dfdl_bits.specs.Bits.{number_of};
+ghost use Rattle.dfdl_bits.specs.declared.order.BitOrder.TheVariants.{MostFirst, LeastFirst};
+ghost use Rattle.dfdl_bits.specs.declared.order.ByteOrder.TheVariants.{Big, Little};
+
+use crate::order::{BitOrder, ByteOrder};
+
+/// The number of the `len` bits of the data that begin at bit `bit`.
+#[tactic(auto, using(crate::proofs::Numbers::number_below))]
+pub fn number_at(bytes: &[u8], bit: u64, len: u32, bytes_by: ByteOrder, bits_by: BitOrder) -> u128
+    requires few { len ≤ 128 }
+    requires inside { bit + len ≤ 8 * length bytes.now }
+    ensures number { result ≡ number_of bytes.now bit len bytes_by bits_by }
+    ensures below { result < 2 ^ len }
+{
+    if len == 0 {
+        return 0;
+    }
+    let first = (bit / 8) as usize;
+    let skip = (bit % 8) as u32;
+    match bits_by {
+        BitOrder::LeastFirst => rising(bytes, first, skip, len),
+        BitOrder::MostFirst => match bytes_by {
+            ByteOrder::Big => falling(bytes, first, skip, len),
+            ByteOrder::Little if skip == 0 && len % 8 == 0 => whole(bytes, first, len),
+            ByteOrder::Little => grouped(bytes, first, skip, len),
+        },
+    }
+}
+
+// Most significant bit first, big endian.
+fn falling(bytes: &[u8], first: usize, skip: u32, len: u32) -> u128
+    requires some { 0 < len }
+    requires few { len ≤ 128 }
+    requires skip { skip < 8 }
+    requires inside { 8 * first + skip + len ≤ 8 * length bytes.now }
+    ensures { result ≡ number_of bytes.now (8 * first + skip) len Big MostFirst }
+{
+    let spanned = skip + len;
+    if spanned <= 8 {
+        return u128::from(cut(bytes[first], 8 - spanned, len));
+    }
+    let last = first + (spanned / 8) as usize;
+    let mut number = u128::from(cut(bytes[first], 0, 8 - skip));
+    for byte in &bytes[first + 1..last] {
+        number = number << 8 | u128::from(*byte);
+    }
+    let rest = spanned % 8;
+    if rest == 0 {
+        return number;
+    }
+    number << rest | u128::from(cut(bytes[last], 8 - rest, rest))
+}
+
+// Least significant bit first.
+fn rising(bytes: &[u8], first: usize, skip: u32, len: u32) -> u128
+    requires some { 0 < len }
+    requires few { len ≤ 128 }
+    requires skip { skip < 8 }
+    requires inside { 8 * first + skip + len ≤ 8 * length bytes.now }
+    ensures { result ≡ number_of bytes.now (8 * first + skip) len Little LeastFirst }
+{
+    let spanned = skip + len;
+    if spanned <= 8 {
+        return u128::from(cut(bytes[first], skip, len));
+    }
+    let last = first + (spanned / 8) as usize;
+    let mut number = u128::from(cut(bytes[first], skip, 8 - skip));
+    let mut read = 8 - skip;
+    for byte in &bytes[first + 1..last] {
+        number |= u128::from(*byte) << read;
+        read += 8;
+    }
+    let rest = spanned % 8;
+    if rest == 0 {
+        return number;
+    }
+    number | u128::from(cut(bytes[last], 0, rest)) << read
+}
+
+// Most significant bit first, little endian: group after group of eight bits.
+fn grouped(bytes: &[u8], first: usize, skip: u32, len: u32) -> u128
+    requires few { len ≤ 128 }
+    requires skip { skip < 8 }
+    requires inside { 8 * first + skip + len ≤ 8 * length bytes.now }
+    ensures { result ≡ number_of bytes.now (8 * first + skip) len Little MostFirst }
+{
+    let groups = len / 8;
+    let mut number = 0;
+    for group in 0..groups {
+        number |= falling(bytes, first + group as usize, skip, 8) << (8 * group);
+    }
+    let rest = len % 8;
+    if rest == 0 {
+        return number;
+    }
+    number | falling(bytes, first + groups as usize, skip, rest) << (8 * groups)
+}
+
+// Whole bytes, little endian.
+fn whole(bytes: &[u8], first: usize, len: u32) -> u128
+    requires some { 0 < len }
+    requires few { len ≤ 128 }
+    requires whole { len % 8 ≡ 0 }
+    requires inside { 8 * first + len ≤ 8 * length bytes.now }
+    ensures { result ≡ number_of bytes.now (8 * first) len Little MostFirst }
+{
+    rising(bytes, first, 0, len)
+}
+
+// The bits of a byte from the place `low` on, `len` of them, counted from the least significant.
+fn cut(byte: u8, low: u32, len: u32) -> u8
+    requires { low + len ≤ 8 }
+    ensures value { result ≡ byte / 2 ^ low % 2 ^ len }
+    ensures below { result < 2 ^ len }
+{
+    (u32::from(byte) >> low & ((1 << len) - 1)) as u8
+}

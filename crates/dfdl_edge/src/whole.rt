@@ -1,0 +1,132 @@
+// The reading of a whole source.
+ghost use Rattle.std.specs.Prelude.{◌≡◌, ◌≢◌, ◌+◌, ◌-◌, ◌^◌, ◌<◌, ◌≤◌, ◌++◌, [], take, drop, length, IfOk, OnOk, OnErr, IsErrOf, vec_len};
+ghost use Rattle.dfdl_edge.specs.Faults.{Rose};
+ghost use Rattle.dfdl_edge.specs.Told.{IsAll, IsLonger, IsWithin};
+ghost use Rattle.dfdl_edge.specs.Source.{Takes};
+ghost use Rattle.dfdl_edge.specs.Whole.{IsUsedUp, IsRestOf};
+
+use crate::reading::{Failed, Source};
+use std::alloc::{AllocError, Global};
+use thiserror::Error;
+
+/// Why a source was not read to its end.
+#[derive(Clone, Copy, Debug, PartialEq, Eq, Error)]
+pub enum ReadFault {
+    /// A read failed.
+    #[error("a read failed")]
+    Failed,
+    /// The source gave a byte past the greatest number allowed.
+    #[error("there are more bytes than are allowed")]
+    TooLarge,
+    #[error("out of memory")]
+    OutOfMemory,
+}
+
+impl From<Failed> for ReadFault {
+    ghost use Rattle.std.specs.Prelude.{◌≡◌};
+    ghost use Rattle.dfdl_edge.specs.declared.whole.ReadFault.TheVariants as fault;
+
+    ghost from_gives = { λ _ error. error ≡ fault.Failed };
+
+    fn from(_: Failed) -> ReadFault {
+        ReadFault::Failed
+    }
+}
+
+impl From<AllocError> for ReadFault {
+    ghost use Rattle.std.specs.Prelude.{◌≡◌};
+    ghost use Rattle.dfdl_edge.specs.declared.whole.ReadFault.TheVariants as fault;
+
+    ghost from_gives = { λ _ error. error ≡ fault.OutOfMemory };
+
+    fn from(_: AllocError) -> ReadFault {
+        ReadFault::OutOfMemory
+    }
+}
+
+// How many bytes are made room for at a time.
+const CHUNK: usize = 64 * 1024;
+
+#[tactic(auto, using(crate::proofs::Filling::is_after_read))]
+/// All bytes that a source has left, of which `most` are allowed. Memory is taken as bytes come.
+pub fn read_to_limit<S: Source>(
+    alloc: Global,
+    source: &mut S,
+    most: u64,
+) -> Result<Vec<u8>, ReadFault>
+    ensures bytes { IfOk result (λ v. IsAll (S.left source.old) v.items) }
+    ensures fits { IfOk result (λ v. vec_len v ≤ most) }
+    ensures used_up { OnOk result (IsUsedUp (S.left source.old) (S.left source.new)) }
+    ensures within { OnOk result (IsWithin (S.left source.old) most) }
+    ensures too_large { IsErrOf result ReadFault.TooLarge → IsLonger (S.left source.old) most }
+    ensures rest { IsRestOf (S.left source.old) (S.left source.new) }
+
+    // A Vec has fewer than 2 ^ 63 bytes, so a greater limit is not passed.
+    ensures limit { IsErrOf result ReadFault.TooLarge → most < 2 ^ 63 }
+
+    ensures later { S.faults source.old ≤ S.faults source.new }
+    ensures cause { IsErrOf result ReadFault.Failed → Rose (S.faults source.old) (S.faults source.new) }
+    ensures still { result ≢ Err ReadFault.Failed → S.faults source.new ≡ S.faults source.old }
+{
+    let most = most as usize;
+    let mut bytes = Vec::new(alloc);
+    let mut filled = 0;
+    while filled < most {
+        let count = read_more(source, &mut bytes, filled, most)?;
+        if count == 0 {
+            bytes.truncate(filled);
+            return Ok(bytes);
+        }
+        filled += count;
+    }
+    expect_end(source)?;
+    Ok(bytes)
+}
+
+// One read behind the first `filled` bytes, where room is made if there is none.
+fn read_more<S: Source>(
+    source: &mut S,
+    bytes: &mut Vec<u8>,
+    filled: usize,
+    most: usize,
+) -> Result<usize, ReadFault>
+    requires filled { filled ≤ vec_len bytes.old }
+    requires within { vec_len bytes.old ≤ most }
+    requires room { filled < most }
+    ensures count { IfOk result (λ count. filled + count ≤ vec_len bytes.new) }
+    ensures within { vec_len bytes.new ≤ most }
+    ensures front { OnOk result (take filled bytes.new.items ≡ take filled bytes.old.items) }
+    ensures takes { IfOk result (λ count. Takes (S.left source.old) count (drop filled bytes.new.items) (S.left source.new)) }
+    ensures err { OnErr result (S.left source.new ≡ S.left source.old) }
+    ensures never { result ≢ Err ReadFault.TooLarge }
+
+    ensures later { S.faults source.old ≤ S.faults source.new }
+    ensures cause { IsErrOf result ReadFault.Failed → Rose (S.faults source.old) (S.faults source.new) }
+    ensures still { result ≢ Err ReadFault.Failed → S.faults source.new ≡ S.faults source.old }
+{
+    if filled == bytes.len() {
+        let room = filled.saturating_add(CHUNK).min(most);
+        bytes.resize(room, 0)?;
+    }
+    let count = source.read(&mut bytes[filled..])?;
+    Ok(count)
+}
+
+// The source has no byte left.
+fn expect_end<S: Source>(source: &mut S) -> Result<(), ReadFault>
+    ensures used_up { OnOk result (IsUsedUp (S.left source.old) (S.left source.new)) }
+    ensures ended { OnOk result (IsAll (S.left source.old) []) }
+    ensures too_large { IsErrOf result ReadFault.TooLarge → IsLonger (S.left source.old) 0 }
+    ensures memory { result ≢ Err ReadFault.OutOfMemory }
+    ensures rest { IsRestOf (S.left source.old) (S.left source.new) }
+
+    ensures later { S.faults source.old ≤ S.faults source.new }
+    ensures cause { IsErrOf result ReadFault.Failed → Rose (S.faults source.old) (S.faults source.new) }
+    ensures still { result ≢ Err ReadFault.Failed → S.faults source.new ≡ S.faults source.old }
+{
+    let mut next = [0u8; 1];
+    match source.read(&mut next)? {
+        0 => Ok(()),
+        _ => Err(ReadFault::TooLarge),
+    }
+}

@@ -1,0 +1,9 @@
+use Rattle.std.proofs.Common.{◌≡◌, length}
+use Rattle.dfdl_value.specs.Texts.{is_xml_space, without_trailing}
+use Rattle.dfdl_value.proofs.text.without_trailing_space.Given as goal
+
+abbrev pub invariant-loop-rest : goal.invariant-loop-rest
+invariant-loop-rest l = without_trailing is_xml_space l.rest ≡ without_trailing is_xml_space l.fn.text
+
+abbrev pub decreases-loop-rest : goal.decreases-loop-rest
+decreases-loop-rest l = length l.rest

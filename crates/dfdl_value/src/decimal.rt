@@ -1,0 +1,122 @@
+// The reading of decimal numbers.
+ghost use Rattle.std.specs.Prelude.{◌≡◌, ◌^◌, ◌<◌, ◌≤◌, length, ◌++◌, Some, IsTrue};
+ghost use Rattle.std.specs.Char.{is_ascii_digit};
+ghost use Rattle.std.specs.List.{list_all, position, position_or_len, before_first, after_first};
+ghost use Rattle.std.specs.Option.{SomeIff};
+ghost use Rattle.dfdl_value.specs.Decimal.{fixed_of};
+ghost use Rattle.dfdl_value.specs.Reading.{decimal_reading};
+ghost use Rattle.dfdl_value.specs.Texts.{is_point, is_zero, without_trailing, decimal_of, with_sign, number_of};
+
+use super::fixed::Fixed;
+use super::read::ReadFault;
+use super::text::{appended, are_digits, is_negative, unsigned_part};
+use super::value::Value;
+
+fn first_point(text: &[u8]) -> Option<usize>
+    ensures { result ≡ position is_point text.now }
+{
+    text.iter().position(|byte| *byte == b'.')
+}
+
+/// The place of the first point, or the length of the text.
+fn point_of(text: &[u8]) -> usize
+    ensures place { result ≡ position_or_len is_point text.now }
+    ensures bound { result ≤ length text.now }
+{
+    match first_point(text) {
+        Some(at) => at,
+        None => text.len(),
+    }
+}
+
+fn before_point(text: &[u8]) -> &[u8]
+    ensures { result.now ≡ before_first is_point text.now }
+{
+    let at = point_of(text);
+    &text[..at]
+}
+
+fn after_point(text: &[u8]) -> &[u8]
+    ensures { result.now ≡ after_first is_point text.now }
+{
+    let at = point_of(text);
+    if at < text.len() {
+        &text[at + 1..]
+    } else {
+        &text[at..]
+    }
+}
+
+fn without_trailing_zeros(digits: &[u8]) -> &[u8]
+    requires { IsTrue (list_all is_ascii_digit digits.now) }
+    ensures kept { result.now ≡ without_trailing is_zero digits.now }
+    ensures digits { IsTrue (list_all is_ascii_digit result.now) }
+{
+    let mut rest = digits;
+    while let [others @ .., last] = rest {
+        if *last != b'0' {
+            break;
+        }
+        rest = others;
+    }
+    rest
+}
+
+/// The greatest number of digits.
+const DIGITS: u128 = 100_000_000_000_000_000_000_000_000_000_000_000_000;
+
+fn signed(negative: bool, magnitude: u128) -> i128
+    requires { magnitude < 10 ^ 38 }
+    ensures { result ≡ with_sign negative magnitude }
+{
+    if negative {
+        -(magnitude as i128)
+    } else {
+        magnitude as i128
+    }
+}
+
+/// The number that the digits write one after the other, if it has 128 bits at most.
+fn joined(whole: &[u8], fraction: &[u8]) -> Option<u128>
+    requires whole { IsTrue (list_all is_ascii_digit whole.now) }
+    requires fraction { IsTrue (list_all is_ascii_digit fraction.now) }
+    ensures { SomeIff result (number_of (whole.now ++ fraction.now) < 2 ^ 128) (number_of (whole.now ++ fraction.now)) }
+{
+    let number = appended(0, whole)?;
+    appended(number, fraction)
+}
+
+/// The number of which these are the digits before and after the point, if `Fixed` has a form for it.
+fn fixed_from(negative: bool, whole: &[u8], fraction: &[u8]) -> Option<Fixed>
+    requires whole { IsTrue (list_all is_ascii_digit whole.now) }
+    requires fraction { IsTrue (list_all is_ascii_digit fraction.now) }
+    ensures { result ≡ fixed_of (record { mantissa = with_sign negative (number_of (whole.now ++ fraction.now)); scale = length fraction.now }) }
+{
+    let kept = without_trailing_zeros(fraction);
+    let Some(magnitude) = joined(whole, kept) else {
+        return None;
+    };
+    if magnitude >= DIGITS {
+        return None;
+    }
+    if kept.len() > 255 {
+        return None;
+    }
+    Some(Fixed::new(signed(negative, magnitude), kept.len() as u8))
+}
+
+/// What a text without white space at its ends says of a decimal.
+pub fn read_decimal(text: &[u8]) -> Result<Value, ReadFault>
+    ensures { result ≡ decimal_reading (decimal_of text.now) }
+{
+    let whole = before_point(unsigned_part(text));
+    let fraction = after_point(unsigned_part(text));
+    let is_empty = whole.is_empty() && fraction.is_empty();
+    if is_empty || !are_digits(whole) || !are_digits(fraction) {
+        return Err(ReadFault::NotAValue);
+    }
+    match fixed_from(is_negative(text), whole, fraction) {
+        Some(number) => Ok(Value::Dec(number)),
+        None => Err(ReadFault::PastType),
+    }
+}

@@ -1,0 +1,62 @@
+// The reading of a value from its text.
+ghost use Rattle.std.specs.Prelude.{◌≡◌, IfOk, IfErr};
+ghost use Rattle.dfdl_value.specs.declared.read.ReadFault.TheVariants.{OutOfMemory};
+ghost use Rattle.dfdl_value.specs.declared.value.Value.TheVariants.{Text};
+
+use super::decimal::read_decimal;
+use super::held::TextValue;
+use super::integer::{read_signed, read_unsigned};
+use super::octets::{read_bytes, read_truth};
+use super::simple::{Form, Simple};
+use super::text::trimmed;
+use super::value::Value;
+use std::alloc::Global;
+use thiserror::Error;
+
+/// Why a text gives no value of a type.
+#[derive(Clone, Copy, Debug, PartialEq, Eq, Error)]
+pub enum ReadFault {
+    /// It is none of the type's texts.
+    #[error("no value of the type")]
+    NotAValue,
+    /// It writes a number that is outside of the type.
+    #[error("a number outside of the type")]
+    PastType,
+    #[error("out of memory")]
+    OutOfMemory,
+}
+
+fn read_text(alloc: Global, text: &str) -> Result<Value, ReadFault>
+    ensures value { IfOk result (λ v. v ≡ Text text.now) }
+    ensures fault { IfErr result (λ e. e ≡ OutOfMemory) }
+{
+    match TextValue::from_str(alloc, text) {
+        Ok(held) => Ok(Value::Text(held)),
+        Err(_) => Err(ReadFault::OutOfMemory),
+    }
+}
+
+impl Value {
+    ghost use Rattle.std.specs.Prelude.{◌≡◌, ◌↔◌, Ok, Err, IfOk, IsErrOf};
+    ghost use Rattle.dfdl_value.specs.Reading.{reading_of};
+    ghost use Rattle.dfdl_value.specs.Types.{IsOfType, HoldsMemory, form_of};
+
+    /// The value that a text writes. Memory is taken for a string and for hexBinary alone.
+    pub fn read(alloc: Global, kind: Simple, text: &str) -> Result<Value, ReadFault>
+        ensures value { IfOk result (λ v. reading_of kind text.now ≡ Ok v) }
+        ensures typed { IfOk result (IsOfType kind) }
+        ensures not_a_value { IsErrOf result ReadFault.NotAValue ↔ (reading_of kind text.now ≡ Err ReadFault.NotAValue) }
+        ensures past_type { IsErrOf result ReadFault.PastType ↔ (reading_of kind text.now ≡ Err ReadFault.PastType) }
+        ensures memory { IsErrOf result ReadFault.OutOfMemory → HoldsMemory (form_of kind) }
+    {
+        let inner = trimmed(text.as_bytes());
+        match kind.form() {
+            Form::Signed { bits } => read_signed(bits, inner),
+            Form::Unsigned { bits } => read_unsigned(bits, inner),
+            Form::Fixed => read_decimal(inner),
+            Form::Truths => read_truth(inner),
+            Form::Octets => read_bytes(alloc, inner),
+            Form::Characters => read_text(alloc, text),
+        }
+    }
+}

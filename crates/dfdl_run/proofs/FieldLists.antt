@@ -1,6 +1,9 @@
 -- Reading all of a list's values, and the values that are left.
 use Rattle.std.proofs.Common.{◌≡◌, ℕ, ◌+◌, ◌<◌, List, [], ◌∷◌, ◌++◌, length, drop, map, get_or, Option, None, Some, option_map, refl, sym, ap, ◌∙◌, append_assoc, add-one, drop-cons}
-use Rattle.dfdl_terms.specs.Record.{all_of}
+use Rattle.std.proofs.lemmas.List.{get_or_default, map-append}
+use Rattle.dfdl_terms.specs.declared.record.Field.{Field as DeclaredField}
+use Rattle.dfdl_terms.specs.RecordShown.{field_shown}
+use Rattle.dfdl_terms.specs.Record.{Field, all_of}
 
 -- what is left from an item on
 pub left_at : {A : Type 0} (all : List A) (i : ℕ) (a : A) → i < length all → a ≡ get_or all i a → drop i all ≡ a ∷ drop (i + 1) all
@@ -25,3 +28,11 @@ module _ {A B : Type 0} (read : A → Option B) where
       → with_left before (drop i all) ≡ None
   left_none before all i a here is read_is =
       ap (λ xs. with_left before xs) (left_at all i a here is) ∙ rw read_is refl
+
+-- one more field, as the code has it
+pub left_more_at : (read : ℕ → Option Field) (before after : List DeclaredField) (all : List ℕ) (i d : ℕ) (b : DeclaredField) → i < length all
+    → Some (field_shown b) ≡ read (get_or all i d) → after ≡ before ++ b ∷ []
+    → with_left read (map field_shown before) (drop i all) ≡ with_left read (map field_shown after) (drop (i + 1) all)
+left_more_at read before after all i d b here is after_is =
+    left_more read (map field_shown before) all i (get_or all i d) (field_shown b) here (get_or_default all i d (get_or all i d) here) (sym is)
+    ∙ ap (λ fields. with_left read fields (drop (i + 1) all)) (sym (ap (map field_shown) after_is ∙ map-append field_shown before (b ∷ [])))

@@ -177,3 +177,6 @@ rows_of-nest root fields i row less is =
     (NestsFrom-cons (2 * (0 + length fields) + 1) (Elem root None n) [] (omega arith) (NestsFrom-none (2 * (0 + length fields) + 1 + 1))) in
     subst (λ (m : ℕ). ChildrenBelow m row) (omega arith)
     (field_rows-nest 0 fields (Group (element_rows 0 fields) ∷ (Elem root None n ∷ [])) behind i row is)
+
+pub sixty_four_fits : (bits : ℕ) → bits ≤ 64 → bits ≤ 128
+sixty_four_fits bits fits = omega arith

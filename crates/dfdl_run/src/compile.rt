@@ -7,7 +7,7 @@ ghost use Rattle.dfdl_terms.specs.declared.row.Row.TheVariants.{Leaf, Elem, Grou
 ghost use Rattle.dfdl_terms.specs.RecordShown.{field_shown};
 ghost use Rattle.dfdl_run.specs.Schema.{field_of, IsRecordTree, most_fields};
 ghost use Rattle.dfdl_run.specs.Compiled.{IsCompiled};
-ghost use Rattle.dfdl_terms.specs.Rows.{most_rows, Nests, NamesWithin};
+ghost use Rattle.dfdl_terms.specs.Rows.{most_rows, Nests, NamesWithin, IsPrimitive};
 ghost use Rattle.dfdl_run.specs.RecordRows.{field_rows, element_rows, primitive_of};
 ghost use Rattle.dfdl_run.specs.declared.compile.CompileFault.TheVariants.{OutOfMemory};
 
@@ -53,6 +53,7 @@ fn fields_of<'t>(
 ) -> Result<Vec<Field<'t>>, CompileFault>
     ensures ok { IfOk result (λ fields.
         all_of (map (λ e. field_of (node_at tree.now e)) elements.now) ≡ Some (map field_shown fields.items)) }
+    ensures few { IfOk result (λ fields. All (λ f. f.form.bits ≤ 64) fields.items) }
     ensures refused { IsErrOf result CompileFault.Refused →
         all_of (map (λ e. field_of (node_at tree.now e)) elements.now) ≡ None }
 {
@@ -110,9 +111,11 @@ struct FieldRows {
 
 // The rows of a record's fields.
 fn rows_of_fields(alloc: Global, fields: &[Field<'_>]) -> Result<FieldRows, AllocError>
-    requires { length fields.now ≤ most_fields }
+    requires count { length fields.now ≤ most_fields }
+    requires few { All (λ f. f.form.bits ≤ 64) fields.now }
     ensures rows { IfOk result (λ made. made.rows.items ≡ field_rows 0 (map field_shown fields.now)) }
     ensures elements { IfOk result (λ made. made.elements.items ≡ element_rows 0 (map field_shown fields.now)) }
+    ensures bounded { IfOk result (λ made. All IsPrimitive made.primitives.items) }
     ensures primitives { IfOk result (λ made. made.primitives.items ≡ map primitive_of (map field_shown fields.now)) }
 {
     let mut rows = Vec::new(alloc);
@@ -161,6 +164,7 @@ fn built(alloc: Global, rows: Vec<Row>, primitives: Vec<Primitive>) -> Terms
     requires few { vec_len rows ≤ most_rows }
     requires nests { Nests rows.items }
     requires named { All (NamesWithin (length primitives.items)) rows.items }
+    requires bounded { All IsPrimitive primitives.items }
     ensures { result ≡ record { rows = rows.items; primitives = primitives.items } }
 {
     match Terms::build(alloc, rows, Tables::new(primitives)) {
@@ -171,7 +175,8 @@ fn built(alloc: Global, rows: Vec<Row>, primitives: Vec<Primitive>) -> Terms
 
 // The terms of a record.
 fn terms_of(alloc: Global, root: &str, fields: &[Field<'_>]) -> Result<Terms, AllocError>
-    requires { length fields.now ≤ most_fields }
+    requires count { length fields.now ≤ most_fields }
+    requires few { All (λ f. f.form.bits ≤ 64) fields.now }
     ensures { IfOk result (λ terms.
         record_of terms ≡ Some (record { root = root.now; fields = map field_shown fields.now })) }
 {

@@ -6,6 +6,8 @@
 // `specs/Schema.antt`. It serves 'DFDL Processing Introduction'.
 #![tactic(auto)]
 
+pub mod answer;
 mod command;
 mod compile;
 mod outline;
+mod parsing;

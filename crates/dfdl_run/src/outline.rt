@@ -1,5 +1,5 @@
 // The shape of a schema document: which of its elements are the fields of a record.
-ghost use Rattle.std.specs.Prelude.{◌≡◌, ◌<◌, IsTrue, IsSome, length, option_map, option_copied, bytes_eq};
+ghost use Rattle.std.specs.Prelude.{IfSome, ◌≤◌, ◌≡◌, ◌<◌, IsTrue, IsSome, length, option_map, option_copied, bytes_eq};
 ghost use Rattle.dfdl_doc_tree.specs.Node.{node_at};
 ghost use Rattle.dfdl_doc_tree.specs.Content.{is_name_start, is_name_byte, is_part};
 ghost use Rattle.std.specs.List.{list_all};
@@ -202,7 +202,8 @@ fn order_named(kind: Simple, order: Option<&str>) -> Option<ByteOrder>
 
 // The implicit length of a field of this type, in bits.
 fn implicit_bits(kind: Simple) -> u32
-    ensures { result ≡ bits_of kind }
+    ensures bits { result ≡ bits_of kind }
+    ensures few { result ≤ 64 }
 {
     match kind {
         Simple::UnsignedByte => 8,
@@ -216,7 +217,8 @@ fn implicit_bits(kind: Simple) -> u32
 // How the number of a field lies in the data.
 fn form_of_field(tree: &Tree, element: u32) -> Option<IntForm>
     requires { element < length tree.now }
-    ensures { result ≡ form_of (node_at tree.now element) }
+    ensures form { result ≡ form_of (node_at tree.now element) }
+    ensures few { IfSome result (λ form. form.bits ≤ 64) }
 {
     let kind = kind_named(attribute(tree, element, "type")?)?;
     let order = order_named(kind, attribute(tree, element, "dfdl:byteOrder"))?;
@@ -250,7 +252,8 @@ fn is_field_element(tree: &Tree, element: u32) -> bool
 
 // The field of an element.
 pub(crate) fn field_of_element(tree: &Tree, element: u32) -> Option<Field<'_>>
-    ensures { option_map field_shown result ≡ field_of (node_at tree.now element) }
+    ensures field { option_map field_shown result ≡ field_of (node_at tree.now element) }
+    ensures few { IfSome result (λ field. field.form.bits ≤ 64) }
 {
     if !is_field_element(tree, element) {
         return None;

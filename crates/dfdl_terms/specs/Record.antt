@@ -1,5 +1,5 @@
 -- A record: a root element whose content is a sequence of fields, each of which is a binary integer.
-use Rattle.std.specs.Prelude.{ℕ, ◌-◌, List, [], ◌∷◌, length, map, Option, None, Some, option_map, option_and_then, slice_get}
+use Rattle.std.specs.Prelude.{ℕ, ◌-◌, List, [], ◌∷◌, length, map, Option, None, Some, option_map, option_and_then, slice_get, unwrap_or}
 use Rattle.dfdl_int_binary.specs.declared.form.IntForm.{IntForm}
 use Rattle.dfdl_terms.specs.declared.row.Primitive.{Primitive}
 use Rattle.dfdl_terms.specs.declared.row.Primitive.TheVariants.{Integer}
@@ -66,6 +66,10 @@ abbrev pub all_of : {A : Type 0} → List (Option A) → Option (List A)
 all_of [] = Some []
 all_of (None ∷ rest) = None
 all_of (Some x ∷ rest) = option_map (λ xs. x ∷ xs) (all_of rest)
+
+-- the fields whose elements these rows are, where each is one
+abbrev pub fields_at : Table → List ℕ → List Field
+fields_at t rows = unwrap_or (all_of (map (field_at t) rows)) []
 
 -- the record that the terms are, where they are one
 unfoldable pub record_of : Table → Option Record

@@ -1,6 +1,7 @@
 -- Tables of rows: each row's children stand below it.
 use Rattle.std.specs.Prelude.{◌≡◌, ℕ, ◌<◌, ◌≤◌, List, length, All, slice_get, Some}
 use Rattle.dfdl_terms.specs.declared.row.Primitive.{Primitive}
+use Rattle.dfdl_terms.specs.declared.row.Primitive.TheVariants.{Integer}
 use Rattle.dfdl_terms.specs.declared.row.Row.{Row}
 use Rattle.dfdl_terms.specs.declared.row.Row.TheVariants.{Leaf, Elem, Group}
 
@@ -39,9 +40,14 @@ NamesWithin primitives (Leaf prim) = prim < primitives
 NamesWithin primitives (Elem name simple body) = Unit {0}
 NamesWithin primitives (Group children) = Unit {0}
 
+-- the form of a primitive keeps its bounds: a number has at most 128 bits
+abbrev pub IsPrimitive : Primitive → Type 0
+IsPrimitive (Integer form) = form.bits ≤ 128
+
 -- rows that can be a schema's
 pub record IsTable (t : Table) : Type 0 where
   pub some : 0 < length t.rows
   pub few : length t.rows ≤ most_rows
   pub nests : Nests t.rows
   pub named : All (NamesWithin (length t.primitives)) t.rows
+  pub bounded : All IsPrimitive t.primitives

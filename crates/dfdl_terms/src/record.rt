@@ -1,5 +1,5 @@
 // Records among the terms: a root element whose content is a sequence of binary integers.
-ghost use Rattle.std.specs.Prelude.{◌≡◌, length, option_map};
+ghost use Rattle.std.specs.Prelude.{◌≡◌, ◌≤◌, length, option_map, IfSome};
 ghost use Rattle.dfdl_terms.specs.Record.{field_at, leaf_form_at, root_at};
 ghost use Rattle.std.specs.Prelude.{◌<◌};
 ghost use Rattle.dfdl_terms.specs.RecordShown.{field_shown, root_shown};
@@ -24,7 +24,8 @@ pub struct Root<'t> {
 
 /// The field whose element is this row, if it is one.
 pub fn field_of_row(terms: &Terms, id: RowId) -> Option<Field<'_>>
-    ensures { option_map field_shown result ≡ field_at terms.now id }
+    ensures field { option_map field_shown result ≡ field_at terms.now id }
+    ensures bounded { IfSome result (λ field. field.form.bits ≤ 128) }
 {
     if id.number() >= terms.rows() {
         return None;
@@ -47,7 +48,8 @@ pub fn field_of_row(terms: &Terms, id: RowId) -> Option<Field<'_>>
 // The form of the binary integer that this row reads, if it reads one.
 fn leaf_form(terms: &Terms, id: RowId) -> Option<IntForm>
     requires { id < length terms.now.rows }
-    ensures { result ≡ leaf_form_at terms.now id }
+    ensures form { result ≡ leaf_form_at terms.now id }
+    ensures bounded { IfSome result (λ form. form.bits ≤ 128) }
 {
     let Row::Leaf { prim } = terms.row(id) else {
         return None;

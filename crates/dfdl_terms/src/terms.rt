@@ -70,11 +70,12 @@ fn has_children_below(row: &Row, bound: RowId) -> bool
 }
 
 impl Terms {
-    ghost use Rattle.dfdl_terms.specs.Rows.{most_rows, Nests, ChildrenBelow, NamesWithin, IsFirstBad, IsTable};
+    ghost use Rattle.dfdl_terms.specs.Rows.{most_rows, Nests, ChildrenBelow, NamesWithin, IsPrimitive, IsFirstBad, IsTable};
 
     pub fn build(_alloc: Global, rows: Vec<Row>, tables: Tables) -> Result<Terms, TermFault>
         requires some { 0 < vec_len rows }
         requires named { All (NamesWithin (length tables)) rows.items }
+        requires bounded { All IsPrimitive tables }
         ensures ok { IfOk result (λ t. t ≡ record { rows = rows.items; primitives = tables }) }
         ensures too_many { IsErrOf result TermFault.TooMany ↔ most_rows < vec_len rows }
         ensures bad_child { (row : ℕ) → result ≡ Err (TermFault.BadChild row) → IsFirstBad rows.items row }
@@ -106,7 +107,8 @@ impl Terms {
     }
 
     pub fn tables(&self) -> &Tables
-        ensures { result.now ≡ self.now.primitives }
+        ensures tables { result.now ≡ self.now.primitives }
+        ensures bounded { All IsPrimitive result.now }
     {
         &self.tables
     }

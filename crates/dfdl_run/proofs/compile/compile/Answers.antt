@@ -16,13 +16,16 @@ returns-then-not-is_record_size-clause-refused c = λ _ described tree.
     let fits : IsTrue false = c.if-not-is_record_size.ensures.1 (omega arith, omega arith) in
     absurd (cc)
 
-pub terms_of-requires : goal.terms_of-requires
-terms_of-requires c =
+pub terms_of-requires-clause-count : goal.terms_of-requires-clause-count
+terms_of-requires-clause-count c =
     let count = length-all_of (λ e. field_of (node_at c.args.tree.now e)) c.in-Some.outline.fields.now (map field_shown c.in_ok-fields.fields.items) c.in_ok-fields.ensures.ok in
     let shown : length (map field_shown c.in_ok-fields.fields.items) ≡ length c.in_ok-fields.fields.items = simp length-map in
     let same = ap length c.deref-2.ensures.value in
     let fits = c.if-not-is_record_size.ensures.0 refl in
     omega arith
+
+pub terms_of-requires-clause-few : goal.terms_of-requires-clause-few
+terms_of-requires-clause-few c = rw c.deref-2.ensures.value c.in_ok-fields.ensures.few
 
 pub returns-clause-ok : goal.returns-clause-ok
 returns-clause-ok c =

@@ -1,4 +1,4 @@
-use Rattle.std.proofs.Common.{◌≡◌, [], map, drop}
+use Rattle.std.proofs.Common.{◌≡◌, ◌≤◌, [], map, drop, All}
 use Rattle.dfdl_doc_tree.specs.Node.{node_at}
 use Rattle.dfdl_terms.specs.RecordShown.{field_shown}
 use Rattle.dfdl_run.specs.Schema.{field_of}
@@ -7,5 +7,8 @@ use Rattle.dfdl_run.proofs.compile.fields_of.Given as goal
 
 -- the fields so far and those of the elements that are left are those of all
 abbrev pub invariant-loop-element : goal.invariant-loop-element
-invariant-loop-element l =
-    with_left (λ e. field_of (node_at l.tree e)) [] l.elements ≡ with_left (λ e. field_of (node_at l.tree e)) (map field_shown l.fields.items) (drop l.element-index l.elements)
+invariant-loop-element l = record {
+  same : with_left (λ e. field_of (node_at l.tree e)) [] l.elements
+      ≡ with_left (λ e. field_of (node_at l.tree e)) (map field_shown l.fields.items) (drop l.element-index l.elements);
+  few : All (λ f. f.form.bits ≤ 64) l.fields.items;
+}

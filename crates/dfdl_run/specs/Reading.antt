@@ -1,0 +1,20 @@
+-- What the reader of a record's data has, with the members of the infoset in the place of its items.
+use Rattle.std.specs.Prelude.{ℕ, List, fold}
+use Rattle.serde_json.specs.Data.{Members}
+use Rattle.serde_json.specs.View.{members_view}
+use Rattle.dfdl_run.specs.declared.parsing.Reading.{Reading}
+use Rattle.dfdl_run.specs.declared.parsing.Reading.TheVariants.{Read as ReadVariant, Ends as EndsVariant}
+use Rattle.dfdl_run.specs.Meaning.{Outcome, Read, Ends, with_member}
+
+pub data Reached : Type 0 where
+  AllRead : Members → ℕ → Reached
+  EndsAt : List ℕ → ℕ → Reached
+
+-- an outcome, where these members come before its items
+abbrev pub reached : Members → Outcome → Reached
+reached before (Read items bit) = AllRead (fold with_member before items) bit
+reached before (Ends name bit) = EndsAt name bit
+
+abbrev pub reading_shown : Reading → Reached
+reading_shown (ReadVariant all bit) = AllRead (members_view all.entries) bit
+reading_shown (EndsVariant name bit) = EndsAt name.now bit

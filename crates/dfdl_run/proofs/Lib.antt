@@ -1,5 +1,6 @@
 pub mod Different
 pub mod FieldLists
+pub mod Lines
 pub mod Readings
 pub mod RowLemmas
 pub mod Shapes

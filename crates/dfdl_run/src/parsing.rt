@@ -1,10 +1,12 @@
 // The reading of a record's data, and the line of its infoset.
-ghost use Rattle.std.specs.Prelude.{◌≡◌, ◌^◌, ◌≤◌, ◌*◌, ◌++◌, [], ◌∷◌, List, ℕ, IfOk, IsSome, Some, false, length, map};
+ghost use Rattle.std.specs.Prelude.{◌<◌, ◌≡◌, ◌^◌, ◌≤◌, ◌*◌, ◌++◌, [], ◌∷◌, List, ℕ, IfOk, IsSome, Some, false, length, map};
 ghost use Rattle.serde_json.specs.Data.{object, no_members, put as with_member};
 ghost use Rattle.serde_json.specs.View.{members_view};
 ghost use Rattle.serde_json.specs.Written.{has_float, compact_text};
 ghost use Rattle.dfdl_terms.specs.Record.{Record, all_of, field_at, fields_at, record_of};
-ghost use Rattle.dfdl_run.specs.Meaning.{outcome_of, answer_of};
+ghost use Rattle.dfdl_terms.specs.declared.cause.ParseCause.TheVariants.{DataEnds};
+ghost use Rattle.dfdl_run.specs.declared.answer.Answer.{Answer};
+ghost use Rattle.dfdl_run.specs.Meaning.{outcome_of, answer_of, path_of};
 ghost use Rattle.dfdl_run.specs.Reading.{reached, reading_shown};
 
 use crate::answer::Answer;
@@ -67,4 +69,72 @@ fn read_fields<'t>(
         bit += bits;
     }
     Ok(Reading::Read { members, bit })
+}
+
+// The line of an infoset: an object with the root's name, of an object with these members.
+fn line_of_members(
+    alloc: Global,
+    root: &str,
+    members: Map<String, Value>,
+) -> Result<TextValue, AllocError>
+    requires { has_float (object (with_member root.now (object (members_view members.entries)) no_members)) ≡ false }
+    ensures { IfOk result (λ line.
+        line ≡ compact_text (object (with_member root.now (object (members_view members.entries)) no_members)) ++ 10 ∷ []) }
+{
+    let mut whole = Map::new(alloc);
+    serde_json::put(&mut whole, alloc, root, Value::Object(members))?;
+    let value = Value::Object(whole);
+    let mut text = value.to_string(alloc)?;
+    text.push('\n')?;
+    Ok(TextValue::from_string(text))
+}
+
+// The path of a field.
+fn path_text(alloc: Global, root: &str, name: &str) -> Result<TextValue, AllocError>
+    ensures { IfOk result (λ path. path ≡ path_of root.now name.now) }
+{
+    let text = format!(in alloc; "/{root}/{name}")?;
+    Ok(TextValue::from_string(text))
+}
+
+// What parsing the data of a record comes to.
+pub(crate) fn parse(alloc: Global, terms: &Terms, bytes: &[u8]) -> Result<Answer, AllocError>
+    requires small { length bytes.now ≤ 2 ^ 60 }
+    requires described { IsSome (record_of terms.now) }
+    ensures { (described : Record) → record_of terms.now ≡ Some described → IfOk result (λ answer. answer ≡ answer_of described bytes.now) }
+{
+    let Some(root) = root_of_record(terms) else {
+        unreachable!()
+    };
+    match read_fields(alloc, terms, root.children, bytes)? {
+        Reading::Ends { name, bit } => failed(alloc, root.name, name, bit),
+        Reading::Read { members, bit } => {
+            let line = line_of_members(alloc, root.name, members)?;
+            let left = (8 * bytes.len() as u64).saturating_sub(bit);
+            Ok(answer_of_line(line, bit, left))
+        }
+    }
+}
+
+// The answer where the data ends in a field.
+fn failed(alloc: Global, root: &str, name: &str, bit: u64) -> Result<Answer, AllocError>
+    ensures { IfOk result (λ answer. answer ≡ Answer.Failed DataEnds bit (path_of root.now name.now)) }
+{
+    Ok(Answer::Failed {
+        cause: ParseCause::DataEnds,
+        bit,
+        path: path_text(alloc, root, name)?,
+    })
+}
+
+// The answer where these many bits are left behind the fields.
+fn answer_of_line(line: TextValue, bit: u64, left: u64) -> Answer
+    ensures over { 8 ≤ left → result ≡ Answer.LeftOver line bit }
+    ensures done { left < 8 → result ≡ Answer.Done line }
+{
+    if left >= 8 {
+        Answer::LeftOver { line, bit }
+    } else {
+        Answer::Done { line }
+    }
 }

@@ -71,8 +71,10 @@ all_of (Some x ∷ rest) = option_map (λ xs. x ∷ xs) (all_of rest)
 abbrev pub fields_at : Table → List ℕ → List Field
 fields_at t rows = unwrap_or (all_of (map (field_at t) rows)) []
 
+-- the record of a root element
+abbrev pub record_from : Table → Root → Option Record
+record_from t root = option_map (λ fields. record { root = root.name; fields = fields }) (all_of (map (field_at t) root.children))
+
 -- the record that the terms are, where they are one
 unfoldable pub record_of : Table → Option Record
-record_of t = option_and_then
-    (λ root. option_map (λ fields. record { root = root.name; fields = fields }) (all_of (map (field_at t) root.children)))
-    (root_at t)
+record_of t = option_and_then (record_from t) (root_at t)

@@ -1,0 +1,96 @@
+-- The infoset of a record has no float, and its answer follows from what was read.
+use Rattle.std.proofs.Common.{◌≡◌, ℕ, ◌+◌, ◌*◌, ◌<◌, ◌≤◌, false, ◌||◌, List, [], ◌∷◌, ◌++◌, length, map, fold, Option, None, Some, option_map, option_and_then, IsSome, refl, sym, ap, subst, ◌∙◌, nat_le, decimal, nat_cmp}
+use Rattle.std.specs.declared.cmp.Ordering.TheVariants.{Less, Equal, Greater}
+use Rattle.std.specs.Option.{unwrap_or}
+use Rattle.std.specs.Ordering.{match_ordering}
+use Rattle.std.specs.Cmp.Lexicographic.{slice_cmp}
+use Rattle.std.proofs.lemmas.Bool.{cond-true, cond-false, le-leb, lt-leb, or_parts, or_from}
+use Rattle.serde_json.specs.Data.{Data, Members, no_members, member, put, string, object}
+use Rattle.serde_json.specs.Written.{has_float, members_have_float, compact_text}
+use Rattle.dfdl_terms.specs.declared.cause.ParseCause.TheVariants.{DataEnds}
+use Rattle.dfdl_terms.specs.Rows.{Table}
+use Rattle.dfdl_terms.specs.Record.{Record, Root, all_of, field_at, fields_at, root_at, record_from, record_of}
+use Rattle.dfdl_run.specs.declared.answer.Answer.TheVariants.{Done, LeftOver, Failed}
+use Rattle.dfdl_run.specs.Meaning.{Item, Outcome, Read, Ends, with_member, outcome_of, line_of, path_of, answer_at, answer_of}
+use Rattle.dfdl_run.specs.Reading.{AllRead, EndsAt, reached}
+
+put-no_float : (k : List ℕ) (d : Data) (ms : Members) → has_float d ≡ false → members_have_float ms ≡ false → members_have_float (put k d ms) ≡ false
+put-no_float k d no_members plain none = or_from (has_float d) false plain refl
+put-no_float k d (member l e ms) plain none =
+    let parts = or_parts (has_float e) (members_have_float ms) none in
+    elim (slice_cmp nat_cmp k l) as (λ o. members_have_float (match_ordering o (member k d (member l e ms)) (member l d ms) (member l e (put k d ms))) ≡ false) [
+      | Less ↦ or_from (has_float d) (has_float e || members_have_float ms) plain none
+      | Equal ↦ or_from (has_float d) (members_have_float ms) plain parts.1
+      | Greater ↦ or_from (has_float e) (members_have_float (put k d ms)) parts.0 (put-no_float k d ms plain parts.1)
+    ]
+
+fold-no_float : (ms : Members) (items : List Item) → members_have_float ms ≡ false → members_have_float (fold with_member ms items) ≡ false
+fold-no_float ms [] none = none
+fold-no_float ms (item ∷ items) none =
+    fold-no_float (with_member ms item) items (put-no_float item.name (string (decimal item.number)) ms refl none)
+
+-- the infoset of what was read has no float
+pub read_no_float : (root : List ℕ) (o : Outcome) (ms : Members) (bit : ℕ) → AllRead ms bit ≡ reached no_members o
+    → has_float (object (put root (object ms) no_members)) ≡ false
+read_no_float root (Read items at) ms bit is =
+    let same : fold with_member no_members items ≡ ms = cc in
+    put-no_float root (object ms) no_members (subst (λ (m : Members). members_have_float m ≡ false) same (fold-no_float no_members items refl)) refl
+read_no_float root (Ends name at) ms bit is = absurd (cc)
+
+pub answer_ends : (root : List ℕ) (bits : ℕ) (o : Outcome) (name : List ℕ) (bit : ℕ) → EndsAt name bit ≡ reached no_members o
+    → Failed DataEnds bit (path_of root name) ≡ answer_at root bits o
+answer_ends root bits (Read items at) name bit is = absurd (cc)
+answer_ends root bits (Ends other at) name bit is =
+    let same_name : name ≡ other = cc in let same_bit : bit ≡ at = cc in cc
+
+pub answer_over : (root : List ℕ) (bits : ℕ) (o : Outcome) (ms : Members) (bit : ℕ) → AllRead ms bit ≡ reached no_members o → bit + 8 ≤ bits
+    → LeftOver (compact_text (object (put root (object ms) no_members)) ++ 10 ∷ []) bit ≡ answer_at root bits o
+answer_over root bits (Read items at) ms bit is fits =
+    let same : ms ≡ fold with_member no_members items = cc in
+    let same_bit : bit ≡ at = cc in
+    ap (λ m. LeftOver (compact_text (object (put root (object m) no_members)) ++ 10 ∷ []) bit) same
+    ∙ (ap (λ b. LeftOver (line_of root items) b) same_bit
+    ∙ sym (cond-true (nat_le (at + 8) bits) (LeftOver (line_of root items) at) (Done (line_of root items)) (le-leb (at + 8) bits (subst (λ (b : ℕ). b + 8 ≤ bits) same_bit fits))))
+answer_over root bits (Ends name at) ms bit is fits = absurd (cc)
+
+pub answer_done : (root : List ℕ) (bits : ℕ) (o : Outcome) (ms : Members) (bit : ℕ) → AllRead ms bit ≡ reached no_members o → bits < bit + 8
+    → Done (compact_text (object (put root (object ms) no_members)) ++ 10 ∷ []) ≡ answer_at root bits o
+answer_done root bits (Read items at) ms bit is few =
+    let same : ms ≡ fold with_member no_members items = cc in
+    let same_bit : bit ≡ at = cc in
+    ap (λ m. Done (compact_text (object (put root (object m) no_members)) ++ 10 ∷ [])) same
+    ∙ sym (cond-false (nat_le (at + 8) bits) (LeftOver (line_of root items) at) (Done (line_of root items)) (lt-leb (at + 8) bits (subst (λ (b : ℕ). bits < b + 8) same_bit few)))
+answer_done root bits (Ends name at) ms bit is few = absurd (cc)
+
+-- terms that are a record have a root element
+pub described_root : (t : Table) → None ≡ root_at t → IsSome (record_of t) → ⊥
+unfolding record_of
+described_root t none some =
+    let is : IsSome (option_and_then (record_from t) None) = subst (λ (o : Option Root). IsSome (option_and_then (record_from t) o)) (sym none) some in cc
+
+-- its fields are there
+pub described_fields : (t : Table) (root : Root) → Some root ≡ root_at t → IsSome (record_of t) → IsSome (all_of (map (field_at t) root.children))
+unfolding record_of
+described_fields t root is some =
+    let from : IsSome (record_from t root) = subst (λ (o : Option Root). IsSome (option_and_then (record_from t) o)) (sym is) some in
+    (elim (all_of (map (field_at t) root.children)) as
+    (λ o. IsSome (option_map (λ fields. let r : Record = record { root = root.name; fields = fields } in r) o) → IsSome o)
+    [ None ↦ λ none. none | Some fields ↦ λ _. refl ]) from
+
+-- they are those of the record
+pub described_is : (t : Table) (root : Root) (described : Record) → Some root ≡ root_at t → record_of t ≡ Some described
+    → described ≡ record { root = root.name; fields = fields_at t root.children }
+unfolding record_of
+described_is t root described is some =
+    let from : record_from t root ≡ Some described = ap (option_and_then (record_from t)) is ∙ some in
+    (elim (all_of (map (field_at t) root.children)) as
+    (λ o. option_map (λ fields. let r : Record = record { root = root.name; fields = fields } in r) o ≡ Some described
+    → described ≡ record { root = root.name; fields = unwrap_or o [] })
+    [ None ↦ λ none. absurd (cc) | Some fields ↦ λ same. sym (let is_same = same in cc) ]) from
+
+-- the answer of a record, from what was read of its rows
+pub record_answer : (t : Table) (root : Root) (described : Record) (bytes : List ℕ) → Some root ≡ root_at t → record_of t ≡ Some described
+    → answer_at root.name (8 * length bytes) (outcome_of bytes 0 (fields_at t root.children)) ≡ answer_of described bytes
+record_answer t root described bytes is some =
+    let same = described_is t root described is some in
+    ap (λ r. answer_of r bytes) (sym same)

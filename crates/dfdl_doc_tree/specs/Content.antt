@@ -5,19 +5,19 @@ use Rattle.std.specs.List.{list_all, flat_map, AllPairs}
 use Rattle.dfdl_doc_tree.specs.Node.{Attribute, Node}
 
 -- white space: tab, LF, CR, space
-abbrev pub is_white : ℕ → Bool
+unfoldable pub is_white : ℕ → Bool
 is_white b = b == 32 || b == 9 || b == 10 || b == 13
 
 -- a letter or `_`
-abbrev pub is_name_start : ℕ → Bool
+unfoldable pub is_name_start : ℕ → Bool
 is_name_start b = (nat_le 97 b && nat_le b 122) || (nat_le 65 b && nat_le b 90) || b == 95
 
 -- a letter, a digit or `_`
-abbrev pub is_name_byte : ℕ → Bool
+unfoldable pub is_name_byte : ℕ → Bool
 is_name_byte b = is_name_start b || (nat_le 48 b && nat_le b 57)
 
 -- a character of an attribute's value: U+0020 to U+007E without `<`, `&` and the quotation mark
-abbrev pub is_value_byte : ℕ → Bool
+unfoldable pub is_value_byte : ℕ → Bool
 is_value_byte b = (nat_le 32 b && nat_le b 126) && (not (b == 60) && (not (b == 38) && not (b == 34)))
 
 -- one part of a name

@@ -1,4 +1,4 @@
--- What the parts of a tree are seen as.
+-- What the parts of a tree, and the reader, are seen as.
 use Rattle.std.specs.Prelude.{map}
 use Rattle.std.specs.String.{string_bytes}
 use Rattle.dfdl_doc_tree.specs.Node.{Attribute, Node}

@@ -4,7 +4,11 @@
 #![tactic(auto)]
 
 mod fault;
+mod mark;
+mod reader;
+mod reading;
 mod tree;
 
 pub use fault::DocFault;
+pub use reading::read;
 pub use tree::Tree;

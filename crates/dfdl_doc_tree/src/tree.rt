@@ -1,4 +1,4 @@
-ghost use Rattle.std.specs.Prelude.{◌≡◌, ℕ, ◌<◌, ◌^◌, length, [], None};
+ghost use Rattle.std.specs.Prelude.{◌≡◌, ℕ, ◌<◌, ◌^◌, length, map, [], None};
 ghost use Rattle.dfdl_doc_tree.specs.Node.{node_at, attribute_at};
 
 use std::marker::Model;
@@ -38,6 +38,15 @@ impl Model for Tree {
 }
 
 impl Tree {
+    ghost use Rattle.dfdl_doc_tree.specs.Shown.{node_of_element};
+
+    pub(crate) fn new(elements: Vec<Element>) -> Tree
+        requires { length elements.items < 2 ^ 32 }
+        ensures { result ≡ map node_of_element elements.items }
+    {
+        Tree { elements }
+    }
+
     /// How many elements the document has.
     pub fn count(&self) -> u32
         ensures { result ≡ length self.now }

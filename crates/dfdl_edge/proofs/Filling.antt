@@ -1,5 +1,5 @@
 -- One more read behind the bytes that were read before.
-use Rattle.std.proofs.Common.{◌≡◌, ℕ, ◌+◌, List, ◌++◌, take, drop, Option, Some, None, refl, ap, ◌∙◌, sym, append_assoc}
+use Rattle.std.proofs.Common.{◌≡◌, ℕ, ◌+◌, List, ◌++◌, take, drop, Option, Some, None, ◌∙◌, sym, append_assoc}
 use Rattle.std.proofs.Math.Seq.{take-add}
 use Rattle.dfdl_edge.specs.Source.{Takes}
 use Rattle.dfdl_edge.specs.Whole.{IsAfter, IsRestOf}

@@ -1,5 +1,5 @@
 -- Looking a file up among the pairs that contracts see.
-use Rattle.std.proofs.Common.{◌≡◌, ℕ, Bool, true, false, List, [], ◌∷◌, map, Option, Some, None, option_map, string_bytes, refl, arith}
+use Rattle.std.proofs.Common.{◌≡◌, ℕ, List, [], ◌∷◌, map, option_map, string_bytes, refl, arith}
 use Rattle.std.specs.List.{find}
 use Rattle.std.specs.Str.{bytes_eq}
 use Rattle.dfdl_edge.specs.declared.memory_files.MemoryFile.{MemoryFile}

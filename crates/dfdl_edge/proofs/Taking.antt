@@ -1,5 +1,5 @@
 -- What a read in memory copies.
-use Rattle.std.proofs.Common.{◌≡◌, ℕ, ◌+◌, ◌-◌, ◌≤◌, List, [], ◌++◌, length, take, drop, refl, sym, ◌∙◌, ap, arith, rules, length-drop, length-take}
+use Rattle.std.proofs.Common.{◌≡◌, ℕ, ◌+◌, ◌≤◌, List, ◌++◌, length, take, drop, refl, arith, length-take}
 use Rattle.std.proofs.lemmas.List.{take-append-drop, drop-drop, take_at, nil_from_length}
 use Rattle.dfdl_edge.specs.Source.{TakesFront}
 

@@ -1,5 +1,5 @@
 -- What contracts see of the implementations in memory.
-use Rattle.std.specs.Prelude.{ℕ, ◌+◌, ◌-◌, ◌%◌, ◌^◌, min, max, Bool, is_none, List, [], ◌∷◌, length, slice_index, Option, None, option_map, Contains}
+use Rattle.std.specs.Prelude.{ℕ, ◌+◌, ◌-◌, ◌%◌, ◌^◌, min, max, List, [], ◌∷◌, length, slice_index, Option, option_map, Contains}
 use Rattle.std.specs.List.{find}
 use Rattle.std.specs.Str.{bytes_eq}
 

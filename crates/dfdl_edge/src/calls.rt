@@ -1,5 +1,5 @@
 // The calls of an implementation in memory, with the list of those that are to fail.
-ghost use Rattle.std.specs.Prelude.{◌≡◌, ◌↔◌, ◌+◌, ◌-◌, ◌^◌, ◌≤◌, min, [], IsTrue};
+ghost use Rattle.std.specs.Prelude.{◌≡◌, ◌↔◌, ◌+◌, ◌-◌, ◌^◌, ◌≤◌, min, IsTrue};
 ghost use Rattle.dfdl_edge.specs.Memory.{CallCount, IsToFail, next_call};
 
 use std::marker::Model;

@@ -1,5 +1,5 @@
 // Files in memory.
-ghost use Rattle.std.specs.Prelude.{◌≡◌, ◌≢◌, ◌⊎◌, ℕ, ◌+◌, ◌-◌, ◌^◌, ◌<◌, ◌≤◌, List, length, map, string_bytes, vec_len, Option, Some, None, option_map, option_copied, is_none, IsTrue, IsNone, IfOk, OnOk, IsErr, IsErrOf};
+ghost use Rattle.std.specs.Prelude.{◌≡◌, ◌≢◌, ◌⊎◌, ℕ, ◌-◌, ◌<◌, ◌≤◌, map, string_bytes, vec_len, Option, Some, None, option_map, option_copied, is_none, IsTrue, IsNone, IfOk, IsErr, IsErrOf};
 ghost use Rattle.std.specs.List.{find};
 ghost use Rattle.std.specs.Str.{bytes_eq};
 ghost use Rattle.dfdl_edge.specs.Faults.{Rose};
@@ -38,7 +38,7 @@ impl Model for MemoryFiles {
 }
 
 impl MemoryFiles {
-    /// These files.
+    /// These files, with the numbers of the loads that are to fail.
     pub fn new(files: Vec<MemoryFile>, failing: Vec<u64>) -> Self
         ensures { result ≡ record {
           files = map (λ file. (string_bytes file.name, file.bytes.items)) files.items;

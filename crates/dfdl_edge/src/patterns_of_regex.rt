@@ -1,5 +1,5 @@
 // The building of patterns by the crate `regex`, with and without a text that is kept.
-ghost use Rattle.std.specs.Prelude.{◌≡◌, ◌≢◌, ℕ, ◌+◌, ◌-◌, ◌^◌, ◌≤◌, Option, Some, None, option_map, option_copied, string_bytes, IfOk, IsErr, IsErrOf};
+ghost use Rattle.std.specs.Prelude.{◌≡◌, ◌≢◌, ℕ, ◌-◌, ◌≤◌, Option, Some, None, option_map, option_copied, string_bytes, IfOk, IsErr, IsErrOf};
 ghost use Rattle.dfdl_edge.specs.Faults.{Rose};
 ghost use Rattle.dfdl_edge.specs.Told.{IsNowLast};
 ghost use Rattle.dfdl_edge.specs.Patterns.{IsPatternOf};
@@ -25,6 +25,7 @@ impl Model for MemoryPatterns {
 }
 
 impl MemoryPatterns {
+    /// A builder that refuses the builds listed.
     pub fn new(failing: Vec<u64>) -> Self
         ensures { result ≡ record {
           last = None;
@@ -105,6 +106,7 @@ impl Model for RegexPatterns {
 }
 
 impl RegexPatterns {
+    /// A builder that has refused nothing.
     pub fn new() -> Self
         ensures { result ≡ 0 }
     {

@@ -1,5 +1,5 @@
 // The adapters of the system: they tell nothing of content.
-ghost use Rattle.std.specs.Prelude.{◌≡◌, ◌≢◌, ℕ, ◌+◌, ◌-◌, ◌^◌, ◌<◌, ◌≤◌, None, length, IfOk, IsErrOf, vec_len};
+ghost use Rattle.std.specs.Prelude.{◌≡◌, ℕ, ◌+◌, ◌-◌, ◌<◌, ◌≤◌, None, length, IfOk, IsErrOf, vec_len};
 
 use crate::loading::{Files, LoadFault};
 use crate::reading::{Failed, Source};
@@ -25,6 +25,7 @@ impl<R: Read + Drop> Model for StdSource<R> {
 }
 
 impl<R: Read + Drop> StdSource<R> {
+    /// A source of what the reader gives.
     pub fn new(reader: R) -> Self
         ensures { result ≡ 0 }
     {
@@ -74,6 +75,7 @@ impl<W: Write + Drop> Model for StdSink<W> {
 }
 
 impl<W: Write + Drop> StdSink<W> {
+    /// A sink into the writer.
     pub fn new(writer: W) -> Self
         ensures { result ≡ 0 }
     {
@@ -126,6 +128,7 @@ impl<'r, R: rt::Files> Model for DirFiles<'r, R> {
 }
 
 impl<'r, R: rt::Files> DirFiles<'r, R> {
+    /// The files that the runtime reaches.
     pub fn new(runtime: &'r R) -> Self
         ensures { result ≡ 0 }
     {

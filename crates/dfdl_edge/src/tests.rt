@@ -65,7 +65,7 @@ fn the_second_write_fails_and_takes_nothing(rt: HostRuntime) -> Result<(), Fail>
     Ok(())
 }
 
-// The file a of three bytes, of which loads number 4 is to fail.
+// A file of three bytes; load number 4 is to fail.
 fn one_file(rt: &HostRuntime) -> Result<MemoryFiles, Fail> {
     let file = MemoryFile {
         name: String::from_str(rt.alloc(), "a.xsd")?,

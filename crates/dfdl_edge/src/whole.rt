@@ -1,5 +1,5 @@
 // The reading of a whole source.
-ghost use Rattle.std.specs.Prelude.{◌≡◌, ◌≢◌, ◌+◌, ◌-◌, ◌^◌, ◌<◌, ◌≤◌, ◌++◌, [], take, drop, length, IfOk, OnOk, OnErr, IsErrOf, vec_len};
+ghost use Rattle.std.specs.Prelude.{◌≡◌, ◌≢◌, ◌+◌, ◌-◌, ◌^◌, ◌<◌, ◌≤◌, [], take, drop, IfOk, OnOk, OnErr, IsErrOf, vec_len};
 ghost use Rattle.dfdl_edge.specs.Faults.{Rose};
 ghost use Rattle.dfdl_edge.specs.Told.{IsAll, IsLonger, IsWithin};
 ghost use Rattle.dfdl_edge.specs.Source.{Takes};
@@ -47,8 +47,8 @@ impl From<AllocError> for ReadFault {
 // How many bytes are made room for at a time.
 const CHUNK: usize = 64 * 1024;
 
-#[tactic(auto, using(crate::proofs::Filling::is_after_read))]
 /// All bytes that a source has left, of which `most` are allowed. Memory is taken as bytes come.
+#[tactic(auto, using(crate::proofs::Filling::is_after_read))]
 pub fn read_to_limit<S: Source>(
     alloc: Global,
     source: &mut S,

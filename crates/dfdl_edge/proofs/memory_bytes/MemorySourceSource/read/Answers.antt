@@ -1,7 +1,6 @@
-use Rattle.std.proofs.Common.{rules, ◌≡◌, ap, ◌+◌, ◌-◌, ◌≤◌, min, drop, length, arith, length-drop}
+use Rattle.std.proofs.Common.{ap, drop, arith}
 use Rattle.std.proofs.lemmas.Grind.{common_steps}
 use Rattle.std.proofs.lemmas.List.{take_rest}
-use Rattle.dfdl_edge.specs.Source.{Takes}
 use Rattle.dfdl_edge.proofs.Taking.{takes_front}
 use Rattle.dfdl_edge.proofs.memory_bytes.MemorySourceSource.read.Goals as goal
 

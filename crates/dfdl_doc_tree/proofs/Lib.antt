@@ -1,0 +1,10 @@
+pub mod Adopt
+pub mod Names
+pub mod Family
+pub mod Bytes
+pub mod Steps
+pub mod Runs
+pub mod Rest
+pub mod BackContent
+pub mod Back
+pub mod Documents

@@ -1,6 +1,8 @@
+pub mod Decisions
 pub mod Different
 pub mod FieldLists
 pub mod Lines
+pub mod Loads
 pub mod Readings
 pub mod RowLemmas
 pub mod Shapes

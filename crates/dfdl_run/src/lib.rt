@@ -7,6 +7,8 @@
 #![tactic(auto)]
 
 pub mod answer;
+pub mod call;
+pub mod chooser;
 mod command;
 mod compile;
 mod outline;

@@ -96,6 +96,7 @@ fn is_schema_element(tree: &Tree, element: u32) -> bool
 }
 
 // Whether a byte can begin a local name.
+#[tactic(auto, unfolding(dfdl_doc_tree::specs::Content::is_name_start))]
 fn is_name_begin(byte: u8) -> bool
     ensures { result ≡ is_name_start byte }
 {
@@ -103,6 +104,7 @@ fn is_name_begin(byte: u8) -> bool
 }
 
 // Whether a byte can stand in a local name.
+#[tactic(auto, unfolding(dfdl_doc_tree::specs::Content::is_name_byte))]
 fn is_name_part(byte: u8) -> bool
     ensures { result ≡ is_name_byte byte }
 {

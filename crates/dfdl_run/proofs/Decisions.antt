@@ -1,0 +1,65 @@
+-- What a run decides, from what its stages answer.
+use Rattle.std.proofs.Common.{◌≡◌, ◌⊎◌, ℕ, ◌+◌, ◌≤◌, List, length, Option, None, Some, IsSome, IfSome, refl, sym, subst, nat_le, inl, inr}
+use Rattle.std.proofs.lemmas.Bool.{cond_both}
+use Rattle.dfdl_edge.specs.Told.{IsAll}
+use Rattle.dfdl_terms.specs.declared.cause.SchemaCause.TheVariants.{OutsideSubset}
+use Rattle.dfdl_terms.specs.Record.{Record}
+use Rattle.dfdl_run.specs.declared.answer.Answer.{Answer}
+use Rattle.dfdl_run.specs.declared.answer.Answer.TheVariants.{Done, LeftOver, Failed, Refused, Usage, SourceFailed, SinkFailed, FilesFailed, Limit, OutOfMemory}
+use Rattle.dfdl_run.specs.Decided.{IsLoadFault, IsReadAnswer, IsNoSchema, IsParsed}
+use Rattle.dfdl_run.specs.Expects.{most_schema, most_input}
+use Rattle.dfdl_run.specs.Meaning.{Outcome, Read, Ends, answer_at, answer_of, outcome_of, line_of}
+use Rattle.dfdl_run.specs.Schema.{IsSchema}
+
+-- what holds of these bytes, where they are all that is told
+told : (P : List ℕ → Type 0) (file : Option (List ℕ)) (bytes : List ℕ) → IsAll file bytes → P bytes → IfSome file P
+told P None bytes all here = tt
+told P (Some content) bytes all here = subst P all here
+
+-- a schema that is refused, or no memory for the name
+pub refused_fault : (file : Option (List ℕ)) (name bytes : List ℕ) (before after : ℕ) (answer : Answer)
+    → (answer ≡ Refused OutsideSubset name 0) ⊎ (answer ≡ OutOfMemory)
+    → IsAll file bytes → length bytes ≤ most_schema → ((described : Record) → IsSchema bytes described → ⊥) → IsLoadFault file name before after answer
+refused_fault file name bytes before after answer (inl is) all fits none =
+    subst (λ (a : Answer). IsLoadFault file name before after a) (sym is)
+    (refl, refl, refl, told IsNoSchema file bytes all (record { fits = fits; none = none }))
+refused_fault file name bytes before after answer (inr is) all fits none = subst (λ (a : Answer). IsLoadFault file name before after a) (sym is) tt
+
+-- the answers that data can come to
+IsResult : Answer → Type 0
+IsResult (Done line) = Unit {0}
+IsResult (LeftOver line bit) = Unit {0}
+IsResult (Failed cause bit path) = Unit {0}
+IsResult _ = ⊥
+
+answer_at-result : (root : List ℕ) (bits : ℕ) (o : Outcome) → IsResult (answer_at root bits o)
+unfolding IsResult
+answer_at-result root bits (Read items bit) =
+    cond_both (nat_le (bit + 8) bits) (LeftOver (line_of root items) bit) (Done (line_of root items)) IsResult (λ _. tt) (λ _. tt)
+answer_at-result root bits (Ends name bit) = tt
+
+result_read : (input : Option (List ℕ)) (described : Record) (before after : ℕ) (answer : Answer) → IsResult answer → IfSome input (IsParsed described answer)
+    → IsReadAnswer input described before after answer
+unfolding IsResult
+result_read input described before after (Done line) _ parsed = parsed
+result_read input described before after (LeftOver line bit) _ parsed = parsed
+result_read input described before after (Failed cause bit path) _ parsed = parsed
+result_read input described before after (Refused cause document at) none parsed = absurd none
+result_read input described before after (Usage word) none parsed = absurd none
+result_read input described before after SourceFailed none parsed = absurd none
+result_read input described before after SinkFailed none parsed = absurd none
+result_read input described before after (FilesFailed name) none parsed = absurd none
+result_read input described before after (Limit cause quantity) none parsed = absurd none
+result_read input described before after OutOfMemory none parsed = absurd none
+
+pub parsed_answer : (input : Option (List ℕ)) (described : Record) (bytes : List ℕ) (before after : ℕ) (answer : Answer) → answer ≡ answer_of described bytes
+    → IsAll input bytes → length bytes ≤ most_input → IsReadAnswer input described before after answer
+parsed_answer input described bytes before after answer is all fits =
+    result_read input described before after answer
+    (subst IsResult (sym is) (answer_at-result described.root _ (outcome_of bytes 0 described.fields)))
+    (told (IsParsed described answer) input bytes all (record { fits = fits; answer_is = is }))
+
+-- the record that terms are, where they are one
+pub described_by : (o : Option Record) → IsSome o → (described : Record) × (o ≡ Some described)
+described_by None none = absurd (cc)
+described_by (Some described) _ = (described, refl)

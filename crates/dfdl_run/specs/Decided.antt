@@ -1,0 +1,57 @@
+-- What a run has found out before it writes anything.
+use Rattle.std.specs.Prelude.{◌≡◌, ℕ, ◌+◌, ◌≤◌, List, length, Option, IfSome}
+use Rattle.dfdl_fronts.specs.Fronts.{IsPlace}
+use Rattle.dfdl_edge.specs.Faults.{Rose}
+use Rattle.dfdl_edge.specs.Told.{IsLonger}
+use Rattle.dfdl_terms.specs.declared.cause.SchemaCause.TheVariants.{OutsideSubset}
+use Rattle.dfdl_terms.specs.declared.cause.LimitCause.TheVariants.{Input, Schema}
+use Rattle.dfdl_terms.specs.Record.{Record}
+use Rattle.dfdl_run.specs.declared.answer.Answer.{Answer}
+use Rattle.dfdl_run.specs.declared.answer.Answer.TheVariants.{Done, LeftOver, Failed, Refused, Usage, SourceFailed, FilesFailed, Limit, OutOfMemory}
+use Rattle.dfdl_run.specs.Command.{Order, Orders, IsCommand}
+use Rattle.dfdl_run.specs.Expects.{most_schema, most_input}
+use Rattle.dfdl_run.specs.Meaning.{answer_of}
+use Rattle.dfdl_run.specs.Schema.{IsSchema}
+
+-- where the schema file is told, it is not too long and a schema of this record
+pub record IsSchemaOf (described : Record) (schema : List ℕ) : Type 0 where
+  pub fits : length schema ≤ most_schema
+  pub schema_is : IsSchema schema described
+
+-- where the schema file is told, it is not too long and no schema
+pub record IsNoSchema (schema : List ℕ) : Type 0 where
+  pub fits : length schema ≤ most_schema
+  pub none : (described : Record) → IsSchema schema described → ⊥
+
+-- the schema was not loaded, for the cause that the answer gives
+abbrev pub IsLoadFault : Option (List ℕ) → List ℕ → ℕ → ℕ → Answer → Type 0
+IsLoadFault file name before after (FilesFailed failed) = (failed ≡ name) × Rose before after
+IsLoadFault file name before after OutOfMemory = Unit {0}
+IsLoadFault file name before after (Limit cause quantity) = (cause ≡ Schema) × (quantity ≡ most_schema) × IsLonger file most_schema
+IsLoadFault file name before after (Refused cause document at) = (cause ≡ OutsideSubset) × (document ≡ name) × (at ≡ 0) × IfSome file IsNoSchema
+IsLoadFault file name before after _ = ⊥
+
+-- the data fits its limit and comes to this answer
+pub record IsParsed (described : Record) (answer : Answer) (bytes : List ℕ) : Type 0 where
+  pub fits : length bytes ≤ most_input
+  pub answer_is : answer ≡ answer_of described bytes
+
+-- what the reading and the parsing of the source came to
+abbrev pub IsReadAnswer : Option (List ℕ) → Record → ℕ → ℕ → Answer → Type 0
+IsReadAnswer input described before after SourceFailed = Rose before after
+IsReadAnswer input described before after OutOfMemory = Unit {0}
+IsReadAnswer input described before after (Limit cause quantity) = (cause ≡ Input) × (quantity ≡ most_input) × IsLonger input most_input
+IsReadAnswer input described before after (Done line) = IfSome input (IsParsed described (Done line))
+IsReadAnswer input described before after (LeftOver line bit) = IfSome input (IsParsed described (LeftOver line bit))
+IsReadAnswer input described before after (Failed cause bit path) = IfSome input (IsParsed described (Failed cause bit path))
+IsReadAnswer input described before after _ = ⊥
+
+-- what was decided, by the stage at which it was
+pub data Decided (words : List (List ℕ)) (file : List ℕ → Option (List ℕ)) (input : Option (List ℕ)) (source_before source_after files_before files_after : ℕ) (answer : Answer) : Type 0 where
+  by_words : (at : ℕ) → IsPlace IsCommand words at → answer ≡ Usage (at + 1)
+      → Decided words file input source_before source_after files_before files_after answer
+  by_schema : (order : Order) → Orders words order → IsLoadFault (file order.schema) order.schema files_before files_after answer
+      → Decided words file input source_before source_after files_before files_after answer
+  by_data : (order : Order) (described : Record) → Orders words order → IfSome (file order.schema) (IsSchemaOf described)
+      → IsReadAnswer input described source_before source_after answer
+      → Decided words file input source_before source_after files_before files_after answer

@@ -1,0 +1,67 @@
+-- What a run comes to, as far as the outside tells its bytes.
+use Rattle.std.specs.Prelude.{◌≡◌, ◌⊎◌, ℕ, ◌+◌, ◌<◌, ◌≤◌, ◌^◌, ◌||◌, ◌==◌, Bool, true, List, length, Option, Some}
+use Rattle.dfdl_fronts.specs.Fronts.{IsPlace}
+use Rattle.dfdl_edge.specs.Faults.{Rose}
+use Rattle.dfdl_edge.specs.Sink.{Adds, AddsFront}
+use Rattle.dfdl_terms.specs.declared.cause.SchemaCause.TheVariants.{OutsideSubset}
+use Rattle.dfdl_terms.specs.declared.cause.LimitCause.TheVariants.{Input, Schema}
+use Rattle.dfdl_terms.specs.Record.{Record}
+use Rattle.dfdl_run.specs.declared.answer.Answer.{Answer}
+use Rattle.dfdl_run.specs.declared.answer.Answer.TheVariants.{Done, LeftOver, Failed, Refused, Usage, SourceFailed, SinkFailed, FilesFailed, Limit, OutOfMemory}
+use Rattle.dfdl_run.specs.Answer.{status_of, written_of, note_of}
+use Rattle.dfdl_run.specs.Command.{Order, Orders, IsCommand}
+use Rattle.dfdl_run.specs.Meaning.{answer_of}
+use Rattle.dfdl_run.specs.Schema.{IsSchema}
+
+-- the most bytes of a schema file, and of the source
+abbrev pub most_schema : ℕ
+most_schema = 4194304
+
+abbrev pub most_input : ℕ
+most_input = 2 ^ 30
+
+-- The answer of a run on these words, where `file` tells the bytes of the files and `input` those of the source. The
+-- words count first, then the schema, then the source, then the meaning of the data.
+pub data Expects (words : List (List ℕ)) (file : List ℕ → Option (List ℕ)) (input : Option (List ℕ)) : Answer → Type 0 where
+  -- the words are no command from word `at` on
+  no_command : (at : ℕ) → IsPlace IsCommand words at → Expects words file input (Usage (at + 1))
+  -- the schema file is longer than the limit
+  long_schema : (order : Order) (schema : List ℕ) → Orders words order → file order.schema ≡ Some schema → most_schema < length schema
+      → Expects words file input (Limit Schema most_schema)
+  -- the schema file is no schema
+  no_schema : (order : Order) (schema : List ℕ) → Orders words order → file order.schema ≡ Some schema → length schema ≤ most_schema
+      → ((described : Record) → IsSchema schema described → ⊥)
+      → Expects words file input (Refused OutsideSubset order.schema 0)
+  -- the source gives a byte past the limit
+  long_input : (order : Order) (schema : List ℕ) (described : Record) (bytes : List ℕ) → Orders words order → file order.schema ≡ Some schema
+      → length schema ≤ most_schema → IsSchema schema described → input ≡ Some bytes → most_input < length bytes
+      → Expects words file input (Limit Input most_input)
+  -- the data is parsed
+  parsed : (order : Order) (schema : List ℕ) (described : Record) (bytes : List ℕ) → Orders words order → file order.schema ≡ Some schema
+      → length schema ≤ most_schema → IsSchema schema described → input ≡ Some bytes → length bytes ≤ most_input
+      → Expects words file input (answer_of described bytes)
+
+-- the statuses that can come in place of an answer, since they come before it: those of the files, the source and
+-- `out` where a call on them failed before, and that of want of memory
+abbrev pub is_excused : Answer → ℕ → Bool
+is_excused (Usage word) status = status == 9
+is_excused (Limit Schema quantity) status = status == 7 || status == 9
+is_excused (Refused cause document at) status = status == 7 || status == 9
+is_excused (Limit Input quantity) status = status == 5 || status == 7 || status == 9
+is_excused (Failed cause bit path) status = status == 5 || status == 7 || status == 9
+is_excused (Done line) status = status == 5 || status == 6 || status == 7 || status == 9
+is_excused (LeftOver line bit) status = status == 5 || status == 6 || status == 7 || status == 9
+is_excused SourceFailed status = true
+is_excused SinkFailed status = true
+is_excused (FilesFailed name) status = true
+is_excused OutOfMemory status = true
+
+-- the line was told on the notes, or a front of it where a call on them failed
+abbrev pub Tells : List ℕ → Option (List ℕ) → Option (List ℕ) → ℕ → ℕ → Type 0
+Tells line old new before after = Adds old line new ⊎ (Rose before after × AddsFront old line new)
+
+-- the run has given this answer: its status, all that it writes to `out`, and its note
+pub record Gives (answer : Answer) (status : ℕ) (out_old out_new notes_old notes_new : Option (List ℕ)) (before after : ℕ) : Type 0 where
+  pub status_is : status ≡ status_of answer
+  pub written : Adds out_old (written_of answer) out_new
+  pub told : Tells (note_of answer) notes_old notes_new before after

@@ -1,0 +1,159 @@
+// The top call.
+ghost use Rattle.std.specs.Prelude.{IsSome, ◌<◌, ◌≡◌, ◌≢◌, ◌⊎◌, ◌+◌, ◌≤◌, ◌^◌, List, ℕ, [], IfOk, IfErr, IsTrue, IfSome, Some, map, string_bytes, codes, ◌++◌, decimal};
+ghost use Rattle.dfdl_fronts.specs.Fronts.{IsPlace};
+ghost use Rattle.dfdl_edge.specs.Faults.{Rose};
+ghost use Rattle.dfdl_edge.specs.Sink.{Adds, AddsFront};
+ghost use Rattle.dfdl_terms.specs.Record.{Record, record_of};
+ghost use Rattle.dfdl_run.specs.declared.answer.Answer.{Answer};
+ghost use Rattle.dfdl_run.specs.Answer.{status_of, written_of, note_of};
+ghost use Rattle.dfdl_run.specs.Command.{IsCommand, Orders};
+ghost use Rattle.dfdl_run.specs.Expects.{Expects, is_excused, Tells, Gives, most_schema, most_input};
+ghost use Rattle.dfdl_run.specs.Decided.{Decided, IsLoadFault, IsReadAnswer, IsSchemaOf};
+ghost use Rattle.dfdl_run.specs.Schema.{IsSchema};
+ghost use Rattle.dfdl_terms.specs.declared.cause.SchemaCause.TheVariants.{OutsideSubset};
+ghost use Rattle.dfdl_run.specs.Loaded.{IsLoaded};
+
+use crate::answer::Answer;
+use crate::chooser::Chooser;
+use crate::command::command_of;
+use crate::compile::{CompileFault, compile};
+use crate::parsing::parse;
+use dfdl_doc_tree::DocFault;
+use dfdl_edge::{Files, LoadFault, Patterns, ReadFault, Sink, Source, read_to_limit};
+use dfdl_terms::{LimitCause, SchemaCause, Terms};
+use dfdl_value::TextValue;
+use std::alloc::Global;
+
+/// The most bytes of a schema file.
+pub const MOST_SCHEMA: usize = 4_194_304;
+
+/// The most bytes that are read of the source.
+pub const MOST_INPUT: u64 = 1 << 30;
+
+// An answer that holds this name, or want of memory.
+fn files_failed(alloc: Global, name: &str) -> Answer
+    ensures { (result ≡ Answer.FilesFailed name.now) ⊎ (result ≡ Answer.OutOfMemory) }
+{
+    match TextValue::from_str(alloc, name) {
+        Ok(name) => Answer::FilesFailed { name },
+        Err(_) => Answer::OutOfMemory,
+    }
+}
+
+// An answer that refuses this document, or want of memory.
+fn refused(alloc: Global, name: &str) -> Answer
+    ensures { (result ≡ Answer.Refused OutsideSubset name.now 0) ⊎ (result ≡ Answer.OutOfMemory) }
+{
+    match TextValue::from_str(alloc, name) {
+        Ok(document) => Answer::Refused {
+            cause: SchemaCause::OutsideSubset,
+            document,
+            at: 0,
+        },
+        Err(_) => Answer::OutOfMemory,
+    }
+}
+
+// Why bytes gave no terms.
+#[derive(Clone, Copy, Debug, PartialEq, Eq)]
+pub(crate) enum TermsFault {
+    Refused,
+    OutOfMemory,
+}
+
+// The terms of a schema's bytes.
+fn terms_of_bytes(alloc: Global, bytes: &[u8]) -> Result<Terms, TermsFault>
+    ensures ok { IfOk result (IsLoaded bytes.now) }
+    ensures refused { result ≡ Err TermsFault.Refused → (described : Record) → IsSchema bytes.now described → ⊥ }
+{
+    let tree = match dfdl_doc_tree::read(alloc, bytes) {
+        Ok(tree) => tree,
+        Err(DocFault::Bad) => return Err(TermsFault::Refused),
+        Err(DocFault::OutOfMemory) => return Err(TermsFault::OutOfMemory),
+    };
+    match compile(alloc, &tree) {
+        Ok(terms) => Ok(terms),
+        Err(CompileFault::Refused) => Err(TermsFault::Refused),
+        Err(CompileFault::OutOfMemory) => Err(TermsFault::OutOfMemory),
+    }
+}
+
+// The terms of the schema file of this name, or the answer that comes in their place.
+fn load_terms<F: Files>(alloc: Global, files: &mut F, name: &str) -> Result<Terms, Answer>
+    ensures described { IfOk result (λ terms. IsSome (record_of terms)) }
+    ensures ok { IfOk result (λ terms. (described : Record) → record_of terms ≡ Some described
+        → IfSome (F.content files.old name.now) (IsSchemaOf described)) }
+    ensures err { IfErr result (IsLoadFault (F.content files.old name.now) name.now (F.faults files.old) (F.faults files.new)) }
+    ensures later { F.faults files.old ≤ F.faults files.new }
+{
+    let bytes = match files.load(alloc, name, MOST_SCHEMA) {
+        Ok(bytes) => bytes,
+        Err(LoadFault::Failed) => return Err(files_failed(alloc, name)),
+        Err(LoadFault::TooLarge { .. }) => return Err(limit(
+            LimitCause::Schema,
+            MOST_SCHEMA as u64,
+        )),
+        Err(LoadFault::OutOfMemory) => return Err(Answer::OutOfMemory),
+    };
+    match terms_of_bytes(alloc, &bytes) {
+        Ok(terms) => Ok(terms),
+        Err(TermsFault::Refused) => Err(refused(alloc, name)),
+        Err(TermsFault::OutOfMemory) => Err(Answer::OutOfMemory),
+    }
+}
+
+// The answer of a limit.
+fn limit(cause: LimitCause, quantity: u64) -> Answer
+    ensures { result ≡ Answer.Limit cause quantity }
+{
+    Answer::Limit { cause, quantity }
+}
+
+// What the data of the source comes to.
+fn read_answer<S: Source>(alloc: Global, source: &mut S, terms: &Terms) -> Answer
+    requires { IsSome (record_of terms.now) }
+    ensures answer { (described : Record) → record_of terms.now ≡ Some described
+        → IsReadAnswer (S.left source.old) described (S.faults source.old) (S.faults source.new) result }
+    ensures later { S.faults source.old ≤ S.faults source.new }
+{
+    let bytes = match read_to_limit(alloc, source, MOST_INPUT) {
+        Ok(bytes) => bytes,
+        Err(ReadFault::Failed) => return Answer::SourceFailed,
+        Err(ReadFault::TooLarge) => return limit(LimitCause::Input, MOST_INPUT),
+        Err(ReadFault::OutOfMemory) => return Answer::OutOfMemory,
+    };
+    match parse(alloc, terms, &bytes) {
+        Ok(answer) => answer,
+        Err(_) => Answer::OutOfMemory,
+    }
+}
+
+// What a run comes to, before anything is written.
+fn decide<S: Source, F: Files>(
+    alloc: Global,
+    words: &[String],
+    files: &mut F,
+    source: &mut S,
+) -> Answer
+    ensures decided { Decided (map string_bytes words.now) (F.content files.old) (S.left source.old)
+        (S.faults source.old) (S.faults source.new) (F.faults files.old) (F.faults files.new) result }
+{
+    let command = match command_of(words) {
+        Ok(command) => command,
+        Err(at) => return usage(at),
+    };
+    match load_terms(alloc, files, command.schema) {
+        Ok(terms) => read_answer(alloc, source, &terms),
+        Err(answer) => answer,
+    }
+}
+
+// The answer where no command goes on at this word, counted from 0.
+fn usage(at: usize) -> Answer
+    requires { at < 2 ^ 63 }
+    ensures { result ≡ Answer.Usage (at + 1) }
+{
+    Answer::Usage {
+        word: at as u64 + 1,
+    }
+}

@@ -1,6 +1,18 @@
-// Binary integers, binary decimals and binary booleans.
+// Binary integers, binary decimals and binary booleans: what value the number of a field is read as, and what
+// number a value is written as. The contracts cite `integer_reading` and `integer_writing` (`specs/Integers.antt`),
+// `truth_reading` and `truth_writing` (`specs/Truths.antt`). Serves 'Simple Types'.
 #![tactic(auto)]
 
+mod decimal;
 pub mod form;
+mod integer;
+pub mod laws;
+mod signed;
+mod truth;
 
-pub use form::IntForm;
+pub use form::{BitTruthForm, IntForm, NoFit, NoTruth, NotInType};
+pub use integer::{read, write};
+pub use truth::{read_truth, write_truth};
+
+#[cfg(test)]
+mod tests;

@@ -7,6 +7,7 @@ use Rattle.std.proofs.lemmas.Bool.{eq-eqb, ne_eqb, lt-ltb, le-ltb}
 use Rattle.std.proofs.Math.Bool.{and-false}
 use Rattle.std.proofs.lemmas.List.{append-nil}
 use Rattle.std.proofs.lemmas.Bool.Decides.{nat_tests}
+use Rattle.std.proofs.Math.Nat.{pow-suc, mul_assoc}
 use Rattle.dfdl_value.specs.Decimal.{DecimalNumber, IsFixed, shortest_from, is_small, fixed_of}
 use Rattle.dfdl_value.specs.Texts.{before_rest, without_trailing, is_zero, number_after, number_of, with_sign}
 use Rattle.dfdl_value.proofs.TextLemmas.{unsigned_abs-with_sign}
@@ -81,8 +82,28 @@ shortest_from-zero s b n =
     ap (λ t. if t then shortest_from s (int_div (with_sign b (n * 10)) (pos 10)) else record { mantissa = with_sign b (n * 10); scale = suc s }) (eq-eqb _ _ even)
     ∙ ap (shortest_from s) (int_div-with_sign b (n * 10) ∙ ap (with_sign b) less)
 
+pub shortest_from-divides : (s : ℕ) (b : Bool) (n : ℕ) → 0 < s → n % 10 ≡ 0 → shortest_from (s - 1) (with_sign b (n / 10)) ≡ shortest_from s (with_sign b n)
+shortest_from-divides s b n some even =
+    let longer : suc (s - 1) ≡ s = omega arith in
+    let larger : n / 10 * 10 ≡ n = omega arith in
+    sym (shortest_from-zero (s - 1) b (n / 10)) ∙ ap (λ k. shortest_from k (with_sign b (n / 10 * 10))) longer ∙ ap (λ k. shortest_from s (with_sign b k)) larger
+
+-- zeros behind a number are dropped with as many digits after the point
+pub shortest_from-shift : (j s : ℕ) (b : Bool) (n : ℕ) → shortest_from (s + j) (with_sign b (n * 10 ^ j)) ≡ shortest_from s (with_sign b n)
+shortest_from-shift zero s b n =
+    let scale : s + 0 ≡ s = omega arith in
+    let one : n * 1 ≡ n = omega arith in
+    ap (λ k. shortest_from k (with_sign b (n * 1))) scale ∙ ap (λ k. shortest_from s (with_sign b k)) one
+shortest_from-shift (suc j) s b n =
+    let scale : s + suc j ≡ suc (s + j) = omega arith in
+    let more : n * 10 ^ suc j ≡ n * 10 ^ j * 10 = ap (λ p. n * p) (pow-suc 10 j) ∙ sym (mul_assoc n (10 ^ j) 10) in
+    ap (λ k. shortest_from k (with_sign b (n * 10 ^ suc j))) scale
+    ∙ ap (λ k. shortest_from (suc (s + j)) (with_sign b k)) more
+    ∙ shortest_from-zero (s + j) b (n * 10 ^ j)
+    ∙ shortest_from-shift j s b n
+
 -- another digit stays
-shortest_from-stops : (s : ℕ) (z : ℤ) → unsigned_abs z % 10 ≢ 0 → shortest_from (suc s) z ≡ record { mantissa = z; scale = suc s }
+pub shortest_from-stops : (s : ℕ) (z : ℤ) → unsigned_abs z % 10 ≢ 0 → shortest_from (suc s) z ≡ record { mantissa = z; scale = suc s }
 shortest_from-stops s z other =
     ap (λ t. if t then shortest_from s (int_div z (pos 10)) else record { mantissa = z; scale = suc s }) (ne_eqb _ _ other)
 
@@ -106,7 +127,7 @@ record IsShortest (b : Bool) (w f : List ℕ) : Type 0 where
 last_digit : (y : ℕ) → is_ascii_digit y ≡ true → is_zero y ≡ false → (0 < y - 48) × (y - 48 < 10)
 last_digit y digit other = grind (arith, nat_tests)
 
-not_round : (n d : ℕ) → 0 < d → d < 10 → (n * 10 + d) % 10 ≢ 0
+pub not_round : (n d : ℕ) → 0 < d → d < 10 → (n * 10 + d) % 10 ≢ 0
 not_round n d some less = λ e. omega arith
 
 IsShortest-push : (b : Bool) (w ys : List ℕ) (y : ℕ) → list_all is_ascii_digit (ys ++ y ∷ []) ≡ true → is_zero y ≡ false → IsShortest b w (ys ++ y ∷ [])

@@ -1,3 +1,4 @@
+pub mod Arithmetic
 pub mod Decimal
 pub mod Reading
 pub mod Texts

@@ -7,7 +7,7 @@ ghost use Rattle.dfdl_value.specs.Decimal.{fixed_of};
 ghost use Rattle.dfdl_value.specs.Reading.{decimal_reading};
 ghost use Rattle.dfdl_value.specs.Texts.{is_point, is_zero, without_trailing, decimal_of, with_sign, number_of};
 
-use super::fixed::Fixed;
+use super::fixed::{DIGITS, Fixed, signed};
 use super::read::ReadFault;
 use super::text::{appended, are_digits, is_negative, unsigned_part};
 use super::value::Value;
@@ -60,20 +60,6 @@ fn without_trailing_zeros(digits: &[u8]) -> &[u8]
         rest = others;
     }
     rest
-}
-
-/// The greatest number of digits.
-const DIGITS: u128 = 100_000_000_000_000_000_000_000_000_000_000_000_000;
-
-fn signed(negative: bool, magnitude: u128) -> i128
-    requires { magnitude < 10 ^ 38 }
-    ensures { result ≡ with_sign negative magnitude }
-{
-    if negative {
-        -(magnitude as i128)
-    } else {
-        magnitude as i128
-    }
 }
 
 /// The number that the digits write one after the other, if it has 128 bits at most.

@@ -1,5 +1,7 @@
 // Decimal numbers of at most 38 digits, of which at most 255 are fraction digits. Each number has one form.
-ghost use Rattle.std.specs.Prelude.{◌≡◌};
+ghost use Rattle.std.specs.Prelude.{◌≡◌, ◌^◌, ◌<◌};
+ghost use Rattle.dfdl_value.specs.Decimal.{fixed_of};
+ghost use Rattle.dfdl_value.specs.Texts.{with_sign};
 
 use std::marker::Model;
 
@@ -23,6 +25,7 @@ impl Model for Fixed {
 }
 
 impl Fixed {
+    ghost use Rattle.std.specs.Prelude.{◌≡◌, ◌<◌, ◌^◌, pos, int_lt, unsigned_abs};
     ghost use Rattle.dfdl_value.specs.Decimal.{IsFixed};
 
     pub fn new(mantissa: i128, scale: u8) -> Fixed
@@ -39,6 +42,20 @@ impl Fixed {
         self.mantissa
     }
 
+    pub fn is_negative(&self) -> bool
+        ensures { result ≡ int_lt self.now.mantissa (pos 0) }
+    {
+        self.mantissa < 0
+    }
+
+    /// The mantissa without its sign.
+    pub fn magnitude(&self) -> u128
+        ensures value { result ≡ unsigned_abs self.now.mantissa }
+        ensures digits { result < 10 ^ 38 }
+    {
+        self.mantissa.unsigned_abs()
+    }
+
     /// How many digits stand after the point.
     pub fn scale(&self) -> u8
         ensures value { result ≡ self.now.scale }
@@ -46,4 +63,37 @@ impl Fixed {
     {
         self.scale
     }
+}
+
+/// Ten to the power of the greatest number of digits.
+pub const DIGITS: u128 = 100_000_000_000_000_000_000_000_000_000_000_000_000;
+
+pub fn signed(negative: bool, magnitude: u128) -> i128
+    requires { magnitude < 10 ^ 38 }
+    ensures { result ≡ with_sign negative magnitude }
+{
+    if negative {
+        -(magnitude as i128)
+    } else {
+        magnitude as i128
+    }
+}
+
+/// The form that `Fixed` has for a number, if it has one.
+pub fn shortest(negative: bool, magnitude: u128, scale: u32) -> Option<Fixed>
+    ensures { result ≡ fixed_of (record { mantissa = with_sign negative magnitude; scale = scale }) }
+{
+    let mut magnitude = magnitude;
+    let mut scale = scale;
+    while scale > 0 && magnitude % 10 == 0 {
+        magnitude /= 10;
+        scale -= 1;
+    }
+    if magnitude >= DIGITS {
+        return None;
+    }
+    if scale > 255 {
+        return None;
+    }
+    Some(Fixed::new(signed(negative, magnitude), scale as u8))
 }

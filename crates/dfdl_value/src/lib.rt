@@ -4,11 +4,16 @@
 // the DFDL 1.0 specification, GFD.240.
 #![tactic(auto)]
 
+pub mod arithmetic;
 mod decimal;
+mod division;
 pub mod fixed;
 pub mod held;
 mod integer;
+pub mod laws;
 mod octets;
+mod product;
+mod quotient;
 pub mod read;
 pub mod simple;
 mod text;

@@ -1,0 +1,32 @@
+// Laws of the definitions that the contracts cite. The calls do nothing.
+ghost use Rattle.std.specs.Prelude.{◌≡◌, Ok};
+ghost use Rattle.hex.specs.Hex.{IsBytes, decode_of, encode_upper};
+ghost use Rattle.dfdl_value.specs.Reading.{bytes_reading, reading_of};
+ghost use Rattle.dfdl_value.specs.Texts.{trimmed};
+ghost use Rattle.dfdl_value.specs.Types.{IsOfType};
+ghost use Rattle.dfdl_value.specs.Writing.{text_of};
+ghost use Rattle.dfdl_value.specs.declared.value.Value.TheVariants.{Bytes};
+
+use super::held::ByteValue;
+use super::simple::Simple;
+use super::value::Value;
+
+fn are_bytes(bytes: &[u8])
+    ensures { IsBytes bytes.now }
+{}
+
+fn bytes_are_read_back(held: &ByteValue)
+    ensures { bytes_reading (decode_of (trimmed (encode_upper held.now))) ≡ Ok (Bytes held.now) }
+{
+    are_bytes(held.as_slice());
+}
+
+/// The text of a value of a type is read as that value again.
+pub fn text_is_read_back(kind: Simple, value: &Value)
+    requires { IsOfType kind value.now }
+    ensures { reading_of kind (text_of value.now) ≡ Ok value.now }
+{
+    if let Value::Bytes(held) = value {
+        bytes_are_read_back(held);
+    }
+}

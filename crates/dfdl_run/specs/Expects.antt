@@ -1,5 +1,5 @@
 -- What a run comes to, as far as the outside tells its bytes.
-use Rattle.std.specs.Prelude.{◌≡◌, ◌⊎◌, ℕ, ◌+◌, ◌<◌, ◌≤◌, ◌^◌, ◌||◌, ◌==◌, Bool, true, List, length, Option, Some}
+use Rattle.std.specs.Prelude.{◌≡◌, ◌⊎◌, ◌↔◌, ℕ, ◌+◌, ◌<◌, ◌≤◌, ◌^◌, ◌||◌, ◌==◌, Bool, true, false, IsTrue, List, length, Option, Some}
 use Rattle.dfdl_fronts.specs.Fronts.{IsPlace}
 use Rattle.dfdl_edge.specs.Faults.{Rose}
 use Rattle.dfdl_edge.specs.Sink.{Adds, AddsFront}
@@ -51,10 +51,10 @@ is_excused (Limit Input quantity) status = status == 5 || status == 7 || status 
 is_excused (Failed cause bit path) status = status == 5 || status == 7 || status == 9
 is_excused (Done line) status = status == 5 || status == 6 || status == 7 || status == 9
 is_excused (LeftOver line bit) status = status == 5 || status == 6 || status == 7 || status == 9
-is_excused SourceFailed status = true
-is_excused SinkFailed status = true
-is_excused (FilesFailed name) status = true
-is_excused OutOfMemory status = true
+is_excused SourceFailed status = false
+is_excused SinkFailed status = false
+is_excused (FilesFailed name) status = false
+is_excused OutOfMemory status = false
 
 -- the line was told on the notes, or a front of it where a call on them failed
 abbrev pub Tells : List ℕ → Option (List ℕ) → Option (List ℕ) → ℕ → ℕ → Type 0
@@ -65,3 +65,7 @@ pub record Gives (answer : Answer) (status : ℕ) (out_old out_new notes_old not
   pub status_is : status ≡ status_of answer
   pub written : Adds out_old (written_of answer) out_new
   pub told : Tells (note_of answer) notes_old notes_new before after
+
+-- a status that is not excused comes exactly where it is that of the answer
+abbrev pub ComesExactly : ℕ → Answer → ℕ → Type 0
+ComesExactly status answer result = IsTrue (is_excused answer result) ⊎ ((result ≡ status) ↔ (status_of answer ≡ status))

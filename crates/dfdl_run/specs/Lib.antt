@@ -4,6 +4,7 @@ pub mod CommandShown
 pub mod Compiled
 pub mod Decided
 pub mod Expects
+pub mod Finished
 pub mod Loaded
 pub mod Meaning
 pub mod OutlineShown

@@ -1,5 +1,6 @@
-ghost use Rattle.std.specs.Prelude.{◌≡◌, IfOk, IfSome, IfNone, [], string_bytes};
+ghost use Rattle.std.specs.Prelude.{◌≡◌, IfOk, IfSome, OnSome, IfNone, [], string_bytes};
 ghost use Rattle.dfdl_run.specs.Answer.{status_of, written_of, note_of, parse_text, schema_text};
+ghost use Rattle.dfdl_run.specs.Finished.{HasLine};
 ghost use Rattle.dfdl_run.specs.declared.answer.Answer.{Answer};
 
 use dfdl_terms::{LimitCause, ParseCause, SchemaCause};
@@ -71,6 +72,7 @@ impl Answer {
     pub(crate) fn line(&self) -> Option<&TextValue>
         ensures some { IfSome result (λ line. line.now ≡ written_of self.now) }
         ensures none { IfNone result (written_of self.now ≡ []) }
+        ensures has_line { OnSome result (HasLine self.now) }
     {
         match self {
             Answer::Done { line } => Some(line),

@@ -11,6 +11,7 @@ ghost use Rattle.dfdl_run.specs.Expects.{Expects, is_excused, Tells, Gives, most
 ghost use Rattle.dfdl_run.specs.Decided.{Decided, IsLoadFault, IsReadAnswer, IsSchemaOf};
 ghost use Rattle.dfdl_run.specs.Schema.{IsSchema};
 ghost use Rattle.dfdl_terms.specs.declared.cause.SchemaCause.TheVariants.{OutsideSubset};
+ghost use Rattle.dfdl_run.specs.Finished.{Finished};
 ghost use Rattle.dfdl_run.specs.Loaded.{IsLoaded};
 
 use crate::answer::Answer;
@@ -156,4 +157,65 @@ fn usage(at: usize) -> Answer
     Answer::Usage {
         word: at as u64 + 1,
     }
+}
+
+// Tells a line on the notes. A failure of the notes changes nothing else.
+fn tell<N: Sink>(notes: &mut N, note: &str)
+    ensures { Tells note.now (N.taken notes.old) (N.taken notes.new) (N.faults notes.old) (N.faults notes.new) }
+{
+    if note.is_empty() {
+        return;
+    }
+    let _ = notes.write(note.as_bytes());
+}
+
+// Writes an answer and tells its note. The exit status is the answer's, or that of a failed write.
+fn deliver<K: Sink, N: Sink>(out: &mut K, notes: &mut N, answer: &Answer, note: &str) -> u8
+    requires { note.now ≡ note_of answer.now }
+    ensures { Finished answer.now result (K.taken out.old) (K.taken out.new) (N.taken notes.old) (N.taken notes.new)
+        (K.faults out.old) (K.faults out.new) (N.faults notes.old) (N.faults notes.new) }
+{
+    if let Some(line) = answer.line() {
+        if out.write(line.as_str().as_bytes()).is_err() {
+            tell(notes, "sink failed\n");
+            return 6;
+        }
+    }
+    tell(notes, note);
+    answer.status()
+}
+
+// Ends a run with this answer.
+fn finish<K: Sink, N: Sink>(alloc: Global, out: &mut K, notes: &mut N, answer: &Answer) -> u8
+    ensures { Finished answer.now result (K.taken out.old) (K.taken out.new) (N.taken notes.old) (N.taken notes.new)
+        (K.faults out.old) (K.faults out.new) (N.faults notes.old) (N.faults notes.new) }
+{
+    match answer.note(alloc) {
+        Ok(note) => deliver(out, notes, answer, note.as_str()),
+        Err(_) => {
+            tell(notes, "out of memory\n");
+            9
+        }
+    }
+}
+
+/// One run of the program: the words of the command, the files, the data on `source`, the answer on `out` and the
+/// notes. The result is the exit status.
+pub fn run<S: Source, K: Sink, N: Sink, F: Files, C: Chooser, P: Patterns>(
+    alloc: Global,
+    words: &[String],
+    files: &mut F,
+    source: &mut S,
+    out: &mut K,
+    notes: &mut N,
+    _chooser: &mut C,
+    _patterns: &mut P,
+) -> u8
+    ensures answered { (answer : Answer) × Decided (map string_bytes words.now) (F.content files.old) (S.left source.old)
+        (S.faults source.old) (S.faults source.new) (F.faults files.old) (F.faults files.new) answer
+        × Finished answer result (K.taken out.old) (K.taken out.new) (N.taken notes.old) (N.taken notes.new)
+        (K.faults out.old) (K.faults out.new) (N.faults notes.old) (N.faults notes.new) }
+{
+    let answer = decide(alloc, words, files, source);
+    finish(alloc, out, notes, &answer)
 }

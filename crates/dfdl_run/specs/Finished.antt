@@ -1,0 +1,24 @@
+-- How a run ends that has decided on an answer.
+use Rattle.std.specs.Prelude.{◌≡◌, ◌⊎◌, ℕ, List, Option, codes}
+use Rattle.dfdl_edge.specs.Faults.{Rose}
+use Rattle.dfdl_edge.specs.Sink.{Adds, AddsFront}
+use Rattle.dfdl_run.specs.declared.answer.Answer.{Answer}
+use Rattle.dfdl_run.specs.declared.answer.Answer.TheVariants.{Done, LeftOver, Failed, Refused, Usage, SourceFailed, SinkFailed, FilesFailed, Limit, OutOfMemory}
+use Rattle.dfdl_run.specs.Answer.{written_of, note_of}
+use Rattle.dfdl_run.specs.Expects.{Tells, Gives}
+
+-- the answer writes a line
+abbrev pub HasLine : Answer → Type 0
+HasLine (Done line) = Unit {0}
+HasLine (LeftOver line bit) = Unit {0}
+HasLine _ = ⊥
+
+-- What has come of an answer: all of it, or `out` failed, or there was no memory for the note.
+pub data Finished (answer : Answer) (status : ℕ) (out_old out_new notes_old notes_new : Option (List ℕ)) (out_before out_after notes_before notes_after : ℕ) : Type 0 where
+  all : Gives answer status out_old out_new notes_old notes_new notes_before notes_after
+      → Finished answer status out_old out_new notes_old notes_new out_before out_after notes_before notes_after
+  no_sink : HasLine answer → status ≡ 6 → Rose out_before out_after → AddsFront out_old (written_of answer) out_new
+      → Tells (note_of SinkFailed) notes_old notes_new notes_before notes_after
+      → Finished answer status out_old out_new notes_old notes_new out_before out_after notes_before notes_after
+  no_memory : status ≡ 9 → out_new ≡ out_old → Tells (note_of OutOfMemory) notes_old notes_new notes_before notes_after
+      → Finished answer status out_old out_new notes_old notes_new out_before out_after notes_before notes_after

@@ -1,13 +1,15 @@
 -- What a run decides, from what its stages answer.
-use Rattle.std.proofs.Common.{◌≡◌, ◌⊎◌, ℕ, ◌+◌, ◌≤◌, List, length, Option, None, Some, IsSome, IfSome, refl, sym, subst, nat_le, inl, inr}
+use Rattle.std.proofs.Common.{◌≡◌, ◌⊎◌, ℕ, ◌+◌, ◌≤◌, List, length, Option, None, Some, IsSome, IfSome, refl, sym, subst, ◌∙◌, nat_le, inl, inr}
 use Rattle.std.proofs.lemmas.Bool.{cond_both}
 use Rattle.dfdl_edge.specs.Told.{IsAll}
 use Rattle.dfdl_terms.specs.declared.cause.SchemaCause.TheVariants.{OutsideSubset}
-use Rattle.dfdl_terms.specs.Record.{Record}
+use Rattle.dfdl_terms.specs.Rows.{Table}
+use Rattle.dfdl_terms.specs.Record.{Record, record_of}
 use Rattle.dfdl_run.specs.declared.answer.Answer.{Answer}
 use Rattle.dfdl_run.specs.declared.answer.Answer.TheVariants.{Done, LeftOver, Failed, Refused, Usage, SourceFailed, SinkFailed, FilesFailed, Limit, OutOfMemory}
-use Rattle.dfdl_run.specs.Decided.{IsLoadFault, IsReadAnswer, IsNoSchema, IsParsed}
+use Rattle.dfdl_run.specs.Decided.{IsLoadFault, IsReadAnswer, IsNoSchema, IsSchemaOf, IsParsed}
 use Rattle.dfdl_run.specs.Expects.{most_schema, most_input}
+use Rattle.dfdl_run.specs.Loaded.{IsLoaded}
 use Rattle.dfdl_run.specs.Meaning.{Outcome, Read, Ends, answer_at, answer_of, outcome_of, line_of}
 use Rattle.dfdl_run.specs.Schema.{IsSchema}
 
@@ -63,3 +65,14 @@ parsed_answer input described bytes before after answer is all fits =
 pub described_by : (o : Option Record) → IsSome o → (described : Record) × (o ≡ Some described)
 described_by None none = absurd (cc)
 described_by (Some described) _ = (described, refl)
+
+-- the record of terms that were loaded is the one that the file is a schema of
+pub schema_told : (file : Option (List ℕ)) (bytes : List ℕ) (terms : Table) (described : Record) → IsLoaded bytes terms → record_of terms ≡ Some described
+    → IsAll file bytes → length bytes ≤ most_schema → IfSome file (IsSchemaOf described)
+schema_told file bytes terms described loaded is all fits =
+    let same : loaded.described ≡ described = let terms_are = loaded.terms_are in cc in
+    told (IsSchemaOf described) file bytes all (record {
+      fits = fits;
+      schema_is = subst (λ (d : Record). IsSchema bytes d) same loaded.schema;
+      only = λ other schema. loaded.only other schema ∙ same;
+    })

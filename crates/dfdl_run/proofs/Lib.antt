@@ -3,6 +3,7 @@ pub mod Different
 pub mod FieldLists
 pub mod Lines
 pub mod Loads
+pub mod Rankings
 pub mod Readings
 pub mod RowLemmas
 pub mod Shapes

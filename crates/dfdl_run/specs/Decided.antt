@@ -13,12 +13,13 @@ use Rattle.dfdl_run.specs.Expects.{most_schema, most_input}
 use Rattle.dfdl_run.specs.Meaning.{answer_of}
 use Rattle.dfdl_run.specs.Schema.{IsSchema}
 
--- where the schema file is told, it is not too long and a schema of this record
+-- the schema file is not too long, and a schema of this record and of no other
 pub record IsSchemaOf (described : Record) (schema : List ℕ) : Type 0 where
   pub fits : length schema ≤ most_schema
   pub schema_is : IsSchema schema described
+  pub only : (other : Record) → IsSchema schema other → other ≡ described
 
--- where the schema file is told, it is not too long and no schema
+-- the schema file is not too long and no schema
 pub record IsNoSchema (schema : List ℕ) : Type 0 where
   pub fits : length schema ≤ most_schema
   pub none : (described : Record) → IsSchema schema described → ⊥

@@ -1,5 +1,5 @@
 -- What a run comes to, as far as the outside tells its bytes.
-use Rattle.std.specs.Prelude.{◌≡◌, ◌⊎◌, ◌↔◌, ℕ, ◌+◌, ◌<◌, ◌≤◌, ◌^◌, ◌||◌, ◌==◌, Bool, true, false, IsTrue, List, length, Option, Some}
+use Rattle.std.specs.Prelude.{◌≡◌, ◌⊎◌, ◌↔◌, ℕ, ◌+◌, ◌<◌, ◌≤◌, ◌^◌, ◌||◌, ◌==◌, Bool, false, IsTrue, List, length, Option, Some}
 use Rattle.dfdl_fronts.specs.Fronts.{IsPlace}
 use Rattle.dfdl_edge.specs.Faults.{Rose}
 use Rattle.dfdl_edge.specs.Sink.{Adds, AddsFront}

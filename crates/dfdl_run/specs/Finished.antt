@@ -1,9 +1,9 @@
 -- How a run ends that has decided on an answer.
-use Rattle.std.specs.Prelude.{◌≡◌, ◌⊎◌, ℕ, List, Option, codes}
+use Rattle.std.specs.Prelude.{◌≡◌, ℕ, List, Option}
 use Rattle.dfdl_edge.specs.Faults.{Rose}
-use Rattle.dfdl_edge.specs.Sink.{Adds, AddsFront}
+use Rattle.dfdl_edge.specs.Sink.{AddsFront}
 use Rattle.dfdl_run.specs.declared.answer.Answer.{Answer}
-use Rattle.dfdl_run.specs.declared.answer.Answer.TheVariants.{Done, LeftOver, Failed, Refused, Usage, SourceFailed, SinkFailed, FilesFailed, Limit, OutOfMemory}
+use Rattle.dfdl_run.specs.declared.answer.Answer.TheVariants.{Done, LeftOver, SinkFailed, OutOfMemory}
 use Rattle.dfdl_run.specs.Answer.{written_of, note_of}
 use Rattle.dfdl_run.specs.Expects.{Tells, Gives}
 

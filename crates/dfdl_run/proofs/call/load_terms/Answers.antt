@@ -1,8 +1,13 @@
 use Rattle.std.proofs.Common.{arith}
-use Rattle.dfdl_run.proofs.Decisions.{refused_fault}
+use Rattle.dfdl_run.proofs.Decisions.{refused_fault, schema_told}
 use Rattle.dfdl_run.proofs.call.load_terms.Goals as goal
 
 pub returns-in-Err-Refused-clause-err : goal.returns-in-Err-Refused-clause-err
 returns-in-Err-Refused-clause-err g c =
     refused_fault _ _ c.deref.result.now _ _ _ c.refused.ensures (rw c.deref.ensures.value c.in-Ok.ensures.bytes)
     (omega (arith, c.deref.ensures.len, c.in-Ok.ensures.fits)) (λ described. c.in-Err-Refused.ensures.refused (cc) described)
+
+pub returns-in-Ok-terms_of_bytes-clause-ok : goal.returns-in-Ok-terms_of_bytes-clause-ok
+returns-in-Ok-terms_of_bytes-clause-ok g c = λ described is.
+    schema_told _ c.deref.result.now _ described c.in-Ok-terms_of_bytes.ensures.ok is (rw c.deref.ensures.value c.in-Ok.ensures.bytes)
+    (omega (arith, c.deref.ensures.len, c.in-Ok.ensures.fits))

@@ -1,5 +1,6 @@
 pub mod Decisions
 pub mod Different
+pub mod Ends
 pub mod FieldLists
 pub mod Lines
 pub mod Loads

@@ -24,7 +24,7 @@ pub data Ranked (source_before source_after files_before files_after : ℕ) (dec
   memory : decided ≡ OutOfMemory → IsTrue (is_excused expected 9) → Ranked source_before source_after files_before files_after decided expected
 
 -- the answers that data can come to are excused by a failed file or source and by want of memory
-result_excused : (described : Record) (bytes : List ℕ)
+pub result_excused : (described : Record) (bytes : List ℕ)
     → IsTrue (is_excused (answer_of described bytes) 5) × IsTrue (is_excused (answer_of described bytes) 7) × IsTrue (is_excused (answer_of described bytes) 9)
 result_excused described bytes = excused described.root (8 * length bytes) (outcome_of bytes 0 described.fields)
   where

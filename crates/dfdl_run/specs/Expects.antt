@@ -69,3 +69,9 @@ pub record Gives (answer : Answer) (status : ℕ) (out_old out_new notes_old not
 -- a status that is not excused comes exactly where it is that of the answer
 abbrev pub ComesExactly : ℕ → Answer → ℕ → Type 0
 ComesExactly status answer result = IsTrue (is_excused answer result) ⊎ ((result ≡ status) ↔ (status_of answer ≡ status))
+
+-- the note names the schema file of the command
+pub record NamesFile (words : List (List ℕ)) (old new : Option (List ℕ)) (before after : ℕ) : Type 0 where
+  pub order : Order
+  pub orders : Orders words order
+  pub told : Tells (note_of (FilesFailed order.schema)) old new before after

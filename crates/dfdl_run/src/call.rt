@@ -7,7 +7,7 @@ ghost use Rattle.dfdl_terms.specs.Record.{Record, record_of};
 ghost use Rattle.dfdl_run.specs.declared.answer.Answer.{Answer};
 ghost use Rattle.dfdl_run.specs.Answer.{status_of, written_of, note_of};
 ghost use Rattle.dfdl_run.specs.Command.{IsCommand, Orders};
-ghost use Rattle.dfdl_run.specs.Expects.{Expects, is_excused, Tells, Gives, most_schema, most_input};
+ghost use Rattle.dfdl_run.specs.Expects.{Expects, is_excused, Tells, Gives, ComesExactly, NamesFile, most_schema, most_input};
 ghost use Rattle.dfdl_run.specs.Decided.{Decided, IsLoadFault, IsReadAnswer, IsSchemaOf};
 ghost use Rattle.dfdl_run.specs.Schema.{IsSchema};
 ghost use Rattle.dfdl_terms.specs.declared.cause.SchemaCause.TheVariants.{OutsideSubset};
@@ -211,10 +211,48 @@ pub fn run<S: Source, K: Sink, N: Sink, F: Files, C: Chooser, P: Patterns>(
     _chooser: &mut C,
     _patterns: &mut P,
 ) -> u8
+    // Told or not: an answer was decided by the words, the schema or the data, and the run ended with it.
     ensures answered { (answer : Answer) × Decided (map string_bytes words.now) (F.content files.old) (S.left source.old)
         (S.faults source.old) (S.faults source.new) (F.faults files.old) (F.faults files.new) answer
         × Finished answer result (K.taken out.old) (K.taken out.new) (N.taken notes.old) (N.taken notes.new)
         (K.faults out.old) (K.faults out.new) (N.faults notes.old) (N.faults notes.new) }
+
+    // Where the outside tells its bytes: the status, all that is written and the note are those of the expected answer,
+    // where no status that comes before it is answered.
+    ensures exact { (answer : Answer) → Expects (map string_bytes words.now) (F.content files.old) (S.left source.old) answer
+        → IsTrue (is_excused answer result) ⊎ Gives answer result (K.taken out.old) (K.taken out.new)
+        (N.taken notes.old) (N.taken notes.new) (N.faults notes.old) (N.faults notes.new) }
+    ensures complete { (answer : Answer) → Expects (map string_bytes words.now) (F.content files.old) (S.left source.old) answer
+        → (Rose (S.faults source.old) (S.faults source.new) → ⊥) → (Rose (F.faults files.old) (F.faults files.new) → ⊥)
+        → (Rose (K.faults out.old) (K.faults out.new) → ⊥)
+        → (result ≡ 9) ⊎ Gives answer result (K.taken out.old) (K.taken out.new)
+        (N.taken notes.old) (N.taken notes.new) (N.faults notes.old) (N.faults notes.new) }
+    ensures front { (answer : Answer) → Expects (map string_bytes words.now) (F.content files.old) (S.left source.old) answer
+        → AddsFront (K.taken out.old) (written_of answer) (K.taken out.new) }
+
+    ensures done { (answer : Answer) → Expects (map string_bytes words.now) (F.content files.old) (S.left source.old) answer
+        → ComesExactly 0 answer result }
+    ensures processing_error { (answer : Answer) → Expects (map string_bytes words.now) (F.content files.old) (S.left source.old) answer
+        → ComesExactly 1 answer result }
+    ensures schema_refused { (answer : Answer) → Expects (map string_bytes words.now) (F.content files.old) (S.left source.old) answer
+        → ComesExactly 2 answer result }
+    ensures usage { (answer : Answer) → Expects (map string_bytes words.now) (F.content files.old) (S.left source.old) answer
+        → ComesExactly 4 answer result }
+    ensures limit { (answer : Answer) → Expects (map string_bytes words.now) (F.content files.old) (S.left source.old) answer
+        → ComesExactly 8 answer result }
+    ensures left_over { (answer : Answer) → Expects (map string_bytes words.now) (F.content files.old) (S.left source.old) answer
+        → ComesExactly 11 answer result }
+
+    // The faults of the outside, told or not: each only where that count rose in this call.
+    ensures source_failed { result ≡ 5 → Rose (S.faults source.old) (S.faults source.new)
+        × Tells (note_of Answer.SourceFailed) (N.taken notes.old) (N.taken notes.new) (N.faults notes.old) (N.faults notes.new) }
+    ensures sink_failed { result ≡ 6 → Rose (K.faults out.old) (K.faults out.new)
+        × Tells (note_of Answer.SinkFailed) (N.taken notes.old) (N.taken notes.new) (N.faults notes.old) (N.faults notes.new) }
+    ensures files_failed { result ≡ 7 → Rose (F.faults files.old) (F.faults files.new)
+        × NamesFile (map string_bytes words.now) (N.taken notes.old) (N.taken notes.new) (N.faults notes.old) (N.faults notes.new) }
+    ensures out_of_memory { result ≡ 9
+        → Tells (note_of Answer.OutOfMemory) (N.taken notes.old) (N.taken notes.new) (N.faults notes.old) (N.faults notes.new) }
+    ensures unwritten { result ≢ 0 → result ≢ 6 → result ≢ 11 → Adds (K.taken out.old) [] (K.taken out.new) }
 {
     let answer = decide(alloc, words, files, source);
     finish(alloc, out, notes, &answer)

@@ -1,9 +1,14 @@
-ghost use Rattle.std.specs.Prelude.{◌<◌};
+ghost use Rattle.std.specs.Prelude.{ℕ, ◌<◌};
+ghost use Rattle.dfdl_edge.specs.Faults.{Rose};
 
 /// Which of the values that are ready is computed next while unparsing.
 pub trait Chooser {
+    // how many picks were made; at the last value of a u64 it stands still
+    ghost picks: { Self → ℕ };
+
     /// One of `ready` values, counted from 0.
     fn pick(&mut self, ready: usize) -> usize
         requires { 0 < ready }
-        ensures { result < ready };
+        ensures within { result < ready }
+        ensures counted { Rose (picks self.old) (picks self.new) };
 }

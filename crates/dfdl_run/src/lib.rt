@@ -13,3 +13,8 @@ mod command;
 mod compile;
 mod outline;
 mod parsing;
+
+pub use answer::Answer;
+pub use call::{MOST_INPUT, MOST_SCHEMA, run};
+pub use chooser::Chooser;
+pub use compile::MOST_FIELDS;

@@ -18,3 +18,6 @@ pub use answer::Answer;
 pub use call::{MOST_INPUT, MOST_SCHEMA, run};
 pub use chooser::Chooser;
 pub use compile::MOST_FIELDS;
+
+#[cfg(test)]
+mod tests;

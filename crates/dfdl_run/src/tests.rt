@@ -1,0 +1,342 @@
+// Runs over the implementations in memory.
+use crate::chooser::Chooser;
+use crate::run;
+use dfdl_edge::{MemoryFile, MemoryFiles, MemoryPatterns, MemorySink, MemorySource};
+use std::alloc::AllocError;
+use std::process::Abort;
+use std::test::Fail;
+
+const SCHEMA: &str =
+    "<xs:schema xmlns:xs=\"http://www.w3.org/2001/XMLSchema\" xmlns:dfdl=\"http://www.ogf.org/dfdl/dfdl-1.0/\">\n<xs:element name=\"r\" dfdl:lengthKind=\"implicit\"><xs:complexType><xs:sequence>\n<xs:element name=\"a\" type=\"xs:unsignedByte\" dfdl:representation=\"binary\" dfdl:binaryNumberRep=\"binary\" dfdl:lengthKind=\"implicit\"/>\n<xs:element name=\"b\" type=\"xs:unsignedShort\" dfdl:representation=\"binary\" dfdl:binaryNumberRep=\"binary\" dfdl:lengthKind=\"implicit\" dfdl:byteOrder=\"bigEndian\"/>\n</xs:sequence></xs:complexType></xs:element>\n</xs:schema>\n";
+
+const LINE: &str = "{\"r\":{\"a\":\"1\",\"b\":\"515\"}}\n";
+
+const NO_SCHEMA: &str = "error C3 at s.xsd:0: construct outside the subset\n";
+
+#[derive(Drop)]
+struct FirstReady {
+    picks: u64,
+}
+
+impl Chooser for FirstReady {
+    ghost picks = { λ c. c.picks };
+
+    fn pick(&mut self, _ready: usize) -> usize {
+        self.picks = self.picks.saturating_add(1);
+        0
+    }
+}
+
+// What a run is given: its words, the file `s.xsd`, the data with the cuts of its reads, and the numbers of the reads
+// and writes that fail.
+#[derive(Clone, Copy)]
+struct Given<'a> {
+    words: &'a [&'a str],
+    schema: &'a str,
+    data: &'a [u8],
+    cuts: &'a [usize],
+    failing_reads: &'a [u64],
+    failing_writes: &'a [u64],
+}
+
+const PARSE: Given<'static> = Given {
+    words: &["parse", "s.xsd"],
+    schema: SCHEMA,
+    data: &[1, 2, 3],
+    cuts: &[],
+    failing_reads: &[],
+    failing_writes: &[],
+};
+
+#[derive(Drop)]
+struct Ended {
+    status: u8,
+    out: MemorySink,
+    notes: MemorySink,
+}
+
+fn run_of<R: AllocGlobal>(rt: &R, given: &Given<'_>) -> Result<Ended, AllocError> {
+    let alloc = rt.alloc();
+    let mut words = Vec::new(alloc);
+    for word in given.words {
+        words.push(String::from_str(alloc, *word)?)?;
+    }
+    let mut held = Vec::new(alloc);
+    held.push(MemoryFile {
+        name: String::from_str(alloc, "s.xsd")?,
+        bytes: given.schema.as_bytes().to_vec(alloc)?,
+    })?;
+    let mut files = MemoryFiles::new(held, Vec::new(alloc));
+    let mut source = MemorySource::new(
+        given.data.to_vec(alloc)?,
+        given.cuts.to_vec(alloc)?,
+        given.failing_reads.to_vec(alloc)?,
+    );
+    let mut out = MemorySink::new(alloc, given.failing_writes.to_vec(alloc)?);
+    let mut notes = MemorySink::new(alloc, Vec::new(alloc));
+    let mut chooser = FirstReady { picks: 0 };
+    let mut patterns = MemoryPatterns::new(Vec::new(alloc));
+    let status = run(
+        alloc,
+        &words,
+        &mut files,
+        &mut source,
+        &mut out,
+        &mut notes,
+        &mut chooser,
+        &mut patterns,
+    );
+    Ok(Ended { status, out, notes })
+}
+
+// The run ends with this status, has written this and told this.
+fn ends<R: Abort + AllocGlobal>(
+    rt: &R,
+    given: &Given<'_>,
+    status: u8,
+    out: &str,
+    note: &str,
+) -> Result<(), Fail> {
+    let end = run_of(rt, given)?;
+    assert_eq!(rt; end.status, status, "status of {:?}", given.words);
+    assert_eq!(rt; end.out.taken(), out.as_bytes());
+    assert_eq!(rt; end.notes.taken(), note.as_bytes());
+    Ok(())
+}
+
+// The schema with a part written otherwise.
+fn schema_with(rt: &HostRuntime, part: &str, other: &str) -> Result<String, Fail> {
+    let (front, back) = SCHEMA.split_once(part).ok_or("no such part")?;
+    Ok(format!(in rt.alloc(); "{front}{other}{back}")?)
+}
+
+// A schema of this many fields of one byte.
+fn schema_of_bytes(rt: &HostRuntime, fields: usize) -> Result<String, Fail> {
+    let (front, rest) = SCHEMA
+        .split_once("<xs:element name=\"a\"")
+        .ok_or("no field")?;
+    let (_, back) = rest.split_once("bigEndian\"/>\n").ok_or("no last field")?;
+    let mut text = String::from_str(rt.alloc(), front)?;
+    for k in 0..fields {
+        let field = format!(in rt.alloc();
+            "<xs:element name=\"f{k}\" type=\"xs:unsignedByte\" dfdl:representation=\"binary\" dfdl:binaryNumberRep=\"binary\" dfdl:lengthKind=\"implicit\"/>"
+        )?;
+        text.push_str(field.as_str())?;
+    }
+    text.push_str(back)?;
+    Ok(text)
+}
+
+#[test]
+fn a_record_is_parsed(rt: HostRuntime) -> Result<(), Fail> {
+    ends(&rt, &PARSE, 0, LINE, "")?;
+    ends(
+        &rt,
+        &Given {
+            data: &[1, 2],
+            ..PARSE
+        },
+        1,
+        "",
+        "error P4 at bit 8 in /r/b: data ends\n",
+    )?;
+    ends(
+        &rt,
+        &Given {
+            data: &[1, 2, 3, 4],
+            ..PARSE
+        },
+        11,
+        LINE,
+        "left over data at bit 24\n",
+    )?;
+    ends(
+        &rt,
+        &Given {
+            cuts: &[1],
+            ..PARSE
+        },
+        0,
+        LINE,
+        "",
+    )?;
+    let little = schema_with(&rt, "bigEndian", "littleEndian")?;
+    ends(
+        &rt,
+        &Given {
+            schema: little.as_str(),
+            ..PARSE
+        },
+        0,
+        "{\"r\":{\"a\":\"1\",\"b\":\"770\"}}\n",
+        "",
+    )
+}
+
+#[test]
+fn the_outside_fails(rt: HostRuntime) -> Result<(), Fail> {
+    ends(
+        &rt,
+        &Given {
+            cuts: &[1],
+            failing_reads: &[3],
+            ..PARSE
+        },
+        5,
+        "",
+        "source failed\n",
+    )?;
+    ends(
+        &rt,
+        &Given {
+            failing_writes: &[1],
+            ..PARSE
+        },
+        6,
+        "",
+        "sink failed\n",
+    )?;
+    ends(
+        &rt,
+        &Given {
+            data: &[1, 2, 3, 4],
+            failing_writes: &[1],
+            ..PARSE
+        },
+        6,
+        "",
+        "sink failed\n",
+    )?;
+    ends(
+        &rt,
+        &Given {
+            words: &["parse", "t.xsd"],
+            ..PARSE
+        },
+        7,
+        "",
+        "files failed: t.xsd\n",
+    )?;
+    ends(
+        &rt,
+        &Given {
+            schema: "<a/>",
+            failing_reads: &[1],
+            ..PARSE
+        },
+        2,
+        "",
+        NO_SCHEMA,
+    )
+}
+
+#[test]
+fn words_that_are_no_command(rt: HostRuntime) -> Result<(), Fail> {
+    let cases: [(&[&str], &str); 7] = [
+        (&[], "usage: word 1\n"),
+        (&["parse"], "usage: word 2\n"),
+        (&["parse", ""], "usage: word 2\n"),
+        (&["parse", "--root"], "usage: word 2\n"),
+        (&["parse", "s.xsd", "t"], "usage: word 3\n"),
+        (&["generate", "0"], "usage: word 1\n"),
+        (&["Parse", "s.xsd"], "usage: word 1\n"),
+    ];
+    for (words, note) in cases {
+        ends(&rt, &Given { words, ..PARSE }, 4, "", note)?;
+    }
+    Ok(())
+}
+
+#[test]
+fn documents_outside_of_the_form(rt: HostRuntime) -> Result<(), Fail> {
+    let cases: [(&str, &str); 11] = [
+        ("<xs:complexType>", "<!-- c --><xs:complexType>"),
+        ("name=\"a\"", "name='a'"),
+        ("name=\"a\"", "name=\"a\" name=\"z\""),
+        ("name=\"b\"", "name=\"a\""),
+        (" dfdl:byteOrder=\"bigEndian\"", ""),
+        ("bigEndian", "middleEndian"),
+        ("dfdl-1.0/\"", "dfdl-1.0\""),
+        ("</xs:schema>", "</xs:schema>x"),
+        ("name=\"r\"", "name=\"p:r\""),
+        ("xs:unsignedByte", "xs:byte"),
+        ("<xs:schema", "<?xml version=\"1.0\"?><xs:schema"),
+    ];
+    for (part, other) in cases {
+        let schema = schema_with(&rt, part, other)?;
+        ends(
+            &rt,
+            &Given {
+                schema: schema.as_str(),
+                ..PARSE
+            },
+            2,
+            "",
+            NO_SCHEMA,
+        )?;
+    }
+    Ok(())
+}
+
+#[test]
+fn a_schema_that_is_cut_off(rt: HostRuntime) -> Result<(), Fail> {
+    for end in 0..SCHEMA.len() - 1 {
+        let front = SCHEMA.get(..end).ok_or("no such front")?;
+        ends(
+            &rt,
+            &Given {
+                schema: front,
+                ..PARSE
+            },
+            2,
+            "",
+            NO_SCHEMA,
+        )?;
+    }
+    Ok(())
+}
+
+#[test]
+fn one_to_a_thousand_fields(rt: HostRuntime) -> Result<(), Fail> {
+    for (fields, status) in [(0, 2), (1, 11), (1000, 1), (1001, 2)] {
+        let schema = schema_of_bytes(&rt, fields)?;
+        let end = run_of(
+            &rt,
+            &Given {
+                schema: schema.as_str(),
+                ..PARSE
+            },
+        )?;
+        assert_eq!(rt; end.status, status, "{fields} fields");
+    }
+    Ok(())
+}
+
+#[test]
+fn a_schema_file_at_its_limit(rt: HostRuntime) -> Result<(), Fail> {
+    let mut schema = String::from_str(rt.alloc(), SCHEMA)?;
+    while schema.len() < 4_194_304 {
+        schema.push(' ')?;
+    }
+    ends(
+        &rt,
+        &Given {
+            schema: schema.as_str(),
+            ..PARSE
+        },
+        0,
+        LINE,
+        "",
+    )?;
+    schema.push(' ')?;
+    ends(
+        &rt,
+        &Given {
+            schema: schema.as_str(),
+            ..PARSE
+        },
+        8,
+        "",
+        "limit L8 of 4194304 reached\n",
+    )
+}

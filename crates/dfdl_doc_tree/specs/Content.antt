@@ -35,6 +35,7 @@ pub data Name : Type 0 where
   Plain : (part : List ℕ) → is_part part ≡ true → Name
   Prefixed : (prefix part : List ℕ) → is_part prefix ≡ true → is_part part ≡ true → Name
 
+-- the bytes of a name
 abbrev pub name_bytes : Name → List ℕ
 name_bytes (Plain part _) = part
 name_bytes (Prefixed prefix part _ _) = prefix ++ 58 ∷ part
@@ -47,9 +48,11 @@ pub record Given : Type 0 where
   pub value : List ℕ
   pub are_value_bytes : list_all is_value_byte value ≡ true
 
+-- the bytes of an attribute, with the white space before it
 abbrev pub given_bytes : Given → List ℕ
 given_bytes given = given.space.bytes ++ (name_bytes given.name ++ (61 ∷ 34 ∷ (given.value ++ 34 ∷ [])))
 
+-- the attribute that is written so
 abbrev pub attribute_of : Given → Attribute
 attribute_of given = record { name = name_bytes given.name; value = given.value }
 
@@ -64,6 +67,7 @@ pub record Tag : Type 0 where
   pub are_different : HaveDifferentNames (map attribute_of attributes)
   pub space : Space
 
+-- the bytes of a tag
 abbrev pub tag_bytes : Tag → List ℕ
 tag_bytes tag = name_bytes tag.name ++ (flat_map given_bytes tag.attributes ++ tag.space.bytes)
 

@@ -84,14 +84,16 @@ may_open (p ∷ ancestors) nodes = nat_lt (length ancestors + 1) 250
 abbrev pub has_attribute : StartTag → List ℕ → Bool
 has_attribute tag name = list_any (λ a. bytes_eq a.name name) tag.attributes
 
+-- a start tag with one more attribute
 abbrev pub with_attribute : StartTag → List ℕ → List ℕ → StartTag
 with_attribute tag name value =
     record { name = tag.name; attributes = tag.attributes ++ record { name = name; value = value } ∷ []; at = tag.at }
 
--- behind a start tag's `>`, and behind its `/>`
+-- behind a start tag's `>`
 abbrev pub entered : StartTag → List ℕ → List Node → State
 entered tag ancestors nodes = stand AtContent (length nodes ∷ ancestors) (with_node ancestors (node_of_tag tag) nodes)
 
+-- behind `/>`
 abbrev pub added : StartTag → List ℕ → List Node → State
 added tag ancestors nodes = stand AtContent ancestors (with_node ancestors (node_of_tag tag) nodes)
 
@@ -101,6 +103,7 @@ tag_next tag ancestors nodes b =
     if is_white b then Some (stand (AtTag tag) ancestors nodes)
     else (if b == 62 then Some (entered tag ancestors nodes) else (if b == 47 then Some (stand (AtSlash tag) ancestors nodes) else None))
 
+-- between tags: white space or `<`
 unfoldable pub content_next : ℕ → List ℕ → List Node → ℕ → Option State
 content_next at ancestors nodes b =
     if is_white b then Some (stand AtContent ancestors nodes) else (if b == 60 then Some (stand (AtOpened at) ancestors nodes) else None)
@@ -110,6 +113,7 @@ abbrev pub end_begun : List ℕ → List Node → Option State
 end_begun [] nodes = None
 end_begun (p ∷ ancestors) nodes = Some (stand (AtEndName 0) (p ∷ ancestors) nodes)
 
+-- behind `<`: a name begins, or the `/` of an end tag
 unfoldable pub opened_next : ℕ → List ℕ → List Node → ℕ → Option State
 opened_next at ancestors nodes b =
     if is_name_start b then (if may_open ancestors nodes then Some (stand (AtTagName at First (b ∷ [])) ancestors nodes) else None)
@@ -121,9 +125,11 @@ tag_name_or (Some next) at part name ancestors nodes b = Some (stand (AtTagName 
 tag_name_or None at part name ancestors nodes b =
     if is_whole part then tag_next (record { name = name; attributes = []; at = at }) ancestors nodes b else None
 
+-- in a tag's name
 unfoldable pub tag_name_next : ℕ → Part → List ℕ → List ℕ → List Node → ℕ → Option State
 tag_name_next at part name ancestors nodes b = tag_name_or (next_part part b) at part name ancestors nodes b
 
+-- in a tag behind white space: an attribute begins, or as behind the name
 unfoldable pub in_tag_next : StartTag → List ℕ → List Node → ℕ → Option State
 in_tag_next tag ancestors nodes b =
     if is_name_start b then Some (stand (AtAttributeName tag First (b ∷ [])) ancestors nodes) else tag_next tag ancestors nodes b
@@ -137,17 +143,21 @@ attribute_name_or (Some next) tag part name ancestors nodes b = Some (stand (AtA
 attribute_name_or None tag part name ancestors nodes b =
     if is_whole part then (if b == 61 then attribute_named tag name ancestors nodes else None) else None
 
+-- in an attribute's name
 unfoldable pub attribute_name_next : StartTag → Part → List ℕ → List ℕ → List Node → ℕ → Option State
 attribute_name_next tag part name ancestors nodes b = attribute_name_or (next_part part b) tag part name ancestors nodes b
 
+-- behind `=`: a quotation mark
 unfoldable pub equals_next : StartTag → List ℕ → List ℕ → List Node → ℕ → Option State
 equals_next tag name ancestors nodes b = if b == 34 then Some (stand (AtValue tag name []) ancestors nodes) else None
 
+-- in a value: it goes on, or its quotation mark comes
 unfoldable pub value_next : StartTag → List ℕ → List ℕ → List ℕ → List Node → ℕ → Option State
 value_next tag name value ancestors nodes b =
     if is_value_byte b then Some (stand (AtValue tag name (value ++ b ∷ [])) ancestors nodes)
     else (if b == 34 then Some (stand (AtValueEnd (with_attribute tag name value)) ancestors nodes) else None)
 
+-- behind the `/` of a start tag: `>`
 unfoldable pub slash_next : StartTag → List ℕ → List Node → ℕ → Option State
 slash_next tag ancestors nodes b = if b == 62 then Some (added tag ancestors nodes) else None
 
@@ -156,6 +166,7 @@ abbrev pub ended : List ℕ → List Node → Option State
 ended [] nodes = None
 ended (p ∷ ancestors) nodes = Some (stand AtContent ancestors nodes)
 
+-- behind an end tag's name: white space or `>`
 unfoldable pub end_space_next : List ℕ → List Node → ℕ → Option State
 end_space_next ancestors nodes b =
     if is_white b then Some (stand AtEndSpace ancestors nodes) else (if b == 62 then ended ancestors nodes else None)
@@ -166,10 +177,12 @@ end_name_or (Some wanted) matched ancestors nodes b =
     if b == wanted then Some (stand (AtEndName (matched + 1)) ancestors nodes) else None
 end_name_or None matched ancestors nodes b = end_space_next ancestors nodes b
 
+-- the same for the innermost open element
 abbrev pub end_name_of : List ℕ → ℕ → List Node → ℕ → Option State
 end_name_of [] matched nodes b = None
 end_name_of (p ∷ ancestors) matched nodes b = end_name_or (slice_get (node_at nodes p).name matched) matched (p ∷ ancestors) nodes b
 
+-- in an end tag's name
 unfoldable pub end_name_next : ℕ → List ℕ → List Node → ℕ → Option State
 end_name_next matched ancestors nodes b = end_name_of ancestors matched nodes b
 
@@ -187,6 +200,7 @@ step_from (AtSlash tag) at ancestors nodes b = slash_next tag ancestors nodes b
 step_from (AtEndName matched) at ancestors nodes b = end_name_next matched ancestors nodes b
 step_from AtEndSpace at ancestors nodes b = end_space_next ancestors nodes b
 
+-- one step
 abbrev pub step : ℕ → State → ℕ → Option State
 step at s b = step_from s.place at s.ancestors s.nodes b
 
@@ -199,11 +213,12 @@ abbrev pub run : ℕ → State → List ℕ → Option State
 run total s [] = Some s
 run total s (b ∷ bytes) = option_and_then (λ t. run total t bytes) (step (total - length (b ∷ bytes)) s b)
 
--- the elements, if a document may end there
+-- the elements, if a document may end at this place
 abbrev pub finished_from : Place → List ℕ → List Node → Option (List Node)
 finished_from AtContent [] (n ∷ nodes) = Some (n ∷ nodes)
 finished_from _ _ _ = None
 
+-- the elements, if a document may end in this state
 abbrev pub finished : State → Option (List Node)
 finished s = finished_from s.place s.ancestors s.nodes
 

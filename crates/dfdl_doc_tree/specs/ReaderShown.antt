@@ -9,6 +9,7 @@ use Rattle.dfdl_doc_tree.specs.declared.mark.Mark.TheVariants.{Content, Opened, 
 use Rattle.dfdl_doc_tree.specs.declared.reader.Tag.{Tag}
 use Rattle.dfdl_doc_tree.specs.declared.reader.Reader.{Reader}
 
+-- a start tag as far as it was read
 abbrev pub tag_seen : Tag → StartTag
 tag_seen t = record { name = string_bytes t.name; attributes = map attribute_seen t.attributes.items; at = t.at }
 
@@ -26,9 +27,11 @@ place_seen Slash word tag name = AtSlash tag
 place_seen (EndName matched) word tag name = AtEndName matched
 place_seen AfterEndName word tag name = AtEndSpace
 
+-- the elements so far
 abbrev pub nodes_seen : Reader → List Node
 nodes_seen r = map node_of_element r.elements.items
 
+-- the state of a reader
 abbrev pub state_seen : Reader → State
 state_seen r = record {
   place = place_seen r.mark (string_bytes r.word) (tag_seen r.tag) (string_bytes r.attribute_name);

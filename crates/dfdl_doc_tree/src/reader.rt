@@ -178,6 +178,7 @@ impl Reader {
             Err(DocFault::Bad)
         }
     }
+
     /// The state behind a byte, which stands at this place of the document.
     pub(crate) fn step(&mut self, at: u64, byte: u8) -> Result<(), DocFault>
         ensures { Answers (step at (state_seen self.old) byte) result (state_seen self.new) }
@@ -339,8 +340,8 @@ impl Reader {
             return Err(DocFault::OutOfMemory);
         }
         let attribute = Attribute {
-            name: self.attribute_name.clone()?,
             value: self.word.clone()?,
+            name: mem::replace(&mut self.attribute_name, String::new(self.alloc)),
         };
         self.tag.attributes.push(attribute)?;
         Ok(())
@@ -405,6 +406,7 @@ impl Reader {
             Err(DocFault::Bad)
         }
     }
+
     /// The tree, if the document may end here.
     pub(crate) fn finish(self) -> Result<Tree, DocFault>
         ensures { Gives (finished (state_seen self)) result }

@@ -11,9 +11,9 @@ mod ring;
 pub mod steps;
 pub mod window;
 
-pub use number::number_at;
+pub use number::{nibble_at, number_at};
 pub use order::{BitOrder, ByteOrder};
-pub use put::put_number;
+pub use put::{put_nibble, put_number};
 pub use steps::Steps;
 pub use window::{Seen, Window};
 

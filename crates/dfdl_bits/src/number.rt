@@ -29,6 +29,21 @@ pub fn number_at(bytes: &[u8], bit: u64, len: u32, bytes_by: ByteOrder, bits_by:
     }
 }
 
+/// Nibble `at` of those that begin at bit `bit`: the number of its four bits.
+#[tactic(auto, using(crate::proofs::Numbers::number_below))]
+pub fn nibble_at(bytes: &[u8], bit: u64, at: u32, bits_by: BitOrder) -> u8
+    requires { bit + 4 * at + 4 ≤ 8 * length bytes.now }
+    ensures number { result ≡ number_of bytes.now (bit + 4 * at) 4 Big bits_by }
+    ensures below { result < 16 }
+{
+    let skip = (bit % 8) as u32 + at % 2 * 4;
+    let first = (bit / 8) as usize + (at / 2 + skip / 8) as usize;
+    match bits_by {
+        BitOrder::LeastFirst => rising(bytes, first, skip % 8, 4) as u8,
+        BitOrder::MostFirst => falling(bytes, first, skip % 8, 4) as u8,
+    }
+}
+
 // Most significant bit first, big endian.
 fn falling(bytes: &[u8], first: usize, skip: u32, len: u32) -> u128
     requires some { 0 < len }

@@ -33,6 +33,29 @@ pub fn put_number(
     put_at(bytes, first, skip, len, value, bytes_by, bits_by)
 }
 
+/// Makes `nibble` the number of the four bits of nibble `at` of those that begin at bit `bit`.
+pub fn put_nibble(bytes: &mut [u8], bit: u64, at: u32, nibble: u8, bits_by: BitOrder)
+    requires inside { bit + 4 * at + 4 ≤ 8 * length bytes.old }
+    requires fits { nibble < 16 }
+    ensures number { number_of bytes.new (bit + 4 * at) 4 Big bits_by ≡ nibble }
+    ensures kept { KeepsOutside bits_by bytes.old bytes.new (bit + 4 * at) 4 }
+    // So each range before it or behind it keeps its number.
+    ensures apart { (b n : ℕ) (by : ByteOrder) → (b + n ≤ bit + 4 * at) ⊎ (bit + 4 * at + 4 ≤ b)
+        → number_of bytes.new b n by bits_by ≡ number_of bytes.old b n by bits_by }
+{
+    let skip = (bit % 8) as u32 + at % 2 * 4;
+    let first = (bit / 8) as usize + (at / 2 + skip / 8) as usize;
+    put_at(
+        bytes,
+        first,
+        skip % 8,
+        4,
+        u128::from(nibble),
+        ByteOrder::Big,
+        bits_by,
+    )
+}
+
 // From bit `skip` of byte `first` on.
 fn put_at(
     bytes: &mut [u8],

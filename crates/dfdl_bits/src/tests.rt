@@ -176,6 +176,11 @@ fn three_bytes_are_two_numbers_of_twelve_bits(rt: HostRuntime) {
     let mut bytes = [0xFF, 0xFF, 0xFF];
     put_number(&mut bytes, 4, 12, 0, Little, MostFirst);
     assert!(rt; bytes == [0xF0, 0x00, 0xFF]);
+
+    assert_eq!(rt; nibble_at(&falling, 4, 2, MostFirst), 0xD);
+    assert_eq!(rt; nibble_at(&rising, 4, 2, LeastFirst), 0x4);
+    put_nibble(&mut bytes, 4, 1, 0xA, MostFirst);
+    assert!(rt; bytes == [0xF0, 0xA0, 0xFF]);
 }
 
 #[test]

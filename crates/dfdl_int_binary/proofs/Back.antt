@@ -53,19 +53,19 @@ times_one (pos n) = ap pos (omega arith)
 times_one (negsuc n) = let same : suc n * 1 ≡ suc n = omega arith in rw same refl
 
 -- zeros behind the point are cut off
-zeros_cut : (k s : ℕ) (z : ℤ) → shortest_from (s + k) (z *ℤ pos (10 ^ k)) ≡ shortest_from s z
+pub zeros_cut : (k s : ℕ) (z : ℤ) → shortest_from (s + k) (z *ℤ pos (10 ^ k)) ≡ shortest_from s z
 zeros_cut zero s z = rw add-zero (ap (shortest_from s) (times_one z))
 zeros_cut (suc k) s z =
     let more : z *ℤ pos (10 ^ suc k) ≡ (z *ℤ pos (10 ^ k)) *ℤ pos 10 = sym (zeros_more z k ∙ ap (λ (e : ℕ). z *ℤ pos (10 ^ e)) (add-one k)) in
     rw (add-suc, more) (one_zero (s + k) (z *ℤ pos (10 ^ k)) ∙ zeros_cut k s z)
 
-shortest_stays : (z : ℤ) (s : ℕ) → (0 < s → unsigned_abs z % 10 ≢ 0) → shortest_from s z ≡ record { mantissa = z; scale = s }
+pub shortest_stays : (z : ℤ) (s : ℕ) → (0 < s → unsigned_abs z % 10 ≢ 0) → shortest_from s z ≡ record { mantissa = z; scale = s }
 shortest_stays z zero shortest = refl
 shortest_stays z (suc s) shortest =
     let odd : nat_eq (unsigned_abs z % 10) 0 ≡ false = ne_eqb _ _ (shortest (omega arith)) in
     rw odd refl
 
-fixed_of-fixed : (d : DecimalNumber) (point : ℕ) → IsFixed d → d.scale ≤ point
+pub fixed_of-fixed : (d : DecimalNumber) (point : ℕ) → IsFixed d → d.scale ≤ point
     → fixed_of (record { mantissa = d.mantissa *ℤ pos (10 ^ (point - d.scale)); scale = point }) ≡ Some d
 fixed_of-fixed d point is inside =
     let cut : point ≡ d.scale + (point - d.scale) = omega arith in

@@ -33,7 +33,7 @@ zeros_fit (pos n) j k less fits =
 zeros_fit (negsuc n) j k less fits =
     neg_fits (suc n * 10 ^ j) (suc n * 10 ^ k) (mul-le-mul_left (suc n) (pow-le-pow_right (omega arith) less)) fits
 
-neg-times : (a b : ℕ) → neg_ℤ (pos a) *ℤ pos b ≡ neg_ℤ (pos (a * b))
+pub neg-times : (a b : ℕ) → neg_ℤ (pos a) *ℤ pos b ≡ neg_ℤ (pos (a * b))
 neg-times zero b = rw zero-mul refl
 neg-times (suc a) b = refl
 

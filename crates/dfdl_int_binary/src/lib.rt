@@ -3,7 +3,7 @@
 // `truth_reading` and `truth_writing` (`specs/Truths.antt`). Serves 'Simple Types'.
 #![tactic(auto)]
 
-mod decimal;
+pub mod decimal;
 pub mod form;
 mod integer;
 pub mod laws;

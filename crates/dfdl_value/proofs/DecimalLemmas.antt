@@ -69,7 +69,7 @@ list_all-empty (x ∷ xs) h = absurd (omega arith)
 
 -- ---- the shortest form
 
-int_div-with_sign : (b : Bool) (n : ℕ) → int_div (with_sign b n) (pos 10) ≡ with_sign b (n / 10)
+pub int_div-with_sign : (b : Bool) (n : ℕ) → int_div (with_sign b n) (pos 10) ≡ with_sign b (n / 10)
 int_div-with_sign true zero = refl
 int_div-with_sign true (suc n) = refl
 int_div-with_sign false n = refl

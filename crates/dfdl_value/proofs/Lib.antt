@@ -9,5 +9,6 @@ pub mod ProductLemmas
 pub mod QuotientLemmas
 pub mod RangeLemmas
 pub mod ReadBack
+pub mod SameLemmas
 pub mod SumLemmas
 pub mod TextLemmas

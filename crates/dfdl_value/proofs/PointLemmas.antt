@@ -204,6 +204,9 @@ pub shortest_from-fixed : (z : ℤ) (scale : ℕ) → (0 < scale → unsigned_ab
 shortest_from-fixed z zero last = refl
 shortest_from-fixed z (suc scale) last = shortest_from-stops scale z (last (omega arith))
 
+pub is_small-fixed : (d : DecimalNumber) → IsFixed d → is_small d ≡ true
+is_small-fixed d fixed = ap (λ b. b && nat_lt d.scale 256) (lt-ltb _ _ fixed.digits) ∙ lt-ltb _ _ fixed.places
+
 pub fixed_of-fixed : (d : DecimalNumber) → IsFixed d → fixed_of d ≡ Some d
 fixed_of-fixed d fixed =
     let small : is_small d ≡ true = ap (λ b. b && nat_lt d.scale 256) (lt-ltb _ _ fixed.digits) ∙ lt-ltb _ _ fixed.places in

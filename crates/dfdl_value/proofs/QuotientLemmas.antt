@@ -1,7 +1,7 @@
 -- Quotients and their digits after the point.
 use Rattle.std.proofs.Common.{◌≡◌, ◌≢◌, ℕ, zero, suc, ◌+◌, ◌-◌, ◌*◌, ◌/◌, ◌%◌, ◌^◌, ◌<◌, ◌≤◌, Bool, not, ◌==◌, if◌then◌else◌, sym, ap, subst, ◌∙◌, inl, inr, arith, Option, Some, None, Err, pos, int_lt, unsigned_abs}
 use Rattle.std.specs.Bool.{beq}
-use Rattle.dfdl_value.specs.declared.quotient.DivFault.TheVariants.{Zero}
+use Rattle.dfdl_value.specs.declared.fixed.DivFault.TheVariants.{Zero}
 use Rattle.std.specs.Option.{SomeIff}
 use Rattle.std.proofs.Math.Nat.{mul_assoc, zero-mul, div-add-mod, mul-lt-mul_of_pos_right, le-mul_of_pos_right, mod-lt, mod-eq_of_lt, div-le_self}
 use Rattle.std.proofs.Math.Dec.{eqb-suc-zero}
@@ -53,6 +53,11 @@ zero_test : (r c : ℕ) → 0 < c → (r * c == 0) ≡ (r == 0)
 zero_test zero c some = eq-eqb _ _ (zero-mul c)
 zero_test (suc r) c some = ne_eqb (suc r * c) 0 (λ e. omega (arith, some_product (suc r) c (omega arith) some)) ∙ sym (eqb-suc-zero r)
 
+exact_is : (b : Bool) (m n q : ℕ) (t : Bool) → (m % n == 0) ≡ t → m / n ≡ q → exact_quotient b m n ≡ (if t then Some (record { mantissa = with_sign b q; scale = 18 }) else None)
+exact_is b m n q t e f =
+    ap (λ v. if v then Some (record { mantissa = with_sign b (m / n); scale = 18 }) else None) e
+    ∙ ap (λ k. if t then Some (record { mantissa = with_sign b k; scale = 18 }) else None) f
+
 pub exact_cancel : (b : Bool) (m n c : ℕ) → 0 < n → 0 < c → exact_quotient b (m * c) (n * c) ≡ exact_quotient b m n
 exact_cancel b m n c some more =
     let whole : m * c ≡ m / n * (n * c) + m % n * c = omega (arith, ap (λ k. k * c) (div-add-mod m n)) in
@@ -60,8 +65,7 @@ exact_cancel b m n c some more =
     let parts = by_parts (m / n) (m % n * c) (n * c) (some_product n c some more) less in
     let rest : m * c % (n * c) ≡ m % n * c = ap (λ k. k % (n * c)) whole ∙ parts.1 in
     let times : m * c / (n * c) ≡ m / n = ap (λ k. k / (n * c)) whole ∙ parts.0 in
-    ap (λ t. if t then Some (record { mantissa = with_sign b (m * c / (n * c)); scale = 18 }) else None) (ap (λ k. k == 0) rest ∙ zero_test (m % n) c more)
-    ∙ ap (λ k. if m % n == 0 then Some (record { mantissa = with_sign b k; scale = 18 }) else None) times
+    exact_is b (m * c) (n * c) (m / n) (m % n == 0) (ap (λ k. k == 0) rest ∙ zero_test (m % n) c more) times
 
 -- an exact quotient, by its parts
 pub exact_by : (b : Bool) (m n q : ℕ) → 0 < n → m ≡ q * n → exact_quotient b m n ≡ Some (record { mantissa = with_sign b q; scale = 18 })

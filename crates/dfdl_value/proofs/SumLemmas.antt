@@ -29,7 +29,7 @@ fixed_of-far b n s far last =
     ∙ ap (λ t. if t && nat_lt s 256 then Some (record { mantissa = with_sign b n; scale = s }) else None) (le-ltb _ _ past)
 
 -- zeros behind a number
-tens : (y k : ℕ) → 0 < k → y * 10 ^ k ≡ (y * 10 ^ (k - 1)) * 10
+pub tens : (y k : ℕ) → 0 < k → y * 10 ^ k ≡ (y * 10 ^ (k - 1)) * 10
 tens y k some =
     let e : k ≡ suc (k - 1) = omega arith in
     ap (λ j. y * 10 ^ j) e ∙ ap (λ p. y * p) (pow-suc 10 (k - 1)) ∙ sym (mul_assoc y (10 ^ (k - 1)) 10)

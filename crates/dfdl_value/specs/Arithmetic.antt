@@ -3,8 +3,8 @@ use Rattle.std.specs.Prelude.{ℕ, ◌+◌, ◌-◌, ◌*◌, ◌/◌, ◌%◌, 
 use Rattle.std.specs.Bool.{beq}
 use Rattle.std.specs.declared.cmp.Ordering.{Ordering}
 use Rattle.std.specs.Ordering.{int_cmp}
-use Rattle.dfdl_value.specs.declared.quotient.DivFault.{DivFault}
-use Rattle.dfdl_value.specs.declared.quotient.DivFault.TheVariants.{Zero, Inexact, Overflow}
+use Rattle.dfdl_value.specs.declared.fixed.DivFault.{DivFault}
+use Rattle.dfdl_value.specs.declared.fixed.DivFault.TheVariants.{Zero, Inexact, Overflow}
 use Rattle.dfdl_value.specs.Decimal.{DecimalNumber, fixed_of}
 use Rattle.dfdl_value.specs.Texts.{with_sign}
 

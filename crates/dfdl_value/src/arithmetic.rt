@@ -6,14 +6,13 @@ ghost use Rattle.dfdl_value.specs.Arithmetic.{comparison_of, division_of, negate
 ghost use Rattle.dfdl_value.specs.Decimal.{fixed_of};
 ghost use Rattle.dfdl_value.specs.Texts.{with_sign};
 
-use super::fixed::{Fixed, shortest};
+use super::fixed::{DivFault, Fixed, Overflow, shortest};
 use super::product::product_at;
-use super::quotient::{DivFault, quotient_at};
+use super::quotient::quotient_at;
 use std::cmp::Ordering;
-use thiserror::Error;
 
 /// The magnitude with so many zeros behind it, if that has 128 bits at most.
-pub fn shifted(magnitude: u128, zeros: u32) -> Option<u128>
+pub(crate) fn shifted(magnitude: u128, zeros: u32) -> Option<u128>
     ensures { SomeIff result (magnitude * 10 ^ zeros < 2 ^ 128) (magnitude * 10 ^ zeros) }
 {
     if magnitude == 0 {
@@ -147,11 +146,6 @@ fn quotient(left: &Fixed, right: &Fixed) -> Result<Fixed, DivFault>
         u32::from(left.scale()),
     )
 }
-
-/// No `Fixed` has the number.
-#[derive(Clone, Copy, Debug, PartialEq, Eq, Error)]
-#[error("too many digits")]
-pub struct Overflow;
 
 impl Fixed {
     pub fn add(&self, other: &Fixed) -> Result<Fixed, Overflow>

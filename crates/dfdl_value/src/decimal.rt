@@ -92,7 +92,7 @@ fn fixed_from(negative: bool, whole: &[u8], fraction: &[u8]) -> Option<Fixed>
 }
 
 /// What a text without white space at its ends says of a decimal.
-pub fn read_decimal(text: &[u8]) -> Result<Value, ReadFault>
+pub(crate) fn read_decimal(text: &[u8]) -> Result<Value, ReadFault>
     ensures { result ≡ decimal_reading (decimal_of text.now) }
 {
     let whole = before_point(unsigned_part(text));

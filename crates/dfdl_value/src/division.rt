@@ -48,13 +48,13 @@ fn ten_times(rest: u128, divisor: u128) -> Part
 /// A quotient that the division gives exactly, or nothing in place of one past 128 bits, and how many zeros were
 /// put behind the dividend.
 #[derive(Clone, Copy)]
-pub struct Quotient {
+pub(crate) struct Quotient {
     pub number: Option<u128>,
     pub zeros: u32,
 }
 
 /// The quotient with the fewest zeros behind the dividend by which the division leaves nothing, if at most so many do.
-pub fn divide(dividend: u128, divisor: u128, most: u32) -> Option<Quotient>
+pub(crate) fn divide(dividend: u128, divisor: u128, most: u32) -> Option<Quotient>
     requires some { 0 < divisor }
     requires divisor { divisor < 2 ^ 127 }
     ensures few { IfSome result (λ q. q.zeros ≤ most) }

@@ -4,12 +4,31 @@ ghost use Rattle.dfdl_value.specs.Decimal.{fixed_of};
 ghost use Rattle.dfdl_value.specs.Texts.{with_sign};
 
 use std::marker::Model;
+use thiserror::Error;
 
 /// The number `mantissa` divided by ten to the power of `scale`.
 #[derive(Clone, Copy, Debug, PartialEq, Eq)]
 pub struct Fixed {
     mantissa: i128,
     scale: u8,
+}
+
+/// No `Fixed` has the number.
+#[derive(Clone, Copy, Debug, PartialEq, Eq, Error)]
+#[error("too many digits")]
+pub struct Overflow;
+
+/// Why a division has no result.
+#[derive(Clone, Copy, Debug, PartialEq, Eq, Error)]
+pub enum DivFault {
+    #[error("division by zero")]
+    Zero,
+    /// The quotient takes more than 18 digits after its point.
+    #[error("a quotient with too many digits after its point")]
+    Inexact,
+    /// No `Fixed` has the quotient.
+    #[error("too many digits")]
+    Overflow,
 }
 
 impl Model for Fixed {
@@ -66,9 +85,9 @@ impl Fixed {
 }
 
 /// Ten to the power of the greatest number of digits.
-pub const DIGITS: u128 = 100_000_000_000_000_000_000_000_000_000_000_000_000;
+pub(crate) const DIGITS: u128 = 100_000_000_000_000_000_000_000_000_000_000_000_000;
 
-pub fn signed(negative: bool, magnitude: u128) -> i128
+pub(crate) fn signed(negative: bool, magnitude: u128) -> i128
     requires { magnitude < 10 ^ 38 }
     ensures { result ≡ with_sign negative magnitude }
 {
@@ -80,7 +99,7 @@ pub fn signed(negative: bool, magnitude: u128) -> i128
 }
 
 /// The form that `Fixed` has for a number, if it has one.
-pub fn shortest(negative: bool, magnitude: u128, scale: u32) -> Option<Fixed>
+pub(crate) fn shortest(negative: bool, magnitude: u128, scale: u32) -> Option<Fixed>
     ensures { result ≡ fixed_of (record { mantissa = with_sign negative magnitude; scale = scale }) }
 {
     let mut magnitude = magnitude;

@@ -99,7 +99,7 @@ fn unsigned_value(bits: u32, number: Whole) -> Result<Value, ReadFault>
 }
 
 /// What a text without white space at its ends says of a signed type of so many bits.
-pub fn read_signed(bits: u32, text: &[u8]) -> Result<Value, ReadFault>
+pub(crate) fn read_signed(bits: u32, text: &[u8]) -> Result<Value, ReadFault>
     requires some { 1 ≤ bits }
     requires few { bits ≤ 128 }
     ensures { result ≡ signed_reading bits (integer_of text.now) }
@@ -111,7 +111,7 @@ pub fn read_signed(bits: u32, text: &[u8]) -> Result<Value, ReadFault>
 }
 
 /// What a text without white space at its ends says of an unsigned type of so many bits.
-pub fn read_unsigned(bits: u32, text: &[u8]) -> Result<Value, ReadFault>
+pub(crate) fn read_unsigned(bits: u32, text: &[u8]) -> Result<Value, ReadFault>
     requires some { 1 ≤ bits }
     requires few { bits ≤ 128 }
     ensures { result ≡ unsigned_reading bits (integer_of text.now) }

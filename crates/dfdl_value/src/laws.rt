@@ -1,12 +1,14 @@
 // Laws of the definitions that the contracts cite. The calls do nothing.
-ghost use Rattle.std.specs.Prelude.{◌≡◌, Ok};
+ghost use Rattle.std.specs.Prelude.{◌≡◌, ◌↔◌, Ok, Some};
 ghost use Rattle.hex.specs.Hex.{IsBytes, decode_of, encode_upper};
+ghost use Rattle.dfdl_value.specs.Decimal.{DecimalNumber, SameNumber, fixed_of};
 ghost use Rattle.dfdl_value.specs.Reading.{bytes_reading, reading_of};
 ghost use Rattle.dfdl_value.specs.Texts.{trimmed};
 ghost use Rattle.dfdl_value.specs.Types.{IsOfType};
 ghost use Rattle.dfdl_value.specs.Writing.{text_of};
 ghost use Rattle.dfdl_value.specs.declared.value.Value.TheVariants.{Bytes};
 
+use super::fixed::Fixed;
 use super::held::ByteValue;
 use super::simple::Simple;
 use super::value::Value;
@@ -29,4 +31,11 @@ pub fn text_is_read_back(kind: Simple, value: &Value)
     if let Value::Bytes(held) = value {
         bytes_are_read_back(held);
     }
+}
+
+/// The form that `Fixed` has for a number is the one that writes the same number.
+pub fn form_writes_the_number(form: &Fixed)
+    ensures { (d : DecimalNumber) → (fixed_of d ≡ Some form.now) ↔ SameNumber form.now d }
+{
+    let _mantissa = form.mantissa();
 }

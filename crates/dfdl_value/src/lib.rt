@@ -4,7 +4,7 @@
 // the DFDL 1.0 specification, GFD.240.
 #![tactic(auto)]
 
-pub mod arithmetic;
+mod arithmetic;
 mod decimal;
 mod division;
 pub mod fixed;
@@ -18,10 +18,15 @@ pub mod read;
 pub mod simple;
 mod text;
 pub mod value;
+pub mod vars;
 mod write;
 
-pub use fixed::Fixed;
+pub use fixed::{DivFault, Fixed, Overflow};
 pub use held::{ByteValue, TextValue};
 pub use read::ReadFault;
 pub use simple::{Form, Simple};
 pub use value::Value;
+pub use vars::{CellId, VarDef, VarValues};
+
+#[cfg(test)]
+mod tests;

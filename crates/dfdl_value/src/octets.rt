@@ -11,7 +11,7 @@ use super::value::Value;
 use std::alloc::Global;
 
 /// What a text without white space at its ends says of a boolean.
-pub fn read_truth(text: &[u8]) -> Result<Value, ReadFault>
+pub(crate) fn read_truth(text: &[u8]) -> Result<Value, ReadFault>
     ensures { result ≡ truth_reading (truth_of text.now) }
 {
     if text == b"true".as_slice() || text == b"1".as_slice() {
@@ -36,7 +36,7 @@ fn are_hex_digits(text: &[u8]) -> bool
 }
 
 /// What a text without white space at its ends says of hexBinary.
-pub fn read_bytes(alloc: Global, text: &[u8]) -> Result<Value, ReadFault>
+pub(crate) fn read_bytes(alloc: Global, text: &[u8]) -> Result<Value, ReadFault>
     ensures value { IfOk result (λ v. bytes_reading (decode_of text.now) ≡ Ok v) }
     ensures not_a_value { IsErrOf result ReadFault.NotAValue ↔ (bytes_reading (decode_of text.now) ≡ Err ReadFault.NotAValue) }
     ensures past_type { ¬ IsErrOf result ReadFault.PastType }

@@ -51,7 +51,7 @@ fn reduced(product: Product) -> Product
 }
 
 /// The form that `Fixed` has for a product, if it has one.
-pub fn product_at(negative: bool, left: u128, right: u128, scale: u32) -> Option<Fixed>
+pub(crate) fn product_at(negative: bool, left: u128, right: u128, scale: u32) -> Option<Fixed>
     ensures { result ≡ fixed_of (record { mantissa = with_sign negative (left * right); scale = scale }) }
 {
     let product = reduced(Product { left, right, scale });

@@ -7,22 +7,7 @@ ghost use Rattle.dfdl_value.specs.Texts.{with_sign};
 
 use super::arithmetic::shifted;
 use super::division::divide;
-use super::fixed::{Fixed, shortest};
-use thiserror::Error;
-
-/// Why a division has no result.
-#[derive(Clone, Copy, Debug, PartialEq, Eq, Error)]
-pub enum DivFault {
-    #[error("division by zero")]
-    Zero,
-    /// The quotient takes more than 18 digits after its point.
-    #[error("a quotient with too many digits after its point")]
-    Inexact,
-    /// No `Fixed` has the quotient.
-    #[error("too many digits")]
-    Overflow,
-}
-
+use super::fixed::{DivFault, Fixed, shortest};
 /// The form that `Fixed` has for a number with so many zeros behind it, divided by ten to the power of 18.
 fn raised(negative: bool, number: Option<u128>, zeros: u32) -> Option<Fixed>
     ensures { (n : ℕ) → SomeIff number (n < 2 ^ 128) n → (2 ^ 128 ≤ n → n % 10 ≢ 0) → result ≡ fixed_of (record { mantissa = with_sign negative (n * 10 ^ zeros); scale = 18 }) }
@@ -81,7 +66,7 @@ fn short_quotient(
 }
 
 /// The quotient, where zeros are put behind both.
-pub fn quotient_at(
+pub(crate) fn quotient_at(
     negative: bool,
     dividend: u128,
     up: u32,

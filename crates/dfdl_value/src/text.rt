@@ -38,19 +38,19 @@ fn without_trailing_space(text: &[u8]) -> &[u8]
 }
 
 /// The text with the white space at its ends passed over.
-pub fn trimmed(text: &[u8]) -> &[u8]
+pub(crate) fn trimmed(text: &[u8]) -> &[u8]
     ensures { result.now ≡ trimmed_of text.now }
 {
     without_trailing_space(without_leading_space(text))
 }
 
-pub fn is_negative(text: &[u8]) -> bool
+pub(crate) fn is_negative(text: &[u8]) -> bool
     ensures { result ≡ has_minus text.now }
 {
     text.first() == Some(&b'-')
 }
 
-pub fn unsigned_part(text: &[u8]) -> &[u8]
+pub(crate) fn unsigned_part(text: &[u8]) -> &[u8]
     ensures { result.now ≡ unsigned_part_of text.now }
 {
     match text {
@@ -59,20 +59,20 @@ pub fn unsigned_part(text: &[u8]) -> &[u8]
     }
 }
 
-pub fn are_digits(text: &[u8]) -> bool
+pub(crate) fn are_digits(text: &[u8]) -> bool
     ensures { result ≡ list_all is_ascii_digit text.now }
 {
     text.iter().all(|byte| byte.is_ascii_digit())
 }
 
-pub fn is_numeral(text: &[u8]) -> bool
+pub(crate) fn is_numeral(text: &[u8]) -> bool
     ensures { result ≡ writes_number text.now }
 {
     !text.is_empty() && are_digits(text)
 }
 
 /// The number that the digits write behind those of `number`, if it has 128 bits at most.
-pub fn appended(number: u128, digits: &[u8]) -> Option<u128>
+pub(crate) fn appended(number: u128, digits: &[u8]) -> Option<u128>
     requires { IsTrue (list_all is_ascii_digit digits.now) }
     ensures { SomeIff result (number_after number digits.now < 2 ^ 128) (number_after number digits.now) }
 {

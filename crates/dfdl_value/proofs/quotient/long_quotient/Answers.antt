@@ -1,5 +1,5 @@
 use Rattle.std.proofs.Common.{◌≢◌, ◌*◌, ◌/◌, ◌%◌, ◌^◌, ◌∙◌, sym, ap, arith, ok_or}
-use Rattle.dfdl_value.specs.declared.quotient.DivFault.TheVariants.{Overflow}
+use Rattle.dfdl_value.specs.declared.fixed.DivFault.TheVariants.{Overflow}
 use Rattle.dfdl_value.specs.Arithmetic.{quotient_answer}
 use Rattle.dfdl_value.proofs.QuotientLemmas.{exact_longer, last_of}
 use Rattle.dfdl_value.proofs.quotient.long_quotient.Goals as goal

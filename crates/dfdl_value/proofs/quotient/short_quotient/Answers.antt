@@ -1,5 +1,5 @@
 use Rattle.std.proofs.Common.{ℕ, ◌*◌, ◌^◌, ◌<◌, ◌∙◌, sym, ap, arith, ok_or}
-use Rattle.dfdl_value.specs.declared.quotient.DivFault.TheVariants.{Overflow}
+use Rattle.dfdl_value.specs.declared.fixed.DivFault.TheVariants.{Overflow}
 use Rattle.dfdl_value.specs.Arithmetic.{quotient_answer}
 use Rattle.dfdl_value.proofs.OrderLemmas.{some_product, pow_some}
 use Rattle.dfdl_value.proofs.QuotientLemmas.{exact_none, inexact_few}

@@ -1,5 +1,5 @@
 -- What a run decides, from what its stages answer.
-use Rattle.std.proofs.Common.{◌≡◌, ◌⊎◌, ℕ, ◌+◌, ◌≤◌, List, length, Option, None, Some, IsSome, IfSome, refl, sym, subst, ◌∙◌, nat_le, inl, inr}
+use Rattle.std.proofs.Common.{◌==◌, ◌||◌, IsTrue, ◌≡◌, ◌⊎◌, ℕ, ◌+◌, ◌≤◌, List, length, Option, None, Some, IsSome, IfSome, refl, sym, subst, ◌∙◌, nat_le, inl, inr}
 use Rattle.std.proofs.lemmas.Bool.{cond_both}
 use Rattle.dfdl_edge.specs.Told.{IsAll}
 use Rattle.dfdl_terms.specs.declared.cause.SchemaCause.TheVariants.{OutsideSubset}
@@ -7,7 +7,8 @@ use Rattle.dfdl_terms.specs.Rows.{Table}
 use Rattle.dfdl_terms.specs.Record.{Record, record_of}
 use Rattle.dfdl_run.specs.declared.answer.Answer.{Answer}
 use Rattle.dfdl_run.specs.declared.answer.Answer.TheVariants.{Done, LeftOver, Failed, Refused, Usage, SourceFailed, SinkFailed, FilesFailed, Limit, OutOfMemory}
-use Rattle.dfdl_run.specs.Decided.{IsLoadFault, IsReadAnswer, IsNoSchema, IsSchemaOf, IsParsed}
+use Rattle.dfdl_run.specs.Answer.{status_of}
+use Rattle.dfdl_run.specs.Decided.{IsResult, IsLoadFault, IsReadAnswer, IsNoSchema, IsSchemaOf, IsParsed}
 use Rattle.dfdl_run.specs.Expects.{most_schema, most_input}
 use Rattle.dfdl_run.specs.Loaded.{IsLoaded}
 use Rattle.dfdl_run.specs.Meaning.{Outcome, Read, Ends, answer_at, answer_of, outcome_of, line_of}
@@ -27,22 +28,13 @@ refused_fault file name bytes before after answer (inl is) all fits none =
     (refl, refl, refl, told IsNoSchema file bytes all (record { fits = fits; none = none }))
 refused_fault file name bytes before after answer (inr is) all fits none = subst (λ (a : Answer). IsLoadFault file name before after a) (sym is) tt
 
--- the answers that data can come to
-IsResult : Answer → Type 0
-IsResult (Done line) = Unit {0}
-IsResult (LeftOver line bit) = Unit {0}
-IsResult (Failed cause bit path) = Unit {0}
-IsResult _ = ⊥
-
 answer_at-result : (root : List ℕ) (bits : ℕ) (o : Outcome) → IsResult (answer_at root bits o)
-unfolding IsResult
 answer_at-result root bits (Read items bit) =
     cond_both (nat_le (bit + 8) bits) (LeftOver (line_of root items) bit) (Done (line_of root items)) IsResult (λ _. tt) (λ _. tt)
 answer_at-result root bits (Ends name bit) = tt
 
 result_read : (input : Option (List ℕ)) (described : Record) (before after : ℕ) (answer : Answer) → IsResult answer → IfSome input (IsParsed described answer)
     → IsReadAnswer input described before after answer
-unfolding IsResult
 result_read input described before after (Done line) _ parsed = parsed
 result_read input described before after (LeftOver line bit) _ parsed = parsed
 result_read input described before after (Failed cause bit path) _ parsed = parsed
@@ -76,3 +68,29 @@ schema_told file bytes terms described loaded is all fits =
       schema_is = subst (λ (d : Record). IsSchema bytes d) same loaded.schema;
       only = λ other schema. loaded.only other schema ∙ same;
     })
+
+-- a schema that was not loaded gives no result
+pub fault_no_result : (file : Option (List ℕ)) (name : List ℕ) (before after : ℕ) (answer : Answer) → IsLoadFault file name before after answer → IsResult answer → ⊥
+fault_no_result file name before after (Done line) fault result = fault
+fault_no_result file name before after (LeftOver line bit) fault result = fault
+fault_no_result file name before after (Failed cause bit path) fault result = fault
+fault_no_result file name before after (Refused cause document at) fault result = result
+fault_no_result file name before after (Usage word) fault result = result
+fault_no_result file name before after SourceFailed fault result = result
+fault_no_result file name before after SinkFailed fault result = result
+fault_no_result file name before after (FilesFailed failed) fault result = result
+fault_no_result file name before after (Limit cause quantity) fault result = result
+fault_no_result file name before after OutOfMemory fault result = result
+
+-- the answers with the statuses of results are results
+pub status_result : (answer : Answer) → IsTrue (status_of answer == 0 || status_of answer == 1 || status_of answer == 11) → IsResult answer
+status_result (Done line) _ = tt
+status_result (LeftOver line bit) _ = tt
+status_result (Failed cause bit path) _ = tt
+status_result (Refused cause document at) is = absurd (cc)
+status_result (Usage word) is = absurd (cc)
+status_result SourceFailed is = absurd (cc)
+status_result SinkFailed is = absurd (cc)
+status_result (FilesFailed failed) is = absurd (cc)
+status_result (Limit cause quantity) is = absurd (cc)
+status_result OutOfMemory is = absurd (cc)

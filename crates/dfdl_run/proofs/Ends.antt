@@ -1,14 +1,15 @@
 -- How a run ends, from what it decided and what came of it.
-use Rattle.std.proofs.Common.{◌≡◌, ◌⊎◌, ℕ, ◌++◌, IsTrue, List, [], length, Option, None, Some, refl, sym, ap, subst, ◌∙◌, arith, append-nil, inl, inr}
+use Rattle.std.proofs.Common.{◌==◌, ◌||◌, ◌≡◌, ◌⊎◌, ℕ, ◌++◌, IsTrue, List, [], length, Option, None, Some, refl, sym, ap, subst, ◌∙◌, arith, append-nil, inl, inr}
 use Rattle.std.proofs.Math.Seq.{take-length}
 use Rattle.dfdl_edge.specs.Faults.{Rose}
 use Rattle.dfdl_edge.specs.Sink.{Adds, AddsFront}
 use Rattle.dfdl_run.specs.declared.answer.Answer.{Answer}
 use Rattle.dfdl_run.specs.declared.answer.Answer.TheVariants.{Done, LeftOver, Failed, Refused, Usage, SourceFailed, SinkFailed, FilesFailed, Limit, OutOfMemory}
 use Rattle.dfdl_run.specs.Answer.{status_of, written_of, note_of}
-use Rattle.dfdl_run.specs.Decided.{Decided, by_words, by_schema, by_data, IsLoadFault, IsReadAnswer}
+use Rattle.dfdl_run.specs.Decided.{Decided, by_words, by_schema, by_data, IsResult, IsLoadFault, IsReadAnswer}
 use Rattle.dfdl_run.specs.Expects.{Expects, no_command, long_schema, no_schema, long_input, parsed, is_excused, Tells, Gives, ComesExactly, NamesFile}
 use Rattle.dfdl_run.specs.Finished.{Finished, all, no_sink, no_memory, HasLine}
+use Rattle.dfdl_run.proofs.Decisions.{status_result}
 use Rattle.dfdl_run.proofs.Rankings.{Ranked, same, files, source, memory, ranked, result_excused}
 
 adds_front : (old new : Option (List ℕ)) (piece : List ℕ) → Adds old piece new → AddsFront old piece new
@@ -186,3 +187,15 @@ module _ (words : List (List ℕ)) (C : List ℕ → Option (List ℕ)) (L : Opt
   unwritten (no_memory status none told) not_done not_failed not_over = same_adds oo on none
   unwritten (all gives) not_done not_failed not_over =
       subst (λ (piece : List ℕ). Adds oo piece on) (nothing_written a (λ is. not_done (gives.status_is ∙ is)) (λ is. not_over (gives.status_is ∙ is))) gives.written
+
+  -- a run that ends with the status of a result has one
+  pub result_ended : Finished a result oo on no nn ob oa nb na → IsTrue (result == 0 || result == 1 || result == 11) → IsResult a
+  result_ended (all gives) is = status_result a (subst (λ (s : ℕ). IsTrue (s == 0 || s == 1 || s == 11)) gives.status_is is)
+  result_ended (no_sink line status rose written told) is = absurd (six_is_none (subst (λ (s : ℕ). IsTrue (s == 0 || s == 1 || s == 11)) status is))
+    where
+      six_is_none : IsTrue (6 == 0 || 6 == 1 || 6 == 11) → ⊥
+      six_is_none none = cc
+  result_ended (no_memory status none told) is = absurd (nine_is_none (subst (λ (s : ℕ). IsTrue (s == 0 || s == 1 || s == 11)) status is))
+    where
+      nine_is_none : IsTrue (9 == 0 || 9 == 1 || 9 == 11) → ⊥
+      nine_is_none none = cc

@@ -7,7 +7,7 @@ use Rattle.dfdl_terms.specs.declared.cause.SchemaCause.TheVariants.{OutsideSubse
 use Rattle.dfdl_terms.specs.declared.cause.LimitCause.TheVariants.{Input, Schema}
 use Rattle.dfdl_terms.specs.Record.{Record}
 use Rattle.dfdl_run.specs.declared.answer.Answer.{Answer}
-use Rattle.dfdl_run.specs.declared.answer.Answer.TheVariants.{Done, LeftOver, Failed, Refused, Usage, SourceFailed, FilesFailed, Limit, OutOfMemory}
+use Rattle.dfdl_run.specs.declared.answer.Answer.TheVariants.{Done, LeftOver, Failed, Refused, Usage, SourceFailed, SinkFailed, FilesFailed, Limit, OutOfMemory}
 use Rattle.dfdl_run.specs.Command.{Order, Orders, IsCommand}
 use Rattle.dfdl_run.specs.Expects.{most_schema, most_input}
 use Rattle.dfdl_run.specs.Meaning.{answer_of}
@@ -46,6 +46,19 @@ IsReadAnswer input described before after (Done line) = IfSome input (IsParsed d
 IsReadAnswer input described before after (LeftOver line bit) = IfSome input (IsParsed described (LeftOver line bit))
 IsReadAnswer input described before after (Failed cause bit path) = IfSome input (IsParsed described (Failed cause bit path))
 IsReadAnswer input described before after _ = ⊥
+
+-- the answers that data can come to
+abbrev pub IsResult : Answer → Type 0
+IsResult (Done line) = Unit {0}
+IsResult (LeftOver line bit) = Unit {0}
+IsResult (Failed cause bit path) = Unit {0}
+IsResult (Refused cause document at) = ⊥
+IsResult (Usage word) = ⊥
+IsResult SourceFailed = ⊥
+IsResult SinkFailed = ⊥
+IsResult (FilesFailed name) = ⊥
+IsResult (Limit cause quantity) = ⊥
+IsResult OutOfMemory = ⊥
 
 -- what was decided, by the stage at which it was
 pub data Decided (words : List (List ℕ)) (file : List ℕ → Option (List ℕ)) (input : Option (List ℕ)) (source_before source_after files_before files_after : ℕ) (answer : Answer) : Type 0 where

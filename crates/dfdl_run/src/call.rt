@@ -1,14 +1,15 @@
 // The top call.
-ghost use Rattle.std.specs.Prelude.{IsSome, ◌<◌, ◌≡◌, ◌≢◌, ◌⊎◌, ◌+◌, ◌≤◌, ◌^◌, List, ℕ, [], IfOk, IfErr, IsTrue, IfSome, Some, map, string_bytes, codes, ◌++◌, decimal};
+ghost use Rattle.std.specs.Prelude.{◌==◌, ◌||◌, IsSome, ◌<◌, ◌≡◌, ◌≢◌, ◌⊎◌, ◌+◌, ◌≤◌, ◌^◌, List, ℕ, [], IfOk, IfErr, IsTrue, IfSome, Some, map, string_bytes, codes, ◌++◌, decimal};
 ghost use Rattle.dfdl_fronts.specs.Fronts.{IsPlace};
 ghost use Rattle.dfdl_edge.specs.Faults.{Rose};
 ghost use Rattle.dfdl_edge.specs.Sink.{Adds, AddsFront};
+ghost use Rattle.dfdl_edge.specs.Whole.{IsUsedUp};
 ghost use Rattle.dfdl_terms.specs.Record.{Record, record_of};
 ghost use Rattle.dfdl_run.specs.declared.answer.Answer.{Answer};
 ghost use Rattle.dfdl_run.specs.Answer.{status_of, written_of, note_of};
 ghost use Rattle.dfdl_run.specs.Command.{IsCommand, Orders};
 ghost use Rattle.dfdl_run.specs.Expects.{Expects, is_excused, Tells, Gives, ComesExactly, NamesFile, most_schema, most_input};
-ghost use Rattle.dfdl_run.specs.Decided.{Decided, IsLoadFault, IsReadAnswer, IsSchemaOf};
+ghost use Rattle.dfdl_run.specs.Decided.{Decided, IsResult, IsLoadFault, IsReadAnswer, IsSchemaOf};
 ghost use Rattle.dfdl_run.specs.Schema.{IsSchema};
 ghost use Rattle.dfdl_terms.specs.declared.cause.SchemaCause.TheVariants.{OutsideSubset};
 ghost use Rattle.dfdl_run.specs.Finished.{Finished};
@@ -115,6 +116,7 @@ fn read_answer<S: Source>(alloc: Global, source: &mut S, terms: &Terms) -> Answe
     requires { IsSome (record_of terms.now) }
     ensures answer { (described : Record) → record_of terms.now ≡ Some described
         → IsReadAnswer (S.left source.old) described (S.faults source.old) (S.faults source.new) result }
+    ensures used_up { IsResult result → IsUsedUp (S.left source.old) (S.left source.new) }
     ensures later { S.faults source.old ≤ S.faults source.new }
 {
     let bytes = match read_to_limit(alloc, source, MOST_INPUT) {
@@ -138,6 +140,7 @@ fn decide<S: Source, F: Files>(
 ) -> Answer
     ensures decided { Decided (map string_bytes words.now) (F.content files.old) (S.left source.old)
         (S.faults source.old) (S.faults source.new) (F.faults files.old) (F.faults files.new) result }
+    ensures used_up { IsResult result → IsUsedUp (S.left source.old) (S.left source.new) }
 {
     let command = match command_of(words) {
         Ok(command) => command,
@@ -252,6 +255,9 @@ pub fn run<S: Source, K: Sink, N: Sink, F: Files, C: Chooser, P: Patterns>(
         × NamesFile (map string_bytes words.now) (N.taken notes.old) (N.taken notes.new) (N.faults notes.old) (N.faults notes.new) }
     ensures out_of_memory { result ≡ 9
         → Tells (note_of Answer.OutOfMemory) (N.taken notes.old) (N.taken notes.new) (N.faults notes.old) (N.faults notes.new) }
+
+    // Where data was parsed, the source was read to its end.
+    ensures used_up { IsTrue (result == 0 || result == 1 || result == 11) → IsUsedUp (S.left source.old) (S.left source.new) }
     ensures unwritten { result ≢ 0 → result ≢ 6 → result ≢ 11 → Adds (K.taken out.old) [] (K.taken out.new) }
 {
     let answer = decide(alloc, words, files, source);

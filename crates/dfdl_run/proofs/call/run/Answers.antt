@@ -1,5 +1,5 @@
 use Rattle.std.proofs.Common.{[], None}
-use Rattle.dfdl_run.proofs.Ends.{exactly, complete, front, comes_exactly, source_failed, sink_failed, files_failed, out_of_memory, unwritten}
+use Rattle.dfdl_run.proofs.Ends.{exactly, complete, front, comes_exactly, source_failed, sink_failed, files_failed, out_of_memory, unwritten, result_ended}
 use Rattle.dfdl_run.proofs.call.run.Goals as goal
 
 pub returns-clause-exact : goal.returns-clause-exact
@@ -43,3 +43,6 @@ returns-clause-out_of_memory g c = out_of_memory [] (λ _. None) None 0 0 0 0 _ 
 
 pub returns-clause-unwritten : goal.returns-clause-unwritten
 returns-clause-unwritten g c = unwritten [] (λ _. None) None 0 0 0 0 _ _ _ _ _ _ _ _ _ _ c.finish.ensures
+
+pub returns-clause-used_up : goal.returns-clause-used_up
+returns-clause-used_up g c = λ is. c.decide-answer.ensures.used_up (result_ended [] (λ _. None) None 0 0 0 0 _ _ _ _ _ _ _ _ _ _ c.finish.ensures is)

@@ -315,7 +315,7 @@ fn one_to_a_thousand_fields(rt: HostRuntime) -> Result<(), Fail> {
 #[test]
 fn a_schema_file_at_its_limit(rt: HostRuntime) -> Result<(), Fail> {
     let mut schema = String::from_str(rt.alloc(), SCHEMA)?;
-    while schema.len() < 4_194_304 {
+    for _ in SCHEMA.len()..4_194_304 {
         schema.push(' ')?;
     }
     ends(

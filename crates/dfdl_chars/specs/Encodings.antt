@@ -1,0 +1,28 @@
+-- The bytes of a character in an encoding.
+use Rattle.std.specs.Prelude.{ℕ, ◌/◌, ◌%◌, nat_lt, if◌then◌else◌, List, [], ◌∷◌, Option, Some, None, encode_utf8}
+use Rattle.std.specs.Char.Escape.{encode_utf16}
+use Rattle.std.specs.List.{flat_map}
+use Rattle.dfdl_bits.specs.declared.order.ByteOrder.{ByteOrder}
+use Rattle.dfdl_bits.specs.declared.order.ByteOrder.TheVariants.{Big, Little}
+use Rattle.dfdl_chars.specs.declared.encoding.Encoding.{Encoding}
+use Rattle.dfdl_chars.specs.declared.encoding.Encoding.TheVariants.{Utf8, UsAscii, Iso88591, Utf16Be, Utf16Le}
+
+-- the two bytes of a unit of UTF-16
+abbrev pub big_bytes : ℕ → List ℕ
+big_bytes unit = unit / 256 ∷ unit % 256 ∷ []
+
+abbrev pub little_bytes : ℕ → List ℕ
+little_bytes unit = unit % 256 ∷ unit / 256 ∷ []
+
+-- the bytes of a unit in the order
+abbrev pub unit_bytes_of : ByteOrder → ℕ → List ℕ
+unit_bytes_of Big = big_bytes
+unit_bytes_of Little = little_bytes
+
+-- the bytes of the character, if the encoding has it
+abbrev pub encoded_of : Encoding → ℕ → Option (List ℕ)
+encoded_of Utf8 c = Some (encode_utf8 c)
+encoded_of UsAscii c = if nat_lt c 128 then Some (c ∷ []) else None
+encoded_of Iso88591 c = if nat_lt c 256 then Some (c ∷ []) else None
+encoded_of Utf16Be c = Some (flat_map (unit_bytes_of Big) (encode_utf16 c))
+encoded_of Utf16Le c = Some (flat_map (unit_bytes_of Little) (encode_utf16 c))

@@ -1,0 +1,4 @@
+pub mod Decoding
+pub mod Encodings
+pub mod Looks
+pub mod Sequences

@@ -1,0 +1,18 @@
+// Characters of the data: what stands at a place in an encoding, read by looks through a window, and the bytes of
+// a character. The contracts cite `decoded_at` of specs/Decoding.antt and `encoded_of` of specs/Encodings.antt.
+// It serves the chapter 'Properties Common to both Content and Framing' of the DFDL 1.0 specification, GFD.240.
+#![tactic(auto)]
+
+pub mod decode;
+pub mod encoded;
+pub mod encoding;
+mod sequences;
+mod utf16;
+mod utf8;
+
+pub use decode::{Chars, decode_at};
+pub use encoded::{NoSuchChar, encode};
+pub use encoding::Encoding;
+
+#[cfg(test)]
+mod tests;

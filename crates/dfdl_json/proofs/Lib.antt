@@ -1,0 +1,5 @@
+mod FieldLists
+mod FieldNames
+mod JsonParts
+mod Records
+mod Walks

@@ -1,0 +1,5 @@
+pub mod Answers
+pub mod Causes
+pub mod Fitting
+pub mod Infosets
+pub mod Names

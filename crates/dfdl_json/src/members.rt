@@ -1,0 +1,100 @@
+// The parts of a JSON value: the root element's content, the names and the values of its members.
+ghost use Rattle.std.specs.Prelude.{◌≡◌, IfOk, IsSome, map, option_map, string_bytes};
+ghost use Rattle.std.specs.BTreeSet.{contains, contains_by};
+ghost use Rattle.std.specs.BTreeMap.{keys};
+ghost use Rattle.std.specs.List.{list_all};
+ghost use Rattle.std.specs.Cmp.Lexicographic.{slice_cmp};
+ghost use Rattle.std.specs.Ordering.{nat_cmp};
+ghost use Rattle.serde_json.specs.Find.{get_member};
+ghost use Rattle.serde_json.specs.View.{view, members_view};
+ghost use Rattle.dfdl_value.specs.Types.{IsOfType};
+ghost use Rattle.dfdl_value.specs.Reading.{reading_of};
+ghost use Rattle.dfdl_terms.specs.Record.{all_of, field_at, fields_at};
+ghost use Rattle.dfdl_json.specs.Infosets.{content_in, value_if, value_in};
+ghost use Rattle.dfdl_json.specs.Names.{HasNames};
+
+use crate::cause::InfosetCause;
+use dfdl_terms::{RowId, Terms, field_of_row};
+use dfdl_value::{ReadFault, Simple, Value};
+use serde_json::{Map, Value as Json};
+use std::alloc::{AllocError, Global};
+use std::collections::BTreeSet;
+
+// The content of the root element, if the whole is an object whose only member has its name.
+pub(crate) fn content_of_root<'v>(whole: &'v Json, root: &str) -> Option<&'v Json>
+    ensures { option_map (λ v. view v.now) result ≡ content_in root.now (view whole.now) }
+{
+    let members = whole.as_object()?;
+    if members.len() == 1 {
+        whole.get(root)
+    } else {
+        None
+    }
+}
+
+// The member of this name.
+pub(crate) fn member_of<'v>(members: &'v Map<String, Json>, name: &str) -> Option<&'v Json>
+    ensures { option_map (λ v. view v.now) result ≡ get_member name.now (members_view members.now.entries) }
+{
+    members.get(name)
+}
+
+// The names of the fields of these rows.
+pub(crate) fn names_of_fields<'t>(
+    alloc: Global,
+    terms: &'t Terms,
+    rows: &[RowId],
+) -> Result<BTreeSet<&'t str>, AllocError>
+    requires { IsSome (all_of (map (field_at terms.now) rows.now)) }
+    ensures { IfOk result (λ names.
+        HasNames (contains (λ x y. slice_cmp nat_cmp x.now y.now) names) (fields_at terms.now rows.now)) }
+{
+    let mut names = BTreeSet::new(alloc);
+    for row in rows {
+        let Some(field) = field_of_row(terms, *row) else {
+            unreachable!()
+        };
+        names.insert(field.name)?;
+    }
+    Ok(names)
+}
+
+// Whether each member has one of these names.
+pub(crate) fn are_members_known(members: &Map<String, Json>, names: &BTreeSet<&str>) -> bool
+    ensures { result ≡ list_all (λ key. contains_by (λ k. slice_cmp nat_cmp (string_bytes key) k.now) names.now) (keys members.now) }
+{
+    members.keys().all(|name| names.contains(name.as_str()))
+}
+
+// What a member says of its simple element.
+pub(crate) fn read_member(
+    alloc: Global,
+    kind: Simple,
+    member: &Json,
+) -> Result<Result<Value, InfosetCause>, AllocError>
+    ensures read { IfOk result (λ read. read ≡ value_in kind (view member.now)) }
+    ensures typed { IfOk result (λ read. IfOk read (IsOfType kind)) }
+{
+    match member {
+        Json::String(text) => read_text(alloc, kind, text.as_str()),
+        Json::Null => Ok(Err(InfosetCause::NullNotAllowed)),
+        _ => Ok(Err(InfosetCause::StringExpected)),
+    }
+}
+
+// What a text says of a simple element.
+fn read_text(
+    alloc: Global,
+    kind: Simple,
+    text: &str,
+) -> Result<Result<Value, InfosetCause>, AllocError>
+    ensures read { IfOk result (λ read. read ≡ value_if (reading_of kind text.now)) }
+    ensures typed { IfOk result (λ read. IfOk read (IsOfType kind)) }
+{
+    match Value::read(alloc, kind, text) {
+        Ok(value) => Ok(Ok(value)),
+        Err(ReadFault::NotAValue) => Ok(Err(InfosetCause::NotAValue)),
+        Err(ReadFault::PastType) => Ok(Err(InfosetCause::NotAValue)),
+        Err(ReadFault::OutOfMemory) => Err(AllocError),
+    }
+}

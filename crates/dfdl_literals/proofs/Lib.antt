@@ -1,0 +1,4 @@
+mod Table
+mod Laws
+pub mod Reader
+pub mod Bytes

@@ -1,0 +1,178 @@
+// Lists of literals, as delimiters, nil values and truth values are written in a schema.
+//
+// `specs/Lists.antt` says how a list is written and which pieces its literals are made of, `specs/Names.antt` which
+// names there are, and `specs/Faults.antt` where a list is refused: `read_literals` answers by them. It serves
+// the chapter DFDL Syntax Basics, on string literals, entities and character classes.
+#![tactic(auto)]
+
+ghost use Rattle.std.specs.Prelude.{◌≡◌, List, length, false, map, slice_index_or, ◌<◌, IfErr, IfOk};
+ghost use Rattle.std.specs.List.{list_all, list_any};
+ghost use Rattle.std.specs.Str.{chars};
+ghost use Rattle.dfdl_literals.specs.Faults.{IsFaultOf, IsRefusalOf};
+ghost use Rattle.dfdl_literals.specs.Lists.{Reads, closed, is_optional, matches_nothing};
+ghost use Rattle.dfdl_literals.specs.Steps.{accepts, start, step};
+ghost use Rattle.dfdl_machines.specs.Machines.{run};
+ghost use Rattle.dfdl_literals.specs.declared.Piece.{Piece};
+
+mod forms;
+mod names;
+mod scan;
+#[cfg(test)]
+mod tests;
+
+pub use forms::{CharList, EscapeKind, EscapeScheme, Justify, PadForm, TruthForm};
+use scan::Scan;
+use std::alloc::Global;
+use std::marker::Model;
+
+/// What a literal is made of.
+#[derive(Debug, Clone, Copy, PartialEq, Eq)]
+pub enum Piece {
+    /// A character.
+    Char(char),
+    /// One raw byte.
+    Byte(u8),
+    /// `%NL;`: a line break.
+    NewLine,
+    /// `%WSP;`: one white space character.
+    Space,
+    /// `%WSP+;`: one or more white space characters.
+    Spaces,
+    /// `%WSP*;`: none or more white space characters.
+    MaybeSpaces,
+    /// `%ES;`: nothing, alone in its literal.
+    Nothing,
+}
+
+/// What has to be known of what was read last for what follows it.
+#[derive(Clone, Copy)]
+pub enum Ending {
+    Ordinary,
+    /// Behind `%%`, where no `;` may stand.
+    Doubled,
+    /// Behind `%ES;`, whose literal ends here.
+    Alone,
+}
+
+/// Why a list of literals is refused.
+#[derive(Debug, Clone, Copy, PartialEq, Eq)]
+pub enum LiteralFault {
+    /// No list can go on at the byte `at`, counted from 0.
+    Malformed { at: usize },
+    /// A literal can match nothing, where none may.
+    MatchesNothing,
+    OutOfMemory,
+}
+
+/// A list of literals.
+#[derive(Drop)]
+pub struct Literals {
+    literals: Vec<Vec<Piece>>,
+}
+
+impl Model for Literals {
+    ghost Value = { List (List Piece) };
+
+    ghost view = { λ l. map (λ v. v.items) l.literals.items };
+}
+
+impl Literals {
+    pub(crate) fn from_parts(literals: Vec<Vec<Piece>>) -> Literals
+        ensures { result ≡ map (λ v. v.items) literals.items }
+    {
+        Literals { literals }
+    }
+
+    pub fn len(&self) -> usize
+        ensures { result ≡ length self.now }
+    {
+        self.literals.len()
+    }
+
+    /// The pieces of one literal.
+    pub fn pieces(&self, at: usize) -> &[Piece]
+        requires { at < length self.now }
+        ensures { result.now ≡ slice_index_or self.now at result.now }
+    {
+        self.literals[at].as_slice()
+    }
+
+    /// Whether some literal can match nothing.
+    pub fn can_match_nothing(&self) -> bool
+        ensures { result ≡ matches_nothing self.now }
+    {
+        any_can_match_nothing(&self.literals)
+    }
+}
+
+fn any_can_match_nothing(literals: &[Vec<Piece>]) -> bool
+    ensures { result ≡ matches_nothing (map (λ v. v.items) literals.now) }
+{
+    for literal in literals {
+        if all_optional(literal) {
+            return true;
+        }
+    }
+    false
+}
+
+fn all_optional(pieces: &[Piece]) -> bool
+    ensures { result ≡ list_all is_optional pieces.now }
+{
+    pieces.iter().all(|piece| can_be_nothing(*piece))
+}
+
+fn can_be_nothing(piece: Piece) -> bool
+    ensures { result ≡ is_optional piece }
+{
+    matches!(piece, Piece::MaybeSpaces | Piece::Nothing)
+}
+
+/// Reads a list of literals, which white space divides; `empty_allowed` lets a literal match nothing, and `%ES;` stand.
+pub fn read_literals(
+    alloc: Global,
+    text: &str,
+    empty_allowed: bool,
+) -> Result<Literals, LiteralFault>
+    ensures found { IfOk result (λ l. Reads empty_allowed l (chars text.now)) }
+    ensures some { IfOk result (λ l. empty_allowed ≡ false → matches_nothing l ≡ false) }
+    ensures refused { IfErr result (λ e. IsFaultOf empty_allowed (chars text.now) e) }
+{
+    let literals = read_any(alloc, text, empty_allowed)?;
+    if !empty_allowed && literals.can_match_nothing() {
+        return Err(LiteralFault::MatchesNothing);
+    }
+    Ok(literals)
+}
+
+fn read_any(alloc: Global, text: &str, empty_allowed: bool) -> Result<Literals, LiteralFault>
+    ensures found { IfOk result (λ l. Reads empty_allowed l (chars text.now)) }
+    ensures refused { IfErr result (λ e. IsRefusalOf empty_allowed (chars text.now) e) }
+{
+    let scan = scanned(alloc, text, empty_allowed)?;
+    match scan.finish() {
+        Ok(literals) => Ok(literals),
+        Err(_) => Err(LiteralFault::OutOfMemory),
+    }
+}
+
+fn scanned(alloc: Global, text: &str, empty_allowed: bool) -> Result<Scan, LiteralFault>
+    ensures found { IfOk result (λ s. Reads empty_allowed (closed s.ended s.open_pieces) (chars text.now)) }
+    ensures refused { IfErr result (λ e. IsRefusalOf empty_allowed (chars text.now) e) }
+{
+    let mut scan = Scan::new(alloc);
+    let mut at = 0;
+    for c in text.chars() {
+        match scan.step(alloc, c, empty_allowed) {
+            Ok(true) => {}
+            Ok(false) => return Err(LiteralFault::Malformed { at }),
+            Err(_) => return Err(LiteralFault::OutOfMemory),
+        }
+        at += c.len_utf8();
+    }
+    if scan.is_whole() {
+        Ok(scan)
+    } else {
+        Err(LiteralFault::Malformed { at })
+    }
+}

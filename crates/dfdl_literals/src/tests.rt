@@ -1,0 +1,105 @@
+// Lists as they are read, and where they are refused.
+#![tactic(auto)]
+
+use crate::{LiteralFault, Piece, read_literals};
+use std::test::Fail;
+
+#[test]
+fn names(rt: HostRuntime) -> Result<(), Fail> {
+    let table = [
+        ("%NUL;", '\u{0}'),
+        ("%SOH;", '\u{1}'),
+        ("%STX;", '\u{2}'),
+        ("%ETX;", '\u{3}'),
+        ("%EOT;", '\u{4}'),
+        ("%ENQ;", '\u{5}'),
+        ("%ACK;", '\u{6}'),
+        ("%BEL;", '\u{7}'),
+        ("%BS;", '\u{8}'),
+        ("%HT;", '\u{9}'),
+        ("%LF;", '\u{a}'),
+        ("%VT;", '\u{b}'),
+        ("%FF;", '\u{c}'),
+        ("%CR;", '\u{d}'),
+        ("%SO;", '\u{e}'),
+        ("%SI;", '\u{f}'),
+        ("%DLE;", '\u{10}'),
+        ("%DC1;", '\u{11}'),
+        ("%DC2;", '\u{12}'),
+        ("%DC3;", '\u{13}'),
+        ("%DC4;", '\u{14}'),
+        ("%NAK;", '\u{15}'),
+        ("%SYN;", '\u{16}'),
+        ("%ETB;", '\u{17}'),
+        ("%CAN;", '\u{18}'),
+        ("%EM;", '\u{19}'),
+        ("%SUB;", '\u{1a}'),
+        ("%ESC;", '\u{1b}'),
+        ("%FS;", '\u{1c}'),
+        ("%GS;", '\u{1d}'),
+        ("%RS;", '\u{1e}'),
+        ("%US;", '\u{1f}'),
+        ("%SP;", '\u{20}'),
+        ("%DEL;", '\u{7f}'),
+        ("%NEL;", '\u{85}'),
+        ("%NBSP;", '\u{a0}'),
+        ("%LS;", '\u{2028}'),
+    ];
+    for (text, character) in table {
+        let literals = read_literals(rt.alloc(), text, false)?;
+        assert_eq!(rt; literals.len(), 1);
+        assert_eq!(rt; literals.pieces(0), [Piece::Char(character)].as_slice());
+    }
+    Ok(())
+}
+
+#[test]
+fn pieces(rt: HostRuntime) -> Result<(), Fail> {
+    let literals = read_literals(
+        rt.alloc(),
+        " a%%%#65;\t%#x1F600;%#rFe;%NL;%WSP;%WSP+;%WSP*;  %ES; ",
+        true,
+    )?;
+    assert_eq!(rt; literals.len(), 3);
+    assert_eq!(rt;
+        literals.pieces(0),
+        [Piece::Char('a'), Piece::Char('%'), Piece::Char('A')].as_slice()
+    );
+    assert_eq!(rt;
+        literals.pieces(1),
+        [
+            Piece::Char('\u{1f600}'),
+            Piece::Byte(0xfe),
+            Piece::NewLine,
+            Piece::Space,
+            Piece::Spaces,
+            Piece::MaybeSpaces
+        ]
+        .as_slice()
+    );
+    assert_eq!(rt; literals.pieces(2), [Piece::Nothing].as_slice());
+    assert!(rt; literals.can_match_nothing());
+    Ok(())
+}
+
+#[test]
+fn faults(rt: HostRuntime) -> Result<(), Fail> {
+    let table = [
+        ("%%; %NL;", false, LiteralFault::Malformed { at: 2 }),
+        ("%WSP*;", false, LiteralFault::MatchesNothing),
+        ("a %WSP*;%WSP*; b", false, LiteralFault::MatchesNothing),
+        ("%#x110000;", false, LiteralFault::Malformed { at: 8 }),
+        ("%#55296;", false, LiteralFault::Malformed { at: 7 }),
+        ("\u{e9}%\u{e9}", false, LiteralFault::Malformed { at: 3 }),
+        ("a%ES;", true, LiteralFault::Malformed { at: 4 }),
+        ("%ES;", false, LiteralFault::Malformed { at: 3 }),
+        ("%NL", true, LiteralFault::Malformed { at: 3 }),
+    ];
+    for (text, empty_allowed, expected) in table {
+        match read_literals(rt.alloc(), text, empty_allowed) {
+            Ok(_) => assert!(rt; false, "{text} was read"),
+            Err(fault) => assert_eq!(rt; fault, expected),
+        }
+    }
+    Ok(())
+}

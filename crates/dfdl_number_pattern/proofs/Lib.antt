@@ -1,0 +1,5 @@
+pub mod Affixes
+pub mod DigitLaws
+pub mod Room
+pub mod ReaderLaws
+pub mod Runs

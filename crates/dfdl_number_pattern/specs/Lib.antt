@@ -1,0 +1,9 @@
+pub mod Count
+pub mod Characters
+pub mod Affix
+pub mod Digits
+pub mod Pattern
+pub mod Machine
+pub mod Taken
+pub mod ReaderShown
+pub mod Fault

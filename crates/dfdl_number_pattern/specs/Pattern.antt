@@ -1,0 +1,98 @@
+-- Number patterns: what they mean, and how they are spelled.
+use Rattle.std.specs.Prelude.{◌≡◌, ℕ, ◌+◌, true, ◌⊎◌, List, ◌∷◌, ◌++◌}
+use Rattle.dfdl_number_pattern.specs.declared.quote.Quote.{Quote}
+use Rattle.dfdl_number_pattern.specs.declared.digits.Digits.{Digits}
+use Rattle.dfdl_number_pattern.specs.declared.pattern.NumberPattern.{NumberPattern}
+use Rattle.dfdl_number_pattern.specs.Affix.{IsAffix, is_whole}
+use Rattle.dfdl_number_pattern.specs.Digits.{IsDigits, is_complete, group_size}
+
+-- a sub-pattern is a prefix, digits and a suffix
+pub record IsSubpattern (prefix suffix : List ℕ) (d : Digits) (text : List ℕ) : Type 0 where
+  pub before : List ℕ
+  pub digits : List ℕ
+  pub behind : List ℕ
+  pub ends_prefix : Quote
+  pub ends_suffix : Quote
+  pub spelled : text ≡ before ++ (digits ++ behind)
+  pub is_prefix : IsAffix ends_prefix prefix before
+  pub prefix_whole : is_whole ends_prefix ≡ true
+  pub is_digits : IsDigits d digits
+  pub complete : is_complete d ≡ true
+  pub is_suffix : IsAffix ends_suffix suffix behind
+  pub suffix_whole : is_whole ends_suffix ≡ true
+
+-- what a pattern means, with its prefixes and suffixes as texts in UTF-8
+pub record Pattern : Type 0 where
+  pub prefix : List ℕ
+  pub suffix : List ℕ
+  pub negative_prefix : List ℕ
+  pub negative_suffix : List ℕ
+  pub least_integer : ℕ
+  pub greatest_integer : ℕ
+  pub group_size : ℕ
+  pub least_fraction : ℕ
+  pub greatest_fraction : ℕ
+  pub implied : ℕ
+
+-- the pattern of these digits and affixes
+abbrev pub pattern_of : Digits → List ℕ → List ℕ → List ℕ → List ℕ → Pattern
+pattern_of d prefix suffix negative_prefix negative_suffix =
+    record {
+      prefix = prefix;
+      suffix = suffix;
+      negative_prefix = negative_prefix;
+      negative_suffix = negative_suffix;
+      least_integer = d.zeros;
+      greatest_integer = d.hashes + d.zeros;
+      group_size = group_size d.groups;
+      least_fraction = d.fraction_zeros;
+      greatest_fraction = d.fraction_zeros + d.fraction_hashes;
+      implied = d.implied;
+    }
+
+-- one sub-pattern: the negative prefix is `-` before the positive one
+pub record SpellsOne (p : Pattern) (text : List ℕ) : Type 0 where
+  pub prefix : List ℕ
+  pub suffix : List ℕ
+  pub digits : Digits
+  pub is_only : IsSubpattern prefix suffix digits text
+  pub means : p ≡ pattern_of digits prefix suffix (45 ∷ prefix) suffix
+
+-- two sub-patterns, divided by `;`: the second one gives the negative prefix and suffix alone
+pub record SpellsTwo (p : Pattern) (text : List ℕ) : Type 0 where
+  pub first : List ℕ
+  pub second : List ℕ
+  pub prefix : List ℕ
+  pub suffix : List ℕ
+  pub digits : Digits
+  pub negative_prefix : List ℕ
+  pub negative_suffix : List ℕ
+  pub other : Digits
+  pub spelled : text ≡ first ++ 59 ∷ second
+  pub is_first : IsSubpattern prefix suffix digits first
+  pub is_second : IsSubpattern negative_prefix negative_suffix other second
+  pub means : p ≡ pattern_of digits prefix suffix negative_prefix negative_suffix
+
+-- the text spells the pattern
+abbrev pub Spells : Pattern → List ℕ → Type 0
+Spells p text = SpellsOne p text ⊎ SpellsTwo p text
+
+-- the text is a pattern
+abbrev pub IsPattern : List ℕ → Type 0
+IsPattern text = (p : Pattern) × Spells p text
+
+-- what a `NumberPattern` shows
+abbrev pub pattern_seen : NumberPattern → Pattern
+pattern_seen p =
+    record {
+      prefix = p.prefix.items;
+      suffix = p.suffix.items;
+      negative_prefix = p.negative_prefix.items;
+      negative_suffix = p.negative_suffix.items;
+      least_integer = p.least_integer;
+      greatest_integer = p.greatest_integer;
+      group_size = p.group_size;
+      least_fraction = p.least_fraction;
+      greatest_fraction = p.greatest_fraction;
+      implied = p.implied;
+    }

@@ -1,0 +1,51 @@
+ghost use Rattle.std.specs.Prelude.{◌≡◌, ◌+◌, ◌<◌, ◌^◌, IfSome, length, vec_len};
+ghost use Rattle.dfdl_number_pattern.specs.Characters.{room_of};
+
+use crate::NumberPattern;
+
+/// How a number is rounded to the fraction digits of its pattern.
+#[derive(Clone, Copy, Debug, PartialEq, Eq)]
+pub enum Rounding {
+    /// Towards positive infinity.
+    Ceiling,
+    /// Towards negative infinity.
+    Floor,
+    /// Towards zero.
+    Down,
+    /// Away from zero.
+    Up,
+    /// To the nearest; halfway to the even neighbour.
+    HalfEven,
+    /// To the nearest; halfway towards zero.
+    HalfDown,
+    /// To the nearest; halfway away from zero.
+    HalfUp,
+    /// A number that would be rounded is refused.
+    Unnecessary,
+}
+
+/// The form of a text number.
+#[derive(Drop)]
+pub struct NumberForm {
+    /// 2, 8, 10 or 16.
+    pub base: u8,
+    /// There is one exactly where the base is 10.
+    pub pattern: Option<NumberPattern>,
+    /// The decimal separator.
+    pub decimal: char,
+    /// The grouping separator.
+    pub grouping: char,
+    pub rounding: Rounding,
+}
+
+impl NumberForm {
+    /// How many characters a number in this form may take.
+    pub fn room(&self) -> usize
+        ensures { result ≡ room_of self.now }
+    {
+        match &self.pattern {
+            Some(pattern) => 128 + pattern.longer_prefix() + pattern.longer_suffix(),
+            None => 128,
+        }
+    }
+}

@@ -1,0 +1,28 @@
+ghost use Rattle.std.specs.Prelude.{◌≡◌, IfOk, IfErr};
+ghost use Rattle.dfdl_number_pattern.specs.Pattern.{Spells, pattern_seen};
+ghost use Rattle.dfdl_number_pattern.specs.Fault.{IsFaultOf};
+
+use crate::reader::Reader;
+use crate::{NumberPattern, PatternFault};
+use std::alloc::Global;
+
+/// The pattern that the text spells.
+pub fn read_pattern(alloc: Global, text: &str) -> Result<NumberPattern, PatternFault>
+    ensures found { IfOk result (λ pattern. Spells (pattern_seen pattern) text.now) }
+    ensures place { IfErr result (λ fault. IsFaultOf text.now fault) }
+{
+    let bytes = text.as_bytes();
+    let mut reader = Reader::new(alloc);
+    for (at, byte) in bytes.iter().enumerate() {
+        if !reader.step(*byte)? {
+            return Err(PatternFault::Malformed { at });
+        }
+    }
+    if !reader.accepts() {
+        return Err(PatternFault::Malformed { at: bytes.len() });
+    }
+    Ok(reader.finish()?)
+}
+
+#[cfg(test)]
+mod tests;

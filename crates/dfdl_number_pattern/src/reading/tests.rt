@@ -1,0 +1,74 @@
+use crate::{NumberForm, NumberPattern, PatternFault, Rounding, read_pattern};
+use std::alloc::Global;
+use std::test::Fail;
+
+/// The digits of a pattern: least and greatest integer digits, group size, least and greatest fraction digits, implied.
+fn digits_of(alloc: Global, text: &str) -> Result<[u16; 6], PatternFault> {
+    let pattern = read_pattern(alloc, text)?;
+    Ok([
+        pattern.least_integer,
+        pattern.greatest_integer,
+        pattern.group_size,
+        pattern.least_fraction,
+        pattern.greatest_fraction,
+        pattern.implied,
+    ])
+}
+
+fn fault_of(alloc: Global, text: &str) -> Option<PatternFault> {
+    match read_pattern(alloc, text) {
+        Ok(_) => None,
+        Err(fault) => Some(fault),
+    }
+}
+
+fn malformed(at: usize) -> Option<PatternFault> {
+    Some(PatternFault::Malformed { at })
+}
+
+#[test]
+fn reads_digits(rt: HostRuntime) -> Result<(), Fail> {
+    assert_eq!(rt; digits_of(rt.alloc(), "#,##0.00")?, [1, 4, 3, 2, 2, 0]);
+    assert_eq!(rt; digits_of(rt.alloc(), "000V00")?, [3, 3, 0, 0, 0, 2]);
+    assert_eq!(rt; digits_of(rt.alloc(), "#0.0#")?, [1, 2, 0, 1, 2, 0]);
+    assert_eq!(rt; digits_of(rt.alloc(), "#0.")?, [1, 2, 0, 0, 0, 0]);
+    assert_eq!(rt; digits_of(rt.alloc(), "#0V")?, [1, 2, 0, 0, 0, 0]);
+    Ok(())
+}
+
+#[test]
+fn reads_affixes(rt: HostRuntime) -> Result<(), Fail> {
+    let signed = read_pattern(rt.alloc(), "+#0")?;
+    assert_eq!(rt; signed.prefix.as_slice(), b"+".as_slice());
+    assert_eq!(rt; signed.negative_prefix.as_slice(), b"-+".as_slice());
+    let quoted = read_pattern(rt.alloc(), "''#0'#'")?;
+    assert_eq!(rt; quoted.prefix.as_slice(), b"'".as_slice());
+    assert_eq!(rt; quoted.suffix.as_slice(), b"#".as_slice());
+    Ok(())
+}
+
+#[test]
+fn refuses_other_texts(rt: HostRuntime) {
+    assert_eq!(rt; fault_of(rt.alloc(), ",#0"), malformed(0));
+    assert_eq!(rt; fault_of(rt.alloc(), "#,"), malformed(2));
+    assert_eq!(rt; fault_of(rt.alloc(), "#,##,##0"), malformed(7));
+    assert_eq!(rt;
+        fault_of(rt.alloc(), "00000000000000000000000000000000000000#"),
+        malformed(38)
+    );
+}
+
+#[test]
+fn leaves_room_for_affixes(rt: HostRuntime) -> Result<(), Fail> {
+    let pattern: NumberPattern = read_pattern(rt.alloc(), "#0;(#0)")?;
+    assert_eq!(rt; pattern.negative_suffix.as_slice(), b")".as_slice());
+    let form = NumberForm {
+        base: 10,
+        pattern: Some(pattern),
+        decimal: '.',
+        grouping: ',',
+        rounding: Rounding::HalfEven,
+    };
+    assert_eq!(rt; form.room(), 130);
+    Ok(())
+}

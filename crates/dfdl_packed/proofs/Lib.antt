@@ -1,0 +1,12 @@
+pub mod Back
+pub mod BackValues
+pub mod DigitLemmas
+pub mod FillLemmas
+pub mod PackedBack
+pub mod Powers
+pub mod ScaledLemmas
+pub mod SizeLemmas
+pub mod TypedLemmas
+pub mod WritingLemmas
+pub mod ZonedBack
+pub mod ZonedLemmas

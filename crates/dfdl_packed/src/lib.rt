@@ -1,0 +1,23 @@
+// Packed decimal, BCD, IBM 4690 packed and zoned numbers: what value digits are read as, and what digits a value is
+// written as. The contracts cite `packed_reading` and `packed_writing` (`specs/Packed.antt`), `zoned_reading` and
+// `zoned_writing` (`specs/Zoned.antt`). Serves 'Simple Types'.
+#![tactic(auto)]
+
+pub mod form;
+pub mod laws;
+mod nibbles;
+mod packed;
+mod reading;
+mod scaled;
+mod size;
+#[cfg(test)]
+mod tests;
+mod typed;
+mod writing;
+mod zoned;
+mod zoned_reading;
+mod zoned_writing;
+
+pub use form::{NoFit, PackedFault, PackedForm, PackedRep, ZonedForm, ZonedStyle};
+pub use packed::{read, write};
+pub use zoned::{read_zoned, write_zoned};

@@ -1,0 +1,36 @@
+// The nibbles of a field.
+ghost use Rattle.std.specs.Prelude.{◌≡◌, ℕ, ◌+◌, ◌*◌, ◌<◌, ◌≤◌, length, take, slice_index};
+ghost use Rattle.dfdl_bits.specs.Bits.{KeepsOutside};
+ghost use Rattle.dfdl_packed.specs.Packed.{nibbles_of};
+
+use dfdl_bits::{BitOrder, nibble_at, put_nibble};
+
+/// The most nibbles that a field has.
+pub const MOST: usize = 39;
+
+/// The nibbles that begin at bit `bit`, `count` of them.
+pub fn nibbles_at(bytes: &[u8], bit: u64, count: u32, bits_by: BitOrder) -> [u8; MOST]
+    requires few { count ≤ 39 }
+    requires inside { bit + 4 * count ≤ 8 * length bytes.now }
+    ensures nibbles { take count result ≡ nibbles_of bits_by bytes.now bit count }
+    ensures length { length result ≡ 39 }
+{
+    let mut nibbles = [0; MOST];
+    for at in 0..count {
+        nibbles[at as usize] = nibble_at(bytes, bit, at, bits_by);
+    }
+    nibbles
+}
+
+/// Writes nibbles from bit `bit` on.
+pub fn put_nibbles(bytes: &mut [u8], bit: u64, nibbles: &[u8], bits_by: BitOrder)
+    requires few { length nibbles.now ≤ 39 }
+    requires inside { bit + 4 * length nibbles.now ≤ 8 * length bytes.old }
+    requires fit { (k : ℕ) → k < length nibbles.now → slice_index nibbles.now k < 16 }
+    ensures nibbles { nibbles_of bits_by bytes.new bit (length nibbles.now) ≡ nibbles.now }
+    ensures kept { KeepsOutside bits_by bytes.old bytes.new bit (4 * length nibbles.now) }
+{
+    for (at, nibble) in nibbles.iter().enumerate() {
+        put_nibble(bytes, bit, at as u32, *nibble, bits_by);
+    }
+}

@@ -27,6 +27,11 @@ fn integers_of_other_programs_are_read_and_written(rt: HostRuntime) {
         read(&[0xC7, 0xCF, 0xFF, 0xFF], 0, &int),
         Ok(Value::Int(-12345))
     );
+    let widest = form(128, ByteOrder::Big, 0, Simple::NonNegativeInteger);
+    assert_eq!(rt;
+        read(&[0xFF; 16], 0, &widest),
+        Ok(Value::Uns(340_282_366_920_938_463_463_374_607_431_768_211_455))
+    );
     let long = form(24, ByteOrder::Big, 0, Simple::Long);
     assert_eq!(rt;
         read(&[0x00, 0xFE, 0x7E, 0x33], 8, &long),

@@ -2,27 +2,10 @@
 // behind its name, the data is standard input, the answer is standard output and the notes are standard error.
 #![tactic(auto)]
 
-ghost use Rattle.std.specs.Prelude.{◌≡◌};
-
 use dfdl_edge::{DirFiles, RegexPatterns, StdSink, StdSource};
-use dfdl_run::{Chooser, run};
+use dfdl_run::{FirstReady, run};
 use std::process::ExitCode;
 use std::{env, io};
-
-// Picks the first of the values that are ready.
-#[derive(Drop)]
-struct FirstReady {
-    picks: u64,
-}
-
-impl Chooser for FirstReady {
-    ghost picks = { λ c. c.picks };
-
-    fn pick(&mut self, _ready: usize) -> usize {
-        self.picks = self.picks.saturating_add(1);
-        0
-    }
-}
 
 // The status of a run on the program's words.
 fn start(rt: &HostRuntime) -> io::Result<u8> {

@@ -10,5 +10,6 @@ mod reading;
 mod tree;
 
 pub use fault::DocFault;
+pub use mark::{is_name_byte, is_name_start};
 pub use reading::read;
 pub use tree::Tree;

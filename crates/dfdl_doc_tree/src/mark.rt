@@ -90,7 +90,7 @@ pub(crate) fn is_white(byte: u8) -> bool
 
 /// Whether a part of a name may begin with this byte.
 #[tactic(auto, unfolding(crate::specs::Content::is_name_start))]
-pub(crate) fn is_name_start(byte: u8) -> bool
+pub fn is_name_start(byte: u8) -> bool
     ensures value { result ≡ is_name_start byte }
     ensures ascii { IsTrue result → byte < 128 }
 {
@@ -99,7 +99,7 @@ pub(crate) fn is_name_start(byte: u8) -> bool
 
 /// Whether a part of a name may go on with this byte.
 #[tactic(auto, unfolding(crate::specs::Content::is_name_byte))]
-pub(crate) fn is_name_byte(byte: u8) -> bool
+pub fn is_name_byte(byte: u8) -> bool
     ensures value { result ≡ is_name_byte byte }
     ensures ascii { IsTrue result → byte < 128 }
 {

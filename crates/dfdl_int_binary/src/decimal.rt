@@ -7,21 +7,13 @@ ghost use Rattle.dfdl_int_binary.specs.Integers.{scaled_of, pattern_if};
 
 use crate::signed::pattern;
 use dfdl_value::Fixed;
-
-// One more than the greatest number of 38 digits.
-const LIMIT: u128 = 100_000_000_000_000_000_000_000_000_000_000_000_000;
+use dfdl_value::fixed::shortest;
 
 /// The integer divided by ten to the power of `point`, if it has no more digits than a decimal can have.
 pub fn divided(integer: i128, point: u8) -> Option<Fixed>
     ensures { result ≡ fixed_of (record { mantissa = integer; scale = point }) }
 {
-    let mut mantissa = integer;
-    let mut scale = point;
-    while scale > 0 && ends_in_zero(mantissa) {
-        mantissa = tenth(mantissa);
-        scale -= 1;
-    }
-    shortest(mantissa, scale)
+    shortest(integer < 0, integer.unsigned_abs(), u32::from(point))
 }
 
 /// The number of `bits` bits that stands for a decimal times ten to the power of `point`, if there is one.
@@ -38,30 +30,6 @@ pub fn scaled_pattern(decimal: &Fixed, point: u8, bits: u32) -> Option<u128>
         Some(integer) => pattern(integer, bits),
         None => None,
     }
-}
-
-// A decimal without trailing zeros after its point.
-fn shortest(mantissa: i128, scale: u8) -> Option<Fixed>
-    requires { 0 < scale → (unsigned_abs mantissa % 10 == 0) ≡ false }
-    ensures { result ≡ fixed_of (record { mantissa = mantissa; scale = scale }) }
-{
-    if mantissa.unsigned_abs() < LIMIT {
-        Some(Fixed::new(mantissa, scale))
-    } else {
-        None
-    }
-}
-
-fn tenth(integer: i128) -> i128
-    ensures { result ≡ int_div integer (pos 10) }
-{
-    integer / 10
-}
-
-fn ends_in_zero(integer: i128) -> bool
-    ensures { result ≡ (unsigned_abs integer % 10 == 0) }
-{
-    integer.unsigned_abs() % 10 == 0
 }
 
 // The integer times ten to the power of `places`, where 128 bits hold it.

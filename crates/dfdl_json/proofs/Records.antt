@@ -9,7 +9,8 @@ use Rattle.dfdl_json.specs.declared.cause.InfosetCause.TheVariants.{RootExpected
 use Rattle.dfdl_json.specs.declared.fault.InfosetFault.{InfosetFault}
 use Rattle.dfdl_json.specs.declared.fault.InfosetFault.TheVariants.{Bad, OutOfMemory}
 use Rattle.dfdl_json.specs.Answers.{Answers, IsFault}
-use Rattle.dfdl_json.specs.Infosets.{Refusal, are_known, content_in, content_values, field_values, members_values, root_path, values_from, values_of, whole_path}
+use Rattle.dfdl_json.specs.Infosets.{Refusal, are_known, content_in, content_values, field_values, members_values, values_from, values_of}
+use Rattle.dfdl_terms.specs.Paths.{root_path, whole_path}
 use Rattle.dfdl_json.specs.Fitting.{events_if, events_in}
 
 -- terms that are a record have a root element

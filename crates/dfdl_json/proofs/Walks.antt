@@ -9,7 +9,8 @@ use Rattle.dfdl_terms.specs.declared.event.Event.{Event}
 use Rattle.dfdl_terms.specs.declared.event.Event.TheVariants.{Start, Simple, End}
 use Rattle.dfdl_terms.specs.Rows.{Table}
 use Rattle.dfdl_terms.specs.Record.{Field, all_of, field_at, fields_at}
-use Rattle.dfdl_json.specs.Infosets.{Refusal, before, field_path, field_values, present, value_at, value_in, value_of_field}
+use Rattle.dfdl_terms.specs.Paths.{field_path}
+use Rattle.dfdl_json.specs.Infosets.{Refusal, before, field_values, present, value_at, value_in, value_of_field}
 use Rattle.dfdl_json.specs.Fitting.{Fits, FitsContent, ends, passes, takes, child_rows, content_events, events_if, root_row}
 use Rattle.dfdl_json.proofs.FieldLists.{left_at, next_field}
 

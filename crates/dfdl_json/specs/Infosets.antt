@@ -7,6 +7,7 @@ use Rattle.serde_json.specs.Find.{get_member}
 use Rattle.dfdl_value.specs.declared.simple.Simple.{Simple}
 use Rattle.dfdl_value.specs.declared.value.Value.{Value}
 use Rattle.dfdl_value.specs.Reading.{Reading, reading_of}
+use Rattle.dfdl_terms.specs.Paths.{whole_path, root_path, field_path}
 use Rattle.dfdl_terms.specs.Record.{Field, Record}
 use Rattle.dfdl_json.specs.declared.cause.InfosetCause.{InfosetCause}
 use Rattle.dfdl_json.specs.declared.cause.InfosetCause.TheVariants.{RootExpected, UnknownMember, ObjectExpected, StringExpected, NotAValue, NullNotAllowed}
@@ -15,18 +16,6 @@ use Rattle.dfdl_json.specs.declared.cause.InfosetCause.TheVariants.{RootExpected
 pub record Refusal : Type 0 where
   pub cause : InfosetCause
   pub path : List ℕ
-
--- the path of the whole
-abbrev pub whole_path : List ℕ
-whole_path = codes "/"
-
--- the path of the root element
-abbrev pub root_path : List ℕ → List ℕ
-root_path root = codes "/" ++ root
-
--- the path of a field
-abbrev pub field_path : List ℕ → List ℕ → List ℕ
-field_path root name = codes "/" ++ (root ++ (codes "/" ++ name))
 
 -- the value that a text writes; it is none of the type's texts, or a number outside of the type, in one cause
 abbrev pub value_if : Reading → Result Value InfosetCause

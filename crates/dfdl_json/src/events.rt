@@ -5,15 +5,18 @@ ghost use Rattle.dfdl_value.specs.Types.{IsOfType};
 ghost use Rattle.dfdl_terms.specs.Record.{Record, all_of, field_at, fields_at, record_of};
 ghost use Rattle.dfdl_json.specs.Answers.{Answers, IsFault};
 ghost use Rattle.dfdl_json.specs.Fitting.{Fits, child_rows, events_if, events_in};
-ghost use Rattle.dfdl_json.specs.Infosets.{content_values, field_path, field_values, members_values, root_path, value_at, value_in};
+ghost use Rattle.dfdl_terms.specs.Paths.{field_path, root_path};
+ghost use Rattle.dfdl_json.specs.Infosets.{content_values, field_values, members_values, value_at, value_in};
 
 use crate::cause::InfosetCause;
 use crate::fault::InfosetFault;
 use crate::members::{are_members_known, content_of_root, member_of, names_of_fields, read_member};
-use dfdl_terms::{Event, Field, Root, RowId, Terms, field_of_row, root_of_record};
+use dfdl_terms::{
+    Event, Field, Root, RowId, Terms, field_of_row, path_of_field, path_of_root, root_of_record,
+};
 use dfdl_value::{TextValue, Value};
 use serde_json::{Map, Value as Json};
-use std::alloc::{AllocError, Global};
+use std::alloc::Global;
 
 /// The events of an infoset, in schema order. A child whose member is absent has no event. Bad comes exactly where the
 /// value is no infoset of the record; of several causes, that of the outer element counts, then unknown members, then
@@ -139,20 +142,4 @@ fn root_refused(alloc: Global, root: &str, cause: InfosetCause) -> InfosetFault
         Ok(path) => InfosetFault::Bad { cause, path },
         Err(_) => InfosetFault::OutOfMemory,
     }
-}
-
-// The path of the root element.
-fn path_of_root(alloc: Global, root: &str) -> Result<TextValue, AllocError>
-    ensures { IfOk result (λ path. path ≡ root_path root.now) }
-{
-    let text = format!(in alloc; "/{root}")?;
-    Ok(TextValue::from_string(text))
-}
-
-// The path of a field.
-fn path_of_field(alloc: Global, root: &str, name: &str) -> Result<TextValue, AllocError>
-    ensures { IfOk result (λ path. path ≡ field_path root.now name.now) }
-{
-    let text = format!(in alloc; "/{root}/{name}")?;
-    Ok(TextValue::from_string(text))
 }

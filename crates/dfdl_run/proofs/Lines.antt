@@ -11,7 +11,8 @@ use Rattle.dfdl_terms.specs.declared.cause.ParseCause.TheVariants.{DataEnds}
 use Rattle.dfdl_terms.specs.Rows.{Table}
 use Rattle.dfdl_terms.specs.Record.{Record, Root, all_of, field_at, fields_at, root_at, record_from, record_of}
 use Rattle.dfdl_run.specs.declared.answer.Answer.TheVariants.{Done, LeftOver, Failed}
-use Rattle.dfdl_run.specs.Meaning.{Item, Outcome, Read, Ends, with_member, outcome_of, line_of, path_of, answer_at, answer_of}
+use Rattle.dfdl_terms.specs.Paths.{field_path}
+use Rattle.dfdl_run.specs.Meaning.{Item, Outcome, Read, Ends, with_member, outcome_of, line_of, answer_at, answer_of}
 use Rattle.dfdl_run.specs.Reading.{AllRead, EndsAt, reached}
 
 put-no_float : (k : List ℕ) (d : Data) (ms : Members) → has_float d ≡ false → members_have_float ms ≡ false → members_have_float (put k d ms) ≡ false
@@ -38,7 +39,7 @@ read_no_float root (Read items at) ms bit is =
 read_no_float root (Ends name at) ms bit is = absurd (cc)
 
 pub answer_ends : (root : List ℕ) (bits : ℕ) (o : Outcome) (name : List ℕ) (bit : ℕ) → EndsAt name bit ≡ reached no_members o
-    → Failed DataEnds bit (path_of root name) ≡ answer_at root bits o
+    → Failed DataEnds bit (field_path root name) ≡ answer_at root bits o
 answer_ends root bits (Read items at) name bit is = absurd (cc)
 answer_ends root bits (Ends other at) name bit is =
     let same_name : name ≡ other = cc in let same_bit : bit ≡ at = cc in cc

@@ -1,10 +1,11 @@
 -- What the data of a record comes to: its infoset and what is left, or the place at which the data ends.
-use Rattle.std.specs.Prelude.{ℕ, ◌+◌, ◌*◌, if◌then◌else◌, nat_le, List, [], ◌∷◌, ◌++◌, length, fold, decimal, codes}
+use Rattle.std.specs.Prelude.{ℕ, ◌+◌, ◌*◌, if◌then◌else◌, nat_le, List, [], ◌∷◌, ◌++◌, length, fold, decimal}
 use Rattle.serde_json.specs.Data.{Data, string, object, Members, no_members, put}
 use Rattle.serde_json.specs.Written.{compact_text}
 use Rattle.dfdl_bits.specs.Bits.{number_of}
 use Rattle.dfdl_int_binary.specs.declared.form.IntForm.{IntForm}
 use Rattle.dfdl_terms.specs.declared.cause.ParseCause.TheVariants.{DataEnds}
+use Rattle.dfdl_terms.specs.Paths.{field_path}
 use Rattle.dfdl_terms.specs.Record.{Field, Record}
 use Rattle.dfdl_run.specs.declared.answer.Answer.{Answer}
 use Rattle.dfdl_run.specs.declared.answer.Answer.TheVariants.{Done, LeftOver, Failed}
@@ -50,14 +51,10 @@ infoset_of root items = object (put root (object (fold with_member no_members it
 abbrev pub line_of : List ℕ → List Item → List ℕ
 line_of root items = compact_text (infoset_of root items) ++ 10 ∷ []
 
--- the path of a field
-abbrev pub path_of : List ℕ → List ℕ → List ℕ
-path_of root name = codes "/" ++ (root ++ (codes "/" ++ name))
-
 -- the answer of an outcome over so many bits of data: what is left is told from a whole byte on
 abbrev pub answer_at : List ℕ → ℕ → Outcome → Answer
 answer_at root bits (Read items bit) = if nat_le (bit + 8) bits then LeftOver (line_of root items) bit else Done (line_of root items)
-answer_at root bits (Ends name bit) = Failed DataEnds bit (path_of root name)
+answer_at root bits (Ends name bit) = Failed DataEnds bit (field_path root name)
 
 -- what parsing the data of a record comes to
 abbrev pub answer_of : Record → List ℕ → Answer

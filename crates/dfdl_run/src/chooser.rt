@@ -12,3 +12,18 @@ pub trait Chooser {
         ensures within { result < ready }
         ensures counted { Rose (picks self.old) (picks self.new) };
 }
+
+/// Picks the first of the values that are ready, and counts its picks.
+#[derive(Drop)]
+pub struct FirstReady {
+    pub picks: u64,
+}
+
+impl Chooser for FirstReady {
+    ghost picks = { λ c. c.picks };
+
+    fn pick(&mut self, _ready: usize) -> usize {
+        self.picks = self.picks.saturating_add(1);
+        0
+    }
+}

@@ -16,7 +16,7 @@ mod parsing;
 
 pub use answer::Answer;
 pub use call::{MOST_INPUT, MOST_SCHEMA, run};
-pub use chooser::Chooser;
+pub use chooser::{Chooser, FirstReady};
 pub use compile::MOST_FIELDS;
 
 #[cfg(test)]

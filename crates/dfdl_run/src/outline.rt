@@ -8,7 +8,7 @@ ghost use Rattle.dfdl_run.specs.Schema.{value_of, is_text, has, only, is_element
 ghost use Rattle.dfdl_run.specs.OutlineShown.{outline_shown};
 
 use dfdl_bits::order::{BitOrder, ByteOrder};
-use dfdl_doc_tree::Tree;
+use dfdl_doc_tree::{Tree, is_name_byte, is_name_start};
 use dfdl_int_binary::IntForm;
 use dfdl_terms::Field;
 use dfdl_value::Simple;
@@ -95,27 +95,11 @@ fn is_schema_element(tree: &Tree, element: u32) -> bool
         )
 }
 
-// Whether a byte can begin a local name.
-#[tactic(auto, unfolding(dfdl_doc_tree::specs::Content::is_name_start))]
-fn is_name_begin(byte: u8) -> bool
-    ensures { result ≡ is_name_start byte }
-{
-    (b'a' <= byte && byte <= b'z') || (b'A' <= byte && byte <= b'Z') || byte == b'_'
-}
-
-// Whether a byte can stand in a local name.
-#[tactic(auto, unfolding(dfdl_doc_tree::specs::Content::is_name_byte))]
-fn is_name_part(byte: u8) -> bool
-    ensures { result ≡ is_name_byte byte }
-{
-    is_name_begin(byte) || (b'0' <= byte && byte <= b'9')
-}
-
 // Whether all bytes can stand in a local name.
 fn are_name_parts(bytes: &[u8]) -> bool
     ensures { result ≡ list_all is_name_byte bytes.now }
 {
-    bytes.iter().all(|byte| is_name_part(*byte))
+    bytes.iter().all(|byte| is_name_byte(*byte))
 }
 
 // Whether a name is a local one.
@@ -124,7 +108,7 @@ fn is_local(name: &str) -> bool
 {
     match name.as_bytes() {
         [] => false,
-        [first, rest @ ..] => is_name_begin(*first) && are_name_parts(rest),
+        [first, rest @ ..] => is_name_start(*first) && are_name_parts(rest),
     }
 }
 

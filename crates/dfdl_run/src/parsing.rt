@@ -6,12 +6,13 @@ ghost use Rattle.serde_json.specs.Written.{has_float, compact_text};
 ghost use Rattle.dfdl_terms.specs.Record.{Record, all_of, field_at, fields_at, record_of};
 ghost use Rattle.dfdl_terms.specs.declared.cause.ParseCause.TheVariants.{DataEnds};
 ghost use Rattle.dfdl_run.specs.declared.answer.Answer.{Answer};
-ghost use Rattle.dfdl_run.specs.Meaning.{outcome_of, answer_of, path_of};
+ghost use Rattle.dfdl_terms.specs.Paths.{field_path};
+ghost use Rattle.dfdl_run.specs.Meaning.{outcome_of, answer_of};
 ghost use Rattle.dfdl_run.specs.Reading.{reached, reading_shown};
 
 use crate::answer::Answer;
 use dfdl_bits::number_at;
-use dfdl_terms::{ParseCause, RowId, Terms, field_of_row, root_of_record};
+use dfdl_terms::{ParseCause, RowId, Terms, field_of_row, path_of_field, root_of_record};
 use dfdl_value::TextValue;
 use serde_json::{Map, Value};
 use std::alloc::{AllocError, Global};
@@ -89,14 +90,6 @@ fn line_of_members(
     Ok(TextValue::from_string(text))
 }
 
-// The path of a field.
-fn path_text(alloc: Global, root: &str, name: &str) -> Result<TextValue, AllocError>
-    ensures { IfOk result (λ path. path ≡ path_of root.now name.now) }
-{
-    let text = format!(in alloc; "/{root}/{name}")?;
-    Ok(TextValue::from_string(text))
-}
-
 // What parsing the data of a record comes to.
 pub(crate) fn parse(alloc: Global, terms: &Terms, bytes: &[u8]) -> Result<Answer, AllocError>
     requires small { length bytes.now ≤ 2 ^ 60 }
@@ -118,12 +111,12 @@ pub(crate) fn parse(alloc: Global, terms: &Terms, bytes: &[u8]) -> Result<Answer
 
 // The answer where the data ends in a field.
 fn failed(alloc: Global, root: &str, name: &str, bit: u64) -> Result<Answer, AllocError>
-    ensures { IfOk result (λ answer. answer ≡ Answer.Failed DataEnds bit (path_of root.now name.now)) }
+    ensures { IfOk result (λ answer. answer ≡ Answer.Failed DataEnds bit (field_path root.now name.now)) }
 {
     Ok(Answer::Failed {
         cause: ParseCause::DataEnds,
         bit,
-        path: path_text(alloc, root, name)?,
+        path: path_of_field(alloc, root, name)?,
     })
 }
 

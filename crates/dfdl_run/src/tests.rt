@@ -1,6 +1,5 @@
 // Runs over the implementations in memory.
-use crate::chooser::Chooser;
-use crate::run;
+use crate::{FirstReady, run};
 use dfdl_edge::{MemoryFile, MemoryFiles, MemoryPatterns, MemorySink, MemorySource};
 use std::alloc::AllocError;
 use std::process::Abort;
@@ -12,20 +11,6 @@ const SCHEMA: &str =
 const LINE: &str = "{\"r\":{\"a\":\"1\",\"b\":\"515\"}}\n";
 
 const NO_SCHEMA: &str = "error C3 at s.xsd:0: construct outside the subset\n";
-
-#[derive(Drop)]
-struct FirstReady {
-    picks: u64,
-}
-
-impl Chooser for FirstReady {
-    ghost picks = { λ c. c.picks };
-
-    fn pick(&mut self, _ready: usize) -> usize {
-        self.picks = self.picks.saturating_add(1);
-        0
-    }
-}
 
 // What a run is given: its words, the file `s.xsd`, the data with the cuts of its reads, and the numbers of the reads
 // and writes that fail.

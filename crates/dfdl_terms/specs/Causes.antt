@@ -2,6 +2,8 @@
 use Rattle.std.specs.Prelude.{ℕ}
 use Rattle.dfdl_terms.specs.declared.cause.ParseCause.{ParseCause}
 use Rattle.dfdl_terms.specs.declared.cause.ParseCause.TheVariants.{DataEnds}
+use Rattle.dfdl_terms.specs.declared.cause.UnparseCause.{UnparseCause}
+use Rattle.dfdl_terms.specs.declared.cause.UnparseCause.TheVariants.{WrongOccurrences}
 use Rattle.dfdl_terms.specs.declared.cause.SchemaCause.{SchemaCause}
 use Rattle.dfdl_terms.specs.declared.cause.SchemaCause.TheVariants.{OutsideSubset}
 use Rattle.dfdl_terms.specs.declared.cause.LimitCause.{LimitCause}
@@ -9,6 +11,9 @@ use Rattle.dfdl_terms.specs.declared.cause.LimitCause.TheVariants.{Input, Schema
 
 abbrev pub parse_number : ParseCause → ℕ
 parse_number DataEnds = 4
+
+abbrev pub unparse_number : UnparseCause → ℕ
+unparse_number WrongOccurrences = 10
 
 abbrev pub schema_number : SchemaCause → ℕ
 schema_number OutsideSubset = 3

@@ -1,4 +1,5 @@
 pub mod Causes
+pub mod Paths
 pub mod Record
 pub mod RecordShown
 pub mod Rows

@@ -1,11 +1,18 @@
 ghost use Rattle.std.specs.Prelude.{◌≡◌};
-ghost use Rattle.dfdl_terms.specs.Causes.{parse_number, schema_number, limit_number};
+ghost use Rattle.dfdl_terms.specs.Causes.{parse_number, unparse_number, schema_number, limit_number};
 
 /// Why parsing failed: the numbers P of processing errors ('Parsing Algorithm').
 #[derive(Debug, Clone, Copy, PartialEq, Eq)]
 pub enum ParseCause {
     /// A leaf's bits pass the end of the data.
     DataEnds,
+}
+
+/// Why unparsing failed: the numbers U of unparse errors ('Unparsing').
+#[derive(Debug, Clone, Copy, PartialEq, Eq)]
+pub enum UnparseCause {
+    /// An element occurs fewer or more times than its bounds allow.
+    WrongOccurrences,
 }
 
 /// Why a schema is refused: the numbers C of schema definition errors ('DFDL Schema Component Model').
@@ -31,6 +38,17 @@ impl ParseCause {
     {
         match self {
             ParseCause::DataEnds => 4,
+        }
+    }
+}
+
+impl UnparseCause {
+    /// The number that follows the U.
+    pub fn number(&self) -> u8
+        ensures { result ≡ unparse_number self.now }
+    {
+        match self {
+            UnparseCause::WrongOccurrences => 10,
         }
     }
 }

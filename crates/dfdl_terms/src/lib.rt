@@ -8,12 +8,14 @@
 
 pub mod cause;
 pub mod event;
+pub mod path;
 pub mod record;
 pub mod row;
 pub mod terms;
 
-pub use cause::{LimitCause, ParseCause, SchemaCause};
+pub use cause::{LimitCause, ParseCause, SchemaCause, UnparseCause};
 pub use event::Event;
+pub use path::{path_of_field, path_of_root};
 pub use record::{Field, Root, field_of_row, root_of_record};
 pub use row::{Primitive, Row, RowId, RowList, Tables};
 pub use terms::{TermFault, Terms};

@@ -80,6 +80,7 @@ impl Terms {
         ensures too_many { IsErrOf result TermFault.TooMany ↔ most_rows < vec_len rows }
         ensures bad_child { (row : ℕ) → result ≡ Err (TermFault.BadChild row) → IsFirstBad rows.items row }
         ensures nests { IsOk result ↔ ((vec_len rows ≤ most_rows) × Nests rows.items) }
+        ensures memory { IsErrOf result TermFault.OutOfMemory → ⊥ }
     {
         if rows.len() > MOST_ROWS {
             return Err(TermFault::TooMany);

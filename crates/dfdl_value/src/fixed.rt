@@ -99,7 +99,7 @@ pub(crate) fn signed(negative: bool, magnitude: u128) -> i128
 }
 
 /// The form that `Fixed` has for a number, if it has one.
-pub(crate) fn shortest(negative: bool, magnitude: u128, scale: u32) -> Option<Fixed>
+pub fn shortest(negative: bool, magnitude: u128, scale: u32) -> Option<Fixed>
     ensures { result ≡ fixed_of (record { mantissa = with_sign negative magnitude; scale = scale }) }
 {
     let mut magnitude = magnitude;

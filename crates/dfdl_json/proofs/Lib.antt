@@ -2,4 +2,5 @@ mod FieldLists
 mod FieldNames
 mod JsonParts
 mod Records
+mod TextReading
 mod Walks

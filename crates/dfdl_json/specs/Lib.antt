@@ -3,3 +3,4 @@ pub mod Causes
 pub mod Fitting
 pub mod Infosets
 pub mod Names
+pub mod Texts

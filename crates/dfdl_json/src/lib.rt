@@ -11,7 +11,9 @@ pub mod fault;
 mod members;
 #[cfg(test)]
 mod tests;
+mod text;
 
 pub use cause::InfosetCause;
 pub use events::events_of;
 pub use fault::InfosetFault;
+pub use text::events_of_json;

@@ -1,0 +1,4 @@
+mod Bytes
+mod FieldLists
+mod Values
+mod Walks

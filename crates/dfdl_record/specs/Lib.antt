@@ -1,2 +1,3 @@
 pub mod Outcomes
 pub mod Pieces
+pub mod Shown

@@ -6,3 +6,7 @@
 #![tactic(auto)]
 
 pub mod piece;
+pub mod writing;
+
+pub use piece::{Piece, PieceList};
+pub use writing::{Unparsed, unparse};

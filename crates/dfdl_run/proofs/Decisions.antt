@@ -6,12 +6,15 @@ use Rattle.dfdl_terms.specs.declared.cause.SchemaCause.TheVariants.{OutsideSubse
 use Rattle.dfdl_terms.specs.Rows.{Table}
 use Rattle.dfdl_terms.specs.Record.{Record, record_of}
 use Rattle.dfdl_run.specs.declared.answer.Answer.{Answer}
-use Rattle.dfdl_run.specs.declared.answer.Answer.TheVariants.{Done, LeftOver, Failed, Refused, Usage, SourceFailed, SinkFailed, FilesFailed, Limit, OutOfMemory}
+use Rattle.dfdl_run.specs.declared.answer.Answer.TheVariants.{Done, LeftOver, Failed, Unparsed, NotUnparsed, NoInfoset, Refused, Usage, SourceFailed, SinkFailed, FilesFailed, Limit, OutOfMemory}
 use Rattle.dfdl_run.specs.Answer.{status_of}
-use Rattle.dfdl_run.specs.Decided.{IsResult, IsLoadFault, IsReadAnswer, IsNoSchema, IsSchemaOf, IsParsed}
+use Rattle.dfdl_run.specs.Decided.{IsResult, IsLoadFault, IsReadAnswer, IsNoSchema, IsSchemaOf, IsMeant}
 use Rattle.dfdl_run.specs.Expects.{most_schema, most_input}
 use Rattle.dfdl_run.specs.Loaded.{IsLoaded}
-use Rattle.dfdl_run.specs.Meaning.{Outcome, Read, Ends, answer_at, answer_of, outcome_of, line_of}
+use Rattle.dfdl_record.specs.Outcomes.{Outcome, Read, Ends, outcome_of}
+use Rattle.dfdl_run.specs.declared.command.Verb.{Verb}
+use Rattle.dfdl_run.proofs.Results.{answer_of-result}
+use Rattle.dfdl_run.specs.Meaning.{answer_of}
 use Rattle.dfdl_run.specs.Schema.{IsSchema}
 
 -- what holds of these bytes, where they are all that is told
@@ -28,30 +31,27 @@ refused_fault file name bytes before after answer (inl is) all fits none =
     (refl, refl, refl, told IsNoSchema file bytes all (record { fits = fits; none = none }))
 refused_fault file name bytes before after answer (inr is) all fits none = subst (λ (a : Answer). IsLoadFault file name before after a) (sym is) tt
 
-answer_at-result : (root : List ℕ) (bits : ℕ) (o : Outcome) → IsResult (answer_at root bits o)
-answer_at-result root bits (Read items bit) =
-    cond_both (nat_le (bit + 8) bits) (LeftOver (line_of root items) bit) (Done (line_of root items)) IsResult (λ _. tt) (λ _. tt)
-answer_at-result root bits (Ends name bit) = tt
+result_read : (input : Option (List ℕ)) (verb : Verb) (described : Record) (before after : ℕ) (answer : Answer) → IsResult answer → IfSome input (IsMeant verb described answer)
+    → IsReadAnswer input verb described before after answer
+result_read input verb described before after (Done line) _ parsed = parsed
+result_read input verb described before after (LeftOver line bit) _ parsed = parsed
+result_read input verb described before after (Failed cause bit path) _ parsed = parsed
+result_read input verb described before after (Unparsed pieces) _ parsed = parsed
+result_read input verb described before after (NotUnparsed pieces cause path) _ parsed = parsed
+result_read input verb described before after (NoInfoset cause path) _ parsed = parsed
+result_read input verb described before after (Refused cause document at) none parsed = absurd none
+result_read input verb described before after (Usage word) none parsed = absurd none
+result_read input verb described before after SourceFailed none parsed = absurd none
+result_read input verb described before after SinkFailed none parsed = absurd none
+result_read input verb described before after (FilesFailed name) none parsed = absurd none
+result_read input verb described before after (Limit cause quantity) none parsed = absurd none
+result_read input verb described before after OutOfMemory none parsed = absurd none
 
-result_read : (input : Option (List ℕ)) (described : Record) (before after : ℕ) (answer : Answer) → IsResult answer → IfSome input (IsParsed described answer)
-    → IsReadAnswer input described before after answer
-result_read input described before after (Done line) _ parsed = parsed
-result_read input described before after (LeftOver line bit) _ parsed = parsed
-result_read input described before after (Failed cause bit path) _ parsed = parsed
-result_read input described before after (Refused cause document at) none parsed = absurd none
-result_read input described before after (Usage word) none parsed = absurd none
-result_read input described before after SourceFailed none parsed = absurd none
-result_read input described before after SinkFailed none parsed = absurd none
-result_read input described before after (FilesFailed name) none parsed = absurd none
-result_read input described before after (Limit cause quantity) none parsed = absurd none
-result_read input described before after OutOfMemory none parsed = absurd none
-
-pub parsed_answer : (input : Option (List ℕ)) (described : Record) (bytes : List ℕ) (before after : ℕ) (answer : Answer) → answer ≡ answer_of described bytes
-    → IsAll input bytes → length bytes ≤ most_input → IsReadAnswer input described before after answer
-parsed_answer input described bytes before after answer is all fits =
-    result_read input described before after answer
-    (subst IsResult (sym is) (answer_at-result described.root _ (outcome_of bytes 0 described.fields)))
-    (told (IsParsed described answer) input bytes all (record { fits = fits; answer_is = is }))
+pub meant_answer : (input : Option (List ℕ)) (verb : Verb) (described : Record) (bytes : List ℕ) (before after : ℕ) (answer : Answer) → answer ≡ answer_of verb described bytes
+    → IsAll input bytes → length bytes ≤ most_input → IsReadAnswer input verb described before after answer
+meant_answer input verb described bytes before after answer is all fits =
+    result_read input verb described before after answer (subst IsResult (sym is) (answer_of-result verb described bytes))
+    (told (IsMeant verb described answer) input bytes all (record { fits = fits; answer_is = is }))
 
 -- the record that terms are, where they are one
 pub described_by : (o : Option Record) → IsSome o → (described : Record) × (o ≡ Some described)
@@ -74,6 +74,9 @@ pub fault_no_result : (file : Option (List ℕ)) (name : List ℕ) (before after
 fault_no_result file name before after (Done line) fault result = fault
 fault_no_result file name before after (LeftOver line bit) fault result = fault
 fault_no_result file name before after (Failed cause bit path) fault result = fault
+fault_no_result file name before after (Unparsed pieces) fault result = fault
+fault_no_result file name before after (NotUnparsed pieces cause path) fault result = fault
+fault_no_result file name before after (NoInfoset cause path) fault result = fault
 fault_no_result file name before after (Refused cause document at) fault result = result
 fault_no_result file name before after (Usage word) fault result = result
 fault_no_result file name before after SourceFailed fault result = result
@@ -83,10 +86,13 @@ fault_no_result file name before after (Limit cause quantity) fault result = res
 fault_no_result file name before after OutOfMemory fault result = result
 
 -- the answers with the statuses of results are results
-pub status_result : (answer : Answer) → IsTrue (status_of answer == 0 || status_of answer == 1 || status_of answer == 11) → IsResult answer
+pub status_result : (answer : Answer) → IsTrue (status_of answer == 0 || status_of answer == 1 || status_of answer == 3 || status_of answer == 11 || status_of answer == 12) → IsResult answer
 status_result (Done line) _ = tt
 status_result (LeftOver line bit) _ = tt
 status_result (Failed cause bit path) _ = tt
+status_result (Unparsed pieces) _ = tt
+status_result (NotUnparsed pieces cause path) _ = tt
+status_result (NoInfoset cause path) _ = tt
 status_result (Refused cause document at) is = absurd (cc)
 status_result (Usage word) is = absurd (cc)
 status_result SourceFailed is = absurd (cc)

@@ -12,7 +12,8 @@ use Rattle.dfdl_terms.specs.Rows.{Table}
 use Rattle.dfdl_terms.specs.Record.{Record, Root, all_of, field_at, fields_at, root_at, record_from, record_of}
 use Rattle.dfdl_run.specs.declared.answer.Answer.TheVariants.{Done, LeftOver, Failed}
 use Rattle.dfdl_terms.specs.Paths.{field_path}
-use Rattle.dfdl_run.specs.Meaning.{Item, Outcome, Read, Ends, with_member, outcome_of, line_of, answer_at, answer_of}
+use Rattle.dfdl_record.specs.Outcomes.{Item, Outcome, Read, Ends, with_member, outcome_of}
+use Rattle.dfdl_run.specs.Meaning.{line_of, answer_at, parse_answer}
 use Rattle.dfdl_run.specs.Reading.{AllRead, EndsAt, reached}
 
 put-no_float : (k : List ℕ) (d : Data) (ms : Members) → has_float d ≡ false → members_have_float ms ≡ false → members_have_float (put k d ms) ≡ false
@@ -91,7 +92,7 @@ described_is t root described is some =
 
 -- the answer of a record, from what was read of its rows
 pub record_answer : (t : Table) (root : Root) (described : Record) (bytes : List ℕ) → Some root ≡ root_at t → record_of t ≡ Some described
-    → answer_at root.name (8 * length bytes) (outcome_of bytes 0 (fields_at t root.children)) ≡ answer_of described bytes
+    → answer_at root.name (8 * length bytes) (outcome_of bytes 0 (fields_at t root.children)) ≡ parse_answer described bytes
 record_answer t root described bytes is some =
     let same = described_is t root described is some in
-    ap (λ r. answer_of r bytes) (sym same)
+    ap (λ r. parse_answer r bytes) (sym same)

@@ -7,11 +7,14 @@ use Rattle.dfdl_terms.specs.declared.cause.SchemaCause.TheVariants.{OutsideSubse
 use Rattle.dfdl_terms.specs.declared.cause.LimitCause.TheVariants.{Input, Schema}
 use Rattle.dfdl_terms.specs.Record.{Record}
 use Rattle.dfdl_run.specs.declared.answer.Answer.{Answer}
-use Rattle.dfdl_run.specs.declared.answer.Answer.TheVariants.{Done, LeftOver, Failed, Refused, Usage, SourceFailed, SinkFailed, FilesFailed, Limit, OutOfMemory}
-use Rattle.dfdl_run.specs.Command.{Order, Orders, IsCommand}
+use Rattle.dfdl_run.specs.declared.answer.Answer.TheVariants.{Done, LeftOver, Failed, Unparsed, NotUnparsed, NoInfoset, Refused, Usage, SourceFailed, SinkFailed, FilesFailed, Limit, OutOfMemory}
+use Rattle.dfdl_run.specs.Command.{Order, Orders, IsCommand, verb_word}
 use Rattle.dfdl_run.specs.Decided.{Decided, by_words, by_schema, by_data, IsLoadFault, IsReadAnswer, IsSchemaOf}
-use Rattle.dfdl_run.specs.Expects.{Expects, no_command, long_schema, no_schema, long_input, parsed, is_excused, most_schema, most_input}
-use Rattle.dfdl_run.specs.Meaning.{Outcome, Read, Ends, answer_at, answer_of, outcome_of, line_of}
+use Rattle.dfdl_run.specs.Expects.{Expects, no_command, long_schema, no_schema, long_input, meant, is_excused, most_schema, most_input}
+use Rattle.dfdl_run.specs.declared.command.Verb.{Verb}
+use Rattle.dfdl_run.specs.declared.command.Verb.TheVariants.{Parse, Unparse}
+use Rattle.dfdl_run.specs.Meaning.{answer_of}
+use Rattle.dfdl_run.proofs.Results.{result_excused}
 use Rattle.dfdl_run.specs.Schema.{IsSchema}
 
 -- the answer that was decided is the expected one, or one that comes before it
@@ -23,17 +26,15 @@ pub data Ranked (source_before source_after files_before files_after : ℕ) (dec
       → Ranked source_before source_after files_before files_after decided expected
   memory : decided ≡ OutOfMemory → IsTrue (is_excused expected 9) → Ranked source_before source_after files_before files_after decided expected
 
--- the answers that data can come to are excused by a failed file or source and by want of memory
-pub result_excused : (described : Record) (bytes : List ℕ)
-    → IsTrue (is_excused (answer_of described bytes) 5) × IsTrue (is_excused (answer_of described bytes) 7) × IsTrue (is_excused (answer_of described bytes) 9)
-result_excused described bytes = excused described.root (8 * length bytes) (outcome_of bytes 0 described.fields)
-  where
-    excused : (root : List ℕ) (bits : ℕ) (o : Outcome)
-        → IsTrue (is_excused (answer_at root bits o) 5) × IsTrue (is_excused (answer_at root bits o) 7) × IsTrue (is_excused (answer_at root bits o) 9)
-    excused root bits (Read items bit) =
-        cond_both (nat_le (bit + 8) bits) (LeftOver (line_of root items) bit) (Done (line_of root items))
-        (λ (a : Answer). IsTrue (is_excused a 5) × IsTrue (is_excused a 7) × IsTrue (is_excused a 9)) (λ _. (refl, refl, refl)) (λ _. (refl, refl, refl))
-    excused root bits (Ends name bit) = (refl, refl, refl)
+-- the words of commands differ
+same_verb : (a b : Verb) → verb_word a ≡ verb_word b → a ≡ b
+same_verb Parse Parse is = refl
+same_verb Parse Unparse is = absurd (cc)
+same_verb Unparse Parse is = absurd (cc)
+same_verb Unparse Unparse is = refl
+
+orders_verb : (words : List (List ℕ)) (a b : Order) → Orders words a → Orders words b → a.verb ≡ b.verb
+orders_verb words a b first second = same_verb a.verb b.verb (let words_are = sym first.spelled ∙ second.spelled in cc)
 
 orders_schema : (words : List (List ℕ)) (a b : Order) → Orders words a → Orders words b → a.schema ≡ b.schema
 orders_schema words a b first second = let words_are = sym first.spelled ∙ second.spelled in cc
@@ -69,35 +70,44 @@ module _ (sb sa fb fa : ℕ) where
       loaded schema name (Done line) _ fault leaves = absurd fault
       loaded schema name (LeftOver line bit) _ fault leaves = absurd fault
       loaded schema name (Failed cause bit path) _ fault leaves = absurd fault
+      loaded schema name (Unparsed pieces) _ fault leaves = absurd fault
+      loaded schema name (NotUnparsed pieces cause path) _ fault leaves = absurd fault
+      loaded schema name (NoInfoset cause path) _ fault leaves = absurd fault
       loaded schema name (Usage word) _ fault leaves = absurd fault
       loaded schema name SourceFailed _ fault leaves = absurd fault
       loaded schema name SinkFailed _ fault leaves = absurd fault
 
-  long_ranked : (bytes : List ℕ) (described : Record) (a : Answer) → most_input < length bytes → IsReadAnswer (Some bytes) described sb sa a
+  long_ranked : (bytes : List ℕ) (verb : Verb) (described : Record) (a : Answer) → most_input < length bytes → IsReadAnswer (Some bytes) verb described sb sa a
       → Ranked sb sa fb fa a (Limit Input most_input)
-  long_ranked bytes described SourceFailed long rose = source refl rose refl
-  long_ranked bytes described OutOfMemory long rose = memory refl refl
-  long_ranked bytes described (Limit cause quantity) long read = same (let cause_is = read.0 in let quantity_is = read.1 in cc)
-  long_ranked bytes described (Done line) long read = let fits = read.fits in absurd (omega arith)
-  long_ranked bytes described (LeftOver line bit) long read = let fits = read.fits in absurd (omega arith)
-  long_ranked bytes described (Failed cause bit path) long read = let fits = read.fits in absurd (omega arith)
-  long_ranked bytes described (Refused cause document at) long read = absurd read
-  long_ranked bytes described (Usage word) long read = absurd read
-  long_ranked bytes described SinkFailed long read = absurd read
-  long_ranked bytes described (FilesFailed name) long read = absurd read
+  long_ranked bytes verb described SourceFailed long rose = source refl rose refl
+  long_ranked bytes verb described OutOfMemory long rose = memory refl refl
+  long_ranked bytes verb described (Limit cause quantity) long read = same (let cause_is = read.0 in let quantity_is = read.1 in cc)
+  long_ranked bytes verb described (Done line) long read = let fits = read.fits in absurd (omega arith)
+  long_ranked bytes verb described (LeftOver line bit) long read = let fits = read.fits in absurd (omega arith)
+  long_ranked bytes verb described (Failed cause bit path) long read = let fits = read.fits in absurd (omega arith)
+  long_ranked bytes verb described (Unparsed pieces) long read = let fits = read.fits in absurd (omega arith)
+  long_ranked bytes verb described (NotUnparsed pieces cause path) long read = let fits = read.fits in absurd (omega arith)
+  long_ranked bytes verb described (NoInfoset cause path) long read = let fits = read.fits in absurd (omega arith)
+  long_ranked bytes verb described (Refused cause document at) long read = absurd read
+  long_ranked bytes verb described (Usage word) long read = absurd read
+  long_ranked bytes verb described SinkFailed long read = absurd read
+  long_ranked bytes verb described (FilesFailed name) long read = absurd read
 
-  parsed_ranked : (bytes : List ℕ) (described : Record) (a : Answer) → length bytes ≤ most_input → IsReadAnswer (Some bytes) described sb sa a
-      → Ranked sb sa fb fa a (answer_of described bytes)
-  parsed_ranked bytes described SourceFailed fits rose = source refl rose (result_excused described bytes).0
-  parsed_ranked bytes described OutOfMemory fits rose = memory refl (result_excused described bytes).2
-  parsed_ranked bytes described (Limit cause quantity) fits read = let long = read.2 in absurd (omega arith)
-  parsed_ranked bytes described (Done line) fits read = same read.answer_is
-  parsed_ranked bytes described (LeftOver line bit) fits read = same read.answer_is
-  parsed_ranked bytes described (Failed cause bit path) fits read = same read.answer_is
-  parsed_ranked bytes described (Refused cause document at) fits read = absurd read
-  parsed_ranked bytes described (Usage word) fits read = absurd read
-  parsed_ranked bytes described SinkFailed fits read = absurd read
-  parsed_ranked bytes described (FilesFailed name) fits read = absurd read
+  meant_ranked : (bytes : List ℕ) (verb : Verb) (described : Record) (a : Answer) → length bytes ≤ most_input → IsReadAnswer (Some bytes) verb described sb sa a
+      → Ranked sb sa fb fa a (answer_of verb described bytes)
+  meant_ranked bytes verb described SourceFailed fits rose = source refl rose (result_excused verb described bytes).0
+  meant_ranked bytes verb described OutOfMemory fits rose = memory refl (result_excused verb described bytes).2
+  meant_ranked bytes verb described (Limit cause quantity) fits read = let long = read.2 in absurd (omega arith)
+  meant_ranked bytes verb described (Done line) fits read = same read.answer_is
+  meant_ranked bytes verb described (LeftOver line bit) fits read = same read.answer_is
+  meant_ranked bytes verb described (Failed cause bit path) fits read = same read.answer_is
+  meant_ranked bytes verb described (Unparsed pieces) fits read = same read.answer_is
+  meant_ranked bytes verb described (NotUnparsed pieces cause path) fits read = same read.answer_is
+  meant_ranked bytes verb described (NoInfoset cause path) fits read = same read.answer_is
+  meant_ranked bytes verb described (Refused cause document at) fits read = absurd read
+  meant_ranked bytes verb described (Usage word) fits read = absurd read
+  meant_ranked bytes verb described SinkFailed fits read = absurd read
+  meant_ranked bytes verb described (FilesFailed name) fits read = absurd read
 
   -- what is told of a file, where it is told
   at_file : (P : List ℕ → Type 0) (C : List ℕ → Option (List ℕ)) (name other schema : List ℕ) → name ≡ other → C other ≡ Some schema → IfSome (C name) P → P schema
@@ -110,7 +120,7 @@ module _ (sb sa fb fa : ℕ) where
   ranked words C L a _ (by_words at place is) (long_schema order schema orders file_is long) = absurd (place.no_text (order, orders))
   ranked words C L a _ (by_words at place is) (no_schema order schema orders file_is fits none) = absurd (place.no_text (order, orders))
   ranked words C L a _ (by_words at place is) (long_input order schema described bytes orders file_is fits schema_is input_is long) = absurd (place.no_text (order, orders))
-  ranked words C L a _ (by_words at place is) (parsed order schema described bytes orders file_is fits schema_is input_is few) = absurd (place.no_text (order, orders))
+  ranked words C L a _ (by_words at place is) (meant order schema described bytes orders file_is fits schema_is input_is few) = absurd (place.no_text (order, orders))
   ranked words C L a _ (by_schema order orders fault) (no_command at place) = absurd (place.no_text (order, orders))
   ranked words C L a b (by_schema order orders fault) (long_schema other schema others file_is long) =
       load_ranked (C order.schema) schema order.schema a (Limit Schema most_schema) (ap C (orders_schema words order other orders others) ∙ file_is) fault (too_long long)
@@ -121,9 +131,9 @@ module _ (sb sa fb fa : ℕ) where
   ranked words C L a _ (by_schema order orders fault) (long_input other schema described bytes others file_is fits schema_is input_is long) =
       load_ranked (C order.schema) schema order.schema a (Limit Input most_input) (ap C (orders_schema words order other orders others) ∙ file_is) fault
       (good described (Limit Input most_input) fits schema_is refl refl)
-  ranked words C L a _ (by_schema order orders fault) (parsed other schema described bytes others file_is fits schema_is input_is few) =
-      load_ranked (C order.schema) schema order.schema a (answer_of described bytes) (ap C (orders_schema words order other orders others) ∙ file_is) fault
-      (good described (answer_of described bytes) fits schema_is (result_excused described bytes).1 (result_excused described bytes).2)
+  ranked words C L a _ (by_schema order orders fault) (meant other schema described bytes others file_is fits schema_is input_is few) =
+      load_ranked (C order.schema) schema order.schema a (answer_of other.verb described bytes) (ap C (orders_schema words order other orders others) ∙ file_is) fault
+      (good described (answer_of other.verb described bytes) fits schema_is (result_excused other.verb described bytes).1 (result_excused other.verb described bytes).2)
   ranked words C L a _ (by_data order described orders told reading) (no_command at place) = absurd (place.no_text (order, orders))
   ranked words C L a _ (by_data order described orders told reading) (long_schema other schema others file_is long) =
       let schema_of : IsSchemaOf described schema = at_file (IsSchemaOf described) C order.schema other.schema schema (orders_schema words order other orders others) file_is told in
@@ -132,8 +142,9 @@ module _ (sb sa fb fa : ℕ) where
       let schema_of : IsSchemaOf described schema = at_file (IsSchemaOf described) C order.schema other.schema schema (orders_schema words order other orders others) file_is told in
       absurd (none described schema_of.schema_is)
   ranked words C L a _ (by_data order described orders told reading) (long_input other schema described' bytes others file_is fits schema_is input_is long) =
-      long_ranked bytes described a long (subst (λ (i : Option (List ℕ)). IsReadAnswer i described sb sa a) input_is reading)
-  ranked words C L a _ (by_data order described orders told reading) (parsed other schema described' bytes others file_is fits schema_is input_is few) =
+      long_ranked bytes order.verb described a long (subst (λ (i : Option (List ℕ)). IsReadAnswer i order.verb described sb sa a) input_is reading)
+  ranked words C L a _ (by_data order described orders told reading) (meant other schema described' bytes others file_is fits schema_is input_is few) =
       let schema_of : IsSchemaOf described schema = at_file (IsSchemaOf described) C order.schema other.schema schema (orders_schema words order other orders others) file_is told in
-      subst (λ (d : Record). Ranked sb sa fb fa a (answer_of d bytes)) (sym (schema_of.only described' schema_is))
-      (parsed_ranked bytes described a few (subst (λ (i : Option (List ℕ)). IsReadAnswer i described sb sa a) input_is reading))
+      subst (λ (v : Verb). Ranked sb sa fb fa a (answer_of v described' bytes)) (orders_verb words order other orders others)
+      (subst (λ (d : Record). Ranked sb sa fb fa a (answer_of order.verb d bytes)) (sym (schema_of.only described' schema_is))
+      (meant_ranked bytes order.verb described a few (subst (λ (i : Option (List ℕ)). IsReadAnswer i order.verb described sb sa a) input_is reading)))

@@ -6,7 +6,7 @@ use Rattle.std.proofs.lemmas.Bool.{cond-true, cond-false, le-leb, lt-leb}
 use Rattle.serde_json.specs.Data.{Members, no_members, put, string}
 use Rattle.dfdl_terms.specs.Rows.{Table}
 use Rattle.dfdl_terms.specs.Record.{Field, all_of, field_at, fields_at}
-use Rattle.dfdl_run.specs.Meaning.{Outcome, Read, Ends, with_item, with_member, number_at, outcome_of, Item}
+use Rattle.dfdl_record.specs.Outcomes.{Outcome, Read, Ends, with_item, with_member, number_at, outcome_of, Item}
 use Rattle.dfdl_run.specs.Reading.{AllRead, EndsAt, reached}
 use Rattle.dfdl_run.proofs.FieldLists.{left_at}
 

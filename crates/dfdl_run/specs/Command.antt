@@ -1,7 +1,7 @@
 -- The words of a command.
 use Rattle.std.specs.Prelude.{◌≡◌, ◌≢◌, ℕ, List, [], ◌∷◌, codes}
 use Rattle.dfdl_run.specs.declared.command.Verb.{Verb}
-use Rattle.dfdl_run.specs.declared.command.Verb.TheVariants.{Parse}
+use Rattle.dfdl_run.specs.declared.command.Verb.TheVariants.{Parse, Unparse}
 
 -- what is to be done, and the name of the schema file
 pub record Order : Type 0 where
@@ -11,6 +11,7 @@ pub record Order : Type 0 where
 -- the word of a command
 abbrev pub verb_word : Verb → List ℕ
 verb_word Parse = codes "parse"
+verb_word Unparse = codes "unparse"
 
 -- a word that can be an operand: it is not empty and does not begin with `-`
 abbrev pub IsOperand : List ℕ → Type 0

@@ -7,7 +7,7 @@ use Rattle.dfdl_terms.specs.declared.cause.SchemaCause.TheVariants.{OutsideSubse
 use Rattle.dfdl_terms.specs.declared.cause.LimitCause.TheVariants.{Input, Schema}
 use Rattle.dfdl_terms.specs.Record.{Record}
 use Rattle.dfdl_run.specs.declared.answer.Answer.{Answer}
-use Rattle.dfdl_run.specs.declared.answer.Answer.TheVariants.{Done, LeftOver, Failed, Refused, Usage, SourceFailed, SinkFailed, FilesFailed, Limit, OutOfMemory}
+use Rattle.dfdl_run.specs.declared.answer.Answer.TheVariants.{Done, LeftOver, Failed, Unparsed, NotUnparsed, NoInfoset, Refused, Usage, SourceFailed, SinkFailed, FilesFailed, Limit, OutOfMemory}
 use Rattle.dfdl_run.specs.Answer.{status_of, written_of, note_of}
 use Rattle.dfdl_run.specs.Command.{Order, Orders, IsCommand}
 use Rattle.dfdl_run.specs.Meaning.{answer_of}
@@ -21,7 +21,7 @@ abbrev pub most_input : ℕ
 most_input = 2 ^ 30
 
 -- The answer of a run on these words, where `file` tells the bytes of the files and `input` those of the source. The
--- words count first, then the schema, then the source, then the meaning of the data.
+-- words count first, then the schema, then the source, then the infoset, then the meaning.
 pub data Expects (words : List (List ℕ)) (file : List ℕ → Option (List ℕ)) (input : Option (List ℕ)) : Answer → Type 0 where
   -- the words are no command from word `at` on
   no_command : (at : ℕ) → IsPlace IsCommand words at → Expects words file input (Usage (at + 1))
@@ -36,10 +36,10 @@ pub data Expects (words : List (List ℕ)) (file : List ℕ → Option (List ℕ
   long_input : (order : Order) (schema : List ℕ) (described : Record) (bytes : List ℕ) → Orders words order → file order.schema ≡ Some schema
       → length schema ≤ most_schema → IsSchema schema described → input ≡ Some bytes → most_input < length bytes
       → Expects words file input (Limit Input most_input)
-  -- the data is parsed
-  parsed : (order : Order) (schema : List ℕ) (described : Record) (bytes : List ℕ) → Orders words order → file order.schema ≡ Some schema
+  -- the bytes are parsed or unparsed
+  meant : (order : Order) (schema : List ℕ) (described : Record) (bytes : List ℕ) → Orders words order → file order.schema ≡ Some schema
       → length schema ≤ most_schema → IsSchema schema described → input ≡ Some bytes → length bytes ≤ most_input
-      → Expects words file input (answer_of described bytes)
+      → Expects words file input (answer_of order.verb described bytes)
 
 -- the statuses that can come in place of an answer, since they come before it: those of the files, the source and
 -- `out` where a call on them failed before, and that of want of memory
@@ -49,6 +49,9 @@ is_excused (Limit Schema quantity) status = status == 7 || status == 9
 is_excused (Refused cause document at) status = status == 7 || status == 9
 is_excused (Limit Input quantity) status = status == 5 || status == 7 || status == 9
 is_excused (Failed cause bit path) status = status == 5 || status == 7 || status == 9
+is_excused (NoInfoset cause path) status = status == 5 || status == 7 || status == 9
+is_excused (NotUnparsed pieces cause path) status = status == 5 || status == 6 || status == 7 || status == 9
+is_excused (Unparsed pieces) status = status == 5 || status == 6 || status == 7 || status == 9
 is_excused (Done line) status = status == 5 || status == 6 || status == 7 || status == 9
 is_excused (LeftOver line bit) status = status == 5 || status == 6 || status == 7 || status == 9
 is_excused SourceFailed status = false

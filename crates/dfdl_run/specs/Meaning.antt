@@ -1,53 +1,21 @@
--- What the data of a record comes to: its infoset and what is left, or the place at which the data ends.
-use Rattle.std.specs.Prelude.{ℕ, ◌+◌, ◌*◌, if◌then◌else◌, nat_le, List, [], ◌∷◌, ◌++◌, length, fold, decimal}
-use Rattle.serde_json.specs.Data.{Data, string, object, Members, no_members, put}
+-- What the bytes of the source come to: data that is parsed, or an infoset that is unparsed.
+use Rattle.std.specs.Prelude.{ℕ, ◌+◌, ◌*◌, if◌then◌else◌, nat_le, List, [], ◌∷◌, ◌++◌, length, Option, None, Some, Result, Ok, Err}
 use Rattle.serde_json.specs.Written.{compact_text}
-use Rattle.dfdl_bits.specs.Bits.{number_of}
-use Rattle.dfdl_int_binary.specs.declared.form.IntForm.{IntForm}
+use Rattle.dfdl_value.specs.declared.value.Value.{Value}
 use Rattle.dfdl_terms.specs.declared.cause.ParseCause.TheVariants.{DataEnds}
+use Rattle.dfdl_terms.specs.declared.cause.UnparseCause.TheVariants.{WrongOccurrences}
 use Rattle.dfdl_terms.specs.Paths.{field_path}
-use Rattle.dfdl_terms.specs.Record.{Field, Record}
+use Rattle.dfdl_terms.specs.Record.{Record}
+use Rattle.dfdl_json.specs.Infosets.{Refusal}
+use Rattle.dfdl_json.specs.Texts.{values_of_text}
+use Rattle.dfdl_record.specs.Outcomes.{Item, Outcome, Read, Ends, outcome_of, infoset_of}
+use Rattle.dfdl_record.specs.Pieces.{unparsed_of}
 use Rattle.dfdl_run.specs.declared.answer.Answer.{Answer}
-use Rattle.dfdl_run.specs.declared.answer.Answer.TheVariants.{Done, LeftOver, Failed}
+use Rattle.dfdl_run.specs.declared.answer.Answer.TheVariants.{Done, LeftOver, Failed, Unparsed, NotUnparsed, NoInfoset}
+use Rattle.dfdl_run.specs.declared.command.Verb.{Verb}
+use Rattle.dfdl_run.specs.declared.command.Verb.TheVariants.{Parse, Unparse}
 
--- an element's name and its number
-pub record Item : Type 0 where
-  pub name : List ℕ
-  pub number : ℕ
-
--- what a sequence of fields comes to
-pub data Outcome : Type 0 where
-  -- each field's item, and the bit behind the last field
-  Read : List Item → ℕ → Outcome
-  -- the bits of the field of this name pass the end of the data, and it begins at this bit
-  Ends : List ℕ → ℕ → Outcome
-
--- the item before those of an outcome
-abbrev pub with_item : Item → Outcome → Outcome
-with_item item (Read items bit) = Read (item ∷ items) bit
-with_item item (Ends name bit) = Ends name bit
-
--- the number of a field that begins at a bit of the data
-abbrev pub number_at : List ℕ → ℕ → IntForm → ℕ
-number_at bytes bit form = number_of bytes bit form.bits form.bytes_by form.bits_by
-
--- fields one after another from a bit of the data on
-abbrev pub outcome_of : List ℕ → ℕ → List Field → Outcome
-outcome_of bytes bit [] = Read [] bit
-outcome_of bytes bit (field ∷ fields) =
-    if nat_le (bit + field.form.bits) (8 * length bytes)
-    then with_item (record { name = field.name; number = number_at bytes bit field.form }) (outcome_of bytes (bit + field.form.bits) fields)
-    else Ends field.name bit
-
--- the members with the one of an item
-abbrev pub with_member : Members → Item → Members
-with_member members item = put item.name (string (decimal item.number)) members
-
--- the infoset: an object with the root's name, of an object with a member for each item
-abbrev pub infoset_of : List ℕ → List Item → Data
-infoset_of root items = object (put root (object (fold with_member no_members items)) no_members)
-
--- its line
+-- the line of an infoset
 abbrev pub line_of : List ℕ → List Item → List ℕ
 line_of root items = compact_text (infoset_of root items) ++ 10 ∷ []
 
@@ -57,5 +25,25 @@ answer_at root bits (Read items bit) = if nat_le (bit + 8) bits then LeftOver (l
 answer_at root bits (Ends name bit) = Failed DataEnds bit (field_path root name)
 
 -- what parsing the data of a record comes to
-abbrev pub answer_of : Record → List ℕ → Answer
-answer_of described bytes = answer_at described.root (8 * length bytes) (outcome_of bytes 0 described.fields)
+abbrev pub parse_answer : Record → List ℕ → Answer
+parse_answer described bytes = answer_at described.root (8 * length bytes) (outcome_of bytes 0 described.fields)
+
+-- the answer of pieces, and of the field that is missing behind them, if one is
+abbrev pub pieces_answer : List ℕ → List (List ℕ) → Option (List ℕ) → Answer
+pieces_answer root pieces None = Unparsed pieces
+pieces_answer root pieces (Some name) = NotUnparsed pieces WrongOccurrences (field_path root name)
+
+-- the answer of the values of a record, or of the refusal in their place
+abbrev pub values_answer : Record → Result (List (Option Value)) Refusal → Answer
+values_answer described (Err refusal) = NoInfoset refusal.cause refusal.path
+values_answer described (Ok values) =
+    let unparsed = unparsed_of described.fields values in pieces_answer described.root unparsed.pieces unparsed.missing
+
+-- what unparsing the text of an infoset comes to
+abbrev pub unparse_answer : Record → List ℕ → Answer
+unparse_answer described text = values_answer described (values_of_text described text)
+
+-- what the bytes of the source come to
+abbrev pub answer_of : Verb → Record → List ℕ → Answer
+answer_of Parse described bytes = parse_answer described bytes
+answer_of Unparse described bytes = unparse_answer described bytes

@@ -4,7 +4,7 @@ use Rattle.serde_json.specs.Data.{Members}
 use Rattle.serde_json.specs.View.{members_view}
 use Rattle.dfdl_run.specs.declared.parsing.Reading.{Reading}
 use Rattle.dfdl_run.specs.declared.parsing.Reading.TheVariants.{Read as ReadVariant, Ends as EndsVariant}
-use Rattle.dfdl_run.specs.Meaning.{Outcome, Read, Ends, with_member}
+use Rattle.dfdl_record.specs.Outcomes.{Outcome, Read, Ends, with_member}
 
 pub data Reached : Type 0 where
   AllRead : Members → ℕ → Reached

@@ -1,9 +1,10 @@
-ghost use Rattle.std.specs.Prelude.{◌≡◌, IfOk, IfSome, OnSome, IfNone, [], string_bytes};
-ghost use Rattle.dfdl_run.specs.Answer.{status_of, written_of, note_of, parse_text, schema_text};
-ghost use Rattle.dfdl_run.specs.Finished.{HasLine};
+ghost use Rattle.std.specs.Prelude.{◌≡◌, ℕ, List, IfOk, string_bytes};
+ghost use Rattle.dfdl_run.specs.Answer.{status_of, note_of, parse_text, unparse_text, infoset_text, schema_text};
 ghost use Rattle.dfdl_run.specs.declared.answer.Answer.{Answer};
 
-use dfdl_terms::{LimitCause, ParseCause, SchemaCause};
+use dfdl_json::InfosetCause;
+use dfdl_record::PieceList;
+use dfdl_terms::{LimitCause, ParseCause, SchemaCause, UnparseCause};
 use dfdl_value::TextValue;
 use std::alloc::{AllocError, Global};
 
@@ -23,6 +24,21 @@ pub enum Answer {
     Failed {
         cause: ParseCause,
         bit: u64,
+        path: TextValue,
+    },
+    /// The data of an infoset, in the pieces that are written.
+    Unparsed {
+        pieces: PieceList,
+    },
+    /// An unparse error in the element of this path, behind these pieces.
+    NotUnparsed {
+        pieces: PieceList,
+        cause: UnparseCause,
+        path: TextValue,
+    },
+    /// The infoset is refused in the element of this path.
+    NoInfoset {
+        cause: InfosetCause,
         path: TextValue,
     },
     /// The schema is refused at this byte of this document.
@@ -56,8 +72,10 @@ impl Answer {
     {
         match self {
             Answer::Done { .. } => 0,
+            Answer::Unparsed { .. } => 0,
             Answer::Failed { .. } => 1,
             Answer::Refused { .. } => 2,
+            Answer::NotUnparsed { .. } => 3,
             Answer::Usage { .. } => 4,
             Answer::SourceFailed => 5,
             Answer::SinkFailed => 6,
@@ -65,19 +83,7 @@ impl Answer {
             Answer::Limit { .. } => 8,
             Answer::OutOfMemory => 9,
             Answer::LeftOver { .. } => 11,
-        }
-    }
-
-    // What is written to `out`, if anything is.
-    pub(crate) fn line(&self) -> Option<&TextValue>
-        ensures some { IfSome result (λ line. line.now ≡ written_of self.now) }
-        ensures none { IfNone result (written_of self.now ≡ []) }
-        ensures has_line { OnSome result (HasLine self.now) }
-    {
-        match self {
-            Answer::Done { line } => Some(line),
-            Answer::LeftOver { line, .. } => Some(line),
-            _ => None,
+            Answer::NoInfoset { .. } => 12,
         }
     }
 
@@ -86,7 +92,7 @@ impl Answer {
         ensures { IfOk result (λ note. string_bytes note ≡ note_of self.now) }
     {
         match self {
-            Answer::Done { .. } => Ok(String::new(alloc)),
+            Answer::Done { .. } | Answer::Unparsed { .. } => Ok(String::new(alloc)),
             Answer::LeftOver { bit, .. } => format!(in alloc; "left over data at bit {bit}\n"),
             Answer::Failed { cause, bit, path } => failed_note(alloc, *cause, *bit, path.as_str()),
             Answer::Refused {
@@ -94,6 +100,10 @@ impl Answer {
                 document,
                 at,
             } => refused_note(alloc, *cause, document.as_str(), *at),
+            Answer::NotUnparsed { cause, path, .. } => {
+                unparse_note(alloc, *cause, path.as_str())
+            }
+            Answer::NoInfoset { cause, path } => infoset_note(alloc, *cause, path.as_str()),
             Answer::Usage { word } => format!(in alloc; "usage: word {word}\n"),
             Answer::SourceFailed => String::from_str(alloc, "source failed\n"),
             Answer::SinkFailed => String::from_str(alloc, "sink failed\n"),
@@ -113,6 +123,31 @@ fn text_of_parse(cause: ParseCause) -> &'static str
     }
 }
 
+// The text of an unparse error's cause.
+fn text_of_unparse(cause: UnparseCause) -> &'static str
+    ensures { result.now ≡ unparse_text cause }
+{
+    match cause {
+        UnparseCause::WrongOccurrences => "wrong number of occurrences",
+    }
+}
+
+// The text of an infoset's refusal.
+fn text_of_infoset(cause: InfosetCause) -> &'static str
+    ensures { result.now ≡ infoset_text cause }
+{
+    match cause {
+        InfosetCause::NotJson => "not JSON",
+        InfosetCause::RootExpected => "root expected",
+        InfosetCause::UnknownMember => "unknown member",
+        InfosetCause::ObjectExpected => "object expected",
+        InfosetCause::ArrayExpected => "array expected",
+        InfosetCause::StringExpected => "string expected",
+        InfosetCause::NotAValue => "not a value of the type",
+        InfosetCause::NullNotAllowed => "null not allowed",
+    }
+}
+
 // The text of a schema's refusal.
 fn text_of_schema(cause: SchemaCause) -> &'static str
     ensures { result.now ≡ schema_text cause }
@@ -128,6 +163,22 @@ fn failed_note(alloc: Global, cause: ParseCause, bit: u64, path: &str) -> Result
     let number = cause.number();
     let text = text_of_parse(cause);
     format!(in alloc; "error P{number} at bit {bit} in {path}: {text}\n")
+}
+
+fn unparse_note(alloc: Global, cause: UnparseCause, path: &str) -> Result<String, AllocError>
+    ensures { (pieces : List (List ℕ)) → IfOk result (λ note. string_bytes note ≡ note_of (Answer.NotUnparsed pieces cause path.now)) }
+{
+    let number = cause.number();
+    let text = text_of_unparse(cause);
+    format!(in alloc; "error U{number} in {path}: {text}\n")
+}
+
+fn infoset_note(alloc: Global, cause: InfosetCause, path: &str) -> Result<String, AllocError>
+    ensures { IfOk result (λ note. string_bytes note ≡ note_of (Answer.NoInfoset cause path.now)) }
+{
+    let number = cause.number();
+    let text = text_of_infoset(cause);
+    format!(in alloc; "error I{number} in {path}: {text}\n")
 }
 
 fn refused_note(

@@ -1,5 +1,5 @@
 // The top call.
-ghost use Rattle.std.specs.Prelude.{◌==◌, ◌||◌, IsSome, ◌<◌, ◌≡◌, ◌≢◌, ◌⊎◌, ◌+◌, ◌≤◌, ◌^◌, List, ℕ, [], IfOk, IfErr, IsTrue, IfSome, Some, map, string_bytes, codes, ◌++◌, decimal};
+ghost use Rattle.std.specs.Prelude.{◌==◌, ◌||◌, IsSome, ◌<◌, ◌≡◌, ◌≢◌, ◌⊎◌, ◌+◌, ◌≤◌, ◌^◌, List, ℕ, [], IfOk, IfErr, IsTrue, IfSome, Some, length, map, string_bytes, codes, ◌++◌, decimal};
 ghost use Rattle.dfdl_fronts.specs.Fronts.{IsPlace};
 ghost use Rattle.dfdl_edge.specs.Faults.{Rose};
 ghost use Rattle.dfdl_edge.specs.Sink.{Adds, AddsFront};
@@ -9,22 +9,27 @@ ghost use Rattle.dfdl_run.specs.declared.answer.Answer.{Answer};
 ghost use Rattle.dfdl_run.specs.Answer.{status_of, written_of, note_of};
 ghost use Rattle.dfdl_run.specs.Command.{IsCommand, Orders};
 ghost use Rattle.dfdl_run.specs.Expects.{Expects, is_excused, Tells, Gives, ComesExactly, NamesFile, most_schema, most_input};
+ghost use Rattle.dfdl_record.specs.Pieces.{IsWholeRecord};
+ghost use Rattle.dfdl_run.specs.declared.command.Verb.{Verb};
 ghost use Rattle.dfdl_run.specs.Decided.{Decided, IsResult, IsLoadFault, IsReadAnswer, IsSchemaOf};
 ghost use Rattle.dfdl_run.specs.Schema.{IsSchema};
 ghost use Rattle.dfdl_terms.specs.declared.cause.SchemaCause.TheVariants.{OutsideSubset};
 ghost use Rattle.dfdl_run.specs.Finished.{Finished};
+ghost use Rattle.dfdl_run.specs.Meaning.{answer_of};
 ghost use Rattle.dfdl_run.specs.Loaded.{IsLoaded};
 
 use crate::answer::Answer;
 use crate::chooser::Chooser;
-use crate::command::command_of;
+use crate::command::{Verb, command_of};
 use crate::compile::{CompileFault, compile};
+use crate::delivery::{deliver, tell};
 use crate::parsing::parse;
+use crate::unparsing::unparse;
 use dfdl_doc_tree::DocFault;
 use dfdl_edge::{Files, LoadFault, Patterns, ReadFault, Sink, Source, read_to_limit};
 use dfdl_terms::{LimitCause, SchemaCause, Terms};
 use dfdl_value::TextValue;
-use std::alloc::Global;
+use std::alloc::{AllocError, Global};
 
 /// The most bytes of a schema file.
 pub const MOST_SCHEMA: usize = 4_194_304;
@@ -83,6 +88,7 @@ fn terms_of_bytes(alloc: Global, bytes: &[u8]) -> Result<Terms, TermsFault>
 // The terms of the schema file of this name, or the answer that comes in their place.
 fn load_terms<F: Files>(alloc: Global, files: &mut F, name: &str) -> Result<Terms, Answer>
     ensures described { IfOk result (λ terms. IsSome (record_of terms)) }
+    ensures whole { IfOk result (λ terms. (described : Record) → record_of terms ≡ Some described → IsWholeRecord described) }
     ensures ok { IfOk result (λ terms. (described : Record) → record_of terms ≡ Some described
         → IfSome (F.content files.old name.now) (IsSchemaOf described)) }
     ensures err { IfErr result (IsLoadFault (F.content files.old name.now) name.now (F.faults files.old) (F.faults files.new)) }
@@ -111,11 +117,30 @@ fn limit(cause: LimitCause, quantity: u64) -> Answer
     Answer::Limit { cause, quantity }
 }
 
-// What the data of the source comes to.
-fn read_answer<S: Source>(alloc: Global, source: &mut S, terms: &Terms) -> Answer
-    requires { IsSome (record_of terms.now) }
+// What the bytes of the source come to.
+fn meaning(
+    alloc: Global,
+    verb: Verb,
+    terms: &Terms,
+    bytes: &[u8],
+) -> Result<Answer, AllocError>
+    requires small { length bytes.now ≤ 2 ^ 60 }
+    requires described { IsSome (record_of terms.now) }
+    requires whole { (described : Record) → record_of terms.now ≡ Some described → IsWholeRecord described }
+    ensures { (described : Record) → record_of terms.now ≡ Some described → IfOk result (λ answer. answer ≡ answer_of verb described bytes.now) }
+{
+    match verb {
+        Verb::Parse => parse(alloc, terms, bytes),
+        Verb::Unparse => unparse(alloc, terms, bytes),
+    }
+}
+
+// What the source comes to.
+fn read_answer<S: Source>(alloc: Global, source: &mut S, verb: Verb, terms: &Terms) -> Answer
+    requires described { IsSome (record_of terms.now) }
+    requires whole { (described : Record) → record_of terms.now ≡ Some described → IsWholeRecord described }
     ensures answer { (described : Record) → record_of terms.now ≡ Some described
-        → IsReadAnswer (S.left source.old) described (S.faults source.old) (S.faults source.new) result }
+        → IsReadAnswer (S.left source.old) verb described (S.faults source.old) (S.faults source.new) result }
     ensures used_up { IsResult result → IsUsedUp (S.left source.old) (S.left source.new) }
     ensures later { S.faults source.old ≤ S.faults source.new }
 {
@@ -125,7 +150,7 @@ fn read_answer<S: Source>(alloc: Global, source: &mut S, terms: &Terms) -> Answe
         Err(ReadFault::TooLarge) => return limit(LimitCause::Input, MOST_INPUT),
         Err(ReadFault::OutOfMemory) => return Answer::OutOfMemory,
     };
-    match parse(alloc, terms, &bytes) {
+    match meaning(alloc, verb, terms, &bytes) {
         Ok(answer) => answer,
         Err(_) => Answer::OutOfMemory,
     }
@@ -147,7 +172,7 @@ fn decide<S: Source, F: Files>(
         Err(at) => return usage(at),
     };
     match load_terms(alloc, files, command.schema) {
-        Ok(terms) => read_answer(alloc, source, &terms),
+        Ok(terms) => read_answer(alloc, source, command.verb, &terms),
         Err(answer) => answer,
     }
 }
@@ -160,32 +185,6 @@ fn usage(at: usize) -> Answer
     Answer::Usage {
         word: at as u64 + 1,
     }
-}
-
-// Tells a line on the notes. A failure of the notes changes nothing else.
-fn tell<N: Sink>(notes: &mut N, note: &str)
-    ensures { Tells note.now (N.taken notes.old) (N.taken notes.new) (N.faults notes.old) (N.faults notes.new) }
-{
-    if note.is_empty() {
-        return;
-    }
-    let _ = notes.write(note.as_bytes());
-}
-
-// Writes an answer and tells its note. The exit status is the answer's, or that of a failed write.
-fn deliver<K: Sink, N: Sink>(out: &mut K, notes: &mut N, answer: &Answer, note: &str) -> u8
-    requires { note.now ≡ note_of answer.now }
-    ensures { Finished answer.now result (K.taken out.old) (K.taken out.new) (N.taken notes.old) (N.taken notes.new)
-        (K.faults out.old) (K.faults out.new) (N.faults notes.old) (N.faults notes.new) }
-{
-    if let Some(line) = answer.line() {
-        if out.write(line.as_str().as_bytes()).is_err() {
-            tell(notes, "sink failed\n");
-            return 6;
-        }
-    }
-    tell(notes, note);
-    answer.status()
 }
 
 // Ends a run with this answer.
@@ -239,12 +238,16 @@ pub fn run<S: Source, K: Sink, N: Sink, F: Files, C: Chooser, P: Patterns>(
         → ComesExactly 1 answer result }
     ensures schema_refused { (answer : Answer) → Expects (map string_bytes words.now) (F.content files.old) (S.left source.old) answer
         → ComesExactly 2 answer result }
+    ensures unparse_error { (answer : Answer) → Expects (map string_bytes words.now) (F.content files.old) (S.left source.old) answer
+        → ComesExactly 3 answer result }
     ensures usage { (answer : Answer) → Expects (map string_bytes words.now) (F.content files.old) (S.left source.old) answer
         → ComesExactly 4 answer result }
     ensures limit { (answer : Answer) → Expects (map string_bytes words.now) (F.content files.old) (S.left source.old) answer
         → ComesExactly 8 answer result }
     ensures left_over { (answer : Answer) → Expects (map string_bytes words.now) (F.content files.old) (S.left source.old) answer
         → ComesExactly 11 answer result }
+    ensures infoset_refused { (answer : Answer) → Expects (map string_bytes words.now) (F.content files.old) (S.left source.old) answer
+        → ComesExactly 12 answer result }
 
     // The faults of the outside, told or not: each only where that count rose in this call.
     ensures source_failed { result ≡ 5 → Rose (S.faults source.old) (S.faults source.new)
@@ -256,9 +259,9 @@ pub fn run<S: Source, K: Sink, N: Sink, F: Files, C: Chooser, P: Patterns>(
     ensures out_of_memory { result ≡ 9
         → Tells (note_of Answer.OutOfMemory) (N.taken notes.old) (N.taken notes.new) (N.faults notes.old) (N.faults notes.new) }
 
-    // Where data was parsed, the source was read to its end.
-    ensures used_up { IsTrue (result == 0 || result == 1 || result == 11) → IsUsedUp (S.left source.old) (S.left source.new) }
-    ensures unwritten { result ≢ 0 → result ≢ 6 → result ≢ 11 → Adds (K.taken out.old) [] (K.taken out.new) }
+    // Where the source was parsed or unparsed, it was read to its end.
+    ensures used_up { IsTrue (result == 0 || result == 1 || result == 3 || result == 11 || result == 12) → IsUsedUp (S.left source.old) (S.left source.new) }
+    ensures unwritten { result ≢ 0 → result ≢ 3 → result ≢ 6 → result ≢ 11 → Adds (K.taken out.old) [] (K.taken out.new) }
 {
     let answer = decide(alloc, words, files, source);
     finish(alloc, out, notes, &answer)

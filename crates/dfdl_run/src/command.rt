@@ -9,6 +9,8 @@ ghost use Rattle.dfdl_run.specs.CommandShown.{order_shown};
 pub enum Verb {
     /// Data to an infoset.
     Parse,
+    /// An infoset to data.
+    Unparse,
 }
 
 /// A command, as its words give it.
@@ -50,10 +52,10 @@ fn verb_of(word: &str) -> Option<Verb>
     ensures some { IfSome result (λ verb. word.now ≡ verb_word verb) }
     ensures none { IfNone result ((verb : Verb) → word.now ≡ verb_word verb → ⊥) }
 {
-    if word == "parse" {
-        Some(Verb::Parse)
-    } else {
-        None
+    match word {
+        "parse" => Some(Verb::Parse),
+        "unparse" => Some(Verb::Unparse),
+        _ => None,
     }
 }
 

@@ -1,6 +1,6 @@
 // One run of the program, from its words to its exit status.
 //
-// `run` reads the words of a command, loads and compiles the schema, reads the data and writes the answer, over the
+// `run` reads the words of a command, loads and compiles the schema, reads the source and writes the answer, over the
 // traits of the outside. Its contract cites `Expects` of `specs/Expects.antt`: what a run comes to, as far as the
 // outside tells its bytes. The meaning of the data stands in `specs/Meaning.antt`, the schemas that are carried in
 // `specs/Schema.antt`. It serves 'DFDL Processing Introduction'.
@@ -11,8 +11,10 @@ pub mod call;
 pub mod chooser;
 mod command;
 mod compile;
+mod delivery;
 mod outline;
 mod parsing;
+mod unparsing;
 
 pub use answer::Answer;
 pub use call::{MOST_INPUT, MOST_SCHEMA, run};

@@ -7,7 +7,8 @@ ghost use Rattle.dfdl_terms.specs.Record.{Record, all_of, field_at, fields_at, r
 ghost use Rattle.dfdl_terms.specs.declared.cause.ParseCause.TheVariants.{DataEnds};
 ghost use Rattle.dfdl_run.specs.declared.answer.Answer.{Answer};
 ghost use Rattle.dfdl_terms.specs.Paths.{field_path};
-ghost use Rattle.dfdl_run.specs.Meaning.{outcome_of, answer_of};
+ghost use Rattle.dfdl_record.specs.Outcomes.{outcome_of};
+ghost use Rattle.dfdl_run.specs.Meaning.{parse_answer};
 ghost use Rattle.dfdl_run.specs.Reading.{reached, reading_shown};
 
 use crate::answer::Answer;
@@ -94,7 +95,7 @@ fn line_of_members(
 pub(crate) fn parse(alloc: Global, terms: &Terms, bytes: &[u8]) -> Result<Answer, AllocError>
     requires small { length bytes.now ≤ 2 ^ 60 }
     requires described { IsSome (record_of terms.now) }
-    ensures { (described : Record) → record_of terms.now ≡ Some described → IfOk result (λ answer. answer ≡ answer_of described bytes.now) }
+    ensures { (described : Record) → record_of terms.now ≡ Some described → IfOk result (λ answer. answer ≡ parse_answer described bytes.now) }
 {
     let Some(root) = root_of_record(terms) else {
         unreachable!()

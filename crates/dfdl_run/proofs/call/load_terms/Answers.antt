@@ -1,5 +1,6 @@
 use Rattle.std.proofs.Common.{arith}
 use Rattle.dfdl_run.proofs.Decisions.{refused_fault, schema_told}
+use Rattle.dfdl_run.proofs.WholeRecords.{loaded_whole}
 use Rattle.dfdl_run.proofs.call.load_terms.Goals as goal
 
 pub returns-in-Err-Refused-clause-err : goal.returns-in-Err-Refused-clause-err
@@ -11,3 +12,6 @@ pub returns-in-Ok-terms_of_bytes-clause-ok : goal.returns-in-Ok-terms_of_bytes-c
 returns-in-Ok-terms_of_bytes-clause-ok g c = λ described is.
     schema_told _ c.deref.result.now _ described c.in-Ok-terms_of_bytes.ensures.ok is (rw c.deref.ensures.value c.in-Ok.ensures.bytes)
     (omega (arith, c.deref.ensures.len, c.in-Ok.ensures.fits))
+
+pub returns-in-Ok-terms_of_bytes-clause-whole : goal.returns-in-Ok-terms_of_bytes-clause-whole
+returns-in-Ok-terms_of_bytes-clause-whole g c = loaded_whole _ _ c.in-Ok-terms_of_bytes.ensures.ok

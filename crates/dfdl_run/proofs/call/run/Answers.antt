@@ -20,6 +20,9 @@ returns-clause-processing_error g c = λ answer. comes_exactly _ _ _ _ _ _ _ _ _
 pub returns-clause-schema_refused : goal.returns-clause-schema_refused
 returns-clause-schema_refused g c = λ answer. comes_exactly _ _ _ _ _ _ _ _ _ _ _ _ _ _ _ _ _ 2 answer c.decide-answer.ensures.decided c.finish.ensures
 
+pub returns-clause-unparse_error : goal.returns-clause-unparse_error
+returns-clause-unparse_error g c = λ answer. comes_exactly _ _ _ _ _ _ _ _ _ _ _ _ _ _ _ _ _ 3 answer c.decide-answer.ensures.decided c.finish.ensures
+
 pub returns-clause-usage : goal.returns-clause-usage
 returns-clause-usage g c = λ answer. comes_exactly _ _ _ _ _ _ _ _ _ _ _ _ _ _ _ _ _ 4 answer c.decide-answer.ensures.decided c.finish.ensures
 
@@ -28,6 +31,9 @@ returns-clause-limit g c = λ answer. comes_exactly _ _ _ _ _ _ _ _ _ _ _ _ _ _ 
 
 pub returns-clause-left_over : goal.returns-clause-left_over
 returns-clause-left_over g c = λ answer. comes_exactly _ _ _ _ _ _ _ _ _ _ _ _ _ _ _ _ _ 11 answer c.decide-answer.ensures.decided c.finish.ensures
+
+pub returns-clause-infoset_refused : goal.returns-clause-infoset_refused
+returns-clause-infoset_refused g c = λ answer. comes_exactly _ _ _ _ _ _ _ _ _ _ _ _ _ _ _ _ _ 12 answer c.decide-answer.ensures.decided c.finish.ensures
 
 pub returns-clause-source_failed : goal.returns-clause-source_failed
 returns-clause-source_failed g c = source_failed _ _ _ _ _ _ _ _ _ _ _ _ _ _ _ _ _ c.decide-answer.ensures.decided c.finish.ensures

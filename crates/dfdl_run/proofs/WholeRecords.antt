@@ -1,0 +1,105 @@
+-- The record of a schema has whole fields.
+use Rattle.std.proofs.Common.{All, ◌≡◌, ◌*◌, ◌≤◌, ◌<◌, ℕ, Bool, List, [], ◌∷◌, map, cond, Option, None, Some, IfSome, option_map, option_and_then, refl, sym, ap, subst, ◌∙◌, arith}
+use Rattle.std.specs.Str.{bytes_eq}
+use Rattle.std.specs.Prelude.{codes}
+use Rattle.std.proofs.lemmas.Bool.{cond_both}
+use Rattle.std.proofs.lemmas.List.Elements.{All-cons, All-nil}
+use Rattle.dfdl_bits.specs.declared.order.ByteOrder.{ByteOrder}
+use Rattle.dfdl_bits.specs.declared.order.BitOrder.TheVariants.{MostFirst}
+use Rattle.dfdl_value.specs.Types.{form_of as form_of_kind}
+use Rattle.dfdl_value.specs.declared.simple.Form.TheVariants.{Unsigned}
+use Rattle.dfdl_value.specs.declared.simple.Simple.{Simple}
+use Rattle.dfdl_value.specs.declared.simple.Simple.TheVariants.{UnsignedByte, UnsignedShort, UnsignedInt, UnsignedLong}
+use Rattle.dfdl_int_binary.specs.declared.form.IntForm.{IntForm}
+use Rattle.dfdl_doc_tree.specs.Node.{Node, node_at}
+use Rattle.dfdl_terms.specs.Record.{Field, Record, all_of, record_of}
+use Rattle.dfdl_terms.specs.Rows.{Table}
+use Rattle.dfdl_record.specs.Pieces.{IsWholeField, IsWholeRecord}
+use Rattle.dfdl_run.specs.Schema.{Outline, IsRecordTree, bits_of, field_of, form_of, integer_form, is_field, kind_of, local_name, order_of, outline_of, outline_record, value_of}
+use Rattle.dfdl_run.specs.Loaded.{IsLoaded}
+
+-- the type is unsigned, and has this many whole bytes
+record IsWholeKind (kind : Simple) : Type 0 where
+  count : ℕ
+  unsigned : form_of_kind kind ≡ Unsigned (bits_of kind)
+  bits : bits_of kind ≡ 8 * count
+  some : 1 ≤ count
+  few : count ≤ 8
+
+kind_whole : (name : List ℕ) → IfSome (kind_of name) IsWholeKind
+kind_whole name =
+    cond_both (bytes_eq name (codes "xs:unsignedByte")) (Some UnsignedByte) _ (λ (o : Option Simple). IfSome o IsWholeKind)
+    (λ _. record { count = 1; unsigned = refl; bits = refl; some = omega arith; few = omega arith })
+    (λ _. cond_both (bytes_eq name (codes "xs:unsignedShort")) (Some UnsignedShort) _ (λ (o : Option Simple). IfSome o IsWholeKind)
+    (λ _. record { count = 2; unsigned = refl; bits = refl; some = omega arith; few = omega arith })
+    (λ _. cond_both (bytes_eq name (codes "xs:unsignedInt")) (Some UnsignedInt) _ (λ (o : Option Simple). IfSome o IsWholeKind)
+    (λ _. record { count = 4; unsigned = refl; bits = refl; some = omega arith; few = omega arith })
+    (λ _. cond_both (bytes_eq name (codes "xs:unsignedLong")) (Some UnsignedLong) None (λ (o : Option Simple). IfSome o IsWholeKind)
+    (λ _. record { count = 8; unsigned = refl; bits = refl; some = omega arith; few = omega arith })
+    (λ _. tt))))
+
+some_then : {A B : Type 0} (P : A → Type 0) (Q : B → Type 0) (f : A → Option B) (o : Option A) → IfSome o P → ((a : A) → P a → IfSome (f a) Q) → IfSome (option_and_then f o) Q
+some_then P Q f None here next = tt
+some_then P Q f (Some a) here next = next a here
+
+some_map : {A B : Type 0} (P : A → Type 0) (Q : B → Type 0) (f : A → B) (o : Option A) → IfSome o P → ((a : A) → P a → Q (f a)) → IfSome (option_map f o) Q
+some_map P Q f None here next = tt
+some_map P Q f (Some a) here next = next a here
+
+some_any : {A : Type 0} (o : Option A) → IfSome o (λ _. Unit {0})
+some_any None = tt
+some_any (Some a) = tt
+
+form_whole : (node : Node) → IfSome (form_of node) IsWholeField
+form_whole node =
+    some_then IsWholeKind IsWholeField (λ kind. option_map (integer_form kind) (order_of kind (value_of (codes "dfdl:byteOrder") node.attributes)))
+    (option_and_then kind_of (value_of (codes "type") node.attributes))
+    (some_then (λ _. Unit {0}) IsWholeKind kind_of (value_of (codes "type") node.attributes) (some_any _) (λ name _. kind_whole name))
+    (λ kind whole. some_map (λ _. Unit {0}) IsWholeField (integer_form kind) (order_of kind (value_of (codes "dfdl:byteOrder") node.attributes)) (some_any _)
+    (λ order _. record { count = whole.count; kind = whole.unsigned; bits = whole.bits; some = whole.some; few = whole.few; order = refl }))
+
+-- the field is whole
+abbrev IsWhole : Field → Type 0
+IsWhole field = IsWholeField field.form
+
+field_whole : (node : Node) → IfSome (field_of node) IsWhole
+field_whole node =
+    cond_both (is_field node) _ None (λ (o : Option Field). IfSome o IsWhole)
+    (λ _. some_then (λ _. Unit {0}) IsWhole (λ name. option_map (λ form. let f : Field = record { name = name; form = form } in f) (form_of node))
+    (option_and_then local_name (value_of (codes "name") node.attributes)) (some_any _)
+    (λ name _. some_map IsWholeField IsWhole (λ form. record { name = name; form = form }) (form_of node) (form_whole node) (λ form whole. whole)))
+    (λ _. tt)
+
+all_whole : {A B : Type 0} (P : B → Type 0) (read : A → Option B) (xs : List A) (ys : List B) → ((x : A) → IfSome (read x) P) → all_of (map read xs) ≡ Some ys → All P ys
+all_whole {B = B} P read [] ys each is = let same : (let none : List B = [] in none) ≡ ys = cc in subst (λ (l : List B). All P l) same (All-nil P)
+all_whole {A = A} {B = B} P read (x ∷ xs) ys each is =
+    let rest : (zs : List B) → all_of (map read xs) ≡ Some zs → All P zs = λ zs. all_whole P read xs zs each in
+    (elim (read x) as (λ o. IfSome o P → all_of (o ∷ map read xs) ≡ Some ys → All P ys) [
+      | None ↦ λ _ none. absurd (cc)
+      | Some y ↦ λ here. (elim (all_of (map read xs)) as (λ o. ((zs : List B) → o ≡ Some zs → All P zs) → option_map (λ zs. y ∷ zs) o ≡ Some ys → All P ys) [
+        | None ↦ λ _ none. absurd (cc)
+        | Some zs ↦ λ others some. let same : y ∷ zs ≡ ys = cc in subst (λ (l : List B). All P l) same (All-cons P y zs here (others zs refl))
+      ]) rest
+    ]) (each x) is
+
+tree_whole : (nodes : List Node) (described : Record) → IsRecordTree nodes described → All IsWhole described.fields
+tree_whole nodes described tree =
+    (elim (outline_of nodes) as (λ o. option_and_then (outline_record nodes) o ≡ Some described → All IsWhole described.fields) [
+      | None ↦ λ none. absurd (cc)
+      | Some outline ↦ λ some.
+          (elim (all_of (map (λ element. field_of (node_at nodes element)) outline.fields)) as
+          (λ o. all_of (map (λ element. field_of (node_at nodes element)) outline.fields) ≡ o
+          → option_map (λ fields. let r : Record = record { root = outline.root; fields = fields } in r) o ≡ Some described → All IsWhole described.fields) [
+            | None ↦ λ _ none. absurd (cc)
+            | Some fields ↦ λ read same.
+                let same_fields : fields ≡ described.fields = cc in
+                subst (λ (fs : List Field). All IsWhole fs) same_fields
+                (all_whole IsWhole (λ element. field_of (node_at nodes element)) outline.fields fields (λ element. field_whole (node_at nodes element)) read)
+          ]) refl some
+    ]) tree.shape
+
+-- the record that loaded terms are
+pub loaded_whole : (bytes : List ℕ) (terms : Table) → IsLoaded bytes terms → (described : Record) → record_of terms ≡ Some described → IsWholeRecord described
+loaded_whole bytes terms loaded described is =
+    let same : loaded.described ≡ described = let terms_are = loaded.terms_are in cc in
+    subst IsWholeRecord same (record { whole = tree_whole loaded.schema.nodes loaded.described loaded.schema.tree; different = loaded.schema.tree.different })

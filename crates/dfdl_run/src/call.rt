@@ -118,12 +118,7 @@ fn limit(cause: LimitCause, quantity: u64) -> Answer
 }
 
 // What the bytes of the source come to.
-fn meaning(
-    alloc: Global,
-    verb: Verb,
-    terms: &Terms,
-    bytes: &[u8],
-) -> Result<Answer, AllocError>
+fn meaning(alloc: Global, verb: Verb, terms: &Terms, bytes: &[u8]) -> Result<Answer, AllocError>
     requires small { length bytes.now ≤ 2 ^ 60 }
     requires described { IsSome (record_of terms.now) }
     requires whole { (described : Record) → record_of terms.now ≡ Some described → IsWholeRecord described }

@@ -54,7 +54,12 @@ pub(crate) fn tell<N: Sink>(notes: &mut N, note: &str)
 }
 
 // Writes an answer and tells its note. The exit status is the answer's, or that of a failed write.
-pub(crate) fn deliver<K: Sink, N: Sink>(out: &mut K, notes: &mut N, answer: &Answer, note: &str) -> u8
+pub(crate) fn deliver<K: Sink, N: Sink>(
+    out: &mut K,
+    notes: &mut N,
+    answer: &Answer,
+    note: &str,
+) -> u8
     requires { note.now ≡ note_of answer.now }
     ensures { Finished answer.now result (K.taken out.old) (K.taken out.new) (N.taken notes.old) (N.taken notes.new)
         (K.faults out.old) (K.faults out.new) (N.faults notes.old) (N.faults notes.new) }

@@ -33,6 +33,14 @@ const PARSE: Given<'static> = Given {
     failing_writes: &[],
 };
 
+const UNPARSE: Given<'static> = Given {
+    words: &["unparse", "s.xsd"],
+    data: b"{\"r\":{\"a\":\"1\",\"b\":\"515\"}}",
+    ..PARSE
+};
+
+const DATA: &str = "\x01\x02\x03";
+
 #[derive(Drop)]
 struct Ended {
     status: u8,
@@ -159,6 +167,166 @@ fn a_record_is_parsed(rt: HostRuntime) -> Result<(), Fail> {
 }
 
 #[test]
+fn an_infoset_is_unparsed(rt: HostRuntime) -> Result<(), Fail> {
+    let cases: [&str; 7] = [
+        "{\"r\":{\"a\":\"1\",\"b\":\"515\"}}",
+        "{\"r\":{\"b\":\"515\",\"a\":\"1\"}}",
+        " {\"r\" : {\n\"a\":\"001\", \"b\":\"0515\"}}\n",
+        "{\"r\":{\"a\":\"+1\",\"b\":\"+515\"}}",
+        "{\"r\":{\"a\":\" 1 \",\"b\":\"\\t515\\n\"}}",
+        "{\"\\u0072\":{\"\\u0061\":\"\\u0031\",\"b\":\"515\"}}",
+        "{\"r\":{\"a\":\"7\",\"a\":\"1\",\"b\":\"515\"}}",
+    ];
+    for text in cases {
+        ends(
+            &rt,
+            &Given {
+                data: text.as_bytes(),
+                ..UNPARSE
+            },
+            0,
+            DATA,
+            "",
+        )?;
+    }
+    let little = schema_with(&rt, "bigEndian", "littleEndian")?;
+    ends(
+        &rt,
+        &Given {
+            schema: little.as_str(),
+            ..UNPARSE
+        },
+        0,
+        "\x01\x03\x02",
+        "",
+    )
+}
+
+#[test]
+fn an_infoset_is_refused(rt: HostRuntime) -> Result<(), Fail> {
+    let cases: [(&str, &str); 16] = [
+        ("{\"r\":", "error I1 in /: not JSON\n"),
+        ("", "error I1 in /: not JSON\n"),
+        ("[]", "error I2 in /: root expected\n"),
+        ("{}", "error I2 in /: root expected\n"),
+        ("{\"s\":{}}", "error I2 in /: root expected\n"),
+        ("{\"r\":{},\"s\":{}}", "error I2 in /: root expected\n"),
+        (
+            "{\"r\":{\"a\":\"1\",\"zz\":\"2\"}}",
+            "error I3 in /r: unknown member\n",
+        ),
+        (
+            "{\"r\":{\"a\":\"x\",\"zz\":\"2\"}}",
+            "error I3 in /r: unknown member\n",
+        ),
+        ("{\"r\":\"1\"}", "error I4 in /r: object expected\n"),
+        (
+            "{\"r\":{\"a\":1,\"b\":\"1\"}}",
+            "error I6 in /r/a: string expected\n",
+        ),
+        (
+            "{\"r\":{\"a\":[\"1\"],\"b\":\"1\"}}",
+            "error I6 in /r/a: string expected\n",
+        ),
+        (
+            "{\"r\":{\"a\":\"1\",\"b\":{}}}",
+            "error I6 in /r/b: string expected\n",
+        ),
+        (
+            "{\"r\":{\"a\":\"256\",\"b\":\"1\"}}",
+            "error I7 in /r/a: not a value of the type\n",
+        ),
+        (
+            "{\"r\":{\"a\":\"-1\",\"b\":\"x\"}}",
+            "error I7 in /r/a: not a value of the type\n",
+        ),
+        (
+            "{\"r\":{\"a\":null,\"b\":\"1\"}}",
+            "error I8 in /r/a: null not allowed\n",
+        ),
+        ("{\"r\":null}", "error I8 in /r: null not allowed\n"),
+    ];
+    for (text, note) in cases {
+        ends(
+            &rt,
+            &Given {
+                data: text.as_bytes(),
+                ..UNPARSE
+            },
+            12,
+            "",
+            note,
+        )?;
+    }
+    Ok(())
+}
+
+#[test]
+fn a_child_is_missing(rt: HostRuntime) -> Result<(), Fail> {
+    let cases: [(&str, &str, &str); 3] = [
+        (
+            "{\"r\":{\"a\":\"1\"}}",
+            "\x01",
+            "error U10 in /r/b: wrong number of occurrences\n",
+        ),
+        (
+            "{\"r\":{\"b\":\"1\"}}",
+            "",
+            "error U10 in /r/a: wrong number of occurrences\n",
+        ),
+        (
+            "{\"r\":{}}",
+            "",
+            "error U10 in /r/a: wrong number of occurrences\n",
+        ),
+    ];
+    for (text, out, note) in cases {
+        ends(
+            &rt,
+            &Given {
+                data: text.as_bytes(),
+                ..UNPARSE
+            },
+            3,
+            out,
+            note,
+        )?;
+    }
+    Ok(())
+}
+
+#[test]
+fn each_element_is_one_write(rt: HostRuntime) -> Result<(), Fail> {
+    let cases: [(&[u64], u8, &str, &str); 3] = [
+        (&[1], 6, "", "sink failed\n"),
+        (&[2], 6, "\x01", "sink failed\n"),
+        (&[3], 0, DATA, ""),
+    ];
+    for (failing_writes, status, out, note) in cases {
+        ends(
+            &rt,
+            &Given {
+                failing_writes,
+                ..UNPARSE
+            },
+            status,
+            out,
+            note,
+        )?;
+    }
+    ends(
+        &rt,
+        &Given {
+            failing_reads: &[1],
+            ..UNPARSE
+        },
+        5,
+        "",
+        "source failed\n",
+    )
+}
+
+#[test]
 fn the_outside_fails(rt: HostRuntime) -> Result<(), Fail> {
     ends(
         &rt,
@@ -217,8 +385,9 @@ fn the_outside_fails(rt: HostRuntime) -> Result<(), Fail> {
 
 #[test]
 fn words_that_are_no_command(rt: HostRuntime) -> Result<(), Fail> {
-    let cases: [(&[&str], &str); 7] = [
+    let cases: [(&[&str], &str); 8] = [
         (&[], "usage: word 1\n"),
+        (&["unparse"], "usage: word 2\n"),
         (&["parse"], "usage: word 2\n"),
         (&["parse", ""], "usage: word 2\n"),
         (&["parse", "--root"], "usage: word 2\n"),

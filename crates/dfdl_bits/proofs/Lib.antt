@@ -5,3 +5,4 @@ pub mod Reading
 pub mod Patches
 pub mod Putting
 pub mod Rings
+pub mod Whole

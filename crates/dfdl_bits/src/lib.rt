@@ -4,6 +4,7 @@
 // Serves 'Properties Common to both Content and Framing' and 'Simple Types'.
 #![tactic(auto)]
 
+pub mod laws;
 mod number;
 pub mod order;
 mod put;

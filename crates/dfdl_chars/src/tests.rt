@@ -165,6 +165,49 @@ fn characters_and_bad_units(rt: HostRuntime) -> Result<(), Fail> {
     Ok(())
 }
 
+/// Whether each byte is a bad unit of its own, as UTF-8.
+fn are_bad_bytes<L: Ledger>(alloc: Global, bytes: &[u8], blank: Blank) -> Result<bool, Fail>
+    requires name { blank.name ≡ L.name }
+    requires parts { blank.parts ≡ L.parts }
+    requires some { 0 < L.parts }
+    requires few { length bytes.now < 2 ^ 32 }
+{
+    let mut steps = Steps::<L>::open(blank);
+    let mut window = Window::open(alloc, 64)?;
+    let _ = window.append(bytes);
+    window.tell_end();
+    for place in 0..bytes.len() as u64 {
+        let (chars, _) = decode_at(Encoding::Utf8, &window, place * 8, u64::MAX, &mut steps);
+        if chars != (Chars::Bad { bits: 8 }) {
+            return Ok(false);
+        }
+    }
+    Ok(true)
+}
+
+#[test]
+fn malformed_sequences_are_bad_byte_by_byte(rt: HostRuntime) -> Result<(), Fail> {
+    let rows: [&[u8]; 13] = [
+        b"\xC0\x80",
+        b"\xE0\x80\x80",
+        b"\xF0\x80\x80\x80",
+        b"\xED\xA0\x80",
+        b"\xED\xBF\xBF",
+        b"\xF4\x90\x80\x80",
+        b"\xF5\x80\x80\x80",
+        b"\xF8\x88\x80\x80\x80",
+        b"\xFE\xFF",
+        b"\x80\xBF",
+        b"\xC3",
+        b"\xE2\x82",
+        b"\xF0\x9F\x98",
+    ];
+    for bytes in rows {
+        assert!(rt; are_bad_bytes::<Brand>(rt.alloc(), bytes, Blank::new(1))?);
+    }
+    Ok(())
+}
+
 fn pieces<L: Ledger>(rt: &impl Abort, alloc: Global, blank: Blank) -> Result<(), Fail>
     requires name { blank.name ≡ L.name }
     requires parts { blank.parts ≡ L.parts }

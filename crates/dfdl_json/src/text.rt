@@ -17,11 +17,7 @@ use std::alloc::Global;
 /// The events of an infoset's text, in schema order. Bad comes exactly where the text is no JSON in UTF-8, or the value
 /// of it is no infoset of the record ('The DFDL Information Set'). Values that are nested deeper than 127 count as no
 /// JSON (profile).
-pub fn events_of_json(
-    alloc: Global,
-    terms: &Terms,
-    text: &[u8],
-) -> Result<Vec<Event>, InfosetFault>
+pub fn events_of_json(alloc: Global, terms: &Terms, text: &[u8]) -> Result<Vec<Event>, InfosetFault>
     requires { IsSome (record_of terms.now) }
     ensures answer { (described : Record) → record_of terms.now ≡ Some described
         → Answers (λ events. events.items) (events_of_text terms.now described text.now) result }

@@ -1,5 +1,5 @@
 -- Digits go on by a byte as the machine does.
-use Rattle.std.proofs.Common.{◌≡◌, ℕ, ◌+◌, ◌==◌, true, false, ◌&&◌, if◌then◌else◌, Option, Some, None, List, [], ◌∷◌, ◌++◌, refl, ap, sym, subst, ◌∙◌}
+use Rattle.std.proofs.Common.{◌≡◌, ℕ, ◌+◌, ◌<◌, ◌==◌, true, false, ◌&&◌, if◌then◌else◌, Option, Some, None, List, [], ◌∷◌, ◌++◌, refl, ap, sym, subst, ◌∙◌, arith}
 use Rattle.std.specs.Option.{IfSome}
 use Rattle.std.proofs.lemmas.Bool.{cond_both, eqb-true, eq-eqb, and_parts, and_from}
 use Rattle.dfdl_number_pattern.specs.declared.quote.Quote.{Quote}
@@ -81,8 +81,9 @@ module _ (d : Digits) (t : List ℕ) (i : IsDigits d t) where
   pub digit_goes : (b : ℕ) → IfSome (digit_next d b) (λ e. IsDigits e (t ++ b ∷ []))
   digit_goes b = of_goes d.part b refl
 
--- a byte of the digits: no affix goes on by it where it may end, and it is no `;`
+-- a byte of the digits: it is ASCII, no affix goes on by it where it may end, and it is no `;`
 pub record IsSign (b : ℕ) : Type 0 where
+  pub low : b < 128
   pub apart : (q : Quote) → is_whole q ≡ true → quote_next q b ≡ None
   pub divides_not : (b == 59) ≡ false
 
@@ -97,23 +98,23 @@ apart_by b x y Quoted h = cc
 
 hash_sign : IsSign 35
 unfolding quote_next is_plain
-hash_sign = record { apart = apart_by 35 refl refl; divides_not = refl }
+hash_sign = record { low = omega arith; apart = apart_by 35 refl refl; divides_not = refl }
 
 pub zero_sign : IsSign 48
 unfolding quote_next is_plain
-zero_sign = record { apart = apart_by 48 refl refl; divides_not = refl }
+zero_sign = record { low = omega arith; apart = apart_by 48 refl refl; divides_not = refl }
 
 comma_sign : IsSign 44
 unfolding quote_next is_plain
-comma_sign = record { apart = apart_by 44 refl refl; divides_not = refl }
+comma_sign = record { low = omega arith; apart = apart_by 44 refl refl; divides_not = refl }
 
 point_sign : IsSign 46
 unfolding quote_next is_plain
-point_sign = record { apart = apart_by 46 refl refl; divides_not = refl }
+point_sign = record { low = omega arith; apart = apart_by 46 refl refl; divides_not = refl }
 
 implied_sign : IsSign 86
 unfolding quote_next is_plain
-implied_sign = record { apart = apart_by 86 refl refl; divides_not = refl }
+implied_sign = record { low = omega arith; apart = apart_by 86 refl refl; divides_not = refl }
 
 -- no affix goes on by a `;` where it may end
 pub divider_apart : (q : Quote) → is_whole q ≡ true → quote_next q 59 ≡ None

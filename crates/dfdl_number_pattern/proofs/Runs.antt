@@ -9,7 +9,7 @@ use Rattle.dfdl_number_pattern.specs.declared.quote.Quote.TheVariants.{Bare, Aft
 use Rattle.dfdl_number_pattern.specs.declared.digits.Digits.{Digits}
 use Rattle.dfdl_number_pattern.specs.Affix.{is_whole, IsAffix, Nothing}
 use Rattle.dfdl_number_pattern.specs.Digits.{none, sign_count, is_complete, IsDigits, NoSign}
-use Rattle.dfdl_number_pattern.specs.Pattern.{IsSubpattern, Pattern, Spells, IsPattern}
+use Rattle.dfdl_number_pattern.specs.Pattern.{IsSubpattern, Pattern, pattern_of, Spells, IsPattern}
 use Rattle.dfdl_number_pattern.specs.Machine.{quote_next, told, digit_next, Subpattern, State, start, second_next, with_digits, prefix_or, prefix_next, number_or, number_next, suffix_or, suffix_next, step, accepts, value}
 use Rattle.dfdl_number_pattern.proofs.Affixes.{if_true, if_false, affix_keeps}
 use Rattle.dfdl_number_pattern.proofs.DigitLaws.{IsSign, zero_sign, divider_apart, digits_keep}
@@ -213,16 +213,32 @@ suffix_run f p d c =
     affix_keeps (λ q x t. SuffixRun f p d q x t) (record { to = at_number p d f; runs = refl; is = inl (refl, refl, refl) })
     (λ q r w t b next s. suffix_step f p d c q r w t b next s)
 
--- a sub-pattern is run through; behind the first one a `;` goes on
-record SubRun (f : Option Subpattern) (t : List ℕ) : Type 0 where
+-- the pattern of a sub-pattern, alone or behind the first one
+abbrev sub_value : Option Subpattern → List ℕ → List ℕ → Digits → Pattern
+sub_value None p x d = pattern_of d p x (45 ∷ p) x
+sub_value (Some f) p x d = pattern_of f.digits f.prefix f.suffix p x
+
+number_value : (f : Option Subpattern) (p : List ℕ) (d : Digits) → value (at_number p d f) ≡ sub_value f p [] d
+number_value None p d = refl
+number_value (Some f) p d = refl
+
+suffix_value : (f : Option Subpattern) (q : Quote) (p x : List ℕ) (d : Digits) → value (at_suffix q p x d f) ≡ sub_value f p x d
+suffix_value None q p x d = refl
+suffix_value (Some f) q p x d = refl
+
+abbrev sub_of : List ℕ → List ℕ → Digits → Subpattern
+sub_of p x d = record { prefix = p; suffix = x; digits = d }
+
+-- a sub-pattern is run through, to its own pattern; behind the first one a `;` goes on
+record SubRun (f : Option Subpattern) (p x : List ℕ) (d : Digits) (t : List ℕ) : Type 0 where
   to : State
   runs : run step (at_prefix Bare [] f) t ≡ Some to
   ends : accepts to ≡ true
-  sub : Subpattern
-  divides : f ≡ None → step to 59 ≡ Some (at_prefix Bare [] (Some sub))
+  means : value to ≡ sub_value f p x d
+  divides : f ≡ None → step to 59 ≡ Some (at_prefix Bare [] (Some (sub_of p x d)))
 
 sub_at : (f : Option Subpattern) (p : List ℕ) (d : Digits) (q : Quote) (x t u : List ℕ) → is_complete d ≡ true → is_whole q ≡ true → run step (at_prefix Bare [] f) u ≡ Some (at_number p d f)
-    → SuffixRun f p d q x t → SubRun f (u ++ t)
+    → SuffixRun f p d q x t → SubRun f p x d (u ++ t)
 sub_at f p d q x t u c w is s =
     let all : run step (at_prefix Bare [] f) (u ++ t) ≡ Some s.to = run_on u t (at_prefix Bare [] f) (at_number p d f) is ∙ s.runs in
     elim s.is [
@@ -230,41 +246,60 @@ sub_at f p d q x t u c w is s =
         to = s.to;
         runs = all;
         ends = subst (λ (v : State). accepts v ≡ true) (sym h.0) c;
-        sub = record { prefix = p; suffix = []; digits = d };
+        means = ap value h.0 ∙ (number_value f p d ∙ ap (λ (l : List ℕ). sub_value f p l d) (sym h.2));
         divides = λ e.
-            subst (λ (v : State). step v 59 ≡ Some (at_prefix Bare [] (Some (record { prefix = p; suffix = []; digits = d })))) (sym h.0)
-            (subst (λ (g : Option Subpattern). step (at_number p d g) 59 ≡ Some (at_prefix Bare [] (Some (record { prefix = p; suffix = []; digits = d })))) (sym e) (number_divider p d c));
+            subst (λ (v : State). step v 59 ≡ Some (at_prefix Bare [] (Some (sub_of p x d)))) (sym h.0)
+            (subst (λ (g : Option Subpattern). step (at_number p d g) 59 ≡ Some (at_prefix Bare [] (Some (sub_of p x d)))) (sym e)
+            (number_divider p d c ∙ ap (λ (l : List ℕ). Some (at_prefix Bare [] (Some (sub_of p l d)))) (sym h.2)));
       }
       | inr h ↦ record {
         to = s.to;
         runs = all;
         ends = subst (λ (v : State). accepts v ≡ true) (sym h) w;
-        sub = record { prefix = p; suffix = x; digits = d };
+        means = ap value h ∙ suffix_value f q p x d;
         divides = λ e.
-            subst (λ (v : State). step v 59 ≡ Some (at_prefix Bare [] (Some (record { prefix = p; suffix = x; digits = d })))) (sym h)
-            (subst (λ (g : Option Subpattern). step (at_suffix q p x d g) 59 ≡ Some (at_prefix Bare [] (Some (record { prefix = p; suffix = x; digits = d })))) (sym e) (suffix_divider q p x d w));
+            subst (λ (v : State). step v 59 ≡ Some (at_prefix Bare [] (Some (sub_of p x d)))) (sym h)
+            (subst (λ (g : Option Subpattern). step (at_suffix q p x d g) 59 ≡ Some (at_prefix Bare [] (Some (sub_of p x d)))) (sym e) (suffix_divider q p x d w));
       }
     ]
 
-sub_run : (f : Option Subpattern) (p x : List ℕ) (d : Digits) (t : List ℕ) → IsSubpattern p x d t → SubRun f t
+sub_run : (f : Option Subpattern) (p x : List ℕ) (d : Digits) (t : List ℕ) → IsSubpattern p x d t → SubRun f p x d t
 sub_run f p x d t i =
     let front : run step (at_prefix Bare [] f) (i.before ++ i.digits) ≡ Some (at_number p d f) =
     run_on i.before i.digits (at_prefix Bare [] f) (at_prefix i.ends_prefix p f) (prefix_runs f i.ends_prefix p i.before i.is_prefix)
     ∙ complete_runs f i.ends_prefix p i.prefix_whole d i.digits i.is_digits i.complete
     in
     let s = sub_at f p d i.ends_suffix x i.behind (i.before ++ i.digits) i.complete i.suffix_whole front (suffix_run f p d i.complete i.ends_suffix x i.behind i.is_suffix) in
-    subst (λ (l : List ℕ). SubRun f l) (append_assoc i.before i.digits i.behind ∙ sym i.spelled) s
+    subst (λ (l : List ℕ). SubRun f p x d l) (append_assoc i.before i.digits i.behind ∙ sym i.spelled) s
 
-pattern_runs : (p : Pattern) (t : List ℕ) → Spells p t → (u : State) × (run step start t ≡ Some u) × (accepts u ≡ true)
-pattern_runs p t (inl one) = let r = sub_run None one.prefix one.suffix one.digits t one.is_only in (r.to, r.runs, r.ends)
+-- the text of a pattern is run through, to that pattern
+record PatternRun (p : Pattern) (t : List ℕ) : Type 0 where
+  to : State
+  runs : run step start t ≡ Some to
+  ends : accepts to ≡ true
+  means : value to ≡ p
+
+pattern_runs : (p : Pattern) (t : List ℕ) → Spells p t → PatternRun p t
+pattern_runs p t (inl one) =
+    let r = sub_run None one.prefix one.suffix one.digits t one.is_only in
+    record { to = r.to; runs = r.runs; ends = r.ends; means = r.means ∙ sym one.means }
 pattern_runs p t (inr two) =
     let r = sub_run None two.prefix two.suffix two.digits two.first two.is_first in
-    let s = sub_run (Some r.sub) two.negative_prefix two.negative_suffix two.other two.second two.is_second in
+    let f = sub_of two.prefix two.suffix two.digits in
+    let s = sub_run (Some f) two.negative_prefix two.negative_suffix two.other two.second two.is_second in
     let all : run step start (two.first ++ 59 ∷ two.second) ≡ Some s.to =
     run_on two.first (59 ∷ two.second) start r.to r.runs
     ∙ (ap (option_and_then (λ (w : State). run step w two.second)) (r.divides refl) ∙ s.runs)
     in
-    (s.to, subst (λ (l : List ℕ). run step start l ≡ Some s.to) (sym two.spelled) all, s.ends)
+    record { to = s.to; runs = subst (λ (l : List ℕ). run step start l ≡ Some s.to) (sym two.spelled) all; ends = s.ends; means = s.means ∙ sym two.means }
+
+-- a text spells the one pattern to which it is run through
+pub only_pattern : (s : State) (t : List ℕ) → run step start t ≡ Some s → (p : Pattern) → Spells p t → p ≡ value s
+only_pattern s t is p spells =
+    let r = pattern_runs p t spells in
+    let same : Some r.to ≡ Some s = sym r.runs ∙ is in
+    let to_same : r.to ≡ s = cc in
+    sym r.means ∙ ap value to_same
 
 -- the machine reads number patterns
 pub reads_patterns : IsReader step start accepts Reached IsPattern
@@ -274,5 +309,5 @@ reads_patterns =
       goes = λ s t a text at is. reads_on s t a text at is;
       ends = λ s text at e. (value s, spells_value s text at e);
       live = λ s text at. let l = reached_lives s text at in (l.more, l.last, l.runs, l.ends);
-      full = λ text is. pattern_runs is.0 text is.1;
+      full = λ text is. let r = pattern_runs is.0 text is.1 in (r.to, r.runs, r.ends);
     }

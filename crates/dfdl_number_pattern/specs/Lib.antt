@@ -1,3 +1,4 @@
+pub mod Base
 pub mod Count
 pub mod Characters
 pub mod Affix

@@ -2,6 +2,10 @@
 use Rattle.std.specs.Prelude.{◌≡◌, ℕ, ◌+◌, true, ◌⊎◌, List, ◌∷◌, ◌++◌}
 use Rattle.dfdl_number_pattern.specs.declared.quote.Quote.{Quote}
 use Rattle.dfdl_number_pattern.specs.declared.digits.Digits.{Digits}
+use Rattle.dfdl_number_pattern.specs.declared.digits.Part.{Part}
+use Rattle.dfdl_number_pattern.specs.declared.digits.Part.TheVariants.{Integer, Fraction, Implied}
+use Rattle.dfdl_number_pattern.specs.declared.pattern.Point.{Point}
+use Rattle.dfdl_number_pattern.specs.declared.pattern.Point.TheVariants as point
 use Rattle.dfdl_number_pattern.specs.declared.pattern.NumberPattern.{NumberPattern}
 use Rattle.dfdl_number_pattern.specs.Affix.{IsAffix, is_whole}
 use Rattle.dfdl_number_pattern.specs.Digits.{IsDigits, is_complete, group_size}
@@ -30,9 +34,16 @@ pub record Pattern : Type 0 where
   pub least_integer : ℕ
   pub greatest_integer : ℕ
   pub group_size : ℕ
+  pub point : Point
   pub least_fraction : ℕ
   pub greatest_fraction : ℕ
   pub implied : ℕ
+
+-- how the fraction of digits is written
+abbrev pub point_of : Part → Point
+point_of Integer = point.Absent
+point_of Fraction = point.Written
+point_of Implied = point.Implied
 
 -- the pattern of these digits and affixes
 abbrev pub pattern_of : Digits → List ℕ → List ℕ → List ℕ → List ℕ → Pattern
@@ -45,6 +56,7 @@ pattern_of d prefix suffix negative_prefix negative_suffix =
       least_integer = d.zeros;
       greatest_integer = d.hashes + d.zeros;
       group_size = group_size d.groups;
+      point = point_of d.part;
       least_fraction = d.fraction_zeros;
       greatest_fraction = d.fraction_zeros + d.fraction_hashes;
       implied = d.implied;
@@ -92,6 +104,7 @@ pattern_seen p =
       least_integer = p.least_integer;
       greatest_integer = p.greatest_integer;
       group_size = p.group_size;
+      point = p.point;
       least_fraction = p.least_fraction;
       greatest_fraction = p.greatest_fraction;
       implied = p.implied;

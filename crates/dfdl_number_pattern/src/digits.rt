@@ -1,9 +1,9 @@
-ghost use Rattle.std.specs.Prelude.{◌≡◌, ◌≤◌, IfOk, IsTrue};
+ghost use Rattle.std.specs.Prelude.{◌≡◌, ◌≤◌, IfOk, IsTrue, IsUtf8};
 ghost use Rattle.dfdl_number_pattern.specs.Digits.{none, sign_count, may_sign, may_group, group_more, group_next, may_end, is_complete, group_size};
-ghost use Rattle.dfdl_number_pattern.specs.Pattern.{pattern_of, pattern_seen};
+ghost use Rattle.dfdl_number_pattern.specs.Pattern.{point_of, pattern_of, pattern_seen};
 ghost use Rattle.dfdl_number_pattern.specs.Machine.{hash_next, zero_next, comma_next, part_next, integer_next, fraction_next, implied_next, digit_next};
 
-use crate::NumberPattern;
+use crate::{NumberPattern, Point};
 use std::alloc::AllocError;
 
 /// As many bytes as no affix has.
@@ -40,6 +40,19 @@ pub(crate) struct Digits {
     pub(crate) fraction_zeros: u8,
     pub(crate) fraction_hashes: u8,
     pub(crate) implied: u8,
+}
+
+impl Part {
+    /// How the fraction of digits that end in this part is written.
+    fn point(self) -> Point
+        ensures { result ≡ point_of self }
+    {
+        match self {
+            Part::Integer => Point::Absent,
+            Part::Fraction => Point::Written,
+            Part::Implied => Point::Implied,
+        }
+    }
 }
 
 impl Groups {
@@ -281,6 +294,12 @@ impl Digits {
         negative_prefix: Vec<u8>,
         negative_suffix: Vec<u8>,
     ) -> Result<NumberPattern, AllocError>
+        requires utf8_prefix { IsUtf8 prefix.items }
+        requires utf8_suffix { IsUtf8 suffix.items }
+        requires utf8_negative_prefix { IsUtf8 negative_prefix.items }
+        requires utf8_negative_suffix { IsUtf8 negative_suffix.items }
+        requires few { sign_count self ≤ 38 }
+        requires group_within { group_size self.groups ≤ 38 }
         ensures { IfOk result (λ pattern. pattern_seen pattern ≡ pattern_of self prefix.items suffix.items negative_prefix.items negative_suffix.items) }
     {
         if MAX_AFFIX <= prefix.len()
@@ -298,6 +317,7 @@ impl Digits {
             least_integer: self.zeros as u16,
             greatest_integer: self.hashes as u16 + self.zeros as u16,
             group_size: self.groups.size() as u16,
+            point: self.part.point(),
             least_fraction: self.fraction_zeros as u16,
             greatest_fraction: self.fraction_zeros as u16 + self.fraction_hashes as u16,
             implied: self.implied as u16,

@@ -1,5 +1,5 @@
-ghost use Rattle.std.specs.Prelude.{◌≡◌, ◌+◌, ◌<◌, ◌^◌, IfSome, length, vec_len};
-ghost use Rattle.dfdl_number_pattern.specs.Characters.{room_of};
+ghost use Rattle.std.specs.Prelude.{◌≡◌, ◌+◌, ◌<◌, ◌^◌, ◌==◌, IfSome, IsTrue, is_some, length, chars, ◌≤◌, vec_len};
+ghost use Rattle.dfdl_number_pattern.specs.Base.{is_base};
 
 use crate::NumberPattern;
 
@@ -36,12 +36,19 @@ pub struct NumberForm {
     /// The grouping separator.
     pub grouping: char,
     pub rounding: Rounding,
+    ghost patterned: { is_some pattern ≡ (base == 10) },
+    ghost based: { IsTrue (is_base base) },
 }
 
 impl NumberForm {
+    ghost use Rattle.dfdl_number_pattern.specs.Characters.{room_of};
+
     /// How many characters a number in this form may take.
+    #[tactic(auto, using(crate::proofs::Counts::count_is_length))]
     pub fn room(&self) -> usize
-        ensures { result ≡ room_of self.now }
+        ensures value { result ≡ room_of self.now }
+        ensures characters { IfSome self.now.pattern (λ pattern. length (chars pattern.prefix.items) + length (chars pattern.suffix.items) + 128 ≤ result) }
+        ensures negative_characters { IfSome self.now.pattern (λ pattern. length (chars pattern.negative_prefix.items) + length (chars pattern.negative_suffix.items) + 128 ≤ result) }
     {
         match &self.pattern {
             Some(pattern) => 128 + pattern.longer_prefix() + pattern.longer_suffix(),

@@ -12,5 +12,5 @@ mod reader;
 mod reading;
 
 pub use form::{NumberForm, Rounding};
-pub use pattern::{NumberPattern, PatternFault};
+pub use pattern::{NumberPattern, PatternFault, Point};
 pub use reading::read_pattern;

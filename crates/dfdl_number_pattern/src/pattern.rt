@@ -1,4 +1,5 @@
-ghost use Rattle.std.specs.Prelude.{◌≡◌, ◌≤◌, max, length, ◌<◌, ◌^◌};
+ghost use Rattle.std.specs.Prelude.{◌≡◌, ◌≤◌, ◌+◌, max, length, ◌<◌, ◌^◌, IsUtf8};
+ghost use Rattle.std.proofs.Props.{props};
 ghost use Rattle.dfdl_number_pattern.specs.Count.{character_count};
 
 use std::alloc::{AllocError, AllocFailed};
@@ -10,6 +11,17 @@ pub enum PatternFault {
     Malformed { at: usize },
     /// There was no memory for the pattern, or an affix would have had 2^61 bytes or more.
     OutOfMemory,
+}
+
+/// How the fraction of a pattern is written.
+#[derive(Clone, Copy, Debug, PartialEq, Eq)]
+pub enum Point {
+    /// No fraction.
+    Absent,
+    /// Behind a decimal separator.
+    Written,
+    /// Behind an implied decimal point.
+    Implied,
 }
 
 /// A number pattern. Prefixes and suffixes are texts in UTF-8.
@@ -25,6 +37,7 @@ pub struct NumberPattern {
     pub greatest_integer: u16,
     /// How many integer digits stand in a group, or 0 where they are not grouped.
     pub group_size: u16,
+    pub point: Point,
     pub least_fraction: u16,
     pub greatest_fraction: u16,
     /// How many digits stand behind the implied decimal point.
@@ -33,6 +46,14 @@ pub struct NumberPattern {
     ghost short_suffix: { length suffix.items < 2 ^ 61 },
     ghost short_negative_prefix: { length negative_prefix.items < 2 ^ 61 },
     ghost short_negative_suffix: { length negative_suffix.items < 2 ^ 61 },
+    ghost utf8_prefix: { IsUtf8 prefix.items } by { Prim.hlevel props },
+    ghost utf8_suffix: { IsUtf8 suffix.items } by { Prim.hlevel props },
+    ghost utf8_negative_prefix: { IsUtf8 negative_prefix.items } by { Prim.hlevel props },
+    ghost utf8_negative_suffix: { IsUtf8 negative_suffix.items } by { Prim.hlevel props },
+    ghost few: { greatest_integer + greatest_fraction + implied ≤ 38 },
+    ghost least_integer_within: { least_integer ≤ greatest_integer },
+    ghost least_fraction_within: { least_fraction ≤ greatest_fraction },
+    ghost group_within: { group_size ≤ 38 },
 }
 
 impl From<AllocError> for PatternFault {

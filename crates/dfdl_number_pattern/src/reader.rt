@@ -1,4 +1,5 @@
-ghost use Rattle.std.specs.Prelude.{◌≡◌, ◌≤◌, IfOk, OnOk, IsTrue};
+ghost use Rattle.std.specs.Prelude.{◌≡◌, ◌≤◌, IfOk, IfSome, OnOk, IsTrue, IsUtf8, ◌∷◌};
+ghost use Rattle.dfdl_number_pattern.specs.Digits.{sign_count, group_size};
 ghost use Rattle.dfdl_number_pattern.specs.Machine.{told, with_digits, second_next, prefix_next, number_next, suffix_next, step, accepts, value, start, digit_next};
 ghost use Rattle.dfdl_number_pattern.specs.Pattern.{pattern_seen};
 
@@ -44,6 +45,24 @@ fn tell(text: &mut Vec<u8>, quote: Quote, byte: u8) -> Result<(), AllocError>
         text.push(byte)?;
     }
     Ok(())
+}
+
+fn copied(alloc: Global, text: &[u8]) -> Result<Vec<u8>, AllocError>
+    ensures { IfOk result (λ copy. copy.items ≡ text.now) }
+{
+    let mut copy = Vec::new(alloc);
+    copy.extend_from_slice(text)?;
+    Ok(copy)
+}
+
+/// The negative prefix of a pattern with one sub-pattern, which has this prefix.
+fn behind_minus(alloc: Global, prefix: &[u8]) -> Result<Vec<u8>, AllocError>
+    ensures { IfOk result (λ text. text.items ≡ 45 ∷ prefix.now) }
+{
+    let mut text = Vec::new(alloc);
+    text.push(b'-')?;
+    text.extend_from_slice(prefix)?;
+    Ok(text)
 }
 
 impl Reader {
@@ -187,6 +206,12 @@ impl Reader {
 
     /// The pattern that was read, which may end here.
     pub(crate) fn finish(self) -> Result<NumberPattern, AllocError>
+        requires utf8_prefix { IsUtf8 self.prefix.items }
+        requires utf8_suffix { IsUtf8 self.suffix.items }
+        requires utf8_first { IfSome self.first (λ f. IsUtf8 f.prefix.items × IsUtf8 f.suffix.items) }
+        requires few { sign_count self.digits ≤ 38 }
+        requires group_within { group_size self.digits.groups ≤ 38 }
+        requires few_first { IfSome self.first (λ f. (sign_count f.digits ≤ 38) × (group_size f.digits.groups ≤ 38)) }
         ensures { IfOk result (λ pattern. pattern_seen pattern ≡ value (state_seen self)) }
     {
         let Reader {
@@ -206,10 +231,8 @@ impl Reader {
                 },
             ) => first_digits.pattern(first_prefix, first_suffix, prefix, suffix),
             None => {
-                let mut negative_prefix = Vec::new(alloc);
-                negative_prefix.push(b'-')?;
-                negative_prefix.extend_from_slice(&prefix)?;
-                let negative_suffix = suffix.clone()?;
+                let negative_prefix = behind_minus(alloc, &prefix)?;
+                let negative_suffix = copied(alloc, &suffix)?;
                 digits.pattern(prefix, suffix, negative_prefix, negative_suffix)
             }
         }

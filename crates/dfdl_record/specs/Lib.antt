@@ -1,3 +1,4 @@
 pub mod Outcomes
 pub mod Pieces
+pub mod RoundTrip
 pub mod Shown

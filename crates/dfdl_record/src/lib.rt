@@ -5,7 +5,10 @@
 // `laws`. It serves 'DFDL Processing Introduction' and 'Simple Types'.
 #![tactic(auto)]
 
+pub mod laws;
 pub mod piece;
+#[cfg(test)]
+mod tests;
 pub mod writing;
 
 pub use piece::{Piece, PieceList};

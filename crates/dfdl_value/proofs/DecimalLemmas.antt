@@ -29,7 +29,7 @@ zero_is : (x : ℕ) → is_zero x ≡ true → x ≡ 48
 zero_is x h = grind (arith, nat_tests)
 
 -- digits are those without the zeros at their end, and these zeros
-trailing_zeros : (xs : List ℕ) → (k : ℕ) × (xs ≡ without_trailing is_zero xs ++ replicate k 48)
+pub trailing_zeros : (xs : List ℕ) → (k : ℕ) × (xs ≡ without_trailing is_zero xs ++ replicate k 48)
 trailing_zeros [] = (0, refl)
 trailing_zeros (x ∷ xs) = let rest = trailing_zeros xs in more (without_trailing is_zero xs) rest.0 rest.1
   where
@@ -120,9 +120,9 @@ shortest_from-zeros (suc k) b w f =
     ∙ shortest_from-zero (length f) b (number_of (w ++ f))
 
 -- the digits before and after the point are those of the number's shortest form
-record IsShortest (b : Bool) (w f : List ℕ) : Type 0 where
-  same : shortest_from (length f) (with_sign b (number_of (w ++ f))) ≡ record { mantissa = with_sign b (number_of (w ++ f)); scale = length f }
-  last : 0 < length f → number_of (w ++ f) % 10 ≢ 0
+pub record IsShortest (b : Bool) (w f : List ℕ) : Type 0 where
+  pub same : shortest_from (length f) (with_sign b (number_of (w ++ f))) ≡ record { mantissa = with_sign b (number_of (w ++ f)); scale = length f }
+  pub last : 0 < length f → number_of (w ++ f) % 10 ≢ 0
 
 last_digit : (y : ℕ) → is_ascii_digit y ≡ true → is_zero y ≡ false → (0 < y - 48) × (y - 48 < 10)
 last_digit y digit other = grind (arith, nat_tests)
@@ -142,7 +142,7 @@ IsShortest-push b w ys y digits other =
       last = λ _. round;
     }
 
-IsShortest-without_trailing : (b : Bool) (w f : List ℕ) → list_all is_ascii_digit f ≡ true → IsShortest b w (without_trailing is_zero f)
+pub IsShortest-without_trailing : (b : Bool) (w f : List ℕ) → list_all is_ascii_digit f ≡ true → IsShortest b w (without_trailing is_zero f)
 IsShortest-without_trailing b w f digits = ends (without_trailing is_zero f) (last_kept f) (list_all-without_trailing f digits)
   where
     ends : (kept : List ℕ) → (kept ≡ []) ⊎ ((ys : List ℕ) × (y : ℕ) × (kept ≡ ys ++ y ∷ []) × (is_zero y ≡ false)) → list_all is_ascii_digit kept ≡ true → IsShortest b w kept

@@ -2,6 +2,7 @@ pub mod BackLemmas
 pub mod DecimalLemmas
 pub mod DivisionLemmas
 pub mod HexLemmas
+pub mod NumberLemmas
 pub mod OrderLemmas
 pub mod PaddingLemmas
 pub mod PointLemmas

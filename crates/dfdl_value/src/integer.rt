@@ -9,9 +9,9 @@ use super::value::Value;
 
 /// A whole number as its text writes it.
 #[derive(Clone, Copy)]
-struct Whole {
-    negative: bool,
-    magnitude: u128,
+pub(crate) struct Whole {
+    pub(crate) negative: bool,
+    pub(crate) magnitude: u128,
 }
 
 /// `PastType` is a number of which the magnitude takes more than 128 bits.
@@ -57,7 +57,7 @@ fn negated(magnitude: u128) -> i128
 }
 
 /// The value of a signed type of so many bits.
-fn signed_value(bits: u32, number: Whole) -> Result<Value, ReadFault>
+pub(crate) fn signed_value(bits: u32, number: Whole) -> Result<Value, ReadFault>
     requires some { 1 ≤ bits }
     requires few { bits ≤ 128 }
     ensures { result ≡ signed_reading bits (Some (with_sign number.negative number.magnitude)) }
@@ -78,7 +78,7 @@ fn signed_value(bits: u32, number: Whole) -> Result<Value, ReadFault>
 }
 
 /// The value of an unsigned type of so many bits.
-fn unsigned_value(bits: u32, number: Whole) -> Result<Value, ReadFault>
+pub(crate) fn unsigned_value(bits: u32, number: Whole) -> Result<Value, ReadFault>
     requires some { 1 ≤ bits }
     requires few { bits ≤ 128 }
     ensures { result ≡ unsigned_reading bits (Some (with_sign number.negative number.magnitude)) }

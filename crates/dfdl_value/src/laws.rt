@@ -4,8 +4,10 @@ ghost use Rattle.hex.specs.Hex.{IsBytes, decode_of, encode_upper};
 ghost use Rattle.dfdl_value.specs.Decimal.{DecimalNumber, SameNumber, fixed_of};
 ghost use Rattle.dfdl_value.specs.Reading.{bytes_reading, reading_of};
 ghost use Rattle.dfdl_value.specs.Texts.{trimmed};
-ghost use Rattle.dfdl_value.specs.Types.{IsOfType};
+ghost use Rattle.dfdl_value.specs.Types.{IsOfType, IsPlain};
 ghost use Rattle.dfdl_value.specs.Writing.{text_of};
+ghost use Rattle.dfdl_value.specs.declared.simple.Simple.{Simple as AnySimple};
+ghost use Rattle.dfdl_value.specs.declared.value.Value.{Value as AnyValue};
 ghost use Rattle.dfdl_value.specs.declared.value.Value.TheVariants.{Bytes};
 
 use super::fixed::Fixed;
@@ -32,6 +34,11 @@ pub fn text_is_read_back(kind: Simple, value: &Value)
         bytes_are_read_back(held);
     }
 }
+
+/// The same of every value that holds no memory.
+pub fn plain_text_is_read_back()
+    ensures { (kind : AnySimple) (value : AnyValue) → IsPlain value → IsOfType kind value → reading_of kind (text_of value) ≡ Ok value }
+{}
 
 /// The form that `Fixed` has for a number is the one that writes the same number.
 pub fn form_writes_the_number(form: &Fixed)

@@ -11,6 +11,7 @@ pub mod fixed;
 pub mod held;
 mod integer;
 pub mod laws;
+pub mod number;
 mod octets;
 mod product;
 mod quotient;
@@ -23,6 +24,7 @@ mod write;
 
 pub use fixed::{DivFault, Fixed, Overflow};
 pub use held::{ByteValue, TextValue};
+pub use number::value_of_number;
 pub use read::ReadFault;
 pub use simple::{Form, Simple};
 pub use value::Value;

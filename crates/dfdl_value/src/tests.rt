@@ -104,6 +104,12 @@ fn sums_and_differences(rt: HostRuntime) -> Result<(), Fail> {
             "12345678911111111100.12345678900000001",
         ),
         ("0", "-7.25", "-7.25", "7.25"),
+        (
+            "99999999999999999999999999999999999998",
+            "1",
+            "99999999999999999999999999999999999999",
+            "99999999999999999999999999999999999997",
+        ),
     ];
     for (left, right, sum, difference) in rows {
         let (left, right) = (number(rt.alloc(), left)?, number(rt.alloc(), right)?);

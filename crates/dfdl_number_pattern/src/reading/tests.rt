@@ -1,4 +1,4 @@
-use crate::{NumberForm, NumberPattern, PatternFault, Rounding, read_pattern};
+use crate::{NumberForm, NumberPattern, PatternFault, Point, Rounding, read_pattern};
 use std::alloc::Global;
 use std::test::Fail;
 
@@ -33,6 +33,14 @@ fn reads_digits(rt: HostRuntime) -> Result<(), Fail> {
     assert_eq!(rt; digits_of(rt.alloc(), "#0.0#")?, [1, 2, 0, 1, 2, 0]);
     assert_eq!(rt; digits_of(rt.alloc(), "#0.")?, [1, 2, 0, 0, 0, 0]);
     assert_eq!(rt; digits_of(rt.alloc(), "#0V")?, [1, 2, 0, 0, 0, 0]);
+    Ok(())
+}
+
+#[test]
+fn tells_how_the_fraction_is_written(rt: HostRuntime) -> Result<(), Fail> {
+    assert_eq!(rt; read_pattern(rt.alloc(), "#0")?.point, Point::Absent);
+    assert_eq!(rt; read_pattern(rt.alloc(), "#0.")?.point, Point::Written);
+    assert_eq!(rt; read_pattern(rt.alloc(), "#0V")?.point, Point::Implied);
     Ok(())
 }
 

@@ -1,18 +1,17 @@
 -- The walk over the events of a record's values.
-use Rattle.std.proofs.Common.{◌≡◌, ◌≢◌, ℕ, suc, ◌+◌, ◌<◌, nat_eq, true, false, cond, List, [], ◌∷◌, length, drop, map, All, Option, None, Some, option_map, IsSome, refl, sym, ap, subst, ◌∙◌, arith}
+use Rattle.std.proofs.Common.{◌≡◌, ◌≢◌, ℕ, suc, nat_eq, true, false, cond, List, [], ◌∷◌, drop, map, All, Option, None, Some, option_map, IsSome, refl, sym, ap, subst, ◌∙◌, arith}
 use Rattle.std.specs.Option.{unwrap_or}
 use Rattle.std.specs.List.{AllPairs}
 use Rattle.std.proofs.lemmas.Bool.{eq-eqb, eqb-true}
 use Rattle.std.proofs.lemmas.List.Elements.{All-head, All-tail}
 use Rattle.dfdl_value.specs.declared.value.Value.{Value}
 use Rattle.dfdl_terms.specs.declared.event.Event.{Event}
-use Rattle.dfdl_terms.specs.declared.event.Event.TheVariants.{Simple, End}
 use Rattle.dfdl_terms.specs.Rows.{Table}
 use Rattle.dfdl_terms.specs.Record.{Field, Record, Root, all_of, field_at, fields_at, root_at, record_of}
 use Rattle.dfdl_json.specs.Fitting.{child_rows, content_events, record_events}
-use Rattle.dfdl_record.specs.Pieces.{IsWholeField, IsWholeRecord, Unparsed, unparsed_of, with_piece, piece_of}
+use Rattle.dfdl_record.specs.Pieces.{IsWholeField, IsWholeRecord, unparsed_of, with_piece, piece_of}
 use Rattle.dfdl_record.specs.Shown.{first_value}
-use Rattle.dfdl_record.proofs.FieldLists.{IsSplit, described_is, split_all}
+use Rattle.dfdl_record.proofs.FieldLists.{described_is, split_all}
 use Rattle.dfdl_record.proofs.Walks.{after_value, walked}
 
 module _ {A : Type 0} (R : A → A → Type 0) (x : A) (xs : List A) (pairs : AllPairs R (x ∷ xs)) where

@@ -1,7 +1,6 @@
 -- The walk over a record's rows and events, side by side.
-use Rattle.std.proofs.Common.{◌≡◌, ◌≢◌, ℕ, ◌+◌, ◌<◌, ◌≤◌, nat_eq, true, false, cond, List, [], ◌∷◌, ◌++◌, length, drop, map, get_or, All, Option, None, Some, option_map, IsSome, refl, sym, ap, subst, ◌∙◌, append_assoc, arith}
+use Rattle.std.proofs.Common.{◌≡◌, ℕ, ◌+◌, ◌<◌, ◌≤◌, nat_eq, true, false, cond, List, [], ◌∷◌, ◌++◌, length, drop, map, get_or, All, Option, None, Some, IsSome, refl, sym, ap, subst, ◌∙◌, append_assoc}
 use Rattle.std.specs.Option.{unwrap_or}
-use Rattle.std.specs.List.{AllPairs}
 use Rattle.std.proofs.Math.ListN.{drop_of_length-le}
 use Rattle.std.proofs.lemmas.List.{append-nil, drop-drop}
 use Rattle.std.proofs.lemmas.List.Elements.{All-head, All-tail}
@@ -12,10 +11,10 @@ use Rattle.dfdl_terms.specs.declared.event.Event.{Event}
 use Rattle.dfdl_terms.specs.declared.event.Event.TheVariants.{Start, Simple, Nil, End}
 use Rattle.dfdl_terms.specs.Rows.{Table}
 use Rattle.dfdl_terms.specs.Record.{Field, all_of, field_at, fields_at}
-use Rattle.dfdl_json.specs.Fitting.{Fits, FitsContent, ends, passes, takes, child_rows, content_events, root_row}
-use Rattle.dfdl_record.specs.Pieces.{IsWholeField, Unparsed, piece_of, unparsed_of, with_piece}
+use Rattle.dfdl_json.specs.Fitting.{Fits, FitsContent, passes, takes, child_rows}
+use Rattle.dfdl_record.specs.Pieces.{IsWholeField, Unparsed, piece_of, with_piece}
 use Rattle.dfdl_record.specs.Shown.{first_value}
-use Rattle.dfdl_record.proofs.FieldLists.{left_at, next_field, split_all}
+use Rattle.dfdl_record.proofs.FieldLists.{left_at, next_field}
 
 -- a field with its value, if it has one, before the others
 abbrev pub after_value : Field → Option Value → Unparsed → Unparsed

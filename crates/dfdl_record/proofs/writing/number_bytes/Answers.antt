@@ -1,6 +1,5 @@
 use Rattle.std.proofs.Common.{◌≡◌, ◌<◌, length, refl, ◌∙◌, arith}
 use Rattle.std.proofs.lemmas.List.{length-set}
-use Rattle.dfdl_bits.specs.declared.order.ByteOrder.TheVariants.{Big, Little}
 use Rattle.dfdl_record.proofs.Bytes.{no_byte, one_byte, all_bytes, power_at}
 use Rattle.dfdl_record.proofs.writing.number_bytes.Goals.{in-Big, in-Little}
 use Rattle.dfdl_record.proofs.writing.number_bytes.Goals as goal

@@ -1,0 +1,12 @@
+use Rattle.std.proofs.Common.{◌≡◌, ◌≤◌, length}
+use Rattle.dfdl_value.specs.Texts.{is_zero, without_trailing}
+use Rattle.dfdl_number_text.proofs.body_digits.without_zeros.Given as goal
+
+abbrev pub invariant-loop-rest : goal.invariant-loop-rest
+invariant-loop-rest l = record {
+  kept : without_trailing is_zero l.rest ≡ without_trailing is_zero l.fn.digits;
+  fewer : length l.rest ≤ length l.fn.digits;
+}
+
+abbrev pub decreases-loop-rest : goal.decreases-loop-rest
+decreases-loop-rest l = length l.rest

@@ -1,0 +1,8 @@
+pub mod Body
+pub mod Digits
+pub mod ReadBack
+pub mod ReadShown
+pub mod Reading
+pub mod Rounding
+pub mod Writing
+pub mod Written

@@ -1,0 +1,106 @@
+-- What characters a value is written as.
+use Rattle.std.specs.Prelude.{ℕ, ◌+◌, ◌*◌, ◌/◌, ◌%◌, ◌^◌, ◌==◌, ◌&&◌, ◌||◌, Bool, true, false, not, max, nat_lt, List, [], ◌∷◌, ◌++◌, length, take, drop, map, chars, Option, Some, None, option_map, option_and_then, ℤ, pos, int_lt, unsigned_abs, if◌then◌else◌}
+use Rattle.dfdl_value.specs.Decimal.{DecimalNumber}
+use Rattle.dfdl_value.specs.Texts.{is_zero, without_trailing}
+use Rattle.dfdl_value.specs.declared.value.Value.{Value}
+use Rattle.dfdl_value.specs.declared.value.Value.TheVariants.{Int, Uns, Dec, Text, Truth, Bytes}
+use Rattle.dfdl_number_pattern.specs.declared.form.NumberForm.{NumberForm}
+use Rattle.dfdl_number_pattern.specs.declared.form.Rounding.{Rounding}
+use Rattle.dfdl_number_pattern.specs.declared.pattern.NumberPattern.{NumberPattern}
+use Rattle.dfdl_number_pattern.specs.declared.pattern.Point.{Point}
+use Rattle.dfdl_number_pattern.specs.declared.pattern.Point.TheVariants.{Absent, Written, Implied}
+use Rattle.dfdl_number_text.specs.Digits.{digits_at, digit_count, digit_character}
+use Rattle.dfdl_number_text.specs.Rounding.{rounded}
+
+-- the number of a value, if it is one
+abbrev pub number_of_value : Value → Option DecimalNumber
+number_of_value (Int z) = Some (record { mantissa = z; scale = 0 })
+number_of_value (Uns n) = Some (record { mantissa = pos n; scale = 0 })
+number_of_value (Dec d) = Some d
+number_of_value (Text t) = None
+number_of_value (Truth b) = None
+number_of_value (Bytes b) = None
+
+-- a number is below zero
+abbrev pub is_below_zero : DecimalNumber → Bool
+is_below_zero number = int_lt number.mantissa (pos 0)
+
+-- how many fraction digits a number is rounded to, or has behind the implied decimal point
+abbrev pub places_of : NumberPattern → Point → ℕ
+places_of pattern Absent = 0
+places_of pattern Written = pattern.greatest_fraction
+places_of pattern Implied = pattern.implied
+
+-- the size of a number times ten to the power of `places`, rounded, or whole where the decimal point is implied
+abbrev pub size_at : Rounding → Point → ℕ → DecimalNumber → Option ℕ
+size_at mode Implied places number =
+    if unsigned_abs number.mantissa * 10 ^ places % 10 ^ number.scale == 0
+    then Some (unsigned_abs number.mantissa * 10 ^ places / 10 ^ number.scale)
+    else None
+size_at mode _ places number = rounded mode (is_below_zero number) (unsigned_abs number.mantissa * 10 ^ places) (10 ^ number.scale)
+
+-- Digits with a separator behind each one that has a whole number of groups behind it.
+abbrev pub grouped : ℕ → ℕ → List ℕ → List ℕ
+grouped separator group [] = []
+grouped separator group (digit ∷ rest) =
+    if not (group == 0) && (nat_lt 0 (length rest) && (length rest % group == 0))
+    then digit ∷ (separator ∷ grouped separator group rest)
+    else digit ∷ grouped separator group rest
+
+-- the integer digits: at least so many, and none for 0 by itself
+abbrev pub integer_digits : ℕ → ℕ → List ℕ
+integer_digits least n = map digit_character (digits_at 10 (max least (digit_count 10 39 n)) n)
+
+-- the fraction digits: the zeros at the end are left away down to the least number of digits
+abbrev pub fraction_digits : ℕ → ℕ → ℕ → List ℕ
+fraction_digits least places n =
+    let digits = map digit_character (digits_at 10 places n) in
+    take least digits ++ without_trailing is_zero (drop least digits)
+
+-- fraction digits behind the decimal separator, which stands only in front of digits
+abbrev pub with_separator : ℕ → List ℕ → List ℕ
+with_separator decimal [] = []
+with_separator decimal (digit ∷ digits) = decimal ∷ (digit ∷ digits)
+
+-- what stands behind the integer digits
+abbrev pub behind_integer : NumberForm → NumberPattern → Point → ℕ → List ℕ
+behind_integer form pattern Absent size = []
+behind_integer form pattern Written size = with_separator form.decimal (fraction_digits pattern.least_fraction pattern.greatest_fraction size)
+behind_integer form pattern Implied size = map digit_character (digits_at 10 pattern.implied size)
+
+-- the body of a number of this size, which counts the last fraction digit
+abbrev pub body_text : NumberForm → NumberPattern → ℕ → List ℕ
+body_text form pattern size =
+    grouped form.grouping pattern.group_size (integer_digits pattern.least_integer (size / 10 ^ places_of pattern pattern.point))
+    ++ behind_integer form pattern pattern.point size
+
+-- the body between the prefix and the suffix; a number that was rounded to zero is positive
+abbrev pub signed_text : NumberForm → NumberPattern → Bool → ℕ → List ℕ
+signed_text form pattern negative size =
+    if negative && not (size == 0)
+    then chars pattern.negative_prefix.items ++ (body_text form pattern size ++ chars pattern.negative_suffix.items)
+    else chars pattern.prefix.items ++ (body_text form pattern size ++ chars pattern.suffix.items)
+
+-- the text of a number by a pattern
+abbrev pub pattern_text : NumberForm → NumberPattern → DecimalNumber → Option (List ℕ)
+pattern_text form pattern number =
+    option_map (signed_text form pattern (is_below_zero number)) (size_at form.rounding pattern.point (places_of pattern pattern.point) number)
+
+-- plain digits of a base, at least one
+abbrev pub base_digits : ℕ → ℕ → List ℕ
+base_digits base n = map digit_character (digits_at base (max 1 (digit_count base 128 n)) n)
+
+-- the text of a value in a base: only integers have one, and none below zero
+abbrev pub base_text : ℕ → Value → Option (List ℕ)
+base_text base (Int z) = if int_lt z (pos 0) then None else Some (base_digits base (unsigned_abs z))
+base_text base (Uns n) = Some (base_digits base n)
+base_text base _ = None
+
+-- by the pattern, or by the base where there is none
+abbrev pub writing_by : NumberForm → Option NumberPattern → Value → Option (List ℕ)
+writing_by form (Some pattern) value = option_and_then (pattern_text form pattern) (number_of_value value)
+writing_by form None value = base_text form.base value
+
+-- what characters a value is written as, if it has a text in the form
+abbrev pub writing : NumberForm → Value → Option (List ℕ)
+writing form value = writing_by form form.pattern value

@@ -1,0 +1,58 @@
+-- What the parts of the unparser answer.
+use Rattle.std.specs.Prelude.{◌≡◌, ℕ, ◌+◌, ◌-◌, ◌*◌, ◌^◌, ◌%◌, ◌<◌, ◌≤◌, ◌==◌, ◌&&◌, not, nat_lt, if◌then◌else◌, List, [], ◌∷◌, ◌++◌, length, take, drop, map, Option, Some, None, Result, Ok, Err, unsigned_abs}
+use Rattle.dfdl_value.specs.Decimal.{DecimalNumber}
+use Rattle.dfdl_number_text.specs.declared.fault.NoFit.{NoFit}
+use Rattle.dfdl_number_text.specs.Digits.{digits_at, digit_character}
+use Rattle.dfdl_number_text.specs.Writing.{grouped, is_below_zero}
+use Rattle.dfdl_number_text.specs.declared.digits.Groups.{Groups}
+use Rattle.dfdl_number_text.specs.declared.rounding.Number.{Number}
+use Rattle.dfdl_number_text.specs.declared.rounding.Size.{Size}
+
+-- the number as a sign, a size and a scale
+pub record IsNumber (number : Number) (d : DecimalNumber) : Type 0 where
+  pub negative : number.negative ≡ is_below_zero d
+  pub magnitude : number.magnitude ≡ unsigned_abs d.mantissa
+  pub scale : number.scale ≡ d.scale
+
+abbrev pub ShowsNumber : Option Number → Option DecimalNumber → Type 0
+ShowsNumber None None = Unit {0}
+ShowsNumber (Some number) (Some d) = IsNumber number d
+ShowsNumber _ _ = ⊥
+
+-- the size as an integer part and so many fraction digits
+pub record IsSize (places : ℕ) (size : Size) (n : ℕ) : Type 0 where
+  pub value : size.whole * 10 ^ places + size.fraction ≡ n
+  pub fraction : size.fraction < 10 ^ places
+
+abbrev pub ShowsSize : ℕ → Option Size → Option ℕ → Type 0
+ShowsSize places None None = Unit {0}
+ShowsSize places (Some size) (Some n) = IsSize places size n
+ShowsSize places _ _ = ⊥
+
+-- so many digits of a base are what a number needs; 0 needs none
+pub record HasDigits (base n count : ℕ) : Type 0 where
+  pub below : n < base ^ count
+  pub above : 0 < count → base ^ (count - 1) ≤ n
+
+-- characters are put into a text from a place on
+abbrev pub IsPut : List ℕ → ℕ → List ℕ → List ℕ → Type 0
+IsPut before at characters after = after ≡ take at before ++ (characters ++ drop (at + length characters) before)
+
+-- the separator behind a digit that has so many digits behind it, where a group ends there
+abbrev pub separator_behind : ℕ → ℕ → ℕ → List ℕ
+separator_behind separator group behind = if not (group == 0) && (nat_lt 0 behind && (behind % group == 0)) then separator ∷ [] else []
+
+-- the characters of the last digits of a number in a base, in groups
+abbrev pub digit_text : Groups → ℕ → ℕ → ℕ → List ℕ
+digit_text groups base count n = grouped groups.separator groups.size (map digit_character (digits_at base count n))
+
+-- the text is written to the front of the room, or nothing is
+pub record IsFront (count : ℕ) (text before after : List ℕ) : Type 0 where
+  pub count_is : count ≡ length text
+  pub inside : count ≤ length before
+  pub put : IsPut before 0 text after
+
+abbrev pub IsWritten : Result ℕ NoFit → Option (List ℕ) → List ℕ → List ℕ → Type 0
+IsWritten (Ok count) (Some text) before after = IsFront count text before after
+IsWritten (Err fault) None before after = after ≡ before
+IsWritten _ _ before after = ⊥

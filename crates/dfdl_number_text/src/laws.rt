@@ -1,0 +1,35 @@
+// Laws of the definitions that the contracts cite. The calls do nothing.
+ghost use Rattle.std.specs.Prelude.{◌≡◌, ◌≢◌, ℕ, true, false, List, ◌∷◌, Some, None, Ok, IsOk, pos};
+ghost use Rattle.dfdl_value.specs.Decimal.{DecimalNumber};
+ghost use Rattle.dfdl_value.specs.Numbers.{number_reading};
+ghost use Rattle.dfdl_value.specs.Texts.{with_sign};
+ghost use Rattle.dfdl_value.specs.Types.{IsOfType, form_of};
+ghost use Rattle.dfdl_value.specs.declared.simple.Simple.{Simple};
+ghost use Rattle.dfdl_value.specs.declared.value.Value.{Value};
+ghost use Rattle.dfdl_number_pattern.specs.declared.form.NumberForm.{NumberForm};
+ghost use Rattle.dfdl_number_pattern.specs.declared.pattern.NumberPattern.{NumberPattern};
+ghost use Rattle.dfdl_number_text.specs.ReadBack.{HasPlainSeparators, NeedsNoRounding, WritesZero, HasOneSign, is_of_body, tells_sign};
+ghost use Rattle.dfdl_number_text.specs.Reading.{reading, of_value};
+ghost use Rattle.dfdl_number_text.specs.Writing.{number_of_value, is_below_zero, places_of, size_at, writing};
+
+/// What a value of a type is written as is read as that value, and as no other (`pattern`, `base`). What a pattern rounds is
+/// read as the rounded value (`rounded`; `size` counts the last fraction digit). A minus before the positive prefix tells
+/// the sign (`minus`).
+pub fn read_back()
+    ensures pattern { (form : NumberForm) (pattern : NumberPattern) (kind : Simple) (value : Value) (number : DecimalNumber) (text : List ℕ)
+        → form.pattern ≡ Some pattern → HasPlainSeparators form pattern → IsOfType kind value → number_of_value value ≡ Some number
+        → NeedsNoRounding pattern pattern.point number → (number.mantissa ≡ pos 0 → WritesZero form pattern)
+        → (is_below_zero number ≡ true → HasOneSign form pattern text)
+        → writing form value ≡ Some text → reading form kind text ≡ Ok value }
+    ensures rounded { (form : NumberForm) (pattern : NumberPattern) (kind : Simple) (value : Value) (number : DecimalNumber) (size : ℕ) (text : List ℕ)
+        → form.pattern ≡ Some pattern → HasPlainSeparators form pattern → IsOfType kind value → number_of_value value ≡ Some number
+        → size_at form.rounding pattern.point (places_of pattern pattern.point) number ≡ Some size → (size ≡ 0 → WritesZero form pattern)
+        → (is_below_zero number ≡ true → size ≢ 0 → HasOneSign form pattern text)
+        → writing form value ≡ Some text
+        → (reading form kind text ≡ of_value (number_reading (form_of kind) (record { mantissa = with_sign (is_below_zero number) size; scale = places_of pattern pattern.point })))
+        × IsOk (reading form kind text) }
+    ensures minus { (form : NumberForm) (pattern : NumberPattern) → pattern.negative_prefix.items ≡ 45 ∷ pattern.prefix.items
+        → is_of_body form pattern 45 ≡ false → tells_sign form pattern ≡ true }
+    ensures base { (form : NumberForm) (kind : Simple) (value : Value) (text : List ℕ) → form.pattern ≡ None → IsOfType kind value
+        → writing form value ≡ Some text → reading form kind text ≡ Ok value }
+{}

@@ -1,0 +1,50 @@
+// The reading of a text number.
+ghost use Rattle.std.specs.Prelude.{◌≡◌, chars, IsUtf8};
+ghost use Rattle.dfdl_number_text.specs.Reading.{pattern_number as pattern_number_of, reading, signed_number as signed_number_of};
+ghost use Rattle.dfdl_number_text.specs.ReadShown.{Shows};
+
+use crate::body::body_number;
+use crate::fault::NumberFault;
+use crate::read_affix::{affix, between};
+use crate::read_base::read_in_base;
+use crate::read_number::{Number, value_of};
+use dfdl_number_pattern::{NumberForm, NumberPattern};
+use dfdl_value::{Simple, Value};
+
+fn signed_number(form: &NumberForm, pattern: &NumberPattern, negative: bool, prefix: &[u8], suffix: &[u8], text: &[char]) -> Option<Number>
+    requires prefix { IsUtf8 prefix.now }
+    requires suffix { IsUtf8 suffix.now }
+    ensures { Shows result (signed_number_of form.now pattern.now negative (chars prefix.now) (chars suffix.now) text.now) }
+{
+    match between(text, affix(prefix), affix(suffix)) {
+        Some(body) => body_number(form, pattern, negative, body),
+        None => None,
+    }
+}
+
+/// The number that a text writes by a pattern, if it writes one.
+fn pattern_number(form: &NumberForm, pattern: &NumberPattern, text: &[char]) -> Option<Number>
+    ensures { Shows result (pattern_number_of form.now pattern.now text.now) }
+{
+    match signed_number(form, pattern, false, &pattern.prefix, &pattern.suffix, text) {
+        Some(number) => Some(number),
+        None => signed_number(
+            form,
+            pattern,
+            true,
+            &pattern.negative_prefix,
+            &pattern.negative_suffix,
+            text,
+        ),
+    }
+}
+
+/// The value of a type that a text number is. No memory is taken.
+pub fn read(form: &NumberForm, kind: Simple, chars: &[char]) -> Result<Value, NumberFault>
+    ensures { result ≡ reading form.now kind chars.now }
+{
+    match &form.pattern {
+        Some(pattern) => value_of(kind, pattern_number(form, pattern, chars)),
+        None => read_in_base(form.base, kind, chars),
+    }
+}

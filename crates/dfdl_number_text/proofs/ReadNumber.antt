@@ -26,7 +26,7 @@ pub value_if : (kind : Form) (number : Number) (d : Option DecimalNumber) (r : R
 value_if kind number None r shows value = absurd shows
 value_if kind number (Some d) r shows value =
     ap of_value (value shows.magnitude shows.held shows.ends
-        ∙ sym (number_reading-same kind d (record { mantissa = with_sign number.negative shows.magnitude; scale = number.scale }) shows.same))
+    ∙ sym (number_reading-same kind d (record { mantissa = with_sign number.negative shows.magnitude; scale = number.scale }) shows.same))
 
 -- what is shown of a number that there is not
 pub Shows-none : (kind : Form) (d : Option DecimalNumber) → Shows None d → number_if kind None ≡ number_if kind d

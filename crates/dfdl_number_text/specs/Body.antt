@@ -14,7 +14,7 @@ use Rattle.dfdl_number_pattern.specs.declared.pattern.Point.TheVariants.{Absent,
 abbrev pub between : List ℕ → List ℕ → List ℕ → Option (List ℕ)
 between prefix suffix text =
     if nat_le (length prefix + length suffix) (length text)
-        && (bytes_eq (take (length prefix) text) prefix && bytes_eq (drop (length text - length suffix) text) suffix)
+    && (bytes_eq (take (length prefix) text) prefix && bytes_eq (drop (length text - length suffix) text) suffix)
     then Some (take (length text - length suffix - length prefix) (drop (length prefix) text))
     else None
 

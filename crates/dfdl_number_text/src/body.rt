@@ -124,7 +124,9 @@ fn are_fraction_digits(fraction: &[char]) -> bool
 fn are_digits(separator: Option<char>, whole: &[char], fraction: &[char]) -> bool
     ensures { (scale : ℕ) → result ≡ are_digits_in separator (record { whole = whole.now; fraction = fraction.now; scale = scale }) }
 {
-    are_grouped(separator, whole) && are_fraction_digits(fraction) && !(whole.is_empty() && fraction.is_empty())
+    are_grouped(separator, whole)
+        && are_fraction_digits(fraction)
+        && !(whole.is_empty() && fraction.is_empty())
 }
 
 /// The number that parts write, without the zeros at the end of the fraction.
@@ -143,7 +145,12 @@ fn number_of(negative: bool, whole: &[char], fraction: &[char], scale: usize) ->
 }
 
 /// The number that a body writes, if it writes one.
-pub fn body_number(form: &NumberForm, pattern: &NumberPattern, negative: bool, body: &[char]) -> Option<Number>
+pub fn body_number(
+    form: &NumberForm,
+    pattern: &NumberPattern,
+    negative: bool,
+    body: &[char],
+) -> Option<Number>
     ensures { Shows result (body_number_of form.now pattern.now negative body.now) }
 {
     let parts = split_body(pattern.point, form.decimal, pattern.implied, body);

@@ -57,7 +57,10 @@ pub fn read_in_base(base: u8, kind: Simple, text: &[char]) -> Result<Value, Numb
     ensures { result ≡ base_reading base (form_of kind) text.now }
 {
     match kind.form() {
-        Form::Signed { .. } | Form::Unsigned { .. } => value_of(kind, base_number(u32::from(base), text)),
+        Form::Signed { .. } | Form::Unsigned { .. } => value_of(
+            kind,
+            base_number(u32::from(base), text),
+        ),
         _ => Err(NumberFault::NotANumber),
     }
 }

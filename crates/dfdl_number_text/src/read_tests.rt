@@ -45,6 +45,7 @@ fn said(alloc: Global, form: &NumberForm, kind: Simple, text: &str) -> Result<Te
 }
 
 const NONE: &str = "not a number of the pattern";
+
 const PAST: &str = "a number outside of the type";
 
 // pattern, type, text, the value's text
@@ -155,11 +156,20 @@ fn fraction(alloc: Global, zeros: usize, end: &str) -> Result<String, Fail> {
 fn reads_long_fractions(rt: HostRuntime) -> Result<(), Fail> {
     let form = by_pattern(rt.alloc(), "0.0")?;
     let longest = fraction(rt.alloc(), 255, "1")?;
-    assert_ne!(rt; said(rt.alloc(), &form, Simple::Decimal, &longest)?.as_str(), PAST);
+    assert_ne!(rt;
+        said(rt.alloc(), &form, Simple::Decimal, &longest)?.as_str(),
+        PAST
+    );
     let longer = fraction(rt.alloc(), 256, "1")?;
-    assert_eq!(rt; said(rt.alloc(), &form, Simple::Decimal, &longer)?.as_str(), PAST);
+    assert_eq!(rt;
+        said(rt.alloc(), &form, Simple::Decimal, &longer)?.as_str(),
+        PAST
+    );
     let zeros = fraction(rt.alloc(), 300, "0")?;
-    assert_eq!(rt; said(rt.alloc(), &form, Simple::Decimal, &zeros)?.as_str(), "0");
+    assert_eq!(rt;
+        said(rt.alloc(), &form, Simple::Decimal, &zeros)?.as_str(),
+        "0"
+    );
     Ok(())
 }
 
@@ -167,7 +177,10 @@ fn reads_long_fractions(rt: HostRuntime) -> Result<(), Fail> {
 fn reads_trailing_zeros(rt: HostRuntime) -> Result<(), Fail> {
     let form = by_pattern(rt.alloc(), "0.0")?;
     let half = format!(in rt.alloc(); "{:0<300}", ".5")?;
-    assert_eq!(rt; said(rt.alloc(), &form, Simple::Decimal, &half)?.as_str(), "0.5");
+    assert_eq!(rt;
+        said(rt.alloc(), &form, Simple::Decimal, &half)?.as_str(),
+        "0.5"
+    );
     Ok(())
 }
 
@@ -206,7 +219,13 @@ fn reads_base_16(rt: HostRuntime) -> Result<(), Fail> {
 fn reads_base_2(rt: HostRuntime) -> Result<(), Fail> {
     let form = by_base_2();
     assert_eq!(rt; said(rt.alloc(), &form, Simple::Byte, "101")?.as_str(), "5");
-    assert_eq!(rt; said(rt.alloc(), &form, Simple::Byte, "102")?.as_str(), NONE);
-    assert_eq!(rt; said(rt.alloc(), &form, Simple::Byte, "10000000")?.as_str(), PAST);
+    assert_eq!(rt;
+        said(rt.alloc(), &form, Simple::Byte, "102")?.as_str(),
+        NONE
+    );
+    assert_eq!(rt;
+        said(rt.alloc(), &form, Simple::Byte, "10000000")?.as_str(),
+        PAST
+    );
     Ok(())
 }

@@ -11,7 +11,14 @@ use crate::read_number::{Number, value_of};
 use dfdl_number_pattern::{NumberForm, NumberPattern};
 use dfdl_value::{Simple, Value};
 
-fn signed_number(form: &NumberForm, pattern: &NumberPattern, negative: bool, prefix: &[u8], suffix: &[u8], text: &[char]) -> Option<Number>
+fn signed_number(
+    form: &NumberForm,
+    pattern: &NumberPattern,
+    negative: bool,
+    prefix: &[u8],
+    suffix: &[u8],
+    text: &[char],
+) -> Option<Number>
     requires prefix { IsUtf8 prefix.now }
     requires suffix { IsUtf8 suffix.now }
     ensures { Shows result (signed_number_of form.now pattern.now negative (chars prefix.now) (chars suffix.now) text.now) }

@@ -1,5 +1,5 @@
 -- Texts padded to a length, trimmed again and cut. 'Simple Types' (textPadKind, textTrimKind, truncateSpecifiedLengthString).
-use Rattle.std.specs.Prelude.{◌≡◌, ℕ, ◌-◌, ◌/◌, List, [], ◌∷◌, ◌++◌, length, take, replicate, Option, Some, None, Bool, false, if◌then◌else◌, ◌==◌}
+use Rattle.std.specs.Prelude.{◌≡◌, ℕ, ◌-◌, ◌/◌, List, [], ◌∷◌, ◌++◌, length, take, replicate, Option, Some, None, Bool, false, ◌==◌}
 use Rattle.dfdl_value.specs.Texts.{without_leading, without_trailing}
 use Rattle.dfdl_literals.specs.declared.forms.Justify.{Justify}
 use Rattle.dfdl_literals.specs.declared.forms.Justify.TheVariants.{Left, Right, Center}

@@ -1,5 +1,4 @@
 use Rattle.std.proofs.Common.{sym, ◌∙◌}
-use Rattle.dfdl_number_text.specs.Body.{Parts}
 use Rattle.dfdl_number_text.proofs.BodyParts.{fraction_digits, shown, not_shown}
 use Rattle.dfdl_number_text.proofs.body.body_number.Goals as goal
 

@@ -1,7 +1,7 @@
 use Rattle.std.proofs.Common.{◌≡◌, ◌+◌, ◌-◌, ◌*◌, true, drop, filter, ap, sym, ◌∙◌, arith}
 use Rattle.std.specs.Char.{is_ascii_digit}
 use Rattle.dfdl_value.specs.Texts.{number_after}
-use Rattle.dfdl_number_text.proofs.BodyDigits.{number_after-digit, number_after-other, number_after-digit_ge}
+use Rattle.dfdl_number_text.proofs.BodyDigits.{number_after-digit, number_after-digit_ge}
 use Rattle.dfdl_number_text.proofs.body_digits.appended.Goals as goal
 
 pub returns-in_err-shifted : goal.returns-in_err-shifted

@@ -14,4 +14,4 @@ loop-rest-preserved c = record {
 pub returns-then-last-ne48-clause-kept : goal.returns-then-last-ne48-clause-kept
 returns-then-last-ne48-clause-kept c =
     sym (without_trailing-last_stops is_zero c.loop-rest.rest.now c.in-len1-up.len_at_least
-        (last_other c.loop-rest.rest.now c.last-item.result c.in-len1-up.len_at_least c.last-item.is c.if-last-ne48.true)) ∙ c.loop-rest.invariant.kept
+    (last_other c.loop-rest.rest.now c.last-item.result c.in-len1-up.len_at_least c.last-item.is c.if-last-ne48.true)) ∙ c.loop-rest.invariant.kept

@@ -1,4 +1,4 @@
-use Rattle.std.proofs.Common.{◌≡◌, ◌+◌, ◌*◌, ◌<◌, nat_lt, true, false, drop, ap, sym, subst, ◌∙◌, arith}
+use Rattle.std.proofs.Common.{◌≡◌, ◌+◌, ◌*◌, nat_lt, true, false, drop, ap, sym, ◌∙◌, arith}
 use Rattle.std.specs.Char.{digit_value}
 use Rattle.std.proofs.lemmas.Bool.{le-ltb}
 use Rattle.std.proofs.lemmas.List.Folds.{list_all_at}
@@ -7,7 +7,6 @@ use Rattle.dfdl_number_text.proofs.read_base.held.Goals as goal
 
 false_true : ¬ (false ≡ true)
 false_true e = absurd (cc)
-
 
 pub returns-in_err-digit : goal.returns-in_err-digit
 returns-in_err-digit c =

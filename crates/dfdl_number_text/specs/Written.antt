@@ -14,6 +14,7 @@ pub record IsNumber (number : Number) (d : DecimalNumber) : Type 0 where
   pub magnitude : number.magnitude ≡ unsigned_abs d.mantissa
   pub scale : number.scale ≡ d.scale
 
+-- the number that a value has, if it has one
 abbrev pub ShowsNumber : Option Number → Option DecimalNumber → Type 0
 ShowsNumber None None = Unit {0}
 ShowsNumber (Some number) (Some d) = IsNumber number d
@@ -24,6 +25,7 @@ pub record IsSize (places : ℕ) (size : Size) (n : ℕ) : Type 0 where
   pub value : size.whole * 10 ^ places + size.fraction ≡ n
   pub fraction : size.fraction < 10 ^ places
 
+-- the size that a rounding gave, if it was allowed
 abbrev pub ShowsSize : ℕ → Option Size → Option ℕ → Type 0
 ShowsSize places None None = Unit {0}
 ShowsSize places (Some size) (Some n) = IsSize places size n
@@ -46,12 +48,13 @@ separator_behind separator group behind = if not (group == 0) && (nat_lt 0 behin
 abbrev pub digit_text : Groups → ℕ → ℕ → ℕ → List ℕ
 digit_text groups base count n = grouped groups.separator groups.size (map digit_character (digits_at base count n))
 
--- the text is written to the front of the room, or nothing is
+-- the text stands at the front of the room, and what was behind it there still does
 pub record IsFront (count : ℕ) (text before after : List ℕ) : Type 0 where
   pub count_is : count ≡ length text
   pub inside : count ≤ length before
   pub put : IsPut before 0 text after
 
+-- a text is written if there is one, and otherwise nothing
 abbrev pub IsWritten : Result ℕ NoFit → Option (List ℕ) → List ℕ → List ℕ → Type 0
 IsWritten (Ok count) (Some text) before after = IsFront count text before after
 IsWritten (Err fault) None before after = after ≡ before

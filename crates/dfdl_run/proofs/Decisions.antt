@@ -15,7 +15,7 @@ use Rattle.dfdl_record.specs.Outcomes.{Outcome, Read, Ends, outcome_of}
 use Rattle.dfdl_run.specs.declared.command.Verb.{Verb}
 use Rattle.dfdl_run.proofs.Results.{answer_of-result}
 use Rattle.dfdl_run.specs.Meaning.{answer_of}
-use Rattle.dfdl_run.specs.Schema.{IsSchema}
+use Rattle.dfdl_compile.specs.Schema.{IsSchema}
 
 -- what holds of these bytes, where they are all that is told
 told : (P : List ℕ → Type 0) (file : Option (List ℕ)) (bytes : List ℕ) → IsAll file bytes → P bytes → IfSome file P

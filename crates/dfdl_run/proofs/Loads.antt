@@ -4,8 +4,8 @@ use Rattle.dfdl_doc_tree.specs.Node.{Node}
 use Rattle.dfdl_doc_tree.specs.Document.{IsDocument}
 use Rattle.dfdl_terms.specs.Rows.{Table}
 use Rattle.dfdl_terms.specs.Record.{Record}
-use Rattle.dfdl_run.specs.Schema.{IsRecordTree, IsSchema}
-use Rattle.dfdl_run.specs.Compiled.{IsCompiled}
+use Rattle.dfdl_compile.specs.Schema.{IsRecordTree, IsSchema}
+use Rattle.dfdl_compile.specs.Compiled.{IsCompiled}
 use Rattle.dfdl_run.specs.Loaded.{IsLoaded}
 
 -- elements are a schema of one record

@@ -15,7 +15,7 @@ use Rattle.dfdl_run.specs.declared.command.Verb.{Verb}
 use Rattle.dfdl_run.specs.declared.command.Verb.TheVariants.{Parse, Unparse}
 use Rattle.dfdl_run.specs.Meaning.{answer_of}
 use Rattle.dfdl_run.proofs.Results.{result_excused}
-use Rattle.dfdl_run.specs.Schema.{IsSchema}
+use Rattle.dfdl_compile.specs.Schema.{IsSchema}
 
 -- the answer that was decided is the expected one, or one that comes before it
 pub data Ranked (source_before source_after files_before files_after : ℕ) (decided expected : Answer) : Type 0 where

@@ -8,7 +8,7 @@ use Rattle.dfdl_terms.specs.Rows.{Table}
 use Rattle.dfdl_terms.specs.Record.{Field, all_of, field_at, fields_at}
 use Rattle.dfdl_record.specs.Outcomes.{Outcome, Read, Ends, with_item, with_member, number_at, outcome_of, Item}
 use Rattle.dfdl_run.specs.Reading.{AllRead, EndsAt, reached}
-use Rattle.dfdl_run.proofs.FieldLists.{left_at}
+use Rattle.dfdl_compile.proofs.FieldLists.{left_at}
 
 -- a first value and the others, where each is there
 pub record IsSplit {A : Type 0} (o : Option A) (os : List (Option A)) (ys : List A) : Type 0 where

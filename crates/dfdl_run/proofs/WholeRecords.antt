@@ -15,7 +15,7 @@ use Rattle.dfdl_doc_tree.specs.Node.{Node, node_at}
 use Rattle.dfdl_terms.specs.Record.{Field, Record, all_of, record_of}
 use Rattle.dfdl_terms.specs.Rows.{Table}
 use Rattle.dfdl_record.specs.Pieces.{IsWholeField, IsWholeRecord}
-use Rattle.dfdl_run.specs.Schema.{Outline, IsRecordTree, bits_of, field_of, form_of, integer_form, is_field, kind_of, local_name, order_of, outline_of, outline_record, value_of}
+use Rattle.dfdl_compile.specs.Schema.{Outline, IsRecordTree, bits_of, field_of, form_of, integer_form, is_field, kind_of, local_name, order_of, outline_of, outline_record, value_of}
 use Rattle.dfdl_run.specs.Loaded.{IsLoaded}
 
 -- the type is unsigned, and has this many whole bytes

@@ -12,7 +12,7 @@ use Rattle.dfdl_run.specs.declared.command.Verb.{Verb}
 use Rattle.dfdl_run.specs.Command.{Order, Orders, IsCommand}
 use Rattle.dfdl_run.specs.Expects.{most_schema, most_input}
 use Rattle.dfdl_run.specs.Meaning.{answer_of}
-use Rattle.dfdl_run.specs.Schema.{IsSchema}
+use Rattle.dfdl_compile.specs.Schema.{IsSchema}
 
 -- the schema file is not too long, and a schema of this record and of no other
 pub record IsSchemaOf (described : Record) (schema : List ℕ) : Type 0 where

@@ -11,7 +11,7 @@ use Rattle.dfdl_run.specs.declared.answer.Answer.TheVariants.{Done, LeftOver, Fa
 use Rattle.dfdl_run.specs.Answer.{status_of, written_of, note_of}
 use Rattle.dfdl_run.specs.Command.{Order, Orders, IsCommand}
 use Rattle.dfdl_run.specs.Meaning.{answer_of}
-use Rattle.dfdl_run.specs.Schema.{IsSchema}
+use Rattle.dfdl_compile.specs.Schema.{IsSchema}
 
 -- the most bytes of a schema file, and of the source
 abbrev pub most_schema : ℕ

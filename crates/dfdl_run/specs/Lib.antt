@@ -1,13 +1,9 @@
 pub mod Answer
 pub mod Command
 pub mod CommandShown
-pub mod Compiled
 pub mod Decided
 pub mod Expects
 pub mod Finished
 pub mod Loaded
 pub mod Meaning
-pub mod OutlineShown
 pub mod Reading
-pub mod RecordRows
-pub mod Schema

@@ -2,7 +2,7 @@
 use Rattle.std.specs.Prelude.{◌≡◌, ℕ, List, Some}
 use Rattle.dfdl_terms.specs.Record.{Record, record_of}
 use Rattle.dfdl_terms.specs.Rows.{Table}
-use Rattle.dfdl_run.specs.Schema.{IsSchema}
+use Rattle.dfdl_compile.specs.Schema.{IsSchema}
 
 -- the terms are those of the one record that the bytes are a schema of
 pub record IsLoaded (bytes : List ℕ) (terms : Table) : Type 0 where

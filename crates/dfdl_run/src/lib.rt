@@ -2,24 +2,20 @@
 //
 // `run` reads the words of a command, loads and compiles the schema, reads the source and writes the answer, over the
 // traits of the outside. Its contract cites `Expects` of `specs/Expects.antt`: what a run comes to, as far as the
-// outside tells its bytes. The meaning of the data stands in `specs/Meaning.antt`, the schemas that are carried in
-// `specs/Schema.antt`. It serves 'DFDL Processing Introduction'.
+// outside tells its bytes. The meaning of the data stands in `specs/Meaning.antt`. It serves 'DFDL Processing Introduction'.
 #![tactic(auto)]
 
 pub mod answer;
 pub mod call;
 pub mod chooser;
 mod command;
-mod compile;
 mod delivery;
-mod outline;
 mod parsing;
 mod unparsing;
 
 pub use answer::Answer;
 pub use call::{MOST_INPUT, MOST_SCHEMA, run};
 pub use chooser::{Chooser, FirstReady};
-pub use compile::MOST_FIELDS;
 
 #[cfg(test)]
 mod tests;

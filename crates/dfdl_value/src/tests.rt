@@ -1,5 +1,5 @@
 use super::laws::{form_writes_the_number, text_is_read_back};
-use super::{DivFault, Fixed, ReadFault, Simple, TextValue, Value, VarValues};
+use super::{DivFault, Fixed, ReadFault, Simple, TextValue, Value, VarValues, value_of_number};
 use std::alloc::Global;
 use std::cmp::Ordering;
 use std::test::Fail;
@@ -202,4 +202,18 @@ fn copies_and_values_of_variables(rt: HostRuntime) -> Result<(), Fail> {
     assert_eq!(rt; values.len(), 1);
     assert_eq!(rt; values.pair(0).0, 3);
     Ok(())
+}
+
+#[test]
+fn values_of_numbers(rt: HostRuntime) {
+    let number = value_of_number(Simple::Decimal, true, Some(12345), 2);
+    assert_eq!(rt; number, Ok(Value::Dec(Fixed::new(-12345, 2))));
+    let zero = value_of_number(Simple::Byte, true, Some(0), 1000);
+    assert_eq!(rt; zero, Ok(Value::Int(0)));
+    let whole = value_of_number(Simple::UnsignedByte, false, Some(255), 0);
+    assert_eq!(rt; whole, Ok(Value::Uns(255)));
+    let fraction = value_of_number(Simple::Integer, false, None, 1);
+    assert_eq!(rt; fraction, Err(ReadFault::NotAValue));
+    let wide = value_of_number(Simple::Integer, false, None, 0);
+    assert_eq!(rt; wide, Err(ReadFault::PastType));
 }

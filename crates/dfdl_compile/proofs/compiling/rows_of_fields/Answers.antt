@@ -1,7 +1,7 @@
 use Rattle.dfdl_terms.specs.Rows.{IsPrimitive}
 use Rattle.std.proofs.lemmas.List.Elements.{All-push}
-use Rattle.dfdl_run.proofs.RowLemmas.{made_more_at, sixty_four_fits}
-use Rattle.dfdl_run.proofs.compile.rows_of_fields.Goals as goal
+use Rattle.dfdl_compile.proofs.RowLemmas.{made_more_at, sixty_four_fits}
+use Rattle.dfdl_compile.proofs.compiling.rows_of_fields.Goals as goal
 
 pub loop-at-preserved : goal.loop-at-preserved
 loop-at-preserved c = record {

@@ -5,11 +5,11 @@ ghost use Rattle.dfdl_doc_tree.specs.Node.{node_at};
 ghost use Rattle.dfdl_terms.specs.Record.{Record, all_of, record_of};
 ghost use Rattle.dfdl_terms.specs.declared.row.Row.TheVariants.{Leaf, Elem, Group};
 ghost use Rattle.dfdl_terms.specs.RecordShown.{field_shown};
-ghost use Rattle.dfdl_run.specs.Schema.{field_of, IsRecordTree, most_fields};
-ghost use Rattle.dfdl_run.specs.Compiled.{IsCompiled};
+ghost use Rattle.dfdl_compile.specs.Schema.{field_of, IsRecordTree, most_fields};
+ghost use Rattle.dfdl_compile.specs.Compiled.{IsCompiled};
 ghost use Rattle.dfdl_terms.specs.Rows.{most_rows, Nests, NamesWithin, IsPrimitive};
-ghost use Rattle.dfdl_run.specs.RecordRows.{field_rows, element_rows, primitive_of};
-ghost use Rattle.dfdl_run.specs.declared.compile.CompileFault.TheVariants.{OutOfMemory};
+ghost use Rattle.dfdl_compile.specs.RecordRows.{field_rows, element_rows, primitive_of};
+ghost use Rattle.dfdl_compile.specs.declared.compiling.CompileFault.TheVariants.{OutOfMemory};
 
 use crate::outline::{field_of_element, outline_of_document};
 use dfdl_doc_tree::Tree;
@@ -21,10 +21,10 @@ use std::collections::BTreeSet;
 /// The most fields of a record.
 pub const MOST_FIELDS: usize = 1000;
 
-// Why a document gave no terms.
+/// Why a document gave no terms.
 #[derive(Clone, Copy, Debug, PartialEq, Eq, Drop)]
-pub(crate) enum CompileFault {
-    // It is no schema of a record.
+pub enum CompileFault {
+    /// It is no schema of a record.
     Refused,
     OutOfMemory,
 }
@@ -196,8 +196,8 @@ fn is_record_size(fields: usize) -> bool
     0 < fields && fields <= MOST_FIELDS
 }
 
-// The terms of a document that is a schema of a record.
-pub(crate) fn compile(alloc: Global, tree: &Tree) -> Result<Terms, CompileFault>
+/// The terms of the record that a document is a schema of. It is refused exactly where it is a schema of none.
+pub fn compile(alloc: Global, tree: &Tree) -> Result<Terms, CompileFault>
     ensures ok { IfOk result (IsCompiled tree.now) }
     ensures refused { IsErrOf result CompileFault.Refused → (described : Record) → IsRecordTree tree.now described → ⊥ }
 {

@@ -3,7 +3,7 @@ use Rattle.std.specs.Prelude.{◌≡◌, List, Some}
 use Rattle.dfdl_doc_tree.specs.Node.{Node}
 use Rattle.dfdl_terms.specs.Record.{Record, record_of}
 use Rattle.dfdl_terms.specs.Rows.{Table}
-use Rattle.dfdl_run.specs.Schema.{IsRecordTree}
+use Rattle.dfdl_compile.specs.Schema.{IsRecordTree}
 
 -- the terms are those of the record that the document's elements are a schema of
 pub record IsCompiled (nodes : List Node) (terms : Table) : Type 0 where

@@ -2,10 +2,10 @@ use Rattle.std.proofs.Common.{◌≡◌, IsTrue, false, length, map, ap, refl, a
 use Rattle.std.proofs.lemmas.List.{length-map}
 use Rattle.dfdl_doc_tree.specs.Node.{node_at}
 use Rattle.dfdl_terms.specs.RecordShown.{field_shown}
-use Rattle.dfdl_run.specs.Schema.{field_of}
-use Rattle.dfdl_run.specs.OutlineShown.{outline_shown}
-use Rattle.dfdl_run.proofs.Shapes.{fields_count, shape_is, length-all_of}
-use Rattle.dfdl_run.proofs.compile.compile.Goals as goal
+use Rattle.dfdl_compile.specs.Schema.{field_of}
+use Rattle.dfdl_compile.specs.OutlineShown.{outline_shown}
+use Rattle.dfdl_compile.proofs.Shapes.{fields_count, shape_is, length-all_of}
+use Rattle.dfdl_compile.proofs.compiling.compile.Goals as goal
 
 pub returns-then-not-is_record_size-clause-refused :
     goal.returns-then-not-is_record_size-clause-refused

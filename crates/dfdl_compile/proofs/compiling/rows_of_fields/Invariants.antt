@@ -1,8 +1,8 @@
 use Rattle.std.proofs.Common.{map, All}
 use Rattle.dfdl_terms.specs.Rows.{IsPrimitive}
 use Rattle.dfdl_terms.specs.RecordShown.{field_shown}
-use Rattle.dfdl_run.proofs.RowLemmas.{IsMade}
-use Rattle.dfdl_run.proofs.compile.rows_of_fields.Given as goal
+use Rattle.dfdl_compile.proofs.RowLemmas.{IsMade}
+use Rattle.dfdl_compile.proofs.compiling.rows_of_fields.Given as goal
 
 abbrev pub invariant-loop-at : goal.invariant-loop-at
 invariant-loop-at l = record {

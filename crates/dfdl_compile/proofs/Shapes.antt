@@ -2,7 +2,7 @@
 use Rattle.std.proofs.Common.{◌≡◌, suc, List, [], ◌∷◌, length, map, Option, None, Some, option_map, option_and_then, refl, sym, ap, ◌∙◌}
 use Rattle.dfdl_doc_tree.specs.Node.{Node, node_at}
 use Rattle.dfdl_terms.specs.Record.{Field, Record, all_of}
-use Rattle.dfdl_run.specs.Schema.{Outline, outline_of, outline_record, field_of, IsRecordTree}
+use Rattle.dfdl_compile.specs.Schema.{Outline, outline_of, outline_record, field_of, IsRecordTree}
 
 pub length-all_of : {A B : Type 0} (read : A → Option B) (xs : List A) (ys : List B) → all_of (map read xs) ≡ Some ys → length ys ≡ length xs
 length-all_of read [] ys is = let same : [] ≡ ys = cc in ap length (sym same)

@@ -1,8 +1,8 @@
 use Rattle.std.proofs.Common.{◌≡◌, ◌∙◌, ap, length, map, arith}
 use Rattle.std.proofs.lemmas.List.{length-map}
 use Rattle.dfdl_terms.specs.RecordShown.{field_shown}
-use Rattle.dfdl_run.proofs.RowLemmas.{rows_are_at, rows_of, length-rows_of, rows_of-named, rows_of-nest, record_of-table}
-use Rattle.dfdl_run.proofs.compile.terms_of.Goals as goal
+use Rattle.dfdl_compile.proofs.RowLemmas.{rows_are_at, rows_of, length-rows_of, rows_of-named, rows_of-nest, record_of-table}
+use Rattle.dfdl_compile.proofs.compiling.terms_of.Goals as goal
 
 pub built-requires-clause-few : goal.built-requires-clause-few
 built-requires-clause-few c =

@@ -4,8 +4,8 @@ ghost use Rattle.dfdl_doc_tree.specs.Node.{node_at};
 ghost use Rattle.dfdl_doc_tree.specs.Content.{is_name_start, is_name_byte, is_part};
 ghost use Rattle.std.specs.List.{list_all};
 ghost use Rattle.dfdl_terms.specs.RecordShown.{field_shown};
-ghost use Rattle.dfdl_run.specs.Schema.{value_of, is_text, has, only, is_element, is_schema, local_name, root_name, inside, field_elements, root_outline, outline_of, kind_of, bits_of, order_of, integer_form, form_of, is_field, field_of};
-ghost use Rattle.dfdl_run.specs.OutlineShown.{outline_shown};
+ghost use Rattle.dfdl_compile.specs.Schema.{value_of, is_text, has, only, is_element, is_schema, local_name, root_name, inside, field_elements, root_outline, outline_of, kind_of, bits_of, order_of, integer_form, form_of, is_field, field_of};
+ghost use Rattle.dfdl_compile.specs.OutlineShown.{outline_shown};
 
 use dfdl_bits::order::{BitOrder, ByteOrder};
 use dfdl_doc_tree::{Tree, is_name_byte, is_name_start};

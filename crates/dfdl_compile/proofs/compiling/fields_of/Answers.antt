@@ -1,10 +1,10 @@
 use Rattle.std.proofs.Common.{◌≤◌, ◌∙◌}
 use Rattle.std.proofs.lemmas.List.Elements.{All-push}
 use Rattle.dfdl_doc_tree.specs.Node.{node_at}
-use Rattle.dfdl_run.specs.Schema.{field_of}
+use Rattle.dfdl_compile.specs.Schema.{field_of}
 use Rattle.dfdl_terms.specs.declared.record.Field.{Field as DeclaredField}
-use Rattle.dfdl_run.proofs.FieldLists.{left_more_at}
-use Rattle.dfdl_run.proofs.compile.fields_of.Goals as goal
+use Rattle.dfdl_compile.proofs.FieldLists.{left_more_at}
+use Rattle.dfdl_compile.proofs.compiling.fields_of.Goals as goal
 
 pub loop-element-preserved : goal.loop-element-preserved
 loop-element-preserved c = record {

@@ -1,7 +1,7 @@
 use Rattle.std.proofs.Common.{◌∙◌, sym, true}
 use Rattle.std.proofs.lemmas.Bool.{not-false, not-true}
-use Rattle.dfdl_run.proofs.Different.{names_more_at, names_same_at}
-use Rattle.dfdl_run.proofs.compile.have_different_names.Goals as goal
+use Rattle.dfdl_compile.proofs.Different.{names_more_at, names_same_at}
+use Rattle.dfdl_compile.proofs.compiling.have_different_names.Goals as goal
 
 pub returns-then-not-branch : goal.returns-then-not-branch
 returns-then-not-branch c = (

@@ -1,9 +1,9 @@
 use Rattle.std.proofs.Common.{◌≡◌, ◌≤◌, [], map, drop, All}
 use Rattle.dfdl_doc_tree.specs.Node.{node_at}
 use Rattle.dfdl_terms.specs.RecordShown.{field_shown}
-use Rattle.dfdl_run.specs.Schema.{field_of}
-use Rattle.dfdl_run.proofs.FieldLists.{with_left}
-use Rattle.dfdl_run.proofs.compile.fields_of.Given as goal
+use Rattle.dfdl_compile.specs.Schema.{field_of}
+use Rattle.dfdl_compile.proofs.FieldLists.{with_left}
+use Rattle.dfdl_compile.proofs.compiling.fields_of.Given as goal
 
 -- the fields so far and those of the elements that are left are those of all
 abbrev pub invariant-loop-element : goal.invariant-loop-element

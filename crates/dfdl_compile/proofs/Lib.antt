@@ -1,0 +1,4 @@
+pub mod Different
+pub mod FieldLists
+pub mod RowLemmas
+pub mod Shapes

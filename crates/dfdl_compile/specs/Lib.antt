@@ -1,0 +1,4 @@
+pub mod Compiled
+pub mod OutlineShown
+pub mod RecordRows
+pub mod Schema

@@ -23,6 +23,8 @@ pub use reading::read;
 pub use write_value::write;
 
 #[cfg(test)]
+mod back_tests;
+#[cfg(test)]
 mod read_tests;
 #[cfg(test)]
 mod write_tests;

@@ -63,7 +63,11 @@ const BASES: [(u8, u128, &str); 8] = [
     (2, 0, "0"),
 ];
 
-fn patterned(alloc: Global, pattern: &str, rounding: Rounding) -> Result<NumberForm, Fail> {
+pub(crate) fn patterned(
+    alloc: Global,
+    pattern: &str,
+    rounding: Rounding,
+) -> Result<NumberForm, Fail> {
     Ok(NumberForm {
         base: 10,
         pattern: Some(read_pattern(alloc, pattern)?),
@@ -73,7 +77,7 @@ fn patterned(alloc: Global, pattern: &str, rounding: Rounding) -> Result<NumberF
     })
 }
 
-fn based(base: u8) -> NumberForm {
+pub(crate) fn based(base: u8) -> NumberForm {
     NumberForm {
         base: match base {
             2 => 2,
@@ -87,7 +91,7 @@ fn based(base: u8) -> NumberForm {
     }
 }
 
-fn decimal(digits: i128, scale: u32) -> Value {
+pub(crate) fn decimal(digits: i128, scale: u32) -> Value {
     match shortest(digits < 0, digits.unsigned_abs(), scale) {
         Some(number) => Value::Dec(number),
         None => Value::Truth(false),
@@ -116,7 +120,11 @@ fn put(
     }
 }
 
-fn text_of(alloc: Global, form: &NumberForm, value: &Value) -> Result<String, AllocError> {
+pub(crate) fn text_of(
+    alloc: Global,
+    form: &NumberForm,
+    value: &Value,
+) -> Result<String, AllocError> {
     let mut text = String::new(alloc);
     put(alloc, &mut text, form, value)?;
     Ok(text)

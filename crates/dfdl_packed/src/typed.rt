@@ -8,8 +8,7 @@ ghost use Rattle.dfdl_packed.specs.Typed.{value_in, signed_value, unsigned_value
 
 use crate::form::PackedFault;
 use crate::size::{Size, with_zeros};
-use dfdl_int_binary::decimal::divided;
-use dfdl_value::{Form, Simple, Value};
+use dfdl_value::{Fixed, Form, Simple, Value, fixed};
 
 /// The value of a type that a number with a virtual point is.
 pub fn value_of(kind: Simple, point: u8, negative: bool, size: Size) -> Result<Value, PackedFault>
@@ -148,9 +147,6 @@ fn decimal(point: u8, negative: bool, size: Size) -> Result<Value, PackedFault>
     shortest(negative, number, 0)
 }
 
-// One more than the greatest number of 38 digits.
-const LIMIT: u128 = 100_000_000_000_000_000_000_000_000_000_000_000_000;
-
 // A decimal whose number has no zero behind the point, unless it is zero.
 fn shortest(negative: bool, number: Option<u128>, scale: u8) -> Result<Value, PackedFault>
     ensures { (n : ℕ) → IsHeld number n → (n % 10 ≡ 0 → (n ≡ 0) ⊎ (scale ≡ 0))
@@ -158,30 +154,15 @@ fn shortest(negative: bool, number: Option<u128>, scale: u8) -> Result<Value, Pa
 {
     match number {
         None => Err(PackedFault::PastType),
-        Some(number) => shortest_held(negative, number, scale),
+        Some(number) => decimal_value(fixed::shortest(negative, number, u32::from(scale))),
     }
 }
 
-fn shortest_held(negative: bool, number: u128, scale: u8) -> Result<Value, PackedFault>
-    ensures { (number % 10 ≡ 0 → (number ≡ 0) ⊎ (scale ≡ 0))
-        → result ≡ decimal_value (fixed_of (record { mantissa = with_sign negative number; scale = scale })) }
+fn decimal_value(decimal: Option<Fixed>) -> Result<Value, PackedFault>
+    ensures { result ≡ decimal_value decimal }
 {
-    if number >= LIMIT {
-        return Err(PackedFault::PastType);
-    }
-    match divided(with_minus(negative, number), scale) {
+    match decimal {
         Some(decimal) => Ok(Value::Dec(decimal)),
         None => Err(PackedFault::PastType),
-    }
-}
-
-fn with_minus(negative: bool, number: u128) -> i128
-    requires { number < 10 ^ 38 }
-    ensures { result ≡ with_sign negative number }
-{
-    if negative {
-        -(number as i128)
-    } else {
-        number as i128
     }
 }

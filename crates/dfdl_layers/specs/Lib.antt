@@ -1,0 +1,4 @@
+pub mod Causes
+pub mod Tellers
+pub mod Allowed
+pub mod Bytes

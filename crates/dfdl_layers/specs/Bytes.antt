@@ -1,5 +1,5 @@
 -- A machine over characters as one over the bytes of their coding.
-use Rattle.std.specs.Prelude.{◌≡◌, ℕ, ◌<◌, ◌≤◌, List, [], ◌∷◌, ◌++◌, Bool, true, false, Option, Some, None, Result, Ok, Err}
+use Rattle.std.specs.Prelude.{◌≡◌, ℕ, ◌<◌, ◌≤◌, List, [], ◌∷◌, ◌++◌, ◌⊎◌, Bool, true, false, Option, Some, None, Result, Ok, Err}
 use Rattle.std.specs.List.{flat_map}
 use Rattle.dfdl_layers.specs.Tellers.{Each}
 
@@ -87,10 +87,9 @@ pub record IsForesight {S : Type 0} (step : S → ℕ → Result S ℕ) (Scalar 
   pub most : (s : S) (bytes : List ℕ) (m c : ℕ) → Sound s → see bytes ≡ Part → could s bytes ≡ Some m → IsBegun Scalar encode bytes c
       → FailsBy m (step s c)
 
--- what the bytes of a character that is begun are
-pub data IsOpen {S : Type 0} (see : List ℕ → Seen) (could : S → List ℕ → Option ℕ) (s : S) : List ℕ → Type 0 where
-  Nowhere : IsOpen see could s []
-  Begun : (bytes : List ℕ) → see bytes ≡ Part → could s bytes ≡ None → IsOpen see could s bytes
+-- no character is begun, or these bytes are a part of one that has a step
+abbrev pub IsOpen : {S : Type 0} → (List ℕ → Seen) → (S → List ℕ → Option ℕ) → S → List ℕ → Type 0
+IsOpen see could s bytes = (bytes ≡ []) ⊎ ((see bytes ≡ Part) × (could s bytes ≡ None))
 
 -- the states that the machine over bytes comes to
 pub record SoundInside {S : Type 0} (see : List ℕ → Seen) (could : S → List ℕ → Option ℕ) (Sound : S → Type 0) (i : Inside S) : Type 0 where

@@ -1,5 +1,5 @@
 -- A rule that only some items are allowed, before a machine that tells the rules behind it.
-use Rattle.std.proofs.Common.{◌≡◌, ℕ, ◌+◌, ◌<◌, ◌≤◌, ◌⊎◌, List, [], ◌∷◌, Bool, true, false, if◌then◌else◌, refl, sym, ap, subst, ◌∙◌, arith, inl, inr, Result, Ok, Err}
+use Rattle.std.proofs.Common.{◌≡◌, ℕ, ◌<◌, ◌≤◌, ◌⊎◌, List, [], ◌∷◌, Bool, true, false, if◌then◌else◌, refl, sym, subst, ◌∙◌, arith, inl, inr, Result, Ok, Err}
 use Rattle.std.proofs.lemmas.Bool.{cases_order}
 use Rattle.dfdl_layers.specs.Tellers.{Each, go_on, run, Keeps, IsTeller}
 use Rattle.dfdl_layers.specs.Allowed.{Allowed, GoodAllowed, allowed_step, RestOfAllowed}
@@ -14,7 +14,6 @@ allowed_err true o rule m is = inl (refl, is)
 allowed_err false o rule m is = inr (cc)
 
 module _ {S A : Type 0} (rule : ℕ) (is_allowed : A → Bool) (step : S → A → Result S ℕ) where
-
   allowed_same : (next : S → Result S ℕ) (other : S → Result S ℕ) → ((t : S) → next t ≡ other t) → (b : Bool) (o : Result S ℕ) → b ≡ true
       → go_on next (if b then o else Err rule) ≡ go_on other o
   allowed_same next other same true (Ok t) is = same t
@@ -41,7 +40,6 @@ module _ {S A : Type 0} (rule : ℕ) (is_allowed : A → Bool) (step : S → A �
 
 module _ {S A : Type 0} {step : S → A → Result S ℕ} {start : S} {accepts : S → Bool} {all : ℕ} {Good : A → Type 0} {Sound : S → Type 0} {Rest : ℕ → S → List A → Type 0}
     (rule : ℕ) (is_allowed : A → Bool) where
-
   keeps_allowed : ((n : ℕ) (s : S) (items : List A) → n ≤ rule → Rest n s items) → IsTeller step start accepts all (GoodAllowed is_allowed Good) Sound Rest
       → (n : ℕ) (items : List A) → RestOfAllowed rule is_allowed Rest n start items → Keeps n (run (allowed_step rule is_allowed step) start items)
   keeps_allowed free teller n items rest =
@@ -59,11 +57,11 @@ module _ {S A : Type 0} {step : S → A → Result S ℕ} {start : S} {accepts :
   tells_allowed free teller s a m sound good tells =
       elim (allowed_err (is_allowed a) (step s a) rule m tells) [
         | inl both ↦ (
-          let found = teller.tells s a m sound (good, both.0) both.1 in (
-            found.0,
-            each-map (GoodAllowed is_allowed Good) Good (λ b g. g.0) found.0 found.1,
-            record { allowed = λ less. (both.0, each-map (GoodAllowed is_allowed Good) (Allowed is_allowed) (λ b g. g.1) found.0 found.1); rest = found.2 },
-          ))
+            let found = teller.tells s a m sound (good, both.0) both.1 in (
+              found.0,
+              each-map (GoodAllowed is_allowed Good) Good (λ b g. g.0) found.0 found.1,
+              record { allowed = λ less. (both.0, each-map (GoodAllowed is_allowed Good) (Allowed is_allowed) (λ b g. g.1) found.0 found.1); rest = found.2 },
+            ))
         | inr same ↦ ([], tt, record { allowed = λ less. absurd (omega arith); rest = free m s (a ∷ []) (omega arith) })
       ]
 
@@ -75,18 +73,18 @@ module _ {S A : Type 0} {step : S → A → Result S ℕ} {start : S} {accepts :
     begins = teller.begins;
     goes = λ s t a sound goes. teller.goes s t a sound (allowed_ok (is_allowed a) (step s a) rule t goes).1;
     back = λ n s t a items sound goes rest. (
-      let both = allowed_ok (is_allowed a) (step s a) rule t goes in
-      record { allowed = λ less. (both.0, rest.allowed less); rest = teller.back n s t a items sound both.1 rest.rest });
+        let both = allowed_ok (is_allowed a) (step s a) rule t goes in
+        record { allowed = λ less. (both.0, rest.allowed less); rest = teller.back n s t a items sound both.1 rest.rest });
     done = λ s sound takes. record { allowed = λ less. tt; rest = teller.done s sound takes };
     live = λ s sound. (
-      let more = teller.live s sound in (
-        more.0,
-        each-map (GoodAllowed is_allowed Good) Good (λ b g. g.0) more.0 more.1,
-        record { allowed = λ less. each-map (GoodAllowed is_allowed Good) (Allowed is_allowed) (λ b g. g.1) more.0 more.1; rest = more.2 },
-      ));
+        let more = teller.live s sound in (
+          more.0,
+          each-map (GoodAllowed is_allowed Good) Good (λ b g. g.0) more.0 more.1,
+          record { allowed = λ less. each-map (GoodAllowed is_allowed Good) (Allowed is_allowed) (λ b g. g.1) more.0 more.1; rest = more.2 },
+        ));
     tells = tells_allowed free teller;
     keeps = keeps_allowed free teller;
     full = λ items rest. (
-      let found = teller.full items rest.rest in
-      (found.0, same_run rule is_allowed step items start (rest.allowed within) ∙ found.1, found.2));
+        let found = teller.full items rest.rest in
+        (found.0, same_run rule is_allowed step items start (rest.allowed within) ∙ found.1, found.2));
   }

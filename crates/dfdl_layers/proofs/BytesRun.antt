@@ -1,8 +1,8 @@
 -- A run over characters, and the run over the bytes of their coding.
-use Rattle.std.proofs.Common.{◌≡◌, ℕ, ◌+◌, ◌<◌, ◌≤◌, List, [], ◌∷◌, ◌++◌, Bool, true, false, Option, Some, None, Result, Ok, Err, refl, sym, ap, subst, ◌∙◌, arith, append_assoc}
+use Rattle.std.proofs.Common.{◌≡◌, ℕ, ◌≤◌, List, [], ◌∷◌, ◌++◌, Bool, Option, Some, None, Result, Ok, Err, refl, sym, subst, ◌∙◌, arith, append_assoc}
 use Rattle.std.specs.List.{flat_map}
 use Rattle.dfdl_layers.specs.Tellers.{Each, go_on, run, Keeps, IsTeller}
-use Rattle.dfdl_layers.specs.Bytes.{Seen, Whole, Part, Bad, SeenAs, IsCoding, IsBegun, Inside, between, behind, waits, by_seen, byte_step, FailsBy, IsForesight}
+use Rattle.dfdl_layers.specs.Bytes.{Seen, Whole, Part, IsCoding, Inside, between, behind, waits, by_seen, byte_step, FailsBy, IsForesight}
 
 -- the answer over bytes that stands for one over characters: the same state between two characters, or no lower rule
 abbrev pub Follows : {S : Type 0} → Result S ℕ → Result (Inside S) ℕ → Type 0
@@ -45,7 +45,6 @@ module _ {S : Type 0} {step : S → ℕ → Result S ℕ} {start : S} {accepts :
     {see : List ℕ → Seen} {could : S → List ℕ → Option ℕ} {Sound : S → Type 0} {Rest : ℕ → S → List ℕ → Type 0} (rule : ℕ)
     (coding : IsCoding Scalar encode see) (foresight : IsForesight step Scalar encode see could Sound)
     (teller : IsTeller step start accepts all Scalar Sound Rest) where
-
   -- over what is left of one character's bytes
   character_passes : (s : S) (c : ℕ) → Sound s → Scalar c → (front : List ℕ) (b : ℕ) (rest behind : List ℕ) → encode c ≡ front ++ b ∷ rest
       → Passes (step s c) (λ t. run (byte_step rule step could see) (between t) behind)

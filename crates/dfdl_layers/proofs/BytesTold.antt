@@ -1,10 +1,10 @@
 -- A machine over characters that tells rules, as one over the bytes of their coding, which tells one rule more.
-use Rattle.std.proofs.Common.{◌≡◌, ℕ, ◌+◌, ◌<◌, ◌≤◌, ◌⊎◌, List, [], ◌∷◌, ◌++◌, Bool, true, false, Option, Some, None, Result, Ok, Err, refl, sym, ap, subst, ◌∙◌, arith, append_assoc, inl, inr}
+use Rattle.std.proofs.Common.{◌≡◌, ℕ, ◌<◌, ◌≤◌, List, [], ◌∷◌, ◌++◌, Bool, true, Option, Some, None, Result, Ok, Err, refl, sym, ap, subst, ◌∙◌, arith, append_assoc, inl, inr}
 use Rattle.std.specs.List.{flat_map}
 use Rattle.std.proofs.lemmas.Bool.{cases_order}
 use Rattle.std.proofs.lemmas.List.{append-nil}
 use Rattle.dfdl_layers.specs.Tellers.{Each, go_on, run, Keeps, IsTeller}
-use Rattle.dfdl_layers.specs.Bytes.{Seen, Whole, Part, Bad, IsCoding, IsBegun, Inside, between, behind, waits, by_seen, byte_step, byte_accepts, if_whole, IsForesight, IsOpen, SoundInside, AnyByte, RestOfBytes}
+use Rattle.dfdl_layers.specs.Bytes.{Seen, Whole, Part, Bad, IsCoding, IsBegun, Inside, between, behind, waits, by_seen, byte_step, byte_accepts, if_whole, IsForesight, SoundInside, AnyByte, RestOfBytes}
 use Rattle.dfdl_layers.proofs.Runs.{each_of_all}
 use Rattle.dfdl_layers.proofs.BytesRun.{Follows, kept_following, text_follows}
 
@@ -20,7 +20,6 @@ data Refused {S : Type 0} (rule : ℕ) (step : S → ℕ → Result S ℕ) (coul
   ByCoding : rule ≡ m → Refused rule step could see s bytes m
 
 module _ {S : Type 0} (rule : ℕ) (step : S → ℕ → Result S ℕ) (could : S → List ℕ → Option ℕ) (see : List ℕ → Seen) (s : S) (bytes : List ℕ) where
-
   taken_whole : (c : ℕ) (o : Result S ℕ) (j : Inside S) → see bytes ≡ Whole c → step s c ≡ o → behind o ≡ Ok j → Taken step could see s bytes j
   taken_whole c (Ok t) j sees is takes = AtWhole c t sees is (cc)
   taken_whole c (Err m) j sees is takes = absurd (cc)
@@ -63,7 +62,6 @@ module _ {S : Type 0} {step : S → ℕ → Result S ℕ} {start : S} {accepts :
     (coding : IsCoding Scalar encode see) (foresight : IsForesight step Scalar encode see could Sound)
     (free : (n : ℕ) (s : S) (characters : List ℕ) → n ≤ rule → Rest n s characters)
     (teller : IsTeller step start accepts all Scalar Sound Rest) where
-
   goes_bytes : (i j : Inside S) (b : ℕ) → SoundInside see could Sound i → byte_step rule step could see i b ≡ Ok j → SoundInside see could Sound j
   goes_bytes i j b sound takes =
       elim (taken rule step could see i.state (i.read ++ b ∷ []) (see (i.read ++ b ∷ [])) j refl takes) [
@@ -86,14 +84,14 @@ module _ {S : Type 0} {step : S → ℕ → Result S ℕ} {start : S} {accepts :
   back_bytes n i j b bytes sound takes rest =
       elim (taken rule step could see i.state (i.read ++ b ∷ []) (see (i.read ++ b ∷ [])) j refl takes) [
         | AtWhole c t sees goes same ↦ (
-          let at : RestOfBytes rule Scalar encode Rest n (between t) bytes = subst (λ k. RestOfBytes rule Scalar encode Rest n k bytes) (sym same) rest in
-          let coded = coding.whole (i.read ++ b ∷ []) c sees in
-          record {
-            characters = c ∷ at.characters;
-            are_scalar = λ less. (coded.0, at.are_scalar less);
-            encoded = λ less. sym (append_assoc i.read (b ∷ []) bytes) ∙ (ap (λ l. l ++ bytes) (sym coded.1) ∙ ap (λ l. encode c ++ l) (at.encoded less));
-            rest = teller.back n i.state t c at.characters sound.sound goes at.rest;
-          })
+            let at : RestOfBytes rule Scalar encode Rest n (between t) bytes = subst (λ k. RestOfBytes rule Scalar encode Rest n k bytes) (sym same) rest in
+            let coded = coding.whole (i.read ++ b ∷ []) c sees in
+            record {
+              characters = c ∷ at.characters;
+              are_scalar = λ less. (coded.0, at.are_scalar less);
+              encoded = λ less. sym (append_assoc i.read (b ∷ []) bytes) ∙ (ap (λ l. l ++ bytes) (sym coded.1) ∙ ap (λ l. encode c ++ l) (at.encoded less));
+              rest = teller.back n i.state t c at.characters sound.sound goes at.rest;
+            })
         | AtPart sees none same ↦ shifted n i b bytes (subst (λ k. RestOfBytes rule Scalar encode Rest n k bytes) (sym same) rest)
       ]
 
@@ -116,19 +114,19 @@ module _ {S : Type 0} {step : S → ℕ → Result S ℕ} {start : S} {accepts :
   live_bytes i sound =
       elim sound.opened [
         | inl none ↦ (
-          let more = teller.live i.state sound.sound in (
-            flat_map encode more.0,
-            each_of_all AnyByte (λ b. tt) (flat_map encode more.0),
-            record { characters = more.0; are_scalar = λ less. more.1; encoded = λ less. ap (λ l. l ++ flat_map encode more.0) none; rest = more.2 },
-          ))
+            let more = teller.live i.state sound.sound in (
+              flat_map encode more.0,
+              each_of_all AnyByte (λ b. tt) (flat_map encode more.0),
+              record { characters = more.0; are_scalar = λ less. more.1; encoded = λ less. ap (λ l. l ++ flat_map encode more.0) none; rest = more.2 },
+            ))
         | inr part ↦ (
-          let found = foresight.can i.state i.read sound.sound part.0 part.1 in
-          let more = teller.live found.1 (teller.goes i.state found.1 found.0 sound.sound found.3) in
-          let bytes = found.2.rest ++ flat_map encode more.0 in (
-            bytes,
-            each_of_all AnyByte (λ b. tt) bytes,
-            begun_bytes all i.state i.read found.0 more.0 found.2 more.1 (teller.back all i.state found.1 found.0 more.0 sound.sound found.3 more.2),
-          ))
+            let found = foresight.can i.state i.read sound.sound part.0 part.1 in
+            let more = teller.live found.1 (teller.goes i.state found.1 found.0 sound.sound found.3) in
+            let bytes = found.2.rest ++ flat_map encode more.0 in (
+              bytes,
+              each_of_all AnyByte (λ b. tt) bytes,
+              begun_bytes all i.state i.read found.0 more.0 found.2 more.1 (teller.back all i.state found.1 found.0 more.0 sound.sound found.3 more.2),
+            ))
       ]
 
   tells_begun : (m : ℕ) (i : Inside S) (b c : ℕ) → Sound i.state → IsBegun Scalar encode (i.read ++ b ∷ []) c → step i.state c ≡ Err m
@@ -146,11 +144,11 @@ module _ {S : Type 0} {step : S → ℕ → Result S ℕ} {start : S} {accepts :
   tells_bytes i b m sound any tells =
       elim (refused rule step could see i.state (i.read ++ b ∷ []) (see (i.read ++ b ∷ [])) m refl tells) [
         | ByStep c sees fails ↦ (
-          let coded = coding.whole (i.read ++ b ∷ []) c sees in
-          tells_begun m i b c sound.sound (record { scalar = coded.0; rest = []; encoded = coded.1 ∙ sym (append-nil (i.read ++ b ∷ [])) }) fails)
+            let coded = coding.whole (i.read ++ b ∷ []) c sees in
+            tells_begun m i b c sound.sound (record { scalar = coded.0; rest = []; encoded = coded.1 ∙ sym (append-nil (i.read ++ b ∷ [])) }) fails)
         | ByPart sees could_not ↦ (
-          let found = foresight.cannot i.state (i.read ++ b ∷ []) m sound.sound sees could_not in
-          tells_begun m i b found.0 sound.sound found.1 found.2)
+            let found = foresight.cannot i.state (i.read ++ b ∷ []) m sound.sound sees could_not in
+            tells_begun m i b found.0 sound.sound found.1 found.2)
         | ByCoding same ↦ (
           [],
           tt,
@@ -184,7 +182,7 @@ module _ {S : Type 0} {step : S → ℕ → Result S ℕ} {start : S} {accepts :
   low_keeps n less (b ∷ bytes) i sound kept =
       low_seen n less i.state (i.read ++ b ∷ []) (λ j. run (byte_step rule step could see) j bytes) (see (i.read ++ b ∷ [])) refl sound kept
       (λ c t goes. low_keeps n less bytes (between t) (teller.goes i.state t c sound goes)
-          (λ characters. kept_step n (step i.state c) (λ u. run step u characters) t goes (kept (c ∷ characters))))
+      (λ characters. kept_step n (step i.state c) (λ u. run step u characters) t goes (kept (c ∷ characters))))
       (low_keeps n less bytes (record { state = i.state; read = i.read ++ b ∷ [] }) sound kept)
 
   low_bytes : (n : ℕ) → n ≤ rule → (bytes : List ℕ) → Keeps n (run (byte_step rule step could see) (between start) bytes)
@@ -196,13 +194,13 @@ module _ {S : Type 0} {step : S → ℕ → Result S ℕ} {start : S} {accepts :
   high_bytes n less bytes rest =
       subst (λ l. Keeps n (run (byte_step rule step could see) (between start) l)) (sym (rest.encoded less))
       (kept_following n (run step start rest.characters) (run (byte_step rule step could see) (between start) (flat_map encode rest.characters))
-          (text_follows rule coding foresight teller rest.characters start teller.begins (rest.are_scalar less)) (teller.keeps n rest.characters rest.rest))
+      (text_follows rule coding foresight teller rest.characters start teller.begins (rest.are_scalar less)) (teller.keeps n rest.characters rest.rest))
 
   keeps_bytes : (n : ℕ) (bytes : List ℕ) → RestOfBytes rule Scalar encode Rest n (between start) bytes → Keeps n (run (byte_step rule step could see) (between start) bytes)
   keeps_bytes n bytes rest =
       elim (cases_order rule n) [
         | inl same ↦ low_bytes n (omega arith) bytes
-        | inr other ↦ (elim other [ | inl less ↦ high_bytes n less bytes rest | inr more ↦ low_bytes n (omega arith) bytes ])
+        | inr other ↦ (elim other [ inl less ↦ high_bytes n less bytes rest | inr more ↦ low_bytes n (omega arith) bytes ])
       ]
 
   full_bytes : rule < all → (bytes : List ℕ) → RestOfBytes rule Scalar encode Rest all (between start) bytes

@@ -1,7 +1,6 @@
 -- A refused text has one cause.
-use Rattle.std.proofs.Common.{◌≡◌, ℕ, ◌+◌, ◌<◌, ◌≤◌, ◌++◌, List, length, take, sym, arith, inl, inr}
+use Rattle.std.proofs.Common.{◌≡◌, ℕ, ◌+◌, ◌<◌, ◌≤◌, ◌++◌, List, length, take, arith, inl, inr}
 use Rattle.std.proofs.lemmas.Bool.{cases_order}
-use Rattle.dfdl_fronts.specs.Fronts.{IsFront}
 use Rattle.dfdl_layers.specs.Causes.{IsBroken, IsRefused, LeavesFewer}
 
 no_lower : {A : Type 0} (Text : ℕ → List A → Type 0) → LeavesFewer Text → (front : List A) (a b : ℕ) → IsBroken Text front a → IsBroken Text front b → a < b → ⊥

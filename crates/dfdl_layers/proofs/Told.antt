@@ -1,9 +1,9 @@
 -- What follows where a machine tells the rules of a language.
 use Rattle.std.proofs.Common.{◌≡◌, ℕ, ◌+◌, ◌<◌, ◌≤◌, List, [], ◌∷◌, ◌++◌, length, take, drop, get_or, Bool, true, false, refl, sym, ap, subst, ◌∙◌, append_assoc, arith, Result, Ok, Err}
 use Rattle.std.proofs.lemmas.List.{append-nil, take_more, take_all, take-append-drop}
-use Rattle.dfdl_fronts.specs.Fronts.{IsFront, IsPlace}
-use Rattle.dfdl_layers.specs.Causes.{IsBroken, IsRefused}
-use Rattle.dfdl_layers.specs.Tellers.{Each, go_on, run, Keeps, IsTeller}
+use Rattle.dfdl_fronts.specs.Fronts.{IsFront}
+use Rattle.dfdl_layers.specs.Causes.{IsRefused}
+use Rattle.dfdl_layers.specs.Tellers.{go_on, run, Keeps, IsTeller}
 use Rattle.dfdl_layers.proofs.Runs.{run-append, run_through, go_on_ok}
 
 -- a run that stops in a front stops in all that begins so
@@ -15,7 +15,6 @@ not_both : {S : Type 0} (accepts : S → Bool) (o : Result S ℕ) (s t : S) → 
 not_both accepts o s t is refuses other takes = cc
 
 module _ {S A : Type 0} {step : S → A → Result S ℕ} {start : S} {accepts : S → Bool} {all : ℕ} {Good : A → Type 0} {Sound : S → Type 0} {Rest : ℕ → S → List A → Type 0} where
-
   -- a run keeps soundness
   pub sound_after : IsTeller step start accepts all Good Sound Rest → (items : List A) (s t : S) → Sound s → run step s items ≡ Ok t → Sound t
   sound_after teller [] s t sound is = let same : s ≡ t = cc in subst Sound same sound
@@ -56,7 +55,7 @@ module _ {S A : Type 0} {step : S → A → Result S ℕ} {start : S} {accepts :
       let stopped : run step start (take (i + 1) items) ≡ Err m = run_through step start items i s d within is ∙ tells in
       let more = teller.tells s (get_or items i d) m (sound_after teller (take i items) start s teller.begins is) good tells in
       let kept : Rest m start (take i items ++ (get_or items i d ∷ more.0)) =
-          back_from teller m (take i items) (get_or items i d ∷ more.0) start s teller.begins is more.2 in
+      back_from teller m (take i items) (get_or items i d ∷ more.0) start s teller.begins is more.2 in
       record {
         place = record {
           within = omega arith;

@@ -1,5 +1,5 @@
 -- A rule that only some items are allowed, before a machine.
-use Rattle.std.specs.Prelude.{◌≡◌, ℕ, ◌<◌, List, Bool, true, false, if◌then◌else◌, Result, Ok, Err}
+use Rattle.std.specs.Prelude.{◌≡◌, ℕ, ◌<◌, List, Bool, true, if◌then◌else◌, Result, Err}
 use Rattle.dfdl_layers.specs.Tellers.{Each}
 
 -- the item is allowed by the test

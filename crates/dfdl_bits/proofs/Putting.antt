@@ -4,10 +4,10 @@ use Rattle.std.specs.Int.{bit_at}
 use Rattle.std.proofs.lemmas.Bool.{cases_eq}
 use Rattle.std.proofs.lemmas.Nat.{shr-shr, shr_split, mod-pow-add}
 use Rattle.dfdl_bits.specs.Bits.{number_of, data_bit, place_of, patched, KeepsOutside, Puts}
-use Rattle.dfdl_bits.specs.declared.order.BitOrder.{BitOrder}
-use Rattle.dfdl_bits.specs.declared.order.BitOrder.TheVariants.{MostFirst, LeastFirst}
-use Rattle.dfdl_bits.specs.declared.order.ByteOrder.{ByteOrder}
-use Rattle.dfdl_bits.specs.declared.order.ByteOrder.TheVariants.{Big, Little}
+use Rattle.dfdl_forms.specs.declared.order.BitOrder.{BitOrder}
+use Rattle.dfdl_forms.specs.declared.order.BitOrder.TheVariants.{MostFirst, LeastFirst}
+use Rattle.dfdl_forms.specs.declared.order.ByteOrder.{ByteOrder}
+use Rattle.dfdl_forms.specs.declared.order.ByteOrder.TheVariants.{Big, Little}
 use Rattle.dfdl_bits.proofs.Numbers.{number_of-same, number_of-none, least_any, big-split, least-split, groups-split, groups-whole, one_group, big-in_byte, least-in_byte, big-byte, least-byte}
 use Rattle.dfdl_bits.proofs.Patches.{patched_part, patched_below, patched_above}
 

@@ -2,8 +2,8 @@
 use Rattle.std.proofs.Common.{◌≡◌, ℕ, zero, suc, ◌+◌, ◌*◌, ◌%◌, ◌^◌, ◌<◌, List, get_or, refl, ◌∙◌, arith, add-one}
 use Rattle.std.proofs.lemmas.Nat.{pow-add}
 use Rattle.dfdl_bits.specs.Bits.{number_of}
-use Rattle.dfdl_bits.specs.declared.order.BitOrder.TheVariants.{MostFirst}
-use Rattle.dfdl_bits.specs.declared.order.ByteOrder.TheVariants.{Big, Little}
+use Rattle.dfdl_forms.specs.declared.order.BitOrder.TheVariants.{MostFirst}
+use Rattle.dfdl_forms.specs.declared.order.ByteOrder.TheVariants.{Big, Little}
 use Rattle.dfdl_bits.proofs.Numbers.{big-split, groups-split, one_group, big-byte}
 
 -- each byte has eight bits

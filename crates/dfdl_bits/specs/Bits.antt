@@ -2,10 +2,10 @@
 -- bitOrder) and 'Simple Types' (binary numbers).
 use Rattle.std.specs.Prelude.{◌≡◌, ◌<◌, ◌≤◌, ℕ, zero, suc, ◌+◌, ◌-◌, ◌*◌, ◌/◌, ◌%◌, ◌^◌, min, List, slice_index}
 use Rattle.std.specs.Int.{bit_at}
-use Rattle.dfdl_bits.specs.declared.order.BitOrder.{BitOrder}
-use Rattle.dfdl_bits.specs.declared.order.BitOrder.TheVariants.{MostFirst, LeastFirst}
-use Rattle.dfdl_bits.specs.declared.order.ByteOrder.{ByteOrder}
-use Rattle.dfdl_bits.specs.declared.order.ByteOrder.TheVariants.{Big, Little}
+use Rattle.dfdl_forms.specs.declared.order.BitOrder.{BitOrder}
+use Rattle.dfdl_forms.specs.declared.order.BitOrder.TheVariants.{MostFirst, LeastFirst}
+use Rattle.dfdl_forms.specs.declared.order.ByteOrder.{ByteOrder}
+use Rattle.dfdl_forms.specs.declared.order.ByteOrder.TheVariants.{Big, Little}
 
 -- bit k of the data has the weight 2 ^ place_of in its byte, byte k / 8
 abbrev pub place_of : BitOrder → ℕ → ℕ

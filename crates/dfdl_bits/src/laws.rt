@@ -1,10 +1,10 @@
 // Laws of the definitions that the contracts cite. The calls do nothing.
 ghost use Rattle.std.specs.Prelude.{◌≡◌, ◌<◌, ℕ, ◌+◌, ◌*◌, ◌^◌, List, slice_index};
 ghost use Rattle.dfdl_bits.specs.Bits.{number_of};
-ghost use Rattle.dfdl_bits.specs.declared.order.BitOrder.{BitOrder};
-ghost use Rattle.dfdl_bits.specs.declared.order.BitOrder.TheVariants.{MostFirst};
-ghost use Rattle.dfdl_bits.specs.declared.order.ByteOrder.{ByteOrder};
-ghost use Rattle.dfdl_bits.specs.declared.order.ByteOrder.TheVariants.{Big, Little};
+ghost use Rattle.dfdl_forms.specs.declared.order.BitOrder.{BitOrder};
+ghost use Rattle.dfdl_forms.specs.declared.order.BitOrder.TheVariants.{MostFirst};
+ghost use Rattle.dfdl_forms.specs.declared.order.ByteOrder.{ByteOrder};
+ghost use Rattle.dfdl_forms.specs.declared.order.ByteOrder.TheVariants.{Big, Little};
 
 /// The number of whole bytes, by the first of them. In big endian it counts most, and in little endian least.
 pub fn whole_bytes()

@@ -6,14 +6,13 @@
 
 pub mod laws;
 mod number;
-pub mod order;
 mod put;
 mod ring;
 pub mod steps;
 pub mod window;
 
 pub use number::{nibble_at, number_at};
-pub use order::{BitOrder, ByteOrder};
+pub use dfdl_forms::{BitOrder, ByteOrder};
 pub use put::{put_nibble, put_number};
 pub use steps::Steps;
 pub use window::{Seen, Window};

@@ -1,10 +1,10 @@
 // The number of a range of bits, read by whole bytes.
 ghost use Rattle.std.specs.Prelude.{◌≡◌, ◌+◌, ◌*◌, ◌/◌, ◌%◌, ◌^◌, ◌<◌, ◌≤◌, length};
 ghost use Rattle.dfdl_bits.specs.Bits.{number_of};
-ghost use Rattle.dfdl_bits.specs.declared.order.BitOrder.TheVariants.{MostFirst, LeastFirst};
-ghost use Rattle.dfdl_bits.specs.declared.order.ByteOrder.TheVariants.{Big, Little};
+ghost use Rattle.dfdl_forms.specs.declared.order.BitOrder.TheVariants.{MostFirst, LeastFirst};
+ghost use Rattle.dfdl_forms.specs.declared.order.ByteOrder.TheVariants.{Big, Little};
 
-use crate::order::{BitOrder, ByteOrder};
+use dfdl_forms::{BitOrder, ByteOrder};
 
 /// The number of the `len` bits of the data that begin at bit `bit`.
 #[tactic(auto, using(crate::proofs::Numbers::number_below))]

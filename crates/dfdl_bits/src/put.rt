@@ -1,11 +1,11 @@
 // The number of a range of bits, written by whole bytes.
 ghost use Rattle.std.specs.Prelude.{◌≡◌, ◌⊎◌, ℕ, ◌+◌, ◌*◌, ◌/◌, ◌%◌, ◌^◌, ◌<◌, ◌≤◌, length};
 ghost use Rattle.dfdl_bits.specs.Bits.{number_of, patched, KeepsOutside, Puts};
-ghost use Rattle.dfdl_bits.specs.declared.order.BitOrder.TheVariants.{MostFirst, LeastFirst};
-ghost use Rattle.dfdl_bits.specs.declared.order.ByteOrder.{ByteOrder};
-ghost use Rattle.dfdl_bits.specs.declared.order.ByteOrder.TheVariants.{Big, Little};
+ghost use Rattle.dfdl_forms.specs.declared.order.BitOrder.TheVariants.{MostFirst, LeastFirst};
+ghost use Rattle.dfdl_forms.specs.declared.order.ByteOrder.{ByteOrder};
+ghost use Rattle.dfdl_forms.specs.declared.order.ByteOrder.TheVariants.{Big, Little};
 
-use crate::order::{BitOrder, ByteOrder};
+use dfdl_forms::{BitOrder, ByteOrder};
 
 /// Makes `value` the number of the `len` bits of the data that begin at bit `bit`.
 pub fn put_number(

@@ -5,8 +5,8 @@ use Rattle.dfdl_bits.specs.declared.window.Seen.{Seen}
 use Rattle.dfdl_bits.specs.declared.window.Seen.TheVariants.{Byte, End as NoByte, NotYet as NotSeen, Over as PastWindow}
 use Rattle.dfdl_chars.specs.declared.decode.Chars.{Chars}
 use Rattle.dfdl_chars.specs.declared.decode.Chars.TheVariants.{Char, Bad, End, NotYet, Over}
-use Rattle.dfdl_chars.specs.declared.encoding.Encoding.{Encoding}
-use Rattle.dfdl_chars.specs.declared.encoding.Encoding.TheVariants.{Utf8, UsAscii, Iso88591, Utf16Be, Utf16Le}
+use Rattle.dfdl_forms.specs.declared.encoding.Encoding.{Encoding}
+use Rattle.dfdl_forms.specs.declared.encoding.Encoding.TheVariants.{Utf8, UsAscii, Iso88591, Utf16Be, Utf16Le}
 use Rattle.dfdl_chars.specs.Sequences.{is_sequence, is_begun, code_of}
 
 -- how far the looks have gone: one more than the last byte of which a look was not Over, or 0; and how many looks there were

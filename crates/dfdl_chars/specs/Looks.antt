@@ -1,7 +1,7 @@
 -- How the code of a look and what follows from it go together.
 use Rattle.std.specs.Prelude.{ℕ, Result, Ok, Err}
-use Rattle.dfdl_bits.specs.declared.order.ByteOrder.{ByteOrder}
-use Rattle.dfdl_bits.specs.declared.order.ByteOrder.TheVariants.{Big, Little}
+use Rattle.dfdl_forms.specs.declared.order.ByteOrder.{ByteOrder}
+use Rattle.dfdl_forms.specs.declared.order.ByteOrder.TheVariants.{Big, Little}
 use Rattle.dfdl_chars.specs.declared.decode.Chars.{Chars}
 use Rattle.dfdl_chars.specs.declared.decode.Looked.{Looked}
 use Rattle.dfdl_chars.specs.Decoding.{Walk, Decoded, found, big_unit, little_unit}

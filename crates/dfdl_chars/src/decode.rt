@@ -4,7 +4,7 @@ ghost use Rattle.dfdl_bits.specs.Window.{seen_at};
 ghost use Rattle.dfdl_chars.specs.Decoding.{Walk, Decoded, at_byte, decoded_at, narrow_at as narrow_of, no_look, HasWholeBytes};
 ghost use Rattle.dfdl_chars.specs.Looks.{after, answered};
 
-use super::encoding::Encoding;
+use dfdl_forms::Encoding;
 use super::utf8::utf8_at;
 use super::utf16::utf16_at;
 use dfdl_bits::{ByteOrder, Seen, Steps, Window};

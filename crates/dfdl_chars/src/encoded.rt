@@ -4,7 +4,7 @@ ghost use Rattle.std.specs.Char.Escape.{encode_utf16};
 ghost use Rattle.std.specs.List.{flat_map};
 ghost use Rattle.dfdl_chars.specs.Encodings.{encoded_of, unit_bytes_of};
 
-use super::encoding::Encoding;
+use dfdl_forms::Encoding;
 use dfdl_bits::ByteOrder;
 use thiserror::Error;
 

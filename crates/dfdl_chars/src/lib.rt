@@ -5,14 +5,13 @@
 
 pub mod decode;
 pub mod encoded;
-pub mod encoding;
 mod sequences;
 mod utf16;
 mod utf8;
 
 pub use decode::{Chars, decode_at};
 pub use encoded::{NoSuchChar, encode};
-pub use encoding::Encoding;
+pub use dfdl_forms::Encoding;
 
 #[cfg(test)]
 mod tests;

@@ -3,9 +3,9 @@ use Rattle.std.specs.Prelude.{ℕ, ◌-◌, ◌^◌, ◌≤◌, ℤ, pos, ◌*�
 use Rattle.std.specs.Option.{option_map}
 use Rattle.dfdl_bits.specs.Bits.{number_of}
 use Rattle.dfdl_value.specs.Decimal.{DecimalNumber, fixed_of}
-use Rattle.dfdl_value.specs.Types.{form_of}
-use Rattle.dfdl_value.specs.declared.simple.Form.{Form}
-use Rattle.dfdl_value.specs.declared.simple.Form.TheVariants.{Signed, Unsigned, Fixed}
+use Rattle.dfdl_forms.specs.Types.{form_of}
+use Rattle.dfdl_forms.specs.declared.simple.Form.{Form}
+use Rattle.dfdl_forms.specs.declared.simple.Form.TheVariants.{Signed, Unsigned, Fixed}
 use Rattle.dfdl_value.specs.declared.value.Value.{Value}
 use Rattle.dfdl_value.specs.declared.value.Value.TheVariants.{Int, Uns, Dec}
 use Rattle.dfdl_int_binary.specs.declared.form.IntForm.{IntForm}

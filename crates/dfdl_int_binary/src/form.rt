@@ -1,4 +1,4 @@
-use dfdl_bits::order::{BitOrder, ByteOrder};
+use dfdl_forms::{BitOrder, ByteOrder};
 use dfdl_value::Simple;
 
 /// How a binary integer or decimal lies in the data.

@@ -8,9 +8,10 @@ use Rattle.std.proofs.lemmas.List.{length-map, nil_from_length}
 use Rattle.dfdl_value.specs.Decimal.{DecimalNumber}
 use Rattle.dfdl_value.specs.Numbers.{number_reading}
 use Rattle.dfdl_value.specs.Texts.{number_after, number_of, with_sign}
-use Rattle.dfdl_value.specs.Types.{HasFewBits, IsOfType, form_of}
-use Rattle.dfdl_value.specs.declared.simple.Simple.{Simple}
-use Rattle.dfdl_value.specs.declared.simple.Simple.TheVariants.{String, HexBinary, Boolean, Decimal, Integer, NonNegativeInteger, Byte, Short, Int as IntType, Long, UnsignedByte, UnsignedShort, UnsignedInt, UnsignedLong}
+use Rattle.dfdl_forms.specs.Types.{HasFewBits, form_of}
+use Rattle.dfdl_value.specs.Types.{IsOfType}
+use Rattle.dfdl_forms.specs.declared.simple.Simple.{Simple}
+use Rattle.dfdl_forms.specs.declared.simple.Simple.TheVariants.{String, HexBinary, Boolean, Decimal, Integer, NonNegativeInteger, Byte, Short, Int as IntType, Long, UnsignedByte, UnsignedShort, UnsignedInt, UnsignedLong}
 use Rattle.dfdl_value.specs.declared.value.Value.{Value}
 use Rattle.dfdl_value.proofs.DecimalLemmas.{number_after-append}
 use Rattle.dfdl_number_pattern.specs.declared.form.NumberForm.{NumberForm}

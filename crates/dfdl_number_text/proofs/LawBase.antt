@@ -8,10 +8,11 @@ use Rattle.std.proofs.lemmas.Bool.Decides.{nat_tests}
 use Rattle.std.proofs.lemmas.Int.{ints}
 use Rattle.std.proofs.lemmas.List.{length-map}
 use Rattle.dfdl_value.specs.Texts.{with_sign}
-use Rattle.dfdl_value.specs.Types.{HasForm, HasFewBits, IsOfType, form_of}
-use Rattle.dfdl_value.specs.declared.simple.Form.{Form}
-use Rattle.dfdl_value.specs.declared.simple.Form.TheVariants.{Signed, Unsigned}
-use Rattle.dfdl_value.specs.declared.simple.Simple.{Simple}
+use Rattle.dfdl_forms.specs.Types.{HasFewBits, form_of}
+use Rattle.dfdl_value.specs.Types.{HasForm, IsOfType}
+use Rattle.dfdl_forms.specs.declared.simple.Form.{Form}
+use Rattle.dfdl_forms.specs.declared.simple.Form.TheVariants.{Signed, Unsigned}
+use Rattle.dfdl_forms.specs.declared.simple.Simple.{Simple}
 use Rattle.dfdl_value.specs.declared.value.Value.{Value}
 use Rattle.dfdl_value.specs.declared.value.Value.TheVariants.{Int, Uns, Dec, Text, Truth, Bytes}
 use Rattle.dfdl_number_pattern.specs.Base.{is_base}

@@ -14,10 +14,11 @@ use Rattle.dfdl_value.specs.Decimal.{DecimalNumber, SameNumber, shortest_from, i
 use Rattle.dfdl_value.specs.Numbers.{number_reading, whole_of, whole_if_short}
 use Rattle.dfdl_value.specs.Reading.{signed_reading, unsigned_reading, fixed_reading}
 use Rattle.dfdl_value.specs.Texts.{before_rest, without_trailing, is_zero, number_after, with_sign}
-use Rattle.dfdl_value.specs.Types.{HasForm, HasFewBits}
+use Rattle.dfdl_forms.specs.Types.{HasFewBits}
+use Rattle.dfdl_value.specs.Types.{HasForm}
 use Rattle.dfdl_value.specs.declared.read.ReadFault.TheVariants.{PastType}
-use Rattle.dfdl_value.specs.declared.simple.Form.{Form}
-use Rattle.dfdl_value.specs.declared.simple.Form.TheVariants.{Signed, Unsigned, Fixed}
+use Rattle.dfdl_forms.specs.declared.simple.Form.{Form}
+use Rattle.dfdl_forms.specs.declared.simple.Form.TheVariants.{Signed, Unsigned, Fixed}
 use Rattle.dfdl_value.specs.declared.value.Value.{Value}
 use Rattle.dfdl_value.specs.declared.value.Value.TheVariants.{Int, Uns, Dec, Text, Truth, Bytes}
 use Rattle.dfdl_value.proofs.DecimalLemmas.{shortest_from-shift, number_after-append}

@@ -7,8 +7,8 @@ use Rattle.dfdl_value.specs.Numbers.{number_reading}
 use Rattle.dfdl_value.specs.Reading.{fixed_reading}
 use Rattle.dfdl_value.specs.Texts.{with_sign}
 use Rattle.dfdl_value.specs.Types.{HasForm}
-use Rattle.dfdl_value.specs.declared.simple.Form.{Form}
-use Rattle.dfdl_value.specs.declared.simple.Form.TheVariants.{Signed, Unsigned, Fixed}
+use Rattle.dfdl_forms.specs.declared.simple.Form.{Form}
+use Rattle.dfdl_forms.specs.declared.simple.Form.TheVariants.{Signed, Unsigned, Fixed}
 use Rattle.dfdl_value.specs.declared.value.Value.{Value}
 use Rattle.dfdl_value.specs.declared.value.Value.TheVariants.{Int, Uns, Dec, Text, Truth, Bytes}
 use Rattle.dfdl_value.proofs.DecimalLemmas.{int_div-with_sign}

@@ -1,8 +1,8 @@
 -- Lemmas on the value that a number is.
 use Rattle.std.proofs.Common.{◌≡◌, ℕ, ◌<◌, ◌%◌, ◌^◌, if◌then◌else◌, refl, sym, ap, ◌∙◌, Option, Some, None}
 use Rattle.std.specs.Option.{SomeIff}
-use Rattle.dfdl_value.specs.declared.simple.Form.{Form}
-use Rattle.dfdl_value.specs.declared.simple.Form.TheVariants.{Signed, Unsigned, Fixed, Characters, Truths, Octets}
+use Rattle.dfdl_forms.specs.declared.simple.Form.{Form}
+use Rattle.dfdl_forms.specs.declared.simple.Form.TheVariants.{Signed, Unsigned, Fixed, Characters, Truths, Octets}
 use Rattle.dfdl_value.specs.Decimal.{DecimalNumber, shortest_from, is_small}
 use Rattle.dfdl_value.specs.Numbers.{whole_if_short, number_reading}
 use Rattle.dfdl_value.specs.Reading.{Reading, signed_reading, unsigned_reading, fixed_reading}

@@ -5,12 +5,12 @@ use Rattle.std.specs.List.{list_all}
 use Rattle.dfdl_value.specs.Decimal.{DecimalNumber}
 use Rattle.dfdl_value.specs.Reading.{Reading}
 use Rattle.dfdl_value.specs.Numbers.{number_reading}
-use Rattle.dfdl_value.specs.Types.{form_of}
+use Rattle.dfdl_forms.specs.Types.{form_of}
 use Rattle.dfdl_value.specs.declared.read.ReadFault.{ReadFault}
 use Rattle.dfdl_value.specs.declared.read.ReadFault.TheVariants.{NotAValue, PastType as PastTypeOfValue, OutOfMemory}
-use Rattle.dfdl_value.specs.declared.simple.Form.{Form}
-use Rattle.dfdl_value.specs.declared.simple.Form.TheVariants.{Signed, Unsigned}
-use Rattle.dfdl_value.specs.declared.simple.Simple.{Simple}
+use Rattle.dfdl_forms.specs.declared.simple.Form.{Form}
+use Rattle.dfdl_forms.specs.declared.simple.Form.TheVariants.{Signed, Unsigned}
+use Rattle.dfdl_forms.specs.declared.simple.Simple.{Simple}
 use Rattle.dfdl_value.specs.declared.value.Value.{Value}
 use Rattle.dfdl_number_pattern.specs.declared.form.NumberForm.{NumberForm}
 use Rattle.dfdl_number_pattern.specs.declared.pattern.NumberPattern.{NumberPattern}

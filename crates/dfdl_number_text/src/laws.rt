@@ -3,8 +3,9 @@ ghost use Rattle.std.specs.Prelude.{◌≡◌, ◌≢◌, ℕ, true, false, List
 ghost use Rattle.dfdl_value.specs.Decimal.{DecimalNumber};
 ghost use Rattle.dfdl_value.specs.Numbers.{number_reading};
 ghost use Rattle.dfdl_value.specs.Texts.{with_sign};
-ghost use Rattle.dfdl_value.specs.Types.{IsOfType, form_of};
-ghost use Rattle.dfdl_value.specs.declared.simple.Simple.{Simple};
+ghost use Rattle.dfdl_forms.specs.Types.{form_of};
+ghost use Rattle.dfdl_value.specs.Types.{IsOfType};
+ghost use Rattle.dfdl_forms.specs.declared.simple.Simple.{Simple};
 ghost use Rattle.dfdl_value.specs.declared.value.Value.{Value};
 ghost use Rattle.dfdl_number_pattern.specs.declared.form.NumberForm.{NumberForm};
 ghost use Rattle.dfdl_number_pattern.specs.declared.pattern.NumberPattern.{NumberPattern};

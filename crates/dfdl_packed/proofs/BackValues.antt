@@ -7,8 +7,8 @@ use Rattle.std.proofs.lemmas.Nat.{pow_pos}
 use Rattle.std.proofs.Math.Nat.{mul-div_cancel, mul-mod_left}
 use Rattle.dfdl_value.specs.Texts.{with_sign}
 use Rattle.dfdl_value.specs.Types.{HasForm}
-use Rattle.dfdl_value.specs.declared.simple.Form.{Form}
-use Rattle.dfdl_value.specs.declared.simple.Form.TheVariants.{Signed, Unsigned, Fixed, Characters, Truths, Octets}
+use Rattle.dfdl_forms.specs.declared.simple.Form.{Form}
+use Rattle.dfdl_forms.specs.declared.simple.Form.TheVariants.{Signed, Unsigned, Fixed, Characters, Truths, Octets}
 use Rattle.dfdl_value.specs.declared.value.Value.{Value}
 use Rattle.dfdl_value.specs.declared.value.Value.TheVariants.{Int, Uns, Dec}
 use Rattle.dfdl_int_binary.proofs.Back.{fixed_of-fixed}

@@ -6,8 +6,8 @@ use Rattle.std.proofs.lemmas.Bool.Decides.{nat_tests}
 use Rattle.std.proofs.lemmas.List.{take_at, get_or_at}
 use Rattle.std.proofs.lemmas.List.Folds.{list_all-append}
 use Rattle.std.proofs.lemmas.List.Sums.{fold-append}
-use Rattle.dfdl_value.specs.declared.simple.Form.{Form}
-use Rattle.dfdl_value.specs.declared.simple.Form.TheVariants.{Signed, Unsigned, Fixed}
+use Rattle.dfdl_forms.specs.declared.simple.Form.{Form}
+use Rattle.dfdl_forms.specs.declared.simple.Form.TheVariants.{Signed, Unsigned, Fixed}
 use Rattle.dfdl_packed.specs.declared.form.ZonedForm.{ZonedForm}
 use Rattle.dfdl_packed.specs.declared.form.ZonedStyle.{ZonedStyle}
 use Rattle.dfdl_packed.specs.declared.form.ZonedStyle.TheVariants.{AsciiStandard, TranslatedEbcdic}

@@ -2,9 +2,9 @@
 use Rattle.std.specs.Prelude.{ℕ, ◌+◌, ◌-◌, ◌*◌, ◌≤◌, ◌==◌, ◌&&◌, ℤ, unsigned_abs, Bool, true, false, nat_lt, nat_le, max, List, [], ◌∷◌, ◌++◌, length, take, slice_index, map, fold, Option, Some, None, Result, Err, if◌then◌else◌}
 use Rattle.std.specs.Char.{is_ascii_digit}
 use Rattle.std.specs.List.{list_all}
-use Rattle.dfdl_value.specs.Types.{form_of}
-use Rattle.dfdl_value.specs.declared.simple.Form.{Form}
-use Rattle.dfdl_value.specs.declared.simple.Form.TheVariants.{Unsigned}
+use Rattle.dfdl_forms.specs.Types.{form_of}
+use Rattle.dfdl_forms.specs.declared.simple.Form.{Form}
+use Rattle.dfdl_forms.specs.declared.simple.Form.TheVariants.{Unsigned}
 use Rattle.dfdl_value.specs.declared.value.Value.{Value}
 use Rattle.dfdl_packed.specs.declared.form.PackedFault.{PackedFault}
 use Rattle.dfdl_packed.specs.declared.form.PackedFault.TheVariants.{BadNibble}

@@ -1,6 +1,6 @@
 // The integer that a value is written as.
 ghost use Rattle.std.specs.Prelude.{◌≡◌, ◌+◌, ◌*◌, ◌/◌, ◌%◌, ◌^◌, ◌<◌, ◌≤◌, nat_lt, length, IfSome, false, unsigned_abs, ◌==◌, ◌*ℤ◌, pos};
-ghost use Rattle.dfdl_value.specs.Types.{form_of};
+ghost use Rattle.dfdl_forms.specs.Types.{form_of};
 ghost use Rattle.dfdl_packed.specs.Digits.{padded_digits};
 ghost use Rattle.dfdl_packed.specs.Packed.{is_negative};
 ghost use Rattle.dfdl_packed.specs.Typed.{integer_in};

@@ -1,7 +1,7 @@
 // The nibbles that a value is written as.
 ghost use Rattle.std.specs.Prelude.{◌≡◌, ◌+◌, ◌-◌, ◌^◌, ◌<◌, ◌≤◌, nat_lt, Some, ℕ, ℤ, length, IfSome, IsTrue, slice_index, take, drop, replicate, ◌++◌, [], ◌∷◌, ◌==◌, unsigned_abs};
 ghost use Rattle.std.specs.List.{list_all};
-ghost use Rattle.dfdl_value.specs.Types.{form_of};
+ghost use Rattle.dfdl_forms.specs.Types.{form_of};
 ghost use Rattle.dfdl_packed.specs.Digits.{padded_digits};
 ghost use Rattle.dfdl_packed.specs.Packed.{IsPackedForm, packed_writing, is_negative, nibbles_by, ibm_filled, code_in};
 ghost use Rattle.dfdl_packed.specs.declared.form.PackedRep.TheVariants.{Packed, Bcd, Ibm4690};

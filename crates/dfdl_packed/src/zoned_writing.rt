@@ -1,6 +1,6 @@
 // The zoned digits of a number.
 ghost use Rattle.std.specs.Prelude.{◌≡◌, ℕ, ℤ, ◌+◌, ◌^◌, ◌<◌, ◌≤◌, ◌++◌, max, map, length, take, drop, slice_index, slice_set, unsigned_abs, ◌-◌, Some, if◌then◌else◌};
-ghost use Rattle.dfdl_value.specs.Types.{form_of};
+ghost use Rattle.dfdl_forms.specs.Types.{form_of};
 ghost use Rattle.dfdl_packed.specs.Digits.{padded_digits, digit_count};
 ghost use Rattle.dfdl_packed.specs.Packed.{is_negative};
 ghost use Rattle.dfdl_packed.specs.Zoned.{plain_char, sign_char, char_in, signed_chars, chars_if};

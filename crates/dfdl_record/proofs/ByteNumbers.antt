@@ -5,10 +5,10 @@ use Rattle.std.proofs.Math.Nat.{mod-eq_of_lt, mul-le-mul_right, mul-add-div_righ
 use Rattle.std.proofs.lemmas.Nat.{pow-add, mod-pow-add, div-mul-add}
 use Rattle.std.proofs.lemmas.List.{reverse-append, reverse-reverse, length-reverse}
 use Rattle.dfdl_bits.specs.Bits.{number_of}
-use Rattle.dfdl_bits.specs.declared.order.BitOrder.{BitOrder}
-use Rattle.dfdl_bits.specs.declared.order.BitOrder.TheVariants.{MostFirst}
-use Rattle.dfdl_bits.specs.declared.order.ByteOrder.{ByteOrder}
-use Rattle.dfdl_bits.specs.declared.order.ByteOrder.TheVariants.{Big, Little}
+use Rattle.dfdl_forms.specs.declared.order.BitOrder.{BitOrder}
+use Rattle.dfdl_forms.specs.declared.order.BitOrder.TheVariants.{MostFirst}
+use Rattle.dfdl_forms.specs.declared.order.ByteOrder.{ByteOrder}
+use Rattle.dfdl_forms.specs.declared.order.ByteOrder.TheVariants.{Big, Little}
 use Rattle.dfdl_record.specs.Pieces.{bytes_of, in_order}
 
 -- what is known of the number of whole bytes of the data

@@ -4,12 +4,13 @@ use Rattle.std.specs.Option.{unwrap_or}
 use Rattle.std.proofs.lemmas.Bool.{cond-true, lt-ltb}
 use Rattle.std.proofs.lemmas.List.{length-take-le, length-drop, take-append-drop}
 use Rattle.dfdl_bits.specs.Bits.{number_of}
-use Rattle.dfdl_bits.specs.declared.order.BitOrder.{BitOrder}
-use Rattle.dfdl_bits.specs.declared.order.BitOrder.TheVariants.{MostFirst}
-use Rattle.dfdl_bits.specs.declared.order.ByteOrder.{ByteOrder}
-use Rattle.dfdl_value.specs.Types.{HasForm, IsOfType, form_of}
-use Rattle.dfdl_value.specs.declared.simple.Form.{Form}
-use Rattle.dfdl_value.specs.declared.simple.Form.TheVariants.{Unsigned}
+use Rattle.dfdl_forms.specs.declared.order.BitOrder.{BitOrder}
+use Rattle.dfdl_forms.specs.declared.order.BitOrder.TheVariants.{MostFirst}
+use Rattle.dfdl_forms.specs.declared.order.ByteOrder.{ByteOrder}
+use Rattle.dfdl_forms.specs.Types.{form_of}
+use Rattle.dfdl_value.specs.Types.{HasForm, IsOfType}
+use Rattle.dfdl_forms.specs.declared.simple.Form.{Form}
+use Rattle.dfdl_forms.specs.declared.simple.Form.TheVariants.{Unsigned}
 use Rattle.dfdl_value.specs.declared.value.Value.{Value}
 use Rattle.dfdl_value.specs.declared.value.Value.TheVariants.{Uns}
 use Rattle.dfdl_int_binary.specs.declared.form.IntForm.{IntForm}

@@ -1,11 +1,11 @@
 -- The data of a record's values: one piece for each field, its bytes.
 use Rattle.std.specs.Prelude.{◌≡◌, ◌≢◌, ℕ, zero, suc, ◌*◌, ◌/◌, ◌%◌, ◌^◌, ◌≤◌, List, [], ◌∷◌, All, reverse, flat_map, Option, Some, None, unwrap_or}
 use Rattle.std.specs.List.{AllPairs}
-use Rattle.dfdl_bits.specs.declared.order.BitOrder.TheVariants.{MostFirst}
-use Rattle.dfdl_bits.specs.declared.order.ByteOrder.{ByteOrder}
-use Rattle.dfdl_bits.specs.declared.order.ByteOrder.TheVariants.{Big, Little}
-use Rattle.dfdl_value.specs.Types.{form_of}
-use Rattle.dfdl_value.specs.declared.simple.Form.TheVariants.{Unsigned}
+use Rattle.dfdl_forms.specs.declared.order.BitOrder.TheVariants.{MostFirst}
+use Rattle.dfdl_forms.specs.declared.order.ByteOrder.{ByteOrder}
+use Rattle.dfdl_forms.specs.declared.order.ByteOrder.TheVariants.{Big, Little}
+use Rattle.dfdl_forms.specs.Types.{form_of}
+use Rattle.dfdl_forms.specs.declared.simple.Form.TheVariants.{Unsigned}
 use Rattle.dfdl_value.specs.declared.value.Value.{Value}
 use Rattle.dfdl_int_binary.specs.declared.form.IntForm.{IntForm}
 use Rattle.dfdl_int_binary.specs.Integers.{integer_writing}

@@ -4,12 +4,12 @@ use Rattle.std.specs.Str.{bytes_eq}
 use Rattle.std.specs.Prelude.{codes}
 use Rattle.std.proofs.lemmas.Bool.{cond_both}
 use Rattle.std.proofs.lemmas.List.Elements.{All-cons, All-nil}
-use Rattle.dfdl_bits.specs.declared.order.ByteOrder.{ByteOrder}
-use Rattle.dfdl_bits.specs.declared.order.BitOrder.TheVariants.{MostFirst}
-use Rattle.dfdl_value.specs.Types.{form_of as form_of_kind}
-use Rattle.dfdl_value.specs.declared.simple.Form.TheVariants.{Unsigned}
-use Rattle.dfdl_value.specs.declared.simple.Simple.{Simple}
-use Rattle.dfdl_value.specs.declared.simple.Simple.TheVariants.{UnsignedByte, UnsignedShort, UnsignedInt, UnsignedLong}
+use Rattle.dfdl_forms.specs.declared.order.ByteOrder.{ByteOrder}
+use Rattle.dfdl_forms.specs.declared.order.BitOrder.TheVariants.{MostFirst}
+use Rattle.dfdl_forms.specs.Types.{form_of as form_of_kind}
+use Rattle.dfdl_forms.specs.declared.simple.Form.TheVariants.{Unsigned}
+use Rattle.dfdl_forms.specs.declared.simple.Simple.{Simple}
+use Rattle.dfdl_forms.specs.declared.simple.Simple.TheVariants.{UnsignedByte, UnsignedShort, UnsignedInt, UnsignedLong}
 use Rattle.dfdl_int_binary.specs.declared.form.IntForm.{IntForm}
 use Rattle.dfdl_doc_tree.specs.Node.{Node, node_at}
 use Rattle.dfdl_terms.specs.Record.{Field, Record, all_of, record_of}

@@ -14,7 +14,7 @@ use Rattle.std.proofs.Math.Pow.{pow_mono}
 use Rattle.std.proofs.Math.Dec.{T}
 use Rattle.std.proofs.lemmas.Int.{ints}
 use Rattle.dfdl_value.specs.declared.read.ReadFault.TheVariants.{PastType}
-use Rattle.dfdl_value.specs.declared.simple.Form.TheVariants.{Signed, Unsigned}
+use Rattle.dfdl_forms.specs.declared.simple.Form.TheVariants.{Signed, Unsigned}
 use Rattle.dfdl_value.specs.declared.value.Value.TheVariants.{Int, Uns, Bytes}
 use Rattle.dfdl_value.specs.Types.{HasForm}
 use Rattle.dfdl_value.specs.Reading.{form_reading, signed_reading, unsigned_reading, bytes_reading}

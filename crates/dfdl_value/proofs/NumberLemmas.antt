@@ -2,7 +2,7 @@
 use Rattle.std.proofs.Common.{◌≡◌, ◌≢◌, ℕ, zero, suc, ◌%◌, ◌^◌, ◌<◌, ◌≤◌, ◌==◌, Bool, true, false, ◌&&◌, nat_lt, if◌then◌else◌, refl, sym, ap, ◌∙◌, arith, unsigned_abs, Option, Some, None}
 use Rattle.std.proofs.lemmas.Bool.{le-ltb, eqb-true, eqb-false}
 use Rattle.std.proofs.Math.Bool.{and-false}
-use Rattle.dfdl_value.specs.declared.simple.Form.TheVariants.{Signed, Unsigned, Fixed}
+use Rattle.dfdl_forms.specs.declared.simple.Form.TheVariants.{Signed, Unsigned, Fixed}
 use Rattle.dfdl_value.specs.Decimal.{DecimalNumber, shortest_from, is_small, fixed_of}
 use Rattle.dfdl_value.specs.Numbers.{whole_if_short, number_reading}
 use Rattle.dfdl_value.specs.Reading.{signed_reading, unsigned_reading, fixed_reading}

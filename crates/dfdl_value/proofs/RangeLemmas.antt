@@ -7,7 +7,7 @@ use Rattle.std.proofs.lemmas.Float.{T_from_true}
 use Rattle.std.specs.Int.Signed.{le_z_yes}
 use Rattle.dfdl_value.specs.declared.read.ReadFault.{ReadFault}
 use Rattle.dfdl_value.specs.declared.read.ReadFault.TheVariants.{NotAValue, PastType, OutOfMemory}
-use Rattle.dfdl_value.specs.declared.simple.Form.TheVariants.{Signed}
+use Rattle.dfdl_forms.specs.declared.simple.Form.TheVariants.{Signed}
 use Rattle.dfdl_value.specs.declared.value.Value.{Value}
 use Rattle.dfdl_value.specs.declared.value.Value.TheVariants.{Int}
 use Rattle.dfdl_value.specs.Reading.{Reading, signed_reading, unsigned_reading}

@@ -1,13 +1,14 @@
 -- The text of a value is read as that value again.
 use Rattle.std.proofs.Common.{◌≡◌, true, false, refl, lit≤, Ok}
-use Rattle.dfdl_value.specs.declared.simple.Form.{Form}
-use Rattle.dfdl_value.specs.declared.simple.Form.TheVariants.{Signed, Unsigned, Fixed, Characters, Truths, Octets}
-use Rattle.dfdl_value.specs.declared.simple.Simple.{Simple}
-use Rattle.dfdl_value.specs.declared.simple.Simple.TheVariants.{String, HexBinary, Boolean, Decimal, Integer, NonNegativeInteger, Byte, Short, Int as IntType, Long, UnsignedByte, UnsignedShort, UnsignedInt, UnsignedLong}
+use Rattle.dfdl_forms.specs.declared.simple.Form.{Form}
+use Rattle.dfdl_forms.specs.declared.simple.Form.TheVariants.{Signed, Unsigned, Fixed, Characters, Truths, Octets}
+use Rattle.dfdl_forms.specs.declared.simple.Simple.{Simple}
+use Rattle.dfdl_forms.specs.declared.simple.Simple.TheVariants.{String, HexBinary, Boolean, Decimal, Integer, NonNegativeInteger, Byte, Short, Int as IntType, Long, UnsignedByte, UnsignedShort, UnsignedInt, UnsignedLong}
 use Rattle.dfdl_value.specs.declared.value.Value.{Value}
 use Rattle.dfdl_value.specs.declared.value.Value.TheVariants.{Int, Uns, Dec, Text, Truth, Bytes}
 use Rattle.dfdl_value.specs.Reading.{form_reading}
-use Rattle.dfdl_value.specs.Types.{HasForm, HasFewBits, form_of}
+use Rattle.dfdl_forms.specs.Types.{HasFewBits, form_of}
+use Rattle.dfdl_value.specs.Types.{HasForm}
 use Rattle.dfdl_value.specs.Writing.{text_of}
 use Rattle.dfdl_value.proofs.BackLemmas.{signed_back, unsigned_back}
 use Rattle.dfdl_value.proofs.PointLemmas.{decimal_back}

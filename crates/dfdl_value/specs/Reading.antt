@@ -2,16 +2,17 @@
 use Rattle.std.specs.Prelude.{ℕ, Bool, ◌^◌, ◌&&◌, if◌then◌else◌, List, Option, Some, None, Result, Ok, Err, ℤ, pos, int_le, int_lt, unsigned_abs}
 use Rattle.hex.specs.declared.error.FromHexError.{FromHexError}
 use Rattle.hex.specs.Hex.{decode_of}
-use Rattle.dfdl_value.specs.declared.simple.Form.{Form}
-use Rattle.dfdl_value.specs.declared.simple.Form.TheVariants.{Signed, Unsigned, Fixed, Characters, Truths, Octets}
-use Rattle.dfdl_value.specs.declared.simple.Simple.{Simple}
+use Rattle.dfdl_forms.specs.declared.simple.Form.{Form}
+use Rattle.dfdl_forms.specs.declared.simple.Form.TheVariants.{Signed, Unsigned, Fixed, Characters, Truths, Octets}
+use Rattle.dfdl_forms.specs.declared.simple.Simple.{Simple}
 use Rattle.dfdl_value.specs.declared.read.ReadFault.{ReadFault}
 use Rattle.dfdl_value.specs.declared.read.ReadFault.TheVariants.{NotAValue, PastType}
 use Rattle.dfdl_value.specs.declared.value.Value.{Value}
 use Rattle.dfdl_value.specs.declared.value.Value.TheVariants.{Int, Uns, Dec, Text, Truth, Bytes}
 use Rattle.dfdl_value.specs.Decimal.{DecimalNumber, fixed_of}
 use Rattle.dfdl_value.specs.Texts.{trimmed, integer_of, decimal_of, truth_of}
-use Rattle.dfdl_value.specs.Types.{form_of, least_signed, greatest_signed}
+use Rattle.dfdl_forms.specs.Types.{form_of}
+use Rattle.dfdl_value.specs.Types.{least_signed, greatest_signed}
 
 -- what is read or why nothing is
 abbrev pub Reading : Type 0

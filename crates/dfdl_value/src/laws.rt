@@ -6,13 +6,13 @@ ghost use Rattle.dfdl_value.specs.Reading.{bytes_reading, reading_of};
 ghost use Rattle.dfdl_value.specs.Texts.{trimmed};
 ghost use Rattle.dfdl_value.specs.Types.{IsOfType, IsPlain};
 ghost use Rattle.dfdl_value.specs.Writing.{text_of};
-ghost use Rattle.dfdl_value.specs.declared.simple.Simple.{Simple as AnySimple};
+ghost use Rattle.dfdl_forms.specs.declared.simple.Simple.{Simple as AnySimple};
 ghost use Rattle.dfdl_value.specs.declared.value.Value.{Value as AnyValue};
 ghost use Rattle.dfdl_value.specs.declared.value.Value.TheVariants.{Bytes};
 
 use super::fixed::Fixed;
 use super::held::ByteValue;
-use super::simple::Simple;
+use dfdl_forms::Simple;
 use super::value::Value;
 
 fn are_bytes(bytes: &[u8])

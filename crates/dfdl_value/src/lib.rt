@@ -16,7 +16,6 @@ mod octets;
 mod product;
 mod quotient;
 pub mod read;
-pub mod simple;
 mod text;
 pub mod value;
 pub mod vars;
@@ -26,7 +25,7 @@ pub use fixed::{DivFault, Fixed, Overflow};
 pub use held::{ByteValue, TextValue};
 pub use number::value_of_number;
 pub use read::ReadFault;
-pub use simple::{Form, Simple};
+pub use dfdl_forms::{Form, Simple};
 pub use value::Value;
 pub use vars::{CellId, VarDef, VarValues};
 

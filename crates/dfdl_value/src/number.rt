@@ -5,12 +5,12 @@ ghost use Rattle.dfdl_value.specs.Decimal.{fixed_of};
 ghost use Rattle.dfdl_value.specs.Numbers.{number_reading, whole_if_short};
 ghost use Rattle.dfdl_value.specs.Reading.{signed_reading, unsigned_reading, fixed_reading};
 ghost use Rattle.dfdl_value.specs.Texts.{with_sign};
-ghost use Rattle.dfdl_value.specs.Types.{form_of};
+ghost use Rattle.dfdl_forms.specs.Types.{form_of};
 
 use super::fixed::shortest;
 use super::integer::{Whole, signed_value, unsigned_value};
 use super::read::ReadFault;
-use super::simple::{Form, Simple};
+use dfdl_forms::{Form, Simple};
 use super::value::Value;
 
 /// How many digits stand behind the point in the shortest form.

@@ -7,7 +7,7 @@ use super::decimal::read_decimal;
 use super::held::TextValue;
 use super::integer::{read_signed, read_unsigned};
 use super::octets::{read_bytes, read_truth};
-use super::simple::{Form, Simple};
+use dfdl_forms::{Form, Simple};
 use super::text::trimmed;
 use super::value::Value;
 use std::alloc::Global;
@@ -39,7 +39,8 @@ fn read_text(alloc: Global, text: &str) -> Result<Value, ReadFault>
 impl Value {
     ghost use Rattle.std.specs.Prelude.{◌≡◌, ◌↔◌, Ok, Err, IfOk, IsErrOf};
     ghost use Rattle.dfdl_value.specs.Reading.{reading_of};
-    ghost use Rattle.dfdl_value.specs.Types.{IsOfType, HoldsMemory, form_of};
+    ghost use Rattle.dfdl_forms.specs.Types.{form_of};
+    ghost use Rattle.dfdl_value.specs.Types.{IsOfType, HoldsMemory};
 
     /// The value that a text writes. Memory is taken for a string and for hexBinary alone.
     pub fn read(alloc: Global, kind: Simple, text: &str) -> Result<Value, ReadFault>

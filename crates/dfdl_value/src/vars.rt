@@ -2,7 +2,7 @@
 ghost use Rattle.std.specs.Prelude.{◌≡◌, ◌++◌, ◌∷◌, [], ◌<◌, length, slice_get, IsTrue, ◌↔◌, Some, OnOk, OnErr};
 
 use super::held::TextValue;
-use super::simple::Simple;
+use dfdl_forms::Simple;
 use super::value::Value;
 use std::alloc::{AllocError, Global};
 use std::marker::Model;

@@ -1,8 +1,8 @@
 use Rattle.std.proofs.Common.{◌≡◌, ℕ, ◌+◌, ◌-◌, ◌*◌, ◌/◌, ◌%◌, ◌<◌, get_or, sym, ap, ◌∙◌, arith}
 use Rattle.std.proofs.lemmas.List.Edits.{length-between, get_or-between}
 use Rattle.dfdl_bits.specs.Bits.{number_of}
-use Rattle.dfdl_bits.specs.declared.order.BitOrder.TheVariants.{LeastFirst}
-use Rattle.dfdl_bits.specs.declared.order.ByteOrder.TheVariants.{Little}
+use Rattle.dfdl_forms.specs.declared.order.BitOrder.TheVariants.{LeastFirst}
+use Rattle.dfdl_forms.specs.declared.order.ByteOrder.TheVariants.{Little}
 use Rattle.dfdl_bits.proofs.Numbers.{least-in_byte}
 use Rattle.dfdl_bits.proofs.Reading.{rising_more}
 use Rattle.dfdl_bits.proofs.number.rising.Goals as goal

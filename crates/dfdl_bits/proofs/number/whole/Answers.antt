@@ -1,7 +1,7 @@
 use Rattle.std.proofs.Common.{◌≡◌, ℕ, ◌*◌, ◌/◌, sym, ap, ◌∙◌, subst, add-zero, arith}
 use Rattle.dfdl_bits.specs.Bits.{number_of}
-use Rattle.dfdl_bits.specs.declared.order.BitOrder.TheVariants.{MostFirst, LeastFirst}
-use Rattle.dfdl_bits.specs.declared.order.ByteOrder.TheVariants.{Little}
+use Rattle.dfdl_forms.specs.declared.order.BitOrder.TheVariants.{MostFirst, LeastFirst}
+use Rattle.dfdl_forms.specs.declared.order.ByteOrder.TheVariants.{Little}
 use Rattle.dfdl_bits.proofs.Numbers.{groups-whole}
 use Rattle.dfdl_bits.proofs.number.whole.Goals as goal
 

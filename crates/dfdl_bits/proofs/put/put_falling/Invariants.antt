@@ -1,7 +1,7 @@
 use Rattle.std.proofs.Common.{◌≡◌, ◌+◌, ◌-◌, ◌*◌, ◌/◌, ◌^◌}
 use Rattle.dfdl_bits.specs.Bits.{Puts}
-use Rattle.dfdl_bits.specs.declared.order.BitOrder.TheVariants.{MostFirst}
-use Rattle.dfdl_bits.specs.declared.order.ByteOrder.TheVariants.{Big}
+use Rattle.dfdl_forms.specs.declared.order.BitOrder.TheVariants.{MostFirst}
+use Rattle.dfdl_forms.specs.declared.order.ByteOrder.TheVariants.{Big}
 use Rattle.dfdl_bits.proofs.put.put_falling.Given as goal
 
 -- the bits of the bytes written so far

@@ -1,8 +1,8 @@
 use Rattle.std.proofs.Common.{◌≡◌, ℕ, ◌+◌, ◌*◌, ◌/◌, ◌%◌, ◌^◌, ◌<◌, bit_and, mod-eq_of_lt, arith}
 use Rattle.std.proofs.lemmas.Nat.{and_mask, shr_below}
 use Rattle.dfdl_bits.specs.Bits.{Puts}
-use Rattle.dfdl_bits.specs.declared.order.BitOrder.TheVariants.{MostFirst}
-use Rattle.dfdl_bits.specs.declared.order.ByteOrder.TheVariants.{Little}
+use Rattle.dfdl_forms.specs.declared.order.BitOrder.TheVariants.{MostFirst}
+use Rattle.dfdl_forms.specs.declared.order.ByteOrder.TheVariants.{Little}
 use Rattle.dfdl_bits.proofs.Putting.{puts_none, grouped_step}
 use Rattle.dfdl_bits.proofs.put.put_grouped.Goals as goal
 

@@ -2,8 +2,8 @@ use Rattle.std.proofs.Common.{◌≡◌, ℕ, ◌+◌, ◌-◌, ◌*◌, ◌/◌
 use Rattle.std.proofs.lemmas.Nat.{and_mask, shr_below, pow_pos, mod_below}
 use Rattle.dfdl_bits.proofs.Shifts.{and_low}
 use Rattle.dfdl_bits.specs.Bits.{Puts}
-use Rattle.dfdl_bits.specs.declared.order.BitOrder.TheVariants.{LeastFirst}
-use Rattle.dfdl_bits.specs.declared.order.ByteOrder.TheVariants.{Little}
+use Rattle.dfdl_forms.specs.declared.order.BitOrder.TheVariants.{LeastFirst}
+use Rattle.dfdl_forms.specs.declared.order.ByteOrder.TheVariants.{Little}
 use Rattle.dfdl_bits.proofs.Putting.{rising_in_byte, rising_front, rising_byte, rising_step}
 use Rattle.dfdl_bits.proofs.put.put_rising.Goals as goal
 

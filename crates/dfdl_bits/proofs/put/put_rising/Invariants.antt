@@ -1,7 +1,7 @@
 use Rattle.std.proofs.Common.{◌≡◌, ◌+◌, ◌*◌, ◌%◌, ◌^◌}
 use Rattle.dfdl_bits.specs.Bits.{Puts}
-use Rattle.dfdl_bits.specs.declared.order.BitOrder.TheVariants.{LeastFirst}
-use Rattle.dfdl_bits.specs.declared.order.ByteOrder.TheVariants.{Little}
+use Rattle.dfdl_forms.specs.declared.order.BitOrder.TheVariants.{LeastFirst}
+use Rattle.dfdl_forms.specs.declared.order.ByteOrder.TheVariants.{Little}
 use Rattle.dfdl_bits.proofs.put.put_rising.Given as goal
 
 -- the bits of the bytes written so far

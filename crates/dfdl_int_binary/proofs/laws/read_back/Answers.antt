@@ -1,4 +1,4 @@
-use Rattle.dfdl_value.specs.Types.{form_of}
+use Rattle.dfdl_forms.specs.Types.{form_of}
 use Rattle.dfdl_int_binary.proofs.Back.{form_back, truth_back}
 use Rattle.dfdl_int_binary.proofs.laws.read_back.Goals as goal
 

@@ -1,5 +1,5 @@
 use Rattle.std.proofs.Common.{Option, Err, ap, sym, subst, ◌∙◌}
-use Rattle.dfdl_value.specs.Types.{form_of}
+use Rattle.dfdl_forms.specs.Types.{form_of}
 use Rattle.dfdl_number_text.specs.declared.read_number.Number.{Number}
 use Rattle.dfdl_number_text.specs.Reading.{of_value}
 use Rattle.dfdl_number_text.specs.ReadShown.{Shows}

@@ -1,6 +1,6 @@
 use Rattle.std.proofs.Common.{◌≡◌, ℕ, ◌+◌, ◌*◌, ◌<◌, get_or}
 use Rattle.dfdl_bits.specs.Bits.{number_of, KeepsOutside}
-use Rattle.dfdl_bits.specs.declared.order.ByteOrder.TheVariants.{Big}
+use Rattle.dfdl_forms.specs.declared.order.ByteOrder.TheVariants.{Big}
 use Rattle.dfdl_packed.proofs.nibbles.put_nibbles.Given as goal
 
 abbrev pub invariant-loop-at : goal.invariant-loop-at

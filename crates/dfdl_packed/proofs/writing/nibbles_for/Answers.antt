@@ -1,4 +1,4 @@
-use Rattle.dfdl_value.specs.Types.{form_of}
+use Rattle.dfdl_forms.specs.Types.{form_of}
 use Rattle.dfdl_packed.specs.Typed.{integer_in}
 use Rattle.dfdl_packed.proofs.WritingLemmas.{written_as}
 use Rattle.dfdl_packed.proofs.writing.nibbles_for.Goals as goal

@@ -1,5 +1,5 @@
 use Rattle.std.proofs.Common.{◌≡◌, ℕ, ◌+◌, ◌-◌, ◌^◌, ◌<◌, List, [], ◌∷◌, ◌++◌, length, take, drop, set, get_or, nat_lt, true, unsigned_abs, length-set, get_or-set_same, refl, ap, sym, ◌∙◌, arith}
-use Rattle.dfdl_value.specs.Types.{form_of}
+use Rattle.dfdl_forms.specs.Types.{form_of}
 use Rattle.dfdl_packed.specs.Digits.{padded_digits}
 use Rattle.dfdl_packed.specs.Packed.{code_in}
 use Rattle.dfdl_packed.proofs.FillLemmas.{length-padded_digits, filled_front_more, set_low}

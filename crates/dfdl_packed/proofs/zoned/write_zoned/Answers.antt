@@ -1,6 +1,6 @@
 use Rattle.std.proofs.Common.{◌+◌, ◌≤◌, take, arith}
 use Rattle.std.proofs.Math.Nat.{pow-le-pow_right, le_trans}
-use Rattle.dfdl_value.specs.Types.{form_of}
+use Rattle.dfdl_forms.specs.Types.{form_of}
 use Rattle.dfdl_packed.specs.Typed.{integer_in}
 use Rattle.dfdl_packed.proofs.ZonedLemmas.{chars_as}
 use Rattle.dfdl_packed.proofs.zoned.write_zoned.Goals as goal

@@ -1,6 +1,6 @@
 use Rattle.std.proofs.Common.{◌≡◌, ℕ, ◌<◌, List, map, length, take, drop, set, get_or, refl, ap, ◌∙◌, arith}
 use Rattle.std.proofs.lemmas.List.{length-map}
-use Rattle.dfdl_value.specs.Types.{form_of}
+use Rattle.dfdl_forms.specs.Types.{form_of}
 use Rattle.dfdl_packed.specs.Digits.{padded_digits}
 use Rattle.dfdl_packed.specs.Zoned.{plain_char, char_in, signed_chars}
 use Rattle.dfdl_packed.proofs.FillLemmas.{length-padded_digits}

@@ -1,11 +1,11 @@
 use Rattle.std.proofs.Common.{◌≡◌, ◌≢◌, ℕ, List, [], ◌∷◌, None, Some, refl, sym, ap, subst, ◌∙◌, arith, get_or}
 use Rattle.std.proofs.lemmas.List.Elements.{All-cons, All-nil}
 use Rattle.std.proofs.lemmas.List.Kept.{AllPairs-cons}
-use Rattle.dfdl_bits.specs.declared.order.BitOrder.TheVariants.{MostFirst}
-use Rattle.dfdl_bits.specs.declared.order.ByteOrder.{ByteOrder}
+use Rattle.dfdl_forms.specs.declared.order.BitOrder.TheVariants.{MostFirst}
+use Rattle.dfdl_forms.specs.declared.order.ByteOrder.{ByteOrder}
 use Rattle.dfdl_int_binary.specs.declared.form.IntForm.{IntForm}
-use Rattle.dfdl_value.specs.declared.simple.Simple.{Simple}
-use Rattle.dfdl_value.specs.declared.simple.Simple.TheVariants.{UnsignedByte, UnsignedShort}
+use Rattle.dfdl_forms.specs.declared.simple.Simple.{Simple}
+use Rattle.dfdl_forms.specs.declared.simple.Simple.TheVariants.{UnsignedByte, UnsignedShort}
 use Rattle.dfdl_terms.specs.declared.row.Primitive.{Primitive}
 use Rattle.dfdl_terms.specs.declared.row.Primitive.TheVariants.{Integer}
 use Rattle.dfdl_terms.specs.declared.row.Row.{Row}

@@ -1,5 +1,5 @@
 use Rattle.std.proofs.Common.{◌∙◌, sym, subst}
-use Rattle.dfdl_value.specs.declared.simple.Form.{Form}
+use Rattle.dfdl_forms.specs.declared.simple.Form.{Form}
 use Rattle.dfdl_value.specs.Types.{HasForm}
 use Rattle.dfdl_value.proofs.RangeLemmas.{HasForm-signed, IfOk-reading}
 use Rattle.dfdl_value.proofs.value.Value.read.Goals as goal

@@ -37,7 +37,7 @@ pub enum Form {
 
 impl Simple {
     ghost use Rattle.std.specs.Prelude.{◌≡◌};
-    ghost use Rattle.dfdl_value.specs.Types.{form_of, HasFewBits};
+    ghost use Rattle.dfdl_forms.specs.Types.{form_of, HasFewBits};
 
     pub fn form(self) -> Form
         ensures form { result ≡ form_of self }

@@ -1,0 +1,16 @@
+//! The forms of data: types, orders and encodings that rows, codecs, the compiler and the parser share.
+//!
+//! A form says how something lies in the data, and keeps its bounds; the codecs' contracts say what it means. The
+//! crate stands at the bottom, so that a change of a codec touches no row. It serves 'Properties Common to both Content
+//! and Framing' and 'Simple Types'.
+#![tactic(auto)]
+
+pub mod encoding;
+pub mod fault;
+pub mod order;
+pub mod simple;
+
+pub use encoding::Encoding;
+pub use fault::{NoFit, NoTruth};
+pub use order::{BitOrder, ByteOrder};
+pub use simple::{Form, Simple};

@@ -4,7 +4,7 @@ use Rattle.std.specs.Option.{option_map}
 use Rattle.std.proofs.lemmas.Bool.{eq-eqb, ne_eqb, lt-ltb}
 use Rattle.std.proofs.lemmas.Bool.Decides.{nat_tests}
 use Rattle.std.proofs.lemmas.Int.{unsigned_abs-mul}
-use Rattle.dfdl_value.specs.Decimal.{DecimalNumber, IsFixed, shortest_from, fixed_of}
+use Rattle.dfdl_decimal.specs.Decimal.{DecimalNumber, IsFixed, shortest_from, fixed_of}
 use Rattle.dfdl_value.specs.Types.{HasForm}
 use Rattle.dfdl_forms.specs.declared.simple.Form.{Form}
 use Rattle.dfdl_forms.specs.declared.simple.Form.TheVariants.{Signed, Unsigned, Fixed, Characters, Truths, Octets}

@@ -2,7 +2,7 @@
 use Rattle.std.specs.Prelude.{ℕ, ◌-◌, ◌^◌, ◌≤◌, ℤ, pos, ◌*ℤ◌, nat_lt, nat_le, List, Option, Some, None, if◌then◌else◌}
 use Rattle.std.specs.Option.{option_map}
 use Rattle.dfdl_bits.specs.Bits.{number_of}
-use Rattle.dfdl_value.specs.Decimal.{DecimalNumber, fixed_of}
+use Rattle.dfdl_decimal.specs.Decimal.{DecimalNumber, fixed_of}
 use Rattle.dfdl_forms.specs.Types.{form_of}
 use Rattle.dfdl_forms.specs.declared.simple.Form.{Form}
 use Rattle.dfdl_forms.specs.declared.simple.Form.TheVariants.{Signed, Unsigned, Fixed}

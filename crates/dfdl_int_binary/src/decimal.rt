@@ -2,12 +2,12 @@
 ghost use Rattle.std.specs.Prelude.{◌≡◌, ◌*ℤ◌, ◌^◌, ◌<◌, ◌≤◌, ◌%◌, pos, FitsSigned, IfSome, ◌==◌, unsigned_abs, int_div, false};
 ghost use Rattle.std.specs.Int.{w128};
 ghost use Rattle.std.specs.Option.{SomeIff};
-ghost use Rattle.dfdl_value.specs.Decimal.{fixed_of};
+ghost use Rattle.dfdl_decimal.specs.Decimal.{fixed_of};
 ghost use Rattle.dfdl_int_binary.specs.Integers.{scaled_of, pattern_if};
 
 use crate::signed::pattern;
 use dfdl_value::Fixed;
-use dfdl_value::fixed::shortest;
+use dfdl_decimal::shortest;
 
 /// The integer divided by ten to the power of `point`, if it has no more digits than a decimal can have.
 pub fn divided(integer: i128, point: u8) -> Option<Fixed>

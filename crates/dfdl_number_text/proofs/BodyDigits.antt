@@ -6,9 +6,10 @@ use Rattle.std.proofs.lemmas.Bool.{eq-eqb, ne_eqb}
 use Rattle.std.proofs.lemmas.Grind.{get_or_default_zero}
 use Rattle.std.proofs.lemmas.List.{append-nil, length-replicate}
 use Rattle.std.proofs.Math.Nat.{pow-suc, mul_assoc, mul_comm}
-use Rattle.dfdl_value.specs.Decimal.{shortest_from}
-use Rattle.dfdl_value.specs.Texts.{number_after, number_of, without_trailing, is_zero, with_sign}
-use Rattle.dfdl_value.proofs.DecimalLemmas.{trailing_zeros, number_after-append, list_all-without_trailing, shortest_from-shift, IsShortest, IsShortest-without_trailing}
+use Rattle.dfdl_decimal.specs.Decimal.{shortest_from, with_sign}
+use Rattle.dfdl_value.specs.Texts.{number_after, number_of, without_trailing, is_zero}
+use Rattle.dfdl_value.proofs.DecimalLemmas.{trailing_zeros, number_after-append, list_all-without_trailing, IsShortest, IsShortest-without_trailing}
+use Rattle.dfdl_decimal.proofs.FixedLemmas.{shortest_from-shift}
 use Rattle.dfdl_value.proofs.TextLemmas.{number_after-ge}
 
 -- a text from a place on, without what is no digit

@@ -5,9 +5,9 @@ use Rattle.std.specs.List.{list_all}
 use Rattle.std.proofs.Math.Nat.{div-one}
 use Rattle.std.proofs.lemmas.Bool.{cases_lt, cases_eq, eq-eqb, eqb-true, lt-ltb, and_parts}
 use Rattle.std.proofs.lemmas.List.{length-map, nil_from_length}
-use Rattle.dfdl_value.specs.Decimal.{DecimalNumber}
+use Rattle.dfdl_decimal.specs.Decimal.{DecimalNumber, with_sign}
 use Rattle.dfdl_value.specs.Numbers.{number_reading}
-use Rattle.dfdl_value.specs.Texts.{number_after, number_of, with_sign}
+use Rattle.dfdl_value.specs.Texts.{number_after, number_of}
 use Rattle.dfdl_forms.specs.Types.{HasFewBits, form_of}
 use Rattle.dfdl_value.specs.Types.{IsOfType}
 use Rattle.dfdl_forms.specs.declared.simple.Simple.{Simple}

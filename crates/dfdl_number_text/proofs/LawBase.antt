@@ -7,7 +7,7 @@ use Rattle.std.proofs.lemmas.Bool.{lt-ltb, and_parts}
 use Rattle.std.proofs.lemmas.Bool.Decides.{nat_tests}
 use Rattle.std.proofs.lemmas.Int.{ints}
 use Rattle.std.proofs.lemmas.List.{length-map}
-use Rattle.dfdl_value.specs.Texts.{with_sign}
+use Rattle.dfdl_decimal.specs.Decimal.{with_sign}
 use Rattle.dfdl_forms.specs.Types.{HasFewBits, form_of}
 use Rattle.dfdl_value.specs.Types.{HasForm, IsOfType}
 use Rattle.dfdl_forms.specs.declared.simple.Form.{Form}

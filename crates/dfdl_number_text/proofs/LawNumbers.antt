@@ -10,10 +10,10 @@ use Rattle.std.proofs.lemmas.Int.{ints}
 use Rattle.std.proofs.lemmas.List.{take-append-drop}
 use Rattle.std.proofs.lemmas.List.Folds.{list_all-append}
 use Rattle.std.proofs.lemmas.Nat.{div-add-mod'}
-use Rattle.dfdl_value.specs.Decimal.{DecimalNumber, SameNumber, shortest_from, is_small}
+use Rattle.dfdl_decimal.specs.Decimal.{DecimalNumber, SameNumber, shortest_from, is_small, with_sign}
 use Rattle.dfdl_value.specs.Numbers.{number_reading, whole_of, whole_if_short}
 use Rattle.dfdl_value.specs.Reading.{signed_reading, unsigned_reading, fixed_reading}
-use Rattle.dfdl_value.specs.Texts.{before_rest, without_trailing, is_zero, number_after, with_sign}
+use Rattle.dfdl_value.specs.Texts.{before_rest, without_trailing, is_zero, number_after}
 use Rattle.dfdl_forms.specs.Types.{HasFewBits}
 use Rattle.dfdl_value.specs.Types.{HasForm}
 use Rattle.dfdl_value.specs.declared.read.ReadFault.TheVariants.{PastType}
@@ -21,10 +21,11 @@ use Rattle.dfdl_forms.specs.declared.simple.Form.{Form}
 use Rattle.dfdl_forms.specs.declared.simple.Form.TheVariants.{Signed, Unsigned, Fixed}
 use Rattle.dfdl_value.specs.declared.value.Value.{Value}
 use Rattle.dfdl_value.specs.declared.value.Value.TheVariants.{Int, Uns, Dec, Text, Truth, Bytes}
-use Rattle.dfdl_value.proofs.DecimalLemmas.{shortest_from-shift, number_after-append}
-use Rattle.dfdl_value.proofs.OrderLemmas.{pow_some, pow_split}
-use Rattle.dfdl_value.proofs.SameLemmas.{fixed_of-same}
-use Rattle.dfdl_value.proofs.SumLemmas.{with_sign-abs, mul-with_sign}
+use Rattle.dfdl_value.proofs.DecimalLemmas.{number_after-append}
+use Rattle.dfdl_decimal.proofs.FixedLemmas.{shortest_from-shift}
+use Rattle.dfdl_decimal.proofs.OrderLemmas.{pow_some, pow_split}
+use Rattle.dfdl_decimal.proofs.SameLemmas.{fixed_of-same}
+use Rattle.dfdl_decimal.proofs.SumLemmas.{with_sign-abs, mul-with_sign}
 use Rattle.dfdl_number_pattern.specs.declared.form.Rounding.{Rounding}
 use Rattle.dfdl_number_pattern.specs.declared.pattern.NumberPattern.{NumberPattern}
 use Rattle.dfdl_number_pattern.specs.declared.pattern.Point.{Point}

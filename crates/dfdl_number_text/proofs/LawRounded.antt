@@ -2,18 +2,16 @@
 use Rattle.std.proofs.Common.{◌≡◌, ℕ, zero, suc, ◌-◌, ◌*◌, ◌/◌, ◌%◌, ◌^◌, ◌<◌, ◌≤◌, ◌==◌, ◌&&◌, Bool, true, false, nat_lt, if◌then◌else◌, ℤ, pos, int_div, unsigned_abs, Some, None, is_ok, ap, ◌∙◌, arith, mul_assoc}
 use Rattle.std.proofs.Math.Nat.{le_trans, le_of_mul-le-mul_right, mul-le-mul_left, mul-le-mul_right, pow-le-pow_right, div-mul-le_self}
 use Rattle.std.proofs.lemmas.Bool.{lt-ltb}
-use Rattle.dfdl_value.specs.Decimal.{DecimalNumber, shortest_from, is_small}
+use Rattle.dfdl_decimal.specs.Decimal.{DecimalNumber, shortest_from, is_small, with_sign}
 use Rattle.dfdl_value.specs.Numbers.{number_reading}
 use Rattle.dfdl_value.specs.Reading.{fixed_reading}
-use Rattle.dfdl_value.specs.Texts.{with_sign}
 use Rattle.dfdl_value.specs.Types.{HasForm}
 use Rattle.dfdl_forms.specs.declared.simple.Form.{Form}
 use Rattle.dfdl_forms.specs.declared.simple.Form.TheVariants.{Signed, Unsigned, Fixed}
 use Rattle.dfdl_value.specs.declared.value.Value.{Value}
 use Rattle.dfdl_value.specs.declared.value.Value.TheVariants.{Int, Uns, Dec, Text, Truth, Bytes}
-use Rattle.dfdl_value.proofs.DecimalLemmas.{int_div-with_sign}
-use Rattle.dfdl_value.proofs.OrderLemmas.{pow_some, pow_split}
-use Rattle.dfdl_value.proofs.TextLemmas.{unsigned_abs-with_sign}
+use Rattle.dfdl_decimal.proofs.FixedLemmas.{int_div-with_sign, unsigned_abs-with_sign}
+use Rattle.dfdl_decimal.proofs.OrderLemmas.{pow_some, pow_split}
 use Rattle.dfdl_number_pattern.specs.declared.form.Rounding.{Rounding}
 use Rattle.dfdl_number_pattern.specs.declared.pattern.Point.{Point}
 use Rattle.dfdl_number_text.specs.Reading.{of_value}

@@ -3,10 +3,9 @@ use Rattle.std.proofs.Common.{◌≡◌, ℕ, ◌<◌, ◌%◌, ◌^◌, if◌th
 use Rattle.std.specs.Option.{SomeIff}
 use Rattle.dfdl_forms.specs.declared.simple.Form.{Form}
 use Rattle.dfdl_forms.specs.declared.simple.Form.TheVariants.{Signed, Unsigned, Fixed, Characters, Truths, Octets}
-use Rattle.dfdl_value.specs.Decimal.{DecimalNumber, shortest_from, is_small}
+use Rattle.dfdl_decimal.specs.Decimal.{DecimalNumber, shortest_from, is_small, with_sign}
 use Rattle.dfdl_value.specs.Numbers.{whole_if_short, number_reading}
 use Rattle.dfdl_value.specs.Reading.{Reading, signed_reading, unsigned_reading, fixed_reading}
-use Rattle.dfdl_value.specs.Texts.{with_sign}
 use Rattle.dfdl_number_text.specs.declared.read_number.Number.{Number}
 use Rattle.dfdl_number_text.specs.Reading.{of_value, number_if}
 use Rattle.dfdl_number_text.specs.ReadShown.{Shows}

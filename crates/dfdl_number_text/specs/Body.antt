@@ -3,8 +3,8 @@ use Rattle.std.specs.Prelude.{ℕ, ◌+◌, ◌-◌, ◌==◌, ◌&&◌, Bool, t
 use Rattle.std.specs.Char.{is_ascii_digit}
 use Rattle.std.specs.List.{list_all, before_first, after_first}
 use Rattle.std.specs.Str.{bytes_eq}
-use Rattle.dfdl_value.specs.Decimal.{DecimalNumber}
-use Rattle.dfdl_value.specs.Texts.{number_of, with_sign}
+use Rattle.dfdl_decimal.specs.Decimal.{DecimalNumber, with_sign}
+use Rattle.dfdl_value.specs.Texts.{number_of}
 use Rattle.dfdl_number_pattern.specs.declared.form.NumberForm.{NumberForm}
 use Rattle.dfdl_number_pattern.specs.declared.pattern.NumberPattern.{NumberPattern}
 use Rattle.dfdl_number_pattern.specs.declared.pattern.Point.{Point}

@@ -1,7 +1,7 @@
 -- The conditions under which the text of a number by a pattern is read as that number.
 use Rattle.std.specs.Prelude.{◌≡◌, ◌≢◌, ℕ, ◌<◌, ◌≤◌, ◌==◌, ◌||◌, not, Bool, ◌⊎◌, true, false, List, [], ◌∷◌, length, reverse, chars, None}
 use Rattle.std.specs.Char.{is_ascii_digit}
-use Rattle.dfdl_value.specs.Decimal.{DecimalNumber}
+use Rattle.dfdl_decimal.specs.Decimal.{DecimalNumber}
 use Rattle.dfdl_number_pattern.specs.declared.form.NumberForm.{NumberForm}
 use Rattle.dfdl_number_pattern.specs.declared.pattern.NumberPattern.{NumberPattern}
 use Rattle.dfdl_number_pattern.specs.declared.pattern.Point.{Point}

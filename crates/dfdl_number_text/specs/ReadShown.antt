@@ -2,8 +2,7 @@
 use Rattle.std.specs.Prelude.{◌≡◌, ℕ, ◌<◌, ◌%◌, ◌^◌, ◌&&◌, ◌||◌, Bool, List, Option, Some, None}
 use Rattle.std.specs.Char.{is_ascii_digit}
 use Rattle.std.specs.Option.{SomeIff}
-use Rattle.dfdl_value.specs.Decimal.{DecimalNumber, shortest_from}
-use Rattle.dfdl_value.specs.Texts.{with_sign}
+use Rattle.dfdl_decimal.specs.Decimal.{DecimalNumber, shortest_from, with_sign}
 use Rattle.dfdl_number_text.specs.Body.{is_separator, begins_with_digit}
 use Rattle.dfdl_number_text.specs.declared.read_number.Number.{Number}
 

@@ -2,7 +2,7 @@
 use Rattle.std.specs.Prelude.{ℕ, ◌+◌, ◌*◌, ◌&&◌, Bool, true, false, nat_lt, List, length, fold, chars, Option, Some, None, option_and_then, Result, Ok, Err, pos, if◌then◌else◌}
 use Rattle.std.specs.Char.{digit_value}
 use Rattle.std.specs.List.{list_all}
-use Rattle.dfdl_value.specs.Decimal.{DecimalNumber}
+use Rattle.dfdl_decimal.specs.Decimal.{DecimalNumber}
 use Rattle.dfdl_value.specs.Reading.{Reading}
 use Rattle.dfdl_value.specs.Numbers.{number_reading}
 use Rattle.dfdl_forms.specs.Types.{form_of}

@@ -2,7 +2,8 @@
 ghost use Rattle.std.specs.Prelude.{◌≡◌, ℕ, ◌<◌, ◌≤◌, ◌==◌, ◌++◌, [], length, filter, false, IsTrue};
 ghost use Rattle.std.specs.Char.{is_ascii_digit};
 ghost use Rattle.std.specs.List.{list_all, position};
-ghost use Rattle.dfdl_value.specs.Texts.{number_of as number_of_digits, with_sign};
+ghost use Rattle.dfdl_value.specs.Texts.{number_of as number_of_digits};
+ghost use Rattle.dfdl_decimal.specs.Decimal.{with_sign};
 ghost use Rattle.dfdl_number_text.specs.Body.{are_grouped as are_grouped_in, are_digits as are_digits_in, begins_with_digit as begins_so, body_number as body_number_of, is_separator as is_separator_in, parts_at, separator_of as separator_in};
 ghost use Rattle.dfdl_number_text.specs.ReadShown.{IsNumber, Shows, may_stand as may_stand_in};
 

@@ -1,8 +1,7 @@
 // Laws of the definitions that the contracts cite. The calls do nothing.
 ghost use Rattle.std.specs.Prelude.{◌≡◌, ◌≢◌, ℕ, true, false, List, ◌∷◌, Some, None, Ok, IsOk, pos};
-ghost use Rattle.dfdl_value.specs.Decimal.{DecimalNumber};
+ghost use Rattle.dfdl_decimal.specs.Decimal.{DecimalNumber, with_sign};
 ghost use Rattle.dfdl_value.specs.Numbers.{number_reading};
-ghost use Rattle.dfdl_value.specs.Texts.{with_sign};
 ghost use Rattle.dfdl_forms.specs.Types.{form_of};
 ghost use Rattle.dfdl_value.specs.Types.{IsOfType};
 ghost use Rattle.dfdl_forms.specs.declared.simple.Simple.{Simple};

@@ -1,6 +1,6 @@
 // The number that a text is read as.
 ghost use Rattle.std.specs.Prelude.{◌≡◌, Option};
-ghost use Rattle.dfdl_value.specs.Decimal.{DecimalNumber};
+ghost use Rattle.dfdl_decimal.specs.Decimal.{DecimalNumber};
 ghost use Rattle.dfdl_forms.specs.Types.{form_of};
 ghost use Rattle.dfdl_number_text.specs.Reading.{fault_of, number_if};
 ghost use Rattle.dfdl_number_text.specs.ReadShown.{Shows};

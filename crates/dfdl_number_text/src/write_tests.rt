@@ -2,7 +2,7 @@
 use crate::write;
 use dfdl_number_pattern::{NumberForm, Rounding, read_pattern};
 use dfdl_value::Value;
-use dfdl_value::fixed::shortest;
+use dfdl_decimal::shortest;
 use std::alloc::{AllocError, Global};
 use std::test::Fail;
 

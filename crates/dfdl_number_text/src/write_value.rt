@@ -1,6 +1,6 @@
 // The unparser of text numbers.
 ghost use Rattle.std.specs.Prelude.{◌≡◌, ℕ, ◌+◌, ◌*◌, ◌^◌, ◌<◌, ◌≤◌, ◌==◌, ◌↔◌, ◌++◌, Some, None, IsErr, IfOk, IfSome, OnErr, IsUtf8, chars, length, take, drop, map, option_and_then, unsigned_abs};
-ghost use Rattle.dfdl_value.specs.Decimal.{DecimalNumber};
+ghost use Rattle.dfdl_decimal.specs.Decimal.{DecimalNumber};
 ghost use Rattle.dfdl_number_pattern.specs.Characters.{room_of};
 ghost use Rattle.dfdl_number_text.specs.Rounding.{rounded};
 ghost use Rattle.dfdl_number_text.specs.Writing.{base_digits, base_text, behind_integer, body_text, grouped, integer_digits, is_below_zero, number_of_value, pattern_text, places_of, signed_text, size_at, with_separator, writing};

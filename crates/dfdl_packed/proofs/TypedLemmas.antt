@@ -4,8 +4,7 @@ use Rattle.std.proofs.lemmas.Bool.{cases_lt, cases_eq, eq-eqb, ne_eqb, lt-ltb, l
 use Rattle.std.proofs.lemmas.Bool.Decides.{nat_tests}
 use Rattle.std.proofs.lemmas.Nat.{pow-add, div-add-mod'}
 use Rattle.std.proofs.Math.Nat.{mul-div_cancel, div-eq_of_eq-mul_left, mul-mod_left}
-use Rattle.dfdl_value.specs.Decimal.{shortest_from, fixed_of}
-use Rattle.dfdl_value.specs.Texts.{with_sign}
+use Rattle.dfdl_decimal.specs.Decimal.{shortest_from, fixed_of, with_sign}
 use Rattle.dfdl_int_binary.proofs.Back.{zeros_cut, shortest_stays}
 use Rattle.dfdl_int_binary.proofs.Powers.{half_small}
 use Rattle.dfdl_int_binary.proofs.Scaled.{neg-times}

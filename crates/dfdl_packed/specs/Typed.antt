@@ -1,7 +1,6 @@
 -- The value of a type that an integer and a virtual point stand for. 'Simple Types'.
 use Rattle.std.specs.Prelude.{ℕ, ◌-◌, ◌*◌, ◌/◌, ◌%◌, ◌^◌, ◌==◌, ℤ, pos, negsuc, ◌*ℤ◌, Bool, nat_lt, Option, Some, None, Result, Ok, Err, if◌then◌else◌}
-use Rattle.dfdl_value.specs.Decimal.{DecimalNumber, fixed_of}
-use Rattle.dfdl_value.specs.Texts.{with_sign}
+use Rattle.dfdl_decimal.specs.Decimal.{DecimalNumber, fixed_of, with_sign}
 use Rattle.dfdl_forms.specs.declared.simple.Form.{Form}
 use Rattle.dfdl_forms.specs.declared.simple.Form.TheVariants.{Signed, Unsigned, Fixed}
 use Rattle.dfdl_value.specs.declared.value.Value.{Value}

@@ -1,7 +1,6 @@
 // The value of a type that a sign, a size and a virtual point stand for.
 ghost use Rattle.std.specs.Prelude.{◌≡◌, ◌⊎◌, ℕ, ◌+◌, ◌-◌, ◌*◌, ◌/◌, ◌%◌, ◌^◌, ◌<◌, ◌≤◌, ◌==◌, not, pos, negsuc};
-ghost use Rattle.dfdl_value.specs.Decimal.{fixed_of};
-ghost use Rattle.dfdl_value.specs.Texts.{with_sign};
+ghost use Rattle.dfdl_decimal.specs.Decimal.{fixed_of, with_sign};
 ghost use Rattle.dfdl_forms.specs.Types.{form_of};
 ghost use Rattle.dfdl_packed.specs.Sizes.{IsHeld, Shows};
 ghost use Rattle.dfdl_packed.specs.Typed.{value_in, signed_value, unsigned_value, decimal_value};

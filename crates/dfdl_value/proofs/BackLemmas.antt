@@ -20,7 +20,8 @@ use Rattle.dfdl_value.specs.Types.{HasForm}
 use Rattle.dfdl_value.specs.Reading.{form_reading, signed_reading, unsigned_reading, bytes_reading}
 use Rattle.dfdl_value.specs.Writing.{text_of}
 use Rattle.dfdl_value.proofs.TextLemmas.{integer_of-numeral}
-use Rattle.dfdl_value.specs.Texts.{is_xml_space, before_rest, without_leading, without_trailing, trimmed, is_negative, unsigned_part, is_numeral, number_after, number_of, with_sign, integer_of}
+use Rattle.dfdl_value.specs.Texts.{is_xml_space, before_rest, without_leading, without_trailing, trimmed, is_negative, unsigned_part, is_numeral, number_after, number_of, integer_of}
+use Rattle.dfdl_decimal.specs.Decimal.{with_sign}
 
 -- digits as std has them
 pub own : IsNumeralModel (λ ds. list_all is_ascii_digit ds ≡ true) number_of

@@ -8,9 +8,9 @@ use Rattle.std.proofs.Math.Bool.{and-false}
 use Rattle.std.proofs.lemmas.List.{append-nil}
 use Rattle.std.proofs.lemmas.Bool.Decides.{nat_tests}
 use Rattle.std.proofs.Math.Nat.{pow-suc, mul_assoc}
-use Rattle.dfdl_value.specs.Decimal.{DecimalNumber, IsFixed, shortest_from, is_small, fixed_of}
-use Rattle.dfdl_value.specs.Texts.{before_rest, without_trailing, is_zero, number_after, number_of, with_sign}
-use Rattle.dfdl_value.proofs.TextLemmas.{unsigned_abs-with_sign}
+use Rattle.dfdl_decimal.specs.Decimal.{DecimalNumber, IsFixed, shortest_from, is_small, fixed_of, with_sign}
+use Rattle.dfdl_value.specs.Texts.{before_rest, without_trailing, is_zero, number_after, number_of}
+use Rattle.dfdl_decimal.proofs.FixedLemmas.{unsigned_abs-with_sign, shortest_from-zero, shortest_from-stops, not_round}
 
 both : (a b : Bool) → (a && b) ≡ true → (a ≡ true) × (b ≡ true)
 both true b e = (refl, e)
@@ -69,44 +69,6 @@ list_all-empty (x ∷ xs) h = absurd (omega arith)
 
 -- ---- the shortest form
 
-pub int_div-with_sign : (b : Bool) (n : ℕ) → int_div (with_sign b n) (pos 10) ≡ with_sign b (n / 10)
-int_div-with_sign true zero = refl
-int_div-with_sign true (suc n) = refl
-int_div-with_sign false n = refl
-
--- a zero at the end is dropped
-shortest_from-zero : (s : ℕ) (b : Bool) (n : ℕ) → shortest_from (suc s) (with_sign b (n * 10)) ≡ shortest_from s (with_sign b n)
-shortest_from-zero s b n =
-    let even : unsigned_abs (with_sign b (n * 10)) % 10 ≡ 0 = rw unsigned_abs-with_sign (omega arith) in
-    let less : n * 10 / 10 ≡ n = omega arith in
-    ap (λ t. if t then shortest_from s (int_div (with_sign b (n * 10)) (pos 10)) else record { mantissa = with_sign b (n * 10); scale = suc s }) (eq-eqb _ _ even)
-    ∙ ap (shortest_from s) (int_div-with_sign b (n * 10) ∙ ap (with_sign b) less)
-
-pub shortest_from-divides : (s : ℕ) (b : Bool) (n : ℕ) → 0 < s → n % 10 ≡ 0 → shortest_from (s - 1) (with_sign b (n / 10)) ≡ shortest_from s (with_sign b n)
-shortest_from-divides s b n some even =
-    let longer : suc (s - 1) ≡ s = omega arith in
-    let larger : n / 10 * 10 ≡ n = omega arith in
-    sym (shortest_from-zero (s - 1) b (n / 10)) ∙ ap (λ k. shortest_from k (with_sign b (n / 10 * 10))) longer ∙ ap (λ k. shortest_from s (with_sign b k)) larger
-
--- zeros behind a number are dropped with as many digits after the point
-pub shortest_from-shift : (j s : ℕ) (b : Bool) (n : ℕ) → shortest_from (s + j) (with_sign b (n * 10 ^ j)) ≡ shortest_from s (with_sign b n)
-shortest_from-shift zero s b n =
-    let scale : s + 0 ≡ s = omega arith in
-    let one : n * 1 ≡ n = omega arith in
-    ap (λ k. shortest_from k (with_sign b (n * 1))) scale ∙ ap (λ k. shortest_from s (with_sign b k)) one
-shortest_from-shift (suc j) s b n =
-    let scale : s + suc j ≡ suc (s + j) = omega arith in
-    let more : n * 10 ^ suc j ≡ n * 10 ^ j * 10 = ap (λ p. n * p) (pow-suc 10 j) ∙ sym (mul_assoc n (10 ^ j) 10) in
-    ap (λ k. shortest_from k (with_sign b (n * 10 ^ suc j))) scale
-    ∙ ap (λ k. shortest_from (suc (s + j)) (with_sign b k)) more
-    ∙ shortest_from-zero (s + j) b (n * 10 ^ j)
-    ∙ shortest_from-shift j s b n
-
--- another digit stays
-pub shortest_from-stops : (s : ℕ) (z : ℤ) → unsigned_abs z % 10 ≢ 0 → shortest_from (suc s) z ≡ record { mantissa = z; scale = suc s }
-shortest_from-stops s z other =
-    ap (λ t. if t then shortest_from s (int_div z (pos 10)) else record { mantissa = z; scale = suc s }) (ne_eqb _ _ other)
-
 -- zeros at the end are dropped
 shortest_from-zeros : (k : ℕ) (b : Bool) (w f : List ℕ) → shortest_from (length (f ++ replicate k 48)) (with_sign b (number_of (w ++ (f ++ replicate k 48)))) ≡ shortest_from (length f) (with_sign b (number_of (w ++ f)))
 shortest_from-zeros zero b w f = ap (λ t. shortest_from (length t) (with_sign b (number_of (w ++ t)))) (append-nil f)
@@ -126,9 +88,6 @@ pub record IsShortest (b : Bool) (w f : List ℕ) : Type 0 where
 
 last_digit : (y : ℕ) → is_ascii_digit y ≡ true → is_zero y ≡ false → (0 < y - 48) × (y - 48 < 10)
 last_digit y digit other = grind (arith, nat_tests)
-
-pub not_round : (n d : ℕ) → 0 < d → d < 10 → (n * 10 + d) % 10 ≢ 0
-not_round n d some less = λ e. omega arith
 
 IsShortest-push : (b : Bool) (w ys : List ℕ) (y : ℕ) → list_all is_ascii_digit (ys ++ y ∷ []) ≡ true → is_zero y ≡ false → IsShortest b w (ys ++ y ∷ [])
 IsShortest-push b w ys y digits other =
@@ -177,17 +136,6 @@ module _ (b : Bool) (w f kept : List ℕ) (digits : list_all is_ascii_digit f �
       let none : (less && nat_lt (length kept) 256) ≡ false = ap (λ t. less && t) (le-ltb _ _ long) ∙ and-false less in
       by_shortest ∙ ap (λ t. if t then Some (by_digits b w kept) else None) none
 
-  pub fixed_of-small : number_of (w ++ kept) < 10 ^ 38 → length kept < 256 → fixed_of (by_digits b w f) ≡ Some (by_digits b w kept)
-  fixed_of-small small few =
-      let less : unsigned_abs (with_sign b (number_of (w ++ kept))) < 10 ^ 38 = rw unsigned_abs-with_sign small in
-      let all : is_small (by_digits b w kept) ≡ true = ap (λ t. t && nat_lt (length kept) 256) (lt-ltb _ _ less) ∙ lt-ltb _ _ few in
-      by_shortest ∙ ap (λ t. if t then Some (by_digits b w kept) else None) all
-
-  pub IsFixed-by_digits : number_of (w ++ kept) < 10 ^ 38 → length kept < 256 → IsFixed (by_digits b w kept)
-  IsFixed-by_digits small few =
-      let shortest : IsShortest b w kept = subst (IsShortest b w) (sym is) (IsShortest-without_trailing b w f digits) in
-      record {
-        digits = rw unsigned_abs-with_sign small;
-        places = few;
-        shortest = λ some. rw unsigned_abs-with_sign (shortest.last some);
-      }
+  -- the zeros at the end change no form
+  pub fixed_of-kept : fixed_of (by_digits b w f) ≡ fixed_of (by_digits b w kept)
+  fixed_of-kept = by_shortest ∙ ap (λ d. if is_small d then Some d else None) (sym (subst (IsShortest b w) (sym is) (IsShortest-without_trailing b w f digits)).same)

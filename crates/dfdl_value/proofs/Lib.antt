@@ -1,15 +1,9 @@
 pub mod BackLemmas
 pub mod DecimalLemmas
-pub mod DivisionLemmas
 pub mod HexLemmas
 pub mod NumberLemmas
-pub mod OrderLemmas
 pub mod PaddingLemmas
 pub mod PointLemmas
-pub mod ProductLemmas
-pub mod QuotientLemmas
 pub mod RangeLemmas
 pub mod ReadBack
-pub mod SameLemmas
-pub mod SumLemmas
 pub mod TextLemmas

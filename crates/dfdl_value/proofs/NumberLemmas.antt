@@ -3,12 +3,10 @@ use Rattle.std.proofs.Common.{◌≡◌, ◌≢◌, ℕ, zero, suc, ◌%◌, ◌
 use Rattle.std.proofs.lemmas.Bool.{le-ltb, eqb-true, eqb-false}
 use Rattle.std.proofs.Math.Bool.{and-false}
 use Rattle.dfdl_forms.specs.declared.simple.Form.TheVariants.{Signed, Unsigned, Fixed}
-use Rattle.dfdl_value.specs.Decimal.{DecimalNumber, shortest_from, is_small, fixed_of}
+use Rattle.dfdl_decimal.specs.Decimal.{DecimalNumber, shortest_from, is_small, fixed_of, with_sign}
 use Rattle.dfdl_value.specs.Numbers.{whole_if_short, number_reading}
 use Rattle.dfdl_value.specs.Reading.{signed_reading, unsigned_reading, fixed_reading}
-use Rattle.dfdl_value.specs.Texts.{with_sign}
-use Rattle.dfdl_value.proofs.TextLemmas.{unsigned_abs-with_sign}
-use Rattle.dfdl_value.proofs.DecimalLemmas.{shortest_from-stops}
+use Rattle.dfdl_decimal.proofs.FixedLemmas.{unsigned_abs-with_sign, shortest_from-stops}
 
 -- a number without a zero at its end is in its shortest form
 shortest_from-last : (b : Bool) (n s : ℕ) → (0 < s → n % 10 ≢ 0) → shortest_from s (with_sign b n) ≡ record { mantissa = with_sign b n; scale = s }

@@ -11,12 +11,13 @@ use Rattle.std.proofs.Math.Dec.{eqb-suc-zero}
 use Rattle.std.proofs.lemmas.Bool.{lt-ltb, le-ltb}
 use Rattle.dfdl_value.proofs.PaddingLemmas.{length-padded_decimal}
 use Rattle.std.proofs.lemmas.Bool.Decides.{nat_tests}
-use Rattle.dfdl_value.specs.Decimal.{DecimalNumber, IsFixed, shortest_from, is_small, fixed_of}
+use Rattle.dfdl_decimal.specs.Decimal.{DecimalNumber, IsFixed, shortest_from, is_small, fixed_of, with_sign}
 use Rattle.dfdl_value.specs.declared.value.Value.TheVariants.{Dec}
 use Rattle.dfdl_value.specs.Reading.{decimal_reading, fixed_reading}
 use Rattle.dfdl_value.specs.Writing.{decimal_text, pointed, padded_decimal, minus_of}
-use Rattle.dfdl_value.specs.Texts.{is_xml_space, trimmed, is_negative, unsigned_part, is_numeral, is_point, number_after, number_of, with_sign, fraction_part, decimal_of}
-use Rattle.dfdl_value.proofs.DecimalLemmas.{number_after-append, shortest_from-stops}
+use Rattle.dfdl_value.specs.Texts.{is_xml_space, trimmed, is_negative, unsigned_part, is_numeral, is_point, number_after, number_of, fraction_part, decimal_of}
+use Rattle.dfdl_value.proofs.DecimalLemmas.{number_after-append}
+use Rattle.dfdl_decimal.proofs.FixedLemmas.{fixed_of-fixed}
 use Rattle.dfdl_value.proofs.BackLemmas.{both, no_space, no_space-digits, trimmed-no_space, is_sign-digit, is_minus-digit, own, number_of-decimal}
 
 -- ---- the digits of the mantissa, with zeros before them
@@ -199,19 +200,6 @@ module _ (scale : ℕ) (digits : List ℕ) (all : list_all is_ascii_digit digits
       ∙ decimal_of-parts (45 ∷ body) body (whole_digits scale digits) (fraction_digits scale digits) true refl refl
       (Splits-pointed scale digits all enough) numeral
       ∙ written true (suc n) e
-
-pub shortest_from-fixed : (z : ℤ) (scale : ℕ) → (0 < scale → unsigned_abs z % 10 ≢ 0) → shortest_from scale z ≡ record { mantissa = z; scale = scale }
-shortest_from-fixed z zero last = refl
-shortest_from-fixed z (suc scale) last = shortest_from-stops scale z (last (omega arith))
-
-pub is_small-fixed : (d : DecimalNumber) → IsFixed d → is_small d ≡ true
-is_small-fixed d fixed = ap (λ b. b && nat_lt d.scale 256) (lt-ltb _ _ fixed.digits) ∙ lt-ltb _ _ fixed.places
-
-pub fixed_of-fixed : (d : DecimalNumber) → IsFixed d → fixed_of d ≡ Some d
-fixed_of-fixed d fixed =
-    let small : is_small d ≡ true = ap (λ b. b && nat_lt d.scale 256) (lt-ltb _ _ fixed.digits) ∙ lt-ltb _ _ fixed.places in
-    ap (λ e. if is_small e then Some e else None) (shortest_from-fixed d.mantissa d.scale fixed.shortest)
-    ∙ ap (λ b. if b then Some d else None) small
 
 pub decimal_back : (d : DecimalNumber) → IsFixed d → decimal_reading (decimal_of (trimmed (decimal_text d))) ≡ Ok (Dec d)
 decimal_back d fixed =

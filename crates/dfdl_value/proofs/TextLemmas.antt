@@ -5,7 +5,8 @@ use Rattle.std.proofs.lemmas.List.{take_more}
 use Rattle.std.proofs.lemmas.Bool.{ltb-false}
 use Rattle.std.proofs.lemmas.List.Sums.{prefix_len-le-length}
 use Rattle.std.specs.List.{position, position_or_len}
-use Rattle.dfdl_value.specs.Texts.{before_rest, without_trailing, number_after, number_of, is_numeral, is_negative, unsigned_part, with_sign, integer_of}
+use Rattle.dfdl_value.specs.Texts.{before_rest, without_trailing, number_after, number_of, is_numeral, is_negative, unsigned_part, integer_of}
+use Rattle.dfdl_decimal.specs.Decimal.{with_sign}
 
 -- digits never make a number less
 pub number_after-ge : (n : ℕ) (ds : List ℕ) → n ≤ number_after n ds
@@ -45,11 +46,6 @@ without_trailing-last_passes p xs some h = sym (ap (without_trailing p) (last_sp
 
 pub without_trailing-last_stops : (p : ℕ → Bool) (xs : List ℕ) → 0 < length xs → p (get_or xs (length xs - 1) 0) ≡ false → without_trailing p xs ≡ xs
 without_trailing-last_stops p xs some h = ap (without_trailing p) (last_split xs some) ∙ without_trailing-stops p (take (length xs - 1) xs) _ h ∙ sym (last_split xs some)
-
-pub unsigned_abs-with_sign : (negative : Bool) (n : ℕ) → unsigned_abs (with_sign negative n) ≡ n
-unsigned_abs-with_sign true zero = refl
-unsigned_abs-with_sign true (suc n) = refl
-unsigned_abs-with_sign false n = refl
 
 pub integer_of-numeral : (text digits : List ℕ) → digits ≡ unsigned_part text → is_numeral digits ≡ true → integer_of text ≡ Some (with_sign (is_negative text) (number_of digits))
 integer_of-numeral text digits e h =

@@ -1,5 +1,3 @@
-pub mod Arithmetic
-pub mod Decimal
 pub mod Numbers
 pub mod Reading
 pub mod Texts

@@ -3,7 +3,7 @@ use Rattle.std.specs.Prelude.{◌==◌, if◌then◌else◌, Option, Some, None,
 use Rattle.dfdl_forms.specs.declared.simple.Form.{Form}
 use Rattle.dfdl_forms.specs.declared.simple.Form.TheVariants.{Signed, Unsigned, Fixed}
 use Rattle.dfdl_value.specs.declared.read.ReadFault.TheVariants.{NotAValue}
-use Rattle.dfdl_value.specs.Decimal.{DecimalNumber, shortest_from, fixed_of}
+use Rattle.dfdl_decimal.specs.Decimal.{DecimalNumber, shortest_from, fixed_of}
 use Rattle.dfdl_value.specs.Reading.{Reading, signed_reading, unsigned_reading, fixed_reading}
 
 -- the whole number that a decimal number is, if it is one

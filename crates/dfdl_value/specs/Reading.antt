@@ -9,7 +9,7 @@ use Rattle.dfdl_value.specs.declared.read.ReadFault.{ReadFault}
 use Rattle.dfdl_value.specs.declared.read.ReadFault.TheVariants.{NotAValue, PastType}
 use Rattle.dfdl_value.specs.declared.value.Value.{Value}
 use Rattle.dfdl_value.specs.declared.value.Value.TheVariants.{Int, Uns, Dec, Text, Truth, Bytes}
-use Rattle.dfdl_value.specs.Decimal.{DecimalNumber, fixed_of}
+use Rattle.dfdl_decimal.specs.Decimal.{DecimalNumber, fixed_of}
 use Rattle.dfdl_value.specs.Texts.{trimmed, integer_of, decimal_of, truth_of}
 use Rattle.dfdl_forms.specs.Types.{form_of}
 use Rattle.dfdl_value.specs.Types.{least_signed, greatest_signed}

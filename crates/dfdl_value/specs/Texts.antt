@@ -3,7 +3,7 @@ use Rattle.std.specs.Prelude.{ℕ, ◌+◌, ◌-◌, ◌*◌, Bool, true, false,
 use Rattle.std.specs.Char.{is_ascii_digit}
 use Rattle.std.specs.List.{list_all, before_first, after_first}
 use Rattle.std.specs.Str.{bytes_eq}
-use Rattle.dfdl_value.specs.Decimal.{DecimalNumber}
+use Rattle.dfdl_decimal.specs.Decimal.{DecimalNumber, with_sign}
 
 -- white space of XML: a space, a tab, a line feed or a carriage return
 abbrev pub is_xml_space : ℕ → Bool
@@ -50,10 +50,6 @@ number_after n (c ∷ cs) = number_after (n * 10 + (c - 48)) cs
 -- the number that digits write
 abbrev pub number_of : List ℕ → ℕ
 number_of digits = number_after 0 digits
-
--- the number with the sign that is given
-abbrev pub with_sign : Bool → ℕ → ℤ
-with_sign negative n = if negative then neg_ℤ (pos n) else pos n
 
 -- the number that an integer's text writes, an optional sign and a numeral of any length
 abbrev pub integer_of : List ℕ → Option ℤ

@@ -7,7 +7,7 @@ use Rattle.dfdl_forms.specs.declared.simple.Form.{Form}
 use Rattle.dfdl_forms.specs.declared.simple.Form.TheVariants.{Signed, Unsigned, Fixed, Characters, Truths, Octets}
 use Rattle.dfdl_value.specs.declared.value.Value.{Value}
 use Rattle.dfdl_value.specs.declared.value.Value.TheVariants.{Int, Uns, Dec, Text, Truth, Bytes}
-use Rattle.dfdl_value.specs.Decimal.{IsFixed}
+use Rattle.dfdl_decimal.specs.Decimal.{IsFixed}
 
 -- values of this form hold memory of their own
 abbrev pub HoldsMemory : Form → Type 0

@@ -4,7 +4,7 @@ use Rattle.std.specs.Fmt.{decimal, signed_decimal}
 use Rattle.hex.specs.Hex.{encode_upper}
 use Rattle.dfdl_value.specs.declared.value.Value.{Value}
 use Rattle.dfdl_value.specs.declared.value.Value.TheVariants.{Int, Uns, Dec, Text, Truth, Bytes}
-use Rattle.dfdl_value.specs.Decimal.{DecimalNumber}
+use Rattle.dfdl_decimal.specs.Decimal.{DecimalNumber}
 
 -- a minus before a number below zero
 abbrev pub minus_of : ℤ → List ℕ

@@ -3,14 +3,14 @@ ghost use Rattle.std.specs.Prelude.{◌≡◌, ◌^◌, ◌<◌, ◌≤◌, leng
 ghost use Rattle.std.specs.Char.{is_ascii_digit};
 ghost use Rattle.std.specs.List.{list_all, position, position_or_len, before_first, after_first};
 ghost use Rattle.std.specs.Option.{SomeIff};
-ghost use Rattle.dfdl_value.specs.Decimal.{fixed_of};
+ghost use Rattle.dfdl_decimal.specs.Decimal.{fixed_of, with_sign};
 ghost use Rattle.dfdl_value.specs.Reading.{decimal_reading};
-ghost use Rattle.dfdl_value.specs.Texts.{is_point, is_zero, without_trailing, decimal_of, with_sign, number_of};
+ghost use Rattle.dfdl_value.specs.Texts.{is_point, is_zero, without_trailing, decimal_of, number_of};
 
-use super::fixed::{DIGITS, Fixed, signed};
 use super::read::ReadFault;
 use super::text::{appended, are_digits, is_negative, unsigned_part};
 use super::value::Value;
+use dfdl_decimal::{Fixed, shortest};
 
 fn first_point(text: &[u8]) -> Option<usize>
     ensures { result ≡ position is_point text.now }
@@ -79,16 +79,13 @@ fn fixed_from(negative: bool, whole: &[u8], fraction: &[u8]) -> Option<Fixed>
     ensures { result ≡ fixed_of (record { mantissa = with_sign negative (number_of (whole.now ++ fraction.now)); scale = length fraction.now }) }
 {
     let kept = without_trailing_zeros(fraction);
-    let Some(magnitude) = joined(whole, kept) else {
-        return None;
-    };
-    if magnitude >= DIGITS {
-        return None;
-    }
     if kept.len() > 255 {
         return None;
     }
-    Some(Fixed::new(signed(negative, magnitude), kept.len() as u8))
+    let Some(magnitude) = joined(whole, kept) else {
+        return None;
+    };
+    shortest(negative, magnitude, kept.len() as u32)
 }
 
 /// What a text without white space at its ends says of a decimal.

@@ -1,6 +1,7 @@
 // The reading of whole numbers.
 ghost use Rattle.std.specs.Prelude.{◌≡◌, ℕ, ◌-◌, ◌^◌, ◌≤◌, Some, None, ℤ, pos, neg_ℤ, IfOk, IsErrOf, unsigned_abs};
-ghost use Rattle.dfdl_value.specs.Texts.{integer_of, with_sign};
+ghost use Rattle.dfdl_value.specs.Texts.{integer_of};
+ghost use Rattle.dfdl_decimal.specs.Decimal.{with_sign};
 ghost use Rattle.dfdl_value.specs.Reading.{signed_reading, unsigned_reading};
 
 use super::read::ReadFault;

@@ -1,7 +1,6 @@
 // Laws of the definitions that the contracts cite. The calls do nothing.
-ghost use Rattle.std.specs.Prelude.{◌≡◌, ◌↔◌, Ok, Some};
+ghost use Rattle.std.specs.Prelude.{◌≡◌, Ok};
 ghost use Rattle.hex.specs.Hex.{IsBytes, decode_of, encode_upper};
-ghost use Rattle.dfdl_value.specs.Decimal.{DecimalNumber, SameNumber, fixed_of};
 ghost use Rattle.dfdl_value.specs.Reading.{bytes_reading, reading_of};
 ghost use Rattle.dfdl_value.specs.Texts.{trimmed};
 ghost use Rattle.dfdl_value.specs.Types.{IsOfType, IsPlain};
@@ -10,7 +9,6 @@ ghost use Rattle.dfdl_forms.specs.declared.simple.Simple.{Simple as AnySimple};
 ghost use Rattle.dfdl_value.specs.declared.value.Value.{Value as AnyValue};
 ghost use Rattle.dfdl_value.specs.declared.value.Value.TheVariants.{Bytes};
 
-use super::fixed::Fixed;
 use super::held::ByteValue;
 use dfdl_forms::Simple;
 use super::value::Value;
@@ -39,10 +37,3 @@ pub fn text_is_read_back(kind: Simple, value: &Value)
 pub fn plain_text_is_read_back()
     ensures { (kind : AnySimple) (value : AnyValue) → IsPlain value → IsOfType kind value → reading_of kind (text_of value) ≡ Ok value }
 {}
-
-/// The form that `Fixed` has for a number is the one that writes the same number.
-pub fn form_writes_the_number(form: &Fixed)
-    ensures { (d : DecimalNumber) → (fixed_of d ≡ Some form.now) ↔ SameNumber form.now d }
-{
-    let _mantissa = form.mantissa();
-}

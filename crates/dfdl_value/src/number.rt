@@ -1,15 +1,14 @@
 // The value of a type that a decimal number is.
 ghost use Rattle.std.specs.Prelude.{◌≡◌, ◌≢◌, ℕ, ◌^◌, ◌<◌, ◌≤◌, ◌%◌, ◌==◌, if◌then◌else◌};
 ghost use Rattle.std.specs.Option.{SomeIff};
-ghost use Rattle.dfdl_value.specs.Decimal.{fixed_of};
+ghost use Rattle.dfdl_decimal.specs.Decimal.{fixed_of, with_sign};
 ghost use Rattle.dfdl_value.specs.Numbers.{number_reading, whole_if_short};
 ghost use Rattle.dfdl_value.specs.Reading.{signed_reading, unsigned_reading, fixed_reading};
-ghost use Rattle.dfdl_value.specs.Texts.{with_sign};
 ghost use Rattle.dfdl_forms.specs.Types.{form_of};
 
-use super::fixed::shortest;
 use super::integer::{Whole, signed_value, unsigned_value};
 use super::read::ReadFault;
+use dfdl_decimal::shortest;
 use dfdl_forms::{Form, Simple};
 use super::value::Value;
 

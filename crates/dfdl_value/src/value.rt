@@ -1,5 +1,5 @@
-use super::fixed::Fixed;
 use super::held::{ByteValue, TextValue};
+use dfdl_decimal::Fixed;
 use std::alloc::{AllocError, Global};
 
 /// A value of a simple type. Which values a type has, `IsOfType` of specs/Types.antt says.

@@ -3,9 +3,9 @@ ghost use Rattle.std.specs.Prelude.{◌≡◌, ◌<◌, ◌≤◌, ◌^◌, ◌+
 ghost use Rattle.std.specs.Str.{IsAscii};
 ghost use Rattle.dfdl_value.specs.Writing.{minus_of, padded_decimal, pointed as pointed_of, decimal_text as decimal_text_of};
 
-use super::fixed::Fixed;
 use super::held::TextValue;
 use super::value::Value;
+use dfdl_decimal::Fixed;
 use std::alloc::{AllocError, Global};
 
 /// The digits of a number, with zeros before them where they are fewer than `least`.

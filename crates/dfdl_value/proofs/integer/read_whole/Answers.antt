@@ -1,6 +1,8 @@
 use Rattle.std.proofs.Common.{◌∙◌, sym, arith}
-use Rattle.dfdl_value.specs.Texts.{is_negative, number_of, with_sign}
-use Rattle.dfdl_value.proofs.TextLemmas.{integer_of-numeral, unsigned_abs-with_sign}
+use Rattle.dfdl_value.specs.Texts.{is_negative, number_of}
+use Rattle.dfdl_decimal.specs.Decimal.{with_sign}
+use Rattle.dfdl_value.proofs.TextLemmas.{integer_of-numeral}
+use Rattle.dfdl_decimal.proofs.FixedLemmas.{unsigned_abs-with_sign}
 use Rattle.dfdl_value.proofs.integer.read_whole.Goals as goal
 
 pub returns-in-None-clause-past : goal.returns-in-None-clause-past

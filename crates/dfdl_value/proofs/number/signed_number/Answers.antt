@@ -2,9 +2,9 @@ use Rattle.std.proofs.Common.{◌≡◌, ℕ, ◌^◌, ◌<◌, ◌≤◌, Optio
 use Rattle.std.specs.Option.{SomeIff}
 use Rattle.dfdl_value.specs.Numbers.{whole_if_short}
 use Rattle.dfdl_value.specs.Reading.{signed_reading}
-use Rattle.dfdl_value.specs.Texts.{with_sign}
+use Rattle.dfdl_decimal.specs.Decimal.{with_sign}
 use Rattle.dfdl_value.proofs.RangeLemmas.{signed_reading-far}
-use Rattle.dfdl_value.proofs.TextLemmas.{unsigned_abs-with_sign}
+use Rattle.dfdl_decimal.proofs.FixedLemmas.{unsigned_abs-with_sign}
 use Rattle.dfdl_value.proofs.number.signed_number.Goals as goal
 
 pub returns-in-None : goal.returns-in-None

@@ -1,7 +1,6 @@
 use Rattle.std.proofs.Common.{◌∙◌, sym, ap}
-use Rattle.dfdl_value.specs.Decimal.{DecimalNumber}
+use Rattle.dfdl_decimal.specs.Decimal.{DecimalNumber, with_sign}
 use Rattle.dfdl_value.specs.Numbers.{number_reading}
-use Rattle.dfdl_value.specs.Texts.{with_sign}
 use Rattle.dfdl_value.proofs.NumberLemmas.{last_of, signed_short, unsigned_short, fixed_short}
 use Rattle.dfdl_value.proofs.number.value_of_number.Goals as goal
 

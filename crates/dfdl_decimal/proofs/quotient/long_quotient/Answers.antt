@@ -1,0 +1,16 @@
+use Rattle.std.proofs.Common.{◌≢◌, ◌*◌, ◌/◌, ◌%◌, ◌^◌, ◌∙◌, sym, ap, arith, ok_or}
+use Rattle.dfdl_decimal.specs.declared.fixed.DivFault.TheVariants.{Overflow}
+use Rattle.dfdl_decimal.specs.Arithmetic.{quotient_answer}
+use Rattle.dfdl_decimal.proofs.QuotientLemmas.{exact_longer, last_of}
+use Rattle.dfdl_decimal.proofs.quotient.long_quotient.Goals as goal
+
+pub returns-in-Some : goal.returns-in-Some
+returns-in-Some c =
+    let x = c.args.dividend in
+    let y = c.args.divisor in
+    let k = c.in-Some.found.zeros in
+    let n = x * 10 ^ k / y in
+    let found = c.in-Some.ensures in
+    c.ok_or.ensures.value
+    ∙ ap (λ o. ok_or o Overflow) (c.raised.ensures n found.number (last_of (n % 10 ≢ 0) x y k (omega arith) found.last))
+    ∙ sym (ap quotient_answer (exact_longer c.args.negative x y k c.args.zeros c.requires.some found.few found.exact))

@@ -7,7 +7,6 @@ ghost use Rattle.dfdl_packed.specs.Typed.{value_in, signed_value, unsigned_value
 
 use crate::form::PackedFault;
 use crate::size::{Size, with_zeros};
-use dfdl_decimal::shortest;
 use dfdl_value::{Fixed, Form, Simple, Value};
 
 /// The value of a type that a number with a virtual point is.
@@ -154,7 +153,11 @@ fn shortest(negative: bool, number: Option<u128>, scale: u8) -> Result<Value, Pa
 {
     match number {
         None => Err(PackedFault::PastType),
-        Some(number) => decimal_value(shortest(negative, number, u32::from(scale))),
+        Some(number) => decimal_value(dfdl_decimal::shortest(
+            negative,
+            number,
+            u32::from(scale),
+        )),
     }
 }
 

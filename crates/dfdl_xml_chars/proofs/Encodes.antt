@@ -1,5 +1,5 @@
 -- The bytes of a character by its size.
-use Rattle.std.proofs.Common.{◌≡◌, ℕ, ◌+◌, ◌-◌, ◌*◌, ◌/◌, ◌%◌, ◌<◌, ◌≤◌, List, [], ◌∷◌, Bool, true, false, refl, arith, cond, nat_lt, ◌∙◌, inl, inr}
+use Rattle.std.proofs.Common.{◌≡◌, ℕ, ◌+◌, ◌-◌, ◌*◌, ◌/◌, ◌%◌, ◌<◌, ◌≤◌, ◌⊎◌, List, [], ◌∷◌, Bool, true, false, refl, arith, cond, nat_lt, ◌∙◌, inl, inr}
 use Rattle.std.proofs.lemmas.Bool.Decides.{nat_tests}
 use Rattle.std.proofs.lemmas.Bool.{cases_lt}
 use Rattle.dfdl_xml_chars.specs.Utf8.{code_of_two, code_of_three, code_of_four}
@@ -71,3 +71,7 @@ scalar_four a b c d pair least third fourth =
     let last = fourth.most in
     let most = third.most in
     scalar_past (code_of_four a b c d) (omega (arith, front.least)) (omega (arith, front.most))
+
+-- a character is below the surrogates, or above them
+pub scalar_parts : (c : ℕ) → IsScalar c → ((c < 0xD800) ⊎ (0xE000 ≤ c)) × (c < 0x11_0000)
+scalar_parts c scalar = grind (arith, nat_tests)

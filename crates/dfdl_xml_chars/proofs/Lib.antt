@@ -1,3 +1,5 @@
 pub mod Pairs
 pub mod Sees
 pub mod Encodes
+pub mod Coding
+pub mod Ranges

@@ -12,3 +12,8 @@ IsTooLargeExactly (Some all) most (Err Failed) = Unit {0}
 IsTooLargeExactly (Some all) most (Err (TooLarge size)) = (most < length all) × (size ≡ length all)
 IsTooLargeExactly (Some all) most (Err OutOfMemory) = length all ≤ most
 IsTooLargeExactly (Some all) most (Ok bytes) = length all ≤ most
+
+-- what is counted of the files of the system: the loads that were asked for, and those that failed
+pub record FileCounts : Type 0 where
+  pub loads : ℕ
+  pub failed : ℕ

@@ -1,7 +1,8 @@
 -- What contracts see of the implementations in memory.
-use Rattle.std.specs.Prelude.{ℕ, ◌+◌, ◌-◌, ◌%◌, ◌^◌, min, max, List, [], ◌∷◌, length, slice_index, Option, option_map, Contains}
+use Rattle.std.specs.Prelude.{Bool, ℕ, ◌-◌, ◌%◌, ◌^◌, max, List, [], ◌∷◌, length, slice_index, Option, option_map, Contains}
 use Rattle.std.specs.List.{find}
 use Rattle.std.specs.Str.{bytes_eq}
+use Rattle.dfdl_edge.specs.Faults.{one_more}
 
 -- the calls of one implementation: the numbers, from 1 on, of those that are to fail, how many were made, and how many failed
 pub record CallCount : Type 0 where
@@ -11,7 +12,7 @@ pub record CallCount : Type 0 where
 
 -- the number of the next call
 abbrev pub next_call : CallCount → ℕ
-next_call calls = min (calls.made + 1) (2 ^ 64 - 1)
+next_call calls = one_more calls.made
 
 -- the next call is to fail
 abbrev pub IsToFail : CallCount → Type 0
@@ -23,7 +24,7 @@ after_call calls = record calls { made = next_call calls }
 
 -- the count after one more call that failed
 abbrev pub after_fault : CallCount → CallCount
-after_fault calls = record calls { made = next_call calls; failed = min (calls.failed + 1) (2 ^ 64 - 1) }
+after_fault calls = record calls { made = next_call calls; failed = one_more calls.failed }
 
 -- a source: the bytes that are left, the greatest lengths of its reads in turn, and its reads
 pub record SourceInMemory : Type 0 where
@@ -36,9 +37,10 @@ abbrev pub cut_at : List ℕ → ℕ → ℕ
 cut_at [] call = 2 ^ 64 - 1
 cut_at (cut ∷ cuts) call = max (slice_index (cut ∷ cuts) ((call - 1) % length (cut ∷ cuts))) 1
 
--- a sink: the bytes that it has taken, and its writes
+-- a sink: the bytes that it has taken, whether there was no memory for the piece of its last write, and its writes
 pub record SinkInMemory : Type 0 where
   pub bytes : List ℕ
+  pub short : Bool
   pub calls : CallCount
 
 -- files: their names and bytes, the name last failed, and their loads

@@ -1,5 +1,6 @@
 // The calls of an implementation in memory, with the list of those that are to fail.
-ghost use Rattle.std.specs.Prelude.{◌≡◌, ◌↔◌, ◌+◌, ◌-◌, ◌^◌, ◌≤◌, min, IsTrue};
+ghost use Rattle.std.specs.Prelude.{◌≡◌, ◌↔◌, ◌≤◌, IsTrue};
+ghost use Rattle.dfdl_edge.specs.Faults.{one_more};
 ghost use Rattle.dfdl_edge.specs.Memory.{CallCount, IsToFail, next_call};
 
 use std::marker::Model;
@@ -52,7 +53,7 @@ impl Calls {
 
     /// Counts one more fault.
     pub fn fail(&mut self)
-        ensures counted { self.new ≡ record self.old { failed = min (self.old.failed + 1) (2 ^ 64 - 1) } }
+        ensures counted { self.new ≡ record self.old { failed = one_more self.old.failed } }
         ensures later { self.old.failed ≤ self.new.failed }
     {
         self.failed = self.failed.saturating_add(1);

@@ -23,7 +23,7 @@ pub use memory_files::{MemoryFile, MemoryFiles};
 pub use patterns_of_regex::{MemoryPatterns, RegexPatterns};
 pub use reading::{Failed, Source};
 pub use system::{DirFiles, StdSink, StdSource};
-pub use whole::{ReadFault, read_to_limit};
+pub use whole::{SourceFault, read_to_limit};
 pub use writing::Sink;
 
 #[cfg(test)]

@@ -1,5 +1,5 @@
 ghost use Rattle.std.specs.Prelude.{◌≡◌, ◌≢◌, ◌⊎◌, ℕ, Bool, false, IsTrue, ◌<◌, ◌≤◌, List, Option, IfOk, IsErrOf, vec_len};
-ghost use Rattle.dfdl_edge.specs.Faults.{Rose};
+ghost use Rattle.dfdl_edge.specs.Faults.{Rose, one_more};
 ghost use Rattle.dfdl_edge.specs.Told.{IsAll, IsNowLast};
 ghost use Rattle.dfdl_edge.specs.Files.{IsTooLargeExactly};
 
@@ -24,6 +24,9 @@ pub trait Files {
     // how many loads have failed; at the last value of a u64 it stands still
     ghost faults: { Self → ℕ };
 
+    // how many loads were asked for; at the last value of a u64 it stands still
+    ghost loads: { Self → ℕ };
+
     // the bytes of the file of this name; `None` where they aren't told
     ghost content: { Self → List ℕ → Option (List ℕ) };
 
@@ -41,6 +44,8 @@ pub trait Files {
         ensures larger { (size : ℕ) → IsErrOf result (LoadFault.TooLarge size) → most < size }
         ensures missing { IsTrue (is_missing self.old name.now) →
             IsErrOf result LoadFault.Failed ⊎ IsErrOf result LoadFault.OutOfMemory }
+
+        ensures counted { loads self.new ≡ one_more (loads self.old) }
 
         ensures later { faults self.old ≤ faults self.new }
         ensures cause { IsErrOf result LoadFault.Failed → Rose (faults self.old) (faults self.new) }

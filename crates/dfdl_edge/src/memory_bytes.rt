@@ -1,5 +1,5 @@
 // A source and a sink in memory.
-ghost use Rattle.std.specs.Prelude.{◌≡◌, ◌↔◌, ◌+◌, ◌-◌, ◌<◌, ◌≤◌, min, [], drop, length, Some, IsOk, IsErr, IfOk, OnOk, OnErr};
+ghost use Rattle.std.specs.Prelude.{◌≡◌, ◌↔◌, ◌+◌, ◌-◌, ◌<◌, ◌≤◌, min, [], drop, length, Some, ◌⊎◌, false, true, IsTrue, IsOk, IsErr, IfOk, OnOk, OnErr};
 ghost use Rattle.dfdl_edge.specs.Faults.{Rose};
 ghost use Rattle.dfdl_edge.specs.Source.{Takes};
 ghost use Rattle.dfdl_edge.specs.Sink.{Adds, AddsFront};
@@ -112,13 +112,14 @@ fn cut_at(cuts: &[usize], call: u64) -> usize
 #[derive(Drop)]
 pub struct MemorySink {
     bytes: Vec<u8>,
+    short: bool,
     calls: Calls,
 }
 
 impl Model for MemorySink {
     ghost Value = { SinkInMemory };
 
-    ghost view = { λ s. record { bytes = s.bytes.items; calls = s.calls } };
+    ghost view = { λ s. record { bytes = s.bytes.items; short = s.short; calls = s.calls } };
 }
 
 impl MemorySink {
@@ -126,11 +127,13 @@ impl MemorySink {
     pub fn new(alloc: Global, failing: Vec<u64>) -> Self
         ensures { result ≡ record {
           bytes = [];
+          short = false;
           calls = record { failing = failing.items; made = 0; failed = 0 };
         } }
     {
         MemorySink {
             bytes: Vec::new(alloc),
+            short: false,
             calls: Calls::new(failing),
         }
     }
@@ -140,6 +143,13 @@ impl MemorySink {
         ensures { result.now ≡ self.now.bytes }
     {
         &self.bytes
+    }
+
+    /// Whether there was no memory for the piece of the last write.
+    pub fn is_short(&self) -> bool
+        ensures { result ≡ self.now.short }
+    {
+        self.short
     }
 
     /// How many writes failed.
@@ -161,7 +171,7 @@ impl Sink for MemorySink {
         ensures nothing { OnErr result (self.new.bytes ≡ self.old.bytes) }
         ensures err { OnErr result (AddsFront (Some self.old.bytes) piece.now (Some self.new.bytes)) }
 
-        ensures fails { IsToFail self.old.calls → IsErr result }
+        ensures fails { IsErr result ↔ IsToFail self.old.calls ⊎ IsTrue self.new.short }
         ensures after_ok { OnOk result (self.new.calls ≡ after_call self.old.calls) }
         ensures after_err { OnErr result (self.new.calls ≡ after_fault self.old.calls) }
 
@@ -169,7 +179,9 @@ impl Sink for MemorySink {
         ensures cause { IsErr result → Rose self.old.calls.failed self.new.calls.failed }
         ensures still { IsOk result → self.new.calls.failed ≡ self.old.calls.failed }
     {
-        if self.calls.begin() || self.bytes.extend_from_slice(piece).is_err() {
+        let listed = self.calls.begin();
+        self.short = !listed && self.bytes.extend_from_slice(piece).is_err();
+        if listed || self.short {
             self.calls.fail();
             return Err(Failed);
         }

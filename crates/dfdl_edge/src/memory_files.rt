@@ -2,7 +2,7 @@
 ghost use Rattle.std.specs.Prelude.{◌≡◌, ◌≢◌, ◌⊎◌, ℕ, ◌-◌, ◌<◌, ◌≤◌, map, string_bytes, vec_len, Option, Some, None, option_map, option_copied, is_none, IsTrue, IsNone, IfOk, IsErr, IsErrOf};
 ghost use Rattle.std.specs.List.{find};
 ghost use Rattle.std.specs.Str.{bytes_eq};
-ghost use Rattle.dfdl_edge.specs.Faults.{Rose};
+ghost use Rattle.dfdl_edge.specs.Faults.{Rose, one_more};
 ghost use Rattle.dfdl_edge.specs.Told.{IsAll, IsNowLast};
 ghost use Rattle.dfdl_edge.specs.Files.{IsTooLargeExactly};
 ghost use Rattle.dfdl_edge.specs.Memory.{FilesInMemory, IsToFail, after_call, after_fault, bytes_of};
@@ -63,6 +63,13 @@ impl MemoryFiles {
         }
     }
 
+    /// How many loads were asked for.
+    pub fn loads(&self) -> u64
+        ensures { result ≡ self.now.calls.made }
+    {
+        self.calls.made()
+    }
+
     /// How many loads failed.
     pub fn faults(&self) -> u64
         ensures { result ≡ self.now.calls.failed }
@@ -73,6 +80,8 @@ impl MemoryFiles {
 
 impl Files for MemoryFiles {
     ghost faults = { λ f. f.calls.failed };
+
+    ghost loads = { λ f. f.calls.made };
 
     ghost content = { λ f name. bytes_of f.files name };
 
@@ -94,6 +103,8 @@ impl Files for MemoryFiles {
         ensures after_failed { IsErrOf result LoadFault.Failed → self.new.calls ≡ after_fault self.old.calls }
         ensures after_other { result ≢ Err LoadFault.Failed → self.new.calls ≡ after_call self.old.calls }
         ensures files { self.new.files ≡ self.old.files }
+
+        ensures counted { self.new.calls.made ≡ one_more self.old.calls.made }
 
         ensures later { self.old.calls.failed ≤ self.new.calls.failed }
         ensures cause { IsErrOf result LoadFault.Failed → Rose self.old.calls.failed self.new.calls.failed }

@@ -1,8 +1,8 @@
 // The building of patterns by the crate `regex`, with and without a text that is kept.
-ghost use Rattle.std.specs.Prelude.{◌≡◌, ◌≢◌, ℕ, ◌-◌, ◌≤◌, Option, Some, None, option_map, option_copied, string_bytes, IfOk, IsErr, IsErrOf};
+ghost use Rattle.std.specs.Prelude.{◌≡◌, ◌≢◌, ◌⊎◌, ℕ, ◌-◌, ◌≤◌, Option, Some, None, option_map, option_copied, string_bytes, IfOk, IsErr, IsErrOf};
 ghost use Rattle.dfdl_edge.specs.Faults.{Rose};
 ghost use Rattle.dfdl_edge.specs.Told.{IsNowLast};
-ghost use Rattle.dfdl_edge.specs.Patterns.{IsPatternOf};
+ghost use Rattle.dfdl_edge.specs.Patterns.{IsPatternOf, IsRefusedText};
 ghost use Rattle.dfdl_edge.specs.Memory.{PatternsInMemory, IsToFail, after_call, after_fault};
 
 use crate::building::{PatternRefusal, Patterns};
@@ -65,6 +65,7 @@ impl Patterns for MemoryPatterns {
         ensures pattern { IfOk result (IsPatternOf text.now) }
 
         ensures fails { IsToFail self.old.calls → IsErr result }
+        ensures only { IsErrOf result PatternRefusal.Refused → IsToFail self.old.calls ⊎ IsRefusedText text.now }
         ensures after_refused { IsErrOf result PatternRefusal.Refused → self.new.calls ≡ after_fault self.old.calls }
         ensures after_other { result ≢ Err PatternRefusal.Refused → self.new.calls ≡ after_call self.old.calls }
 
@@ -130,7 +131,8 @@ impl Patterns for RegexPatterns {
 
 // The pattern of a text; want of memory alone is no refusal.
 fn compiled(alloc: Global, text: &str) -> Result<Regex, PatternRefusal>
-    ensures { IfOk result (IsPatternOf text.now) }
+    ensures pattern { IfOk result (IsPatternOf text.now) }
+    ensures refused { IsErrOf result PatternRefusal.Refused → IsRefusedText text.now }
 {
     match Regex::new(alloc, text) {
         Ok(pattern) => Ok(pattern),

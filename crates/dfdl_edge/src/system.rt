@@ -1,9 +1,10 @@
 // The adapters of the system: they tell nothing of content.
-ghost use Rattle.std.specs.Prelude.{◌≡◌, ℕ, ◌+◌, ◌-◌, ◌<◌, ◌≤◌, None, length, IfOk, IsErrOf, vec_len};
+ghost use Rattle.std.specs.Prelude.{◌≡◌, ℕ, ◌+◌, ◌-◌, ◌^◌, ◌<◌, ◌≤◌, max, Some, None, Ok, Err, length, IfOk, IfSome, OnErr, IsErr, IsErrOf, vec_len};
+ghost use Rattle.dfdl_edge.specs.Files.{FileCounts};
 
 use crate::loading::{Files, LoadFault};
 use crate::reading::{Failed, Source};
-use crate::whole::{ReadFault, read_to_limit};
+use crate::whole::{SourceFault, read_to_limit};
 use crate::writing::Sink;
 use std::alloc::Global;
 use std::fs::OpenFile;
@@ -52,10 +53,8 @@ fn read_once<R: Read>(reader: &mut R, into: &mut [u8]) -> Result<usize, Failed>
     ensures { IfOk result (λ count. count ≤ length into.old) }
 {
     for _ in 0..u64::MAX {
-        match reader.read(into) {
-            Ok(count) => return Ok(count),
-            Err(fault) if is_interrupted(&fault) => {}
-            Err(_) => break,
+        if let Some(answer) = settled(reader.read(into)) {
+            return answer;
         }
     }
     Err(Failed)
@@ -104,11 +103,10 @@ fn write_whole<W: Write>(writer: &mut W, piece: &[u8]) -> Result<(), Failed> {
         if rest.is_empty() {
             return Ok(());
         }
-        match writer.write(rest) {
-            Ok(0) => break,
-            Ok(count) => rest = &rest[count..],
-            Err(fault) if is_interrupted(&fault) => {}
-            Err(_) => break,
+        match settled(writer.write(rest)) {
+            Some(Ok(count)) if count > 0 => rest = &rest[count..],
+            Some(_) => break,
+            None => {}
         }
     }
     Err(Failed)
@@ -118,32 +116,40 @@ fn write_whole<W: Write>(writer: &mut W, piece: &[u8]) -> Result<(), Failed> {
 #[derive(Drop)]
 pub struct DirFiles<'r, R: rt::Files> {
     runtime: &'r R,
+    loads: u64,
     failed: u64,
 }
 
 impl<'r, R: rt::Files> Model for DirFiles<'r, R> {
-    ghost Value = { ℕ };
+    ghost Value = { FileCounts };
 
-    ghost view = { λ f. f.failed };
+    ghost view = { λ f. record { loads = f.loads; failed = f.failed } };
 }
 
 impl<'r, R: rt::Files> DirFiles<'r, R> {
     /// The files that the runtime reaches.
     pub fn new(runtime: &'r R) -> Self
-        ensures { result ≡ 0 }
+        ensures { result ≡ record { loads = 0; failed = 0 } }
     {
-        DirFiles { runtime, failed: 0 }
+        DirFiles {
+            runtime,
+            loads: 0,
+            failed: 0,
+        }
     }
 }
 
 impl<'r, R: rt::Files> Files for DirFiles<'r, R> {
-    ghost faults = { λ f. f };
+    ghost faults = { λ f. f.failed };
+
+    ghost loads = { λ f. f.loads };
 
     ghost content = { λ _ _. None };
 
     ghost last_failed = { λ _. None };
 
     fn load(&mut self, alloc: Global, name: &str, most: usize) -> Result<Vec<u8>, LoadFault> {
+        self.loads = self.loads.saturating_add(1);
         let answer = load_file(alloc, self.runtime, name, most);
         if let Err(LoadFault::Failed) = answer {
             self.failed = self.failed.saturating_add(1);
@@ -152,7 +158,7 @@ impl<'r, R: rt::Files> Files for DirFiles<'r, R> {
     }
 }
 
-// The bytes of a file. A file past the limit has the length that the system tells of it, or else one that is just past.
+// The bytes of a file.
 fn load_file<R: rt::Files>(
     alloc: Global,
     runtime: &R,
@@ -163,15 +169,44 @@ fn load_file<R: rt::Files>(
     ensures larger { (size : ℕ) → IsErrOf result (LoadFault.TooLarge size) → most < size }
 {
     let file = fs::open(runtime, name).map_err(|_| LoadFault::Failed)?;
-    let told = file.metadata().map_err(|_| LoadFault::Failed)?.len();
+    let size = file.metadata().map_err(|_| LoadFault::Failed)?.len();
     let mut source = StdSource::new(file);
-    match read_to_limit(alloc, &mut source, most as u64) {
+    handed_on(read_to_limit(alloc, &mut source, most as u64), size, most)
+}
+
+// What the reading of a file comes to. A file past the limit has the size that the system tells of it, or else one
+// that is just past.
+fn handed_on(
+    read: Result<Vec<u8>, SourceFault>,
+    size: u64,
+    most: usize,
+) -> Result<Vec<u8>, LoadFault>
+    requires { IsErrOf read SourceFault.TooLarge → most < 2 ^ 63 }
+    ensures ok { IfOk read (λ bytes. result ≡ Ok bytes) }
+    ensures failed { IsErrOf read SourceFault.Failed → result ≡ Err LoadFault.Failed }
+    ensures too_large { IsErrOf read SourceFault.TooLarge →
+        result ≡ Err (LoadFault.TooLarge (max size (most + 1))) }
+    ensures out_of_memory { IsErrOf read SourceFault.OutOfMemory → result ≡ Err LoadFault.OutOfMemory }
+{
+    match read {
         Ok(bytes) => Ok(bytes),
-        Err(ReadFault::Failed) => Err(LoadFault::Failed),
-        Err(ReadFault::TooLarge) => Err(LoadFault::TooLarge {
-            size: told.max(most as u64 + 1),
+        Err(SourceFault::Failed) => Err(LoadFault::Failed),
+        Err(SourceFault::TooLarge) => Err(LoadFault::TooLarge {
+            size: size.max(most as u64 + 1),
         }),
-        Err(ReadFault::OutOfMemory) => Err(LoadFault::OutOfMemory),
+        Err(SourceFault::OutOfMemory) => Err(LoadFault::OutOfMemory),
+    }
+}
+
+// What one call of the system came to; `None` where a signal has interrupted it, so that it is tried again.
+fn settled(answer: Result<usize, Error>) -> Option<Result<usize, Failed>>
+    ensures ok { IfOk answer (λ count. result ≡ Some (Ok count)) }
+    ensures failed { OnErr answer (IfSome result (λ settled. IsErr settled)) }
+{
+    match answer {
+        Ok(count) => Some(Ok(count)),
+        Err(fault) if is_interrupted(&fault) => None,
+        Err(_) => Some(Err(Failed)),
     }
 }
 

@@ -9,7 +9,7 @@ fn read_five(
     bytes: &[u8],
     cuts: &[usize],
     failing: &[u64],
-) -> Result<Result<Vec<u8>, ReadFault>, Fail> {
+) -> Result<Result<Vec<u8>, SourceFault>, Fail> {
     let mut source = MemorySource::new(
         bytes.to_vec(rt.alloc())?,
         cuts.to_vec(rt.alloc())?,
@@ -32,7 +32,11 @@ fn pieces_of_any_cut_give_the_whole(rt: HostRuntime) -> Result<(), Fail> {
 fn a_byte_past_the_limit_is_too_large(rt: HostRuntime) -> Result<(), Fail> {
     for cuts in [&[][..], &[1], &[4]] {
         let answer = read_five(&rt, b"abcdef", cuts, &[])?;
-        assert_eq!(rt; answer.err(), Some(ReadFault::TooLarge), "cut by {cuts:?}");
+        assert_eq!(rt;
+            answer.err(),
+            Some(SourceFault::TooLarge),
+            "cut by {cuts:?}"
+        );
     }
     Ok(())
 }
@@ -45,7 +49,7 @@ fn the_third_read_fails_and_leaves_the_rest(rt: HostRuntime) -> Result<(), Fail>
         [3].to_vec(rt.alloc())?,
     );
     let answer = read_to_limit(rt.alloc(), &mut source, 9);
-    assert_eq!(rt; answer.err(), Some(ReadFault::Failed));
+    assert_eq!(rt; answer.err(), Some(SourceFault::Failed));
     assert_eq!(rt; source.left(), b"cd".as_slice());
     assert_eq!(rt; source.faults(), 1);
     let rest = read_to_limit(rt.alloc(), &mut source, 9)?;
@@ -62,6 +66,7 @@ fn the_second_write_fails_and_takes_nothing(rt: HostRuntime) -> Result<(), Fail>
     sink.write(b"ef")?;
     assert_eq!(rt; sink.taken(), b"abef".as_slice());
     assert_eq!(rt; sink.faults(), 1);
+    assert_eq!(rt; sink.is_short(), false);
     Ok(())
 }
 
@@ -95,6 +100,7 @@ fn files_in_memory_are_loaded_by_name(rt: HostRuntime) -> Result<(), Fail> {
     );
     assert_eq!(rt; files.last_failed().unwrap_or(""), "a.xsd");
     assert_eq!(rt; files.faults(), 2);
+    assert_eq!(rt; files.loads(), 4);
     Ok(())
 }
 
@@ -144,6 +150,84 @@ fn readers_of_the_system_are_sources(rt: HostRuntime) -> Result<(), Fail> {
     assert_eq!(rt; bytes.as_slice(), b"abc".as_slice());
     let bytes = read_to_limit(rt.alloc(), &mut StdSource::new(Hesitating { reads: 0 }), 3)?;
     assert_eq!(rt; bytes.as_slice(), b"xxx".as_slice());
+    Ok(())
+}
+
+// Gives one byte and then fails, or fails at once.
+#[derive(Drop)]
+struct FailingReader {
+    left: usize,
+}
+
+impl Read for FailingReader {
+    fn read(&mut self, buf: &mut [u8]) -> io::Result<usize> {
+        if self.left == 0 || buf.is_empty() {
+            return Err(io::Error::from(ErrorKind::BrokenPipe));
+        }
+        self.left -= 1;
+        buf[0] = b'x';
+        Ok(1)
+    }
+}
+
+#[test]
+fn a_failed_read_is_no_end(rt: HostRuntime) -> Result<(), Fail> {
+    for left in [0, 1, 2] {
+        let mut source = StdSource::new(FailingReader { left });
+        let answer = read_to_limit(rt.alloc(), &mut source, 9);
+        assert_eq!(rt;
+            answer.err(),
+            Some(SourceFault::Failed),
+            "after {left} bytes"
+        );
+    }
+    Ok(())
+}
+
+// Takes one byte at a time, and fails where it has taken all that it may.
+#[derive(Drop)]
+struct FailingWriter {
+    left: usize,
+}
+
+impl Write for FailingWriter {
+    fn write(&mut self, buf: &[u8]) -> io::Result<usize> {
+        if self.left == 0 {
+            return Err(io::Error::from(ErrorKind::BrokenPipe));
+        }
+        self.left -= 1;
+        Ok(buf.len().min(1))
+    }
+
+    fn flush(&mut self) -> io::Result<()> {
+        Ok(())
+    }
+}
+
+#[test]
+fn a_failed_write_is_not_done(rt: HostRuntime) -> Result<(), Fail> {
+    for (left, answer) in [(0, Err(Failed)), (2, Err(Failed)), (3, Ok(()))] {
+        let mut sink = StdSink::new(FailingWriter { left });
+        assert_eq!(rt; sink.write(b"abc"), answer, "after {left} bytes");
+    }
+    Ok(())
+}
+
+#[test]
+fn a_folder_is_no_file(rt: HostRuntime) -> Result<(), Fail> {
+    let mut files = DirFiles::new(&rt);
+    let answer = files.load(rt.alloc(), ".", 1 << 20);
+    assert_eq!(rt; answer.err(), Some(LoadFault::Failed));
+    Ok(())
+}
+
+#[test]
+fn a_text_that_is_no_pattern_is_refused(rt: HostRuntime) -> Result<(), Fail> {
+    let mut patterns = RegexPatterns::new();
+    let answer = patterns.build(rt.alloc(), "a{2");
+    assert_eq!(rt; answer.err(), Some(PatternRefusal::Refused));
+    let pattern = patterns.build(rt.alloc(), "a{2}")?;
+    assert_eq!(rt; pattern.matcher(rt.alloc())?.is_match("baab"), true);
     Ok(())
 }
 

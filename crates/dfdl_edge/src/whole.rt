@@ -11,7 +11,7 @@ use thiserror::Error;
 
 /// Why a source was not read to its end.
 #[derive(Clone, Copy, Debug, PartialEq, Eq, Error)]
-pub enum ReadFault {
+pub enum SourceFault {
     /// A read failed.
     #[error("a read failed")]
     Failed,
@@ -22,25 +22,25 @@ pub enum ReadFault {
     OutOfMemory,
 }
 
-impl From<Failed> for ReadFault {
+impl From<Failed> for SourceFault {
     ghost use Rattle.std.specs.Prelude.{◌≡◌};
-    ghost use Rattle.dfdl_edge.specs.declared.whole.ReadFault.TheVariants as fault;
+    ghost use Rattle.dfdl_edge.specs.declared.whole.SourceFault.TheVariants as fault;
 
     ghost from_gives = { λ _ error. error ≡ fault.Failed };
 
-    fn from(_: Failed) -> ReadFault {
-        ReadFault::Failed
+    fn from(_: Failed) -> SourceFault {
+        SourceFault::Failed
     }
 }
 
-impl From<AllocError> for ReadFault {
+impl From<AllocError> for SourceFault {
     ghost use Rattle.std.specs.Prelude.{◌≡◌};
-    ghost use Rattle.dfdl_edge.specs.declared.whole.ReadFault.TheVariants as fault;
+    ghost use Rattle.dfdl_edge.specs.declared.whole.SourceFault.TheVariants as fault;
 
     ghost from_gives = { λ _ error. error ≡ fault.OutOfMemory };
 
-    fn from(_: AllocError) -> ReadFault {
-        ReadFault::OutOfMemory
+    fn from(_: AllocError) -> SourceFault {
+        SourceFault::OutOfMemory
     }
 }
 
@@ -53,20 +53,20 @@ pub fn read_to_limit<S: Source>(
     alloc: Global,
     source: &mut S,
     most: u64,
-) -> Result<Vec<u8>, ReadFault>
+) -> Result<Vec<u8>, SourceFault>
     ensures bytes { IfOk result (λ v. IsAll (S.left source.old) v.items) }
     ensures fits { IfOk result (λ v. vec_len v ≤ most) }
     ensures used_up { OnOk result (IsUsedUp (S.left source.old) (S.left source.new)) }
     ensures within { OnOk result (IsWithin (S.left source.old) most) }
-    ensures too_large { IsErrOf result ReadFault.TooLarge → IsLonger (S.left source.old) most }
+    ensures too_large { IsErrOf result SourceFault.TooLarge → IsLonger (S.left source.old) most }
     ensures rest { IsRestOf (S.left source.old) (S.left source.new) }
 
     // A Vec has fewer than 2 ^ 63 bytes, so a greater limit is not passed.
-    ensures limit { IsErrOf result ReadFault.TooLarge → most < 2 ^ 63 }
+    ensures limit { IsErrOf result SourceFault.TooLarge → most < 2 ^ 63 }
 
     ensures later { S.faults source.old ≤ S.faults source.new }
-    ensures cause { IsErrOf result ReadFault.Failed → Rose (S.faults source.old) (S.faults source.new) }
-    ensures still { result ≢ Err ReadFault.Failed → S.faults source.new ≡ S.faults source.old }
+    ensures cause { IsErrOf result SourceFault.Failed → Rose (S.faults source.old) (S.faults source.new) }
+    ensures still { result ≢ Err SourceFault.Failed → S.faults source.new ≡ S.faults source.old }
 {
     let most = most as usize;
     let mut bytes = Vec::new(alloc);
@@ -89,7 +89,7 @@ fn read_more<S: Source>(
     bytes: &mut Vec<u8>,
     filled: usize,
     most: usize,
-) -> Result<usize, ReadFault>
+) -> Result<usize, SourceFault>
     requires filled { filled ≤ vec_len bytes.old }
     requires within { vec_len bytes.old ≤ most }
     requires room { filled < most }
@@ -98,11 +98,11 @@ fn read_more<S: Source>(
     ensures front { OnOk result (take filled bytes.new.items ≡ take filled bytes.old.items) }
     ensures takes { IfOk result (λ count. Takes (S.left source.old) count (drop filled bytes.new.items) (S.left source.new)) }
     ensures err { OnErr result (S.left source.new ≡ S.left source.old) }
-    ensures never { result ≢ Err ReadFault.TooLarge }
+    ensures never { result ≢ Err SourceFault.TooLarge }
 
     ensures later { S.faults source.old ≤ S.faults source.new }
-    ensures cause { IsErrOf result ReadFault.Failed → Rose (S.faults source.old) (S.faults source.new) }
-    ensures still { result ≢ Err ReadFault.Failed → S.faults source.new ≡ S.faults source.old }
+    ensures cause { IsErrOf result SourceFault.Failed → Rose (S.faults source.old) (S.faults source.new) }
+    ensures still { result ≢ Err SourceFault.Failed → S.faults source.new ≡ S.faults source.old }
 {
     if filled == bytes.len() {
         let room = filled.saturating_add(CHUNK).min(most);
@@ -113,20 +113,20 @@ fn read_more<S: Source>(
 }
 
 // The source has no byte left.
-fn expect_end<S: Source>(source: &mut S) -> Result<(), ReadFault>
+fn expect_end<S: Source>(source: &mut S) -> Result<(), SourceFault>
     ensures used_up { OnOk result (IsUsedUp (S.left source.old) (S.left source.new)) }
     ensures ended { OnOk result (IsAll (S.left source.old) []) }
-    ensures too_large { IsErrOf result ReadFault.TooLarge → IsLonger (S.left source.old) 0 }
-    ensures memory { result ≢ Err ReadFault.OutOfMemory }
+    ensures too_large { IsErrOf result SourceFault.TooLarge → IsLonger (S.left source.old) 0 }
+    ensures memory { result ≢ Err SourceFault.OutOfMemory }
     ensures rest { IsRestOf (S.left source.old) (S.left source.new) }
 
     ensures later { S.faults source.old ≤ S.faults source.new }
-    ensures cause { IsErrOf result ReadFault.Failed → Rose (S.faults source.old) (S.faults source.new) }
-    ensures still { result ≢ Err ReadFault.Failed → S.faults source.new ≡ S.faults source.old }
+    ensures cause { IsErrOf result SourceFault.Failed → Rose (S.faults source.old) (S.faults source.new) }
+    ensures still { result ≢ Err SourceFault.Failed → S.faults source.new ≡ S.faults source.old }
 {
     let mut next = [0u8; 1];
     match source.read(&mut next)? {
         0 => Ok(()),
-        _ => Err(ReadFault::TooLarge),
+        _ => Err(SourceFault::TooLarge),
     }
 }

@@ -26,7 +26,7 @@ use crate::parsing::parse;
 use crate::unparsing::unparse;
 use dfdl_compile::{CompileFault, compile};
 use dfdl_doc_tree::DocFault;
-use dfdl_edge::{Files, LoadFault, Patterns, ReadFault, Sink, Source, read_to_limit};
+use dfdl_edge::{Files, LoadFault, Patterns, SourceFault, Sink, Source, read_to_limit};
 use dfdl_terms::{LimitCause, SchemaCause, Terms};
 use dfdl_value::TextValue;
 use std::alloc::{AllocError, Global};
@@ -141,9 +141,9 @@ fn read_answer<S: Source>(alloc: Global, source: &mut S, verb: Verb, terms: &Ter
 {
     let bytes = match read_to_limit(alloc, source, MOST_INPUT) {
         Ok(bytes) => bytes,
-        Err(ReadFault::Failed) => return Answer::SourceFailed,
-        Err(ReadFault::TooLarge) => return limit(LimitCause::Input, MOST_INPUT),
-        Err(ReadFault::OutOfMemory) => return Answer::OutOfMemory,
+        Err(SourceFault::Failed) => return Answer::SourceFailed,
+        Err(SourceFault::TooLarge) => return limit(LimitCause::Input, MOST_INPUT),
+        Err(SourceFault::OutOfMemory) => return Answer::OutOfMemory,
     };
     match meaning(alloc, verb, terms, &bytes) {
         Ok(answer) => answer,

@@ -3,3 +3,5 @@ pub mod Sees
 pub mod Encodes
 pub mod Coding
 pub mod Ranges
+pub mod Tables
+pub mod Foresight

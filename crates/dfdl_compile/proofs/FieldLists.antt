@@ -4,10 +4,7 @@ use Rattle.std.proofs.lemmas.List.{get_or_default, map-append}
 use Rattle.dfdl_terms.specs.declared.record.Field.{Field as DeclaredField}
 use Rattle.dfdl_terms.specs.RecordShown.{field_shown}
 use Rattle.dfdl_terms.specs.Record.{Field, all_of}
-
--- what is left from an item on
-pub left_at : {A : Type 0} (all : List A) (i : ℕ) (a : A) → i < length all → a ≡ get_or all i a → drop i all ≡ a ∷ drop (i + 1) all
-left_at all i a here is = drop-cons all i a here ∙ rw (← is, add-one) refl
+use Rattle.dfdl_lemmas.proofs.Lists.{left_at}
 
 module _ {A B : Type 0} (read : A → Option B) where
   -- what was read so far, before all that is left to be read

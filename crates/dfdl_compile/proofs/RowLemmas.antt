@@ -12,7 +12,7 @@ use Rattle.dfdl_terms.specs.declared.row.Row.TheVariants.{Leaf, Elem, Group}
 use Rattle.dfdl_terms.specs.Rows.{Table, ChildrenBelow, Nests, NamesWithin}
 use Rattle.dfdl_terms.specs.Record.{Field, all_of, field_at, record_of}
 use Rattle.dfdl_compile.specs.RecordRows.{field_rows, element_rows, primitive_of}
-use Rattle.dfdl_compile.proofs.FieldLists.{left_at}
+use Rattle.dfdl_lemmas.proofs.Lists.{left_at}
 
 -- what has been made so far, and what is still to be made
 pub record IsMade (rows : List Row) (children : List ℕ) (primitives : List Primitive) (k : ℕ) (all : List Field) : Type 0 where

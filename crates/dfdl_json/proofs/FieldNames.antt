@@ -15,7 +15,7 @@ use Rattle.dfdl_terms.specs.Rows.{Table}
 use Rattle.dfdl_terms.specs.Record.{Field, all_of, field_at, fields_at}
 use Rattle.dfdl_json.specs.Infosets.{has_name, are_known}
 use Rattle.dfdl_json.specs.Names.{HasNames}
-use Rattle.dfdl_json.proofs.FieldLists.{next_field}
+use Rattle.dfdl_terms.proofs.RecordLemmas.{next_field}
 
 -- the test has the names of the fields before this row: with those that are left, they are all
 pub record HasNamesBefore (t : Table) (rows : List ℕ) (k : ℕ) (has : Bor (List ℕ) → Bool) : Type 0 where

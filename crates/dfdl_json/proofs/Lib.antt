@@ -1,4 +1,3 @@
-mod FieldLists
 mod FieldNames
 mod JsonParts
 mod Records

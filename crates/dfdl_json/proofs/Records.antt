@@ -1,43 +1,18 @@
--- The parts of terms that are a record, and the answer that follows from its root element.
+-- The answer that follows from the root element of a record.
 use Rattle.std.proofs.Common.{◌≡◌, Vec, Global, List, [], Option, None, Some, Result, Err, cond, true, false, map, option_map, option_and_then, IsSome, refl, sym, ap, subst, ◌∙◌}
 use Rattle.std.specs.Option.{unwrap_or}
 use Rattle.serde_json.specs.Data.{Data, Members}
 use Rattle.dfdl_terms.specs.declared.event.Event.{Event}
 use Rattle.dfdl_terms.specs.Rows.{Table}
 use Rattle.dfdl_terms.specs.Record.{Record, Root, all_of, field_at, fields_at, root_at, record_from, record_of}
-use Rattle.dfdl_json.specs.declared.cause.InfosetCause.TheVariants.{RootExpected, UnknownMember}
+use Rattle.dfdl_terms.proofs.RecordLemmas.{described_is}
+use Rattle.dfdl_report.specs.declared.cause.InfosetCause.TheVariants.{RootExpected, UnknownMember}
 use Rattle.dfdl_json.specs.declared.fault.InfosetFault.{InfosetFault}
 use Rattle.dfdl_json.specs.declared.fault.InfosetFault.TheVariants.{Bad, OutOfMemory}
 use Rattle.dfdl_json.specs.Answers.{Answers, IsFault}
 use Rattle.dfdl_json.specs.Infosets.{Refusal, are_known, content_in, content_values, field_values, members_values, values_from, values_of}
-use Rattle.dfdl_terms.specs.Paths.{root_path, whole_path}
+use Rattle.dfdl_report.specs.Paths.{root_path, whole_path}
 use Rattle.dfdl_json.specs.Fitting.{events_if, events_in}
-
--- terms that are a record have a root element
-pub described_root : (t : Table) → None ≡ root_at t → IsSome (record_of t) → ⊥
-unfolding record_of
-described_root t none some =
-    let is : IsSome (option_and_then (record_from t) None) = subst (λ (o : Option Root). IsSome (option_and_then (record_from t) o)) (sym none) some in cc
-
--- its fields are there
-pub described_fields : (t : Table) (root : Root) → Some root ≡ root_at t → IsSome (record_of t) → IsSome (all_of (map (field_at t) root.children))
-unfolding record_of
-described_fields t root is some =
-    let from : IsSome (record_from t root) = subst (λ (o : Option Root). IsSome (option_and_then (record_from t) o)) (sym is) some in
-    (elim (all_of (map (field_at t) root.children)) as
-    (λ o. IsSome (option_map (λ fields. let r : Record = record { root = root.name; fields = fields } in r) o) → IsSome o)
-    [ None ↦ λ none. none | Some fields ↦ λ _. refl ]) from
-
--- they are those of the record
-pub described_is : (t : Table) (root : Root) (described : Record) → Some root ≡ root_at t → record_of t ≡ Some described
-    → described ≡ record { root = root.name; fields = fields_at t root.children }
-unfolding record_of
-described_is t root described is some =
-    let from : record_from t root ≡ Some described = ap (option_and_then (record_from t)) is ∙ some in
-    (elim (all_of (map (field_at t) root.children)) as
-    (λ o. option_map (λ fields. let r : Record = record { root = root.name; fields = fields } in r) o ≡ Some described
-    → described ≡ record { root = root.name; fields = unwrap_or o [] })
-    [ None ↦ λ none. absurd (cc) | Some fields ↦ λ same. sym (let is_same = same in cc) ]) from
 
 -- the answer of a call is what is expected
 abbrev pub IsAnswered : Result (List Event) Refusal → Result (Vec Event Global) InfosetFault → Type 0

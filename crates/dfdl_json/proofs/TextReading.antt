@@ -6,8 +6,8 @@ use Rattle.std.proofs.lemmas.Bool.{cases_Bool}
 use Rattle.std.proofs.lemmas.Str.{IsUtf8-from_is_utf8, is_utf8-from_IsUtf8}
 use Rattle.serde_json.specs.Data.{Data}
 use Rattle.serde_json.specs.Read.{read}
-use Rattle.dfdl_terms.specs.Paths.{whole_path}
-use Rattle.dfdl_json.specs.declared.cause.InfosetCause.TheVariants.{NotJson}
+use Rattle.dfdl_report.specs.Paths.{whole_path}
+use Rattle.dfdl_report.specs.declared.cause.InfosetCause.TheVariants.{NotJson}
 use Rattle.dfdl_json.specs.Infosets.{Refusal}
 use Rattle.dfdl_json.specs.Texts.{json_if, json_in}
 

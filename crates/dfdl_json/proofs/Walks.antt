@@ -9,10 +9,11 @@ use Rattle.dfdl_terms.specs.declared.event.Event.{Event}
 use Rattle.dfdl_terms.specs.declared.event.Event.TheVariants.{Start, Simple, End}
 use Rattle.dfdl_terms.specs.Rows.{Table}
 use Rattle.dfdl_terms.specs.Record.{Field, all_of, field_at, fields_at}
-use Rattle.dfdl_terms.specs.Paths.{field_path}
+use Rattle.dfdl_report.specs.Paths.{field_path}
 use Rattle.dfdl_json.specs.Infosets.{Refusal, before, field_values, present, value_at, value_in, value_of_field}
 use Rattle.dfdl_json.specs.Fitting.{Fits, FitsContent, ends, passes, takes, child_rows, content_events, events_if, root_row}
-use Rattle.dfdl_json.proofs.FieldLists.{left_at, next_field}
+use Rattle.dfdl_terms.proofs.RecordLemmas.{next_field}
+use Rattle.dfdl_lemmas.proofs.Lists.{left_at}
 
 -- the events so far and those of the values that are left
 abbrev pub with_values : List Event → List ℕ → Result (List (Option Value)) Refusal → Result (List Event) Refusal

@@ -7,10 +7,10 @@ use Rattle.serde_json.specs.Find.{get_member}
 use Rattle.dfdl_forms.specs.declared.simple.Simple.{Simple}
 use Rattle.dfdl_value.specs.declared.value.Value.{Value}
 use Rattle.dfdl_value.specs.Reading.{Reading, reading_of}
-use Rattle.dfdl_terms.specs.Paths.{whole_path, root_path, field_path}
+use Rattle.dfdl_report.specs.Paths.{whole_path, root_path, field_path}
 use Rattle.dfdl_terms.specs.Record.{Field, Record}
-use Rattle.dfdl_json.specs.declared.cause.InfosetCause.{InfosetCause}
-use Rattle.dfdl_json.specs.declared.cause.InfosetCause.TheVariants.{RootExpected, UnknownMember, ObjectExpected, StringExpected, NotAValue, NullNotAllowed}
+use Rattle.dfdl_report.specs.declared.cause.InfosetCause.{InfosetCause}
+use Rattle.dfdl_report.specs.declared.cause.InfosetCause.TheVariants.{RootExpected, UnknownMember, ObjectExpected, StringExpected, NotAValue, NullNotAllowed}
 
 -- why an infoset is refused, and the path of the element at which it is
 pub record Refusal : Type 0 where

@@ -1,5 +1,4 @@
 pub mod Answers
-pub mod Causes
 pub mod Fitting
 pub mod Infosets
 pub mod Names

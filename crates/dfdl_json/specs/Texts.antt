@@ -5,10 +5,10 @@ use Rattle.serde_json.specs.Data.{Data}
 use Rattle.serde_json.specs.Read.{read}
 use Rattle.dfdl_value.specs.declared.value.Value.{Value}
 use Rattle.dfdl_terms.specs.declared.event.Event.{Event}
-use Rattle.dfdl_terms.specs.Paths.{whole_path}
+use Rattle.dfdl_report.specs.Paths.{whole_path}
 use Rattle.dfdl_terms.specs.Record.{Record}
 use Rattle.dfdl_terms.specs.Rows.{Table}
-use Rattle.dfdl_json.specs.declared.cause.InfosetCause.TheVariants.{NotJson}
+use Rattle.dfdl_report.specs.declared.cause.InfosetCause.TheVariants.{NotJson}
 use Rattle.dfdl_json.specs.Fitting.{events_if}
 use Rattle.dfdl_json.specs.Infosets.{Refusal, values_of}
 

@@ -5,14 +5,14 @@ ghost use Rattle.dfdl_value.specs.Types.{IsOfType};
 ghost use Rattle.dfdl_terms.specs.Record.{Record, all_of, field_at, fields_at, record_of};
 ghost use Rattle.dfdl_json.specs.Answers.{Answers, IsFault};
 ghost use Rattle.dfdl_json.specs.Fitting.{Fits, child_rows, events_if, events_in};
-ghost use Rattle.dfdl_terms.specs.Paths.{field_path, root_path};
+ghost use Rattle.dfdl_report.specs.Paths.{field_path, root_path};
 ghost use Rattle.dfdl_json.specs.Infosets.{content_values, field_values, members_values, value_at, value_in};
 
-use crate::cause::InfosetCause;
+use dfdl_report::{InfosetCause, path_of_field, path_of_root};
 use crate::fault::InfosetFault;
 use crate::members::{are_members_known, content_of_root, member_of, names_of_fields, read_member};
 use dfdl_terms::{
-    Event, Field, Root, RowId, Terms, field_of_row, path_of_field, path_of_root, root_of_record,
+    Event, Field, Root, RowId, Terms, field_of_row, root_of_record,
 };
 use dfdl_value::{TextValue, Value};
 use serde_json::{Map, Value as Json};
@@ -129,7 +129,7 @@ fn field_value(
         Ok(value) => Ok(value),
         Err(cause) => Err(InfosetFault::Bad {
             cause,
-            path: path_of_field(alloc, root, field.name)?,
+            path: TextValue::from_string(path_of_field(alloc, root, field.name)?),
         }),
     }
 }
@@ -139,7 +139,10 @@ fn root_refused(alloc: Global, root: &str, cause: InfosetCause) -> InfosetFault
     ensures { IsFault result (record { cause = cause; path = root_path root.now }) }
 {
     match path_of_root(alloc, root) {
-        Ok(path) => InfosetFault::Bad { cause, path },
+        Ok(path) => InfosetFault::Bad {
+            cause,
+            path: TextValue::from_string(path),
+        },
         Err(_) => InfosetFault::OutOfMemory,
     }
 }

@@ -1,7 +1,7 @@
 ghost use Rattle.dfdl_json.specs.declared.fault.InfosetFault.TheVariants.{OutOfMemory};
 ghost use Rattle.std.specs.Prelude.{◌≡◌};
 
-use crate::cause::InfosetCause;
+use dfdl_report::InfosetCause;
 use dfdl_value::TextValue;
 use std::alloc::{AllocError, AllocFailed};
 use thiserror::Error;

@@ -5,7 +5,6 @@
 // It serves 'The DFDL Information Set'.
 #![tactic(auto)]
 
-pub mod cause;
 mod events;
 pub mod fault;
 mod members;
@@ -13,7 +12,7 @@ mod members;
 mod tests;
 mod text;
 
-pub use cause::InfosetCause;
+pub use dfdl_report::InfosetCause;
 pub use events::events_of;
 pub use fault::InfosetFault;
 pub use text::events_of_json;

@@ -13,7 +13,7 @@ ghost use Rattle.dfdl_terms.specs.Record.{all_of, field_at, fields_at};
 ghost use Rattle.dfdl_json.specs.Infosets.{content_in, value_if, value_in};
 ghost use Rattle.dfdl_json.specs.Names.{HasNames};
 
-use crate::cause::InfosetCause;
+use dfdl_report::InfosetCause;
 use dfdl_terms::{RowId, Terms, field_of_row};
 use dfdl_value::{ReadFault, Simple, Value};
 use serde_json::{Map, Value as Json};

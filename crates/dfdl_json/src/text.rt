@@ -6,7 +6,7 @@ ghost use Rattle.dfdl_json.specs.Answers.{Answers};
 ghost use Rattle.dfdl_json.specs.Fitting.{Fits};
 ghost use Rattle.dfdl_json.specs.Texts.{events_of_text, json_in};
 
-use crate::cause::InfosetCause;
+use dfdl_report::InfosetCause;
 use crate::events::events_of;
 use crate::fault::InfosetFault;
 use dfdl_terms::{Event, Terms};

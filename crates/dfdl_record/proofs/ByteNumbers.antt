@@ -4,6 +4,7 @@ use Rattle.std.specs.List.{AllByRecursion}
 use Rattle.std.proofs.Math.Nat.{mod-eq_of_lt, mul-le-mul_right, mul-add-div_right}
 use Rattle.std.proofs.lemmas.Nat.{pow-add, mod-pow-add, div-mul-add}
 use Rattle.std.proofs.lemmas.List.{reverse-append, reverse-reverse, length-reverse}
+use Rattle.dfdl_lemmas.proofs.Powers.{eight_bits}
 use Rattle.dfdl_bits.specs.Bits.{number_of}
 use Rattle.dfdl_forms.specs.declared.order.BitOrder.{BitOrder}
 use Rattle.dfdl_forms.specs.declared.order.BitOrder.TheVariants.{MostFirst}
@@ -37,15 +38,6 @@ little_number (b ∷ bs) = b + 256 * little_number bs
 abbrev pub whole_number : ByteOrder → List ℕ → ℕ
 whole_number Big bytes = big_number bytes
 whole_number Little bytes = little_number bytes
-
--- a byte has eight bits
-pub eight_bits : (count : ℕ) → 2 ^ (8 * count) ≡ 256 ^ count
-eight_bits zero = refl
-eight_bits (suc count) =
-    let more : 8 * suc count ≡ 8 + 8 * count = omega arith in
-    let parts : 2 ^ (8 + 8 * count) ≡ 2 ^ 8 * 2 ^ (8 * count) = pow-add 2 8 (8 * count) in
-    let whole : 256 ^ (count + 1) ≡ 256 ^ count * 256 ^ 1 = pow-add 256 count 1 in
-    rw (more, parts, eight_bits count, ← add-one count, whole) (omega arith)
 
 -- ---- the bytes of a number
 pub length-bytes_of : (count n : ℕ) → length (bytes_of count n) ≡ count

@@ -17,7 +17,8 @@ use Rattle.dfdl_int_binary.specs.declared.form.IntForm.{IntForm}
 use Rattle.dfdl_int_binary.specs.Integers.{integer_writing, number_in}
 use Rattle.dfdl_record.specs.Outcomes.{number_at}
 use Rattle.dfdl_record.specs.Pieces.{IsWholeField, bytes_of, in_order, piece_of}
-use Rattle.dfdl_record.proofs.ByteNumbers.{ByteNumbers, AreBytes, eight_bits, whole_number, whole_number-lt, length-bytes_of, bytes_of-small, AreBytes-in_order, length-in_order, number_back, bytes_back, number_here}
+use Rattle.dfdl_lemmas.proofs.Powers.{eight_bits}
+use Rattle.dfdl_record.proofs.ByteNumbers.{ByteNumbers, AreBytes, whole_number, whole_number-lt, length-bytes_of, bytes_of-small, AreBytes-in_order, length-in_order, number_back, bytes_back, number_here}
 
 -- the number that a field's value is written as
 abbrev pub written : IntForm → Value → ℕ

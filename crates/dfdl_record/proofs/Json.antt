@@ -9,6 +9,7 @@ use Rattle.std.proofs.lemmas.Slice.Eq.{bytes_eq-Decides}
 use Rattle.serde_json.specs.Data.{Data, object, string, Members, no_members, member, put}
 use Rattle.serde_json.specs.Find.{get_member}
 use Rattle.serde_json.proofs.Views.{get_member-put, get_member-put_other}
+use Rattle.dfdl_lemmas.proofs.Bools.{both}
 use Rattle.dfdl_value.specs.Reading.{reading_of}
 use Rattle.dfdl_value.specs.Types.{IsOfType, IsPlain}
 use Rattle.dfdl_forms.specs.declared.simple.Simple.{Simple}
@@ -16,10 +17,10 @@ use Rattle.dfdl_value.specs.Writing.{text_of}
 use Rattle.dfdl_value.specs.declared.value.Value.{Value}
 use Rattle.dfdl_value.specs.declared.value.Value.TheVariants.{Uns}
 use Rattle.dfdl_int_binary.specs.declared.form.IntForm.{IntForm}
-use Rattle.dfdl_terms.specs.Paths.{field_path, root_path}
+use Rattle.dfdl_report.specs.Paths.{field_path, root_path}
 use Rattle.dfdl_terms.specs.Record.{Field, Record}
-use Rattle.dfdl_json.specs.declared.cause.InfosetCause.{InfosetCause}
-use Rattle.dfdl_json.specs.declared.cause.InfosetCause.TheVariants.{UnknownMember}
+use Rattle.dfdl_report.specs.declared.cause.InfosetCause.{InfosetCause}
+use Rattle.dfdl_report.specs.declared.cause.InfosetCause.TheVariants.{UnknownMember}
 use Rattle.dfdl_json.specs.Infosets.{Refusal, are_known, before, field_values, has_name, names_of, present, value_at, value_if, value_in, value_of_field, values_from, values_of}
 use Rattle.dfdl_record.specs.Outcomes.{infoset_of, with_member}
 use Rattle.dfdl_record.specs.Pieces.{IsWholeField}
@@ -73,10 +74,6 @@ said_fields reads root (field ∷ fields) (value ∷ values) ms different whole 
     ∙ ap (before (Ok (Some value))) (said_fields reads root fields values (put field.name content ms) different.1 whole.1 typed.1)
 
 -- ---- each member has the name of a field
-both : (a b : Bool) → (a && b) ≡ true → (a ≡ true) × (b ≡ true)
-both true b e = (refl, e)
-both false b e = absurd (cc)
-
 put-names : (p : List ℕ → Bool) (k : List ℕ) (d : Data) (ms : Members) → p k ≡ true → list_all p (names_of ms) ≡ true → list_all p (names_of (put k d ms)) ≡ true
 put-names p k d no_members here there = and_from (p k) true here refl
 put-names p k d (member l e ms) here there =

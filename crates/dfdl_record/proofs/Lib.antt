@@ -1,6 +1,5 @@
 pub mod ByteNumbers
 mod Bytes
-mod FieldLists
 pub mod Fields
 pub mod Json
 pub mod Lists

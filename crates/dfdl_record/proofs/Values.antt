@@ -11,7 +11,7 @@ use Rattle.dfdl_terms.specs.Record.{Field, Record, Root, all_of, field_at, field
 use Rattle.dfdl_json.specs.Fitting.{child_rows, content_events, record_events}
 use Rattle.dfdl_record.specs.Pieces.{IsWholeField, IsWholeRecord, unparsed_of, with_piece, piece_of}
 use Rattle.dfdl_record.specs.Shown.{first_value}
-use Rattle.dfdl_record.proofs.FieldLists.{described_is, split_all}
+use Rattle.dfdl_terms.proofs.RecordLemmas.{described_is, split_all}
 use Rattle.dfdl_record.proofs.Walks.{after_value, walked}
 
 module _ {A : Type 0} (R : A → A → Type 0) (x : A) (xs : List A) (pairs : AllPairs R (x ∷ xs)) where

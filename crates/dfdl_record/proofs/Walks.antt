@@ -14,7 +14,8 @@ use Rattle.dfdl_terms.specs.Record.{Field, all_of, field_at, fields_at}
 use Rattle.dfdl_json.specs.Fitting.{Fits, FitsContent, passes, takes, child_rows}
 use Rattle.dfdl_record.specs.Pieces.{IsWholeField, Unparsed, piece_of, with_piece}
 use Rattle.dfdl_record.specs.Shown.{first_value}
-use Rattle.dfdl_record.proofs.FieldLists.{left_at, next_field}
+use Rattle.dfdl_terms.proofs.RecordLemmas.{next_field}
+use Rattle.dfdl_lemmas.proofs.Lists.{left_at}
 
 -- a field with its value, if it has one, before the others
 abbrev pub after_value : Field → Option Value → Unparsed → Unparsed

@@ -2,7 +2,7 @@
 use Rattle.std.proofs.Common.{◌==◌, ◌||◌, IsTrue, ◌≡◌, ◌⊎◌, ℕ, ◌+◌, ◌≤◌, List, length, Option, None, Some, IsSome, IfSome, refl, sym, subst, ◌∙◌, nat_le, inl, inr}
 use Rattle.std.proofs.lemmas.Bool.{cond_both}
 use Rattle.dfdl_edge.specs.Told.{IsAll}
-use Rattle.dfdl_terms.specs.declared.cause.SchemaCause.TheVariants.{OutsideSubset}
+use Rattle.dfdl_report.specs.declared.cause.SchemaCause.TheVariants.{OutsideSubset}
 use Rattle.dfdl_terms.specs.Rows.{Table}
 use Rattle.dfdl_terms.specs.Record.{Record, record_of}
 use Rattle.dfdl_run.specs.declared.answer.Answer.{Answer}

@@ -7,11 +7,12 @@ use Rattle.std.specs.Cmp.Lexicographic.{slice_cmp}
 use Rattle.std.proofs.lemmas.Bool.{cond-true, cond-false, le-leb, lt-leb, or_parts, or_from}
 use Rattle.serde_json.specs.Data.{Data, Members, no_members, member, put, string, object}
 use Rattle.serde_json.specs.Written.{has_float, members_have_float, compact_text}
-use Rattle.dfdl_terms.specs.declared.cause.ParseCause.TheVariants.{DataEnds}
+use Rattle.dfdl_report.specs.declared.cause.ParseCause.TheVariants.{DataEnds}
 use Rattle.dfdl_terms.specs.Rows.{Table}
+use Rattle.dfdl_terms.proofs.RecordLemmas.{described_is}
 use Rattle.dfdl_terms.specs.Record.{Record, Root, all_of, field_at, fields_at, root_at, record_from, record_of}
 use Rattle.dfdl_run.specs.declared.answer.Answer.TheVariants.{Done, LeftOver, Failed}
-use Rattle.dfdl_terms.specs.Paths.{field_path}
+use Rattle.dfdl_report.specs.Paths.{field_path}
 use Rattle.dfdl_record.specs.Outcomes.{Item, Outcome, Read, Ends, with_member, outcome_of}
 use Rattle.dfdl_run.specs.Meaning.{line_of, answer_at, parse_answer}
 use Rattle.dfdl_run.specs.Reading.{AllRead, EndsAt, reached}
@@ -63,32 +64,6 @@ answer_done root bits (Read items at) ms bit is few =
     ap (λ m. Done (compact_text (object (put root (object m) no_members)) ++ 10 ∷ [])) same
     ∙ sym (cond-false (nat_le (at + 8) bits) (LeftOver (line_of root items) at) (Done (line_of root items)) (lt-leb (at + 8) bits (subst (λ (b : ℕ). bits < b + 8) same_bit few)))
 answer_done root bits (Ends name at) ms bit is few = absurd (cc)
-
--- terms that are a record have a root element
-pub described_root : (t : Table) → None ≡ root_at t → IsSome (record_of t) → ⊥
-unfolding record_of
-described_root t none some =
-    let is : IsSome (option_and_then (record_from t) None) = subst (λ (o : Option Root). IsSome (option_and_then (record_from t) o)) (sym none) some in cc
-
--- its fields are there
-pub described_fields : (t : Table) (root : Root) → Some root ≡ root_at t → IsSome (record_of t) → IsSome (all_of (map (field_at t) root.children))
-unfolding record_of
-described_fields t root is some =
-    let from : IsSome (record_from t root) = subst (λ (o : Option Root). IsSome (option_and_then (record_from t) o)) (sym is) some in
-    (elim (all_of (map (field_at t) root.children)) as
-    (λ o. IsSome (option_map (λ fields. let r : Record = record { root = root.name; fields = fields } in r) o) → IsSome o)
-    [ None ↦ λ none. none | Some fields ↦ λ _. refl ]) from
-
--- they are those of the record
-pub described_is : (t : Table) (root : Root) (described : Record) → Some root ≡ root_at t → record_of t ≡ Some described
-    → described ≡ record { root = root.name; fields = fields_at t root.children }
-unfolding record_of
-described_is t root described is some =
-    let from : record_from t root ≡ Some described = ap (option_and_then (record_from t)) is ∙ some in
-    (elim (all_of (map (field_at t) root.children)) as
-    (λ o. option_map (λ fields. let r : Record = record { root = root.name; fields = fields } in r) o ≡ Some described
-    → described ≡ record { root = root.name; fields = unwrap_or o [] })
-    [ None ↦ λ none. absurd (cc) | Some fields ↦ λ same. sym (let is_same = same in cc) ]) from
 
 -- the answer of a record, from what was read of its rows
 pub record_answer : (t : Table) (root : Root) (described : Record) (bytes : List ℕ) → Some root ≡ root_at t → record_of t ≡ Some described

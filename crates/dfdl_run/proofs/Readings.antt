@@ -5,26 +5,11 @@ use Rattle.std.specs.Option.{unwrap_or}
 use Rattle.std.proofs.lemmas.Bool.{cond-true, cond-false, le-leb, lt-leb}
 use Rattle.serde_json.specs.Data.{Members, no_members, put, string}
 use Rattle.dfdl_terms.specs.Rows.{Table}
+use Rattle.dfdl_terms.proofs.RecordLemmas.{next_field}
 use Rattle.dfdl_terms.specs.Record.{Field, all_of, field_at, fields_at}
 use Rattle.dfdl_record.specs.Outcomes.{Outcome, Read, Ends, with_item, with_member, number_at, outcome_of, Item}
 use Rattle.dfdl_run.specs.Reading.{AllRead, EndsAt, reached}
-use Rattle.dfdl_compile.proofs.FieldLists.{left_at}
-
--- a first value and the others, where each is there
-pub record IsSplit {A : Type 0} (o : Option A) (os : List (Option A)) (ys : List A) : Type 0 where
-  pub first : A
-  pub rest : List A
-  pub first_is : o ≡ Some first
-  pub rest_is : all_of os ≡ Some rest
-  pub whole : ys ≡ first ∷ rest
-
-split_all : {A : Type 0} (o : Option A) (os : List (Option A)) (ys : List A) → all_of (o ∷ os) ≡ Some ys → IsSplit o os ys
-split_all None os ys is = absurd (cc)
-split_all {A = A} (Some y) os ys is =
-    (elim (all_of os) as (λ p. all_of os ≡ p → option_map (λ zs. y ∷ zs) p ≡ Some ys → IsSplit (Some y) os ys) [
-      | None ↦ λ _ none. absurd (cc)
-      | Some zs ↦ λ rest some. record { first = y; rest = zs; first_is = refl; rest_is = rest; whole = cc }
-    ]) refl is
+use Rattle.dfdl_lemmas.proofs.Lists.{left_at}
 
 -- where the reader stands in a record's data: the fields that are left, and the members so far
 pub record IsAt (t : Table) (rows : List ℕ) (k : ℕ) (bytes : List ℕ) (bit : ℕ) (members : Members) : Type 0 where
@@ -44,11 +29,6 @@ at_start t rows bytes some =
         within = omega arith;
       }
     ]) refl some
-
-pub next_field : (t : Table) (rows : List ℕ) (k row : ℕ) (fields : List Field) → k < length rows → row ≡ get_or rows k row
-    → all_of (map (field_at t) (drop k rows)) ≡ Some fields → IsSplit (field_at t row) (map (field_at t) (drop (k + 1) rows)) fields
-next_field t rows k row fields here is left =
-    split_all (field_at t row) (map (field_at t) (drop (k + 1) rows)) fields (ap (λ xs. all_of (map (field_at t) xs)) (sym (left_at rows k row here is)) ∙ left)
 
 reached-with_item : (members : Members) (item : Item) (o : Outcome) → reached members (with_item item o) ≡ reached (with_member members item) o
 reached-with_item before item (Read items bit) = refl

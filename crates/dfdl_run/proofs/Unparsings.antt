@@ -4,7 +4,7 @@ use Rattle.dfdl_value.specs.declared.value.Value.{Value}
 use Rattle.dfdl_terms.specs.declared.event.Event.{Event}
 use Rattle.dfdl_terms.specs.Record.{Record}
 use Rattle.dfdl_terms.specs.Rows.{Table}
-use Rattle.dfdl_json.specs.declared.cause.InfosetCause.{InfosetCause}
+use Rattle.dfdl_report.specs.declared.cause.InfosetCause.{InfosetCause}
 use Rattle.dfdl_json.specs.Fitting.{events_if, record_events}
 use Rattle.dfdl_json.specs.Infosets.{Refusal}
 use Rattle.dfdl_json.specs.Texts.{events_of_text, values_of_text}

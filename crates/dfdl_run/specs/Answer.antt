@@ -1,15 +1,15 @@
 -- What each answer of a run prints: its exit status, what it writes to `out`, and its line on the notes.
 use Rattle.std.specs.Prelude.{ℕ, List, [], ◌++◌, codes, decimal}
-use Rattle.dfdl_terms.specs.declared.cause.ParseCause.{ParseCause}
-use Rattle.dfdl_terms.specs.declared.cause.ParseCause.TheVariants.{DataEnds}
-use Rattle.dfdl_terms.specs.declared.cause.UnparseCause.{UnparseCause}
-use Rattle.dfdl_terms.specs.declared.cause.UnparseCause.TheVariants.{WrongOccurrences}
-use Rattle.dfdl_terms.specs.declared.cause.SchemaCause.{SchemaCause}
-use Rattle.dfdl_terms.specs.declared.cause.SchemaCause.TheVariants.{OutsideSubset}
-use Rattle.dfdl_terms.specs.Causes.{parse_number, unparse_number, schema_number, limit_number}
-use Rattle.dfdl_json.specs.declared.cause.InfosetCause.{InfosetCause}
-use Rattle.dfdl_json.specs.declared.cause.InfosetCause.TheVariants.{NotJson, RootExpected, UnknownMember, ObjectExpected, ArrayExpected, StringExpected, NotAValue, NullNotAllowed}
-use Rattle.dfdl_json.specs.Causes.{infoset_number}
+use Rattle.dfdl_report.specs.declared.cause.ParseCause.{ParseCause}
+use Rattle.dfdl_report.specs.declared.cause.ParseCause.TheVariants.{DataEnds}
+use Rattle.dfdl_report.specs.declared.cause.UnparseCause.{UnparseCause}
+use Rattle.dfdl_report.specs.declared.cause.UnparseCause.TheVariants.{WrongOccurrences}
+use Rattle.dfdl_report.specs.declared.cause.SchemaCause.{SchemaCause}
+use Rattle.dfdl_report.specs.declared.cause.SchemaCause.TheVariants.{OutsideSubset}
+use Rattle.dfdl_report.specs.Causes.{parse_number, unparse_number, schema_number, limit_number}
+use Rattle.dfdl_report.specs.declared.cause.InfosetCause.{InfosetCause}
+use Rattle.dfdl_report.specs.declared.cause.InfosetCause.TheVariants.{NotJson, RootExpected, UnknownMember, ObjectExpected, ArrayExpected, StringExpected, NotAValue, NullNotAllowed}
+use Rattle.dfdl_report.specs.Causes.{infoset_number}
 use Rattle.dfdl_record.specs.Pieces.{joined}
 use Rattle.dfdl_run.specs.declared.answer.Answer.{Answer}
 use Rattle.dfdl_run.specs.declared.answer.Answer.TheVariants.{Done, LeftOver, Failed, Unparsed, NotUnparsed, NoInfoset, Refused, Usage, SourceFailed, SinkFailed, FilesFailed, Limit, OutOfMemory}

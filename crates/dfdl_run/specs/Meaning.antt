@@ -2,9 +2,9 @@
 use Rattle.std.specs.Prelude.{ℕ, ◌+◌, ◌*◌, if◌then◌else◌, nat_le, List, [], ◌∷◌, ◌++◌, length, Option, None, Some, Result, Ok, Err}
 use Rattle.serde_json.specs.Written.{compact_text}
 use Rattle.dfdl_value.specs.declared.value.Value.{Value}
-use Rattle.dfdl_terms.specs.declared.cause.ParseCause.TheVariants.{DataEnds}
-use Rattle.dfdl_terms.specs.declared.cause.UnparseCause.TheVariants.{WrongOccurrences}
-use Rattle.dfdl_terms.specs.Paths.{field_path}
+use Rattle.dfdl_report.specs.declared.cause.ParseCause.TheVariants.{DataEnds}
+use Rattle.dfdl_report.specs.declared.cause.UnparseCause.TheVariants.{WrongOccurrences}
+use Rattle.dfdl_report.specs.Paths.{field_path}
 use Rattle.dfdl_terms.specs.Record.{Record}
 use Rattle.dfdl_json.specs.Infosets.{Refusal}
 use Rattle.dfdl_json.specs.Texts.{values_of_text}

@@ -2,9 +2,8 @@ ghost use Rattle.std.specs.Prelude.{◌≡◌, ℕ, List, IfOk, string_bytes};
 ghost use Rattle.dfdl_run.specs.Answer.{status_of, note_of, parse_text, unparse_text, infoset_text, schema_text};
 ghost use Rattle.dfdl_run.specs.declared.answer.Answer.{Answer};
 
-use dfdl_json::InfosetCause;
 use dfdl_record::PieceList;
-use dfdl_terms::{LimitCause, ParseCause, SchemaCause, UnparseCause};
+use dfdl_report::{InfosetCause, LimitCause, ParseCause, SchemaCause, UnparseCause};
 use dfdl_value::TextValue;
 use std::alloc::{AllocError, Global};
 

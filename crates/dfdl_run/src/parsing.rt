@@ -4,16 +4,17 @@ ghost use Rattle.serde_json.specs.Data.{object, no_members, put as with_member};
 ghost use Rattle.serde_json.specs.View.{members_view};
 ghost use Rattle.serde_json.specs.Written.{has_float, compact_text};
 ghost use Rattle.dfdl_terms.specs.Record.{Record, all_of, field_at, fields_at, record_of};
-ghost use Rattle.dfdl_terms.specs.declared.cause.ParseCause.TheVariants.{DataEnds};
+ghost use Rattle.dfdl_report.specs.declared.cause.ParseCause.TheVariants.{DataEnds};
 ghost use Rattle.dfdl_run.specs.declared.answer.Answer.{Answer};
-ghost use Rattle.dfdl_terms.specs.Paths.{field_path};
+ghost use Rattle.dfdl_report.specs.Paths.{field_path};
 ghost use Rattle.dfdl_record.specs.Outcomes.{outcome_of};
 ghost use Rattle.dfdl_run.specs.Meaning.{parse_answer};
 ghost use Rattle.dfdl_run.specs.Reading.{reached, reading_shown};
 
 use crate::answer::Answer;
 use dfdl_bits::number_at;
-use dfdl_terms::{ParseCause, RowId, Terms, field_of_row, path_of_field, root_of_record};
+use dfdl_report::{ParseCause, path_of_field};
+use dfdl_terms::{RowId, Terms, field_of_row, root_of_record};
 use dfdl_value::TextValue;
 use serde_json::{Map, Value};
 use std::alloc::{AllocError, Global};
@@ -117,7 +118,7 @@ fn failed(alloc: Global, root: &str, name: &str, bit: u64) -> Result<Answer, All
     Ok(Answer::Failed {
         cause: ParseCause::DataEnds,
         bit,
-        path: path_of_field(alloc, root, name)?,
+        path: TextValue::from_string(path_of_field(alloc, root, name)?),
     })
 }
 

@@ -7,7 +7,9 @@ ghost use Rattle.dfdl_run.specs.Meaning.{unparse_answer};
 use crate::answer::Answer;
 use dfdl_json::{InfosetFault, events_of_json};
 use dfdl_record::unparse as pieces_of;
-use dfdl_terms::{Terms, UnparseCause, path_of_field, root_of_record};
+use dfdl_report::{UnparseCause, path_of_field};
+use dfdl_terms::{Terms, root_of_record};
+use dfdl_value::TextValue;
 use std::alloc::{AllocError, Global};
 
 // What unparsing the text of an infoset comes to.
@@ -31,7 +33,7 @@ pub(crate) fn unparse(alloc: Global, terms: &Terms, text: &[u8]) -> Result<Answe
         Some(name) => Ok(Answer::NotUnparsed {
             pieces,
             cause: UnparseCause::WrongOccurrences,
-            path: path_of_field(alloc, root.name, name)?,
+            path: TextValue::from_string(path_of_field(alloc, root.name, name)?),
         }),
     }
 }

@@ -1,5 +1,3 @@
-pub mod Causes
-pub mod Paths
 pub mod Record
 pub mod RecordShown
 pub mod Rows

@@ -3,19 +3,14 @@
 // A row is one step of the data syntax grammar ('DFDL Data Syntax Grammar'), and names the rows inside it by their
 // numbers, each below its own; the last row is the root element's. `specs/Record.antt` says which rows are a record:
 // a root element whose content is a sequence of binary integers. Parsers and unparsers cite it.
-// The causes of refusals, errors and limits stand here with the numbers that the program prints.
 #![tactic(auto)]
 
-pub mod cause;
 pub mod event;
-pub mod path;
 pub mod record;
 pub mod row;
 pub mod terms;
 
-pub use cause::{LimitCause, ParseCause, SchemaCause, UnparseCause};
 pub use event::Event;
-pub use path::{path_of_field, path_of_root};
 pub use record::{Field, Root, field_of_row, root_of_record};
 pub use row::{Primitive, Row, RowId, RowList, Tables};
 pub use terms::{TermFault, Terms};

@@ -1,9 +1,10 @@
 use Rattle.std.proofs.Common.{◌∙◌, ap, sym, Err}
 use Rattle.serde_json.specs.View.{view}
 use Rattle.dfdl_terms.specs.RecordShown.{root_shown}
-use Rattle.dfdl_json.specs.declared.cause.InfosetCause.TheVariants.{RootExpected}
+use Rattle.dfdl_report.specs.declared.cause.InfosetCause.TheVariants.{RootExpected}
 use Rattle.dfdl_json.specs.Infosets.{Refusal}
-use Rattle.dfdl_json.proofs.Records.{described_root, described_fields, content_answer, no_content_answer}
+use Rattle.dfdl_json.proofs.Records.{content_answer, no_content_answer}
+use Rattle.dfdl_terms.proofs.RecordLemmas.{described_root, described_fields}
 use Rattle.dfdl_json.proofs.events.events_of.Goals as goal
 
 pub unreachable-requires : goal.unreachable-requires

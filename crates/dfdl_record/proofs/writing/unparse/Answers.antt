@@ -1,6 +1,6 @@
 use Rattle.std.proofs.Common.{◌∙◌, ap, [], ◌∷◌, ◌++◌}
 use Rattle.dfdl_terms.specs.RecordShown.{field_shown, root_shown}
-use Rattle.dfdl_record.proofs.FieldLists.{described_root, described_fields}
+use Rattle.dfdl_terms.proofs.RecordLemmas.{described_root, described_fields}
 use Rattle.dfdl_record.proofs.Walks.{at_start, at_no_field, next_whole, at_missing, at_typed, at_value, at_end}
 use Rattle.dfdl_record.proofs.Values.{record_walked, fields_there, whole_fields, rows_of_root}
 use Rattle.dfdl_record.proofs.writing.unparse.Goals as goal

@@ -6,7 +6,8 @@ use Rattle.dfdl_run.specs.declared.answer.Answer.{Answer}
 use Rattle.dfdl_run.specs.declared.answer.Answer.TheVariants.{Done, LeftOver}
 use Rattle.dfdl_record.specs.Outcomes.{outcome_of}
 use Rattle.dfdl_run.specs.Reading.{reading_shown}
-use Rattle.dfdl_run.proofs.Lines.{read_no_float, answer_ends, answer_over, answer_done, described_root, described_fields, record_answer}
+use Rattle.dfdl_run.proofs.Lines.{read_no_float, answer_ends, answer_over, answer_done, record_answer}
+use Rattle.dfdl_terms.proofs.RecordLemmas.{described_root, described_fields}
 use Rattle.dfdl_run.proofs.parsing.parse.Goals as goal
 
 pub unreachable-requires : goal.unreachable-requires

@@ -1,11 +1,11 @@
 use Rattle.std.proofs.Common.{◌≡◌, ℕ, List, Option, Some, option_map, ap, sym, ◌∙◌, Bor}
-use Rattle.dfdl_terms.specs.Paths.{field_path}
+use Rattle.dfdl_report.specs.Paths.{field_path}
 use Rattle.dfdl_terms.specs.RecordShown.{root_shown}
-use Rattle.dfdl_terms.specs.declared.cause.UnparseCause.TheVariants.{WrongOccurrences}
+use Rattle.dfdl_report.specs.declared.cause.UnparseCause.TheVariants.{WrongOccurrences}
 use Rattle.dfdl_record.specs.Shown.{unparsed_shown}
 use Rattle.dfdl_run.specs.declared.answer.Answer.TheVariants.{NotUnparsed}
 use Rattle.dfdl_run.specs.Meaning.{pieces_answer}
-use Rattle.dfdl_run.proofs.Lines.{described_root, described_is}
+use Rattle.dfdl_terms.proofs.RecordLemmas.{described_root, described_is}
 use Rattle.dfdl_run.proofs.Unparsings.{unparsed_answer}
 use Rattle.dfdl_run.proofs.unparsing.unparse.Goals as goal
 

@@ -1,6 +1,7 @@
--- The parts of terms that are a record, and the fields of the rows that are left.
-use Rattle.std.proofs.Common.{◌≡◌, ℕ, ◌+◌, ◌<◌, List, [], ◌∷◌, length, drop, map, get_or, Option, None, Some, option_map, option_and_then, IsSome, refl, sym, ap, subst, ◌∙◌, add-one, drop-cons}
+-- Terms that are a record: their root element, their fields, and the fields of the rows that are left.
+use Rattle.std.proofs.Common.{◌≡◌, ℕ, ◌+◌, ◌<◌, List, [], ◌∷◌, length, drop, map, get_or, Option, None, Some, option_map, option_and_then, IsSome, refl, sym, ap, subst, ◌∙◌}
 use Rattle.std.specs.Option.{unwrap_or}
+use Rattle.dfdl_lemmas.proofs.Lists.{left_at}
 use Rattle.dfdl_terms.specs.Rows.{Table}
 use Rattle.dfdl_terms.specs.Record.{Field, Record, Root, all_of, field_at, fields_at, root_at, record_from, record_of}
 
@@ -45,10 +46,6 @@ split_all {A = A} (Some y) os ys is =
       | None ↦ λ _ none. absurd (cc)
       | Some zs ↦ λ rest some. record { first = y; rest = zs; first_is = refl; rest_is = rest; whole = cc }
     ]) refl is
-
--- what is left from an item on
-pub left_at : {A : Type 0} (all : List A) (i : ℕ) (a : A) → i < length all → a ≡ get_or all i a → drop i all ≡ a ∷ drop (i + 1) all
-left_at all i a here is = drop-cons all i a here ∙ rw (← is, add-one) refl
 
 -- the next of the fields that are left
 pub next_field : (t : Table) (rows : List ℕ) (k row : ℕ) (fields : List Field) → k < length rows → row ≡ get_or rows k row

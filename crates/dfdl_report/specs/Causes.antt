@@ -1,0 +1,59 @@
+-- The numbers and texts of causes and limits, as the program prints them.
+use Rattle.std.specs.Prelude.{ℕ, List, codes}
+use Rattle.dfdl_report.specs.declared.cause.ParseCause.{ParseCause}
+use Rattle.dfdl_report.specs.declared.cause.ParseCause.TheVariants.{DataEnds}
+use Rattle.dfdl_report.specs.declared.cause.UnparseCause.{UnparseCause}
+use Rattle.dfdl_report.specs.declared.cause.UnparseCause.TheVariants.{WrongOccurrences}
+use Rattle.dfdl_report.specs.declared.cause.SchemaCause.{SchemaCause}
+use Rattle.dfdl_report.specs.declared.cause.SchemaCause.TheVariants.{OutsideSubset}
+use Rattle.dfdl_report.specs.declared.cause.InfosetCause.{InfosetCause}
+use Rattle.dfdl_report.specs.declared.cause.InfosetCause.TheVariants.{NotJson, RootExpected, UnknownMember, ObjectExpected, ArrayExpected, StringExpected, NotAValue, NullNotAllowed}
+use Rattle.dfdl_report.specs.declared.cause.LimitCause.{LimitCause}
+use Rattle.dfdl_report.specs.declared.cause.LimitCause.TheVariants.{Input, Schema}
+
+-- processing errors, P
+abbrev pub parse_number : ParseCause → ℕ
+parse_number DataEnds = 4
+
+abbrev pub parse_text : ParseCause → List ℕ
+parse_text DataEnds = codes "data ends"
+
+-- unparse errors, U
+abbrev pub unparse_number : UnparseCause → ℕ
+unparse_number WrongOccurrences = 10
+
+abbrev pub unparse_text : UnparseCause → List ℕ
+unparse_text WrongOccurrences = codes "wrong number of occurrences"
+
+-- refusals of schemas, C
+abbrev pub schema_number : SchemaCause → ℕ
+schema_number OutsideSubset = 3
+
+abbrev pub schema_text : SchemaCause → List ℕ
+schema_text OutsideSubset = codes "construct outside the subset"
+
+-- refusals of infosets, I
+abbrev pub infoset_number : InfosetCause → ℕ
+infoset_number NotJson = 1
+infoset_number RootExpected = 2
+infoset_number UnknownMember = 3
+infoset_number ObjectExpected = 4
+infoset_number ArrayExpected = 5
+infoset_number StringExpected = 6
+infoset_number NotAValue = 7
+infoset_number NullNotAllowed = 8
+
+abbrev pub infoset_text : InfosetCause → List ℕ
+infoset_text NotJson = codes "not JSON"
+infoset_text RootExpected = codes "root expected"
+infoset_text UnknownMember = codes "unknown member"
+infoset_text ObjectExpected = codes "object expected"
+infoset_text ArrayExpected = codes "array expected"
+infoset_text StringExpected = codes "string expected"
+infoset_text NotAValue = codes "not a value of the type"
+infoset_text NullNotAllowed = codes "null not allowed"
+
+-- limits, L
+abbrev pub limit_number : LimitCause → ℕ
+limit_number Input = 1
+limit_number Schema = 8

@@ -1,0 +1,63 @@
+-- The lines that the program tells on standard error, each ended by a line feed. A name or a path stands in its line as
+-- it is, so a file name with a line feed in it makes two lines.
+use Rattle.std.specs.Prelude.{ℕ, List, ◌++◌, codes, decimal}
+use Rattle.dfdl_report.specs.declared.cause.ParseCause.{ParseCause}
+use Rattle.dfdl_report.specs.declared.cause.UnparseCause.{UnparseCause}
+use Rattle.dfdl_report.specs.declared.cause.SchemaCause.{SchemaCause}
+use Rattle.dfdl_report.specs.declared.cause.InfosetCause.{InfosetCause}
+use Rattle.dfdl_report.specs.declared.cause.LimitCause.{LimitCause}
+use Rattle.dfdl_report.specs.Causes.{infoset_number, infoset_text, limit_number, parse_number, parse_text}
+use Rattle.dfdl_report.specs.Causes.{schema_number, schema_text, unparse_number, unparse_text}
+
+-- a text, and the end of its line
+abbrev pub ended : List ℕ → List ℕ
+ended text = text ++ codes "\n"
+
+-- a processing error that began at this bit, in the element of this path
+abbrev pub parse_line : ParseCause → ℕ → List ℕ → List ℕ
+parse_line cause bit path =
+    codes "error P" ++ (decimal (parse_number cause) ++ (codes " at bit " ++ (decimal bit ++ (codes " in "
+    ++ (path ++ (codes ": " ++ ended (parse_text cause)))))))
+
+-- an unparse error in the element of this path
+abbrev pub unparse_line : UnparseCause → List ℕ → List ℕ
+unparse_line cause path =
+    codes "error U" ++ (decimal (unparse_number cause) ++ (codes " in " ++ (path ++ (codes ": " ++ ended (unparse_text cause)))))
+
+-- a refusal of a schema, at this byte of the document of this name
+abbrev pub schema_line : SchemaCause → List ℕ → ℕ → List ℕ
+schema_line cause document at =
+    codes "error C" ++ (decimal (schema_number cause) ++ (codes " at " ++ (document ++ (codes ":" ++ (decimal at
+    ++ (codes ": " ++ ended (schema_text cause)))))))
+
+-- a refusal of an infoset in the element of this path
+abbrev pub infoset_line : InfosetCause → List ℕ → List ℕ
+infoset_line cause path =
+    codes "error I" ++ (decimal (infoset_number cause) ++ (codes " in " ++ (path ++ (codes ": " ++ ended (infoset_text cause)))))
+
+-- the words are no command; words are counted from 1
+abbrev pub usage_line : ℕ → List ℕ
+usage_line word = codes "usage: word " ++ ended (decimal word)
+
+-- data is left from this bit on
+abbrev pub left_over_line : ℕ → List ℕ
+left_over_line bit = codes "left over data at bit " ++ ended (decimal bit)
+
+-- a limit was reached
+abbrev pub limit_line : LimitCause → ℕ → List ℕ
+limit_line cause quantity =
+    codes "limit L" ++ (decimal (limit_number cause) ++ (codes " of " ++ (decimal quantity ++ codes " reached\n")))
+
+-- the file of this name was not loaded
+abbrev pub files_line : List ℕ → List ℕ
+files_line name = codes "files failed: " ++ ended name
+
+-- calls on the outside failed, or memory was not to be had
+abbrev pub source_line : List ℕ
+source_line = codes "source failed\n"
+
+abbrev pub sink_line : List ℕ
+sink_line = codes "sink failed\n"
+
+abbrev pub memory_line : List ℕ
+memory_line = codes "out of memory\n"

@@ -1,0 +1,33 @@
+// The lines as they are printed.
+use crate::{InfosetCause, LimitCause, ParseCause, SchemaCause, UnparseCause, line, path_of_field};
+use std::test::Fail;
+
+// Each kind of line once, in the form that users match on.
+#[test]
+fn lines_are_told(rt: HostRuntime) -> Result<(), Fail> {
+    let alloc = rt.alloc();
+    let path = path_of_field(alloc, "r", "b")?;
+    let told = line::of_parse(alloc, ParseCause::DataEnds, 8, path.as_str())?;
+    assert_eq!(rt; told.as_str(), "error P4 at bit 8 in /r/b: data ends\n");
+    let told = line::of_unparse(alloc, UnparseCause::WrongOccurrences, path.as_str())?;
+    assert_eq!(rt;
+        told.as_str(),
+        "error U10 in /r/b: wrong number of occurrences\n"
+    );
+    let told = line::of_schema(alloc, SchemaCause::OutsideSubset, "s.xsd", 17)?;
+    assert_eq!(rt;
+        told.as_str(),
+        "error C3 at s.xsd:17: construct outside the subset\n"
+    );
+    let told = line::of_infoset(alloc, InfosetCause::NotJson, "/")?;
+    assert_eq!(rt; told.as_str(), "error I1 in /: not JSON\n");
+    let told = line::of_usage(alloc, 2)?;
+    assert_eq!(rt; told.as_str(), "usage: word 2\n");
+    let told = line::of_left_over(alloc, 24)?;
+    assert_eq!(rt; told.as_str(), "left over data at bit 24\n");
+    let told = line::of_limit(alloc, LimitCause::Input, 1 << 30)?;
+    assert_eq!(rt; told.as_str(), "limit L1 of 1073741824 reached\n");
+    let told = line::of_files(alloc, "s.xsd")?;
+    assert_eq!(rt; told.as_str(), "files failed: s.xsd\n");
+    Ok(())
+}

@@ -7,3 +7,8 @@
 // `specs/Beyond.antt` says what a place of a reader does with characters past ASCII, so that a character of several
 // bytes is refused at the first byte at which none can go on.
 #![tactic(auto)]
+
+mod begun;
+mod sequences;
+
+pub use begun::{Begun, Taken};

@@ -3,10 +3,11 @@ use Rattle.std.proofs.Common.{◌≡◌, ◌≢◌, ℕ, ◌+◌, ◌%◌, ◌<�
 use Rattle.std.specs.List.{list_any, list_all}
 use Rattle.std.proofs.lemmas.Bool.{cases_lt, and_parts, or_parts, or_right, cases_Bool}
 use Rattle.std.proofs.lemmas.Bool.Decides.{nat_tests}
+use Rattle.std.proofs.Math.Bool.{or-false}
 use Rattle.std.specs.Char.{encode_utf8, IsScalar}
 use Rattle.dfdl_layers.specs.Bytes.{Seen, Whole, Part, Bad, IsBegun}
 use Rattle.dfdl_xml_chars.specs.Utf8.{see, low_of, high_of}
-use Rattle.dfdl_xml_chars.specs.Characters.{Row, is_in, is_allowed, char_rows, meets, begins, are_proper, are_inside, high_start_rows, high_name_rows}
+use Rattle.dfdl_xml_chars.specs.Characters.{Row, is_in, is_allowed, char_rows, meets, begins, are_proper, are_inside, high_start_rows, high_name_rows, low_start_rows, low_name_rows, is_name_start, is_name_char}
 use Rattle.dfdl_xml_chars.specs.Beyond.{AreAllowed}
 use Rattle.dfdl_xml_chars.proofs.Encodes.{scalar_parts}
 use Rattle.dfdl_xml_chars.proofs.Ranges.{IsWithin, IsLow, begun_by, within_by, low_by}
@@ -122,3 +123,34 @@ no_rows_allowed = record { proper = refl; allowed = refl }
 pub allowed_in : (rows : List Row) (c : ℕ) → AreAllowed rows → is_in rows c ≡ true → is_allowed c ≡ true
 unfolding is_allowed
 allowed_in rows c allowed within = in_others rows char_rows c allowed.allowed within
+
+none_below : (rows : List Row) (least c : ℕ) → c < least → list_all (λ row. nat_le least row.0) rows ≡ true → is_in rows c ≡ false
+none_below [] least c less all = refl
+none_below (row ∷ rows) least c less all =
+    let both = and_parts (nat_le least row.0) (list_all (λ r. nat_le least r.0) rows) all in
+    let first : (nat_le row.0 c && nat_le c row.1) ≡ false = grind (arith, nat_tests, both.0) in
+    ap₂ (λ (a b : Bool). a || b) first (none_below rows least c less both.1)
+
+none_above : (rows : List Row) (most c : ℕ) → most < c → list_all (λ row. nat_le row.1 most) rows ≡ true → is_in rows c ≡ false
+none_above [] most c more all = refl
+none_above (row ∷ rows) most c more all =
+    let both = and_parts (nat_le row.1 most) (list_all (λ r. nat_le r.1 most) rows) all in
+    let first : (nat_le row.0 c && nat_le c row.1) ≡ false = grind (arith, nat_tests, both.0) in
+    ap₂ (λ (a b : Bool). a || b) first (none_above rows most c more both.1)
+
+-- of an ASCII character the ASCII rows decide, of any other the rows past ASCII
+pub low_start : (c : ℕ) → c < 128 → is_name_start c ≡ is_in low_start_rows c
+unfolding is_name_start high_start_rows
+low_start c less = ap (λ b. is_in low_start_rows c || b) (none_below high_start_rows 128 c less refl) ∙ or-false (is_in low_start_rows c)
+
+pub high_start : (c : ℕ) → 128 ≤ c → is_name_start c ≡ is_in high_start_rows c
+unfolding is_name_start low_start_rows
+high_start c least = ap (λ b. b || is_in high_start_rows c) (none_above low_start_rows 127 c (omega arith) refl)
+
+pub low_char : (c : ℕ) → c < 128 → is_name_char c ≡ is_in low_name_rows c
+unfolding is_name_char high_name_rows high_start_rows
+low_char c less = ap (λ b. is_in low_name_rows c || b) (none_below high_name_rows 128 c less refl) ∙ or-false (is_in low_name_rows c)
+
+pub high_char : (c : ℕ) → 128 ≤ c → is_name_char c ≡ is_in high_name_rows c
+unfolding is_name_char low_name_rows low_start_rows
+high_char c least = ap (λ b. b || is_in high_name_rows c) (none_above low_name_rows 127 c (omega arith) refl)

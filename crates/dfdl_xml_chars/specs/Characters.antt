@@ -29,13 +29,20 @@ high_start_rows =
 unfoldable pub high_name_rows : List Row
 high_name_rows = (0xB7, 0xB7) ∷ (0x300, 0x36F) ∷ (0x203F, 0x2040) ∷ high_start_rows
 
+-- the ASCII rows of both, without the colon
+unfoldable pub low_start_rows : List Row
+low_start_rows = (0x41, 0x5A) ∷ (0x5F, 0x5F) ∷ (0x61, 0x7A) ∷ []
+
+unfoldable pub low_name_rows : List Row
+low_name_rows = (0x2D, 0x2E) ∷ (0x30, 0x39) ∷ low_start_rows
+
 -- the production NameStartChar without the colon: what a part of a name (NCName of 'Namespaces in XML 1.0') begins with
 unfoldable pub is_name_start : ℕ → Bool
-is_name_start c = is_in ((0x41, 0x5A) ∷ (0x5F, 0x5F) ∷ (0x61, 0x7A) ∷ []) c || is_in high_start_rows c
+is_name_start c = is_in low_start_rows c || is_in high_start_rows c
 
 -- the production NameChar without the colon: what a part of a name is made of
 unfoldable pub is_name_char : ℕ → Bool
-is_name_char c = is_in ((0x2D, 0x2E) ∷ (0x30, 0x39) ∷ (0x41, 0x5A) ∷ (0x5F, 0x5F) ∷ (0x61, 0x7A) ∷ []) c || is_in high_name_rows c
+is_name_char c = is_in low_name_rows c || is_in high_name_rows c
 
 -- some character of the rows begins with these bytes of one that is not whole
 abbrev pub meets : List Row → List ℕ → Bool

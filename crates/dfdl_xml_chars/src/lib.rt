@@ -9,6 +9,10 @@
 #![tactic(auto)]
 
 mod begun;
+mod characters;
+mod names;
 mod sequences;
 
 pub use begun::{Begun, Taken};
+pub use characters::is_allowed;
+pub use names::{is_name_char, is_name_start, meets_name_char, meets_name_start};

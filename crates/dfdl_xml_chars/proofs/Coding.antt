@@ -1,13 +1,13 @@
 -- What is seen of bytes is what UTF-8 makes of them.
-use Rattle.std.proofs.Common.{◌≡◌, ℕ, ◌+◌, ◌-◌, ◌*◌, ◌/◌, ◌%◌, ◌<◌, ◌≤◌, ◌⊎◌, ◌++◌, List, [], ◌∷◌, Bool, true, false, refl, sym, ap, subst, ◌∙◌, inl, inr, arith}
+use Rattle.std.proofs.Common.{◌≡◌, ℕ, ◌+◌, ◌/◌, ◌%◌, ◌<◌, ◌≤◌, ◌⊎◌, ◌++◌, List, [], ◌∷◌, sym, ap, subst, ◌∙◌, inl, inr, arith}
 use Rattle.std.proofs.lemmas.Bool.{cases_lt}
 use Rattle.std.proofs.lemmas.Bool.Decides.{nat_tests}
 use Rattle.std.specs.Char.{encode_utf8, IsScalar}
-use Rattle.dfdl_layers.specs.Bytes.{Seen, Whole, Part, Bad, SeenAs, IsCoding}
+use Rattle.dfdl_layers.specs.Bytes.{Whole, SeenAs, IsCoding}
 use Rattle.dfdl_xml_chars.specs.Utf8.{code_of_two, code_of_three, code_of_four, see}
-use Rattle.dfdl_xml_chars.proofs.Pairs.{IsPair, three_front, four_front}
+use Rattle.dfdl_xml_chars.proofs.Pairs.{IsPair}
 use Rattle.dfdl_xml_chars.proofs.Sees.{IsTail, one_whole, one_part, two_whole, two_part, three_whole, three_part, four_whole, whole_one, whole_two, whole_three, whole_four, no_whole_none, no_whole_more}
-use Rattle.dfdl_xml_chars.proofs.Encodes.{encode_one, encode_two, encode_three, encode_four, scalar_range, scalar_past, scalar_parts, encoded_two, encoded_three, encoded_four, scalar_three, scalar_four}
+use Rattle.dfdl_xml_chars.proofs.Encodes.{encode_one, encode_two, encode_three, encode_four, scalar_range, scalar_parts, encoded_two, encoded_three, encoded_four, scalar_three, scalar_four}
 
 -- the property holds wherever the list is cut before an item
 abbrev AllSplits : (List ℕ → ℕ → List ℕ → Type 0) → List ℕ → Type 0
@@ -100,9 +100,10 @@ seen_four c least less =
     let pair = pair_four c least less in
     let is : code_of_four a b d e ≡ c = omega arith in
     let whole = four_whole a b d e pair (omega arith) (next_tail (c / 64)) (next_tail c) in
-    seen_by c (a ∷ b ∷ d ∷ e ∷ []) (encode_four c least)
-    (one_part a pair.first_least pair.first_most,
-    (two_part a b pair (omega arith), (three_part a b d pair (omega arith) (next_tail (c / 64)), (whole ∙ ap Whole is, tt))))
+    seen_by c (a ∷ b ∷ d ∷ e ∷ []) (encode_four c least) (
+      one_part a pair.first_least pair.first_most,
+      (two_part a b pair (omega arith), (three_part a b d pair (omega arith) (next_tail (c / 64)), (whole ∙ ap Whole is, tt))),
+    )
 
 seen_utf8 : (c : ℕ) (front : List ℕ) (b : ℕ) (rest : List ℕ) → IsScalar c → encode_utf8 c ≡ front ++ b ∷ rest → SeenAs rest c (see (front ++ b ∷ []))
 seen_utf8 c front b rest scalar is =

@@ -1,9 +1,8 @@
 -- The bytes of a character by its size.
-use Rattle.std.proofs.Common.{◌≡◌, ℕ, ◌+◌, ◌-◌, ◌*◌, ◌/◌, ◌%◌, ◌<◌, ◌≤◌, ◌⊎◌, List, [], ◌∷◌, Bool, true, false, refl, arith, cond, nat_lt, ◌∙◌, inl, inr}
+use Rattle.std.proofs.Common.{◌≡◌, ℕ, ◌+◌, ◌-◌, ◌*◌, ◌/◌, ◌%◌, ◌<◌, ◌≤◌, ◌⊎◌, [], ◌∷◌, arith, ◌∙◌, inl, inr}
 use Rattle.std.proofs.lemmas.Bool.Decides.{nat_tests}
-use Rattle.std.proofs.lemmas.Bool.{cases_lt}
 use Rattle.dfdl_xml_chars.specs.Utf8.{code_of_two, code_of_three, code_of_four}
-use Rattle.dfdl_xml_chars.proofs.Pairs.{IsPair, IsThree, IsFour, three_front, four_front}
+use Rattle.dfdl_xml_chars.proofs.Pairs.{IsPair, IsThree, three_front, four_front}
 use Rattle.dfdl_xml_chars.proofs.Sees.{IsTail}
 use Rattle.std.specs.Char.{encode_utf8, IsScalar}
 

@@ -1,10 +1,10 @@
 -- Where a machine does with characters past ASCII what its places say, it tells of a part of a character what becomes of it.
-use Rattle.std.proofs.Common.{◌≡◌, ◌≢◌, ℕ, ◌<◌, ◌≤◌, List, [], ◌∷◌, Bool, true, false, Option, Some, None, Result, Ok, Err, if◌then◌else◌, refl, sym, ap, subst, ◌∙◌, inl, inr, arith}
-use Rattle.std.proofs.lemmas.Bool.{cases_Bool, cases_eq}
+use Rattle.std.proofs.Common.{◌≡◌, ◌≢◌, ℕ, ◌≤◌, List, Bool, true, false, Some, None, Result, Ok, Err, if◌then◌else◌, refl, sym, ap, subst, ◌∙◌, inl, inr, arith}
+use Rattle.std.proofs.lemmas.Bool.{cases_Bool}
 use Rattle.std.specs.Char.{encode_utf8, IsScalar}
 use Rattle.dfdl_layers.specs.Allowed.{allowed_step}
-use Rattle.dfdl_layers.specs.Bytes.{Seen, Part, IsBegun, FailsBy, IsForesight}
-use Rattle.dfdl_xml_chars.specs.Utf8.{see, low_of, high_of}
+use Rattle.dfdl_layers.specs.Bytes.{Part, IsBegun, FailsBy, IsForesight}
+use Rattle.dfdl_xml_chars.specs.Utf8.{see, low_of}
 use Rattle.dfdl_xml_chars.specs.Characters.{Row, is_in, is_allowed, meets, begins}
 use Rattle.dfdl_xml_chars.specs.Beyond.{Beyond, All, Only, One, Never, by_test, could_by, GoesOn, Does, AreAllowed, FitsBehind}
 use Rattle.dfdl_xml_chars.proofs.Tables.{met_by, not_met_by, begins_by, not_begins_by, least_begun, past_of, allowed_in}
@@ -48,7 +48,6 @@ some_if true k m is = absurd (cc)
 some_if false k m is = (refl, some_same k m is)
 
 module _ {S : Type 0} (rule : ℕ) (does : ℕ → Result S ℕ) (bytes : List ℕ) (sees : see bytes ≡ Part) where
-
   goes_at : (c : ℕ) → IsBegun IsScalar encode_utf8 bytes c → is_allowed c ≡ true → GoesOn (does c) → Can (λ d. if is_allowed d then does d else Err rule) bytes
   goes_at c begun allowed goes = (c, goes.0, begun, allowed_answer (is_allowed c) (does c) (Ok goes.0) rule allowed goes.1)
 
@@ -77,14 +76,14 @@ module _ {S : Type 0} (rule : ℕ) (does : ℕ → Result S ℕ) (bytes : List �
   fails_rows rows unlike other fits fails =
       elim (cases_Bool (meets rows bytes)) [
         | inl meet ↦ (
-          let found = met_by rows bytes sees fits.proper meet in
-          let allowed = allowed_in rows found.0 fits found.2 in
-          fails_at found.0 (by_test (meets rows bytes) unlike other) found.1 allowed
-          (fails found.0 found.1 allowed ∙ ap (λ b. Err (by_test b unlike other)) (found.2 ∙ sym meet)))
+            let found = met_by rows bytes sees fits.proper meet in
+            let allowed = allowed_in rows found.0 fits found.2 in
+            fails_at found.0 (by_test (meets rows bytes) unlike other) found.1 allowed
+            (fails found.0 found.1 allowed ∙ ap (λ b. Err (by_test b unlike other)) (found.2 ∙ sym meet)))
         | inr none ↦ (
-          let least = least_begun bytes sees in
-          fails_at (low_of bytes) (by_test (meets rows bytes) unlike other) least.0 least.2
-          (fails (low_of bytes) least.0 least.2 ∙ ap (λ b. Err (by_test b unlike other)) (not_met_by rows bytes (low_of bytes) sees none least.0 ∙ sym none)))
+            let least = least_begun bytes sees in
+            fails_at (low_of bytes) (by_test (meets rows bytes) unlike other) least.0 least.2
+            (fails (low_of bytes) least.0 least.2 ∙ ap (λ b. Err (by_test b unlike other)) (not_met_by rows bytes (low_of bytes) sees none least.0 ∙ sym none)))
       ]
 
   most_rows : (rows : List Row) (unlike other c : ℕ) → rule ≤ other → other ≤ unlike → IsBegun IsScalar encode_utf8 bytes c
@@ -93,12 +92,12 @@ module _ {S : Type 0} (rule : ℕ) (does : ℕ → Result S ℕ) (bytes : List �
   most_rows rows unlike other c least most begun fails =
       fails_allowed (is_allowed c) (does c) rule (by_test (meets rows bytes) unlike other) (test_least (meets rows bytes) rule unlike other least most)
       (λ allowed. fails_by (does c) (by_test (is_in rows c) unlike other) (by_test (meets rows bytes) unlike other) (fails allowed)
-          (elim (cases_Bool (meets rows bytes)) [
-            | inl meet ↦ subst (λ b. by_test (is_in rows c) unlike other ≤ by_test b unlike other) (sym meet) (test_most (is_in rows c) unlike other most)
-            | inr none ↦ (
-              let same : is_in rows c ≡ meets rows bytes = not_met_by rows bytes c sees none begun ∙ sym none in
-              subst (λ b. by_test b unlike other ≤ by_test (meets rows bytes) unlike other) (sym same) (omega arith))
-          ]))
+      (elim (cases_Bool (meets rows bytes)) [
+        | inl meet ↦ subst (λ b. by_test (is_in rows c) unlike other ≤ by_test b unlike other) (sym meet) (test_most (is_in rows c) unlike other most)
+        | inr none ↦ (
+            let same : is_in rows c ≡ meets rows bytes = not_met_by rows bytes c sees none begun ∙ sym none in
+            subst (λ b. by_test b unlike other ≤ by_test (meets rows bytes) unlike other) (sym same) (omega arith))
+      ]))
 
   unlike_begun : (c d : ℕ) → begins bytes d ≡ false → IsBegun IsScalar encode_utf8 bytes c → c ≢ d
   unlike_begun c d none begun same = not_begins_by bytes d sees none (subst (λ e. IsBegun IsScalar encode_utf8 bytes e) same begun)
@@ -116,7 +115,7 @@ module _ {S : Type 0} (rule : ℕ) (does : ℕ → Result S ℕ) (bytes : List �
       let none = some_if (begins bytes d) (by_test (meets rows bytes) unlike other) m could in
       subst (λ k. Cannot (λ d. if is_allowed d then does d else Err rule) bytes k) none.1
       (fails_rows rows unlike other fits.0
-          (λ c begun allowed. (answers c (past_of bytes c sees begun) begun.scalar allowed).1 (unlike_begun c d none.0 begun)))
+      (λ c begun allowed. (answers c (past_of bytes c sees begun) begun.scalar allowed).1 (unlike_begun c d none.0 begun)))
   cannot_by (Never rows unlike other) m fits answers could =
       subst (λ k. Cannot (λ d. if is_allowed d then does d else Err rule) bytes k) (some_same (by_test (meets rows bytes) unlike other) m could)
       (fails_rows rows unlike other fits.0 (λ c begun allowed. answers c (past_of bytes c sees begun) begun.scalar allowed))
@@ -134,7 +133,7 @@ module _ {S : Type 0} (rule : ℕ) (does : ℕ → Result S ℕ) (bytes : List �
       let none = some_if (begins bytes d) (by_test (meets rows bytes) unlike other) m could in
       subst (λ k. FailsBy k (if is_allowed c then does c else Err rule)) none.1
       (most_rows rows unlike other c fits.2 fits.3 begun
-          (λ allowed. (answers c (past_of bytes c sees begun) begun.scalar allowed).1 (unlike_begun c d none.0 begun)))
+      (λ allowed. (answers c (past_of bytes c sees begun) begun.scalar allowed).1 (unlike_begun c d none.0 begun)))
   most_by (Never rows unlike other) m c fits answers could begun =
       subst (λ k. FailsBy k (if is_allowed c then does c else Err rule)) (some_same (by_test (meets rows bytes) unlike other) m could)
       (most_rows rows unlike other c fits.1 fits.2 begun (λ allowed. answers c (past_of bytes c sees begun) begun.scalar allowed))

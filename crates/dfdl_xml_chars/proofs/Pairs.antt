@@ -1,7 +1,7 @@
 -- The tests of sequences as facts on numbers.
-use Rattle.std.proofs.Common.{◌≡◌, ℕ, ◌+◌, ◌-◌, ◌*◌, ◌<◌, ◌≤◌, ◌==◌, ◌&&◌, ◌||◌, ◌⊎◌, not, nat_le, nat_lt, List, [], ◌∷◌, Bool, true, false, refl, arith}
+use Rattle.std.proofs.Common.{◌≡◌, ℕ, ◌+◌, ◌-◌, ◌*◌, ◌<◌, ◌≤◌, ◌⊎◌, true, arith}
 use Rattle.std.proofs.lemmas.Bool.Decides.{nat_tests}
-use Rattle.dfdl_xml_chars.specs.Utf8.{is_tail, is_lead, is_pair}
+use Rattle.dfdl_xml_chars.specs.Utf8.{is_pair}
 
 -- what the two first bytes of a sequence keep
 pub record IsPair (a b : ℕ) : Type 0 where

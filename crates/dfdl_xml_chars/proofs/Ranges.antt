@@ -1,10 +1,10 @@
 -- The characters that begin with a part of one are those of an interval.
-use Rattle.std.proofs.Common.{◌≡◌, ℕ, ◌+◌, ◌-◌, ◌*◌, ◌/◌, ◌%◌, ◌<◌, ◌≤◌, ◌⊎◌, ◌++◌, List, [], ◌∷◌, Bool, true, false, refl, sym, ap, ap₂, subst, ◌∙◌, inl, inr, arith}
+use Rattle.std.proofs.Common.{◌≡◌, ℕ, ◌+◌, ◌-◌, ◌*◌, ◌/◌, ◌%◌, ◌<◌, ◌≤◌, ◌⊎◌, List, [], ◌∷◌, sym, ap, ap₂, ◌∙◌, inl, inr, arith}
 use Rattle.std.proofs.lemmas.Bool.{cases_lt}
 use Rattle.std.proofs.lemmas.Bool.Decides.{nat_tests}
 use Rattle.std.specs.Char.{encode_utf8, IsScalar}
-use Rattle.dfdl_layers.specs.Bytes.{Seen, Whole, Part, Bad, IsBegun}
-use Rattle.dfdl_xml_chars.specs.Utf8.{code_of_two, code_of_three, code_of_four, see, low_of, high_of}
+use Rattle.dfdl_layers.specs.Bytes.{Part, IsBegun}
+use Rattle.dfdl_xml_chars.specs.Utf8.{see, low_of, high_of}
 use Rattle.dfdl_xml_chars.proofs.Pairs.{IsPair, IsThree, three_front, four_front}
 use Rattle.dfdl_xml_chars.proofs.Sees.{IsTail, part_one, part_two, part_three, no_part_none, no_part_four, no_part_more}
 use Rattle.dfdl_xml_chars.proofs.Encodes.{encode_one, encode_two, encode_three, encode_four, scalar_range, scalar_past, scalar_parts}
@@ -49,7 +49,7 @@ two_three a b c pair least less within =
     (omega (arith, front.least), omega (arith, front.most), no_surrogate, omega arith, omega arith)
   where
     no_surrogate_in : (n d : ℕ) → IsThree n → n * 64 ≤ d → d ≤ n * 64 + 63 → (d < 0xD800) ⊎ (0xE000 ≤ d)
-    no_surrogate_in n d three low high = elim three.no_surrogate [ | inl below ↦ inl (omega arith) | inr above ↦ inr (omega arith) ]
+    no_surrogate_in n d three low high = elim three.no_surrogate [ inl below ↦ inl (omega arith) | inr above ↦ inr (omega arith) ]
 
 two_four : (a b c : ℕ) → IsPair a b → 0xF0 ≤ a → IsWithin (a ∷ b ∷ []) c
     → (65536 ≤ c) × (c < 0x11_0000) × (240 + c / 262144 ≡ a) × (128 + c / 4096 % 64 ≡ b)
@@ -76,7 +76,7 @@ three_four a b d c pair least tail within =
     (omega (arith, front.least), omega (arith, front.most), omega arith, omega arith, omega arith)
 
 scalar_below : (c : ℕ) → (c < 0xD800) ⊎ (0xE000 ≤ c) → c < 0x11_0000 → IsScalar c
-scalar_below c parts less = elim parts [ | inl low ↦ scalar_range c low | inr high ↦ scalar_past c high less ]
+scalar_below c parts less = elim parts [ inl low ↦ scalar_range c low | inr high ↦ scalar_past c high less ]
 
 begun_two : (a c : ℕ) → 128 ≤ c → c < 2048 → 192 + c / 64 ≡ a → IsBegun IsScalar encode_utf8 (a ∷ []) c
 begun_two a c least less first = record {
@@ -115,19 +115,19 @@ begun_two_bytes a b c sees within =
     let lead = part_two a b sees in
     elim (cases_lt a 0xF0) [
       | inl three ↦ (
-        let is = two_three a b c lead.0 lead.1 three within in
-        record {
-          scalar = scalar_below c is.2 (omega (arith, is.1));
-          rest = (128 + c % 64) ∷ [];
-          encoded = encode_three c is.0 is.1 ∙ ap₂ (λ (x y : ℕ). x ∷ y ∷ (128 + c % 64) ∷ []) is.3 is.4;
-        })
+          let is = two_three a b c lead.0 lead.1 three within in
+          record {
+            scalar = scalar_below c is.2 (omega (arith, is.1));
+            rest = (128 + c % 64) ∷ [];
+            encoded = encode_three c is.0 is.1 ∙ ap₂ (λ (x y : ℕ). x ∷ y ∷ (128 + c % 64) ∷ []) is.3 is.4;
+          })
       | inr four ↦ (
-        let is = two_four a b c lead.0 four within in
-        record {
-          scalar = scalar_past c (omega (arith, is.0)) is.1;
-          rest = (128 + c / 64 % 64) ∷ (128 + c % 64) ∷ [];
-          encoded = encode_four c is.0 ∙ ap₂ (λ (x y : ℕ). x ∷ y ∷ (128 + c / 64 % 64) ∷ (128 + c % 64) ∷ []) is.2 is.3;
-        })
+          let is = two_four a b c lead.0 four within in
+          record {
+            scalar = scalar_past c (omega (arith, is.0)) is.1;
+            rest = (128 + c / 64 % 64) ∷ (128 + c % 64) ∷ [];
+            encoded = encode_four c is.0 ∙ ap₂ (λ (x y : ℕ). x ∷ y ∷ (128 + c / 64 % 64) ∷ (128 + c % 64) ∷ []) is.2 is.3;
+          })
     ]
 
 begun_three_bytes : (a b d c : ℕ) → see (a ∷ b ∷ d ∷ []) ≡ Part → IsWithin (a ∷ b ∷ d ∷ []) c → IsBegun IsScalar encode_utf8 (a ∷ b ∷ d ∷ []) c
@@ -199,15 +199,15 @@ within_of_two a b c rest sees scalar is =
         | inl two ↦ (let all = sym (encode_two c past_one two) ∙ is in let first : 192 + c / 64 ≡ a = cc in absurd (omega (arith, lead.1)))
         | inr past_two ↦ (elim (cases_lt c 65536) [
           | inl three ↦ (
-            let all = sym (encode_three c past_two three) ∙ is in
-            let first : 224 + c / 4096 ≡ a = cc in
-            let second : 128 + c / 64 % 64 ≡ b = cc in
-            within_three_two a b c past_two three first second)
+              let all = sym (encode_three c past_two three) ∙ is in
+              let first : 224 + c / 4096 ≡ a = cc in
+              let second : 128 + c / 64 % 64 ≡ b = cc in
+              within_three_two a b c past_two three first second)
           | inr four ↦ (
-            let all = sym (encode_four c four) ∙ is in
-            let first : 240 + c / 262144 ≡ a = cc in
-            let second : 128 + c / 4096 % 64 ≡ b = cc in
-            within_four_two a b c four first second)
+              let all = sym (encode_four c four) ∙ is in
+              let first : 240 + c / 262144 ≡ a = cc in
+              let second : 128 + c / 4096 % 64 ≡ b = cc in
+              within_four_two a b c four first second)
         ])
       ])
     ]
@@ -221,15 +221,15 @@ within_of_three a b d c rest sees scalar is =
         | inl two ↦ (let all = sym (encode_two c past_one two) ∙ is in absurd (cc))
         | inr past_two ↦ (elim (cases_lt c 65536) [
           | inl three ↦ (
-            let all = sym (encode_three c past_two three) ∙ is in
-            let first : 224 + c / 4096 ≡ a = cc in
-            absurd (omega (arith, lead.1)))
+              let all = sym (encode_three c past_two three) ∙ is in
+              let first : 224 + c / 4096 ≡ a = cc in
+              absurd (omega (arith, lead.1)))
           | inr four ↦ (
-            let all = sym (encode_four c four) ∙ is in
-            let first : 240 + c / 262144 ≡ a = cc in
-            let second : 128 + c / 4096 % 64 ≡ b = cc in
-            let third : 128 + c / 64 % 64 ≡ d = cc in
-            within_four_three a b d c four first second third)
+              let all = sym (encode_four c four) ∙ is in
+              let first : 240 + c / 262144 ≡ a = cc in
+              let second : 128 + c / 4096 % 64 ≡ b = cc in
+              let third : 128 + c / 64 % 64 ≡ d = cc in
+              within_four_three a b d c four first second third)
         ])
       ])
     ]

@@ -1,9 +1,9 @@
 -- What is seen of one, two, three and four bytes, as facts on numbers.
-use Rattle.std.proofs.Common.{◌≡◌, ℕ, ◌+◌, ◌-◌, ◌*◌, ◌<◌, ◌≤◌, ◌==◌, ◌&&◌, ◌||◌, not, nat_le, nat_lt, List, [], ◌∷◌, Bool, true, false, if◌then◌else◌, refl, arith, ltb-true, ltb-false, leb-true}
+use Rattle.std.proofs.Common.{◌≡◌, ℕ, ◌<◌, ◌≤◌, ◌&&◌, nat_le, nat_lt, List, [], ◌∷◌, Bool, true, false, if◌then◌else◌, refl, arith, ltb-true, ltb-false, leb-true}
 use Rattle.std.proofs.lemmas.Bool.{and_parts}
 use Rattle.std.proofs.lemmas.Bool.Decides.{nat_tests}
-use Rattle.dfdl_layers.specs.Bytes.{Seen, Whole, Part, Bad}
-use Rattle.dfdl_xml_chars.specs.Utf8.{is_tail, is_lead, is_pair, code_of_two, code_of_three, code_of_four, see}
+use Rattle.dfdl_layers.specs.Bytes.{Whole, Part, Bad}
+use Rattle.dfdl_xml_chars.specs.Utf8.{is_tail, is_pair, code_of_two, code_of_three, code_of_four, see}
 use Rattle.dfdl_xml_chars.proofs.Pairs.{IsPair, pair_facts, facts_pair}
 
 -- a byte that goes on

@@ -1,16 +1,16 @@
 -- Tables of intervals, and the characters that begin with a part of one.
-use Rattle.std.proofs.Common.{◌≡◌, ◌≢◌, ℕ, ◌+◌, ◌%◌, ◌<◌, ◌≤◌, ◌&&◌, ◌||◌, max, nat_le, List, [], ◌∷◌, Bool, true, false, refl, sym, ap, ap₂, subst, ◌∙◌, inl, inr, arith, leb-true}
+use Rattle.std.proofs.Common.{◌≡◌, ◌≢◌, ℕ, ◌<◌, ◌≤◌, ◌&&◌, ◌||◌, max, nat_le, List, [], ◌∷◌, Bool, true, false, refl, sym, ap, ap₂, ◌∙◌, inl, inr, arith, leb-true}
 use Rattle.std.specs.List.{list_any, list_all}
-use Rattle.std.proofs.lemmas.Bool.{cases_lt, and_parts, or_parts, or_right, cases_Bool}
+use Rattle.std.proofs.lemmas.Bool.{and_parts, or_parts, or_right, cases_Bool}
 use Rattle.std.proofs.lemmas.Bool.Decides.{nat_tests}
 use Rattle.std.proofs.Math.Bool.{or-false}
 use Rattle.std.specs.Char.{encode_utf8, IsScalar}
-use Rattle.dfdl_layers.specs.Bytes.{Seen, Whole, Part, Bad, IsBegun}
+use Rattle.dfdl_layers.specs.Bytes.{Part, IsBegun}
 use Rattle.dfdl_xml_chars.specs.Utf8.{see, low_of, high_of}
 use Rattle.dfdl_xml_chars.specs.Characters.{Row, is_in, is_allowed, char_rows, meets, begins, are_proper, are_inside, high_start_rows, high_name_rows, low_start_rows, low_name_rows, is_name_start, is_name_char}
 use Rattle.dfdl_xml_chars.specs.Beyond.{AreAllowed}
 use Rattle.dfdl_xml_chars.proofs.Encodes.{scalar_parts}
-use Rattle.dfdl_xml_chars.proofs.Ranges.{IsWithin, IsLow, begun_by, within_by, low_by}
+use Rattle.dfdl_xml_chars.proofs.Ranges.{begun_by, within_by, low_by}
 
 -- the least code of a row and an interval that meet lies in both
 met_row : (low high : ℕ) (row : Row) → low ≤ high → nat_le row.0 row.1 ≡ true → (nat_le row.0 high && nat_le low row.1) ≡ true
@@ -24,11 +24,11 @@ met_rows (row ∷ rows) low high some proper meet =
     let both = and_parts (nat_le row.0 row.1) (are_proper rows) proper in
     elim (cases_Bool (nat_le row.0 high && nat_le low row.1)) [
       | inl here ↦ (
-        let found = met_row low high row some both.0 here in
-        (found.0, found.1, found.2, ap (λ b. b || is_in rows found.0) found.3))
+          let found = met_row low high row some both.0 here in
+          (found.0, found.1, found.2, ap (λ b. b || is_in rows found.0) found.3))
       | inr not_here ↦ (
-        let found = met_rows rows low high some both.1 (sym (ap (λ b. b || list_any (λ r. nat_le r.0 high && nat_le low r.1) rows) not_here) ∙ meet) in
-        (found.0, found.1, found.2, grind (arith, nat_tests, found.3)))
+          let found = met_rows rows low high some both.1 (sym (ap (λ b. b || list_any (λ r. nat_le r.0 high && nat_le low r.1) rows) not_here) ∙ meet) in
+          (found.0, found.1, found.2, grind (arith, nat_tests, found.3)))
     ]
 
 not_met_row : (row : Row) (low high c : ℕ) → low ≤ c → c ≤ high → (nat_le row.0 high && nat_le low row.1) ≡ false → (nat_le row.0 c && nat_le c row.1) ≡ false

@@ -1,5 +1,5 @@
 -- What a place of a reader does with characters past ASCII, and what it then does with the bytes of one that is not whole.
-use Rattle.std.specs.Prelude.{◌≡◌, ◌≢◌, ℕ, ◌≤◌, ◌<◌, Bool, true, false, List, [], ◌∷◌, Option, Some, None, Result, Ok, Err, if◌then◌else◌}
+use Rattle.std.specs.Prelude.{◌≡◌, ◌≢◌, ℕ, ◌≤◌, Bool, true, false, List, Option, Some, None, Result, Ok, Err, if◌then◌else◌}
 use Rattle.dfdl_xml_chars.specs.Characters.{Row, is_in, is_allowed, char_rows, meets, begins, are_proper, are_inside}
 
 -- what a place does with characters past ASCII that XML allows

@@ -1,5 +1,5 @@
 -- UTF-8, read byte by byte: what the bytes of a character that may not be whole yet are.
-use Rattle.std.specs.Prelude.{◌≡◌, ℕ, ◌+◌, ◌-◌, ◌*◌, ◌≤◌, ◌<◌, ◌==◌, ◌&&◌, ◌||◌, Bool, not, nat_le, nat_lt, min, max, List, [], ◌∷◌, if◌then◌else◌}
+use Rattle.std.specs.Prelude.{ℕ, ◌+◌, ◌-◌, ◌*◌, ◌==◌, ◌&&◌, ◌||◌, Bool, not, nat_le, nat_lt, min, max, List, [], ◌∷◌, if◌then◌else◌}
 use Rattle.dfdl_layers.specs.Bytes.{Seen, Whole, Part, Bad}
 
 -- a byte that goes on in a sequence

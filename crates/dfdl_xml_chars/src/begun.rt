@@ -51,7 +51,8 @@ impl Begun {
             Begun::One(a) => (bits(a, 0xF0) * 26_2144).max(0x1_0000),
             Begun::Two(a, b) if a < 0xF0 => (bits(a, 0xE0) * 64 + bits(b, 0x80)) * 64,
             Begun::Two(a, b) => (bits(a, 0xF0) * 64 + bits(b, 0x80)) * 4096,
-            Begun::Three(a, b, c) => ((bits(a, 0xF0) * 64 + bits(b, 0x80)) * 64 + bits(c, 0x80)) * 64,
+            Begun::Three(a, b, c) => ((bits(a, 0xF0) * 64 + bits(b, 0x80)) * 64 + bits(c, 0x80))
+                * 64,
         }
     }
 
@@ -68,7 +69,9 @@ impl Begun {
             Begun::One(a) => (bits(a, 0xF0) * 26_2144 + 26_2143).min(0x10_FFFF),
             Begun::Two(a, b) if a < 0xF0 => (bits(a, 0xE0) * 64 + bits(b, 0x80)) * 64 + 63,
             Begun::Two(a, b) => (bits(a, 0xF0) * 64 + bits(b, 0x80)) * 4096 + 4095,
-            Begun::Three(a, b, c) => ((bits(a, 0xF0) * 64 + bits(b, 0x80)) * 64 + bits(c, 0x80)) * 64 + 63,
+            Begun::Three(a, b, c) => ((bits(a, 0xF0) * 64 + bits(b, 0x80)) * 64 + bits(c, 0x80))
+                * 64
+                + 63,
         }
     }
 

@@ -10,7 +10,12 @@ pub fn is_allowed(c: char) -> bool
     ensures { result ≡ allows c }
 {
     match c {
-        '\t' | '\n' | '\r' | ' '..='\u{D7FF}' | '\u{E000}'..='\u{FFFD}' | '\u{1_0000}'..='\u{10_FFFF}' => true,
+        '\t'
+        | '\n'
+        | '\r'
+        | ' '..='\u{D7FF}'
+        | '\u{E000}'..='\u{FFFD}'
+        | '\u{1_0000}'..='\u{10_FFFF}' => true,
         _ => false,
     }
 }

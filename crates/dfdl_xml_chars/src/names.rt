@@ -92,7 +92,11 @@ fn is_low_char(c: char) -> bool
 pub fn is_name_start(c: char) -> bool
     ensures { result ≡ begins_name c }
 {
-    if c < '\u{80}' { is_low_start(c) } else { is_high_start(u32::from(c)) }
+    if c < '\u{80}' {
+        is_low_start(c)
+    } else {
+        is_high_start(u32::from(c))
+    }
 }
 
 /// A part of a name may have the character.
@@ -100,7 +104,11 @@ pub fn is_name_start(c: char) -> bool
 pub fn is_name_char(c: char) -> bool
     ensures { result ≡ is_of_name c }
 {
-    if c < '\u{80}' { is_low_char(c) } else { is_high_char(u32::from(c)) }
+    if c < '\u{80}' {
+        is_low_char(c)
+    } else {
+        is_high_char(u32::from(c))
+    }
 }
 
 /// A part of a name may begin with some character that begins so, where the bytes are a part of one.

@@ -8,3 +8,6 @@ mod compiling;
 mod outline;
 
 pub use compiling::{CompileFault, MOST_FIELDS, compile};
+
+#[cfg(test)]
+mod tests;

@@ -7,8 +7,8 @@ ghost use Rattle.dfdl_terms.specs.RecordShown.{field_shown};
 ghost use Rattle.dfdl_compile.specs.Schema.{value_of, is_text, has, only, is_element, is_schema, local_name, root_name, inside, field_elements, root_outline, outline_of, kind_of, bits_of, order_of, integer_form, form_of, is_field, field_of};
 ghost use Rattle.dfdl_compile.specs.OutlineShown.{outline_shown};
 
-use dfdl_forms::{BitOrder, ByteOrder};
 use dfdl_doc_tree::{Tree, is_name_byte, is_name_start};
+use dfdl_forms::{BitOrder, ByteOrder};
 use dfdl_int_binary::IntForm;
 use dfdl_terms::Field;
 use dfdl_value::Simple;

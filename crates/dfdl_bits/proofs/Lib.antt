@@ -4,5 +4,5 @@ pub mod Shifts
 pub mod Reading
 pub mod Patches
 pub mod Putting
-pub mod Rings
 pub mod Whole
+pub mod Windows

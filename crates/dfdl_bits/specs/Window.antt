@@ -38,3 +38,7 @@ seen_at held k =
     if nat_le held.size place then Over
     else (if nat_lt place (length held.bytes) then Byte (slice_index held.bytes place)
     else (if held.ended then End else NotYet))
+
+-- the bytes that are held from byte k of the data on, at most so many, for a k that is no byte before the base
+abbrev pub run_at : Held → ℕ → ℕ → List ℕ
+run_at held k most = take most (drop (k - held.base) held.bytes)

@@ -7,7 +7,6 @@
 pub mod laws;
 mod number;
 mod put;
-mod ring;
 pub mod steps;
 pub mod window;
 

@@ -1,8 +1,8 @@
 // A window that slides over the data while its bytes come in pieces.
-ghost use Rattle.std.specs.Prelude.{◌≡◌, ◌+◌, ◌-◌, ◌^◌, ◌<◌, ◌≤◌, ◌↔◌, [], true, false, length, take, min, IfOk};
-ghost use Rattle.dfdl_bits.specs.Window.{Held, end_of, room_of, with_more, from_byte, up_to_byte, seen_at};
+ghost use Rattle.std.specs.Prelude.{◌≡◌, ◌+◌, ◌-◌, ◌*◌, ◌^◌, ◌<◌, ◌≤◌, ◌↔◌, ℕ, [], ◌++◌, true, false, length, take, drop, min, IfOk, slice_index, vec_len, vec_capacity};
+ghost use Rattle.dfdl_bits.specs.Window.{Held, end_of, room_of, with_more, from_byte, up_to_byte, seen_at, run_at};
+ghost use Rattle.dfdl_bits.specs.declared.window.Seen.TheVariants.{Byte};
 
-use crate::ring::Ring;
 use crate::steps::Steps;
 use std::alloc::{AllocError, Global};
 use std::marker::Model;
@@ -22,22 +22,29 @@ pub enum Seen {
 }
 
 /// The bytes of the data from a base on that have come, at most as many as the window's size.
+///
+/// They stand together at the end of a buffer of twice the size. Bytes that were given up stay before them until
+/// they are as many; so at most as many bytes are moved as were given up.
 #[derive(Drop)]
 pub struct Window {
-    ring: Ring,
+    buffer: Vec<u8>,
+    start: usize,
+    size: usize,
     base: u64,
     ended: bool,
 }
 
 impl Model for Window {
-    ghost use Rattle.std.specs.Prelude.{◌+◌, ◌^◌, ◌≤◌, length};
+    ghost use Rattle.std.specs.Prelude.{◌+◌, ◌-◌, ◌*◌, ◌^◌, ◌<◌, ◌≤◌, length, drop, vec_capacity};
     ghost use Rattle.dfdl_bits.specs.Window.{Held};
 
     ghost Value = { Held };
 
-    ghost view = { λ w. record { bytes = w.ring.bytes; base = w.base; size = w.ring.size; ended = w.ended } };
+    ghost view = { λ w. record { bytes = drop w.start w.buffer.items; base = w.base; size = w.size; ended = w.ended } };
 
-    ghost invariant = { λ w. w.base + length w.ring.bytes ≤ 2 ^ 60 };
+    ghost invariant = { λ w. (w.start ≤ length w.buffer.items) × (length w.buffer.items ≤ w.start + w.size)
+        × (length w.buffer.items ≤ 2 * w.size) × (2 * w.size ≤ vec_capacity w.buffer) × (w.size < 2 ^ 32)
+        × (w.base + (length w.buffer.items - w.start) ≤ 2 ^ 60) };
 }
 
 impl Window {
@@ -46,8 +53,11 @@ impl Window {
     pub fn open(alloc: Global, size: u32) -> Result<Window, AllocError>
         ensures { IfOk result (λ window. window ≡ record { bytes = []; base = 0; size = size; ended = false }) }
     {
+        let size = size as usize;
         Ok(Window {
-            ring: Ring::open(alloc, size)?,
+            buffer: Vec::with_capacity(alloc, 2 * size)?,
+            start: 0,
+            size,
             base: 0,
             ended: false,
         })
@@ -60,7 +70,13 @@ impl Window {
         ensures taken { result ≡ min (length piece.now) (room_of self.old) }
         ensures held { self.new ≡ with_more self.old (take result piece.now) }
     {
-        self.ring.append(piece)
+        let taken = piece.len().min(self.room());
+        if self.start >= self.buffer.len() - self.start {
+            slide(&mut self.buffer, self.start);
+            self.start = 0;
+        }
+        extend(&mut self.buffer, &piece[..taken]);
+        taken
     }
 
     /// Says that the data ends behind the bytes that have come.
@@ -76,7 +92,7 @@ impl Window {
         requires end { k ≤ end_of self.old }
         ensures { self.new ≡ from_byte self.old k }
     {
-        self.ring.drop_front((k - self.base) as usize);
+        self.start += (k - self.base) as usize;
         self.base = k;
     }
 
@@ -87,7 +103,8 @@ impl Window {
         requires end { k ≤ end_of self.old }
         ensures { self.new ≡ up_to_byte self.old k }
     {
-        self.ring.truncate((k - self.base) as usize);
+        let kept = self.start + (k - self.base) as usize;
+        self.buffer.truncate(kept);
     }
 
     /// The first byte of the data that is held.
@@ -104,7 +121,29 @@ impl Window {
         ensures bound { end_of self.now ≤ 2 ^ 60 }
         ensures within { length self.now.bytes ≤ self.now.size }
     {
-        self.base + self.ring.len() as u64
+        self.base + (self.buffer.len() - self.start) as u64
+    }
+
+    /// How many bytes it can hold.
+    pub fn size(&self) -> usize
+        ensures size { result ≡ self.now.size }
+        ensures small { result < 2 ^ 32 }
+    {
+        self.size
+    }
+
+    /// How many more bytes there is room for.
+    pub fn room(&self) -> usize
+        ensures { result ≡ room_of self.now }
+    {
+        self.size - (self.buffer.len() - self.start)
+    }
+
+    /// Whether it was told that the data ends behind the bytes that have come.
+    pub fn ended(&self) -> bool
+        ensures { result ≡ self.now.ended }
+    {
+        self.ended
     }
 
     /// Looks at byte `k` of the data, in one step.
@@ -118,13 +157,66 @@ impl Window {
     {
         steps.tick();
         let place = k - self.base;
-        if place >= self.ring.size() as u64 {
+        if place >= self.size as u64 {
             return Seen::Over;
         }
-        let place = place as usize;
-        if place < self.ring.len() {
-            return Seen::Byte(self.ring.byte(place));
+        match self.buffer.get(self.start + place as usize) {
+            Some(byte) => Seen::Byte(*byte),
+            None if self.ended => Seen::End,
+            None => Seen::NotYet,
         }
-        if self.ended { Seen::End } else { Seen::NotYet }
+    }
+
+    /// Looks at the bytes that are held from byte `k` of the data on, at most `most` of them, in as many steps as
+    /// it answers bytes.
+    pub fn run<L: Ledger>(&self, k: u64, most: usize, steps: &mut Steps<L>) -> &[u8]
+        requires { self.now.base ≤ k }
+        ensures run { result.now ≡ run_at self.now k most }
+        ensures seen { (i : ℕ) → i < length result.now → seen_at self.now (k + i) ≡ Byte (slice_index result.now i) }
+        ensures cost { steps.new ≡ steps.old + length result.now }
+    {
+        let run = self.held(k, most);
+        steps.add(run.len() as u64);
+        run
+    }
+
+    // The bytes that are held from byte `k` of the data on, at most `most` of them.
+    fn held(&self, k: u64, most: usize) -> &[u8]
+        requires { self.now.base ≤ k }
+        ensures run { result.now ≡ run_at self.now k most }
+        ensures fits { length self.now.bytes ≤ self.now.size }
+    {
+        let held = self.buffer.len() - self.start;
+        let place = k - self.base;
+        if place >= held as u64 {
+            return &[];
+        }
+        let place = place as usize;
+        let count = most.min(held - place);
+        let from = self.start + place;
+        &self.buffer[from..from + count]
+    }
+}
+
+// Gives up the bytes before a place.
+fn slide(buffer: &mut Vec<u8>, start: usize)
+    requires { start ≤ vec_len buffer.old }
+    ensures items { buffer.new.items ≡ drop start buffer.old.items }
+    ensures capacity { vec_capacity buffer.new ≡ vec_capacity buffer.old }
+{
+    let kept = buffer.len() - start;
+    buffer.copy_within(start.., 0);
+    buffer.truncate(kept);
+}
+
+// Puts a piece behind the bytes of a buffer that has room for it.
+fn extend(buffer: &mut Vec<u8>, piece: &[u8])
+    requires { vec_len buffer.old + length piece.now ≤ vec_capacity buffer.old }
+    ensures items { buffer.new.items ≡ buffer.old.items ++ piece.now }
+    ensures capacity { vec_capacity buffer.old ≤ vec_capacity buffer.new }
+{
+    match buffer.extend_from_slice(piece) {
+        Ok(()) => (),
+        Err(_) => unreachable!(),
     }
 }

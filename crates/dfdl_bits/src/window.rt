@@ -1,5 +1,5 @@
 // A window that slides over the data while its bytes come in pieces.
-ghost use Rattle.std.specs.Prelude.{◌≡◌, ◌+◌, ◌-◌, ◌*◌, ◌^◌, ◌<◌, ◌≤◌, ◌↔◌, ℕ, [], ◌++◌, true, false, length, take, drop, min, IfOk, slice_index, vec_len, vec_capacity};
+ghost use Rattle.std.specs.Prelude.{◌≡◌, ◌+◌, ◌-◌, ◌*◌, ◌^◌, ◌<◌, ◌≤◌, ◌↔◌, ℕ, [], ◌++◌, true, false, length, take, drop, min, IfOk, slice_index, All, vec_len, vec_capacity};
 ghost use Rattle.dfdl_bits.specs.Window.{Held, end_of, room_of, with_more, from_byte, up_to_byte, seen_at, run_at};
 ghost use Rattle.dfdl_bits.specs.declared.window.Seen.TheVariants.{Byte};
 
@@ -180,6 +180,29 @@ impl Window {
         run
     }
 
+    /// Looks at the bytes of such a run that stand before the first that is `limit` or more, in as many steps as it
+    /// answers bytes.
+    pub fn run_below<L: Ledger>(
+        &self,
+        k: u64,
+        most: usize,
+        limit: u8,
+        steps: &mut Steps<L>,
+    ) -> &[u8]
+        requires { self.now.base ≤ k }
+        ensures front { result.now ≡ take (length result.now) (run_at self.now k most) }
+        ensures below { All (λ byte. byte < limit) result.now }
+        ensures whole { length result.now < length (run_at self.now k most)
+            → limit ≤ slice_index (run_at self.now k most) (length result.now) }
+        ensures seen { (i : ℕ) → i < length result.now → seen_at self.now (k + i) ≡ Byte (slice_index result.now i) }
+        ensures cost { steps.new ≡ steps.old + length result.now }
+    {
+        let held = self.held(k, most);
+        let run = &held[..count_below(held, limit)];
+        steps.add(run.len() as u64);
+        run
+    }
+
     // The bytes that are held from byte `k` of the data on, at most `most` of them.
     fn held(&self, k: u64, most: usize) -> &[u8]
         requires { self.now.base ≤ k }
@@ -196,6 +219,20 @@ impl Window {
         let from = self.start + place;
         &self.buffer[from..from + count]
     }
+}
+
+// How many of the bytes stand before the first that is `limit` or more.
+fn count_below(bytes: &[u8], limit: u8) -> usize
+    ensures within { result ≤ length bytes.now }
+    ensures below { (i : ℕ) → i < result → slice_index bytes.now i < limit }
+    ensures whole { result < length bytes.now → limit ≤ slice_index bytes.now result }
+{
+    for (at, byte) in bytes.iter().enumerate() {
+        if *byte >= limit {
+            return at;
+        }
+    }
+    bytes.len()
 }
 
 // Gives up the bytes before a place.

@@ -1,19 +1,10 @@
 -- The number of whole bytes, by its first byte.
 use Rattle.std.proofs.Common.{◌≡◌, ℕ, zero, suc, ◌+◌, ◌*◌, ◌%◌, ◌^◌, ◌<◌, List, get_or, refl, ◌∙◌, arith, add-one}
-use Rattle.std.proofs.lemmas.Nat.{pow-add}
+use Rattle.dfdl_lemmas.proofs.Powers.{eight_bits}
 use Rattle.dfdl_bits.specs.Bits.{number_of}
 use Rattle.dfdl_forms.specs.declared.order.BitOrder.TheVariants.{MostFirst}
 use Rattle.dfdl_forms.specs.declared.order.ByteOrder.TheVariants.{Big, Little}
 use Rattle.dfdl_bits.proofs.Numbers.{big-split, groups-split, one_group, big-byte}
-
--- each byte has eight bits
-pub eight_bits : (count : ℕ) → 2 ^ (8 * count) ≡ 256 ^ count
-eight_bits zero = refl
-eight_bits (suc count) =
-    let more : 8 * suc count ≡ 8 + 8 * count = omega arith in
-    let parts : 2 ^ (8 + 8 * count) ≡ 2 ^ 8 * 2 ^ (8 * count) = pow-add 2 8 (8 * count) in
-    let whole : 256 ^ (count + 1) ≡ 256 ^ count * 256 ^ 1 = pow-add 256 count 1 in
-    rw (more, parts, eight_bits count, ← add-one count, whole) (omega arith)
 
 pub big_first : (bytes : List ℕ) (at count : ℕ) → get_or bytes at 0 < 256
     → number_of bytes (8 * at) (8 * (count + 1)) Big MostFirst ≡ get_or bytes at 0 * 256 ^ count + number_of bytes (8 * (at + 1)) (8 * count) Big MostFirst

@@ -173,6 +173,8 @@ impl Window {
         requires { self.now.base ≤ k }
         ensures run { result.now ≡ run_at self.now k most }
         ensures seen { (i : ℕ) → i < length result.now → seen_at self.now (k + i) ≡ Byte (slice_index result.now i) }
+        ensures few { length result.now ≤ most }
+        ensures whole { (byte : ℕ) → length result.now < most → seen_at self.now (k + length result.now) ≡ Byte byte → ⊥ }
         ensures cost { steps.new ≡ steps.old + length result.now }
     {
         let run = self.held(k, most);
@@ -190,11 +192,11 @@ impl Window {
         steps: &mut Steps<L>,
     ) -> &[u8]
         requires { self.now.base ≤ k }
-        ensures front { result.now ≡ take (length result.now) (run_at self.now k most) }
-        ensures below { All (λ byte. byte < limit) result.now }
-        ensures whole { length result.now < length (run_at self.now k most)
-            → limit ≤ slice_index (run_at self.now k most) (length result.now) }
         ensures seen { (i : ℕ) → i < length result.now → seen_at self.now (k + i) ≡ Byte (slice_index result.now i) }
+        ensures below { All (λ byte. byte < limit) result.now }
+        ensures few { length result.now ≤ most }
+        ensures whole { (byte : ℕ) → length result.now < most → seen_at self.now (k + length result.now) ≡ Byte byte
+            → limit ≤ byte }
         ensures cost { steps.new ≡ steps.old + length result.now }
     {
         let held = self.held(k, most);

@@ -1,6 +1,7 @@
 -- What stands at a place of the data in an encoding. The data is known by looks at its bytes alone, so the answer may also be
 -- that a byte has not come yet.
 use Rattle.std.specs.Prelude.{◌≡◌, ℕ, zero, suc, ◌+◌, ◌-◌, ◌*◌, ◌%◌, ◌≤◌, Bool, ◌&&◌, nat_lt, nat_le, if◌then◌else◌, List, [], ◌∷◌, ◌++◌, length}
+use Rattle.dfdl_bits.specs.Window.{Held, seen_at}
 use Rattle.dfdl_bits.specs.declared.window.Seen.{Seen}
 use Rattle.dfdl_bits.specs.declared.window.Seen.TheVariants.{Byte, End as NoByte, NotYet as NotSeen, Over as PastWindow}
 use Rattle.dfdl_chars.specs.declared.decode.Chars.{Chars}
@@ -8,6 +9,15 @@ use Rattle.dfdl_chars.specs.declared.decode.Chars.TheVariants.{Char, Bad, End, N
 use Rattle.dfdl_forms.specs.declared.encoding.Encoding.{Encoding}
 use Rattle.dfdl_forms.specs.declared.encoding.Encoding.TheVariants.{Utf8, UsAscii, Iso88591, Utf16Be, Utf16Le}
 use Rattle.dfdl_chars.specs.Sequences.{is_sequence, is_begun, code_of}
+
+-- the data as looks see it, in a box that ends at bit `stop`
+pub record Boxed : Type 0 where
+  pub look : ℕ → Seen
+  pub stop : ℕ
+
+-- what a window holds of the data, in a box
+abbrev pub in_box : Held → ℕ → Boxed
+in_box held stop = record { look = seen_at held; stop = stop }
 
 -- how far the looks have gone: one more than the last byte of which a look was not Over, or 0; and how many looks there were
 pub record Walk : Type 0 where
@@ -37,9 +47,10 @@ after_look NoByte k walk at_end go = found at_end (looked k walk)
 after_look NotSeen k walk at_end go = found NotYet (looked k walk)
 after_look PastWindow k walk at_end go = found Over (looked_past walk)
 
--- the same in a box that ends at bit `stop`: a byte with a bit at or past the end is the end, without a look
-abbrev pub at_byte : (ℕ → Seen) → ℕ → ℕ → Walk → Chars → (ℕ → Walk → Decoded) → Decoded
-at_byte look stop k walk at_end go = if nat_le (8 * k + 8) stop then after_look (look k) k walk at_end go else found at_end walk
+-- the same in a box: a byte with a bit at or past the end of the box is the end, without a look
+abbrev pub at_byte : Boxed → ℕ → Walk → Chars → (ℕ → Walk → Decoded) → Decoded
+at_byte box k walk at_end go =
+    if nat_le (8 * k + 8) box.stop then after_look (box.look k) k walk at_end go else found at_end walk
 
 -- a character or a bad unit of so many bytes
 abbrev pub char_of : ℕ → ℕ → Walk → Decoded
@@ -49,8 +60,8 @@ abbrev pub bad_of : ℕ → Walk → Decoded
 bad_of bytes walk = found (Bad (8 * bytes)) walk
 
 -- an encoding of one byte a character, which has those below `limit`
-abbrev pub narrow_at : ℕ → (ℕ → Seen) → ℕ → ℕ → Walk → Decoded
-narrow_at limit look stop k walk = at_byte look stop k walk End (λ b w. if nat_lt b limit then char_of b 1 w else bad_of 1 w)
+abbrev pub narrow_at : ℕ → Boxed → ℕ → Walk → Decoded
+narrow_at limit box k walk = at_byte box k walk End (λ b w. if nat_lt b limit then char_of b 1 w else bad_of 1 w)
 
 -- what the end of the data is behind some bytes of a sequence
 abbrev pub end_after : List ℕ → Chars
@@ -59,11 +70,11 @@ end_after (b ∷ bs) = Bad 8
 
 -- UTF-8, where these bytes were seen at byte k: while they are the beginning of a sequence that is longer, one more is looked at.
 -- A sequence has at most 4 bytes, so `more` of 4 is enough at none.
-abbrev pub utf8_after : ℕ → (ℕ → Seen) → ℕ → ℕ → List ℕ → Walk → Decoded
-utf8_after zero look stop k bytes walk = if is_sequence bytes then char_of (code_of bytes) (length bytes) walk else bad_of 1 walk
-utf8_after (suc more) look stop k bytes walk =
+abbrev pub utf8_after : ℕ → Boxed → ℕ → List ℕ → Walk → Decoded
+utf8_after zero box k bytes walk = if is_sequence bytes then char_of (code_of bytes) (length bytes) walk else bad_of 1 walk
+utf8_after (suc more) box k bytes walk =
     if is_sequence bytes then char_of (code_of bytes) (length bytes) walk
-    else if is_begun bytes then at_byte look stop (k + length bytes) walk (end_after bytes) (λ b w. utf8_after more look stop k (bytes ++ b ∷ []) w)
+    else if is_begun bytes then at_byte box (k + length bytes) walk (end_after bytes) (λ b w. utf8_after more box k (bytes ++ b ∷ []) w)
     else bad_of 1 walk
 
 -- the units of UTF-16 that begin and end a pair
@@ -77,22 +88,23 @@ is_low unit = nat_le 0xDC00 unit && nat_lt unit 0xE000
 abbrev pub pair_code : ℕ → ℕ → ℕ
 pair_code high low = 0x10000 + (high - 0xD800) * 1024 + (low - 0xDC00)
 
--- the unit at byte k, of which each order joins the bytes in its way
-abbrev pub at_unit : (ℕ → ℕ → ℕ) → (ℕ → Seen) → ℕ → ℕ → Walk → Chars → Chars → (ℕ → Walk → Decoded) → Decoded
-at_unit join look stop k walk at_end cut go = at_byte look stop k walk at_end (λ a w. at_byte look stop (k + 1) w cut (λ b v. go (join a b) v))
+-- The unit at byte k, of which each order joins the bytes in its way. The data or the box may end before it or within it.
+abbrev pub at_unit : (ℕ → ℕ → ℕ) → Boxed → ℕ → Walk → Chars × Chars → (ℕ → Walk → Decoded) → Decoded
+at_unit join box k walk ends go =
+    at_byte box k walk ends.0 (λ a w. at_byte box (k + 1) w ends.1 (λ b v. go (join a b) v))
 
 -- UTF-16: a second unit is looked at behind a high surrogate alone
 abbrev pub utf16_second : ℕ → ℕ → Walk → Decoded
 utf16_second high unit walk = if is_low unit then char_of (pair_code high unit) 4 walk else bad_of 2 walk
 
-abbrev pub utf16_first : (ℕ → ℕ → ℕ) → (ℕ → Seen) → ℕ → ℕ → ℕ → Walk → Decoded
-utf16_first join look stop k unit walk =
-    if is_high unit then at_unit join look stop (k + 2) walk (Bad 16) (Bad 16) (λ second w. utf16_second unit second w)
+abbrev pub utf16_first : (ℕ → ℕ → ℕ) → Boxed → ℕ → ℕ → Walk → Decoded
+utf16_first join box k unit walk =
+    if is_high unit then at_unit join box (k + 2) walk (Bad 16, Bad 16) (λ second w. utf16_second unit second w)
     else if is_low unit then bad_of 2 walk
     else char_of unit 2 walk
 
-abbrev pub utf16_at : (ℕ → ℕ → ℕ) → (ℕ → Seen) → ℕ → ℕ → Walk → Decoded
-utf16_at join look stop k walk = at_unit join look stop k walk End (Bad 8) (λ unit w. utf16_first join look stop k unit w)
+abbrev pub utf16_at : (ℕ → ℕ → ℕ) → Boxed → ℕ → Walk → Decoded
+utf16_at join box k walk = at_unit join box k walk (End, Bad 8) (λ unit w. utf16_first join box k unit w)
 
 abbrev pub big_unit : ℕ → ℕ → ℕ
 big_unit a b = a * 256 + b
@@ -100,13 +112,13 @@ big_unit a b = a * 256 + b
 abbrev pub little_unit : ℕ → ℕ → ℕ
 little_unit a b = b * 256 + a
 
--- what stands at byte k, in a box that ends at bit `stop`
-abbrev pub decoded_at : Encoding → (ℕ → Seen) → ℕ → ℕ → Walk → Decoded
-decoded_at Utf8 look stop k walk = utf8_after 4 look stop k [] walk
-decoded_at UsAscii look stop k walk = narrow_at 128 look stop k walk
-decoded_at Iso88591 look stop k walk = narrow_at 256 look stop k walk
-decoded_at Utf16Be look stop k walk = utf16_at big_unit look stop k walk
-decoded_at Utf16Le look stop k walk = utf16_at little_unit look stop k walk
+-- what stands at byte k of the data in a box
+abbrev pub decoded_at : Encoding → Boxed → ℕ → Walk → Decoded
+decoded_at Utf8 box k walk = utf8_after 4 box k [] walk
+decoded_at UsAscii box k walk = narrow_at 128 box k walk
+decoded_at Iso88591 box k walk = narrow_at 256 box k walk
+decoded_at Utf16Be box k walk = utf16_at big_unit box k walk
+decoded_at Utf16Le box k walk = utf16_at little_unit box k walk
 
 -- no looks yet, after so many before
 abbrev pub no_look : ℕ → Walk

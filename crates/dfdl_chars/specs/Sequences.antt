@@ -61,8 +61,8 @@ code_of _ = 0
 abbrev pub IsTail : ℕ → Type 0
 IsTail b = (0x80 ≤ b) × (b ≤ 0xBF)
 
-abbrev pub IsLead : ℕ → Type 0
-IsLead b = (0xC2 ≤ b) × (b ≤ 0xDF)
+abbrev pub BeginsPair : ℕ → Type 0
+BeginsPair b = (0xC2 ≤ b) × (b ≤ 0xDF)
 
 -- the ranges of the first two bytes of a sequence that is longer
 pub record IsFront (a b : ℕ) : Type 0 where

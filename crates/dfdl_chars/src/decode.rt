@@ -1,7 +1,6 @@
 // What stands at a place of the data.
 ghost use Rattle.std.specs.Prelude.{ℕ, ◌≡◌, ◌+◌, ◌*◌, ◌/◌, ◌%◌, ◌^◌, ◌<◌, ◌≤◌, IfErr};
-ghost use Rattle.dfdl_bits.specs.Window.{seen_at};
-ghost use Rattle.dfdl_chars.specs.Decoding.{Walk, Decoded, at_byte, decoded_at, narrow_at as narrow_of, no_look, HasWholeBytes};
+ghost use Rattle.dfdl_chars.specs.Decoding.{in_box, Walk, Decoded, at_byte, decoded_at, narrow_at as narrow_of, no_look, HasWholeBytes};
 ghost use Rattle.dfdl_chars.specs.Looks.{after, answered};
 
 use dfdl_forms::Encoding;
@@ -53,7 +52,7 @@ pub(crate) fn byte_at<L: Ledger>(
     requires ahead { ahead < 4 }
     requires at_end { HasWholeBytes at_end }
     ensures whole { IfErr result (λ answer. HasWholeBytes answer.0) }
-    ensures next { (go : ℕ → Walk → Decoded) → at_byte (seen_at here.now.window.now) here.now.stop (here.now.byte + ahead) (record { far = far; looks = steps.old }) at_end go ≡ after result steps.new go }
+    ensures next { (go : ℕ → Walk → Decoded) → at_byte (in_box here.now.window.now here.now.stop) (here.now.byte + ahead) (record { far = far; looks = steps.old }) at_end go ≡ after result steps.new go }
 {
     let byte = here.byte + ahead;
     if byte >= here.stop / 8 {
@@ -74,7 +73,7 @@ pub(crate) fn byte_at<L: Ledger>(
 fn narrow_at<L: Ledger>(here: &Place<'_>, limit: u32, steps: &mut Steps<L>) -> (Chars, u64)
     requires base { here.now.window.now.base ≤ here.now.byte }
     requires byte { here.now.byte < 2 ^ 61 }
-    ensures answer { narrow_of limit (seen_at here.now.window.now) here.now.stop here.now.byte (no_look steps.old) ≡ answered result steps.new }
+    ensures answer { narrow_of limit (in_box here.now.window.now here.now.stop) here.now.byte (no_look steps.old) ≡ answered result steps.new }
     ensures whole { HasWholeBytes result.0 }
 {
     match byte_at(here, 0, Chars::End, 0, steps) {
@@ -101,10 +100,10 @@ pub fn decode_at<L: Ledger>(
 ) -> (Chars, u64)
     requires place { bit % 8 ≡ 0 }
     requires base { window.now.base ≤ bit / 8 }
-    ensures chars { result.0 ≡ (decoded_at enc (seen_at window.now) stop (bit / 8) (no_look steps.old)).chars }
-    ensures far { result.1 ≡ (decoded_at enc (seen_at window.now) stop (bit / 8) (no_look steps.old)).walk.far }
+    ensures chars { result.0 ≡ (decoded_at enc (in_box window.now stop) (bit / 8) (no_look steps.old)).chars }
+    ensures far { result.1 ≡ (decoded_at enc (in_box window.now stop) (bit / 8) (no_look steps.old)).walk.far }
     ensures whole { HasWholeBytes result.0 }
-    ensures looks { steps.new ≡ (decoded_at enc (seen_at window.now) stop (bit / 8) (no_look steps.old)).walk.looks }
+    ensures looks { steps.new ≡ (decoded_at enc (in_box window.now stop) (bit / 8) (no_look steps.old)).walk.looks }
 {
     let here = Place {
         window,

@@ -3,7 +3,7 @@
 
 ghost use Rattle.std.specs.Prelude.{◌≡◌, ◌↔◌, ◌<◌, ◌≤◌, [], ◌∷◌, IsTrue};
 ghost use Rattle.std.specs.Bool.{OnTrue};
-ghost use Rattle.dfdl_chars.specs.Sequences.{is_sequence, is_begun, is_within, tail, code_of, IsFront, IsLead, IsTail};
+ghost use Rattle.dfdl_chars.specs.Sequences.{is_sequence, is_begun, is_within, tail, code_of, IsFront, BeginsPair, IsTail};
 
 fn is_tail(byte: u8) -> bool
     ensures value { result ≡ is_within tail byte }
@@ -18,7 +18,7 @@ pub(crate) fn is_single(first: u8) -> bool
     first < 0x80
 }
 
-pub(crate) fn is_lead(first: u8) -> bool
+pub(crate) fn is_first_of_more(first: u8) -> bool
     ensures { result ≡ is_begun (first ∷ []) }
 {
     first >= 0xC2 && first <= 0xF4
@@ -26,7 +26,7 @@ pub(crate) fn is_lead(first: u8) -> bool
 
 pub(crate) fn is_pair(first: u8, second: u8) -> bool
     ensures sequence { result ≡ is_sequence (first ∷ second ∷ []) }
-    ensures first { OnTrue result (IsLead first) }
+    ensures first { OnTrue result (BeginsPair first) }
     ensures second { OnTrue result (IsTail second) }
 {
     first >= 0xC2 && first <= 0xDF && is_tail(second)
@@ -81,7 +81,7 @@ pub(crate) fn code_of_one(first: u8) -> char
 }
 
 pub(crate) fn code_of_two(first: u8, second: u8) -> char
-    requires first { IsLead first }
+    requires first { BeginsPair first }
     requires second { IsTail second }
     ensures { result ≡ code_of (first ∷ second ∷ []) }
 {

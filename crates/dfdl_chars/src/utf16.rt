@@ -1,8 +1,7 @@
 // UTF-16, a unit at a time.
 ghost use Rattle.std.specs.Prelude.{ℕ, ◌≡◌, ◌+◌, ◌^◌, ◌<◌, ◌≤◌, IsTrue, IfErr};
 ghost use Rattle.std.specs.Bool.{IsFalse};
-ghost use Rattle.dfdl_bits.specs.Window.{seen_at};
-ghost use Rattle.dfdl_chars.specs.Decoding.{Walk, Decoded, at_unit, is_high, is_low, no_look, found, pair_code, utf16_at as utf16_of, utf16_first, utf16_second, HasWholeBytes};
+ghost use Rattle.dfdl_chars.specs.Decoding.{in_box, Walk, Decoded, at_unit, is_high, is_low, no_look, found, pair_code, utf16_at as utf16_of, utf16_first, utf16_second, HasWholeBytes};
 ghost use Rattle.dfdl_chars.specs.Looks.{after_unit, answered, joined_by};
 
 use super::decode::{Chars, Place, byte_at};
@@ -41,7 +40,7 @@ fn unit_at<L: Ledger>(
     requires at_end { HasWholeBytes ends.0 }
     requires cut { HasWholeBytes ends.1 }
     ensures whole { IfErr result (λ answer. HasWholeBytes answer.0) }
-    ensures next { (go : ℕ → Walk → Decoded) → at_unit (joined_by order) (seen_at here.now.window.now) here.now.stop (here.now.byte + ahead) (record { far = far; looks = steps.old }) ends.0 ends.1 go ≡ after_unit result steps.new go }
+    ensures next { (go : ℕ → Walk → Decoded) → at_unit (joined_by order) (in_box here.now.window.now here.now.stop) (here.now.byte + ahead) (record { far = far; looks = steps.old }) ends go ≡ after_unit result steps.new go }
 {
     let (at_end, cut) = ends;
     match byte_at(here, ahead, at_end, far, steps) {
@@ -95,7 +94,7 @@ fn after_first<L: Ledger>(
 ) -> (Chars, u64)
     requires base { here.now.window.now.base ≤ here.now.byte }
     requires byte { here.now.byte < 2 ^ 61 }
-    ensures answer { utf16_first (joined_by order) (seen_at here.now.window.now) here.now.stop here.now.byte first.unit (record { far = first.far; looks = steps.old }) ≡ answered result steps.new }
+    ensures answer { utf16_first (joined_by order) (in_box here.now.window.now here.now.stop) here.now.byte first.unit (record { far = first.far; looks = steps.old }) ≡ answered result steps.new }
     ensures whole { HasWholeBytes result.0 }
 {
     let bad = Chars::Bad { bits: 16 };
@@ -136,7 +135,7 @@ pub(crate) fn utf16_at<L: Ledger>(
 ) -> (Chars, u64)
     requires base { here.now.window.now.base ≤ here.now.byte }
     requires byte { here.now.byte < 2 ^ 61 }
-    ensures answer { utf16_of (joined_by order) (seen_at here.now.window.now) here.now.stop here.now.byte (no_look steps.old) ≡ answered result steps.new }
+    ensures answer { utf16_of (joined_by order) (in_box here.now.window.now here.now.stop) here.now.byte (no_look steps.old) ≡ answered result steps.new }
     ensures whole { HasWholeBytes result.0 }
 {
     match unit_at(

@@ -1,13 +1,12 @@
 // UTF-8, a byte at a time.
 ghost use Rattle.std.specs.Prelude.{◌≡◌, ◌+◌, ◌^◌, ◌<◌, ◌≤◌, [], ◌∷◌};
-ghost use Rattle.dfdl_bits.specs.Window.{seen_at};
-ghost use Rattle.dfdl_chars.specs.Decoding.{HasWholeBytes, no_look, utf8_after};
+ghost use Rattle.dfdl_chars.specs.Decoding.{in_box, HasWholeBytes, no_look, utf8_after};
 ghost use Rattle.dfdl_chars.specs.Looks.{answered};
 ghost use Rattle.dfdl_chars.specs.Sequences.{IsFront};
 
 use super::decode::{Chars, Looked, Place, byte_at};
 use super::sequences::{
-    code_of_four, code_of_one, code_of_three, code_of_two, is_lead, is_pair, is_quadruple,
+    code_of_four, code_of_one, code_of_three, code_of_two, is_first_of_more, is_pair, is_quadruple,
     is_single, is_three_of_more, is_triple, is_two_of_more,
 };
 use dfdl_bits::Steps;
@@ -19,7 +18,7 @@ const BAD: Chars = Chars::Bad { bits: 8 };
 pub(crate) fn utf8_at<L: Ledger>(here: &Place<'_>, steps: &mut Steps<L>) -> (Chars, u64)
     requires base { here.now.window.now.base ≤ here.now.byte }
     requires byte { here.now.byte < 2 ^ 61 }
-    ensures answer { utf8_after 4 (seen_at here.now.window.now) here.now.stop here.now.byte [] (no_look steps.old) ≡ answered result steps.new }
+    ensures answer { utf8_after 4 (in_box here.now.window.now here.now.stop) here.now.byte [] (no_look steps.old) ≡ answered result steps.new }
     ensures whole { HasWholeBytes result.0 }
 {
     match byte_at(here, 0, Chars::End, 0, steps) {
@@ -31,14 +30,14 @@ pub(crate) fn utf8_at<L: Ledger>(here: &Place<'_>, steps: &mut Steps<L>) -> (Cha
 fn after_one<L: Ledger>(here: &Place<'_>, first: Looked, steps: &mut Steps<L>) -> (Chars, u64)
     requires base { here.now.window.now.base ≤ here.now.byte }
     requires byte { here.now.byte < 2 ^ 61 }
-    ensures answer { utf8_after 3 (seen_at here.now.window.now) here.now.stop here.now.byte (first.byte ∷ []) (record { far = first.far; looks = steps.old }) ≡ answered result steps.new }
+    ensures answer { utf8_after 3 (in_box here.now.window.now here.now.stop) here.now.byte (first.byte ∷ []) (record { far = first.far; looks = steps.old }) ≡ answered result steps.new }
     ensures whole { HasWholeBytes result.0 }
 {
     if is_single(first.byte) {
         let c = code_of_one(first.byte);
         return (Chars::Char { c, bits: 8 }, first.far);
     }
-    if !is_lead(first.byte) {
+    if !is_first_of_more(first.byte) {
         return (BAD, first.far);
     }
     match byte_at(here, 1, BAD, first.far, steps) {
@@ -55,7 +54,7 @@ fn after_two<L: Ledger>(
 ) -> (Chars, u64)
     requires base { here.now.window.now.base ≤ here.now.byte }
     requires byte { here.now.byte < 2 ^ 61 }
-    ensures answer { utf8_after 2 (seen_at here.now.window.now) here.now.stop here.now.byte (first ∷ second.byte ∷ []) (record { far = second.far; looks = steps.old }) ≡ answered result steps.new }
+    ensures answer { utf8_after 2 (in_box here.now.window.now here.now.stop) here.now.byte (first ∷ second.byte ∷ []) (record { far = second.far; looks = steps.old }) ≡ answered result steps.new }
     ensures whole { HasWholeBytes result.0 }
 {
     if is_pair(first, second.byte) {
@@ -81,7 +80,7 @@ fn after_three<L: Ledger>(
     requires base { here.now.window.now.base ≤ here.now.byte }
     requires byte { here.now.byte < 2 ^ 61 }
     requires front { IsFront first second }
-    ensures answer { utf8_after 1 (seen_at here.now.window.now) here.now.stop here.now.byte (first ∷ second ∷ third.byte ∷ []) (record { far = third.far; looks = steps.old }) ≡ answered result steps.new }
+    ensures answer { utf8_after 1 (in_box here.now.window.now here.now.stop) here.now.byte (first ∷ second ∷ third.byte ∷ []) (record { far = third.far; looks = steps.old }) ≡ answered result steps.new }
     ensures whole { HasWholeBytes result.0 }
 {
     if is_triple(first, second, third.byte) {

@@ -173,6 +173,7 @@ impl Window {
         requires { self.now.base ≤ k }
         ensures run { result.now ≡ run_at self.now k most }
         ensures seen { (i : ℕ) → i < length result.now → seen_at self.now (k + i) ≡ Byte (slice_index result.now i) }
+        ensures bytes { All (λ byte. byte < 256) result.now }
         ensures few { length result.now ≤ most }
         ensures whole { (byte : ℕ) → length result.now < most → seen_at self.now (k + length result.now) ≡ Byte byte → ⊥ }
         ensures cost { steps.new ≡ steps.old + length result.now }
@@ -210,6 +211,7 @@ impl Window {
         requires { self.now.base ≤ k }
         ensures run { result.now ≡ run_at self.now k most }
         ensures fits { length self.now.bytes ≤ self.now.size }
+        ensures bytes { All (λ byte. byte < 256) result.now }
     {
         let held = self.buffer.len() - self.start;
         let place = k - self.base;
@@ -218,9 +220,17 @@ impl Window {
         }
         let place = place as usize;
         let count = most.min(held - place);
-        let from = self.start + place;
-        &self.buffer[from..from + count]
+        part(&self.buffer, self.start + place, count)
     }
+}
+
+// So many bytes from a place on.
+fn part(bytes: &[u8], from: usize, count: usize) -> &[u8]
+    requires { from + count ≤ length bytes.now }
+    ensures value { result.now ≡ take count (drop from bytes.now) }
+    ensures bytes { All (λ byte. byte < 256) result.now }
+{
+    &bytes[from..from + count]
 }
 
 // How many of the bytes stand before the first that is `limit` or more.

@@ -1,4 +1,5 @@
 pub mod Decoding
 pub mod Encodings
 pub mod Looks
+pub mod Runs
 pub mod Sequences

@@ -5,6 +5,7 @@
 
 pub mod decode;
 pub mod encoded;
+pub mod run;
 mod sequences;
 mod utf16;
 mod utf8;
@@ -12,6 +13,7 @@ mod utf8;
 pub use decode::{Chars, decode_at};
 pub use encoded::{NoSuchChar, encode};
 pub use dfdl_forms::Encoding;
+pub use run::decode_run;
 
 #[cfg(test)]
 mod tests;

@@ -18,3 +18,5 @@ pub use window::{Seen, Window};
 
 #[cfg(test)]
 mod tests;
+#[cfg(test)]
+mod window_tests;

@@ -16,6 +16,7 @@ pub struct NoSuchChar;
 /// Writes the bytes of a character to the front of `into`, and answers how many they are. What stands behind them then is open.
 pub fn encode(enc: Encoding, c: char, into: &mut [u8; 4]) -> Result<usize, NoSuchChar>
     ensures written { IfOk result (λ n. encoded_of enc c ≡ Some (take n into.new)) }
+    ensures count { IfOk result (λ n. (1 ≤ n) × (n ≤ 4)) }
     ensures refused { IsErr result ↔ (encoded_of enc c ≡ None) }
     ensures err { OnErr result (into.new ≡ into.old) }
 {
@@ -29,7 +30,8 @@ pub fn encode(enc: Encoding, c: char, into: &mut [u8; 4]) -> Result<usize, NoSuc
 }
 
 fn put_utf8(c: char, into: &mut [u8; 4]) -> usize
-    ensures { take result into.new ≡ encode_utf8 c }
+    ensures written { take result into.new ≡ encode_utf8 c }
+    ensures count { (1 ≤ result) × (result ≤ 4) }
 {
     let mut room = [0; 4];
     let bytes = c.encode_utf8(&mut room).as_bytes();
@@ -42,6 +44,7 @@ fn put_utf8(c: char, into: &mut [u8; 4]) -> usize
 fn put_narrow(c: char, limit: u32, into: &mut [u8; 4]) -> Result<usize, NoSuchChar>
     requires { limit ≤ 256 }
     ensures written { IfOk result (λ n. take n into.new ≡ c ∷ []) }
+    ensures count { IfOk result (λ n. n ≡ 1) }
     ensures refused { IsErr result ↔ (limit ≤ c) }
     ensures err { OnErr result (into.new ≡ into.old) }
 {
@@ -63,7 +66,8 @@ fn unit_bytes(unit: u16, order: ByteOrder) -> [u8; 2]
 }
 
 fn put_utf16(c: char, order: ByteOrder, into: &mut [u8; 4]) -> usize
-    ensures { take result into.new ≡ flat_map (unit_bytes_of order) (encode_utf16 c) }
+    ensures written { take result into.new ≡ flat_map (unit_bytes_of order) (encode_utf16 c) }
+    ensures count { (1 ≤ result) × (result ≤ 4) }
 {
     let mut room = [0; 2];
     match c.encode_utf16(&mut room) {

@@ -16,5 +16,6 @@ abbrev pub element_rows : ℕ → List Field → List ℕ
 element_rows k [] = []
 element_rows k (f ∷ fields) = (2 * k + 1) ∷ element_rows (k + 1) fields
 
+-- the primitive that a field is read by
 abbrev pub primitive_of : Field → Primitive
 primitive_of f = Integer f.form

@@ -69,6 +69,7 @@ field_elements nodes children =
     option_and_then (inside (codes "xs:sequence") nodes)
     (option_and_then only (option_and_then (inside (codes "xs:complexType") nodes) (only children)))
 
+-- what the root element of these nodes gives
 abbrev pub root_outline : List Node → ℕ → Option Outline
 root_outline nodes element =
     option_and_then (λ name. option_map (λ fields. record { root = name; fields = fields }) (field_elements nodes (node_at nodes element).children))

@@ -20,14 +20,3 @@ pub record IsReader {S A : Type 0} (step : S → A → Option S) (start : S) (ac
   pub live : (s : S) (text : List A) → Reached s text → (more : List A) × (t : S) × (run step s more ≡ Some t) × (accepts t ≡ true)
   -- each text is run through and accepted
   pub full : (text : List A) → Text text → (t : S) × (run step start text ≡ Some t) × (accepts t ≡ true)
-
--- the machine reads the language, told by what may still come: `Rest s` are the texts that may follow at the state
-pub record IsResidual {S A : Type 0} (step : S → A → Option S) (start : S) (accepts : S → Bool) (Rest : S → List A → Type 0) : Type 0 where
-  -- what may follow a step may follow its item before the step
-  pub back : (s t : S) (a : A) (items : List A) → step s a ≡ Some t → Rest t items → Rest s (a ∷ items)
-  -- nothing may follow where the machine accepts
-  pub done : (s : S) → accepts s ≡ true → Rest s []
-  -- something may follow at each state
-  pub live : (s : S) → (more : List A) × Rest s more
-  -- each text is run through and accepted
-  pub full : (text : List A) → Rest start text → (t : S) × (run step start text ≡ Some t) × (accepts t ≡ true)

@@ -44,6 +44,7 @@ pub record Unparsed : Type 0 where
   pub pieces : List (List ℕ)
   pub missing : Option (List ℕ)
 
+-- one more piece before the others
 abbrev pub with_piece : List ℕ → Unparsed → Unparsed
 with_piece piece rest = record { pieces = piece ∷ rest.pieces; missing = rest.missing }
 

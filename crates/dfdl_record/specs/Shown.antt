@@ -1,4 +1,4 @@
--- What clauses see of events and of what unparsing came to.
+-- Mirror for the prover: events, and what unparsing came to, as clauses show them.
 use Rattle.std.specs.Prelude.{ℕ, nat_eq, if◌then◌else◌, List, [], ◌∷◌, Option, None, Some, option_map}
 use Rattle.dfdl_value.specs.declared.value.Value.{Value}
 use Rattle.dfdl_terms.specs.declared.event.Event.{Event}

@@ -15,6 +15,7 @@ use Rattle.dfdl_report.specs.declared.cause.LimitCause.TheVariants.{Input, Schem
 abbrev pub parse_number : ParseCause → ℕ
 parse_number DataEnds = 4
 
+-- what a processing error is told as
 abbrev pub parse_text : ParseCause → List ℕ
 parse_text DataEnds = codes "data ends"
 
@@ -22,6 +23,7 @@ parse_text DataEnds = codes "data ends"
 abbrev pub unparse_number : UnparseCause → ℕ
 unparse_number WrongOccurrences = 10
 
+-- what an unparse error is told as
 abbrev pub unparse_text : UnparseCause → List ℕ
 unparse_text WrongOccurrences = codes "wrong number of occurrences"
 
@@ -29,6 +31,7 @@ unparse_text WrongOccurrences = codes "wrong number of occurrences"
 abbrev pub schema_number : SchemaCause → ℕ
 schema_number OutsideSubset = 3
 
+-- what a refusal of a schema is told as
 abbrev pub schema_text : SchemaCause → List ℕ
 schema_text OutsideSubset = codes "construct outside the subset"
 
@@ -43,6 +46,7 @@ infoset_number StringExpected = 6
 infoset_number NotAValue = 7
 infoset_number NullNotAllowed = 8
 
+-- what a refusal of an infoset is told as
 abbrev pub infoset_text : InfosetCause → List ℕ
 infoset_text NotJson = codes "not JSON"
 infoset_text RootExpected = codes "root expected"

@@ -52,12 +52,14 @@ limit_line cause quantity =
 abbrev pub files_line : List ℕ → List ℕ
 files_line name = codes "files failed: " ++ ended name
 
--- calls on the outside failed, or memory was not to be had
+-- a call on the source failed
 abbrev pub source_line : List ℕ
 source_line = codes "source failed\n"
 
+-- a call on a sink failed
 abbrev pub sink_line : List ℕ
 sink_line = codes "sink failed\n"
 
+-- memory was not to be had
 abbrev pub memory_line : List ℕ
 memory_line = codes "out of memory\n"

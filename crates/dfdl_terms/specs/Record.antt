@@ -32,6 +32,7 @@ leaf_form_of t (Leaf prim) = option_map integer_form (slice_get t.primitives pri
 leaf_form_of t (Elem name simple body) = None
 leaf_form_of t (Group children) = None
 
+-- the form that the row of this number reads
 abbrev pub leaf_form_at : Table → ℕ → Option IntForm
 leaf_form_at t id = option_and_then (leaf_form_of t) (slice_get t.rows id)
 
@@ -42,6 +43,7 @@ field_of t (Elem name None body) = None
 field_of t (Elem name (Some simple) body) = option_map (λ form. record { name = name; form = form }) (leaf_form_at t body)
 field_of t (Group children) = None
 
+-- the field whose element the row of this number is
 abbrev pub field_at : Table → ℕ → Option Field
 field_at t id = option_and_then (field_of t) (slice_get t.rows id)
 
@@ -58,6 +60,7 @@ root_of t (Elem name None body) = option_map (λ children. record { name = name;
 root_of t (Elem name (Some simple) body) = None
 root_of t (Group children) = None
 
+-- the root element, whose row is the last
 abbrev pub root_at : Table → Option Root
 root_at t = option_and_then (root_of t) (slice_get t.rows (length t.rows - 1))
 

@@ -24,6 +24,7 @@ ChildrenBelow bound (Group children) = All (λ c. c < bound) children
 abbrev pub NestsBelow : ℕ → List Row → Type 0
 NestsBelow count rows = (i : ℕ) (row : Row) → i < count → slice_get rows i ≡ Some row → ChildrenBelow i row
 
+-- each child is below its row
 abbrev pub Nests : List Row → Type 0
 Nests rows = NestsBelow (length rows) rows
 

@@ -1,5 +1,5 @@
 -- Tables of intervals, and the characters that begin with a part of one.
-use Rattle.std.proofs.Common.{◌≡◌, ◌≢◌, ℕ, ◌<◌, ◌≤◌, ◌&&◌, ◌||◌, max, nat_le, List, [], ◌∷◌, Bool, true, false, refl, sym, ap, ap₂, ◌∙◌, inl, inr, arith, leb-true}
+use Rattle.std.proofs.Common.{IsTrue, ◌↔◌, ◌≡◌, ◌≢◌, ℕ, ◌<◌, ◌≤◌, ◌&&◌, ◌||◌, max, nat_le, List, [], ◌∷◌, Bool, true, false, refl, sym, ap, ap₂, ◌∙◌, inl, inr, arith, leb-true}
 use Rattle.std.specs.List.{list_any, list_all}
 use Rattle.std.proofs.lemmas.Bool.{and_parts, or_parts, or_right, cases_Bool}
 use Rattle.std.proofs.lemmas.Bool.Decides.{nat_tests}
@@ -154,3 +154,19 @@ low_char c less = ap (λ b. is_in low_name_rows c || b) (none_below high_name_ro
 pub high_char : (c : ℕ) → 128 ≤ c → is_name_char c ≡ is_in high_name_rows c
 unfolding is_name_char low_name_rows low_start_rows
 high_char c least = ap (λ b. b || is_in high_name_rows c) (none_above low_name_rows 127 c (omega arith) refl)
+
+pub begins_exactly : (bytes : List ℕ) (c : ℕ) → see bytes ≡ Part → IsTrue (begins bytes c) ↔ IsBegun IsScalar encode_utf8 bytes c
+begins_exactly bytes c sees = (
+  λ is. begins_by bytes c sees is,
+  λ begun. elim (cases_Bool (begins bytes c)) [ | inl is ↦ is | inr none ↦ absurd (not_begins_by bytes c sees none begun) ],
+)
+
+pub meets_exactly : (rows : List Row) (bytes : List ℕ) → AreAllowed rows → see bytes ≡ Part
+    → IsTrue (meets rows bytes) ↔ ((c : ℕ) × IsBegun IsScalar encode_utf8 bytes c × IsTrue (is_in rows c))
+meets_exactly rows bytes allowed sees = (
+  λ meet. met_by rows bytes sees allowed.proper meet,
+  λ found. elim (cases_Bool (meets rows bytes)) [
+    | inl meet ↦ meet
+    | inr none ↦ (let not_in = not_met_by rows bytes found.0 sees none found.1 in let within = found.2 in absurd (cc))
+  ],
+)

@@ -10,6 +10,7 @@
 
 mod begun;
 mod characters;
+pub mod laws;
 mod names;
 mod sequences;
 

@@ -5,3 +5,4 @@ pub mod Coding
 pub mod Ranges
 pub mod Tables
 pub mod Foresight
+pub mod Documents

@@ -158,7 +158,7 @@ high_char c least = ap (λ b. b || is_in high_name_rows c) (none_above low_name_
 pub begins_exactly : (bytes : List ℕ) (c : ℕ) → see bytes ≡ Part → IsTrue (begins bytes c) ↔ IsBegun IsScalar encode_utf8 bytes c
 begins_exactly bytes c sees = (
   λ is. begins_by bytes c sees is,
-  λ begun. elim (cases_Bool (begins bytes c)) [ | inl is ↦ is | inr none ↦ absurd (not_begins_by bytes c sees none begun) ],
+  λ begun. elim (cases_Bool (begins bytes c)) [ inl is ↦ is | inr none ↦ absurd (not_begins_by bytes c sees none begun) ],
 )
 
 pub meets_exactly : (rows : List Row) (bytes : List ℕ) → AreAllowed rows → see bytes ≡ Part

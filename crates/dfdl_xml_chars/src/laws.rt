@@ -15,16 +15,12 @@ pub fn bytes_are_seen()
 
 /// Those characters begin with a part of one that are told to.
 pub fn characters_begin()
-    ensures {
-        (bytes : List ℕ) (c : ℕ) → see bytes ≡ Part
-        → IsTrue (begins bytes c) ↔ IsBegun IsScalar encode_utf8 bytes c
-    }
+    ensures { (bytes : List ℕ) (c : ℕ) → see bytes ≡ Part
+        → IsTrue (begins bytes c) ↔ IsBegun IsScalar encode_utf8 bytes c }
 {}
 
 /// Rows meet a part of a character exactly where one of theirs begins so.
 pub fn rows_meet()
-    ensures {
-        (rows : List Row) (bytes : List ℕ) → AreAllowed rows → see bytes ≡ Part
-        → IsTrue (meets rows bytes) ↔ ((c : ℕ) × IsBegun IsScalar encode_utf8 bytes c × IsTrue (is_in rows c))
-    }
+    ensures { (rows : List Row) (bytes : List ℕ) → AreAllowed rows → see bytes ≡ Part
+        → IsTrue (meets rows bytes) ↔ ((c : ℕ) × IsBegun IsScalar encode_utf8 bytes c × IsTrue (is_in rows c)) }
 {}

@@ -13,6 +13,8 @@ mod characters;
 pub mod laws;
 mod names;
 mod sequences;
+#[cfg(test)]
+mod tests;
 
 pub use begun::{Begun, Taken};
 pub use characters::is_allowed;

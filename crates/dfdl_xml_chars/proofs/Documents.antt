@@ -1,5 +1,5 @@
 -- A machine over characters, with UTF-8 and the allowed characters before it, tells all rules over bytes.
-use Rattle.std.proofs.Common.{◌≡◌, ℕ, ◌<◌, ◌≤◌, List, Bool, Result, arith}
+use Rattle.std.proofs.Common.{ℕ, ◌<◌, List, Bool, Result, arith}
 use Rattle.dfdl_layers.specs.Causes.{LeavesFewer}
 use Rattle.dfdl_layers.specs.Tellers.{IsTeller}
 use Rattle.dfdl_layers.specs.Bytes.{Inside, between, byte_accepts, AnyByte}

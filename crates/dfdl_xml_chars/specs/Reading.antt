@@ -1,6 +1,6 @@
 -- A machine over the characters of a document as one over its bytes. Rule 1 is that they are UTF-8, and rule 2 that each
 -- character is allowed; the machine tells the rules behind them.
-use Rattle.std.specs.Prelude.{◌≡◌, ℕ, ◌≤◌, List, Bool, true, Result, Option, encode_utf8}
+use Rattle.std.specs.Prelude.{◌≡◌, ℕ, ◌≤◌, List, Bool, true, Result, encode_utf8}
 use Rattle.std.specs.Char.{IsScalar}
 use Rattle.dfdl_layers.specs.Tellers.{IsTeller}
 use Rattle.dfdl_layers.specs.Allowed.{GoodAllowed, allowed_step, RestOfAllowed}

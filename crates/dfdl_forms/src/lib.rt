@@ -7,10 +7,14 @@
 
 pub mod encoding;
 pub mod fault;
+pub mod literals;
 pub mod order;
 pub mod simple;
+pub mod text;
 
 pub use encoding::Encoding;
 pub use fault::{NoFit, NoTruth};
+pub use literals::{Literals, Piece};
 pub use order::{BitOrder, ByteOrder};
 pub use simple::{Form, Simple};
+pub use text::{CharList, EscapeKind, EscapeScheme, Justify, PadForm, PlainTexts, TruthForm};

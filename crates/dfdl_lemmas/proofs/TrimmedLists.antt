@@ -1,5 +1,6 @@
 -- Lists without the elements at their end that pass a test.
 use Rattle.std.proofs.Common.{◌≡◌, ℕ, ◌-◌, ◌+◌, ◌<◌, ◌≤◌, Bool, true, false, List, [], ◌∷◌, ◌++◌, length, get_or, take, refl, sym, ap, ◌∙◌, arith}
+use Rattle.std.proofs.Math.Seq.{take-length}
 use Rattle.std.proofs.lemmas.List.{take_more}
 use Rattle.dfdl_lemmas.specs.Trimmed.{before_rest, without_trailing}
 
@@ -32,3 +33,12 @@ pub without_trailing-last_stops : (p : ℕ → Bool) (xs : List ℕ) (end d : �
     → without_trailing p (take end xs) ≡ take end xs
 without_trailing-last_stops p xs end d some within h =
     ap (without_trailing p) (front_split xs end d some within) ∙ without_trailing-stops p (take (end - 1) xs) _ h ∙ sym (front_split xs end d some within)
+
+-- the last element of a list passes
+pub without_trailing-end_passes : (p : ℕ → Bool) (xs : List ℕ) → 0 < length xs → p (get_or xs (length xs - 1) 0) ≡ true → without_trailing p (take (length xs - 1) xs) ≡ without_trailing p xs
+without_trailing-end_passes p xs some h = without_trailing-last_passes p xs (length xs) 0 some (omega arith) h ∙ ap (without_trailing p) (take-length xs)
+
+-- it doesn't
+pub without_trailing-end_stops : (p : ℕ → Bool) (xs : List ℕ) → 0 < length xs → p (get_or xs (length xs - 1) 0) ≡ false → without_trailing p xs ≡ xs
+without_trailing-end_stops p xs some h =
+    ap (without_trailing p) (sym (take-length xs)) ∙ without_trailing-last_stops p xs (length xs) 0 some (omega arith) h ∙ take-length xs

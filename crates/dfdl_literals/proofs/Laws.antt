@@ -2,11 +2,10 @@
 use Rattle.std.proofs.Common.{◌≡◌, ℕ, List, [], ◌∷◌, ◌++◌, length, Option, Some, None, Bool, true, false, not, ◌&&◌, ◌==◌, nat_lt, cond, refl, sym, ap, subst, ◌∙◌, append_assoc, arith}
 use Rattle.std.proofs.lemmas.Bool.{cond_both, eqb-true}
 use Rattle.std.proofs.lemmas.List.{append-nil}
-use Rattle.std.specs.Option.{option_and_then}
-use Rattle.std.specs.Option.{IfSome}
+use Rattle.std.specs.Option.{option_and_then, IfSome}
 use Rattle.dfdl_machines.proofs.Runs.{run_push}
-use Rattle.dfdl_literals.specs.declared.Piece.{Piece}
-use Rattle.dfdl_literals.specs.declared.Piece.TheVariants.{Char, Byte, Nothing}
+use Rattle.dfdl_forms.specs.declared.literals.Piece.{Piece}
+use Rattle.dfdl_forms.specs.declared.literals.Piece.TheVariants.{Char, Byte, Nothing}
 use Rattle.dfdl_literals.specs.declared.Ending.{Ending}
 use Rattle.dfdl_literals.specs.declared.Ending.TheVariants.{Ordinary, Doubled, Alone}
 use Rattle.dfdl_literals.specs.declared.scan.Mark.{Mark}

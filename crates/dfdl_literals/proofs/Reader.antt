@@ -9,8 +9,8 @@ use Rattle.std.specs.Char.{digit_value}
 use Rattle.dfdl_machines.specs.Machines.{run, IsReader}
 use Rattle.dfdl_machines.proofs.Readers.{reaches}
 use Rattle.dfdl_machines.proofs.Runs.{run-append}
-use Rattle.dfdl_literals.specs.declared.Piece.{Piece}
-use Rattle.dfdl_literals.specs.declared.Piece.TheVariants.{Char, Byte, Nothing}
+use Rattle.dfdl_forms.specs.declared.literals.Piece.{Piece}
+use Rattle.dfdl_forms.specs.declared.literals.Piece.TheVariants.{Char, Byte, Nothing}
 use Rattle.dfdl_literals.specs.declared.Ending.{Ending}
 use Rattle.dfdl_literals.specs.declared.Ending.TheVariants.{Ordinary, Doubled, Alone}
 use Rattle.dfdl_literals.specs.declared.scan.Mark.{Mark}

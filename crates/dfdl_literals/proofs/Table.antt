@@ -6,7 +6,7 @@ use Rattle.std.proofs.lemmas.List.Folds.{list_all-append}
 use Rattle.std.proofs.lemmas.Slice.Eq.{starts_is}
 use Rattle.std.specs.Cmp.Lexicographic.{pointwise, same_text, other_text}
 use Rattle.std.specs.List.{starts_with, list_all}
-use Rattle.dfdl_literals.specs.declared.Piece.{Piece}
+use Rattle.dfdl_forms.specs.declared.literals.Piece.{Piece}
 use Rattle.dfdl_literals.specs.Names.{Entry, names, named, named_in, begins_name, begins_in}
 
 begun_in : (entries : List Entry) (front : List ℕ) → begins_in entries front ≡ true

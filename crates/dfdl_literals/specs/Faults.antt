@@ -3,7 +3,7 @@ use Rattle.std.specs.Prelude.{◌≡◌, ℕ, List, length, take, Bool, true, fa
 use Rattle.std.specs.Str.{encode_utf8_all}
 use Rattle.dfdl_fronts.specs.Fronts.{IsPlace}
 use Rattle.dfdl_literals.specs.Lists.{IsList, Reads, matches_nothing}
-use Rattle.dfdl_literals.specs.declared.Piece.{Piece}
+use Rattle.dfdl_forms.specs.declared.literals.Piece.{Piece}
 use Rattle.dfdl_literals.specs.declared.LiteralFault.{LiteralFault}
 use Rattle.dfdl_literals.specs.declared.LiteralFault.TheVariants.{Malformed, MatchesNothing, OutOfMemory}
 

@@ -4,8 +4,8 @@ use Rattle.std.specs.Char.{digit_value}
 use Rattle.std.specs.List.{list_any, list_all}
 use Rattle.dfdl_machines.specs.Machines.{run}
 use Rattle.dfdl_literals.specs.Names.{named}
-use Rattle.dfdl_literals.specs.declared.Piece.{Piece}
-use Rattle.dfdl_literals.specs.declared.Piece.TheVariants.{Char, Byte, NewLine, Space, Spaces, MaybeSpaces, Nothing}
+use Rattle.dfdl_forms.specs.declared.literals.Piece.{Piece}
+use Rattle.dfdl_forms.specs.declared.literals.Piece.TheVariants.{Char, Byte, NewLine, Space, Spaces, MaybeSpaces, Nothing}
 use Rattle.dfdl_literals.specs.declared.Ending.{Ending}
 use Rattle.dfdl_literals.specs.declared.Ending.TheVariants.{Ordinary, Doubled, Alone}
 

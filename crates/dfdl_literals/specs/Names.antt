@@ -3,9 +3,9 @@ use Rattle.std.specs.Prelude.{ℕ, List, [], ◌∷◌, Option, Some, None, Bool
 use Rattle.std.specs.List.{starts_with}
 use Rattle.std.specs.Cmp.Lexicographic.{pointwise}
 use Rattle.std.proofs.Common.{eqb}
-use Rattle.dfdl_literals.specs.declared.Piece.{Piece}
+use Rattle.dfdl_forms.specs.declared.literals.Piece.{Piece}
 use Rattle.dfdl_literals.specs.declared.names.Row.{Row}
-use Rattle.dfdl_literals.specs.declared.Piece.TheVariants.{Char, NewLine, Space, Spaces, MaybeSpaces}
+use Rattle.dfdl_forms.specs.declared.literals.Piece.TheVariants.{Char, NewLine, Space, Spaces, MaybeSpaces}
 
 -- a name and what it stands for
 pub record Entry : Type 0 where

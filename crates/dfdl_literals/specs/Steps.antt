@@ -3,8 +3,8 @@ use Rattle.std.specs.Prelude.{ℕ, List, [], ◌∷◌, ◌++◌, length, Option
 use Rattle.std.specs.Option.{option_and_then}
 use Rattle.dfdl_literals.specs.Names.{named, begins_name, is_empty_name}
 use Rattle.dfdl_literals.specs.Lists.{is_divider, is_scalar, with_digit, closed}
-use Rattle.dfdl_literals.specs.declared.Piece.{Piece}
-use Rattle.dfdl_literals.specs.declared.Piece.TheVariants.{Char, Byte, Nothing}
+use Rattle.dfdl_forms.specs.declared.literals.Piece.{Piece}
+use Rattle.dfdl_forms.specs.declared.literals.Piece.TheVariants.{Char, Byte, Nothing}
 use Rattle.dfdl_literals.specs.declared.Ending.{Ending}
 use Rattle.dfdl_literals.specs.declared.Ending.TheVariants.{Ordinary, Doubled, Alone}
 use Rattle.dfdl_literals.specs.declared.scan.Mark.{Mark}

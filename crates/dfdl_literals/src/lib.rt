@@ -1,48 +1,29 @@
-// Lists of literals, as delimiters, nil values and truth values are written in a schema.
-//
-// `specs/Lists.antt` says how a list is written and which pieces its literals are made of, `specs/Names.antt` which
-// names there are, and `specs/Faults.antt` where a list is refused: `read_literals` answers by them. It serves
-// the chapter DFDL Syntax Basics, on string literals, entities and character classes.
+//! Lists of literals, as delimiters, nil values and truth values are written in a schema.
+//!
+//! `specs/Lists.antt` says how a list is written and which pieces its literals are made of, `specs/Names.antt` which
+//! names there are, and `specs/Faults.antt` where a list is refused: `read_literals` answers by them. It serves
+//! 'DFDL Syntax Basics', on string literals, entities and character classes.
 #![tactic(auto)]
 
-ghost use Rattle.std.specs.Prelude.{◌≡◌, List, length, false, map, slice_index_or, ◌<◌, IfErr, IfOk};
+ghost use Rattle.std.specs.Prelude.{◌≡◌, length, false, ◌<◌, IfErr, IfOk};
 ghost use Rattle.std.specs.List.{list_all, list_any};
 ghost use Rattle.std.specs.Str.{chars};
 ghost use Rattle.dfdl_literals.specs.Faults.{IsFaultOf, IsRefusalOf};
 ghost use Rattle.dfdl_literals.specs.Lists.{Reads, closed, is_optional, matches_nothing};
 ghost use Rattle.dfdl_literals.specs.Steps.{accepts, start, step};
 ghost use Rattle.dfdl_machines.specs.Machines.{run};
-ghost use Rattle.dfdl_literals.specs.declared.Piece.{Piece};
 
-mod forms;
 mod names;
 mod scan;
 #[cfg(test)]
 mod tests;
 
-pub use forms::{CharList, EscapeKind, EscapeScheme, Justify, PadForm, TruthForm};
+pub use dfdl_forms::{
+    CharList, EscapeKind, EscapeScheme, Justify, Literals, PadForm, Piece, PlainTexts, TruthForm,
+};
 use scan::Scan;
 use std::alloc::Global;
-use std::marker::Model;
-
-/// What a literal is made of.
-#[derive(Debug, Clone, Copy, PartialEq, Eq)]
-pub enum Piece {
-    /// A character.
-    Char(char),
-    /// One raw byte.
-    Byte(u8),
-    /// `%NL;`: a line break.
-    NewLine,
-    /// `%WSP;`: one white space character.
-    Space,
-    /// `%WSP+;`: one or more white space characters.
-    Spaces,
-    /// `%WSP*;`: none or more white space characters.
-    MaybeSpaces,
-    /// `%ES;`: nothing, alone in its literal.
-    Nothing,
-}
+use thiserror::Error;
 
 /// What has to be known of what was read last for what follows it.
 #[derive(Clone, Copy)]
@@ -55,61 +36,24 @@ pub enum Ending {
 }
 
 /// Why a list of literals is refused.
-#[derive(Debug, Clone, Copy, PartialEq, Eq)]
+#[derive(Debug, Clone, Copy, PartialEq, Eq, Error)]
 pub enum LiteralFault {
     /// No list can go on at the byte `at`, counted from 0.
+    #[error("no list of literals can go on at byte {at}")]
     Malformed { at: usize },
     /// A literal can match nothing, where none may.
+    #[error("a literal that can match nothing")]
     MatchesNothing,
+    #[error("out of memory")]
     OutOfMemory,
 }
 
-/// A list of literals.
-#[derive(Drop)]
-pub struct Literals {
-    literals: Vec<Vec<Piece>>,
-}
-
-impl Model for Literals {
-    ghost Value = { List (List Piece) };
-
-    ghost view = { λ l. map (λ v. v.items) l.literals.items };
-}
-
-impl Literals {
-    pub(crate) fn from_parts(literals: Vec<Vec<Piece>>) -> Literals
-        ensures { result ≡ map (λ v. v.items) literals.items }
-    {
-        Literals { literals }
-    }
-
-    pub fn len(&self) -> usize
-        ensures { result ≡ length self.now }
-    {
-        self.literals.len()
-    }
-
-    /// The pieces of one literal.
-    pub fn pieces(&self, at: usize) -> &[Piece]
-        requires { at < length self.now }
-        ensures { result.now ≡ slice_index_or self.now at result.now }
-    {
-        self.literals[at].as_slice()
-    }
-
-    /// Whether some literal can match nothing.
-    pub fn can_match_nothing(&self) -> bool
-        ensures { result ≡ matches_nothing self.now }
-    {
-        any_can_match_nothing(&self.literals)
-    }
-}
-
-fn any_can_match_nothing(literals: &[Vec<Piece>]) -> bool
-    ensures { result ≡ matches_nothing (map (λ v. v.items) literals.now) }
+/// Whether some literal of the list can match nothing.
+pub fn can_match_nothing(literals: &Literals) -> bool
+    ensures { result ≡ matches_nothing literals.now }
 {
-    for literal in literals {
-        if all_optional(literal) {
+    for at in 0..literals.len() {
+        if all_optional(literals.pieces(at)) {
             return true;
         }
     }
@@ -139,7 +83,7 @@ pub fn read_literals(
     ensures refused { IfErr result (λ e. IsFaultOf empty_allowed (chars text.now) e) }
 {
     let literals = read_any(alloc, text, empty_allowed)?;
-    if !empty_allowed && literals.can_match_nothing() {
+    if !empty_allowed && can_match_nothing(&literals) {
         return Err(LiteralFault::MatchesNothing);
     }
     Ok(literals)

@@ -245,6 +245,6 @@ impl Scan {
         if !pieces.is_empty() {
             ended.push(pieces)?;
         }
-        Ok(Literals::from_parts(ended))
+        Ok(Literals::new(ended))
     }
 }

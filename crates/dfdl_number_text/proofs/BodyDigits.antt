@@ -7,7 +7,8 @@ use Rattle.std.proofs.lemmas.Grind.{get_or_default_zero}
 use Rattle.std.proofs.lemmas.List.{append-nil, length-replicate}
 use Rattle.std.proofs.Math.Nat.{pow-suc, mul_assoc, mul_comm}
 use Rattle.dfdl_decimal.specs.Decimal.{shortest_from, with_sign}
-use Rattle.dfdl_value.specs.Texts.{number_after, number_of, without_trailing, is_zero}
+use Rattle.dfdl_value.specs.Texts.{number_after, number_of, is_zero}
+use Rattle.dfdl_lemmas.specs.Trimmed.{without_trailing}
 use Rattle.dfdl_value.proofs.DecimalLemmas.{trailing_zeros, number_after-append, list_all-without_trailing, IsShortest, IsShortest-without_trailing}
 use Rattle.dfdl_decimal.proofs.FixedLemmas.{shortest_from-shift}
 use Rattle.dfdl_value.proofs.TextLemmas.{number_after-ge}

@@ -2,7 +2,8 @@
 use Rattle.std.proofs.Common.{◌≡◌, ◌≢◌, ℕ, suc, ◌+◌, ◌*◌, ◌/◌, ◌%◌, ◌^◌, ◌==◌, ◌&&◌, ◌<◌, ◌≤◌, Bool, true, false, not, cond, nat_lt, List, [], ◌∷◌, ◌++◌, map, length, take, drop, set, refl, ap, sym, ◌∙◌, append_assoc, length-append, length-take-le, add-one, arith}
 use Rattle.std.proofs.lemmas.List.{set_split, take_at, take-append-drop, drop-drop, drop_at, append-nil, map-append, take_all, drop_all, take-append-le, drop-append-le}
 use Rattle.std.proofs.lemmas.Bool.Decides.{nat_tests}
-use Rattle.dfdl_value.specs.Texts.{is_zero, before_rest, without_trailing}
+use Rattle.dfdl_value.specs.Texts.{is_zero}
+use Rattle.dfdl_lemmas.specs.Trimmed.{before_rest, without_trailing}
 use Rattle.dfdl_number_text.specs.Digits.{digits_at, digit_character}
 use Rattle.dfdl_number_text.specs.Writing.{fraction_digits, grouped}
 use Rattle.dfdl_number_text.specs.Written.{IsPut, digit_text, separator_behind}

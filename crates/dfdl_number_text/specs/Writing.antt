@@ -1,7 +1,8 @@
 -- What characters a value is written as.
 use Rattle.std.specs.Prelude.{ℕ, ◌*◌, ◌/◌, ◌%◌, ◌^◌, ◌==◌, ◌&&◌, Bool, not, max, nat_lt, List, [], ◌∷◌, ◌++◌, length, take, drop, map, chars, Option, Some, None, option_map, option_and_then, pos, int_lt, unsigned_abs, if◌then◌else◌}
 use Rattle.dfdl_decimal.specs.Decimal.{DecimalNumber}
-use Rattle.dfdl_value.specs.Texts.{is_zero, without_trailing}
+use Rattle.dfdl_value.specs.Texts.{is_zero}
+use Rattle.dfdl_lemmas.specs.Trimmed.{without_trailing}
 use Rattle.dfdl_value.specs.declared.value.Value.{Value}
 use Rattle.dfdl_value.specs.declared.value.Value.TheVariants.{Int, Uns, Dec, Text, Truth, Bytes}
 use Rattle.dfdl_number_pattern.specs.declared.form.NumberForm.{NumberForm}

@@ -3,7 +3,8 @@ ghost use Rattle.std.specs.Prelude.{◌≡◌, ◌<◌, ◌≤◌, ◌^◌, ◌+
 ghost use Rattle.std.specs.Char.{is_ascii_digit};
 ghost use Rattle.std.specs.List.{list_all};
 ghost use Rattle.std.specs.Option.{SomeIff};
-ghost use Rattle.dfdl_value.specs.Texts.{is_zero, number_after, number_of, without_trailing};
+ghost use Rattle.dfdl_value.specs.Texts.{is_zero, number_after, number_of};
+ghost use Rattle.dfdl_lemmas.specs.Trimmed.{without_trailing};
 
 /// Fraction digits without the zeros at their end.
 pub fn without_zeros(digits: &[char]) -> &[char]

@@ -1,7 +1,2 @@
-pub mod PaddingLemmas
-pub mod MarkLemmas
-pub mod PlaceLemmas
-pub mod TextLemmas
-pub mod WrittenLemmas
-pub mod LiteralLemmas
 pub mod LawLemmas
+pub mod PaddingLemmas

@@ -1,42 +1,17 @@
 -- Lemmas on texts that are trimmed and padded.
-use Rattle.std.proofs.Common.{◌≡◌, ℕ, ◌+◌, ◌-◌, ◌<◌, ◌≤◌, Bool, true, false, List, [], ◌∷◌, ◌++◌, length, get_or, take, drop, replicate, refl, sym, ap, ◌∙◌, arith, suc}
+use Rattle.std.proofs.Common.{◌≡◌, ℕ, ◌+◌, ◌-◌, ◌<◌, ◌≤◌, Bool, true, false, List, [], ◌∷◌, ◌++◌, length, get_or, take, drop, replicate, refl, sym, ap, ◌∙◌, arith, suc, ◌&&◌, if◌then◌else◌, Option, Some, None}
 use Rattle.std.proofs.Math.Seq.{take-length}
-use Rattle.std.proofs.lemmas.Bool.{cond_both}
-use Rattle.std.proofs.lemmas.List.{append-nil, drop_all, take-append-drop, take_more, drop-drop, drop_at, take-replicate, drop-replicate, length-append, length-replicate, length-take-le, length-drop}
+use Rattle.std.proofs.lemmas.Bool.{cond_both, both_ways, and_from, eqb-true}
+use Rattle.std.proofs.lemmas.List.Folds.{list_all_at}
+use Rattle.std.specs.List.{list_all}
+use Rattle.dfdl_lemmas.proofs.Bools.{both}
+use Rattle.std.proofs.lemmas.List.{append-nil, nil_from_length, drop_more, drop_all, take-append-drop, drop-drop, drop_at, take-replicate, drop-replicate, length-append, length-replicate, length-take-le, length-drop}
 use Rattle.std.proofs.lemmas.Slice.{take-put_mid, drop-put_mid}
 use borrow.Rule.Slice.PartMut.{put_mid}
-use Rattle.dfdl_literals.specs.declared.forms.Justify.{Justify}
-use Rattle.dfdl_literals.specs.declared.forms.Justify.TheVariants.{Left, Right, Center}
-use Rattle.dfdl_text_string.specs.Padding.{surrounded, padded, missing_before, front_trimmed, end_trimmed}
-use Rattle.dfdl_value.specs.Texts.{before_rest, without_leading, without_trailing}
-
-without_trailing-passes : (p : ℕ → Bool) (xs : List ℕ) (x : ℕ) → p x ≡ true → without_trailing p (xs ++ x ∷ []) ≡ without_trailing p xs
-without_trailing-passes p [] x h = rw h
-without_trailing-passes p (y ∷ ys) x h = ap (before_rest p y) (without_trailing-passes p ys x h)
-
-before_rest-push : (p : ℕ → Bool) (y : ℕ) (ys : List ℕ) (x : ℕ) → before_rest p y (ys ++ x ∷ []) ≡ y ∷ (ys ++ x ∷ [])
-before_rest-push p y [] x = refl
-before_rest-push p y (z ∷ zs) x = refl
-
-without_trailing-stops : (p : ℕ → Bool) (xs : List ℕ) (x : ℕ) → p x ≡ false → without_trailing p (xs ++ x ∷ []) ≡ xs ++ x ∷ []
-without_trailing-stops p [] x h = rw h
-without_trailing-stops p (y ∷ ys) x h = ap (before_rest p y) (without_trailing-stops p ys x h) ∙ before_rest-push p y ys x
-
--- the front of a list is a shorter front, and the element behind that
-front_split : (xs : List ℕ) (end d : ℕ) → 0 < end → end ≤ length xs → take end xs ≡ take (end - 1) xs ++ get_or xs (end - 1) d ∷ []
-front_split xs end d some within =
-    let e : end ≡ end - 1 + 1 = omega arith in
-    ap (λ n. take n xs) e ∙ take_more xs (end - 1) d (omega arith)
-
-pub without_trailing-last_passes : (p : ℕ → Bool) (xs : List ℕ) (end d : ℕ) → 0 < end → end ≤ length xs → p (get_or xs (end - 1) d) ≡ true
-    → without_trailing p (take (end - 1) xs) ≡ without_trailing p (take end xs)
-without_trailing-last_passes p xs end d some within h =
-    sym (ap (without_trailing p) (front_split xs end d some within) ∙ without_trailing-passes p (take (end - 1) xs) _ h)
-
-pub without_trailing-last_stops : (p : ℕ → Bool) (xs : List ℕ) (end d : ℕ) → 0 < end → end ≤ length xs → p (get_or xs (end - 1) d) ≡ false
-    → without_trailing p (take end xs) ≡ take end xs
-without_trailing-last_stops p xs end d some within h =
-    ap (without_trailing p) (front_split xs end d some within) ∙ without_trailing-stops p (take (end - 1) xs) _ h ∙ sym (front_split xs end d some within)
+use Rattle.dfdl_forms.specs.declared.text.Justify.{Justify}
+use Rattle.dfdl_forms.specs.declared.text.Justify.TheVariants.{Left, Right, Center}
+use Rattle.dfdl_text_string.specs.Padding.{surrounded, padded, missing_before, front_trimmed, end_trimmed, is_trim}
+use Rattle.dfdl_lemmas.specs.Trimmed.{before_rest, without_leading, without_trailing}
 
 pub length-without_leading : (p : ℕ → Bool) (xs : List ℕ) → length (without_leading p xs) ≤ length xs
 length-without_leading p [] = omega arith
@@ -165,5 +140,76 @@ padded_is justify pad old new size before within is e =
     let front : length (take size old) ≡ size = length-take-le size old within in
     e ∙ ap (λ b. surrounded pad b (take size old) (length old - size - b)) is
     ∙ ap (λ n. surrounded pad (missing_before justify (length old - n)) (take size old) (length old - n - missing_before justify (length old - n))) (sym front)
+
+-- ---- texts of nothing but trim characters
+
+all_leading : (p : ℕ → Bool) (xs : List ℕ) → list_all p (without_leading p xs) ≡ true → list_all p xs ≡ true
+all_leading p [] h = refl
+all_leading p (x ∷ xs) h =
+    cond_both (p x) (without_leading p xs) (x ∷ xs) (λ l. list_all p l ≡ true → list_all p (x ∷ xs) ≡ true)
+    (λ is k. and_from (p x) (list_all p xs) is (all_leading p xs k)) (λ other k. k) h
+
+all_trailing : (p : ℕ → Bool) (xs : List ℕ) → list_all p (without_trailing p xs) ≡ true → list_all p xs ≡ true
+all_trailing p [] h = refl
+all_trailing p (x ∷ xs) h = more (without_trailing p xs) (all_trailing p xs) h
+  where
+    more : (kept : List ℕ) → (list_all p kept ≡ true → list_all p xs ≡ true) → list_all p (before_rest p x kept) ≡ true → list_all p (x ∷ xs) ≡ true
+    more [] rest k =
+        cond_both (p x) [] (x ∷ []) (λ l. list_all p l ≡ true → list_all p (x ∷ xs) ≡ true)
+        (λ is e. and_from (p x) (list_all p xs) is (rest refl)) (λ other e. absurd (both_ways (p x) other (both (p x) true e).0)) k
+    more (y ∷ ys) rest k = let t = both (p x) (list_all p (y ∷ ys)) k in and_from (p x) (list_all p xs) t.0 (rest t.1)
+
+all_end : (justify : Justify) (p : ℕ → Bool) (xs : List ℕ) → list_all p (end_trimmed justify p xs) ≡ true → list_all p xs ≡ true
+all_end Left p xs h = all_trailing p xs h
+all_end Right p xs h = h
+all_end Center p xs h = all_trailing p xs h
+
+all_front : (justify : Justify) (p : ℕ → Bool) (xs : List ℕ) → list_all p (front_trimmed justify p xs) ≡ true → list_all p xs ≡ true
+all_front Left p xs h = h
+all_front Right p xs h = all_leading p xs h
+all_front Center p xs h = all_leading p xs h
+
+-- where nothing is left, each character is a trim character
+all_bare : (justify : Justify) (p : ℕ → Bool) (xs : List ℕ) → length (end_trimmed justify p (front_trimmed justify p xs)) ≡ 0 → list_all p xs ≡ true
+all_bare justify p xs none =
+    all_front justify p xs (all_end justify p (front_trimmed justify p xs) (ap (list_all p) (nil_from_length _ none)))
+
+passes_at : (p : ℕ → Bool) (xs : List ℕ) (at d : ℕ) → at < length xs → list_all p xs ≡ true → p (get_or xs at d) ≡ true
+passes_at p xs at d less all = by_test (p (get_or xs at d)) refl
+  where
+    by_test : (b : Bool) → p (get_or xs at d) ≡ b → b ≡ true
+    by_test true e = refl
+    by_test false e = absurd (both_ways (list_all p xs) (list_all_at p xs at d less e) all)
+
+is_zero_trim : (trim : Option ℕ) (c : ℕ) → is_trim trim 48 ≡ true → is_trim trim c ≡ true → c ≡ 48
+is_zero_trim None c zero is = absurd (both_ways false refl is)
+is_zero_trim (Some t) c zero is = eqb-true c t is ∙ sym (eqb-true 48 t zero)
+
+-- a zero is kept at each place of a text of nothing but zeros
+pub zero_at : (justify : Justify) (trim : Option ℕ) (xs : List ℕ) (at : ℕ) → is_trim trim 48 ≡ true → at < length xs
+    → length (end_trimmed justify (is_trim trim) (front_trimmed justify (is_trim trim) xs)) ≡ 0 → take (at + 1 - at) (drop at xs) ≡ 48 ∷ []
+zero_at justify trim xs at zero less none =
+    let one : at + 1 - at ≡ 1 = omega arith in
+    let is : get_or xs at 0 ≡ 48 = is_zero_trim trim (get_or xs at 0) zero (passes_at (is_trim trim) xs at 0 less (all_bare justify (is_trim trim) xs none)) in
+    ap (λ n. take n (drop at xs)) one ∙ ap (λ l. take 1 l) (drop_more xs at 0 less) ∙ ap (λ c. c ∷ []) is
+
+-- the parts of the test that a zero is kept
+pub zero_tests : (a b c d : Bool) → (a && (b && (c && d))) ≡ true → (b ≡ true) × (c ≡ true) × (d ≡ true)
+zero_tests true true true d e = (refl, refl, e)
+zero_tests true true false d e = absurd (both_ways false refl e)
+zero_tests true false c d e = absurd (both_ways false refl e)
+zero_tests false b c d e = absurd (both_ways false refl e)
+
+pub none_leading : (p : ℕ → Bool) (xs : List ℕ) → list_all p xs ≡ true → without_leading p xs ≡ []
+none_leading p [] all = refl
+none_leading p (x ∷ xs) all =
+    let t = both (p x) (list_all p xs) all in
+    ap (λ b. if b then without_leading p xs else x ∷ xs) t.0 ∙ none_leading p xs t.1
+
+pub none_trailing : (p : ℕ → Bool) (xs : List ℕ) → list_all p xs ≡ true → without_trailing p xs ≡ []
+none_trailing p [] all = refl
+none_trailing p (x ∷ xs) all =
+    let t = both (p x) (list_all p xs) all in
+    ap (before_rest p x) (none_trailing p xs t.1) ∙ ap (λ b. if b then [] else x ∷ []) t.0
 
 pub ruleset lengths = (length-without_leading, length-without_trailing)

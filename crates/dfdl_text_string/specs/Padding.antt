@@ -1,9 +1,9 @@
 -- Texts padded to a length, trimmed again and cut. 'Simple Types' (textPadKind, textTrimKind, truncateSpecifiedLengthString).
-use Rattle.std.specs.Prelude.{◌≡◌, ℕ, ◌-◌, ◌/◌, List, [], ◌∷◌, ◌++◌, length, take, replicate, Option, Some, None, Bool, false, ◌==◌}
-use Rattle.dfdl_value.specs.Texts.{without_leading, without_trailing}
-use Rattle.dfdl_literals.specs.declared.forms.Justify.{Justify}
-use Rattle.dfdl_literals.specs.declared.forms.Justify.TheVariants.{Left, Right, Center}
-use Rattle.dfdl_literals.specs.declared.forms.PadForm.{PadForm}
+use Rattle.std.specs.Prelude.{◌≡◌, ◌⊎◌, ◌<◌, ℕ, ◌-◌, ◌/◌, List, [], ◌∷◌, ◌++◌, length, take, replicate, Option, Some, None, Bool, true, false, ◌&&◌, ◌==◌, nat_lt, if◌then◌else◌}
+use Rattle.dfdl_lemmas.specs.Trimmed.{without_leading, without_trailing}
+use Rattle.dfdl_forms.specs.declared.text.Justify.{Justify}
+use Rattle.dfdl_forms.specs.declared.text.Justify.TheVariants.{Left, Right, Center}
+use Rattle.dfdl_forms.specs.declared.text.PadForm.{PadForm}
 
 -- the character is the one that is trimmed
 abbrev pub is_trim : Option ℕ → ℕ → Bool
@@ -23,12 +23,24 @@ end_trimmed Right passes text = text
 end_trimmed Center passes text = without_trailing passes text
 
 -- the text without trim characters at the sides that are trimmed
-abbrev pub trimmed : PadForm → List ℕ → List ℕ
-trimmed form text = end_trimmed form.justify (is_trim form.trim) (front_trimmed form.justify (is_trim form.trim) text)
+abbrev pub bare : PadForm → List ℕ → List ℕ
+bare form text = end_trimmed form.justify (is_trim form.trim) (front_trimmed form.justify (is_trim form.trim) text)
 
 -- how many characters are trimmed at the front; of a text of nothing but trim characters all, unless it is left justified
+abbrev pub bare_from : PadForm → List ℕ → ℕ
+bare_from form text = length text - length (front_trimmed form.justify (is_trim form.trim) text)
+
+-- the text is of nothing but zeros, and the form keeps one of them
+abbrev pub keeps_one : PadForm → List ℕ → Bool
+keeps_one form text = form.keeps_zero && (is_trim form.trim 48 && (nat_lt 0 (length text) && (length (bare form text) == 0)))
+
+-- what a text is trimmed to
+abbrev pub trimmed : PadForm → List ℕ → List ℕ
+trimmed form text = if keeps_one form text then 48 ∷ [] else bare form text
+
+-- where the trimmed text begins: a zero that is kept is the first of the text at the left, else the last
 abbrev pub trimmed_from : PadForm → List ℕ → ℕ
-trimmed_from form text = length text - length (front_trimmed form.justify (is_trim form.trim) text)
+trimmed_from form text = if keeps_one form text then bare_from form text - 1 else bare_from form text
 
 -- how many of the missing characters stand before the text; of an odd number the text in the center has one more behind it (profile)
 abbrev pub missing_before : Justify → ℕ → ℕ
@@ -81,3 +93,9 @@ abbrev pub IsBare : Justify → ℕ → List ℕ → Type 0
 IsBare Left pad text = ends_with pad text ≡ false
 IsBare Right pad text = begins_with pad text ≡ false
 IsBare Center pad text = (begins_with pad text ≡ false) × (ends_with pad text ≡ false)
+
+-- the text is what is left of it when pad characters around it are trimmed: it is bare, and not empty where a zero would
+-- be kept, or it is that zero
+abbrev pub Survives : PadForm → ℕ → List ℕ → Type 0
+Survives form pad text = (IsBare form.justify pad text × ((0 < length text) ⊎ (form.keeps_zero ≡ false)))
+    ⊎ ((form.keeps_zero ≡ true) × (pad ≡ 48) × (text ≡ 48 ∷ []))

@@ -1,26 +1,36 @@
 -- Which boolean a text is, and what a boolean is written as. 'Simple Types' (textBooleanTrueRep, textBooleanFalseRep).
-use Rattle.std.specs.Prelude.{ℕ, List, [], ◌∷◌, Option, Some, None, Bool, true, false, if◌then◌else◌}
-use Rattle.dfdl_literals.specs.declared.Piece.{Piece}
-use Rattle.dfdl_literals.specs.declared.forms.TruthForm.{TruthForm}
-use Rattle.dfdl_text_string.specs.Texts.{is_text_of_some, written}
+use Rattle.std.specs.Prelude.{ℕ, List, [], ◌∷◌, Option, Some, None, Bool, true, false, ◌==◌, if◌then◌else◌}
+use Rattle.std.specs.Char.{eq_ignore_ascii_case}
+use Rattle.std.specs.List.{list_any}
+use Rattle.std.specs.Cmp.Lexicographic.{pointwise}
+use Rattle.dfdl_forms.specs.declared.text.TruthForm.{TruthForm}
+
+-- a character matches a character; with fold also an ASCII letter its other case
+abbrev pub is_same : Bool → ℕ → ℕ → Bool
+is_same true c d = eq_ignore_ascii_case c d
+is_same false c d = c == d
+
+-- the texts match character by character
+abbrev pub is_same_text : Bool → List ℕ → List ℕ → Bool
+is_same_text fold text other = pointwise (is_same fold) text other
+
+-- the text matches some text of the list
+abbrev pub is_among : Bool → List (List ℕ) → List ℕ → Bool
+is_among fold texts text = list_any (λ one. is_same_text fold one text) texts
 
 -- true, if the text is one of true; else false, if it is one of false
 abbrev pub truth_of : TruthForm → List ℕ → Option Bool
 truth_of form text =
-    if is_text_of_some form.fold form.truths text then Some true
-    else if is_text_of_some form.fold form.falses text then Some false
+    if is_among form.fold form.truths text then Some true
+    else if is_among form.fold form.falses text then Some false
     else None
 
--- the first literal of a list; of an empty list one of nothing
-abbrev pub first_literal : List (List Piece) → List Piece
-first_literal [] = []
-first_literal (pieces ∷ literals) = pieces
+-- the first text of a list
+abbrev pub first_text : List (List ℕ) → List ℕ
+first_text [] = []
+first_text (text ∷ texts) = text
 
--- the literal that a boolean is written by
-abbrev pub literal_of : TruthForm → Bool → List Piece
-literal_of form true = first_literal form.truths
-literal_of form false = first_literal form.falses
-
--- what a boolean is written as
+-- what a boolean is written as: the first text of its list
 abbrev pub written_truth : TruthForm → Bool → List ℕ
-written_truth form truth = written (literal_of form truth)
+written_truth form true = first_text form.truths
+written_truth form false = first_text form.falses

@@ -1,9 +1,9 @@
 // Texts padded to a length, trimmed again and cut.
-ghost use Rattle.std.specs.Prelude.{◌≡◌, ◌+◌, ◌-◌, ◌<◌, ◌≤◌, ◌↔◌, IfOk, IsErr, false, length, take, drop, min};
-ghost use Rattle.dfdl_text_string.specs.Padding.{cut_from, end_trimmed, front_trimmed, is_trim, missing_before, padded_from, room_padded, trimmed, trimmed_from};
-ghost use Rattle.dfdl_value.specs.Texts.{without_leading, without_trailing};
+ghost use Rattle.std.specs.Prelude.{◌≡◌, ◌+◌, ◌-◌, ◌<◌, ◌≤◌, ◌↔◌, ◌&&◌, ◌==◌, nat_lt, IfOk, IsErr, false, length, take, drop, min};
+ghost use Rattle.dfdl_text_string.specs.Padding.{bare, bare_from, cut_from, end_trimmed, front_trimmed, is_trim, missing_before, padded_from, room_padded, trimmed, trimmed_from};
+ghost use Rattle.dfdl_lemmas.specs.Trimmed.{without_leading, without_trailing};
 
-use dfdl_literals::{Justify, PadForm};
+use dfdl_forms::{Justify, PadForm};
 use thiserror::Error;
 
 /// The text is longer than its room, and isn't cut.
@@ -68,17 +68,39 @@ fn end<'a>(form: &PadForm, text: &'a [char]) -> &'a [char]
     }
 }
 
-/// The range of the characters that are kept: where it begins, and where it ends.
+// The range of the characters that are no pad characters at the sides that are trimmed.
+fn bare_range(form: &PadForm, chars: &[char]) -> (usize, usize)
+    ensures begin { result.0 ≡ bare_from form.now chars.now }
+    ensures end { result.1 ≡ result.0 + length (bare form.now chars.now) }
+    ensures within { result.1 ≤ length chars.now }
+    ensures kept { take (result.1 - result.0) (drop result.0 chars.now) ≡ bare form.now chars.now }
+{
+    let rest = front(form, chars);
+    let kept = end(form, rest);
+    let begin = chars.len() - rest.len();
+    (begin, begin + kept.len())
+}
+
+// Whether a zero is kept of a text of so many characters, of which so many are left.
+fn is_zero_kept(form: &PadForm, size: usize, left: usize) -> bool
+    ensures { result ≡ (form.now.keeps_zero && (is_trim form.now.trim 48 && (nat_lt 0 size && (left == 0)))) }
+{
+    form.keeps_zero && is_trimmed(form.trim, '0') && size > 0 && left == 0
+}
+
+/// The range of the characters that are kept: where it begins, and where it ends. It knows nothing of escapes.
 pub fn trim(form: &PadForm, chars: &[char]) -> (usize, usize)
     ensures begin { result.0 ≡ trimmed_from form.now chars.now }
     ensures end { result.1 ≡ result.0 + length (trimmed form.now chars.now) }
     ensures within { result.1 ≤ length chars.now }
     ensures kept { take (result.1 - result.0) (drop result.0 chars.now) ≡ trimmed form.now chars.now }
 {
-    let rest = front(form, chars);
-    let kept = end(form, rest);
-    let begin = chars.len() - rest.len();
-    (begin, begin + kept.len())
+    let (begin, end) = bare_range(form, chars);
+    if is_zero_kept(form, chars.len(), end - begin) {
+        let at = begin.saturating_sub(1);
+        return (at, at + 1);
+    }
+    (begin, end)
 }
 
 fn padding_before(justify: Justify, missing: usize) -> usize

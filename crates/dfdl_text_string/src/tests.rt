@@ -1,8 +1,10 @@
 // Texts that a person padded, cut and matched.
 #![tactic(auto)]
 
-use crate::{NoTruth, TooLong, cut, laws, pad, read_truth, trim, truth_length, write_truth};
-use dfdl_literals::{Justify, LiteralFault, PadForm, TruthForm, read_literals};
+use crate::{
+    Justify, NoTruth, PadForm, PlainTexts, TooLong, TruthForm, cut, laws, pad, read_truth, trim, truth_length,
+    write_truth,
+};
 use std::alloc::Global;
 use std::test::Fail;
 
@@ -12,6 +14,7 @@ fn stars(justify: Justify, truncate: bool) -> PadForm {
         pad: Some('*'),
         trim: Some('*'),
         truncate,
+        keeps_zero: false,
     }
 }
 
@@ -33,6 +36,7 @@ fn padded_texts(rt: HostRuntime) {
         pad: None,
         trim: None,
         truncate: false,
+        keeps_zero: false,
     };
     let mut chars = ['a', '.'];
     assert!(rt; pad(&bare, 1, &mut chars) == 0);
@@ -60,58 +64,71 @@ fn cut_texts(rt: HostRuntime) {
     assert!(rt; cut(&stars(Justify::Left, false), 5, 3) == Err(TooLong));
 }
 
-fn form(alloc: Global, truths: &str, falses: &str, fold: bool) -> Result<TruthForm, LiteralFault> {
+// A text number whose pad character is a zero.
+fn zeros(justify: Justify) -> PadForm {
+    PadForm {
+        justify,
+        pad: Some('0'),
+        trim: Some('0'),
+        truncate: false,
+        keeps_zero: true,
+    }
+}
+
+#[test]
+fn one_zero_is_kept(rt: HostRuntime) {
+    let none = ['0', '0', '0'];
+    assert!(rt; trim(&zeros(Justify::Left), &none) == (0, 1));
+    assert!(rt; trim(&zeros(Justify::Right), &none) == (2, 3));
+    assert!(rt; trim(&zeros(Justify::Center), &none) == (2, 3));
+    assert!(rt; trim(&zeros(Justify::Right), &['0', '0', '7']) == (2, 3));
+    assert!(rt; trim(&zeros(Justify::Right), &[]) == (0, 0));
+    let string = PadForm {
+        keeps_zero: false,
+        ..zeros(Justify::Right)
+    };
+    assert!(rt; trim(&string, &none) == (3, 3));
+}
+
+fn texts(alloc: Global, words: &[&str]) -> Result<PlainTexts, Fail> {
+    let mut texts = Vec::new(alloc);
+    for word in words {
+        let mut text = Vec::new(alloc);
+        for c in word.chars() {
+            text.push(c)?;
+        }
+        texts.push(text)?;
+    }
+    Ok(PlainTexts::new(texts).unwrap())
+}
+
+fn form(alloc: Global, truths: &[&str], falses: &[&str], fold: bool) -> Result<TruthForm, Fail> {
     Ok(TruthForm {
-        truths: read_literals(alloc, truths, true)?,
-        falses: read_literals(alloc, falses, true)?,
+        truths: texts(alloc, truths)?,
+        falses: texts(alloc, falses)?,
         fold,
     })
 }
 
 #[test]
 fn truths_and_falses(rt: HostRuntime) -> Result<(), Fail> {
-    laws::truth_is_read_back();
-    let exact = form(rt.alloc(), "true 1", "false 0 1", false)?;
+    let exact = form(rt.alloc(), &["true", "1"], &["false", "0", "1"], false)?;
+    laws::truth_is_read_back(&exact);
     assert!(rt; read_truth(&exact, &['t', 'r', 'u', 'e']) == Ok(true));
     assert!(rt; read_truth(&exact, &['1']) == Ok(true));
     assert!(rt; read_truth(&exact, &['0']) == Ok(false));
     assert!(rt; read_truth(&exact, &['T', 'R', 'U', 'E']) == Err(NoTruth));
     assert!(rt; read_truth(&exact, &['0', '0']) == Err(NoTruth));
-    let folded = form(rt.alloc(), "true 1", "false 0", true)?;
+    assert!(rt; read_truth(&exact, &[]) == Err(NoTruth));
+    let folded = form(rt.alloc(), &["true", "1"], &["false", "0"], true)?;
     assert!(rt; read_truth(&folded, &['T', 'R', 'U', 'E']) == Ok(true));
     assert!(rt; read_truth(&folded, &['F', 'a', 'l', 's', 'e']) == Ok(false));
     Ok(())
 }
 
 #[test]
-fn classes_of_characters(rt: HostRuntime) -> Result<(), Fail> {
-    let rows: [(&str, &[char], bool); 15] = [
-        ("%WSP*;yes", &[' ', ' ', 'y', 'e', 's'], true),
-        ("%WSP*;yes", &['y', 'e', 's'], true),
-        ("%WSP+;yes", &['y', 'e', 's'], false),
-        ("%WSP+;yes", &['\u{3000}', '\t', 'y', 'e', 's'], true),
-        ("y%NL;", &['y', '\r', '\n'], true),
-        ("y%NL;", &['y', '\r'], true),
-        ("y%NL;", &['y', '\u{85}'], true),
-        ("y%NL;", &['y', '\n', '\r'], false),
-        ("%NL;%NL;", &['\r', '\n'], true),
-        ("%NL;%LF;%NL;", &['\r', '\n', '\r', '\n'], true),
-        ("%WSP*;%NL;", &['\r', '\n'], true),
-        ("%WSP*;%WSP;", &[' ', '\u{180E}'], true),
-        ("%WSP*;%WSP;", &[], false),
-        ("%ES;", &[], true),
-        ("%#r79;", &['y'], false),
-    ];
-    for (literal, text, wanted) in rows {
-        let form = form(rt.alloc(), literal, "no", false)?;
-        assert!(rt; read_truth(&form, text).is_ok() == wanted, "{literal}");
-    }
-    Ok(())
-}
-
-#[test]
 fn written_truths(rt: HostRuntime) -> Result<(), Fail> {
-    let form = form(rt.alloc(), "%WSP*;y%NL; 1", "n%WSP+;o%#xE9;", false)?;
+    let form = form(rt.alloc(), &["y\n", "1"], &["n o\u{E9}"], false)?;
     let mut into = ['.', '.', '.', '.', '.'];
     assert!(rt; truth_length(&form, true) == 2);
     assert!(rt; write_truth(&form, true, &mut into) == 2);
@@ -122,37 +139,18 @@ fn written_truths(rt: HostRuntime) -> Result<(), Fail> {
     Ok(())
 }
 
-fn many(alloc: Global, piece: &str, pieces: u32, end: &str) -> Result<TruthForm, Fail> {
-    let mut literal = String::new(alloc);
-    for _ in 0..pieces {
-        literal.push_str(piece)?;
-    }
-    literal.push_str(end)?;
-    Ok(form(alloc, literal.as_str(), "no", false)?)
-}
-
-// Literals of more than one part, against texts that they fit in very many ways until the last character.
+// A text of 5,000 characters that differs from the text of true in its last.
 #[test]
-fn long_literals(rt: HostRuntime) -> Result<(), Fail> {
-    let mut text = Vec::new(rt.alloc());
-    for _ in 0..150 {
-        text.push('\r')?;
-        text.push('\n')?;
+fn long_texts(rt: HostRuntime) -> Result<(), Fail> {
+    let mut word = String::new(rt.alloc());
+    let mut chars = Vec::new(rt.alloc());
+    for _ in 0..5000 {
+        word.push('y')?;
+        chars.push('y')?;
     }
-    text.push('y')?;
-    let rows = [
-        ("%WSP*;", 1000, "y", true),
-        ("%WSP*;", 1000, "x", false),
-        ("%WSP*;%NL;", 130, "y", true),
-        ("%WSP+;", 130, "y", true),
-        ("%WSP+;%NL;", 150, "x", false),
-        ("%NL;", 150, "y", true),
-        ("%NL;", 149, "y", false),
-        ("%NL;", 301, "y", false),
-    ];
-    for (piece, pieces, end, wanted) in rows {
-        let form = many(rt.alloc(), piece, pieces, end)?;
-        assert!(rt; read_truth(&form, &text).is_ok() == wanted, "{piece}");
-    }
+    let form = form(rt.alloc(), &[word.as_str()], &["no"], false)?;
+    assert!(rt; read_truth(&form, &chars) == Ok(true));
+    chars[4999] = 'z';
+    assert!(rt; read_truth(&form, &chars) == Err(NoTruth));
     Ok(())
 }

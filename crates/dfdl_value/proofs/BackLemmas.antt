@@ -20,7 +20,9 @@ use Rattle.dfdl_value.specs.Types.{HasForm}
 use Rattle.dfdl_value.specs.Reading.{form_reading, signed_reading, unsigned_reading, bytes_reading}
 use Rattle.dfdl_value.specs.Writing.{text_of}
 use Rattle.dfdl_value.proofs.TextLemmas.{integer_of-numeral}
-use Rattle.dfdl_value.specs.Texts.{is_xml_space, before_rest, without_leading, without_trailing, trimmed, is_negative, unsigned_part, is_numeral, number_after, number_of, integer_of}
+use Rattle.dfdl_value.specs.Texts.{is_xml_space, trimmed, is_negative, unsigned_part, is_numeral, number_after, number_of, integer_of}
+use Rattle.dfdl_lemmas.proofs.Bools.{both}
+use Rattle.dfdl_lemmas.specs.Trimmed.{before_rest, without_leading, without_trailing}
 use Rattle.dfdl_decimal.specs.Decimal.{with_sign}
 
 -- digits as std has them
@@ -36,10 +38,6 @@ is_numeral-decimal n small =
 pub number_of-decimal : (n : ℕ) → n < 10 ^ 64 → number_of (decimal n) ≡ n
 number_of-decimal n small =
     let wide = decimal_is_IsNumeral_wide n small in own.same (decimal n) wide.0.1 ∙ wide.1
-
-pub both : (a b : Bool) → (a && b) ≡ true → (a ≡ true) × (b ≡ true)
-both true b e = (refl, e)
-both false b e = absurd (cc)
 
 -- a digit is no white space and no sign
 pub is_xml_space-digit : (c : ℕ) → is_ascii_digit c ≡ true → is_xml_space c ≡ false

@@ -1,5 +1,5 @@
 -- The text of a decimal number is read as that number.
-use Rattle.std.proofs.Common.{◌≡◌, ◌≢◌, ℕ, zero, suc, ◌+◌, ◌-◌, ◌%◌, ◌^◌, ◌<◌, Bool, true, false, not, cond, ◌&&◌, ◌==◌, nat_lt, if◌then◌else◌, List, [], ◌∷◌, ◌++◌, length, take, drop, replicate, refl, sym, ap, subst, ◌∙◌, arith, ℤ, pos, negsuc, unsigned_abs, Option, Some, None, Ok}
+use Rattle.std.proofs.Common.{◌≡◌, ℕ, zero, suc, ◌+◌, ◌-◌, ◌^◌, ◌<◌, Bool, true, false, not, cond, ◌&&◌, ◌==◌, if◌then◌else◌, List, [], ◌∷◌, ◌++◌, length, take, drop, replicate, refl, sym, ap, subst, ◌∙◌, arith, ℤ, pos, negsuc, unsigned_abs, Option, Some, None, Ok}
 use Rattle.std.specs.Char.{is_ascii_digit}
 use Rattle.std.specs.Fmt.{decimal}
 use Rattle.std.specs.List.{list_all, position_or_len, before_first, after_first}
@@ -11,14 +11,15 @@ use Rattle.std.proofs.Math.Dec.{eqb-suc-zero}
 use Rattle.std.proofs.lemmas.Bool.{lt-ltb, le-ltb}
 use Rattle.dfdl_value.proofs.PaddingLemmas.{length-padded_decimal}
 use Rattle.std.proofs.lemmas.Bool.Decides.{nat_tests}
-use Rattle.dfdl_decimal.specs.Decimal.{DecimalNumber, IsFixed, shortest_from, is_small, fixed_of, with_sign}
+use Rattle.dfdl_decimal.specs.Decimal.{DecimalNumber, IsFixed, with_sign}
 use Rattle.dfdl_value.specs.declared.value.Value.TheVariants.{Dec}
 use Rattle.dfdl_value.specs.Reading.{decimal_reading, fixed_reading}
 use Rattle.dfdl_value.specs.Writing.{decimal_text, pointed, padded_decimal, minus_of}
 use Rattle.dfdl_value.specs.Texts.{is_xml_space, trimmed, is_negative, unsigned_part, is_numeral, is_point, number_after, number_of, fraction_part, decimal_of}
 use Rattle.dfdl_value.proofs.DecimalLemmas.{number_after-append}
 use Rattle.dfdl_decimal.proofs.FixedLemmas.{fixed_of-fixed}
-use Rattle.dfdl_value.proofs.BackLemmas.{both, no_space, no_space-digits, trimmed-no_space, is_sign-digit, is_minus-digit, own, number_of-decimal}
+use Rattle.dfdl_value.proofs.BackLemmas.{no_space, no_space-digits, trimmed-no_space, is_sign-digit, is_minus-digit, own, number_of-decimal}
+use Rattle.dfdl_lemmas.proofs.Bools.{both}
 
 -- ---- the digits of the mantissa, with zeros before them
 

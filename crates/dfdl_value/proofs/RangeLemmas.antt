@@ -10,6 +10,7 @@ use Rattle.dfdl_value.specs.declared.read.ReadFault.TheVariants.{NotAValue, Past
 use Rattle.dfdl_forms.specs.declared.simple.Form.TheVariants.{Signed}
 use Rattle.dfdl_value.specs.declared.value.Value.{Value}
 use Rattle.dfdl_value.specs.declared.value.Value.TheVariants.{Int}
+use Rattle.dfdl_lemmas.proofs.Bools.{both}
 use Rattle.dfdl_value.specs.Reading.{Reading, signed_reading, unsigned_reading}
 use Rattle.dfdl_value.specs.Types.{HasForm, least_signed, greatest_signed}
 
@@ -65,10 +66,6 @@ reading_of_fault reading number OutOfMemory none past memory at_none at_far = ab
 chosen : {A : Type 0} (b : Bool) (x y z : A) → ¬ (y ≡ z) → cond b x y ≡ z → (b ≡ true) × (x ≡ z)
 chosen true x y z other e = (refl, e)
 chosen false x y z other e = absurd (other e)
-
-both : (a b : Bool) → (a && b) ≡ true → (a ≡ true) × (b ≡ true)
-both true b e = (refl, e)
-both false b e = absurd (cc)
 
 -- what is read is of the type
 pub HasForm-signed : (bits : ℕ) (number : Option ℤ) (v : Value) → signed_reading bits number ≡ Ok v → HasForm (Signed bits) v

@@ -1,28 +1,14 @@
 -- Texts of numbers, byte by byte: white space at the ends, signs and digits.
-use Rattle.std.specs.Prelude.{ℕ, ◌+◌, ◌-◌, ◌*◌, Bool, true, false, nat_lt, length, ◌&&◌, ◌||◌, ◌==◌, if◌then◌else◌, List, [], ◌∷◌, Option, Some, None, ◌++◌, ℤ, pos, neg_ℤ, codes}
+use Rattle.std.specs.Prelude.{ℕ, ◌+◌, ◌-◌, ◌*◌, Bool, true, false, nat_lt, length, ◌&&◌, ◌||◌, ◌==◌, if◌then◌else◌, List, [], ◌∷◌, Option, Some, None, ◌++◌, ℤ, codes}
 use Rattle.std.specs.Char.{is_ascii_digit}
 use Rattle.std.specs.List.{list_all, before_first, after_first}
 use Rattle.std.specs.Str.{bytes_eq}
+use Rattle.dfdl_lemmas.specs.Trimmed.{without_leading, without_trailing}
 use Rattle.dfdl_decimal.specs.Decimal.{DecimalNumber, with_sign}
 
 -- white space of XML: a space, a tab, a line feed or a carriage return
 abbrev pub is_xml_space : ℕ → Bool
 is_xml_space c = (c == 32) || (c == 9) || (c == 10) || (c == 13)
-
--- what is left of the list without the elements at its front that pass
-abbrev pub without_leading : (ℕ → Bool) → List ℕ → List ℕ
-without_leading passes [] = []
-without_leading passes (x ∷ xs) = if passes x then without_leading passes xs else x ∷ xs
-
--- x before the rest, unless nothing is left and x passes
-abbrev pub before_rest : (ℕ → Bool) → ℕ → List ℕ → List ℕ
-before_rest passes x [] = if passes x then [] else x ∷ []
-before_rest passes x (y ∷ ys) = x ∷ (y ∷ ys)
-
--- what is left of the list without the elements at its end that pass
-abbrev pub without_trailing : (ℕ → Bool) → List ℕ → List ℕ
-without_trailing passes [] = []
-without_trailing passes (x ∷ xs) = before_rest passes x (without_trailing passes xs)
 
 -- the text with the white space at its ends passed over
 abbrev pub trimmed : List ℕ → List ℕ

@@ -1,7 +1,6 @@
 -- What values each simple type has.
-use Rattle.std.specs.Prelude.{ℕ, ◌-◌, ◌^◌, ◌<◌, ◌≤◌, ℤ, pos, neg_ℤ, ◌≤ℤ◌}
+use Rattle.std.specs.Prelude.{ℕ, ◌-◌, ◌^◌, ◌<◌, ℤ, pos, neg_ℤ, ◌≤ℤ◌}
 use Rattle.dfdl_forms.specs.declared.simple.Simple.{Simple}
-use Rattle.dfdl_forms.specs.declared.simple.Simple.TheVariants.{String, HexBinary, Boolean, Decimal, Integer, NonNegativeInteger, Byte, Short, Int as IntType, Long, UnsignedByte, UnsignedShort, UnsignedInt, UnsignedLong}
 use Rattle.dfdl_forms.specs.Types.{form_of}
 use Rattle.dfdl_forms.specs.declared.simple.Form.{Form}
 use Rattle.dfdl_forms.specs.declared.simple.Form.TheVariants.{Signed, Unsigned, Fixed, Characters, Truths, Octets}

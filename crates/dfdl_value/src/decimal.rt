@@ -5,7 +5,8 @@ ghost use Rattle.std.specs.List.{list_all, position, position_or_len, before_fir
 ghost use Rattle.std.specs.Option.{SomeIff};
 ghost use Rattle.dfdl_decimal.specs.Decimal.{fixed_of, with_sign};
 ghost use Rattle.dfdl_value.specs.Reading.{decimal_reading};
-ghost use Rattle.dfdl_value.specs.Texts.{is_point, is_zero, without_trailing, decimal_of, number_of};
+ghost use Rattle.dfdl_value.specs.Texts.{is_point, is_zero, decimal_of, number_of};
+ghost use Rattle.dfdl_lemmas.specs.Trimmed.{without_trailing};
 
 use super::read::ReadFault;
 use super::text::{appended, are_digits, is_negative, unsigned_part};

@@ -3,7 +3,8 @@ ghost use Rattle.std.specs.Prelude.{◌≡◌, ◌^◌, ◌<◌, IsTrue};
 ghost use Rattle.std.specs.Char.{is_ascii_digit};
 ghost use Rattle.std.specs.List.{list_all};
 ghost use Rattle.std.specs.Option.{SomeIff};
-ghost use Rattle.dfdl_value.specs.Texts.{is_xml_space, without_leading, without_trailing, trimmed as trimmed_of, is_negative as has_minus, unsigned_part as unsigned_part_of, is_numeral as writes_number, number_after};
+ghost use Rattle.dfdl_value.specs.Texts.{is_xml_space, trimmed as trimmed_of, is_negative as has_minus, unsigned_part as unsigned_part_of, is_numeral as writes_number, number_after};
+ghost use Rattle.dfdl_lemmas.specs.Trimmed.{without_leading, without_trailing};
 
 fn is_space(byte: u8) -> bool
     ensures { result ≡ is_xml_space byte }

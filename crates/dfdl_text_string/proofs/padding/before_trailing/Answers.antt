@@ -1,6 +1,6 @@
 use Rattle.std.proofs.Common.{◌∙◌, sym, ap, arith}
 use Rattle.dfdl_text_string.specs.Padding.{is_trim}
-use Rattle.dfdl_text_string.proofs.PaddingLemmas.{without_trailing-last_passes, without_trailing-last_stops}
+use Rattle.dfdl_lemmas.proofs.TrimmedLists.{without_trailing-last_passes, without_trailing-last_stops}
 use Rattle.dfdl_text_string.proofs.padding.before_trailing.Goals as goal
 
 pub loop-end-preserved : goal.loop-end-preserved

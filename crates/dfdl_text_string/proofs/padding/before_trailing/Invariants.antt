@@ -1,6 +1,6 @@
 use Rattle.std.proofs.Common.{◌≡◌, ◌≤◌, length, take}
 use Rattle.dfdl_text_string.specs.Padding.{is_trim}
-use Rattle.dfdl_value.specs.Texts.{without_trailing}
+use Rattle.dfdl_lemmas.specs.Trimmed.{without_trailing}
 use Rattle.dfdl_text_string.proofs.padding.before_trailing.Given as goal
 
 abbrev pub invariant-loop-end : goal.invariant-loop-end

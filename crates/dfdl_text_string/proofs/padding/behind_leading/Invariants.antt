@@ -1,6 +1,6 @@
 use Rattle.std.proofs.Common.{◌≡◌, length}
 use Rattle.dfdl_text_string.specs.Padding.{is_trim}
-use Rattle.dfdl_value.specs.Texts.{without_leading}
+use Rattle.dfdl_lemmas.specs.Trimmed.{without_leading}
 use Rattle.dfdl_text_string.proofs.padding.behind_leading.Given as goal
 
 abbrev pub invariant-loop-rest : goal.invariant-loop-rest

@@ -1,5 +1,6 @@
 use Rattle.std.proofs.Common.{◌≡◌, length}
-use Rattle.dfdl_value.specs.Texts.{is_zero, without_trailing}
+use Rattle.dfdl_value.specs.Texts.{is_zero}
+use Rattle.dfdl_lemmas.specs.Trimmed.{without_trailing}
 use Rattle.dfdl_value.proofs.decimal.without_trailing_zeros.Given as goal
 
 abbrev pub invariant-loop-rest : goal.invariant-loop-rest

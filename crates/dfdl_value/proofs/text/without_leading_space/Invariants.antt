@@ -1,5 +1,6 @@
 use Rattle.std.proofs.Common.{◌≡◌, length}
-use Rattle.dfdl_value.specs.Texts.{is_xml_space, without_leading}
+use Rattle.dfdl_value.specs.Texts.{is_xml_space}
+use Rattle.dfdl_lemmas.specs.Trimmed.{without_leading}
 use Rattle.dfdl_value.proofs.text.without_leading_space.Given as goal
 
 abbrev pub invariant-loop-rest : goal.invariant-loop-rest

@@ -1,1 +1,3 @@
+pub mod NumberForms
+pub mod NumberRooms
 pub mod Types

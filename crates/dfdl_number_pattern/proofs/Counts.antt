@@ -1,13 +1,19 @@
 -- A text in UTF-8 has as many characters as bytes with which one begins.
-use Rattle.std.proofs.Common.{◌≡◌, ℕ, ◌+◌, ◌/◌, ◌<◌, ◌≤◌, nat_lt, true, cond, List, [], ◌∷◌, length, refl, ap, sym, ◌∙◌, arith}
+use Rattle.std.proofs.Common.{◌≡◌, ℕ, ◌+◌, ◌/◌, ◌<◌, ◌≤◌, ◌||◌, nat_lt, nat_le, Bool, true, false, cond, count_by, List, [], ◌∷◌, length, refl, ap, sym, ◌∙◌, arith}
 use Rattle.std.specs.Str.{IsUtf8, chars}
 use Rattle.std.specs.List.{sum_by}
 use Rattle.std.proofs.Math.Utf8.{scalar, scalars, encode, encodes, next}
 use Rattle.std.proofs.lemmas.Bool.{cond_both, ltb-true, and_parts}
 use Rattle.std.proofs.lemmas.Bool.Decides.{nat_tests}
-use Rattle.std.proofs.lemmas.List.Sums.{sum_by-append}
+use Rattle.std.proofs.lemmas.List.Sums.{sum_by-append, count_by-le-length}
 use Rattle.std.proofs.lemmas.Str.{chars-encodes}
-use Rattle.dfdl_number_pattern.specs.Count.{begins_character, character_count}
+
+-- a character in UTF-8 begins with this byte
+abbrev begins_character : ℕ → Bool
+begins_character b = nat_lt b 128 || nat_le 192 b
+
+abbrev character_count : List ℕ → ℕ
+character_count text = count_by begins_character text
 
 abbrev mark : ℕ → ℕ
 mark b = cond (begins_character b) 1 0
@@ -47,3 +53,9 @@ each_begins (c ∷ cs) is =
 pub count_is_length : (text : List ℕ) → IsUtf8 text → character_count text ≡ length (chars text)
 count_is_length text u =
     ap character_count (sym u.1.1) ∙ (each_begins u.0 u.1.0 ∙ (ap length (sym (chars-encodes u.0 u.1.0)) ∙ ap (λ (l : List ℕ). length (chars l)) u.1.1))
+
+-- a text has no more characters than bytes
+pub few_characters : (text : List ℕ) → IsUtf8 text → length (chars text) ≤ length text
+few_characters text u =
+    let count : character_count text ≡ length (chars text) = count_is_length text u in
+    omega (arith, count, count_by-le-length begins_character text)

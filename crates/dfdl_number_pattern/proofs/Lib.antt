@@ -4,5 +4,6 @@ pub mod Room
 pub mod ReaderLaws
 pub mod Runs
 pub mod Few
+pub mod Lengths
 pub mod Texts
 pub mod Counts

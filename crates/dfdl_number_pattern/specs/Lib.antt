@@ -1,6 +1,3 @@
-pub mod Base
-pub mod Count
-pub mod Characters
 pub mod Affix
 pub mod Digits
 pub mod Pattern

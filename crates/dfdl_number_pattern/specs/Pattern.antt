@@ -1,12 +1,12 @@
 -- Number patterns: what they mean, and how they are spelled.
-use Rattle.std.specs.Prelude.{◌≡◌, ℕ, ◌+◌, true, ◌⊎◌, List, ◌∷◌, ◌++◌}
+use Rattle.std.specs.Prelude.{◌≡◌, ℕ, ◌+◌, true, ◌⊎◌, chars, List, ◌∷◌, ◌++◌}
 use Rattle.dfdl_number_pattern.specs.declared.quote.Quote.{Quote}
 use Rattle.dfdl_number_pattern.specs.declared.digits.Digits.{Digits}
 use Rattle.dfdl_number_pattern.specs.declared.digits.Part.{Part}
 use Rattle.dfdl_number_pattern.specs.declared.digits.Part.TheVariants.{Integer, Fraction, Implied}
-use Rattle.dfdl_number_pattern.specs.declared.pattern.Point.{Point}
-use Rattle.dfdl_number_pattern.specs.declared.pattern.Point.TheVariants as point
-use Rattle.dfdl_number_pattern.specs.declared.pattern.NumberPattern.{NumberPattern}
+use Rattle.dfdl_forms.specs.declared.number_pattern.Point.{Point}
+use Rattle.dfdl_forms.specs.declared.number_pattern.Point.TheVariants as point
+use Rattle.dfdl_forms.specs.declared.number_pattern.NumberPattern.{NumberPattern}
 use Rattle.dfdl_number_pattern.specs.Affix.{IsAffix, is_whole}
 use Rattle.dfdl_number_pattern.specs.Digits.{IsDigits, is_complete, group_size}
 
@@ -25,7 +25,7 @@ pub record IsSubpattern (prefix suffix : List ℕ) (d : Digits) (text : List ℕ
   pub is_suffix : IsAffix ends_suffix suffix behind
   pub suffix_whole : is_whole ends_suffix ≡ true
 
--- what a pattern means, with its prefixes and suffixes as texts in UTF-8
+-- what a pattern means, with its prefixes and suffixes as characters
 pub record Pattern : Type 0 where
   pub prefix : List ℕ
   pub suffix : List ℕ
@@ -45,14 +45,14 @@ point_of Integer = point.Absent
 point_of Fraction = point.Written
 point_of Implied = point.Implied
 
--- the pattern of these digits and affixes
+-- the pattern of these digits and affixes, which are texts in UTF-8
 abbrev pub pattern_of : Digits → List ℕ → List ℕ → List ℕ → List ℕ → Pattern
 pattern_of d prefix suffix negative_prefix negative_suffix =
     record {
-      prefix = prefix;
-      suffix = suffix;
-      negative_prefix = negative_prefix;
-      negative_suffix = negative_suffix;
+      prefix = chars prefix;
+      suffix = chars suffix;
+      negative_prefix = chars negative_prefix;
+      negative_suffix = chars negative_suffix;
       least_integer = d.zeros;
       greatest_integer = d.hashes + d.zeros;
       group_size = group_size d.groups;

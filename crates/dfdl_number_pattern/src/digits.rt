@@ -1,13 +1,11 @@
-ghost use Rattle.std.specs.Prelude.{◌≡◌, ◌≤◌, IfOk, IsTrue, IsUtf8};
+ghost use Rattle.std.specs.Prelude.{◌≡◌, ◌≤◌, ◌+◌, ◌^◌, max, length, IfOk, IsTrue, IsUtf8};
 ghost use Rattle.dfdl_number_pattern.specs.Digits.{none, sign_count, may_sign, may_group, group_more, group_next, may_end, is_complete, group_size};
 ghost use Rattle.dfdl_number_pattern.specs.Pattern.{point_of, pattern_of, pattern_seen};
 ghost use Rattle.dfdl_number_pattern.specs.Machine.{hash_next, zero_next, comma_next, part_next, integer_next, fraction_next, implied_next, digit_next};
 
-use crate::{NumberPattern, Point};
-use std::alloc::AllocError;
-
-/// As many bytes as no affix has.
-const MAX_AFFIX: usize = 0x2000_0000_0000_0000;
+use crate::affix::characters;
+use dfdl_forms::{NumberPattern, Point};
+use std::alloc::{AllocError, Global};
 
 /// Which part of the digits of a pattern is read.
 #[derive(Clone, Copy, Debug, PartialEq, Eq)]
@@ -289,26 +287,26 @@ impl Digits {
     /// The pattern with these digits.
     pub(crate) fn pattern(
         self,
-        prefix: Vec<u8>,
-        suffix: Vec<u8>,
-        negative_prefix: Vec<u8>,
-        negative_suffix: Vec<u8>,
+        alloc: Global,
+        prefix: &[u8],
+        suffix: &[u8],
+        negative_prefix: &[u8],
+        negative_suffix: &[u8],
     ) -> Result<NumberPattern, AllocError>
-        requires utf8_prefix { IsUtf8 prefix.items }
-        requires utf8_suffix { IsUtf8 suffix.items }
-        requires utf8_negative_prefix { IsUtf8 negative_prefix.items }
-        requires utf8_negative_suffix { IsUtf8 negative_suffix.items }
+        requires utf8_prefix { IsUtf8 prefix.now }
+        requires utf8_suffix { IsUtf8 suffix.now }
+        requires utf8_negative_prefix { IsUtf8 negative_prefix.now }
+        requires utf8_negative_suffix { IsUtf8 negative_suffix.now }
+        requires short { max (length prefix.now) (length negative_prefix.now) + max (length suffix.now) (length negative_suffix.now) ≤ 2 ^ 63 }
         requires few { sign_count self ≤ 38 }
         requires group_within { group_size self.groups ≤ 38 }
-        ensures { IfOk result (λ pattern. pattern_seen pattern ≡ pattern_of self prefix.items suffix.items negative_prefix.items negative_suffix.items) }
+        ensures { IfOk result (λ pattern. pattern_seen pattern
+            ≡ pattern_of self prefix.now suffix.now negative_prefix.now negative_suffix.now) }
     {
-        if MAX_AFFIX <= prefix.len()
-            || MAX_AFFIX <= suffix.len()
-            || MAX_AFFIX <= negative_prefix.len()
-            || MAX_AFFIX <= negative_suffix.len()
-        {
-            return Err(AllocError);
-        }
+        let prefix = characters(alloc, prefix)?;
+        let suffix = characters(alloc, suffix)?;
+        let negative_prefix = characters(alloc, negative_prefix)?;
+        let negative_suffix = characters(alloc, negative_suffix)?;
         Ok(NumberPattern {
             prefix,
             suffix,

@@ -1,16 +1,16 @@
-// The number patterns of 'The DFDL Number Pattern', and the form of a text number ('Properties Specific to Number with
-// Text Representation').
-// `read_pattern` reads a pattern by the grammar in `specs/Pattern.antt`, and refuses a text at the first byte at which
-// no pattern can go on.
+//! The number patterns of 'The DFDL Number Pattern'.
+//!
+//! `read_pattern` reads a pattern by the grammar in `specs/Pattern.antt`, and refuses a text at the first byte at which
+//! no pattern can go on. The pattern that it answers is a form, `NumberPattern` of dfdl_forms.
 #![tactic(auto)]
 
+mod affix;
 mod digits;
-mod form;
-mod pattern;
+pub mod fault;
 mod quote;
 mod reader;
 mod reading;
 
-pub use form::{NumberForm, Rounding};
-pub use pattern::{NumberPattern, PatternFault, Point};
+pub use dfdl_forms::{NumberForm, NumberPattern, Point, Rounding};
+pub use fault::PatternFault;
 pub use reading::read_pattern;

@@ -1,11 +1,11 @@
-ghost use Rattle.std.specs.Prelude.{◌≡◌, ◌≤◌, IfOk, IfSome, OnOk, IsTrue, IsUtf8, ◌∷◌};
+ghost use Rattle.std.specs.Prelude.{◌≡◌, ◌≤◌, ◌<◌, ◌+◌, ◌^◌, length, IfOk, IfSome, OnOk, IsTrue, IsUtf8, ◌∷◌};
 ghost use Rattle.dfdl_number_pattern.specs.Digits.{sign_count, group_size};
 ghost use Rattle.dfdl_number_pattern.specs.Machine.{told, with_digits, second_next, prefix_next, number_next, suffix_next, step, accepts, value, start, digit_next};
 ghost use Rattle.dfdl_number_pattern.specs.Pattern.{pattern_seen};
 
-use crate::NumberPattern;
 use crate::digits::Digits;
 use crate::quote::Quote;
+use dfdl_forms::NumberPattern;
 use std::alloc::{AllocError, Global};
 use std::mem;
 
@@ -45,14 +45,6 @@ fn tell(text: &mut Vec<u8>, quote: Quote, byte: u8) -> Result<(), AllocError>
         text.push(byte)?;
     }
     Ok(())
-}
-
-fn copied(alloc: Global, text: &[u8]) -> Result<Vec<u8>, AllocError>
-    ensures { IfOk result (λ copy. copy.items ≡ text.now) }
-{
-    let mut copy = Vec::new(alloc);
-    copy.extend_from_slice(text)?;
-    Ok(copy)
 }
 
 /// The negative prefix of a pattern with one sub-pattern, which has this prefix.
@@ -209,6 +201,9 @@ impl Reader {
         requires utf8_prefix { IsUtf8 self.prefix.items }
         requires utf8_suffix { IsUtf8 self.suffix.items }
         requires utf8_first { IfSome self.first (λ f. IsUtf8 f.prefix.items × IsUtf8 f.suffix.items) }
+        requires short { length self.prefix.items + length self.suffix.items < 2 ^ 63 }
+        requires short_first { IfSome self.first (λ f. length f.prefix.items + length f.suffix.items
+            + (length self.prefix.items + length self.suffix.items) < 2 ^ 63) }
         requires few { sign_count self.digits ≤ 38 }
         requires group_within { group_size self.digits.groups ≤ 38 }
         requires few_first { IfSome self.first (λ f. (sign_count f.digits ≤ 38) × (group_size f.digits.groups ≤ 38)) }
@@ -229,11 +224,10 @@ impl Reader {
                     suffix: first_suffix,
                     digits: first_digits,
                 },
-            ) => first_digits.pattern(first_prefix, first_suffix, prefix, suffix),
+            ) => first_digits.pattern(alloc, &first_prefix, &first_suffix, &prefix, &suffix),
             None => {
                 let negative_prefix = behind_minus(alloc, &prefix)?;
-                let negative_suffix = copied(alloc, &suffix)?;
-                digits.pattern(prefix, suffix, negative_prefix, negative_suffix)
+                digits.pattern(alloc, &prefix, &suffix, &negative_prefix, &suffix)
             }
         }
     }

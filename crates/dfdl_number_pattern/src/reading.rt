@@ -2,8 +2,9 @@ ghost use Rattle.std.specs.Prelude.{◌≡◌, IfOk, IfErr};
 ghost use Rattle.dfdl_number_pattern.specs.Pattern.{Pattern, Spells, pattern_seen};
 ghost use Rattle.dfdl_number_pattern.specs.Fault.{IsFaultOf};
 
+use crate::fault::PatternFault;
 use crate::reader::Reader;
-use crate::{NumberPattern, PatternFault};
+use dfdl_forms::NumberPattern;
 use std::alloc::Global;
 
 /// The pattern that the text spells.

@@ -10,6 +10,7 @@ use Rattle.dfdl_number_pattern.specs.ReaderShown.{state_seen}
 use Rattle.dfdl_number_pattern.proofs.Runs.{reads_patterns, only_pattern}
 use Rattle.dfdl_number_pattern.proofs.ReaderLaws.{Reached, spells_value}
 use Rattle.dfdl_number_pattern.proofs.Few.{few_in_group}
+use Rattle.dfdl_number_pattern.proofs.Lengths.{IsShort, keeps_short, first_short}
 use Rattle.dfdl_number_pattern.proofs.Texts.{KeepsTexts, keeps_texts, first_texts, first_few}
 use Rattle.dfdl_number_pattern.proofs.reading.read_pattern.Goals as goal
 
@@ -68,6 +69,18 @@ finish-requires-clause-utf8_suffix c = (texts c).last.is_suffix
 
 pub finish-requires-clause-utf8_first : goal.finish-requires-clause-utf8_first
 finish-requires-clause-utf8_first c = first_texts c.loop-at.reader.first (texts c).first
+
+short : (c : goal.Else-not-accepts) → IsShort (state_seen c.loop-at.reader) (length c.as_bytes-bytes.result.now)
+short c =
+    let bytes = c.as_bytes-bytes.result.now in
+    let a = accepted bytes c.loop-at.at (state_seen c.loop-at.reader) (omega arith) c.loop-at.invariant (sym c.accepts.ensures ∙ c.if-not-accepts.false) in
+    keeps_short (state_seen c.loop-at.reader) bytes a.reached a.takes
+
+pub finish-requires-clause-short : goal.finish-requires-clause-short
+finish-requires-clause-short c = omega (arith, (short c).last)
+
+pub finish-requires-clause-short_first : goal.finish-requires-clause-short_first
+finish-requires-clause-short_first c = first_short c.loop-at.reader.first _ (length c.as_bytes-bytes.result.now) (omega arith) (short c).first
 
 pub finish-requires-clause-few : goal.finish-requires-clause-few
 finish-requires-clause-few c = (texts c).few.signs

@@ -1,0 +1,87 @@
+// The forms of text numbers.
+ghost use Rattle.std.specs.Prelude.{◌≡◌, ◌==◌, IsTrue, is_some};
+ghost use Rattle.dfdl_forms.specs.NumberForms.{is_base, are_plain};
+
+use crate::number_pattern::NumberPattern;
+use crate::separators::{are_plain, goes_with, is_base};
+
+/// How a number is rounded to the fraction digits of its pattern.
+#[derive(Clone, Copy, Debug, PartialEq, Eq)]
+pub enum Rounding {
+    /// Towards positive infinity.
+    Ceiling,
+    /// Towards negative infinity.
+    Floor,
+    /// Towards zero.
+    Down,
+    /// Away from zero.
+    Up,
+    /// To the nearest; halfway to the even neighbour.
+    HalfEven,
+    /// To the nearest; halfway towards zero.
+    HalfDown,
+    /// To the nearest; halfway away from zero.
+    HalfUp,
+    /// A number that would be rounded is refused.
+    Unnecessary,
+}
+
+/// The form of a text number.
+#[derive(Drop)]
+pub struct NumberForm {
+    /// 2, 8, 10 or 16.
+    pub base: u8,
+    /// There is one exactly where the base is 10.
+    pub pattern: Option<NumberPattern>,
+    /// The decimal separator.
+    pub decimal: char,
+    /// The grouping separator.
+    pub grouping: char,
+    pub rounding: Rounding,
+    pub ghost patterned: { is_some pattern ≡ (base == 10) },
+    pub ghost based: { IsTrue (is_base base) },
+    pub ghost plain: { IsTrue (are_plain pattern decimal grouping) },
+}
+
+impl NumberForm {
+    ghost use Rattle.std.specs.Prelude.{◌≤◌, ◌+◌, ◌↔◌, IfSome, IsSome, length, max};
+    ghost use Rattle.dfdl_forms.specs.NumberForms.{is_form};
+    ghost use Rattle.dfdl_forms.specs.NumberRooms.{IsFormOf, room_of};
+
+    /// The form with these parts, if they go together: a pattern stands exactly in base 10, and the separators that it
+    /// uses are no digits, and differ.
+    pub fn new(
+        base: u8,
+        pattern: Option<NumberPattern>,
+        decimal: char,
+        grouping: char,
+        rounding: Rounding,
+    ) -> Option<NumberForm>
+        ensures fits { IsSome result ↔ IsTrue (is_form base pattern decimal grouping) }
+        ensures form { IfSome result (λ form. IsFormOf form base pattern decimal grouping rounding) }
+    {
+        if !is_base(base) || !goes_with(base, &pattern) || !are_plain(&pattern, decimal, grouping) {
+            return None;
+        }
+        Some(NumberForm {
+            base,
+            pattern,
+            decimal,
+            grouping,
+            rounding,
+        })
+    }
+
+    /// How many characters a number in this form may take.
+    pub fn room(&self) -> usize
+        ensures { result ≡ room_of self.now }
+    {
+        match &self.pattern {
+            Some(pattern) => {
+                128 + pattern.prefix.len().max(pattern.negative_prefix.len())
+                    + pattern.suffix.len().max(pattern.negative_suffix.len())
+            }
+            None => 128,
+        }
+    }
+}

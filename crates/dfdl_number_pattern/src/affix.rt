@@ -1,0 +1,28 @@
+// The characters of a prefix or a suffix.
+ghost use Rattle.std.specs.Prelude.{◌≡◌, ◌≤◌, IfOk, IsUtf8, chars, length};
+
+use std::alloc::{AllocError, Global};
+
+fn collected(alloc: Global, text: &str) -> Result<Vec<char>, AllocError>
+    ensures { IfOk result (λ characters. characters.items ≡ chars text.now) }
+{
+    let mut characters = Vec::new(alloc);
+    for c in text.chars() {
+        characters.push(c)?;
+    }
+    Ok(characters)
+}
+
+/// The characters of a text in UTF-8.
+#[tactic(auto, using(crate::proofs::Counts::few_characters))]
+pub(crate) fn characters(alloc: Global, text: &[u8]) -> Result<Vec<char>, AllocError>
+    requires { IsUtf8 text.now }
+    ensures value { IfOk result (λ characters. characters.items ≡ chars text.now) }
+    ensures few { IfOk result (λ characters. length characters.items ≤ length text.now) }
+{
+    let text = match str::from_utf8(text) {
+        Ok(text) => text,
+        Err(_) => "",
+    };
+    collected(alloc, text)
+}

@@ -1,15 +1,6 @@
 pub mod BodyDigits
 pub mod BodyParts
 pub mod DigitLemmas
-pub mod LawBack
-pub mod LawBase
-pub mod LawDigits
-pub mod LawGroups
-pub mod LawNumbers
-pub mod LawParts
-pub mod LawRounded
-pub mod LawSigns
-pub mod ReadAffix
 pub mod ReadNumber
 pub mod RoundingLemmas
 pub mod WriteLemmas

@@ -4,8 +4,8 @@ use Rattle.std.proofs.lemmas.Bool.{cases_lt, cases_eq, eq-eqb, ne_eqb, lt-ltb, l
 use Rattle.std.proofs.lemmas.Bool.Decides.{nat_tests}
 use Rattle.std.proofs.lemmas.Nat.{pow-add, mod-mul-add}
 use Rattle.std.proofs.Math.Nat.{pow-le-pow_right, one-le-pow, mul-div-mul_right, mul-div_cancel, mul-mod_left, mod-lt, mod-eq_of_lt, div-eq_of_lt, mul-le-mul_right, mul-lt-mul_of_pos_right}
-use Rattle.dfdl_number_pattern.specs.declared.form.Rounding.{Rounding}
-use Rattle.dfdl_number_pattern.specs.declared.form.Rounding.TheVariants.{Ceiling, Floor, Down, Up, HalfEven, HalfDown, HalfUp, Unnecessary}
+use Rattle.dfdl_forms.specs.declared.number.Rounding.{Rounding}
+use Rattle.dfdl_forms.specs.declared.number.Rounding.TheVariants.{Ceiling, Floor, Down, Up, HalfEven, HalfDown, HalfUp, Unnecessary}
 use Rattle.dfdl_number_text.specs.Rounding.{goes_up, rounded}
 
 pub power_some : (base k : ℕ) → 0 < base → 0 < base ^ k

@@ -1,19 +1,19 @@
 -- The parts of a written number.
-use Rattle.std.proofs.Common.{◌≡◌, ◌≢◌, ℕ, ◌+◌, ◌*◌, ◌/◌, ◌^◌, ◌<◌, ◌≤◌, max, nat_eq, false, List, [], ◌∷◌, ◌++◌, map, length, drop, Option, Some, None, Result, Ok, Err, IfOk, option_map, option_and_then, unsigned_abs, zero-mul, refl, ap, ◌∙◌, arith}
+use Rattle.std.proofs.Common.{◌≡◌, ◌≢◌, ℕ, ◌+◌, ◌*◌, ◌/◌, ◌^◌, ◌<◌, ◌≤◌, max, nat_eq, ◌&&◌, not, Bool, true, false, if◌then◌else◌, List, [], ◌∷◌, ◌++◌, map, length, drop, Option, Some, None, Result, Ok, Err, IfOk, option_map, option_and_then, unsigned_abs, zero-mul, refl, ap, sym, ◌∙◌, arith}
 use Rattle.std.proofs.lemmas.Bool.{ne_eqb}
 use Rattle.std.proofs.lemmas.List.{drop_at}
 use Rattle.std.proofs.lemmas.Nat.{div-mul-add}
 use Rattle.std.proofs.Math.Nat.{mul-le-mul_left}
 use Rattle.dfdl_decimal.specs.Decimal.{DecimalNumber}
-use Rattle.dfdl_number_pattern.specs.declared.form.NumberForm.{NumberForm}
-use Rattle.dfdl_number_pattern.specs.declared.form.Rounding.{Rounding}
-use Rattle.dfdl_number_pattern.specs.declared.pattern.NumberPattern.{NumberPattern}
+use Rattle.dfdl_forms.specs.declared.number.NumberForm.{NumberForm}
+use Rattle.dfdl_forms.specs.declared.number.Rounding.{Rounding}
+use Rattle.dfdl_forms.specs.declared.number_pattern.NumberPattern.{NumberPattern}
 use Rattle.dfdl_number_text.specs.Rounding.{rounded}
-use Rattle.dfdl_number_text.specs.declared.fault.NoFit.{NoFit}
+use Rattle.dfdl_forms.specs.declared.fault.NoFit.{NoFit}
 use Rattle.dfdl_number_text.specs.declared.rounding.Number.{Number}
 use Rattle.dfdl_number_text.specs.declared.rounding.Size.{Size}
 use Rattle.dfdl_number_text.specs.Digits.{digits_at, digit_count, digit_character}
-use Rattle.dfdl_number_text.specs.Writing.{fraction_digits, grouped, integer_digits, is_below_zero, pattern_text, places_of, signed_text, size_at, with_separator}
+use Rattle.dfdl_number_text.specs.Writing.{behind_integer, body_text, fraction_digits, grouped, integer_digits, least_digits, written_fraction, is_below_zero, pattern_text, places_of, signed_text, size_at, with_separator}
 use Rattle.dfdl_number_text.specs.Written.{IsFront, IsWritten, ShowsNumber, ShowsSize, digit_text}
 use Rattle.dfdl_number_text.specs.declared.digits.Groups.{Groups}
 use Rattle.dfdl_number_text.proofs.RoundingLemmas.{ten_some}
@@ -57,14 +57,34 @@ integer_long groups least whole few =
 pub fraction_of_size : (least places whole fraction : ℕ) → fraction_digits least places (whole * 10 ^ places + fraction) ≡ fraction_digits least places fraction
 fraction_of_size least places whole fraction = rw (digits_behind 10 places places whole fraction (omega arith) (omega arith)) refl
 
-pub with_separator_some : (decimal : ℕ) (xs : List ℕ) → 0 < length xs → with_separator decimal xs ≡ decimal ∷ xs
-with_separator_some decimal [] some = absurd (omega arith)
-with_separator_some decimal (x ∷ xs) some = refl
+pub with_separator_is : (places decimal : ℕ) (xs : List ℕ)
+    → with_separator places decimal xs ≡ (if nat_eq (length xs) 0 && not (nat_eq places 0) then [] else decimal ∷ xs)
+with_separator_is places decimal (x ∷ xs) =
+    ap (λ (b : Bool). if b && not (nat_eq places 0) then [] else decimal ∷ (x ∷ xs)) (sym (ne_eqb (length (x ∷ xs)) 0 (λ none. omega (arith, none))))
+with_separator_is places decimal [] = by (nat_eq places 0)
+  where
+    by : (none : Bool) → (if none then decimal ∷ [] else []) ≡ (if true && not none then [] else decimal ∷ [])
+    by true = refl
+    by false = refl
 
-pub with_separator_none : (decimal count n : ℕ) → count ≡ 0 → with_separator decimal (map digit_character (digits_at 10 count n)) ≡ []
-with_separator_none decimal count n none =
-    ap (λ (k : ℕ). with_separator decimal (map digit_character (digits_at 10 k n))) none
-    ∙ ap (λ (ds : List ℕ). with_separator decimal (map digit_character ds)) (digits_none 10 n)
+-- the digits that stand behind a separator
+pub fraction_is : (places decimal count n : ℕ) (left : Bool) → left ≡ (nat_eq count 0 && not (nat_eq places 0))
+    → with_separator places decimal (map digit_character (digits_at 10 count n)) ≡ (if left then [] else decimal ∷ map digit_character (digits_at 10 count n))
+fraction_is places decimal count n left told =
+    let digits : List ℕ = map digit_character (digits_at 10 count n) in
+    with_separator_is places decimal digits
+    ∙ ap (λ (k : ℕ). if nat_eq k 0 && not (nat_eq places 0) then [] else decimal ∷ digits) (length-characters 10 count n)
+    ∙ ap (λ (b : Bool). if b then [] else decimal ∷ digits) (sym told)
+
+-- ---- the body
+pub body_is : (form : NumberForm) (pattern : NumberPattern) (whole fraction least count n : ℕ) → fraction < 10 ^ places_of pattern pattern.point
+    → written_fraction pattern pattern.point (whole * 10 ^ places_of pattern pattern.point + fraction) ≡ map digit_character (digits_at 10 count n)
+    → least ≡ least_digits pattern count
+    → body_text form pattern (whole * 10 ^ places_of pattern pattern.point + fraction)
+        ≡ grouped form.grouping pattern.group_size (integer_digits least whole)
+        ++ behind_integer form pattern pattern.point (map digit_character (digits_at 10 count n))
+body_is form pattern whole fraction least count n small told is =
+    rw (told, integer_of_size whole (places_of pattern pattern.point) fraction small, length-characters 10 count n, is) refl
 
 -- ---- a text that is written
 pub written_inside : (r : Result ℕ NoFit) (o : Option (List ℕ)) (before after : List ℕ) → IsWritten r o before after

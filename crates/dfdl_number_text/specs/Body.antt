@@ -5,10 +5,10 @@ use Rattle.std.specs.List.{list_all, before_first, after_first}
 use Rattle.std.specs.Str.{bytes_eq}
 use Rattle.dfdl_decimal.specs.Decimal.{DecimalNumber, with_sign}
 use Rattle.dfdl_value.specs.Texts.{number_of}
-use Rattle.dfdl_number_pattern.specs.declared.form.NumberForm.{NumberForm}
-use Rattle.dfdl_number_pattern.specs.declared.pattern.NumberPattern.{NumberPattern}
-use Rattle.dfdl_number_pattern.specs.declared.pattern.Point.{Point}
-use Rattle.dfdl_number_pattern.specs.declared.pattern.Point.TheVariants.{Absent, Written, Implied}
+use Rattle.dfdl_forms.specs.declared.number.NumberForm.{NumberForm}
+use Rattle.dfdl_forms.specs.declared.number_pattern.NumberPattern.{NumberPattern}
+use Rattle.dfdl_forms.specs.declared.number_pattern.Point.{Point}
+use Rattle.dfdl_forms.specs.declared.number_pattern.Point.TheVariants.{Absent, Written, Implied}
 
 -- what stands between a prefix and a suffix, where the text begins with the one and ends with the other behind it
 abbrev pub between : List ℕ → List ℕ → List ℕ → Option (List ℕ)

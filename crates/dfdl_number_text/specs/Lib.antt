@@ -1,6 +1,5 @@
 pub mod Body
 pub mod Digits
-pub mod ReadBack
 pub mod ReadShown
 pub mod Reading
 pub mod Rounding

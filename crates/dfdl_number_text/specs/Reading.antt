@@ -12,8 +12,8 @@ use Rattle.dfdl_forms.specs.declared.simple.Form.{Form}
 use Rattle.dfdl_forms.specs.declared.simple.Form.TheVariants.{Signed, Unsigned}
 use Rattle.dfdl_forms.specs.declared.simple.Simple.{Simple}
 use Rattle.dfdl_value.specs.declared.value.Value.{Value}
-use Rattle.dfdl_number_pattern.specs.declared.form.NumberForm.{NumberForm}
-use Rattle.dfdl_number_pattern.specs.declared.pattern.NumberPattern.{NumberPattern}
+use Rattle.dfdl_forms.specs.declared.number.NumberForm.{NumberForm}
+use Rattle.dfdl_forms.specs.declared.number_pattern.NumberPattern.{NumberPattern}
 use Rattle.dfdl_number_text.specs.declared.fault.NumberFault.{NumberFault}
 use Rattle.dfdl_number_text.specs.declared.fault.NumberFault.TheVariants.{NotANumber, PastType}
 use Rattle.dfdl_number_text.specs.Body.{between, body_number}
@@ -46,8 +46,8 @@ signed_number form pattern negative prefix suffix text = option_and_then (body_n
 -- the number by a pattern: that between the positive prefix and suffix, else that between the negative ones
 abbrev pub pattern_number : NumberForm → NumberPattern → List ℕ → Option DecimalNumber
 pattern_number form pattern text =
-    or_else (signed_number form pattern false (chars pattern.prefix.items) (chars pattern.suffix.items) text)
-    (signed_number form pattern true (chars pattern.negative_prefix.items) (chars pattern.negative_suffix.items) text)
+    or_else (signed_number form pattern false pattern.prefix.items pattern.suffix.items text)
+    (signed_number form pattern true pattern.negative_prefix.items pattern.negative_suffix.items text)
 
 -- the number of plain digits in a base, of which there is at least one
 abbrev pub base_number : ℕ → List ℕ → Option ℕ

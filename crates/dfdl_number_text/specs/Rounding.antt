@@ -1,7 +1,7 @@
 -- Rounding to a whole number. 'Properties Specific to Number with Text Representation' (textNumberRoundingMode).
 use Rattle.std.specs.Prelude.{ℕ, ◌+◌, ◌*◌, ◌/◌, ◌%◌, ◌==◌, ◌&&◌, ◌||◌, Bool, true, false, not, nat_lt, nat_le, Option, Some, None, if◌then◌else◌}
-use Rattle.dfdl_number_pattern.specs.declared.form.Rounding.{Rounding}
-use Rattle.dfdl_number_pattern.specs.declared.form.Rounding.TheVariants.{Ceiling, Floor, Down, Up, HalfEven, HalfDown, HalfUp, Unnecessary}
+use Rattle.dfdl_forms.specs.declared.number.Rounding.{Rounding}
+use Rattle.dfdl_forms.specs.declared.number.Rounding.TheVariants.{Ceiling, Floor, Down, Up, HalfEven, HalfDown, HalfUp, Unnecessary}
 
 -- The size of a quotient that is not whole goes away from zero: `quotient` is its whole part, `rest` what is left of the
 -- dividend, and `divisor` the divisor.

@@ -5,11 +5,11 @@ use Rattle.dfdl_value.specs.Texts.{is_zero}
 use Rattle.dfdl_lemmas.specs.Trimmed.{without_trailing}
 use Rattle.dfdl_value.specs.declared.value.Value.{Value}
 use Rattle.dfdl_value.specs.declared.value.Value.TheVariants.{Int, Uns, Dec, Text, Truth, Bytes}
-use Rattle.dfdl_number_pattern.specs.declared.form.NumberForm.{NumberForm}
-use Rattle.dfdl_number_pattern.specs.declared.form.Rounding.{Rounding}
-use Rattle.dfdl_number_pattern.specs.declared.pattern.NumberPattern.{NumberPattern}
-use Rattle.dfdl_number_pattern.specs.declared.pattern.Point.{Point}
-use Rattle.dfdl_number_pattern.specs.declared.pattern.Point.TheVariants.{Absent, Written, Implied}
+use Rattle.dfdl_forms.specs.declared.number.NumberForm.{NumberForm}
+use Rattle.dfdl_forms.specs.declared.number.Rounding.{Rounding}
+use Rattle.dfdl_forms.specs.declared.number_pattern.NumberPattern.{NumberPattern}
+use Rattle.dfdl_forms.specs.declared.number_pattern.Point.{Point}
+use Rattle.dfdl_forms.specs.declared.number_pattern.Point.TheVariants.{Absent, Written, Implied}
 use Rattle.dfdl_number_text.specs.Digits.{digits_at, digit_count, digit_character}
 use Rattle.dfdl_number_text.specs.Rounding.{rounded}
 
@@ -58,29 +58,45 @@ fraction_digits least places n =
     let digits = map digit_character (digits_at 10 places n) in
     take least digits ++ without_trailing is_zero (drop least digits)
 
--- fraction digits behind the decimal separator, which stands only in front of digits
-abbrev pub with_separator : ℕ → List ℕ → List ℕ
-with_separator decimal [] = []
-with_separator decimal (digit ∷ digits) = decimal ∷ (digit ∷ digits)
+-- the fraction digits of a number of this size
+abbrev pub written_fraction : NumberPattern → Point → ℕ → List ℕ
+written_fraction pattern Absent size = []
+written_fraction pattern Written size = fraction_digits pattern.least_fraction pattern.greatest_fraction size
+written_fraction pattern Implied size = map digit_character (digits_at 10 pattern.implied size)
 
--- what stands behind the integer digits
-abbrev pub behind_integer : NumberForm → NumberPattern → Point → ℕ → List ℕ
-behind_integer form pattern Absent size = []
-behind_integer form pattern Written size = with_separator form.decimal (fraction_digits pattern.least_fraction pattern.greatest_fraction size)
-behind_integer form pattern Implied size = map digit_character (digits_at 10 pattern.implied size)
+-- How many integer digits are written at least, in front of so many fraction digits: as many as the pattern has zeros,
+-- and one where it has a sign for integer digits or where no fraction digit is written.
+abbrev pub least_digits : NumberPattern → ℕ → ℕ
+least_digits pattern fraction =
+    if pattern.greatest_integer == 0 && nat_lt 0 fraction then 0 else max 1 pattern.least_integer
+
+-- fraction digits behind the decimal separator, which stands in front of digits, and where the pattern has no sign behind it
+abbrev pub with_separator : ℕ → ℕ → List ℕ → List ℕ
+with_separator places decimal (digit ∷ digits) = decimal ∷ (digit ∷ digits)
+with_separator places decimal [] = if places == 0 then decimal ∷ [] else []
+
+-- what stands behind the integer digits, where these are the fraction digits
+abbrev pub behind_integer : NumberForm → NumberPattern → Point → List ℕ → List ℕ
+behind_integer form pattern Absent fraction = []
+behind_integer form pattern Written fraction = with_separator pattern.greatest_fraction form.decimal fraction
+behind_integer form pattern Implied fraction = fraction
+
+-- the integer digits with their separators, in front of so many fraction digits
+abbrev pub in_front : NumberForm → NumberPattern → ℕ → ℕ → List ℕ
+in_front form pattern fraction whole = grouped form.grouping pattern.group_size (integer_digits (least_digits pattern fraction) whole)
 
 -- the body of a number of this size, which counts the last fraction digit
 abbrev pub body_text : NumberForm → NumberPattern → ℕ → List ℕ
 body_text form pattern size =
-    grouped form.grouping pattern.group_size (integer_digits pattern.least_integer (size / 10 ^ places_of pattern pattern.point))
-    ++ behind_integer form pattern pattern.point size
+    in_front form pattern (length (written_fraction pattern pattern.point size)) (size / 10 ^ places_of pattern pattern.point)
+    ++ behind_integer form pattern pattern.point (written_fraction pattern pattern.point size)
 
 -- the body between the prefix and the suffix; a number that was rounded to zero is positive
 abbrev pub signed_text : NumberForm → NumberPattern → Bool → ℕ → List ℕ
 signed_text form pattern negative size =
     if negative && not (size == 0)
-    then chars pattern.negative_prefix.items ++ (body_text form pattern size ++ chars pattern.negative_suffix.items)
-    else chars pattern.prefix.items ++ (body_text form pattern size ++ chars pattern.suffix.items)
+    then pattern.negative_prefix.items ++ (body_text form pattern size ++ pattern.negative_suffix.items)
+    else pattern.prefix.items ++ (body_text form pattern size ++ pattern.suffix.items)
 
 -- the text of a number by a pattern
 abbrev pub pattern_text : NumberForm → NumberPattern → DecimalNumber → Option (List ℕ)

@@ -1,7 +1,7 @@
 -- What the parts of the unparser answer.
 use Rattle.std.specs.Prelude.{◌≡◌, ℕ, ◌+◌, ◌-◌, ◌*◌, ◌^◌, ◌%◌, ◌<◌, ◌≤◌, ◌==◌, ◌&&◌, not, nat_lt, if◌then◌else◌, List, [], ◌∷◌, ◌++◌, length, take, drop, map, Option, Some, None, Result, Ok, Err, unsigned_abs}
 use Rattle.dfdl_decimal.specs.Decimal.{DecimalNumber}
-use Rattle.dfdl_number_text.specs.declared.fault.NoFit.{NoFit}
+use Rattle.dfdl_forms.specs.declared.fault.NoFit.{NoFit}
 use Rattle.dfdl_number_text.specs.Digits.{digits_at, digit_character}
 use Rattle.dfdl_number_text.specs.Writing.{grouped, is_below_zero}
 use Rattle.dfdl_number_text.specs.declared.digits.Groups.{Groups}

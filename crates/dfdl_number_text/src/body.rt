@@ -9,7 +9,7 @@ ghost use Rattle.dfdl_number_text.specs.ReadShown.{IsNumber, Shows, may_stand as
 
 use crate::body_digits::{held, without_zeros};
 use crate::read_number::Number;
-use dfdl_number_pattern::{NumberForm, NumberPattern, Point};
+use dfdl_forms::{NumberForm, NumberPattern, Point};
 
 /// The parts of a body.
 #[derive(Clone, Copy)]

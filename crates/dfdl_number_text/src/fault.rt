@@ -10,8 +10,3 @@ pub enum NumberFault {
     #[error("a number outside of the type")]
     PastType,
 }
-
-/// A value has no text in the form.
-#[derive(Clone, Copy, Debug, PartialEq, Eq, Error)]
-#[error("value does not fit its text form")]
-pub struct NoFit;

@@ -1,15 +1,14 @@
-// Text numbers: what value the characters of a number are read as, and what characters a value is written as.
-//
-// The contracts cite `reading` of `specs/Reading.antt` and `writing` of `specs/Writing.antt`; `specs/Rounding.antt` has
-// the rounding modes. The law that what is written is read back stands in `laws`. It serves 'The DFDL Number Pattern'
-// and 'Properties Specific to Number with Text Representation'.
+//! Text numbers: what value the characters of a number are read as, and what characters a value is written as.
+//!
+//! The contracts cite `reading` of `specs/Reading.antt` and `writing` of `specs/Writing.antt`; `specs/Rounding.antt` has
+//! the rounding modes. It serves 'The DFDL Number Pattern' and 'Properties Specific to Number with Text Representation'.
+//! That what is written is read back is the law of dfdl_number_laws.
 #![tactic(auto)]
 
 mod body;
 mod body_digits;
 mod digits;
 pub mod fault;
-pub mod laws;
 mod read_affix;
 mod read_base;
 mod read_number;
@@ -18,13 +17,14 @@ mod rounding;
 mod write_text;
 mod write_value;
 
-pub use fault::{NoFit, NumberFault};
+pub use dfdl_forms::NoFit;
+pub use fault::NumberFault;
 pub use reading::read;
 pub use write_value::write;
 
 #[cfg(test)]
-mod back_tests;
-#[cfg(test)]
 mod read_tests;
+#[cfg(test)]
+mod test_forms;
 #[cfg(test)]
 mod write_tests;

@@ -1,42 +1,13 @@
 // What texts are read as: the values follow from the standard's rules.
 use crate::read;
-use dfdl_number_pattern::{NumberForm, PatternFault, Rounding, read_pattern};
+use crate::test_forms::{based, patterned};
+use dfdl_forms::{NumberForm, Rounding};
 use dfdl_value::{Simple, TextValue};
 use std::alloc::Global;
 use std::test::Fail;
 
-fn by_pattern(alloc: Global, pattern: &str) -> Result<NumberForm, PatternFault> {
-    Ok(NumberForm {
-        base: 10,
-        pattern: Some(read_pattern(alloc, pattern)?),
-        decimal: '.',
-        grouping: ',',
-        rounding: Rounding::HalfEven,
-    })
-}
-
-fn by_base_16() -> NumberForm {
-    NumberForm {
-        base: 16,
-        pattern: None,
-        decimal: '.',
-        grouping: ',',
-        rounding: Rounding::HalfEven,
-    }
-}
-
-fn by_base_2() -> NumberForm {
-    NumberForm {
-        base: 2,
-        pattern: None,
-        decimal: '.',
-        grouping: ',',
-        rounding: Rounding::HalfEven,
-    }
-}
-
 /// The text of the value that a text is read as, or the fault's name.
-pub(crate) fn said(
+fn said(
     alloc: Global,
     form: &NumberForm,
     kind: Simple,
@@ -98,7 +69,7 @@ const ROWS: [(&str, Simple, &str, &str); 38] = [
 #[test]
 fn reads_by_patterns(rt: HostRuntime) -> Result<(), Fail> {
     for (pattern, kind, text, answer) in &ROWS {
-        let form = by_pattern(rt.alloc(), pattern)?;
+        let form = patterned(rt.alloc(), pattern, Rounding::HalfEven)?;
         assert_eq!(rt; said(rt.alloc(), &form, *kind, text)?.as_str(), *answer);
     }
     Ok(())
@@ -145,7 +116,7 @@ const BOUNDS: [(Simple, &str, &str); 7] = [
 
 #[test]
 fn reads_the_greatest_numbers(rt: HostRuntime) -> Result<(), Fail> {
-    let form = by_pattern(rt.alloc(), "#0.0#")?;
+    let form = patterned(rt.alloc(), "#0.0#", Rounding::HalfEven)?;
     for (kind, text, answer) in &BOUNDS {
         assert_eq!(rt; said(rt.alloc(), &form, *kind, text)?.as_str(), *answer);
     }
@@ -159,7 +130,7 @@ fn fraction(alloc: Global, zeros: usize, end: &str) -> Result<String, Fail> {
 
 #[test]
 fn reads_long_fractions(rt: HostRuntime) -> Result<(), Fail> {
-    let form = by_pattern(rt.alloc(), "0.0")?;
+    let form = patterned(rt.alloc(), "0.0", Rounding::HalfEven)?;
     let longest = fraction(rt.alloc(), 255, "1")?;
     assert_ne!(rt;
         said(rt.alloc(), &form, Simple::Decimal, &longest)?.as_str(),
@@ -180,7 +151,7 @@ fn reads_long_fractions(rt: HostRuntime) -> Result<(), Fail> {
 
 #[test]
 fn reads_trailing_zeros(rt: HostRuntime) -> Result<(), Fail> {
-    let form = by_pattern(rt.alloc(), "0.0")?;
+    let form = patterned(rt.alloc(), "0.0", Rounding::HalfEven)?;
     let half = format!(in rt.alloc(); "{:0<300}", ".5")?;
     assert_eq!(rt;
         said(rt.alloc(), &form, Simple::Decimal, &half)?.as_str(),
@@ -213,7 +184,7 @@ const DIGITS: [(Simple, &str, &str); 10] = [
 
 #[test]
 fn reads_base_16(rt: HostRuntime) -> Result<(), Fail> {
-    let form = by_base_16();
+    let form = based(16)?;
     for (kind, text, answer) in &DIGITS {
         assert_eq!(rt; said(rt.alloc(), &form, *kind, text)?.as_str(), *answer);
     }
@@ -222,7 +193,7 @@ fn reads_base_16(rt: HostRuntime) -> Result<(), Fail> {
 
 #[test]
 fn reads_base_2(rt: HostRuntime) -> Result<(), Fail> {
-    let form = by_base_2();
+    let form = based(2)?;
     assert_eq!(rt; said(rt.alloc(), &form, Simple::Byte, "101")?.as_str(), "5");
     assert_eq!(rt;
         said(rt.alloc(), &form, Simple::Byte, "102")?.as_str(),

@@ -1,29 +1,27 @@
 // The reading of a text number.
-ghost use Rattle.std.specs.Prelude.{◌≡◌, chars, IsUtf8};
+ghost use Rattle.std.specs.Prelude.{◌≡◌};
 ghost use Rattle.dfdl_number_text.specs.Reading.{pattern_number as pattern_number_of, reading, signed_number as signed_number_of};
 ghost use Rattle.dfdl_number_text.specs.ReadShown.{Shows};
 
 use crate::body::body_number;
 use crate::fault::NumberFault;
-use crate::read_affix::{affix, between};
+use crate::read_affix::between;
 use crate::read_base::read_in_base;
 use crate::read_number::{Number, value_of};
-use dfdl_number_pattern::{NumberForm, NumberPattern};
+use dfdl_forms::{NumberForm, NumberPattern};
 use dfdl_value::{Simple, Value};
 
 fn signed_number(
     form: &NumberForm,
     pattern: &NumberPattern,
     negative: bool,
-    prefix: &[u8],
-    suffix: &[u8],
+    prefix: &[char],
+    suffix: &[char],
     text: &[char],
 ) -> Option<Number>
-    requires prefix { IsUtf8 prefix.now }
-    requires suffix { IsUtf8 suffix.now }
-    ensures { Shows result (signed_number_of form.now pattern.now negative (chars prefix.now) (chars suffix.now) text.now) }
+    ensures { Shows result (signed_number_of form.now pattern.now negative prefix.now suffix.now text.now) }
 {
-    match between(text, affix(prefix), affix(suffix)) {
+    match between(text, prefix, suffix) {
         Some(body) => body_number(form, pattern, negative, body),
         None => None,
     }

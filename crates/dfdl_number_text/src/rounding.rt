@@ -3,7 +3,7 @@ ghost use Rattle.std.specs.Prelude.{◌≡◌, ◌+◌, ◌-◌, ◌*◌, ◌^�
 ghost use Rattle.dfdl_number_text.specs.Rounding.{goes_up, may_round, rounded};
 ghost use Rattle.dfdl_number_text.specs.Written.{ShowsSize};
 
-use dfdl_number_pattern::Rounding;
+use dfdl_forms::Rounding;
 
 /// A sign, and a size that is divided by ten to the power of `scale`.
 #[derive(Clone, Copy)]

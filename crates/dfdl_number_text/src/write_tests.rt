@@ -1,13 +1,14 @@
 // Texts of the standard's number patterns, and the roundings that Java's documents list.
+use crate::test_forms::{based, patterned};
 use crate::write;
-use dfdl_number_pattern::{NumberForm, Rounding, read_pattern};
+use dfdl_forms::{NumberForm, Rounding};
 use dfdl_value::Value;
 use dfdl_decimal::shortest;
 use std::alloc::{AllocError, Global};
 use std::test::Fail;
 
 // pattern, digits, how many of them are fraction digits, text
-const DECIMALS: [(&str, i128, u32, &str); 21] = [
+const DECIMALS: [(&str, i128, u32, &str); 33] = [
     ("#,##0.00", 12345, 1, "1,234.50"),
     ("#,##0.00", 12345678905, 3, "12,345,678.90"),
     ("#,##0", 1234567, 0, "1,234,567"),
@@ -21,9 +22,21 @@ const DECIMALS: [(&str, i128, u32, &str); 21] = [
     ("#0.0##", 3, 0, "3.0"),
     ("#0.0##", 1025, 2, "10.25"),
     ("#0.##", 7, 0, "7"),
-    ("#.##", 25, 2, ".25"),
+    ("#.##", 25, 2, "0.25"),
+    ("#.##", 5, 1, "0.5"),
+    ("#.##", 0, 0, "0"),
+    (".##", 5, 1, ".5"),
+    (".##", 5, 0, "5"),
+    (".##", 0, 0, "0"),
+    (".00", 0, 0, ".00"),
+    ("#0.", 5, 0, "5."),
+    ("#.", 0, 0, "0."),
+    ("#V00", 5, 2, "005"),
+    ("V00", 5, 2, "05"),
+    ("V00", 0, 0, "00"),
+    ("#,###", 0, 0, "0"),
     ("000", 7, 0, "007"),
-    ("#", 0, 0, ""),
+    ("#", 0, 0, "0"),
     ("0;(0)", -5, 0, "(5)"),
     ("0;(0)", 5, 0, "5"),
     ("000V00", 1234, 2, "01234"),
@@ -63,35 +76,7 @@ const BASES: [(u8, u128, &str); 8] = [
     (2, 0, "0"),
 ];
 
-pub(crate) fn patterned(
-    alloc: Global,
-    pattern: &str,
-    rounding: Rounding,
-) -> Result<NumberForm, Fail> {
-    Ok(NumberForm {
-        base: 10,
-        pattern: Some(read_pattern(alloc, pattern)?),
-        decimal: '.',
-        grouping: ',',
-        rounding,
-    })
-}
-
-pub(crate) fn based(base: u8) -> NumberForm {
-    NumberForm {
-        base: match base {
-            2 => 2,
-            8 => 8,
-            _ => 16,
-        },
-        pattern: None,
-        decimal: '.',
-        grouping: ',',
-        rounding: Rounding::Unnecessary,
-    }
-}
-
-pub(crate) fn decimal(digits: i128, scale: u32) -> Value {
+fn decimal(digits: i128, scale: u32) -> Value {
     match shortest(digits < 0, digits.unsigned_abs(), scale) {
         Some(number) => Value::Dec(number),
         None => Value::Truth(false),
@@ -120,7 +105,7 @@ fn put(
     }
 }
 
-pub(crate) fn text_of(
+fn text_of(
     alloc: Global,
     form: &NumberForm,
     value: &Value,
@@ -174,11 +159,11 @@ fn refuses(rt: HostRuntime) -> Result<(), Fail> {
         "NoFit"
     );
     assert_eq!(rt;
-        text_of(rt.alloc(), &based(16), &Value::Int(-1))?.as_str(),
+        text_of(rt.alloc(), &based(16)?, &Value::Int(-1))?.as_str(),
         "NoFit"
     );
     assert_eq!(rt;
-        text_of(rt.alloc(), &based(2), &decimal(5, 0))?.as_str(),
+        text_of(rt.alloc(), &based(2)?, &decimal(5, 0))?.as_str(),
         "NoFit"
     );
     Ok(())
@@ -188,13 +173,13 @@ fn refuses(rt: HostRuntime) -> Result<(), Fail> {
 fn writes_integers(rt: HostRuntime) -> Result<(), Fail> {
     for (base, number, text) in BASES {
         assert_eq!(rt;
-            text_of(rt.alloc(), &based(base), &Value::Uns(number))?.as_str(),
+            text_of(rt.alloc(), &based(base)?, &Value::Uns(number))?.as_str(),
             text,
             "{base}"
         );
     }
     assert_eq!(rt;
-        text_of(rt.alloc(), &based(2), &Value::Int(5))?.as_str(),
+        text_of(rt.alloc(), &based(2)?, &Value::Int(5))?.as_str(),
         "101"
     );
     let every = patterned(rt.alloc(), "#,0", Rounding::HalfEven)?;
@@ -211,7 +196,7 @@ fn writes_integers(rt: HostRuntime) -> Result<(), Fail> {
 
 #[test]
 fn writes_the_widest_number(rt: HostRuntime) -> Result<(), Fail> {
-    let written = text_of(rt.alloc(), &based(2), &Value::Uns(u128::MAX))?;
+    let written = text_of(rt.alloc(), &based(2)?, &Value::Uns(u128::MAX))?;
     assert_eq!(rt; written.len(), 128);
     assert!(rt; written.as_bytes().iter().all(|byte| *byte == b'1'));
     Ok(())

@@ -1,30 +1,16 @@
 // Characters that are put into a text from the left.
-ghost use Rattle.std.specs.Prelude.{◌≡◌, ◌+◌, ◌<◌, ◌≤◌, [], ◌∷◌, IsUtf8, chars, length};
+ghost use Rattle.std.specs.Prelude.{◌≡◌, ◌+◌, ◌<◌, ◌≤◌, [], ◌∷◌, length};
 ghost use Rattle.dfdl_number_text.specs.Written.{IsPut};
 
 /// Puts the characters of an affix into the text from a place on, and answers the place behind them.
-pub fn put_affix(into: &mut [char], at: usize, affix: &[u8]) -> usize
-    requires utf8 { IsUtf8 affix.now }
-    requires room { at + length (chars affix.now) ≤ length into.old }
-    ensures place { result ≡ at + length (chars affix.now) }
-    ensures put { IsPut into.old at (chars affix.now) into.new }
+pub fn put_affix(into: &mut [char], at: usize, affix: &[char]) -> usize
+    requires { at + length affix.now ≤ length into.old }
+    ensures place { result ≡ at + length affix.now }
+    ensures put { IsPut into.old at affix.now into.new }
 {
-    match std::str::from_utf8(affix) {
-        Ok(text) => put_text(into, at, text),
-        Err(_) => at,
-    }
-}
-
-fn put_text(into: &mut [char], at: usize, text: &str) -> usize
-    requires { at + length (chars text.now) ≤ length into.old }
-    ensures place { result ≡ at + length (chars text.now) }
-    ensures put { IsPut into.old at (chars text.now) into.new }
-{
-    let mut place = at;
-    for c in text.chars() {
-        place = put_char(into, place, c);
-    }
-    place
+    let behind = at + affix.len();
+    into[at..behind].copy_from_slice(affix);
+    behind
 }
 
 /// Puts a character into the text, and answers the place behind it.

@@ -1,17 +1,16 @@
 // The unparser of text numbers.
-ghost use Rattle.std.specs.Prelude.{◌≡◌, ℕ, ◌+◌, ◌*◌, ◌^◌, ◌<◌, ◌≤◌, ◌==◌, ◌↔◌, ◌++◌, Some, None, IsErr, IfOk, IfSome, OnErr, IsUtf8, chars, length, take, drop, map, option_and_then, unsigned_abs};
+ghost use Rattle.std.specs.Prelude.{◌≡◌, ℕ, ◌+◌, ◌*◌, ◌^◌, ◌<◌, ◌≤◌, ◌==◌, ◌&&◌, not, ◌↔◌, ◌++◌, Some, None, IsErr, IfOk, IfSome, OnErr, length, take, drop, map, option_and_then, unsigned_abs};
 ghost use Rattle.dfdl_decimal.specs.Decimal.{DecimalNumber};
-ghost use Rattle.dfdl_number_pattern.specs.Characters.{room_of};
+ghost use Rattle.dfdl_forms.specs.NumberRooms.{room_of};
 ghost use Rattle.dfdl_number_text.specs.Rounding.{rounded};
-ghost use Rattle.dfdl_number_text.specs.Writing.{base_digits, base_text, behind_integer, body_text, grouped, integer_digits, is_below_zero, number_of_value, pattern_text, places_of, signed_text, size_at, with_separator, writing};
+ghost use Rattle.dfdl_number_text.specs.Writing.{base_digits, base_text, behind_integer, body_text, grouped, integer_digits, least_digits, written_fraction, is_below_zero, number_of_value, pattern_text, places_of, signed_text, size_at, with_separator, writing};
 ghost use Rattle.dfdl_number_text.specs.Digits.{digits_at, digit_character};
 ghost use Rattle.dfdl_number_text.specs.Written.{IsPut, IsWritten, ShowsNumber};
 
 use crate::digits::{Digits, Groups, digits_of, put_digits, put_plain, without_zeros};
-use crate::fault::NoFit;
 use crate::rounding::{Number, Size, size_of};
 use crate::write_text::{put_affix, put_char};
-use dfdl_number_pattern::{NumberForm, NumberPattern, Point, Rounding};
+use dfdl_forms::{NoFit, NumberForm, NumberPattern, Point, Rounding};
 use dfdl_value::Value;
 
 /// Writes the text of a value in a form, and answers how many characters it has. A value doesn't fit that has no text in
@@ -63,8 +62,8 @@ fn write_pattern(
     value: &Value,
     into: &mut [char],
 ) -> Result<usize, NoFit>
-    requires room { length (chars pattern.now.prefix.items) + length (chars pattern.now.suffix.items) + 128 ≤ length into.old }
-    requires negative_room { length (chars pattern.now.negative_prefix.items) + length (chars pattern.now.negative_suffix.items) + 128 ≤ length into.old }
+    requires room { length pattern.now.prefix.items + length pattern.now.suffix.items + 128 ≤ length into.old }
+    requires negative_room { length pattern.now.negative_prefix.items + length pattern.now.negative_suffix.items + 128 ≤ length into.old }
     ensures { IsWritten result (option_and_then (pattern_text form.now pattern.now) (number_of_value value.now)) into.old into.new }
 {
     let Some(number) = number_of(value) else {
@@ -133,8 +132,8 @@ fn put_number(
     negative: bool,
     size: Size,
 ) -> usize
-    requires room { length (chars pattern.now.prefix.items) + length (chars pattern.now.suffix.items) + 128 ≤ length into.old }
-    requires negative_room { length (chars pattern.now.negative_prefix.items) + length (chars pattern.now.negative_suffix.items) + 128 ≤ length into.old }
+    requires room { length pattern.now.prefix.items + length pattern.now.suffix.items + 128 ≤ length into.old }
+    requires negative_room { length pattern.now.negative_prefix.items + length pattern.now.negative_suffix.items + 128 ≤ length into.old }
     requires fraction { size.fraction < 10 ^ places_of pattern.now pattern.now.point }
     ensures place { result ≡ length (signed_text form.now pattern.now negative (size.whole * 10 ^ places_of pattern.now pattern.now.point + size.fraction)) }
     ensures inside { result ≤ length into.old }
@@ -167,19 +166,17 @@ fn is_zero(size: Size) -> bool
 // Puts the body of a number between a prefix and a suffix.
 fn put_between(
     into: &mut [char],
-    prefix: &[u8],
-    suffix: &[u8],
+    prefix: &[char],
+    suffix: &[char],
     form: &NumberForm,
     pattern: &NumberPattern,
     size: Size,
 ) -> usize
-    requires utf8_prefix { IsUtf8 prefix.now }
-    requires utf8_suffix { IsUtf8 suffix.now }
-    requires room { length (chars prefix.now) + length (chars suffix.now) + 128 ≤ length into.old }
+    requires room { length prefix.now + length suffix.now + 128 ≤ length into.old }
     requires fraction { size.fraction < 10 ^ places_of pattern.now pattern.now.point }
     ensures inside { result ≤ length into.old }
-    ensures place { result ≡ length (chars prefix.now ++ (body_text form.now pattern.now (size.whole * 10 ^ places_of pattern.now pattern.now.point + size.fraction) ++ chars suffix.now)) }
-    ensures put { IsPut into.old 0 (chars prefix.now ++ (body_text form.now pattern.now (size.whole * 10 ^ places_of pattern.now pattern.now.point + size.fraction) ++ chars suffix.now)) into.new }
+    ensures place { result ≡ length (prefix.now ++ (body_text form.now pattern.now (size.whole * 10 ^ places_of pattern.now pattern.now.point + size.fraction) ++ suffix.now)) }
+    ensures put { IsPut into.old 0 (prefix.now ++ (body_text form.now pattern.now (size.whole * 10 ^ places_of pattern.now pattern.now.point + size.fraction) ++ suffix.now)) into.new }
 {
     let behind_prefix = put_affix(into, 0, prefix);
     let behind_body = put_body(into, behind_prefix, form, pattern, size);
@@ -199,12 +196,54 @@ fn put_body(
     ensures few { result ≤ at + 128 }
     ensures put { IsPut into.old at (body_text form.now pattern.now (size.whole * 10 ^ places_of pattern.now pattern.now.point + size.fraction)) into.new }
 {
+    let fraction = fraction_of(pattern, size.fraction);
+    let least = least_digits(pattern, fraction.count);
     let groups = Groups {
         separator: form.grouping,
         size: pattern.group_size,
     };
-    let behind = put_whole(into, at, pattern.least_integer, size.whole, groups);
-    put_behind(into, behind, form, pattern, size)
+    let behind = put_whole(into, at, least, size.whole, groups);
+    put_behind(into, behind, form, pattern, fraction)
+}
+
+// The fraction digits that are written.
+fn fraction_of(pattern: &NumberPattern, fraction: u128) -> Digits
+    ensures base { result.base ≡ 10 }
+    ensures few { result.count ≤ 38 }
+    ensures digits {
+        (whole : ℕ) → written_fraction pattern.now pattern.now.point (whole * 10 ^ places_of pattern.now pattern.now.point + fraction)
+            ≡ map digit_character (digits_at 10 result.count result.number)
+    }
+{
+    match pattern.point {
+        Point::Absent => Digits {
+            base: 10,
+            count: 0,
+            number: 0,
+        },
+        Point::Written => without_zeros(
+            pattern.least_fraction,
+            pattern.greatest_fraction,
+            fraction,
+        ),
+        Point::Implied => Digits {
+            base: 10,
+            count: pattern.implied,
+            number: fraction,
+        },
+    }
+}
+
+// How many integer digits are written at least, in front of so many fraction digits.
+fn least_digits(pattern: &NumberPattern, fraction: u16) -> u16
+    ensures value { result ≡ least_digits pattern.now fraction }
+    ensures few { result ≤ 38 }
+{
+    if pattern.greatest_integer == 0 && fraction > 0 {
+        0
+    } else {
+        pattern.least_integer.max(1)
+    }
 }
 
 // Puts integer digits, at least so many.
@@ -224,47 +263,49 @@ fn put_behind(
     at: usize,
     form: &NumberForm,
     pattern: &NumberPattern,
-    size: Size,
+    fraction: Digits,
 ) -> usize
+    requires base { fraction.base ≡ 10 }
+    requires digits { fraction.count ≤ 38 }
     requires room { at + 39 ≤ length into.old }
-    ensures place { result ≡ at + length (behind_integer form.now pattern.now pattern.now.point (size.whole * 10 ^ places_of pattern.now pattern.now.point + size.fraction)) }
+    ensures place {
+        result ≡ at + length (behind_integer form.now pattern.now pattern.now.point (map digit_character (digits_at 10 fraction.count fraction.number)))
+    }
     ensures few { result ≤ at + 39 }
-    ensures put { IsPut into.old at (behind_integer form.now pattern.now pattern.now.point (size.whole * 10 ^ places_of pattern.now pattern.now.point + size.fraction)) into.new }
+    ensures put {
+        IsPut into.old at (behind_integer form.now pattern.now pattern.now.point (map digit_character (digits_at 10 fraction.count fraction.number))) into.new
+    }
 {
     match pattern.point {
         Point::Absent => at,
-        Point::Written => put_fraction(
-            into,
-            at,
-            form.decimal,
-            without_zeros(
-                pattern.least_fraction,
-                pattern.greatest_fraction,
-                size.fraction,
-            ),
-        ),
-        Point::Implied => put_plain(
-            into,
-            at,
-            Digits {
-                base: 10,
-                count: pattern.implied,
-                number: size.fraction,
-            },
-        ),
+        Point::Written => put_fraction(into, at, pattern.greatest_fraction, form.decimal, fraction),
+        Point::Implied => put_plain(into, at, fraction),
     }
 }
 
+// No separator stands where no digit does, but for a pattern without a sign behind it.
+fn is_left_away(places: u16, count: u16) -> bool
+    ensures { result ≡ (count == 0 && not (places == 0)) }
+{
+    count == 0 && places != 0
+}
+
 // Puts fraction digits behind the decimal separator.
-fn put_fraction(into: &mut [char], at: usize, decimal: char, digits: Digits) -> usize
+fn put_fraction(
+    into: &mut [char],
+    at: usize,
+    places: u16,
+    decimal: char,
+    digits: Digits,
+) -> usize
     requires base { digits.base ≡ 10 }
     requires few { digits.count ≤ 38 }
     requires room { at + 39 ≤ length into.old }
-    ensures place { result ≡ at + length (with_separator decimal (map digit_character (digits_at 10 digits.count digits.number))) }
+    ensures place { result ≡ at + length (with_separator places decimal (map digit_character (digits_at 10 digits.count digits.number))) }
     ensures few { result ≤ at + 39 }
-    ensures put { IsPut into.old at (with_separator decimal (map digit_character (digits_at 10 digits.count digits.number))) into.new }
+    ensures put { IsPut into.old at (with_separator places decimal (map digit_character (digits_at 10 digits.count digits.number))) into.new }
 {
-    if digits.count == 0 {
+    if is_left_away(places, digits.count) {
         return at;
     }
     let behind = put_char(into, at, decimal);

@@ -1,32 +1,18 @@
-use Rattle.std.proofs.Common.{◌+◌, ◌-◌, ◌*◌, ◌^◌, arith}
+use Rattle.std.proofs.Common.{◌-◌, arith}
 use Rattle.dfdl_number_text.proofs.RoundingLemmas.{power_small}
-use Rattle.dfdl_number_text.proofs.DigitLemmas.{length-characters, digits_behind}
-use Rattle.dfdl_number_text.proofs.WriteLemmas.{fraction_of_size}
+use Rattle.dfdl_number_text.proofs.DigitLemmas.{length-characters}
+use Rattle.dfdl_number_text.proofs.WriteLists.{put_none}
 use Rattle.dfdl_number_text.proofs.write_value.put_behind.Goals as goal
 
 pub put_plain-requires-clause-power : goal.put_plain-requires-clause-power
-put_plain-requires-clause-power c = λ some. power_small (c.args.pattern.now.implied - 1) (omega (arith, c.args.pattern.now.few))
+put_plain-requires-clause-power c = λ some. rw c.requires.base (power_small (c.args.fraction.count - 1) (omega (arith, c.requires.digits)))
 
-pub returns-in-Written-clause-place : goal.returns-in-Written-clause-place
-returns-in-Written-clause-place c =
-    let pattern = c.args.pattern.now in
-    rw (c.in-Written.is, fraction_of_size pattern.least_fraction pattern.greatest_fraction c.args.size.whole c.args.size.fraction, c.without_zeros.ensures.digits)
-    c.put_fraction.ensures.place
-
-pub returns-in-Written-clause-put : goal.returns-in-Written-clause-put
-returns-in-Written-clause-put c =
-    let pattern = c.args.pattern.now in
-    rw (c.in-Written.is, fraction_of_size pattern.least_fraction pattern.greatest_fraction c.args.size.whole c.args.size.fraction, c.without_zeros.ensures.digits)
-    c.put_fraction.ensures.put
+pub returns-in-Absent-clause-put : goal.returns-in-Absent-clause-put
+returns-in-Absent-clause-put c = rw c.in-Absent.is (put_none c.args.into.now c.args.at)
 
 pub returns-in-Implied-clause-place : goal.returns-in-Implied-clause-place
 returns-in-Implied-clause-place c =
-    let pattern = c.args.pattern.now in
-    rw c.in-Implied.is
-    (omega (arith, c.put_plain.ensures.place, length-characters 10 pattern.implied (c.args.size.whole * 10 ^ pattern.implied + c.args.size.fraction)))
+    rw c.in-Implied.is (omega (arith, c.put_plain.ensures.place, length-characters 10 c.args.fraction.count c.args.fraction.number))
 
 pub returns-in-Implied-clause-put : goal.returns-in-Implied-clause-put
-returns-in-Implied-clause-put c =
-    let pattern = c.args.pattern.now in
-    rw (c.in-Implied.is, digits_behind 10 pattern.implied pattern.implied c.args.size.whole c.args.size.fraction (omega arith) (omega arith))
-    c.put_plain.ensures.put
+returns-in-Implied-clause-put c = rw c.in-Implied.is (rw c.requires.base at c.put_plain.ensures.put)

@@ -1,5 +1,4 @@
 use Rattle.std.proofs.Common.{ℕ, ◌+◌, ◌*◌, ◌^◌, List, ◌++◌, arith}
-use Rattle.std.specs.Str.{chars}
 use Rattle.dfdl_number_text.specs.Writing.{body_text, places_of}
 use Rattle.dfdl_number_text.specs.Written.{IsPut}
 use Rattle.dfdl_number_text.proofs.WriteLists.{put_joined}
@@ -7,8 +6,8 @@ use Rattle.dfdl_number_text.proofs.write_value.put_between.Goals as goal
 
 pub returns-clause-put : goal.returns-clause-put
 returns-clause-put c =
-    let prefix : List ℕ = chars c.args.prefix.now in
-    let suffix : List ℕ = chars c.args.suffix.now in
+    let prefix : List ℕ = c.args.prefix.now in
+    let suffix : List ℕ = c.args.suffix.now in
     let places : ℕ = places_of c.args.pattern.now c.args.pattern.now.point in
     let body : List ℕ = body_text c.args.form.now c.args.pattern.now (c.args.size.whole * 10 ^ places + c.args.size.fraction) in
     let behind : IsPut c.put_affix-behind_prefix.new.into c.put_affix-behind_prefix.result (body ++ suffix) c.put_affix.new.into =

@@ -1,6 +1,5 @@
 use Rattle.std.proofs.Common.{◌≤◌, length, option_and_then, Some, arith}
-use Rattle.dfdl_number_pattern.specs.Characters.{room_with}
-use Rattle.dfdl_number_pattern.proofs.Counts.{count_is_length}
+use Rattle.dfdl_forms.specs.NumberRooms.{room_with}
 use Rattle.dfdl_number_text.specs.Writing.{number_of_value, pattern_text}
 use Rattle.dfdl_number_text.proofs.WriteLemmas.{written_inside}
 use Rattle.dfdl_number_text.proofs.write_value.write.Goals as goal
@@ -9,13 +8,13 @@ pub write_pattern-requires-clause-room : goal.write_pattern-requires-clause-room
 write_pattern-requires-clause-room c =
     let pattern = c.in-Some.pattern in
     let room : room_with (Some pattern) ≤ length c.args.into.now = rw c.in-Some.is at c.requires.room in
-    omega (arith, room, count_is_length pattern.prefix.items pattern.utf8_prefix, count_is_length pattern.suffix.items pattern.utf8_suffix)
+    omega (arith, room)
 
 pub write_pattern-requires-clause-negative_room : goal.write_pattern-requires-clause-negative_room
 write_pattern-requires-clause-negative_room c =
     let pattern = c.in-Some.pattern in
     let room : room_with (Some pattern) ≤ length c.args.into.now = rw c.in-Some.is at c.requires.room in
-    omega (arith, room, count_is_length pattern.negative_prefix.items pattern.utf8_negative_prefix, count_is_length pattern.negative_suffix.items pattern.utf8_negative_suffix)
+    omega (arith, room)
 
 pub returns-in-Some-clause-rest : goal.returns-in-Some-clause-rest
 returns-in-Some-clause-rest c =

@@ -27,11 +27,11 @@ use Rattle.dfdl_decimal.proofs.FixedLemmas.{shortest_from-shift}
 use Rattle.dfdl_decimal.proofs.OrderLemmas.{pow_some, pow_split}
 use Rattle.dfdl_decimal.proofs.SameLemmas.{fixed_of-same}
 use Rattle.dfdl_decimal.proofs.SumLemmas.{with_sign-abs, mul-with_sign}
-use Rattle.dfdl_number_pattern.specs.declared.form.Rounding.{Rounding}
-use Rattle.dfdl_number_pattern.specs.declared.pattern.NumberPattern.{NumberPattern}
-use Rattle.dfdl_number_pattern.specs.declared.pattern.Point.{Point}
-use Rattle.dfdl_number_pattern.specs.declared.pattern.Point.TheVariants.{Absent, Written, Implied}
-use Rattle.dfdl_number_text.specs.ReadBack.{NeedsNoRounding}
+use Rattle.dfdl_forms.specs.declared.number.Rounding.{Rounding}
+use Rattle.dfdl_forms.specs.declared.number_pattern.NumberPattern.{NumberPattern}
+use Rattle.dfdl_forms.specs.declared.number_pattern.Point.{Point}
+use Rattle.dfdl_forms.specs.declared.number_pattern.Point.TheVariants.{Absent, Written, Implied}
+use Rattle.dfdl_number_laws.specs.ReadBack.{NeedsNoRounding}
 use Rattle.dfdl_number_text.specs.Rounding.{rounded, may_round, goes_up}
 use Rattle.dfdl_number_text.specs.Writing.{number_of_value, is_below_zero, places_of, size_at}
 
@@ -172,13 +172,6 @@ small_integer mode point places number size is small =
     let few : m + 1 < 10 ^ 39 = omega (arith, small) in
     let less : (m + 1) * 10 ^ places < 10 ^ 39 * 10 ^ places = mul-lt-mul_of_pos_right few one in
     (div-lt_iff_lt-mul {x = size} {y = 10 ^ 39} one).1 (omega (arith, near mode point places number size is, div-le_self (m * 10 ^ places) (10 ^ number.scale), one, less))
-
-pub no_size : (m scale places : ℕ) → 0 * 10 ^ scale ≡ m * 10 ^ places → m ≡ 0
-no_size m scale places exact = sym (cancel 0 m (10 ^ places) (pow_some places) (omega arith))
-
-pub zero_from_size : (z : ℤ) → unsigned_abs z ≡ 0 → z ≡ pos 0
-zero_from_size (pos n) e = ap pos e
-zero_from_size (negsuc n) e = absurd (omega (arith, ints))
 
 -- ---- values
 -- numbers of these types have at most 128 bits

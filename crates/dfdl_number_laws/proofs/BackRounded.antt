@@ -12,11 +12,11 @@ use Rattle.dfdl_value.specs.declared.value.Value.{Value}
 use Rattle.dfdl_value.specs.declared.value.Value.TheVariants.{Int, Uns, Dec, Text, Truth, Bytes}
 use Rattle.dfdl_decimal.proofs.FixedLemmas.{int_div-with_sign, unsigned_abs-with_sign}
 use Rattle.dfdl_decimal.proofs.OrderLemmas.{pow_some, pow_split}
-use Rattle.dfdl_number_pattern.specs.declared.form.Rounding.{Rounding}
-use Rattle.dfdl_number_pattern.specs.declared.pattern.Point.{Point}
+use Rattle.dfdl_forms.specs.declared.number.Rounding.{Rounding}
+use Rattle.dfdl_forms.specs.declared.number_pattern.Point.{Point}
 use Rattle.dfdl_number_text.specs.Reading.{of_value}
 use Rattle.dfdl_number_text.specs.Writing.{number_of_value, size_at}
-use Rattle.dfdl_number_text.proofs.LawNumbers.{near}
+use Rattle.dfdl_number_laws.proofs.BackNumbers.{near}
 
 small_as_is : (b : Bool) (n s : ℕ) → n < 10 ^ 38 → s < 256 → is_small (record { mantissa = with_sign b n; scale = s }) ≡ true
 small_as_is b n s few short =

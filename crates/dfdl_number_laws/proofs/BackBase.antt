@@ -15,15 +15,15 @@ use Rattle.dfdl_forms.specs.declared.simple.Form.TheVariants.{Signed, Unsigned}
 use Rattle.dfdl_forms.specs.declared.simple.Simple.{Simple}
 use Rattle.dfdl_value.specs.declared.value.Value.{Value}
 use Rattle.dfdl_value.specs.declared.value.Value.TheVariants.{Int, Uns, Dec, Text, Truth, Bytes}
-use Rattle.dfdl_number_pattern.specs.Base.{is_base}
-use Rattle.dfdl_number_pattern.specs.declared.form.NumberForm.{NumberForm}
-use Rattle.dfdl_number_pattern.specs.declared.pattern.NumberPattern.{NumberPattern}
+use Rattle.dfdl_forms.specs.NumberForms.{is_base}
+use Rattle.dfdl_forms.specs.declared.number.NumberForm.{NumberForm}
+use Rattle.dfdl_forms.specs.declared.number_pattern.NumberPattern.{NumberPattern}
 use Rattle.dfdl_number_text.specs.Digits.{digits_at, digit_count, digit_character}
 use Rattle.dfdl_number_text.specs.Reading.{reading, reading_by, base_reading, base_number, whole_if, number_if, of_value}
 use Rattle.dfdl_number_text.specs.Writing.{writing, writing_by, base_text, base_digits}
-use Rattle.dfdl_number_text.proofs.LawBack.{few_bits}
-use Rattle.dfdl_number_text.proofs.LawDigits.{digits_below, length-digits_at, fold_digits, count_below, value_of_character}
-use Rattle.dfdl_number_text.proofs.LawNumbers.{value_back}
+use Rattle.dfdl_forms.proofs.KindLemmas.{few_bits}
+use Rattle.dfdl_number_laws.proofs.BackDigits.{digits_below, length-digits_at, fold_digits, count_below, value_of_character}
+use Rattle.dfdl_number_laws.proofs.BackNumbers.{value_back}
 
 module _ (base : ℕ) (some : 2 ≤ base) (few : base ≤ 36) where
   value_is : (d : ℕ) → nat_lt d base ≡ true → digit_value (digit_character d) ≡ d

@@ -1,11 +1,21 @@
 -- Grouped digits are read as the digits that they were made of.
-use Rattle.std.proofs.Common.{◌≡◌, ◌≢◌, ℕ, ◌<◌, ◌%◌, ◌==◌, ◌&&◌, Bool, true, false, not, nat_lt, if◌then◌else◌, List, [], ◌∷◌, length, filter, Option, Some, None, refl, sym, arith}
+use Rattle.std.proofs.Common.{◌≡◌, ◌≢◌, ℕ, suc, ◌<◌, ◌≤◌, ◌%◌, ◌==◌, ◌&&◌, Bool, true, false, not, nat_lt, if◌then◌else◌, List, [], ◌∷◌, length, filter, Option, Some, None, refl, sym, arith}
 use Rattle.std.specs.Char.{is_ascii_digit}
 use Rattle.std.specs.List.{list_all}
 use Rattle.std.proofs.lemmas.Bool.{eq-eqb, ne_eqb, and_parts}
 use Rattle.std.proofs.lemmas.Bool.Decides.{nat_tests}
 use Rattle.dfdl_number_text.specs.Body.{are_grouped, begins_with_digit}
 use Rattle.dfdl_number_text.specs.Writing.{grouped}
+
+-- separators make digits no fewer
+pub grouped_longer : (separator group : ℕ) (ds : List ℕ) → length ds ≤ length (grouped separator group ds)
+grouped_longer separator group [] = omega arith
+grouped_longer separator group (d ∷ ds) = by (not (group == 0) && (nat_lt 0 (length ds) && (length ds % group == 0))) (grouped_longer separator group ds)
+  where
+    by : (b : Bool) → length ds ≤ length (grouped separator group ds)
+        → suc (length ds) ≤ length (if b then d ∷ (separator ∷ grouped separator group ds) else d ∷ grouped separator group ds)
+    by true less = omega arith
+    by false less = omega arith
 
 -- digits without separators
 plain_are_grouped : (separator : Option ℕ) (behind : Bool) (ds : List ℕ) → list_all is_ascii_digit ds ≡ true → are_grouped separator behind ds ≡ true

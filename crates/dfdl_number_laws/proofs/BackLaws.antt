@@ -1,5 +1,5 @@
 -- What a number is written as by a pattern is read as that number.
-use Rattle.std.proofs.Common.{◌≡◌, ◌≢◌, ℕ, ◌+◌, ◌*◌, ◌/◌, ◌^◌, ◌<◌, ◌≤◌, ◌==◌, ◌&&◌, Bool, true, false, not, if◌then◌else◌, ℤ, pos, unsigned_abs, List, [], ◌∷◌, ◌++◌, length, filter, map, chars, Option, Some, None, option_map, option_and_then, Result, Ok, is_ok, lit≤, inl, inr, refl, ap, sym, subst, ◌∙◌, zero-mul, length-append, arith}
+use Rattle.std.proofs.Common.{◌≡◌, ◌≢◌, ℕ, ◌+◌, ◌*◌, ◌/◌, ◌^◌, ◌<◌, ◌≤◌, ◌==◌, ◌&&◌, max, nat_eq, nat_lt, Bool, true, false, not, if◌then◌else◌, ℤ, pos, unsigned_abs, List, [], ◌∷◌, ◌++◌, length, filter, map, chars, Option, Some, None, option_map, option_and_then, Result, Ok, is_ok, lit≤, inl, inr, refl, ap, sym, subst, ◌∙◌, zero-mul, length-append, arith}
 use Rattle.std.specs.Char.{is_ascii_digit}
 use Rattle.std.specs.List.{list_all}
 use Rattle.std.proofs.Math.Nat.{div-one}
@@ -8,47 +8,68 @@ use Rattle.std.proofs.lemmas.List.{length-map, nil_from_length}
 use Rattle.dfdl_decimal.specs.Decimal.{DecimalNumber, with_sign}
 use Rattle.dfdl_value.specs.Numbers.{number_reading}
 use Rattle.dfdl_value.specs.Texts.{number_after, number_of}
-use Rattle.dfdl_forms.specs.Types.{HasFewBits, form_of}
+use Rattle.dfdl_forms.specs.Types.{form_of}
+use Rattle.dfdl_forms.proofs.KindLemmas.{few_bits}
 use Rattle.dfdl_value.specs.Types.{IsOfType}
 use Rattle.dfdl_forms.specs.declared.simple.Simple.{Simple}
-use Rattle.dfdl_forms.specs.declared.simple.Simple.TheVariants.{String, HexBinary, Boolean, Decimal, Integer, NonNegativeInteger, Byte, Short, Int as IntType, Long, UnsignedByte, UnsignedShort, UnsignedInt, UnsignedLong}
 use Rattle.dfdl_value.specs.declared.value.Value.{Value}
 use Rattle.dfdl_value.proofs.DecimalLemmas.{number_after-append}
-use Rattle.dfdl_number_pattern.specs.declared.form.NumberForm.{NumberForm}
-use Rattle.dfdl_number_pattern.specs.declared.pattern.NumberPattern.{NumberPattern}
-use Rattle.dfdl_number_pattern.specs.declared.pattern.Point.{Point}
-use Rattle.dfdl_number_pattern.specs.declared.pattern.Point.TheVariants.{Absent, Written, Implied}
+use Rattle.dfdl_forms.specs.declared.number.NumberForm.{NumberForm}
+use Rattle.dfdl_forms.specs.declared.number_pattern.NumberPattern.{NumberPattern}
+use Rattle.dfdl_forms.specs.declared.number_pattern.Point.{Point}
+use Rattle.dfdl_forms.specs.declared.number_pattern.Point.TheVariants.{Absent, Written, Implied}
 use Rattle.dfdl_number_text.specs.declared.fault.NumberFault.{NumberFault}
 use Rattle.dfdl_number_text.specs.Body.{Parts, parts_at, are_grouped, separator_of, body_number}
 use Rattle.dfdl_number_text.specs.Digits.{digits_at, digit_character}
-use Rattle.dfdl_number_text.specs.ReadBack.{HasPlainGrouping, HasPlainDecimal, HasPlainSeparators, NeedsNoRounding, WritesZero, IsNotPositive, HasOneSign}
+use Rattle.dfdl_number_laws.specs.ReadBack.{NeedsNoRounding, IsNotPositive, HasOneSign}
+use Rattle.dfdl_number_laws.proofs.BackPlain.{HasPlainGrouping, HasPlainDecimal, HasPlainSeparators, plain_separators}
 use Rattle.dfdl_number_text.specs.Reading.{reading, reading_by, of_value, number_if, or_else, signed_number}
-use Rattle.dfdl_number_text.specs.Writing.{number_of_value, is_below_zero, places_of, size_at, grouped, integer_digits, with_separator, behind_integer, body_text, signed_text, pattern_text, writing, writing_by}
-use Rattle.dfdl_number_text.proofs.LawDigits.{decimal_digits, digits_behind, integer_number, length-digits_at}
-use Rattle.dfdl_number_text.proofs.LawGroups.{separated_are_grouped, separated_digits, separated_without}
-use Rattle.dfdl_number_text.proofs.LawNumbers.{IsKept, kept_digits, kept_are_digits, kept_number, exact_size, small_integer, no_size, zero_from_size, small_magnitude, zeros_say_nothing, value_back}
-use Rattle.dfdl_number_text.proofs.LawRounded.{rounded_is_value}
-use Rattle.dfdl_number_text.proofs.LawSigns.{signs_law}
-use Rattle.dfdl_number_text.proofs.LawParts.{absent_parts, written_parts, implied_parts, between_affixes}
+use Rattle.dfdl_number_text.specs.Writing.{number_of_value, is_below_zero, places_of, size_at, grouped, integer_digits, least_digits, written_fraction, behind_integer, body_text, signed_text, pattern_text, writing, writing_by}
+use Rattle.dfdl_number_laws.proofs.BackDigits.{decimal_digits, digits_behind, integer_number, integer_length, length-digits_at}
+use Rattle.dfdl_number_laws.proofs.BackGroups.{grouped_longer, separated_are_grouped, separated_digits, separated_without}
+use Rattle.dfdl_number_laws.proofs.BackNumbers.{IsKept, kept_digits, kept_are_digits, kept_number, exact_size, small_integer, small_magnitude, zeros_say_nothing, value_back}
+use Rattle.dfdl_number_laws.proofs.BackRounded.{rounded_is_value}
+use Rattle.dfdl_number_laws.proofs.BackSigns.{signs_law}
+use Rattle.dfdl_number_laws.proofs.BackParts.{absent_parts, written_parts, implied_parts, between_affixes}
 
 -- a body's parts write a number of this size, which counts the last of so many fraction digits, but for zeros at its end
-record IsSplit (separator : Option ℕ) (size places : ℕ) (body : List ℕ) (parts : Parts) : Type 0 where
+record AreParts (separator : Option ℕ) (size places : ℕ) (parts : Parts) : Type 0 where
   zeros : ℕ
   whole : are_grouped separator false parts.whole ≡ true
   fraction : list_all is_ascii_digit parts.fraction ≡ true
   size_is : size ≡ number_of (filter is_ascii_digit parts.whole ++ parts.fraction) * 10 ^ zeros
   places_is : places ≡ parts.scale + zeros
-  some : length parts.whole + length parts.fraction ≡ 0 → length body ≡ 0
+  some : 0 < length parts.whole + length parts.fraction
+
+-- one digit stands at least
+digits_some : (pattern : NumberPattern) (separator whole count : ℕ)
+    → 0 < length (grouped separator pattern.group_size (integer_digits (least_digits pattern count) whole)) + count
+digits_some pattern separator whole count =
+    elim (cases_eq count 0) [
+      | inl none ↦
+          let least : 1 ≤ least_digits pattern 0 = one_at_least (nat_eq pattern.greatest_integer 0) in
+          let digits = integer_length (least_digits pattern 0) whole in
+          let long = grouped_longer separator pattern.group_size (integer_digits (least_digits pattern 0) whole) in
+          rw none (omega (arith, least, digits, long))
+      | inr some ↦ omega (arith, some)
+    ]
+  where
+    one_at_least : (b : Bool) → 1 ≤ (if b && nat_lt 0 0 then 0 else max 1 pattern.least_integer)
+    one_at_least true = omega arith
+    one_at_least false = omega arith
 
 module _ (form : NumberForm) (pattern : NumberPattern) (group : HasPlainGrouping form pattern) (size : ℕ) where
+  abbrev fraction_at : Point → List ℕ
+  fraction_at point = written_fraction pattern point size
+
   abbrev integers : Point → List ℕ
-  integers point = integer_digits pattern.least_integer (size / 10 ^ places_of pattern point)
+  integers point = integer_digits (least_digits pattern (length (fraction_at point))) (size / 10 ^ places_of pattern point)
 
   abbrev front : Point → List ℕ
   front point = grouped form.grouping pattern.group_size (integers point)
 
   abbrev body_at : Point → List ℕ
-  body_at point = front point ++ behind_integer form pattern point size
+  body_at point = front point ++ behind_integer form pattern point (fraction_at point)
 
   abbrev are_integers : (point : Point) → list_all is_ascii_digit (integers point) ≡ true
   are_integers point = decimal_digits _ (size / 10 ^ places_of pattern point)
@@ -62,41 +83,37 @@ module _ (form : NumberForm) (pattern : NumberPattern) (group : HasPlainGrouping
   front_number point fraction small =
       ap (λ (ds : List ℕ). number_of (ds ++ fraction)) (separated_digits form.grouping pattern.group_size (integers point) group (are_integers point))
       ∙ number_after-append 0 (integers point) fraction
-      ∙ ap (λ (n : ℕ). number_after n fraction) (integer_number pattern.least_integer (size / 10 ^ places_of pattern point) small)
+      ∙ ap (λ (n : ℕ). number_after n fraction) (integer_number (least_digits pattern (length (fraction_at point))) (size / 10 ^ places_of pattern point) small)
 
   abbrev Splits : Point → Parts → Type 0
-  Splits point parts = IsSplit (separator_of form pattern) size (places_of pattern point) (body_at point) parts
+  Splits point parts = AreParts (separator_of form pattern) size (places_of pattern point) parts
 
-  split_is : (point : Point) → HasPlainDecimal form pattern point → size / 10 ^ places_of pattern point < 10 ^ 39
+  parts_are : (point : Point) → HasPlainDecimal form pattern point → size / 10 ^ places_of pattern point < 10 ^ 39
       → Splits point (parts_at point form.decimal pattern.implied (body_at point))
-  split_is Absent decimal small = subst (Splits Absent) (sym (absent_parts form.decimal pattern.implied (front Absent))) (record {
+  parts_are Absent decimal small = subst (Splits Absent) (sym (absent_parts form.decimal pattern.implied (front Absent))) (record {
     zeros = 0;
     whole = front_grouped Absent;
     fraction = refl;
     size_is = omega (arith, front_number Absent [] small ∙ div-one size);
     places_is = refl;
-    some = λ none. omega (arith, length-append (front Absent) [], none);
+    some = digits_some pattern form.grouping (size / 10 ^ 0) 0;
   })
-  split_is Written decimal small =
+  parts_are Written decimal small =
       let places : ℕ = pattern.greatest_fraction in
       let digits : List ℕ = map digit_character (digits_at 10 places size) in
       let kept : List ℕ = kept_digits pattern.least_fraction digits in
       let count : length digits ≡ places = omega (arith, length-map (digits_at 10 places size) digit_character, length-digits_at 10 places size) in
       let without = separated_without form.grouping pattern.group_size (integers Written) group (are_integers Written) form.decimal decimal.0 decimal.1 in
       let is : IsKept (size / 10 ^ places) size places kept = kept_number pattern.least_fraction (size / 10 ^ places) size places digits count (digits_behind places size) in
-      subst (Splits Written) (sym (written_parts form.decimal (front Written) without pattern.implied kept)) (record {
+      subst (Splits Written) (sym (written_parts form.decimal (front Written) without pattern.implied places kept)) (record {
         zeros = is.zeros;
         whole = front_grouped Written;
         fraction = kept_are_digits pattern.least_fraction digits (decimal_digits places size);
         size_is = is.size_is ∙ ap (λ (n : ℕ). n * 10 ^ is.zeros) (sym (front_number Written kept small));
         places_is = is.places_is;
-        some = λ none. by_length kept (front Written) none;
+        some = digits_some pattern form.grouping (size / 10 ^ places) (length kept);
       })
-    where
-      by_length : (kept whole : List ℕ) → length whole + length kept ≡ 0 → length (whole ++ with_separator form.decimal kept) ≡ 0
-      by_length [] whole none = omega (arith, length-append whole [], none)
-      by_length (d ∷ ds) whole none = absurd (omega (arith, none))
-  split_is Implied decimal small =
+  parts_are Implied decimal small =
       let places : ℕ = pattern.implied in
       let digits : List ℕ = map digit_character (digits_at 10 places size) in
       let count : length digits ≡ places = omega (arith, length-map (digits_at 10 places size) digit_character, length-digits_at 10 places size) in
@@ -106,7 +123,7 @@ module _ (form : NumberForm) (pattern : NumberPattern) (group : HasPlainGrouping
         fraction = decimal_digits places size;
         size_is = omega (arith, front_number Implied digits small ∙ digits_behind places size);
         places_is = omega arith;
-        some = λ none. omega (arith, length-append (front Implied) digits, none);
+        some = digits_some pattern form.grouping (size / 10 ^ places) (length digits);
       })
 
 -- the number that a body is read as
@@ -119,61 +136,24 @@ record IsNumber (form : NumberForm) (pattern : NumberPattern) (size places : ℕ
   places_is : places ≡ scale + zeros
 
 body_back : (form : NumberForm) (pattern : NumberPattern) (size : ℕ) → HasPlainSeparators form pattern → size / 10 ^ places_of pattern pattern.point < 10 ^ 39
-    → (size ≡ 0 → WritesZero form pattern) → IsNumber form pattern size (places_of pattern pattern.point) (body_text form pattern size)
-body_back form pattern size plain small digit = record {
+    → IsNumber form pattern size (places_of pattern pattern.point) (body_text form pattern size)
+body_back form pattern size plain small = record {
   n = number_of (filter is_ascii_digit parts.whole ++ parts.fraction);
   scale = parts.scale;
-  zeros = is.zeros;
-  is = λ negative. picked _ _ _ is.whole is.fraction (lt-ltb _ _ some);
-  size_is = is.size_is;
-  places_is = is.places_is;
+  zeros = are.zeros;
+  is = λ negative. picked _ _ _ are.whole are.fraction (lt-ltb _ _ are.some);
+  size_is = are.size_is;
+  places_is = are.places_is;
 }
   where
-    body : List ℕ
-    body = body_text form pattern size
-
     parts : Parts
-    parts = parts_at pattern.point form.decimal pattern.implied body
+    parts = parts_at pattern.point form.decimal pattern.implied (body_text form pattern size)
 
-    is : IsSplit (separator_of form pattern) size (places_of pattern pattern.point) body parts
-    is = split_is form pattern plain.0 size pattern.point plain.1 small
+    are : AreParts (separator_of form pattern) size (places_of pattern pattern.point) parts
+    are = parts_are form pattern plain.0 size pattern.point plain.1 small
 
     picked : (a b c : Bool) {x : DecimalNumber} → a ≡ true → b ≡ true → c ≡ true → (if (a && b) && c then Some x else None) ≡ Some x
     picked a b c p q r = rw (p, q, r) refl
-
-    -- without digits the size would be zero
-    nothing : length parts.whole + length parts.fraction ≡ 0 → size ≡ 0
-    nothing none =
-        let whole : parts.whole ≡ [] = nil_from_length parts.whole (omega arith) in
-        let fraction : parts.fraction ≡ [] = nil_from_length parts.fraction (omega arith) in
-        let zero : number_of (filter is_ascii_digit parts.whole ++ parts.fraction) ≡ 0 =
-        ap (λ (ds : List ℕ). number_of (filter is_ascii_digit ds ++ parts.fraction)) whole ∙ ap number_of fraction in
-        is.size_is ∙ ap (λ (n : ℕ). n * 10 ^ is.zeros) zero ∙ zero-mul (10 ^ is.zeros)
-
-    some : 0 < length parts.whole + length parts.fraction
-    some = elim (cases_eq (length parts.whole + length parts.fraction) 0) [
-      | inl none ↦
-          let size_is : size ≡ 0 = nothing none in
-          let long : 0 < length body = subst (λ (n : ℕ). 0 < length (body_text form pattern n)) (sym size_is) (digit size_is) in
-          absurd (omega (arith, is.some none, long))
-      | inr other ↦ omega arith
-    ]
-
-pub few_bits : (kind : Simple) → HasFewBits (form_of kind)
-few_bits String = tt
-few_bits HexBinary = tt
-few_bits Boolean = tt
-few_bits Decimal = tt
-few_bits Integer = (lit≤ tt, lit≤ tt)
-few_bits NonNegativeInteger = (lit≤ tt, lit≤ tt)
-few_bits Byte = (lit≤ tt, lit≤ tt)
-few_bits Short = (lit≤ tt, lit≤ tt)
-few_bits IntType = (lit≤ tt, lit≤ tt)
-few_bits Long = (lit≤ tt, lit≤ tt)
-few_bits UnsignedByte = (lit≤ tt, lit≤ tt)
-few_bits UnsignedShort = (lit≤ tt, lit≤ tt)
-few_bits UnsignedInt = (lit≤ tt, lit≤ tt)
-few_bits UnsignedLong = (lit≤ tt, lit≤ tt)
 
 -- ---- signs
 no_not : (b : Bool) → not b ≡ true → b ≡ true → ⊥
@@ -194,18 +174,18 @@ sign_is true size t e = by (size == 0) refl e
     by true told h = let none : size ≡ 0 = eqb-true size 0 told in rw none (zero_signs t)
 
 module _ (form : NumberForm) (pattern : NumberPattern) (kind : Simple) (value : Value) (number : DecimalNumber) (text : List ℕ)
-    (has : form.pattern ≡ Some pattern) (plain : HasPlainSeparators form pattern) (of : IsOfType kind value) (is : number_of_value value ≡ Some number) where
+    (has : form.pattern ≡ Some pattern) (of : IsOfType kind value) (is : number_of_value value ≡ Some number) where
   abbrev prefix : List ℕ
-  prefix = chars pattern.prefix.items
+  prefix = pattern.prefix.items
 
   abbrev suffix : List ℕ
-  suffix = chars pattern.suffix.items
+  suffix = pattern.suffix.items
 
   abbrev negative_prefix : List ℕ
-  negative_prefix = chars pattern.negative_prefix.items
+  negative_prefix = pattern.negative_prefix.items
 
   abbrev negative_suffix : List ℕ
-  negative_suffix = chars pattern.negative_suffix.items
+  negative_suffix = pattern.negative_suffix.items
 
   abbrev size_of : Option ℕ
   size_of = size_at form.rounding pattern.point (places_of pattern pattern.point) number
@@ -214,9 +194,9 @@ module _ (form : NumberForm) (pattern : NumberPattern) (kind : Simple) (value : 
   abbrev sized_reading : ℕ → Result Value NumberFault
   sized_reading size = of_value (number_reading (form_of kind) (record { mantissa = with_sign (is_below_zero number) size; scale = places_of pattern pattern.point }))
 
-  sized : (size : ℕ) → size_of ≡ Some size → (size ≡ 0 → WritesZero form pattern) → (is_below_zero number ≡ true → size ≢ 0 → HasOneSign form pattern text)
+  sized : (size : ℕ) → size_of ≡ Some size → (is_below_zero number ≡ true → size ≢ 0 → HasOneSign form pattern text)
       → signed_text form pattern (is_below_zero number) size ≡ text → reading_by form (Some pattern) (form_of kind) text ≡ sized_reading size
-  sized size told digit one written = by (is_below_zero number && not (size == 0)) refl written
+  sized size told one written = by (is_below_zero number && not (size == 0)) refl written
     where
       places : ℕ
       places = places_of pattern pattern.point
@@ -225,7 +205,7 @@ module _ (form : NumberForm) (pattern : NumberPattern) (kind : Simple) (value : 
       small = small_integer form.rounding pattern.point places number size told (small_magnitude (form_of kind) value number (few_bits kind) of is)
 
       body : IsNumber form pattern size places (body_text form pattern size)
-      body = body_back form pattern size plain small digit
+      body = body_back form pattern size (plain_separators form pattern has) small
 
       -- the number between a prefix and a suffix
       inside : (negative : Bool) (front back : List ℕ) → front ++ (body_text form pattern size ++ back) ≡ text
@@ -275,33 +255,27 @@ module _ (form : NumberForm) (pattern : NumberPattern) (kind : Simple) (value : 
   abbrev by_pattern : reading form kind text ≡ reading_by form (Some pattern) (form_of kind) text
   by_pattern = ap (λ (o : Option NumberPattern). reading_by form o (form_of kind) text) has
 
-  pub rounded_law : (size : ℕ) → size_of ≡ Some size → (size ≡ 0 → WritesZero form pattern) → (is_below_zero number ≡ true → size ≢ 0 → HasOneSign form pattern text)
+  pub rounded_law : (size : ℕ) → size_of ≡ Some size → (is_below_zero number ≡ true → size ≢ 0 → HasOneSign form pattern text)
       → writing form value ≡ Some text → reading form kind text ≡ sized_reading size
-  rounded_law size told digit one written =
+  rounded_law size told one written =
       let has_size : IsSized = size_is written in
       let same : has_size.size ≡ size = some_same (sym has_size.told ∙ told) in
-      by_pattern ∙ sized size told digit one (ap (signed_text form pattern (is_below_zero number)) (sym same) ∙ has_size.written)
+      by_pattern ∙ sized size told one (ap (signed_text form pattern (is_below_zero number)) (sym same) ∙ has_size.written)
     where
       some_same : {x y : ℕ} → Some x ≡ Some y → x ≡ y
       some_same e = cc
 
-  pub exact_law : NeedsNoRounding pattern pattern.point number → (number.mantissa ≡ pos 0 → WritesZero form pattern)
-      → (is_below_zero number ≡ true → HasOneSign form pattern text) → writing form value ≡ Some text → reading form kind text ≡ Ok value
-  exact_law few digit one written =
+  pub exact_law : NeedsNoRounding pattern pattern.point number → (is_below_zero number ≡ true → HasOneSign form pattern text) → writing form value ≡ Some text → reading form kind text ≡ Ok value
+  exact_law few one written =
       let has_size : IsSized = size_is written in
       let exact = exact_size form.rounding pattern pattern.point number has_size.size few has_size.told in
       by_pattern
-      ∙ sized has_size.size has_size.told (λ none. digit (zero_is has_size.size exact none)) (λ below _. one below) has_size.written
+      ∙ sized has_size.size has_size.told (λ below _. one below) has_size.written
       ∙ ap of_value (value_back (form_of kind) value number has_size.size (places_of pattern pattern.point) of is exact)
-    where
-      zero_is : (size : ℕ) → size * 10 ^ number.scale ≡ unsigned_abs number.mantissa * 10 ^ places_of pattern pattern.point → size ≡ 0 → number.mantissa ≡ pos 0
-      zero_is size exact none =
-          zero_from_size number.mantissa
-          (no_size (unsigned_abs number.mantissa) number.scale (places_of pattern pattern.point) (ap (λ (n : ℕ). n * 10 ^ number.scale) (sym none) ∙ exact))
 
-  pub value_law : (size : ℕ) → size_of ≡ Some size → (size ≡ 0 → WritesZero form pattern) → (is_below_zero number ≡ true → size ≢ 0 → HasOneSign form pattern text)
+  pub value_law : (size : ℕ) → size_of ≡ Some size → (is_below_zero number ≡ true → size ≢ 0 → HasOneSign form pattern text)
       → writing form value ≡ Some text → is_ok (reading form kind text) ≡ true
-  value_law size told digit one written = ap is_ok (rounded_law size told digit one written) ∙ elim (cases_lt (places_of pattern pattern.point) number.scale) [
+  value_law size told one written = ap is_ok (rounded_law size told one written) ∙ elim (cases_lt (places_of pattern pattern.point) number.scale) [
     | inl less ↦ rounded_is_value form.rounding pattern.point (form_of kind) value number (is_below_zero number) size (places_of pattern pattern.point) of is less told
     | inr few ↦
         let exact = exact_size form.rounding pattern pattern.point number size (needs_none pattern.point few) told in

@@ -5,7 +5,7 @@ use Rattle.std.specs.Str.{bytes_eq}
 use Rattle.std.proofs.lemmas.Bool.{eq-eqb, le-leb, and_parts}
 use Rattle.std.proofs.lemmas.List.{append-nil, drop_all}
 use Rattle.std.proofs.Math.Seq.{take-append_seam, drop-append_seam, drop-append-add}
-use Rattle.dfdl_number_pattern.specs.declared.pattern.Point.TheVariants.{Absent, Written, Implied}
+use Rattle.dfdl_forms.specs.declared.number_pattern.Point.TheVariants.{Absent, Written, Implied}
 use Rattle.dfdl_number_text.specs.Body.{parts_at, between}
 use Rattle.dfdl_number_text.specs.Writing.{with_separator}
 
@@ -23,29 +23,50 @@ prefix_front p (x ∷ xs) y ys all stops =
     rw (parts.0, prefix_front p xs y ys parts.1 stops) (omega arith)
 
 module _ (decimal : ℕ) (whole : List ℕ) (plain : list_all (λ c. not (c == decimal)) whole ≡ true) where
-  before_is : (fraction : List ℕ) → before_first (λ c. c == decimal) (whole ++ with_separator decimal fraction) ≡ whole
-  before_is [] =
+  separated : (fraction : List ℕ) → before_first (λ c. c == decimal) (whole ++ decimal ∷ fraction) ≡ whole
+  separated fraction =
+      let stops : not (decimal == decimal) ≡ false = rw (eq-eqb decimal decimal refl) refl in
+      ap (λ (n : ℕ). take n (whole ++ decimal ∷ fraction)) (prefix_front (λ c. not (c == decimal)) whole decimal fraction plain stops)
+      ∙ take-append_seam whole (decimal ∷ fraction)
+
+  behind : (fraction : List ℕ) → after_first (λ c. c == decimal) (whole ++ decimal ∷ fraction) ≡ fraction
+  behind fraction =
+      let stops : not (decimal == decimal) ≡ false = rw (eq-eqb decimal decimal refl) refl in
+      ap (λ (n : ℕ). drop (n + 1) (whole ++ decimal ∷ fraction)) (prefix_front (λ c. not (c == decimal)) whole decimal fraction plain stops)
+      ∙ drop-append-add whole (decimal ∷ fraction) 1
+
+  unseparated : before_first (λ c. c == decimal) (whole ++ []) ≡ whole
+  unseparated =
       ap (λ (n : ℕ). take n (whole ++ [])) (ap (prefix_len (λ c. not (c == decimal))) (append-nil whole) ∙ prefix_all (λ c. not (c == decimal)) whole plain)
       ∙ take-append_seam whole []
-  before_is (d ∷ ds) =
-      let stops : not (decimal == decimal) ≡ false = rw (eq-eqb decimal decimal refl) refl in
-      ap (λ (n : ℕ). take n (whole ++ decimal ∷ (d ∷ ds))) (prefix_front (λ c. not (c == decimal)) whole decimal (d ∷ ds) plain stops)
-      ∙ take-append_seam whole (decimal ∷ (d ∷ ds))
 
-  after_is : (fraction : List ℕ) → after_first (λ c. c == decimal) (whole ++ with_separator decimal fraction) ≡ fraction
-  after_is [] =
+  nothing_behind : after_first (λ c. c == decimal) (whole ++ []) ≡ []
+  nothing_behind =
       ap (λ (n : ℕ). drop (n + 1) (whole ++ [])) (ap (prefix_len (λ c. not (c == decimal))) (append-nil whole) ∙ prefix_all (λ c. not (c == decimal)) whole plain)
       ∙ drop_all (length whole + 1) (whole ++ []) (omega (arith, length-append whole []))
-  after_is (d ∷ ds) =
-      let stops : not (decimal == decimal) ≡ false = rw (eq-eqb decimal decimal refl) refl in
-      ap (λ (n : ℕ). drop (n + 1) (whole ++ decimal ∷ (d ∷ ds))) (prefix_front (λ c. not (c == decimal)) whole decimal (d ∷ ds) plain stops)
-      ∙ drop-append-add whole (decimal ∷ (d ∷ ds)) 1
 
-  pub written_parts : (implied : ℕ) (fraction : List ℕ)
-      → parts_at Written decimal implied (whole ++ with_separator decimal fraction) ≡ record { whole = whole; fraction = fraction; scale = length fraction }
-  written_parts implied fraction =
-      ap (λ (w : List ℕ). record { whole = w; fraction = after_first (λ c. c == decimal) (whole ++ with_separator decimal fraction); scale = length (after_first (λ c. c == decimal) (whole ++ with_separator decimal fraction)) }) (before_is fraction)
-      ∙ ap (λ (f : List ℕ). record { whole = whole; fraction = f; scale = length f }) (after_is fraction)
+  before_is : (places : ℕ) (fraction : List ℕ) → before_first (λ c. c == decimal) (whole ++ with_separator places decimal fraction) ≡ whole
+  before_is places (d ∷ ds) = separated (d ∷ ds)
+  before_is places [] = by (places == 0)
+    where
+      by : (b : Bool) → before_first (λ c. c == decimal) (whole ++ (if b then decimal ∷ [] else [])) ≡ whole
+      by true = separated []
+      by false = unseparated
+
+  after_is : (places : ℕ) (fraction : List ℕ) → after_first (λ c. c == decimal) (whole ++ with_separator places decimal fraction) ≡ fraction
+  after_is places (d ∷ ds) = behind (d ∷ ds)
+  after_is places [] = by (places == 0)
+    where
+      by : (b : Bool) → after_first (λ c. c == decimal) (whole ++ (if b then decimal ∷ [] else [])) ≡ []
+      by true = behind []
+      by false = nothing_behind
+
+  pub written_parts : (implied places : ℕ) (fraction : List ℕ)
+      → parts_at Written decimal implied (whole ++ with_separator places decimal fraction) ≡ record { whole = whole; fraction = fraction; scale = length fraction }
+  written_parts implied places fraction =
+      let text : List ℕ = whole ++ with_separator places decimal fraction in
+      ap (λ (w : List ℕ). record { whole = w; fraction = after_first (λ c. c == decimal) text; scale = length (after_first (λ c. c == decimal) text) }) (before_is places fraction)
+      ∙ ap (λ (f : List ℕ). record { whole = whole; fraction = f; scale = length f }) (after_is places fraction)
 
 pub absent_parts : (decimal implied : ℕ) (whole : List ℕ) → parts_at Absent decimal implied (whole ++ []) ≡ record { whole = whole; fraction = []; scale = 0 }
 absent_parts decimal implied whole = ap (λ (w : List ℕ). record { whole = w; fraction = []; scale = 0 }) (append-nil whole)

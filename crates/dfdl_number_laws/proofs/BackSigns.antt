@@ -2,7 +2,7 @@
 use Rattle.std.proofs.Common.{◌≡◌, ℕ, ◌+◌, ◌-◌, ◌≤◌, ◌==◌, ◌&&◌, ◌||◌, not, Bool, true, false, nat_le, if◌then◌else◌, List, [], ◌∷◌, ◌++◌, length, get_or, take, drop, reverse, Option, Some, None, option_and_then, ◌⊎◌, inl, inr, refl, ap, sym, ◌∙◌, append_assoc, arith}
 use Rattle.std.specs.Char.{is_ascii_digit}
 use Rattle.std.specs.List.{list_all, position_or_len, before_first, after_first}
-use Rattle.std.specs.Str.{bytes_eq, chars}
+use Rattle.std.specs.Str.{bytes_eq}
 use Rattle.std.proofs.Math.Bool.{or-true}
 use Rattle.std.proofs.Math.Seq.{take-nil, drop-nil}
 use Rattle.std.proofs.lemmas.Bool.{cases_lt, eq-eqb, eqb-true, and_parts, not-true}
@@ -11,12 +11,12 @@ use Rattle.std.proofs.lemmas.List.{take-append-drop, take_all, drop-drop, revers
 use Rattle.std.proofs.lemmas.List.Folds.{list_all-append}
 use Rattle.std.proofs.lemmas.List.Sums.{split_at_first, prefix_len_stops}
 use Rattle.std.proofs.lemmas.Slice.Eq.{bytes_eq-Decides}
-use Rattle.dfdl_number_pattern.specs.declared.form.NumberForm.{NumberForm}
-use Rattle.dfdl_number_pattern.specs.declared.pattern.NumberPattern.{NumberPattern}
-use Rattle.dfdl_number_pattern.specs.declared.pattern.Point.{Point}
-use Rattle.dfdl_number_pattern.specs.declared.pattern.Point.TheVariants.{Absent, Written, Implied}
+use Rattle.dfdl_forms.specs.declared.number.NumberForm.{NumberForm}
+use Rattle.dfdl_forms.specs.declared.number_pattern.NumberPattern.{NumberPattern}
+use Rattle.dfdl_forms.specs.declared.number_pattern.Point.{Point}
+use Rattle.dfdl_forms.specs.declared.number_pattern.Point.TheVariants.{Absent, Written, Implied}
 use Rattle.dfdl_number_text.specs.Body.{Parts, parts_at, parts_of, are_grouped, are_digits, begins_with_digit, is_separator, separator_of, between, body_number, parts_number}
-use Rattle.dfdl_number_text.specs.ReadBack.{IsNotPositive, is_decimal, is_of_body, tells, tells_sign}
+use Rattle.dfdl_number_laws.specs.ReadBack.{IsNotPositive, is_decimal, is_of_body, tells, tells_sign}
 
 no_both : (b : Bool) → b ≡ true → b ≡ false → ⊥
 no_both true e h = absurd cc
@@ -180,16 +180,16 @@ module _ (form : NumberForm) (pattern : NumberPattern) (body : List ℕ) (told :
   of c = is_of_body form pattern c
 
   abbrev prefix : List ℕ
-  prefix = chars pattern.prefix.items
+  prefix = pattern.prefix.items
 
   abbrev suffix : List ℕ
-  suffix = chars pattern.suffix.items
+  suffix = pattern.suffix.items
 
   abbrev negative_prefix : List ℕ
-  negative_prefix = chars pattern.negative_prefix.items
+  negative_prefix = pattern.negative_prefix.items
 
   abbrev negative_suffix : List ℕ
-  negative_suffix = chars pattern.negative_suffix.items
+  negative_suffix = pattern.negative_suffix.items
 
   abbrev text : List ℕ
   text = negative_prefix ++ (body ++ negative_suffix)
@@ -233,11 +233,6 @@ module _ (form : NumberForm) (pattern : NumberPattern) (body : List ℕ) (told :
       ]
 
 -- ---- a minus before the positive prefix
-chars_more : (bytes : List ℕ) → chars (45 ∷ bytes) ≡ 45 ∷ chars bytes
-unfolding chars
-chars_more [] = refl
-chars_more (b ∷ bytes) = refl
-
 minus_tells : (of_body : ℕ → Bool) (prefix : List ℕ) → of_body 45 ≡ false → tells of_body prefix (45 ∷ prefix) ≡ true
 minus_tells of_body [] other = ap not other
 minus_tells of_body (x ∷ prefix) other = by (x == 45) refl (minus_tells of_body prefix other)
@@ -249,8 +244,8 @@ minus_tells of_body (x ∷ prefix) other = by (x == 45) refl (minus_tells of_bod
 pub minus_law : (form : NumberForm) (pattern : NumberPattern) → pattern.negative_prefix.items ≡ 45 ∷ pattern.prefix.items → is_of_body form pattern 45 ≡ false
     → tells_sign form pattern ≡ true
 minus_law form pattern front other =
-    let prefix : List ℕ = chars pattern.prefix.items in
-    let is : chars pattern.negative_prefix.items ≡ 45 ∷ prefix = ap chars front ∙ chars_more pattern.prefix.items in
-    let told : tells (is_of_body form pattern) prefix (chars pattern.negative_prefix.items) ≡ true =
+    let prefix : List ℕ = pattern.prefix.items in
+    let is : pattern.negative_prefix.items ≡ 45 ∷ prefix = front in
+    let told : tells (is_of_body form pattern) prefix pattern.negative_prefix.items ≡ true =
     ap (tells (is_of_body form pattern) prefix) is ∙ minus_tells (is_of_body form pattern) prefix other in
-    ap (λ b. b || tells (is_of_body form pattern) (reverse (chars pattern.suffix.items)) (reverse (chars pattern.negative_suffix.items))) told
+    ap (λ b. b || tells (is_of_body form pattern) (reverse pattern.suffix.items) (reverse pattern.negative_suffix.items)) told

@@ -4,6 +4,7 @@ use Rattle.std.specs.Char.{is_ascii_digit, digit_value}
 use Rattle.std.specs.List.{list_all}
 use Rattle.std.proofs.lemmas.Bool.{lt-ltb, le-ltb, cases_lt, and_parts}
 use Rattle.std.proofs.lemmas.Bool.Decides.{nat_tests}
+use Rattle.std.proofs.lemmas.List.{length-map}
 use Rattle.std.proofs.lemmas.Nat.{div-add-mod'}
 use Rattle.std.proofs.Math.Nat.{mod-lt, pow-suc, pow-zero, div-div-eq-div-mul, div-eq_of_lt, div-one, le_trans, pow-le-pow_right}
 use Rattle.dfdl_value.specs.Texts.{number_after, number_of}
@@ -91,3 +92,9 @@ integer_number least n small =
     let count : ℕ = max least (digit_count 10 39 n) in
     let enough : 10 ^ digit_count 10 39 n ≤ 10 ^ count = pow-le-pow_right {n = 10} (omega arith) (let less : digit_count 10 39 n ≤ count = omega arith in less) in
     digits_number count n (le_trans (count_below 10 39 n small) enough)
+
+-- there are at least so many digits
+pub integer_length : (least n : ℕ) → least ≤ length (map digit_character (digits_at 10 (max least (digit_count 10 39 n)) n))
+integer_length least n =
+    let count : ℕ = max least (digit_count 10 39 n) in
+    omega (arith, length-map (digits_at 10 count n) digit_character, length-digits_at 10 count n)

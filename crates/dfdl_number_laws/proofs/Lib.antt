@@ -1,0 +1,9 @@
+pub mod BackBase
+pub mod BackDigits
+pub mod BackGroups
+pub mod BackLaws
+pub mod BackNumbers
+pub mod BackParts
+pub mod BackPlain
+pub mod BackRounded
+pub mod BackSigns

@@ -1,0 +1,25 @@
+// Forms of text numbers for the tests.
+use dfdl_forms::{NumberForm, NumberPattern, Rounding};
+use dfdl_number_pattern::read_pattern;
+use std::alloc::Global;
+use std::test::Fail;
+
+fn form(
+    base: u8,
+    pattern: Option<NumberPattern>,
+    rounding: Rounding,
+) -> Result<NumberForm, Fail> {
+    Ok(NumberForm::new(base, pattern, '.', ',', rounding).ok_or("no form")?)
+}
+
+pub(crate) fn patterned(
+    alloc: Global,
+    pattern: &str,
+    rounding: Rounding,
+) -> Result<NumberForm, Fail> {
+    form(10, Some(read_pattern(alloc, pattern)?), rounding)
+}
+
+pub(crate) fn based(base: u8) -> Result<NumberForm, Fail> {
+    form(base, None, Rounding::Unnecessary)
+}

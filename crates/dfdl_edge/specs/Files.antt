@@ -1,5 +1,5 @@
 -- What a load of a file answers.
-use Rattle.std.specs.Prelude.{Option, Some, None, Result, Ok, Err, ◌≡◌, ℕ, List, ◌<◌, ◌≤◌, length, Vec}
+use Rattle.std.specs.Prelude.{Bool, Option, Some, None, Result, Ok, Err, ◌≡◌, ℕ, List, ◌<◌, ◌≤◌, length, Vec}
 use Rattle.std.specs.declared.alloc.Global.{Global}
 use Rattle.dfdl_edge.specs.declared.loading.LoadFault.{LoadFault}
 use Rattle.dfdl_edge.specs.declared.loading.LoadFault.TheVariants.{Failed, TooLarge, OutOfMemory}
@@ -17,3 +17,12 @@ IsTooLargeExactly (Some all) most (Ok bytes) = length all ≤ most
 pub record FileCounts : Type 0 where
   pub loads : ℕ
   pub failed : ℕ
+
+-- What is seen of files: the bytes of the file of a name, where they are told; whether it is told that there is none of
+-- the name; the name last failed, if any did, where that is told; how many loads were asked for, and how many failed.
+pub record FilesSeen : Type 0 where
+  pub content : List ℕ → Option (List ℕ)
+  pub is_missing : List ℕ → Bool
+  pub last_failed : Option (Option (List ℕ))
+  pub loads : ℕ
+  pub faults : ℕ

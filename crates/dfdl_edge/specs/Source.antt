@@ -10,3 +10,8 @@ pub record TakesFront (left : List ℕ) (count : ℕ) (buffer now : List ℕ) : 
 -- the same of what is left before and after the read, where it is told
 abbrev pub Takes : Option (List ℕ) → ℕ → List ℕ → Option (List ℕ) → Type 0
 Takes left count buffer now = WhereTold (λ bytes rest. TakesFront bytes count buffer rest) left now
+
+-- what is seen of a source: the bytes that reads will still give, where that is told, and how many reads have failed
+pub record SourceSeen : Type 0 where
+  pub left : Option (List ℕ)
+  pub faults : ℕ

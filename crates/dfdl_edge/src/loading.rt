@@ -1,7 +1,7 @@
 ghost use Rattle.std.specs.Prelude.{◌≡◌, ◌≢◌, ◌⊎◌, ℕ, Bool, false, IsTrue, ◌<◌, ◌≤◌, List, Option, IfOk, IsErrOf, vec_len};
 ghost use Rattle.dfdl_edge.specs.Faults.{Rose, one_more};
 ghost use Rattle.dfdl_edge.specs.Told.{IsAll, IsNowLast};
-ghost use Rattle.dfdl_edge.specs.Files.{IsTooLargeExactly};
+ghost use Rattle.dfdl_edge.specs.Files.{FilesSeen, IsTooLargeExactly};
 
 use std::alloc::Global;
 use thiserror::Error;
@@ -21,38 +21,26 @@ pub enum LoadFault {
 
 /// Files by their names, as schema documents.
 pub trait Files {
-    // how many loads have failed; at the last value of a u64 it stands still
-    ghost faults: { Self → ℕ };
-
-    // how many loads were asked for; at the last value of a u64 it stands still
-    ghost loads: { Self → ℕ };
-
-    // the bytes of the file of this name; `None` where they aren't told
-    ghost content: { Self → List ℕ → Option (List ℕ) };
-
-    // whether it is told that there is no file of this name
-    ghost is_missing: { Self → List ℕ → Bool } = { λ _ _. false };
-
-    // the name last failed, if any did; `None` where this isn't told
-    ghost last_failed: { Self → Option (Option (List ℕ)) };
+    // what is told of the files, and the counts of loads; at the last value of a u64 a count stands still
+    ghost seen: { Self → FilesSeen };
 
     /// The bytes of a file. `most` is the greatest length allowed, in bytes.
     fn load(&mut self, alloc: Global, name: &str, most: usize) -> Result<Vec<u8>, LoadFault>
-        ensures bytes { IfOk result (λ v. IsAll (content self.old name.now) v.items) }
+        ensures bytes { IfOk result (λ v. IsAll ((seen self.old).content name.now) v.items) }
         ensures fits { IfOk result (λ v. vec_len v ≤ most) }
-        ensures too_large { IsTooLargeExactly (content self.old name.now) most result }
+        ensures too_large { IsTooLargeExactly ((seen self.old).content name.now) most result }
         ensures larger { (size : ℕ) → IsErrOf result (LoadFault.TooLarge size) → most < size }
-        ensures missing { IsTrue (is_missing self.old name.now) →
+        ensures missing { IsTrue ((seen self.old).is_missing name.now) →
             IsErrOf result LoadFault.Failed ⊎ IsErrOf result LoadFault.OutOfMemory }
 
-        ensures counted { loads self.new ≡ one_more (loads self.old) }
+        ensures counted { (seen self.new).loads ≡ one_more (seen self.old).loads }
 
-        ensures later { faults self.old ≤ faults self.new }
-        ensures cause { IsErrOf result LoadFault.Failed → Rose (faults self.old) (faults self.new) }
-        ensures still { result ≢ Err LoadFault.Failed → faults self.new ≡ faults self.old }
+        ensures later { (seen self.old).faults ≤ (seen self.new).faults }
+        ensures cause { IsErrOf result LoadFault.Failed → Rose (seen self.old).faults (seen self.new).faults }
+        ensures still { result ≢ Err LoadFault.Failed → (seen self.new).faults ≡ (seen self.old).faults }
 
-        ensures last { IsErrOf result LoadFault.Failed → IsNowLast (last_failed self.old) name.now (last_failed self.new) }
-        ensures last_kept { result ≢ Err LoadFault.Failed → last_failed self.new ≡ last_failed self.old }
-        ensures content_kept { content self.new ≡ content self.old }
-        ensures missing_kept { is_missing self.new ≡ is_missing self.old };
+        ensures last { IsErrOf result LoadFault.Failed → IsNowLast (seen self.old).last_failed name.now (seen self.new).last_failed }
+        ensures last_kept { result ≢ Err LoadFault.Failed → (seen self.new).last_failed ≡ (seen self.old).last_failed }
+        ensures content_kept { (seen self.new).content ≡ (seen self.old).content }
+        ensures missing_kept { (seen self.new).is_missing ≡ (seen self.old).is_missing };
 }

@@ -62,9 +62,7 @@ impl MemorySource {
 }
 
 impl Source for MemorySource {
-    ghost faults = { λ s. s.calls.failed };
-
-    ghost left = { λ s. Some s.rest };
+    ghost seen = { λ s. record { left = Some s.rest; faults = s.calls.failed } };
 
     fn read(&mut self, into: &mut [u8]) -> Result<usize, Failed>
         requires { 0 < length into.old }
@@ -161,9 +159,7 @@ impl MemorySink {
 }
 
 impl Sink for MemorySink {
-    ghost faults = { λ s. s.calls.failed };
-
-    ghost taken = { λ s. Some s.bytes };
+    ghost seen = { λ s. record { taken = Some s.bytes; faults = s.calls.failed } };
 
     /// Fails also where there is no memory for the piece.
     fn write(&mut self, piece: &[u8]) -> Result<(), Failed>

@@ -79,15 +79,13 @@ impl MemoryFiles {
 }
 
 impl Files for MemoryFiles {
-    ghost faults = { λ f. f.calls.failed };
-
-    ghost loads = { λ f. f.calls.made };
-
-    ghost content = { λ f name. bytes_of f.files name };
-
-    ghost is_missing = { λ f name. is_none (bytes_of f.files name) };
-
-    ghost last_failed = { λ f. Some f.last };
+    ghost seen = { λ f. record {
+      content = λ name. bytes_of f.files name;
+      is_missing = λ name. is_none (bytes_of f.files name);
+      last_failed = Some f.last;
+      loads = f.calls.made;
+      faults = f.calls.failed;
+    } };
 
     fn load(&mut self, alloc: Global, name: &str, most: usize) -> Result<Vec<u8>, LoadFault>
         ensures bytes { IfOk result (λ v. IsAll (bytes_of self.old.files name.now) v.items) }

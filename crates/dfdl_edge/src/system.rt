@@ -1,5 +1,5 @@
 // The adapters of the system: they tell nothing of content.
-ghost use Rattle.std.specs.Prelude.{◌≡◌, ℕ, ◌+◌, ◌-◌, ◌^◌, ◌<◌, ◌≤◌, max, Some, None, Ok, Err, length, IfOk, IfSome, OnErr, IsErr, IsErrOf, vec_len};
+ghost use Rattle.std.specs.Prelude.{◌≡◌, ℕ, ◌+◌, ◌-◌, ◌^◌, ◌<◌, ◌≤◌, max, false, Some, None, Ok, Err, length, IfOk, IfSome, OnErr, IsErr, IsErrOf, vec_len};
 ghost use Rattle.dfdl_edge.specs.Files.{FileCounts};
 
 use crate::loading::{Files, LoadFault};
@@ -35,9 +35,7 @@ impl<R: Read + Drop> StdSource<R> {
 }
 
 impl<R: Read + Drop> Source for StdSource<R> {
-    ghost faults = { λ s. s };
-
-    ghost left = { λ _. None };
+    ghost seen = { λ s. record { left = None; faults = s } };
 
     fn read(&mut self, into: &mut [u8]) -> Result<usize, Failed> {
         let answer = read_once(&mut self.reader, into);
@@ -83,9 +81,7 @@ impl<W: Write + Drop> StdSink<W> {
 }
 
 impl<W: Write + Drop> Sink for StdSink<W> {
-    ghost faults = { λ s. s };
-
-    ghost taken = { λ _. None };
+    ghost seen = { λ s. record { taken = None; faults = s } };
 
     fn write(&mut self, piece: &[u8]) -> Result<(), Failed> {
         let answer = write_whole(&mut self.writer, piece);
@@ -140,13 +136,13 @@ impl<'r, R: rt::Files> DirFiles<'r, R> {
 }
 
 impl<'r, R: rt::Files> Files for DirFiles<'r, R> {
-    ghost faults = { λ f. f.failed };
-
-    ghost loads = { λ f. f.loads };
-
-    ghost content = { λ _ _. None };
-
-    ghost last_failed = { λ _. None };
+    ghost seen = { λ f. record {
+      content = λ _. None;
+      is_missing = λ _. false;
+      last_failed = None;
+      loads = f.loads;
+      faults = f.failed;
+    } };
 
     fn load(&mut self, alloc: Global, name: &str, most: usize) -> Result<Vec<u8>, LoadFault> {
         self.loads = self.loads.saturating_add(1);

@@ -54,19 +54,19 @@ pub fn read_to_limit<S: Source>(
     source: &mut S,
     most: u64,
 ) -> Result<Vec<u8>, SourceFault>
-    ensures bytes { IfOk result (λ v. IsAll (S.left source.old) v.items) }
+    ensures bytes { IfOk result (λ v. IsAll (S.seen source.old).left v.items) }
     ensures fits { IfOk result (λ v. vec_len v ≤ most) }
-    ensures used_up { OnOk result (IsUsedUp (S.left source.old) (S.left source.new)) }
-    ensures within { OnOk result (IsWithin (S.left source.old) most) }
-    ensures too_large { IsErrOf result SourceFault.TooLarge → IsLonger (S.left source.old) most }
-    ensures rest { IsRestOf (S.left source.old) (S.left source.new) }
+    ensures used_up { OnOk result (IsUsedUp (S.seen source.old).left (S.seen source.new).left) }
+    ensures within { OnOk result (IsWithin (S.seen source.old).left most) }
+    ensures too_large { IsErrOf result SourceFault.TooLarge → IsLonger (S.seen source.old).left most }
+    ensures rest { IsRestOf (S.seen source.old).left (S.seen source.new).left }
 
     // A Vec has fewer than 2 ^ 63 bytes, so a greater limit is not passed.
     ensures limit { IsErrOf result SourceFault.TooLarge → most < 2 ^ 63 }
 
-    ensures later { S.faults source.old ≤ S.faults source.new }
-    ensures cause { IsErrOf result SourceFault.Failed → Rose (S.faults source.old) (S.faults source.new) }
-    ensures still { result ≢ Err SourceFault.Failed → S.faults source.new ≡ S.faults source.old }
+    ensures later { (S.seen source.old).faults ≤ (S.seen source.new).faults }
+    ensures cause { IsErrOf result SourceFault.Failed → Rose (S.seen source.old).faults (S.seen source.new).faults }
+    ensures still { result ≢ Err SourceFault.Failed → (S.seen source.new).faults ≡ (S.seen source.old).faults }
 {
     let most = most as usize;
     let mut bytes = Vec::new(alloc);
@@ -96,13 +96,13 @@ fn read_more<S: Source>(
     ensures count { IfOk result (λ count. filled + count ≤ vec_len bytes.new) }
     ensures within { vec_len bytes.new ≤ most }
     ensures front { OnOk result (take filled bytes.new.items ≡ take filled bytes.old.items) }
-    ensures takes { IfOk result (λ count. Takes (S.left source.old) count (drop filled bytes.new.items) (S.left source.new)) }
-    ensures err { OnErr result (S.left source.new ≡ S.left source.old) }
+    ensures takes { IfOk result (λ count. Takes (S.seen source.old).left count (drop filled bytes.new.items) (S.seen source.new).left) }
+    ensures err { OnErr result ((S.seen source.new).left ≡ (S.seen source.old).left) }
     ensures never { result ≢ Err SourceFault.TooLarge }
 
-    ensures later { S.faults source.old ≤ S.faults source.new }
-    ensures cause { IsErrOf result SourceFault.Failed → Rose (S.faults source.old) (S.faults source.new) }
-    ensures still { result ≢ Err SourceFault.Failed → S.faults source.new ≡ S.faults source.old }
+    ensures later { (S.seen source.old).faults ≤ (S.seen source.new).faults }
+    ensures cause { IsErrOf result SourceFault.Failed → Rose (S.seen source.old).faults (S.seen source.new).faults }
+    ensures still { result ≢ Err SourceFault.Failed → (S.seen source.new).faults ≡ (S.seen source.old).faults }
 {
     if filled == bytes.len() {
         let room = filled.saturating_add(CHUNK).min(most);
@@ -114,15 +114,15 @@ fn read_more<S: Source>(
 
 // The source has no byte left.
 fn expect_end<S: Source>(source: &mut S) -> Result<(), SourceFault>
-    ensures used_up { OnOk result (IsUsedUp (S.left source.old) (S.left source.new)) }
-    ensures ended { OnOk result (IsAll (S.left source.old) []) }
-    ensures too_large { IsErrOf result SourceFault.TooLarge → IsLonger (S.left source.old) 0 }
+    ensures used_up { OnOk result (IsUsedUp (S.seen source.old).left (S.seen source.new).left) }
+    ensures ended { OnOk result (IsAll (S.seen source.old).left []) }
+    ensures too_large { IsErrOf result SourceFault.TooLarge → IsLonger (S.seen source.old).left 0 }
     ensures memory { result ≢ Err SourceFault.OutOfMemory }
-    ensures rest { IsRestOf (S.left source.old) (S.left source.new) }
+    ensures rest { IsRestOf (S.seen source.old).left (S.seen source.new).left }
 
-    ensures later { S.faults source.old ≤ S.faults source.new }
-    ensures cause { IsErrOf result SourceFault.Failed → Rose (S.faults source.old) (S.faults source.new) }
-    ensures still { result ≢ Err SourceFault.Failed → S.faults source.new ≡ S.faults source.old }
+    ensures later { (S.seen source.old).faults ≤ (S.seen source.new).faults }
+    ensures cause { IsErrOf result SourceFault.Failed → Rose (S.seen source.old).faults (S.seen source.new).faults }
+    ensures still { result ≢ Err SourceFault.Failed → (S.seen source.new).faults ≡ (S.seen source.old).faults }
 {
     let mut next = [0u8; 1];
     match source.read(&mut next)? {

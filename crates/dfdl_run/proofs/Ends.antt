@@ -1,17 +1,26 @@
 -- How a run ends, from what it decided and what came of it.
-use Rattle.std.proofs.Common.{◌==◌, ◌||◌, ◌≡◌, ◌⊎◌, ℕ, ◌++◌, IsTrue, List, [], length, Option, None, Some, refl, sym, ap, subst, ◌∙◌, arith, append-nil, inl, inr}
+use Rattle.std.proofs.Common.{◌==◌, ◌||◌, ◌≡◌, ◌⊎◌, ℕ, ◌+◌, ◌++◌, IsTrue, List, [], length, Option, None, Some, Ok, Err, refl, sym, ap, subst, ◌∙◌, arith, append-nil, inl, inr}
 use Rattle.std.proofs.Math.Seq.{take-length}
-use Rattle.dfdl_edge.specs.Faults.{Rose}
-use Rattle.dfdl_edge.specs.Sink.{Adds, AddsFront}
+use Rattle.dfdl_edge.specs.Faults.{Rose, one_more}
+use Rattle.dfdl_edge.specs.Files.{FilesSeen}
+use Rattle.dfdl_edge.specs.Sink.{Adds, AddsFront, SinkSeen}
+use Rattle.dfdl_edge.specs.Source.{SourceSeen}
+use Rattle.dfdl_edge.specs.Whole.{IsUsedUp}
+use Rattle.dfdl_report.specs.Lines.{memory_line, source_line}
+use Rattle.dfdl_report.specs.declared.cause.LimitCause.TheVariants.{Input, Schema}
+use Rattle.dfdl_terms.specs.Record.{Record}
+use Rattle.dfdl_run.specs.declared.command.Verb.{Verb}
 use Rattle.dfdl_run.specs.declared.answer.Answer.{Answer}
-use Rattle.dfdl_run.specs.declared.answer.Answer.TheVariants.{Done, LeftOver, Failed, Unparsed, NotUnparsed, NoInfoset, Refused, Usage, SourceFailed, SinkFailed, FilesFailed, Limit, OutOfMemory}
-use Rattle.dfdl_run.specs.Answer.{status_of, written_of, note_of}
-use Rattle.dfdl_run.specs.Decided.{Decided, by_words, by_schema, by_data, IsResult, IsLoadFault, IsReadAnswer}
-use Rattle.dfdl_run.specs.Expects.{Expects, no_command, long_schema, no_schema, long_input, meant, is_excused, Tells, Gives, ComesExactly, NamesFile}
+use Rattle.dfdl_run.specs.declared.answer.Answer.TheVariants.{Done, LeftOver, Failed, Unparsed, NotUnparsed, NoInfoset}
+use Rattle.dfdl_run.specs.declared.stop.Stop.{Stop}
+use Rattle.dfdl_run.specs.declared.stop.Stop.TheVariants.{Usage, FilesFailed, Refused, SourceFailed, Limit, OutOfMemory}
+use Rattle.dfdl_run.specs.Answer.{End, answer_status, answer_bytes, status_of, written_of, note_of}
+use Rattle.dfdl_run.specs.Decided.{Decided, by_words, by_schema, by_data, IsLoadFault, IsReadEnd}
+use Rattle.dfdl_run.specs.Expects.{Expects, no_command, no_file, long_schema, no_schema, long_input, meant, is_excused, Tells, Gives, NoneFailed, IsAsExpected}
 use Rattle.dfdl_run.specs.Finished.{Finished, all, no_sink, no_memory, Writes}
-use Rattle.dfdl_run.proofs.Decisions.{status_result}
+use Rattle.dfdl_run.specs.Outside.{Inputs, Outputs, Outside}
+use Rattle.dfdl_run.specs.Run.{IsRun, NamesFile, FilesFail, SinkFails, SourceFails, is_of_data, is_before_data}
 use Rattle.dfdl_run.proofs.Rankings.{Ranked, same, files, source, memory, ranked}
-use Rattle.dfdl_run.proofs.Results.{result_excused}
 
 adds_front : (old new : Option (List ℕ)) (piece : List ℕ) → Adds old piece new → AddsFront old piece new
 adds_front None None piece added = tt
@@ -31,178 +40,373 @@ same_adds None (Some now) is = absurd (cc)
 same_adds (Some before) None is = absurd (cc)
 same_adds (Some before) (Some now) is = let same_bytes : now ≡ before = cc in same_bytes ∙ sym (append-nil before)
 
-writing_excused : (b : Answer) → Writes b → IsTrue (is_excused b 6)
-writing_excused (Done line) _ = refl
-writing_excused (LeftOver line bit) _ = refl
-writing_excused (Unparsed pieces) _ = refl
-writing_excused (NotUnparsed pieces cause path) _ = refl
-writing_excused (NoInfoset cause path) none = absurd none
-writing_excused (Failed cause bit path) none = absurd none
-writing_excused (Refused cause document at) none = absurd none
-writing_excused (Usage word) none = absurd none
-writing_excused SourceFailed none = absurd none
-writing_excused SinkFailed none = absurd none
-writing_excused (FilesFailed name) none = absurd none
-writing_excused (Limit cause quantity) none = absurd none
-writing_excused OutOfMemory none = absurd none
+-- each end that is expected is excused by want of memory
+memory_excused : (words : List (List ℕ)) (told : Inputs) (b : End) → Expects words told b → IsTrue (is_excused b 9)
+memory_excused words told _ (no_command at place) = refl
+memory_excused words told _ (no_file order orders missing) = refl
+memory_excused words told _ (long_schema order schema orders is long) = refl
+memory_excused words told _ (no_schema order schema orders is fits none) = refl
+memory_excused words told _ (long_input order schema described bytes orders is fits schema_is input_is long) = refl
+memory_excused words told _ (meant order schema described bytes orders is fits schema_is input_is few) = refl
 
-memory_excused : (words : List (List ℕ)) (C : List ℕ → Option (List ℕ)) (L : Option (List ℕ)) (b : Answer) → Expects words C L b → IsTrue (is_excused b 9)
-memory_excused words C L _ (no_command at place) = refl
-memory_excused words C L _ (long_schema order schema orders is long) = refl
-memory_excused words C L _ (no_schema order schema orders is fits none) = refl
-memory_excused words C L _ (long_input order schema described bytes orders is fits schema_is input_is long) = refl
-memory_excused words C L _ (meant order schema described bytes orders is fits schema_is input_is few) = (result_excused order.verb described bytes).2
+-- the statuses of answers are those of data
+of_data : (answer : Answer) → IsTrue (is_of_data (status_of (Ok answer)))
+of_data (Done line) = refl
+of_data (LeftOver line bit) = refl
+of_data (Failed cause bit path) = refl
+of_data (Unparsed pieces) = refl
+of_data (NotUnparsed pieces cause path) = refl
+of_data (NoInfoset cause path) = refl
 
-five : (a : Answer) → status_of a ≡ 5 → a ≡ SourceFailed
-five SourceFailed is = refl
-five a is = absurd (cc)
+no_answer : (answer : Answer) (status : ℕ) → status_of (Ok answer) ≡ status → (IsTrue (is_of_data status) → ⊥) → ⊥
+no_answer answer status is none = none (subst (λ (s : ℕ). IsTrue (is_of_data s)) is (of_data answer))
 
-six : (a : Answer) → status_of a ≡ 6 → a ≡ SinkFailed
-six SinkFailed is = refl
-six a is = absurd (cc)
+five : (e : End) → status_of e ≡ 5 → e ≡ Err SourceFailed
+five (Err SourceFailed) is = refl
+five (Err stop) is = absurd (cc)
+five (Ok answer) is = absurd (no_answer answer 5 is (λ none. cc))
 
-seven : (a : Answer) → status_of a ≡ 7 → (name : List ℕ) × (a ≡ FilesFailed name)
-seven (FilesFailed name) is = (name, refl)
-seven a is = absurd (cc)
+seven : (e : End) → status_of e ≡ 7 → (name : List ℕ) × (e ≡ Err (FilesFailed name))
+seven (Err (FilesFailed name)) is = (name, refl)
+seven (Err stop) is = absurd (cc)
+seven (Ok answer) is = absurd (no_answer answer 7 is (λ none. cc))
 
-nine : (a : Answer) → status_of a ≡ 9 → a ≡ OutOfMemory
-nine OutOfMemory is = refl
-nine a is = absurd (cc)
+nine : (e : End) → status_of e ≡ 9 → e ≡ Err OutOfMemory
+nine (Err OutOfMemory) is = refl
+nine (Err stop) is = absurd (cc)
+nine (Ok answer) is = absurd (no_answer answer 9 is (λ none. cc))
 
-nothing_written : (a : Answer) → (status_of a ≡ 0 → ⊥) → (status_of a ≡ 3 → ⊥) → (status_of a ≡ 11 → ⊥) → written_of a ≡ []
-nothing_written (Done line) not_done _ _ = absurd (not_done refl)
-nothing_written (LeftOver line bit) _ _ not_over = absurd (not_over refl)
-nothing_written (Unparsed pieces) not_done _ _ = absurd (not_done refl)
-nothing_written (NotUnparsed pieces cause path) _ not_failed _ = absurd (not_failed refl)
-nothing_written (NoInfoset cause path) _ _ _ = refl
-nothing_written (Failed cause bit path) _ _ _ = refl
-nothing_written (Refused cause document at) _ _ _ = refl
-nothing_written (Usage word) _ _ _ = refl
-nothing_written SourceFailed _ _ _ = refl
-nothing_written SinkFailed _ _ _ = refl
-nothing_written (FilesFailed name) _ _ _ = refl
-nothing_written (Limit cause quantity) _ _ _ = refl
-nothing_written OutOfMemory _ _ _ = refl
+never_six : (e : End) → status_of e ≡ 6 → ⊥
+never_six (Err (Usage word)) is = cc
+never_six (Err (FilesFailed name)) is = cc
+never_six (Err (Refused cause document at)) is = cc
+never_six (Err SourceFailed) is = cc
+never_six (Err (Limit cause quantity)) is = cc
+never_six (Err OutOfMemory) is = cc
+never_six (Ok answer) is = no_answer answer 6 is (λ none. cc)
 
-module _ (words : List (List ℕ)) (C : List ℕ → Option (List ℕ)) (L : Option (List ℕ)) (sb sa fb fa : ℕ) (oo on no nn : Option (List ℕ)) (ob oa nb na : ℕ) (result : ℕ) (a : Answer) where
-  pub exactly : (b : Answer) → Decided words C L sb sa fb fa a → Finished a result oo on no nn ob oa nb na → Expects words C L b
-      → IsTrue (is_excused b result) ⊎ Gives b result oo on no nn nb na
-  exactly b decided finished expects = ends b (ranked sb sa fb fa words C L a b decided expects) finished (memory_excused words C L b expects)
+nothing_written : (e : End) → (status_of e ≡ 0 → ⊥) → (status_of e ≡ 3 → ⊥) → (status_of e ≡ 11 → ⊥) → written_of e ≡ []
+nothing_written (Ok (Done line)) not_done _ _ = absurd (not_done refl)
+nothing_written (Ok (LeftOver line bit)) _ _ not_over = absurd (not_over refl)
+nothing_written (Ok (Unparsed pieces)) not_done _ _ = absurd (not_done refl)
+nothing_written (Ok (NotUnparsed pieces cause path)) _ not_failed _ = absurd (not_failed refl)
+nothing_written (Ok (NoInfoset cause path)) _ _ _ = refl
+nothing_written (Ok (Failed cause bit path)) _ _ _ = refl
+nothing_written (Err stop) _ _ _ = refl
+
+unwritten_stop : (stop : Stop) → Writes (Err stop) → ⊥
+unwritten_stop (Usage word) line = cc
+unwritten_stop (FilesFailed name) line = cc
+unwritten_stop (Refused cause document at) line = cc
+unwritten_stop SourceFailed line = cc
+unwritten_stop (Limit Input quantity) line = cc
+unwritten_stop (Limit Schema quantity) line = cc
+unwritten_stop OutOfMemory line = cc
+
+-- what stops a run before its data is no status of data
+stop_early : (stop : Stop) → IsTrue (is_of_data (status_of (Err stop))) → ⊥
+stop_early (Usage word) of = cc
+stop_early (FilesFailed name) of = cc
+stop_early (Refused cause document at) of = cc
+stop_early SourceFailed of = cc
+stop_early (Limit cause quantity) of = cc
+stop_early OutOfMemory of = cc
+
+answer_late : (answer : Answer) → IsTrue (is_before_data (status_of (Ok answer))) → ⊥
+answer_late (Done line) early = cc
+answer_late (LeftOver line bit) early = cc
+answer_late (Failed cause bit path) early = cc
+answer_late (Unparsed pieces) early = cc
+answer_late (NotUnparsed pieces cause path) early = cc
+answer_late (NoInfoset cause path) early = cc
+
+-- what the source came to has no status of what stops a run before
+read_late : (verb : Verb) (described : Record) (before after : SourceSeen) (e : End) → IsReadEnd verb described before after e
+    → IsTrue (is_before_data (status_of e)) → ⊥
+read_late verb described before after (Ok answer) read early = answer_late answer early
+read_late verb described before after (Err SourceFailed) read early = cc
+read_late verb described before after (Err OutOfMemory) read early = cc
+read_late verb described before after (Err (Limit cause quantity)) read early = cc
+read_late verb described before after (Err (Usage word)) read early = absurd read
+read_late verb described before after (Err (FilesFailed name)) read early = absurd read
+read_late verb described before after (Err (Refused cause document at)) read early = absurd read
+
+read_used : (verb : Verb) (described : Record) (before after : SourceSeen) (e : End) → IsReadEnd verb described before after e
+    → IsTrue (is_of_data (status_of e)) → IsUsedUp before.left after.left
+read_used verb described before after (Ok answer) read of = read.used_up
+read_used verb described before after (Err stop) read of = absurd (stop_early stop of)
+
+-- the count of faults of the source stands where no read failed
+read_still : (verb : Verb) (described : Record) (before after : SourceSeen) (e : End) → IsReadEnd verb described before after e
+    → (e ≡ Err SourceFailed → ⊥) → after.faults ≡ before.faults
+read_still verb described before after (Ok answer) read well = read.still
+read_still verb described before after (Err SourceFailed) read well = absurd (well refl)
+read_still verb described before after (Err OutOfMemory) read well = read
+read_still verb described before after (Err (Limit cause quantity)) read well = read.3
+read_still verb described before after (Err (Usage word)) read well = absurd read
+read_still verb described before after (Err (FilesFailed name)) read well = absurd read
+read_still verb described before after (Err (Refused cause document at)) read well = absurd read
+
+-- no schema is no usage
+load_late : (before after : FilesSeen) (name : List ℕ) (stop : Stop) → IsLoadFault before after name stop
+    → status_of (Err stop) ≡ 4 → ⊥
+load_late before after name (Usage word) fault four = absurd fault
+load_late before after name (FilesFailed failed) fault four = cc
+load_late before after name (Refused cause document at) fault four = cc
+load_late before after name SourceFailed fault four = absurd fault
+load_late before after name (Limit cause quantity) fault four = cc
+load_late before after name OutOfMemory fault four = cc
+
+-- the count of faults of the files stands where no load failed
+load_still : (before after : FilesSeen) (name : List ℕ) (stop : Stop) → IsLoadFault before after name stop
+    → ((status_of (Err stop) ≡ 7) ⊎ (status_of (Err stop) ≡ 9) → ⊥) → after.faults ≡ before.faults
+load_still before after name (FilesFailed failed) fault well = absurd (well (inl refl))
+load_still before after name (Refused cause document at) fault well = fault.4.still
+load_still before after name (Limit cause quantity) fault well = fault.3.still
+load_still before after name OutOfMemory fault well = absurd (well (inr refl))
+load_still before after name (Usage word) fault well = absurd fault
+load_still before after name SourceFailed fault well = absurd fault
+
+module _ (words : List (List ℕ)) (before after : Outside) (status : ℕ) (a : End)
+    (decided : Decided words before.inputs after.inputs a) (finished : Finished a before.outputs after.outputs status) where
+  -- what it is to end so
+  abbrev Ends : End → Type 0
+  Ends b = Gives b before.outputs after.outputs status
+
+  at_status : (b : End) (number : ℕ) → status ≡ number → IsTrue (is_excused b number) → IsTrue (is_excused b status)
+  at_status b number is excused = subst (λ (s : ℕ). IsTrue (is_excused b s)) (sym is) excused
+
+  exact : (b : End) → Ranked before.inputs after.inputs a b → Finished a before.outputs after.outputs status
+      → IsTrue (is_excused b 9) → IsTrue (is_excused b status) ⊎ Ends b
+  exact b (same is) (all gives still) excused = inr (subst Ends is gives)
+  exact b (same is) (no_sink line number rose written told) excused = inl (at_status b 6 number (subst Writes is line))
+  exact b (same is) (no_memory number none told) excused = inl (at_status b 9 number excused)
+  exact b (files name is rose earlier) (all gives still) excused = inl (at_status b 7 (gives.status_is ∙ ap status_of is) earlier)
+  exact b (files name is rose earlier) (no_sink line number _ written told) excused = absurd (let none = subst Writes is line in cc)
+  exact b (files name is rose earlier) (no_memory number none told) excused = inl (at_status b 9 number excused)
+  exact b (source is rose earlier) (all gives still) excused = inl (at_status b 5 (gives.status_is ∙ ap status_of is) earlier)
+  exact b (source is rose earlier) (no_sink line number _ written told) excused = absurd (let none = subst Writes is line in cc)
+  exact b (source is rose earlier) (no_memory number none told) excused = inl (at_status b 9 number excused)
+  exact b (memory is earlier) (all gives still) excused = inl (at_status b 9 (gives.status_is ∙ ap status_of is) earlier)
+  exact b (memory is earlier) (no_sink line number _ written told) excused = absurd (let none = subst Writes is line in cc)
+  exact b (memory is earlier) (no_memory number none told) excused = inl (at_status b 9 number excused)
+
+  complete : (b : End) → Ranked before.inputs after.inputs a b → Finished a before.outputs after.outputs status
+      → NoneFailed before after → (status ≡ 9) ⊎ Ends b
+  complete b ranking (no_memory number none told) well = inl number
+  complete b ranking (no_sink line number rose written told) well = absurd (well.out rose)
+  complete b (same is) (all gives still) well = inr (subst Ends is gives)
+  complete b (files name is rose earlier) (all gives still) well = absurd (well.files rose)
+  complete b (source is rose earlier) (all gives still) well = absurd (well.source rose)
+  complete b (memory is earlier) (all gives still) well = inl (gives.status_is ∙ ap status_of is)
+
+  abbrev Front : End → Type 0
+  Front b = AddsFront before.outputs.out.taken (written_of b) after.outputs.out.taken
+
+  nothing_front : (b : End) (stop : Stop) → a ≡ Err stop → Ends a → Front b
+  nothing_front b stop is gives =
+      none_front before.outputs.out.taken after.outputs.out.taken (written_of b)
+      (subst (λ (piece : List ℕ). Adds before.outputs.out.taken piece after.outputs.out.taken) (ap written_of is) gives.written)
+
+  front : (b : End) → Ranked before.inputs after.inputs a b → Finished a before.outputs after.outputs status → Front b
+  front b ranking (no_memory number none told) =
+      none_front before.outputs.out.taken after.outputs.out.taken (written_of b)
+      (same_adds before.outputs.out.taken after.outputs.out.taken (ap (λ (s : SinkSeen). s.taken) none))
+  front b (same is) (all gives still) =
+      adds_front before.outputs.out.taken after.outputs.out.taken (written_of b)
+      (subst (λ (e : End). Adds before.outputs.out.taken (written_of e) after.outputs.out.taken) is gives.written)
+  front b (same is) (no_sink line number rose written told) = subst Front is written
+  front b (files name is rose earlier) (all gives still) = nothing_front b (FilesFailed name) is gives
+  front b (files name is rose earlier) (no_sink line number _ written told) = absurd (let none = subst Writes is line in cc)
+  front b (source is rose earlier) (all gives still) = nothing_front b SourceFailed is gives
+  front b (source is rose earlier) (no_sink line number _ written told) = absurd (let none = subst Writes is line in cc)
+  front b (memory is earlier) (all gives still) = nothing_front b OutOfMemory is gives
+  front b (memory is earlier) (no_sink line number _ written told) = absurd (let none = subst Writes is line in cc)
+
+  comes : (b : End) (number : ℕ) → IsTrue (is_excused b status) ⊎ Ends b
+      → IsTrue (is_excused b status) ⊎ ((status ≡ number → status_of b ≡ number) × (status_of b ≡ number → status ≡ number))
+  comes b number (inl excused) = inl excused
+  comes b number (inr gives) = inr (λ is. sym gives.status_is ∙ is, λ is. gives.status_is ∙ is)
+
+  expected : (b : End) → Expects words before.inputs b → IsAsExpected b before after status
+  expected b expects =
+      let ranking = ranked before.inputs after.inputs words a b decided expects in
+      let is_exact = exact b ranking finished (memory_excused words before.inputs b expects) in
+      record {
+        exact = is_exact;
+        complete = complete b ranking finished;
+        front = front b ranking finished;
+        comes = λ number. comes b number is_exact;
+      }
+
+  -- the end where all of it came with this status
+  abbrev AtEnd : Type 0
+  AtEnd = (status ≡ status_of a) × Tells (note_of a) before.outputs.notes after.outputs.notes
+
+  source_rises : a ≡ Err SourceFailed → Decided words before.inputs after.inputs a
+      → Rose before.inputs.source.faults after.inputs.source.faults
+  source_rises end (by_words at place is untouched) = absurd (let no = sym end ∙ is in cc)
+  source_rises end (by_schema order stop orders is fault loads unread) =
+      let same_stop : stop ≡ SourceFailed = let no = sym is ∙ end in cc in
+      absurd (subst (λ (s : Stop). IsLoadFault before.inputs.files after.inputs.files order.schema s) same_stop fault)
+  source_rises end (by_data order described orders told loaded loads read) =
+      subst (λ (e : End). IsReadEnd order.verb described before.inputs.source after.inputs.source e) end read
+
+  source_failed : Finished a before.outputs after.outputs status → status ≡ 5 → SourceFails before after
+  source_failed (no_sink line number rose written told) is = absurd (omega arith)
+  source_failed (no_memory number none told) is = absurd (omega arith)
+  source_failed (all gives still) is =
+      let end = five a (sym gives.status_is ∙ is) in
+      record {
+        rose = source_rises end decided;
+        told = subst (λ (e : End). Tells (note_of e) before.outputs.notes after.outputs.notes) end gives.told;
+      }
+
+  sink_failed : Finished a before.outputs after.outputs status → status ≡ 6 → SinkFails before after
+  sink_failed (no_sink line number rose written told) is = record { rose = rose; told = told }
+  sink_failed (no_memory number none told) is = absurd (omega arith)
+  sink_failed (all gives still) is = absurd (never_six a (sym gives.status_is ∙ is))
+
+  names : (name : List ℕ) → a ≡ Err (FilesFailed name) → Ends a → Decided words before.inputs after.inputs a → FilesFail words before after
+  names name end gives (by_words at place is untouched) = absurd (let no = sym end ∙ is in cc)
+  names name end gives (by_schema order stop orders is fault loads unread) =
+      let same_stop : stop ≡ FilesFailed name = let no = sym is ∙ end in cc in
+      let failed : IsLoadFault before.inputs.files after.inputs.files order.schema (FilesFailed name) =
+      subst (λ (s : Stop). IsLoadFault before.inputs.files after.inputs.files order.schema s) same_stop fault in
+      let end_is : a ≡ Err (FilesFailed order.schema) = let name_is = failed.0 in cc in
+      record {
+        rose = failed.1.rose;
+        named = record {
+          order = order;
+          orders = orders;
+          last = failed.1.last;
+          told = subst (λ (e : End). Tells (note_of e) before.outputs.notes after.outputs.notes) end_is gives.told;
+        };
+      }
+  names name end gives (by_data order described orders told loaded loads read) =
+      absurd (subst (λ (e : End). IsReadEnd order.verb described before.inputs.source after.inputs.source e) end read)
+
+  files_failed : Finished a before.outputs after.outputs status → status ≡ 7 → FilesFail words before after
+  files_failed (no_sink line number rose written told) is = absurd (omega arith)
+  files_failed (no_memory number none told) is = absurd (omega arith)
+  files_failed (all gives still) is = let end = seven a (sym gives.status_is ∙ is) in names end.0 end.1 gives decided
+
+  out_of_memory : Finished a before.outputs after.outputs status → status ≡ 9
+      → Tells memory_line before.outputs.notes after.outputs.notes
+  out_of_memory (no_sink line number rose written told) is = absurd (omega arith)
+  out_of_memory (no_memory number none told) is = told
+  out_of_memory (all gives still) is =
+      subst (λ (e : End). Tells (note_of e) before.outputs.notes after.outputs.notes) (nine a (sym gives.status_is ∙ is)) gives.told
+
+  unwritten : Finished a before.outputs after.outputs status → (status ≡ 0 → ⊥) → (status ≡ 3 → ⊥) → (status ≡ 6 → ⊥)
+      → (status ≡ 11 → ⊥) → Adds before.outputs.out.taken [] after.outputs.out.taken
+  unwritten (no_sink line number rose written told) not_done not_unparsed not_failed not_over = absurd (not_failed number)
+  unwritten (no_memory number none told) not_done not_unparsed not_failed not_over =
+      same_adds before.outputs.out.taken after.outputs.out.taken (ap (λ (s : SinkSeen). s.taken) none)
+  unwritten (all gives still) not_done not_unparsed not_failed not_over =
+      subst (λ (piece : List ℕ). Adds before.outputs.out.taken piece after.outputs.out.taken)
+      (nothing_written a (λ is. not_done (gives.status_is ∙ is)) (λ is. not_unparsed (gives.status_is ∙ is)) (λ is. not_over (gives.status_is ∙ is)))
+      gives.written
+
+  -- where something stops the run, the status is its own, or that of want of memory
+  stopped : (stop : Stop) → a ≡ Err stop → Finished a before.outputs after.outputs status
+      → (status ≡ status_of (Err stop)) ⊎ (status ≡ 9)
+  stopped stop is (all gives still) = inl (gives.status_is ∙ ap status_of is)
+  stopped stop is (no_sink line number rose written told) = absurd (unwritten_stop stop (subst Writes is line))
+  stopped stop is (no_memory number none told) = inr number
+
+  unread : Finished a before.outputs after.outputs status → Decided words before.inputs after.inputs a
+      → IsTrue (is_before_data status) → after.inputs.source ≡ before.inputs.source
+  unread end (by_words at place is untouched) early = ap (λ (i : Inputs). i.source) untouched
+  unread end (by_schema order stop orders is fault loads kept) early = kept
+  unread (all gives still) (by_data order described orders told loaded loads read) early =
+      absurd (read_late order.verb described before.inputs.source after.inputs.source a read
+      (subst (λ (s : ℕ). IsTrue (is_before_data s)) gives.status_is early))
+  unread (no_sink line number rose written told) (by_data order described orders told' loaded loads read) early =
+      absurd (let no : IsTrue (is_before_data 6) = subst (λ (s : ℕ). IsTrue (is_before_data s)) number early in cc)
+  unread (no_memory number none told) (by_data order described orders told' loaded loads read) early =
+      absurd (let no : IsTrue (is_before_data 9) = subst (λ (s : ℕ). IsTrue (is_before_data s)) number early in cc)
+
+  unloaded : Finished a before.outputs after.outputs status → Decided words before.inputs after.inputs a
+      → status ≡ 4 → after.inputs.files ≡ before.inputs.files
+  unloaded end (by_words at place is untouched) four = ap (λ (i : Inputs). i.files) untouched
+  unloaded end (by_schema order stop orders is fault loads kept) four =
+      absurd (no_usage (stopped stop is end))
     where
-      at_status : (b : Answer) (status : ℕ) → result ≡ status → IsTrue (is_excused b status) → IsTrue (is_excused b result)
-      at_status b status is excused = subst (λ (s : ℕ). IsTrue (is_excused b s)) (sym is) excused
+      no_usage : (status ≡ status_of (Err stop)) ⊎ (status ≡ 9) → ⊥
+      no_usage (inl own) = load_late before.inputs.files after.inputs.files order.schema stop fault (sym own ∙ four)
+      no_usage (inr none) = absurd (omega arith)
+  unloaded (all gives still) (by_data order described orders told loaded loads read) four =
+      absurd (read_late order.verb described before.inputs.source after.inputs.source a read
+      (subst (λ (s : ℕ). IsTrue (is_before_data s)) (sym four ∙ gives.status_is) refl))
+  unloaded (no_sink line number rose written told) (by_data order described orders told' loaded loads read) four = absurd (omega arith)
+  unloaded (no_memory number none told) (by_data order described orders told' loaded loads read) four = absurd (omega arith)
 
-      ends : (b : Answer) → Ranked sb sa fb fa a b → Finished a result oo on no nn ob oa nb na → IsTrue (is_excused b 9)
-          → IsTrue (is_excused b result) ⊎ Gives b result oo on no nn nb na
-      ends b (same is) (all gives) excused = inr (subst (λ (x : Answer). Gives x result oo on no nn nb na) is gives)
-      ends b (same is) (no_sink line status rose written told) excused = inl (at_status b 6 status (writing_excused b (subst Writes is line)))
-      ends b (same is) (no_memory status none told) excused = inl (at_status b 9 status excused)
-      ends b (files name is rose before) (all gives) excused = inl (at_status b 7 (gives.status_is ∙ ap status_of is) before)
-      ends b (files name is rose before) (no_sink line status _ written told) excused = absurd (subst Writes is line)
-      ends b (files name is rose before) (no_memory status none told) excused = inl (at_status b 9 status excused)
-      ends b (source is rose before) (all gives) excused = inl (at_status b 5 (gives.status_is ∙ ap status_of is) before)
-      ends b (source is rose before) (no_sink line status _ written told) excused = absurd (subst Writes is line)
-      ends b (source is rose before) (no_memory status none told) excused = inl (at_status b 9 status excused)
-      ends b (memory is before) (all gives) excused = inl (at_status b 9 (gives.status_is ∙ ap status_of is) before)
-      ends b (memory is before) (no_sink line status _ written told) excused = absurd (subst Writes is line)
-      ends b (memory is before) (no_memory status none told) excused = inl (at_status b 9 status excused)
+  used_up : Finished a before.outputs after.outputs status → Decided words before.inputs after.inputs a
+      → IsTrue (is_of_data status) → IsUsedUp before.inputs.source.left after.inputs.source.left
+  used_up (no_sink line number rose written told) decision of =
+      absurd (let no : IsTrue (is_of_data 6) = subst (λ (s : ℕ). IsTrue (is_of_data s)) number of in cc)
+  used_up (no_memory number none told) decision of =
+      absurd (let no : IsTrue (is_of_data 9) = subst (λ (s : ℕ). IsTrue (is_of_data s)) number of in cc)
+  used_up (all gives still) (by_words at place is untouched) of =
+      absurd (stop_early (Usage (at + 1)) (subst (λ (s : ℕ). IsTrue (is_of_data s)) (gives.status_is ∙ ap status_of is) of))
+  used_up (all gives still) (by_schema order stop orders is fault loads kept) of =
+      absurd (stop_early stop (subst (λ (s : ℕ). IsTrue (is_of_data s)) (gives.status_is ∙ ap status_of is) of))
+  used_up (all gives still) (by_data order described orders told loaded loads read) of =
+      read_used order.verb described before.inputs.source after.inputs.source a read
+      (subst (λ (s : ℕ). IsTrue (is_of_data s)) gives.status_is of)
 
-  pub complete : (b : Answer) → Decided words C L sb sa fb fa a → Finished a result oo on no nn ob oa nb na → Expects words C L b
-      → (Rose sb sa → ⊥) → (Rose fb fa → ⊥) → (Rose ob oa → ⊥) → (result ≡ 9) ⊎ Gives b result oo on no nn nb na
-  complete b decided finished expects no_source no_files no_out = ends b (ranked sb sa fb fa words C L a b decided expects) finished
+  out_still : Finished a before.outputs after.outputs status → (status ≡ 6 → ⊥)
+      → after.outputs.out.faults ≡ before.outputs.out.faults
+  out_still (all gives still) not_failed = still
+  out_still (no_sink line number rose written told) not_failed = absurd (not_failed number)
+  out_still (no_memory number none told) not_failed = ap (λ (s : SinkSeen). s.faults) none
+
+  source_still : Finished a before.outputs after.outputs status → Decided words before.inputs after.inputs a
+      → (status ≡ 5 → ⊥) → (status ≡ 9 → ⊥) → after.inputs.source.faults ≡ before.inputs.source.faults
+  source_still end (by_words at place is untouched) not_failed some = ap (λ (i : Inputs). i.source.faults) untouched
+  source_still end (by_schema order stop orders is fault loads kept) not_failed some = ap (λ (s : SourceSeen). s.faults) kept
+  source_still end (by_data order described orders told loaded loads read) not_failed some =
+      read_still order.verb described before.inputs.source after.inputs.source a read
+      (λ is. either (stopped SourceFailed is end))
     where
-      ends : (b : Answer) → Ranked sb sa fb fa a b → Finished a result oo on no nn ob oa nb na → (result ≡ 9) ⊎ Gives b result oo on no nn nb na
-      ends b ranking (no_memory status none told) = inl status
-      ends b ranking (no_sink line status rose written told) = absurd (no_out rose)
-      ends b (same is) (all gives) = inr (subst (λ (x : Answer). Gives x result oo on no nn nb na) is gives)
-      ends b (files name is rose before) (all gives) = absurd (no_files rose)
-      ends b (source is rose before) (all gives) = absurd (no_source rose)
-      ends b (memory is before) (all gives) = inl (gives.status_is ∙ ap status_of is)
+      either : (status ≡ 5) ⊎ (status ≡ 9) → ⊥
+      either (inl failed) = not_failed failed
+      either (inr none) = some none
 
-  pub front : (b : Answer) → Decided words C L sb sa fb fa a → Finished a result oo on no nn ob oa nb na → Expects words C L b → AddsFront oo (written_of b) on
-  front b decided finished expects = ends b (ranked sb sa fb fa words C L a b decided expects) finished
+  files_still : Finished a before.outputs after.outputs status → Decided words before.inputs after.inputs a
+      → (status ≡ 7 → ⊥) → (status ≡ 9 → ⊥) → after.inputs.files.faults ≡ before.inputs.files.faults
+  files_still end (by_words at place is untouched) not_failed some = ap (λ (i : Inputs). i.files.faults) untouched
+  files_still end (by_schema order stop orders is fault loads kept) not_failed some =
+      load_still before.inputs.files after.inputs.files order.schema stop fault
+      (λ own. either (stopped stop is end) own)
     where
-      fault : (b x : Answer) → a ≡ x → written_of x ≡ [] → Gives a result oo on no nn nb na → AddsFront oo (written_of b) on
-      fault b x is none gives = none_front oo on (written_of b) (subst (λ (piece : List ℕ). Adds oo piece on) (ap written_of is ∙ none) gives.written)
+      either : (status ≡ status_of (Err stop)) ⊎ (status ≡ 9) → (status_of (Err stop) ≡ 7) ⊎ (status_of (Err stop) ≡ 9) → ⊥
+      either (inl own) (inl failed) = not_failed (own ∙ failed)
+      either (inl own) (inr none) = some (own ∙ none)
+      either (inr none) number = some none
+  files_still end (by_data order described orders told loaded loads read) not_failed some = loaded.still
 
-      ends : (b : Answer) → Ranked sb sa fb fa a b → Finished a result oo on no nn ob oa nb na → AddsFront oo (written_of b) on
-      ends b ranking (no_memory status none told) = none_front oo on (written_of b) (same_adds oo on none)
-      ends b (same is) (all gives) = adds_front oo on (written_of b) (subst (λ (x : Answer). Adds oo (written_of x) on) is gives.written)
-      ends b (same is) (no_sink line status rose written told) = subst (λ (x : Answer). AddsFront oo (written_of x) on) is written
-      ends b (files name is rose before) (all gives) = fault b (FilesFailed name) is refl gives
-      ends b (files name is rose before) (no_sink line status _ written told) = absurd (subst Writes is line)
-      ends b (source is rose before) (all gives) = fault b SourceFailed is refl gives
-      ends b (source is rose before) (no_sink line status _ written told) = absurd (subst Writes is line)
-      ends b (memory is before) (all gives) = fault b OutOfMemory is refl gives
-      ends b (memory is before) (no_sink line status _ written told) = absurd (subst Writes is line)
+  few_loads : Decided words before.inputs after.inputs a
+      → (after.inputs.files.loads ≡ before.inputs.files.loads) ⊎ (after.inputs.files.loads ≡ one_more before.inputs.files.loads)
+  few_loads (by_words at place is untouched) = inl (ap (λ (i : Inputs). i.files.loads) untouched)
+  few_loads (by_schema order stop orders is fault loads kept) = inr loads
+  few_loads (by_data order described orders told loaded loads read) = inr loads
 
-  pub comes_exactly : (status : ℕ) (b : Answer) → Decided words C L sb sa fb fa a → Finished a result oo on no nn ob oa nb na → Expects words C L b
-      → ComesExactly status b result
-  comes_exactly status b decided finished expects = comes (exactly b decided finished expects)
-    where
-      comes : IsTrue (is_excused b result) ⊎ Gives b result oo on no nn nb na → ComesExactly status b result
-      comes (inl excused) = inl excused
-      comes (inr gives) = inr (λ is. sym gives.status_is ∙ is, λ is. gives.status_is ∙ is)
-
-  pub source_failed : Decided words C L sb sa fb fa a → Finished a result oo on no nn ob oa nb na → result ≡ 5 → Rose sb sa × Tells (note_of SourceFailed) no nn nb na
-  source_failed decided (no_sink line status rose written told) is = absurd (omega arith)
-  source_failed decided (no_memory status none told) is = absurd (omega arith)
-  source_failed decided (all gives) is =
-      let answer = five a (sym gives.status_is ∙ is) in
-      (rises answer decided, subst (λ (x : Answer). Tells (note_of x) no nn nb na) answer gives.told)
-    where
-      rises : a ≡ SourceFailed → Decided words C L sb sa fb fa a → Rose sb sa
-      rises answer (by_words at place usage) = absurd (cc)
-      rises answer (by_schema order orders fault) = absurd (subst (λ (x : Answer). IsLoadFault (C order.schema) order.schema fb fa x) answer fault)
-      rises answer (by_data order described orders told reading) = subst (λ (x : Answer). IsReadAnswer L order.verb described sb sa x) answer reading
-
-  pub sink_failed : Decided words C L sb sa fb fa a → Finished a result oo on no nn ob oa nb na → result ≡ 6 → Rose ob oa × Tells (note_of SinkFailed) no nn nb na
-  sink_failed decided (no_sink line status rose written told) is = (rose, told)
-  sink_failed decided (no_memory status none told) is = absurd (omega arith)
-  sink_failed decided (all gives) is = absurd (never (six a (sym gives.status_is ∙ is)) decided)
-    where
-      never : a ≡ SinkFailed → Decided words C L sb sa fb fa a → ⊥
-      never answer (by_words at place usage) = absurd (cc)
-      never answer (by_schema order orders fault) = subst (λ (x : Answer). IsLoadFault (C order.schema) order.schema fb fa x) answer fault
-      never answer (by_data order described orders told reading) = subst (λ (x : Answer). IsReadAnswer L order.verb described sb sa x) answer reading
-
-  pub files_failed : Decided words C L sb sa fb fa a → Finished a result oo on no nn ob oa nb na → result ≡ 7 → Rose fb fa × NamesFile words no nn nb na
-  files_failed decided (no_sink line status rose written told) is = absurd (omega arith)
-  files_failed decided (no_memory status none told) is = absurd (omega arith)
-  files_failed decided (all gives) is = let answer = seven a (sym gives.status_is ∙ is) in named answer.0 answer.1 decided
-    where
-      named : (name : List ℕ) → a ≡ FilesFailed name → Decided words C L sb sa fb fa a → Rose fb fa × NamesFile words no nn nb na
-      named name answer (by_words at place usage) = absurd (cc)
-      named name answer (by_schema order orders fault) =
-          let fault' = subst (λ (x : Answer). IsLoadFault (C order.schema) order.schema fb fa x) answer fault in (
-            fault'.1,
-            record {
-              order = order;
-              orders = orders;
-              told = subst (λ (x : Answer). Tells (note_of x) no nn nb na) (answer ∙ ap (λ n. FilesFailed n) fault'.0) gives.told;
-            },
-          )
-      named name answer (by_data order described orders told reading) = absurd (subst (λ (x : Answer). IsReadAnswer L order.verb described sb sa x) answer reading)
-
-  pub out_of_memory : Finished a result oo on no nn ob oa nb na → result ≡ 9 → Tells (note_of OutOfMemory) no nn nb na
-  out_of_memory (no_sink line status rose written told) is = absurd (omega arith)
-  out_of_memory (no_memory status none told) is = told
-  out_of_memory (all gives) is = subst (λ (x : Answer). Tells (note_of x) no nn nb na) (nine a (sym gives.status_is ∙ is)) gives.told
-
-  pub unwritten : Finished a result oo on no nn ob oa nb na → (result ≡ 0 → ⊥) → (result ≡ 3 → ⊥) → (result ≡ 6 → ⊥) → (result ≡ 11 → ⊥) → Adds oo [] on
-  unwritten (no_sink line status rose written told) not_done not_unparsed not_failed not_over = absurd (not_failed status)
-  unwritten (no_memory status none told) not_done not_unparsed not_failed not_over = same_adds oo on none
-  unwritten (all gives) not_done not_unparsed not_failed not_over =
-      subst (λ (piece : List ℕ). Adds oo piece on) (nothing_written a (λ is. not_done (gives.status_is ∙ is)) (λ is. not_unparsed (gives.status_is ∙ is)) (λ is. not_over (gives.status_is ∙ is))) gives.written
-
-  -- a run that ends with the status of a result has one
-  pub result_ended : Finished a result oo on no nn ob oa nb na → IsTrue (result == 0 || result == 1 || result == 3 || result == 11 || result == 12) → IsResult a
-  result_ended (all gives) is = status_result a (subst (λ (s : ℕ). IsTrue (s == 0 || s == 1 || s == 3 || s == 11 || s == 12)) gives.status_is is)
-  result_ended (no_sink line status rose written told) is = absurd (six_is_none (subst (λ (s : ℕ). IsTrue (s == 0 || s == 1 || s == 3 || s == 11 || s == 12)) status is))
-    where
-      six_is_none : IsTrue (6 == 0 || 6 == 1 || 6 == 3 || 6 == 11 || 6 == 12) → ⊥
-      six_is_none none = cc
-  result_ended (no_memory status none told) is = absurd (nine_is_none (subst (λ (s : ℕ). IsTrue (s == 0 || s == 1 || s == 3 || s == 11 || s == 12)) status is))
-    where
-      nine_is_none : IsTrue (9 == 0 || 9 == 1 || 9 == 3 || 9 == 11 || 9 == 12) → ⊥
-      nine_is_none none = cc
+  pub run_is : IsRun words before after status
+  run_is = record {
+    answered = (a, decided, finished);
+    expected = expected;
+    source_failed = source_failed finished;
+    sink_failed = sink_failed finished;
+    files_failed = files_failed finished;
+    out_of_memory = out_of_memory finished;
+    unwritten = unwritten finished;
+    unread = unread finished decided;
+    unloaded = unloaded finished decided;
+    used_up = used_up finished decided;
+    out_still = out_still finished;
+    source_still = source_still finished decided;
+    files_still = files_still finished decided;
+    loads = few_loads decided;
+  }

@@ -5,7 +5,6 @@ pub mod Loads
 pub mod PieceLemmas
 pub mod Rankings
 pub mod Readings
-mod Results
 pub mod Unparsings
 pub mod WholeRecords
 pub mod Words

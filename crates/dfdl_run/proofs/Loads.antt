@@ -6,14 +6,14 @@ use Rattle.dfdl_terms.specs.Rows.{Table}
 use Rattle.dfdl_terms.specs.Record.{Record}
 use Rattle.dfdl_compile.specs.Schema.{IsRecordTree, IsSchema}
 use Rattle.dfdl_compile.specs.Compiled.{IsCompiled}
-use Rattle.dfdl_run.specs.Loaded.{IsLoaded}
+use Rattle.dfdl_run.specs.Loaded.{AreTermsOf}
 
 -- elements are a schema of one record
 one_record : (nodes : List Node) (a b : Record) → IsRecordTree nodes a → IsRecordTree nodes b → a ≡ b
 one_record nodes a b first second = let shapes = sym first.shape ∙ second.shape in cc
 
 pub loaded : (bytes : List ℕ) (nodes : List Node) (terms : Table) → IsDocument bytes nodes
-    → ((others : List Node) → IsDocument bytes others → nodes ≡ others) → IsCompiled nodes terms → IsLoaded bytes terms
+    → ((others : List Node) → IsDocument bytes others → nodes ≡ others) → IsCompiled nodes terms → AreTermsOf bytes terms
 loaded bytes nodes terms document only compiled = record {
   described = compiled.described;
   schema = record { nodes = nodes; document = document; tree = compiled.tree };

@@ -16,7 +16,7 @@ use Rattle.dfdl_terms.specs.Record.{Field, Record, all_of, record_of}
 use Rattle.dfdl_terms.specs.Rows.{Table}
 use Rattle.dfdl_record.specs.Pieces.{IsWholeField, IsWholeRecord}
 use Rattle.dfdl_compile.specs.Schema.{Outline, IsRecordTree, bits_of, field_of, form_of, integer_form, is_field, kind_of, local_name, order_of, outline_of, outline_record, value_of}
-use Rattle.dfdl_run.specs.Loaded.{IsLoaded}
+use Rattle.dfdl_run.specs.Loaded.{AreTermsOf}
 
 -- the type is unsigned, and has this many whole bytes
 record IsWholeKind (kind : Simple) : Type 0 where
@@ -99,7 +99,7 @@ tree_whole nodes described tree =
     ]) tree.shape
 
 -- the record that loaded terms are
-pub loaded_whole : (bytes : List ℕ) (terms : Table) → IsLoaded bytes terms → (described : Record) → record_of terms ≡ Some described → IsWholeRecord described
+pub loaded_whole : (bytes : List ℕ) (terms : Table) → AreTermsOf bytes terms → (described : Record) → record_of terms ≡ Some described → IsWholeRecord described
 loaded_whole bytes terms loaded described is =
     let same : loaded.described ≡ described = let terms_are = loaded.terms_are in cc in
     subst IsWholeRecord same (record { whole = tree_whole loaded.schema.nodes loaded.described loaded.schema.tree; different = loaded.schema.tree.different })

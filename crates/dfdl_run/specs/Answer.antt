@@ -1,87 +1,85 @@
--- What each answer of a run prints: its exit status, what it writes to `out`, and its line on the notes.
-use Rattle.std.specs.Prelude.{ℕ, List, [], ◌++◌, codes, decimal}
-use Rattle.dfdl_report.specs.declared.cause.ParseCause.{ParseCause}
-use Rattle.dfdl_report.specs.declared.cause.ParseCause.TheVariants.{DataEnds}
-use Rattle.dfdl_report.specs.declared.cause.UnparseCause.{UnparseCause}
-use Rattle.dfdl_report.specs.declared.cause.UnparseCause.TheVariants.{WrongOccurrences}
-use Rattle.dfdl_report.specs.declared.cause.SchemaCause.{SchemaCause}
-use Rattle.dfdl_report.specs.declared.cause.SchemaCause.TheVariants.{OutsideSubset}
-use Rattle.dfdl_report.specs.Causes.{parse_number, unparse_number, schema_number, limit_number}
-use Rattle.dfdl_report.specs.declared.cause.InfosetCause.{InfosetCause}
-use Rattle.dfdl_report.specs.declared.cause.InfosetCause.TheVariants.{NotJson, RootExpected, UnknownMember, ObjectExpected, ArrayExpected, StringExpected, NotAValue, NullNotAllowed}
-use Rattle.dfdl_report.specs.Causes.{infoset_number}
+-- How a run can end, with its exit status, what it writes to `out`, and its line on the notes.
+use Rattle.std.specs.Prelude.{ℕ, List, [], Bool, true, false, Result, Ok, Err}
+use Rattle.dfdl_report.specs.declared.status.Status.{Status}
+use Rattle.dfdl_report.specs.declared.status.Status.TheVariants as status
+use Rattle.dfdl_report.specs.Statuses.{status_number}
+use Rattle.dfdl_report.specs.Lines.{files_line, infoset_line, left_over_line, limit_line, memory_line}
+use Rattle.dfdl_report.specs.Lines.{parse_line, schema_line, source_line, unparse_line, usage_line}
 use Rattle.dfdl_record.specs.Pieces.{joined}
 use Rattle.dfdl_run.specs.declared.answer.Answer.{Answer}
-use Rattle.dfdl_run.specs.declared.answer.Answer.TheVariants.{Done, LeftOver, Failed, Unparsed, NotUnparsed, NoInfoset, Refused, Usage, SourceFailed, SinkFailed, FilesFailed, Limit, OutOfMemory}
+use Rattle.dfdl_run.specs.declared.answer.Answer.TheVariants.{Done, LeftOver, Failed, Unparsed, NotUnparsed, NoInfoset}
+use Rattle.dfdl_run.specs.declared.stop.Stop.{Stop}
+use Rattle.dfdl_run.specs.declared.stop.Stop.TheVariants.{Usage, FilesFailed, Refused, SourceFailed, Limit, OutOfMemory}
 
--- the exit status
-abbrev pub status_of : Answer → ℕ
-status_of (Done line) = 0
-status_of (LeftOver line bit) = 11
-status_of (Failed cause bit path) = 1
-status_of (Unparsed pieces) = 0
-status_of (NotUnparsed pieces cause path) = 3
-status_of (NoInfoset cause path) = 12
-status_of (Refused cause document at) = 2
-status_of (Usage word) = 4
-status_of SourceFailed = 5
-status_of SinkFailed = 6
-status_of (FilesFailed name) = 7
-status_of (Limit cause quantity) = 8
-status_of OutOfMemory = 9
+-- the end of a run: what its data came to, or what stopped it before that
+abbrev pub End : Type 0
+End = Result Answer Stop
 
--- what is written to `out`
-abbrev pub written_of : Answer → List ℕ
-written_of (Done line) = line
-written_of (LeftOver line bit) = line
-written_of (Failed cause bit path) = []
-written_of (Unparsed pieces) = joined pieces
-written_of (NotUnparsed pieces cause path) = joined pieces
-written_of (NoInfoset cause path) = []
-written_of (Refused cause document at) = []
-written_of (Usage word) = []
-written_of SourceFailed = []
-written_of SinkFailed = []
-written_of (FilesFailed name) = []
-written_of (Limit cause quantity) = []
-written_of OutOfMemory = []
+-- the status of what the data came to
+abbrev pub answer_status : Answer → Status
+answer_status (Done line) = status.Done
+answer_status (LeftOver line bit) = status.LeftOver
+answer_status (Failed cause bit path) = status.ProcessingError
+answer_status (Unparsed pieces) = status.Done
+answer_status (NotUnparsed pieces cause path) = status.UnparseError
+answer_status (NoInfoset cause path) = status.InfosetRefused
 
--- the text of a cause
-abbrev pub parse_text : ParseCause → List ℕ
-parse_text DataEnds = codes "data ends"
+-- the status of what stopped a run
+abbrev pub stop_status : Stop → Status
+stop_status (Usage word) = status.Usage
+stop_status (FilesFailed name) = status.FilesFailed
+stop_status (Refused cause document at) = status.SchemaRefused
+stop_status SourceFailed = status.SourceFailed
+stop_status (Limit cause quantity) = status.Limit
+stop_status OutOfMemory = status.OutOfMemory
 
-abbrev pub unparse_text : UnparseCause → List ℕ
-unparse_text WrongOccurrences = codes "wrong number of occurrences"
+-- the exit status of an end
+abbrev pub status_of : End → ℕ
+status_of (Ok answer) = status_number (answer_status answer)
+status_of (Err stop) = status_number (stop_status stop)
 
-abbrev pub infoset_text : InfosetCause → List ℕ
-infoset_text NotJson = codes "not JSON"
-infoset_text RootExpected = codes "root expected"
-infoset_text UnknownMember = codes "unknown member"
-infoset_text ObjectExpected = codes "object expected"
-infoset_text ArrayExpected = codes "array expected"
-infoset_text StringExpected = codes "string expected"
-infoset_text NotAValue = codes "not a value of the type"
-infoset_text NullNotAllowed = codes "null not allowed"
+-- what is written to `out` of an answer
+abbrev pub answer_bytes : Answer → List ℕ
+answer_bytes (Done line) = line
+answer_bytes (LeftOver line bit) = line
+answer_bytes (Failed cause bit path) = []
+answer_bytes (Unparsed pieces) = joined pieces
+answer_bytes (NotUnparsed pieces cause path) = joined pieces
+answer_bytes (NoInfoset cause path) = []
 
-abbrev pub schema_text : SchemaCause → List ℕ
-schema_text OutsideSubset = codes "construct outside the subset"
+-- what is written to `out` at an end
+abbrev pub written_of : End → List ℕ
+written_of (Ok answer) = answer_bytes answer
+written_of (Err stop) = []
 
--- the line on the notes
-abbrev pub note_of : Answer → List ℕ
-note_of (Done line) = []
-note_of (LeftOver line bit) = codes "left over data at bit " ++ (decimal bit ++ codes "\n")
-note_of (Failed cause bit path) =
-    codes "error P" ++ (decimal (parse_number cause) ++ (codes " at bit " ++ (decimal bit ++ (codes " in " ++ (path ++ (codes ": " ++ (parse_text cause ++ codes "\n")))))))
-note_of (Unparsed pieces) = []
-note_of (NotUnparsed pieces cause path) =
-    codes "error U" ++ (decimal (unparse_number cause) ++ (codes " in " ++ (path ++ (codes ": " ++ (unparse_text cause ++ codes "\n")))))
-note_of (NoInfoset cause path) =
-    codes "error I" ++ (decimal (infoset_number cause) ++ (codes " in " ++ (path ++ (codes ": " ++ (infoset_text cause ++ codes "\n")))))
-note_of (Refused cause document at) =
-    codes "error C" ++ (decimal (schema_number cause) ++ (codes " at " ++ (document ++ (codes ":" ++ (decimal at ++ (codes ": " ++ (schema_text cause ++ codes "\n")))))))
-note_of (Usage word) = codes "usage: word " ++ (decimal word ++ codes "\n")
-note_of SourceFailed = codes "source failed\n"
-note_of SinkFailed = codes "sink failed\n"
-note_of (FilesFailed name) = codes "files failed: " ++ (name ++ codes "\n")
-note_of (Limit cause quantity) = codes "limit L" ++ (decimal (limit_number cause) ++ (codes " of " ++ (decimal quantity ++ codes " reached\n")))
-note_of OutOfMemory = codes "out of memory\n"
+-- whether the answer is one that is written to `out`
+abbrev pub is_written : Answer → Bool
+is_written (Done line) = true
+is_written (LeftOver line bit) = true
+is_written (Failed cause bit path) = false
+is_written (Unparsed pieces) = true
+is_written (NotUnparsed pieces cause path) = true
+is_written (NoInfoset cause path) = false
+
+-- the line that tells an answer
+abbrev pub answer_note : Answer → List ℕ
+answer_note (Done line) = []
+answer_note (LeftOver line bit) = left_over_line bit
+answer_note (Failed cause bit path) = parse_line cause bit path
+answer_note (Unparsed pieces) = []
+answer_note (NotUnparsed pieces cause path) = unparse_line cause path
+answer_note (NoInfoset cause path) = infoset_line cause path
+
+-- the line that tells what stopped a run
+abbrev pub stop_note : Stop → List ℕ
+stop_note (Usage word) = usage_line word
+stop_note (FilesFailed name) = files_line name
+stop_note (Refused cause document at) = schema_line cause document at
+stop_note SourceFailed = source_line
+stop_note (Limit cause quantity) = limit_line cause quantity
+stop_note OutOfMemory = memory_line
+
+-- the line on the notes of an end
+abbrev pub note_of : End → List ℕ
+note_of (Ok answer) = answer_note answer
+note_of (Err stop) = stop_note stop

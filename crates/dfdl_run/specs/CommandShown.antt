@@ -1,4 +1,4 @@
--- What a clause sees of a command.
+-- Mirror for the prover: what a clause sees of a command, whose schema is lent.
 use Rattle.dfdl_run.specs.Command.{Order}
 use Rattle.dfdl_run.specs.declared.command.Command.{Command}
 

@@ -6,4 +6,6 @@ pub mod Expects
 pub mod Finished
 pub mod Loaded
 pub mod Meaning
+pub mod Outside
 pub mod Reading
+pub mod Run

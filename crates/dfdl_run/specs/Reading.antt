@@ -1,4 +1,4 @@
--- What the reader of a record's data has, with the members of the infoset in the place of its items.
+-- Mirror for the prover: what the reader of a record's data has, with members of a map in the place of items.
 use Rattle.std.specs.Prelude.{ℕ, List, fold}
 use Rattle.serde_json.specs.Data.{Members}
 use Rattle.serde_json.specs.View.{members_view}

@@ -1,21 +1,28 @@
-// One run of the program, from its words to its exit status.
-//
-// `run` reads the words of a command, loads and compiles the schema, reads the source and writes the answer, over the
-// traits of the outside. Its contract cites `Expects` of `specs/Expects.antt`: what a run comes to, as far as the
-// outside tells its bytes. The meaning of the data stands in `specs/Meaning.antt`. It serves 'DFDL Processing Introduction'.
+//! One run of the program, from its words to its exit status.
+//!
+//! `run` reads the words of a command, loads and compiles the schema, reads the source and writes the answer, over the
+//! traits of the outside. Its contract is `IsRun` of `specs/Run.antt`, whose premise is `Expects` of
+//! `specs/Expects.antt`: what a run comes to, as far as the outside tells its bytes. The meaning of the data stands in
+//! `specs/Meaning.antt`. It serves 'DFDL Processing Introduction'.
 #![tactic(auto)]
 
 pub mod answer;
 pub mod call;
 pub mod chooser;
 mod command;
+mod deciding;
 mod delivery;
+mod loading;
 mod parsing;
+pub mod stop;
 mod unparsing;
 
 pub use answer::Answer;
-pub use call::{MOST_INPUT, MOST_SCHEMA, run};
+pub use call::run;
 pub use chooser::{Chooser, FirstReady};
+pub use deciding::MOST_INPUT;
+pub use loading::MOST_SCHEMA;
+pub use stop::Stop;
 
 #[cfg(test)]
 mod tests;

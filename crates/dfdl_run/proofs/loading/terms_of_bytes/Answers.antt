@@ -1,5 +1,5 @@
 use Rattle.dfdl_run.proofs.Loads.{loaded, no_record}
-use Rattle.dfdl_run.proofs.call.terms_of_bytes.Goals as goal
+use Rattle.dfdl_run.proofs.loading.terms_of_bytes.Goals as goal
 
 pub returns-in-Err-Bad-clause-refused : goal.returns-in-Err-Bad-clause-refused
 returns-in-Err-Bad-clause-refused c = λ _ described schema. c.in-Err-Bad.ensures.bad (cc) schema.nodes schema.document

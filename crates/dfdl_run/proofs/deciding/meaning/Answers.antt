@@ -1,7 +1,7 @@
 use Rattle.std.proofs.Common.{◌≡◌, IfOk, sym, subst}
 use Rattle.dfdl_run.specs.declared.command.Verb.{Verb}
 use Rattle.dfdl_run.specs.Meaning.{answer_of}
-use Rattle.dfdl_run.proofs.call.meaning.Goals as goal
+use Rattle.dfdl_run.proofs.deciding.meaning.Goals as goal
 
 pub returns-in-Unparse : goal.returns-in-Unparse
 returns-in-Unparse c = λ described some.

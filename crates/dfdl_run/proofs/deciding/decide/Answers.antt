@@ -1,0 +1,20 @@
+use Rattle.std.proofs.Common.{refl}
+use Rattle.dfdl_terms.specs.Record.{record_of}
+use Rattle.dfdl_run.specs.Decided.{by_words, by_schema, by_data}
+use Rattle.dfdl_run.specs.CommandShown.{order_shown}
+use Rattle.dfdl_run.proofs.Decisions.{described_by}
+use Rattle.dfdl_run.proofs.deciding.decide.Goals as goal
+
+pub returns-in-Err : goal.returns-in-Err
+returns-in-Err g c = by_words c.in-Err.at c.in-Err.ensures.place (cc) refl
+
+pub returns-in-Ok-load_terms : goal.returns-in-Ok-load_terms
+returns-in-Ok-load_terms g c =
+    let some = described_by (record_of c.in-Ok-load_terms.terms) c.in-Ok-load_terms.ensures.described in
+    by_data (order_shown c.in-Ok.command) some.0 c.in-Ok.ensures.ok (c.in-Ok-load_terms.ensures.ok some.0 some.1)
+    c.in-Ok-load_terms.ensures.loaded c.in-Ok-load_terms.ensures.one_load (c.read_answer.ensures some.0 some.1)
+
+pub returns-in-Err-load_terms : goal.returns-in-Err-load_terms
+returns-in-Err-load_terms g c =
+    by_schema (order_shown c.in-Ok.command) _ c.in-Ok.ensures.ok refl c.in-Err-load_terms.ensures.err
+    c.in-Err-load_terms.ensures.one_load refl

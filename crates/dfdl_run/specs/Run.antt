@@ -1,0 +1,69 @@
+-- One run, by what is seen of the outside before and after it, and by its exit status.
+use Rattle.std.specs.Prelude.{◌≡◌, ◌⊎◌, ℕ, ◌||◌, ◌==◌, Bool, IsTrue, List, []}
+use Rattle.dfdl_edge.specs.Faults.{Rose, one_more}
+use Rattle.dfdl_edge.specs.Sink.{Adds}
+use Rattle.dfdl_edge.specs.Told.{IsNowLast}
+use Rattle.dfdl_edge.specs.Whole.{IsUsedUp}
+use Rattle.dfdl_report.specs.Lines.{files_line, memory_line, sink_line, source_line}
+use Rattle.dfdl_run.specs.Answer.{End}
+use Rattle.dfdl_run.specs.Command.{Order, Orders}
+use Rattle.dfdl_run.specs.Decided.{Decided}
+use Rattle.dfdl_run.specs.Expects.{Expects, IsAsExpected, Tells}
+use Rattle.dfdl_run.specs.Finished.{Finished}
+use Rattle.dfdl_run.specs.Outside.{Outside}
+
+-- the statuses of runs whose data came to something
+abbrev pub is_of_data : ℕ → Bool
+is_of_data status = status == 0 || status == 1 || status == 3 || status == 11 || status == 12
+
+-- the statuses of runs that words, files or the schema ended
+abbrev pub is_before_data : ℕ → Bool
+is_before_data status = status == 2 || status == 4 || status == 7
+
+-- the schema file of the command is the one last failed, and the note names it
+pub record NamesFile (words : List (List ℕ)) (before after : Outside) : Type 0 where
+  pub order : Order
+  pub orders : Orders words order
+  pub last : IsNowLast before.inputs.files.last_failed order.schema after.inputs.files.last_failed
+  pub told : Tells (files_line order.schema) before.outputs.notes after.outputs.notes
+
+-- a call on the source has failed, on `out`, or on the files, in this run, and the note tells it
+pub record SourceFails (before after : Outside) : Type 0 where
+  pub rose : Rose before.inputs.source.faults after.inputs.source.faults
+  pub told : Tells source_line before.outputs.notes after.outputs.notes
+
+pub record SinkFails (before after : Outside) : Type 0 where
+  pub rose : Rose before.outputs.out.faults after.outputs.out.faults
+  pub told : Tells sink_line before.outputs.notes after.outputs.notes
+
+pub record FilesFail (words : List (List ℕ)) (before after : Outside) : Type 0 where
+  pub rose : Rose before.inputs.files.faults after.inputs.files.faults
+  pub named : NamesFile words before after
+
+-- one run on these words that has ended with this status
+pub record IsRun (words : List (List ℕ)) (before after : Outside) (status : ℕ) : Type 0 where
+  -- told or not: an end was decided by the words, the schema or the data, and the run ended with it
+  pub answered : (end : End) × Decided words before.inputs after.inputs end
+      × Finished end before.outputs after.outputs status
+  -- where the outside tells its bytes: the run is as expected
+  pub expected : (end : End) → Expects words before.inputs end → IsAsExpected end before after status
+  -- the faults of the outside and want of memory
+  pub source_failed : status ≡ 5 → SourceFails before after
+  pub sink_failed : status ≡ 6 → SinkFails before after
+  pub files_failed : status ≡ 7 → FilesFail words before after
+  pub out_of_memory : status ≡ 9 → Tells memory_line before.outputs.notes after.outputs.notes
+  -- what the run leaves as it was: `out` at each status that has nothing written, the source where something before the
+  -- data ended the run, the files where the words did; and the source is used up where its data came to something
+  pub unwritten : (status ≡ 0 → ⊥) → (status ≡ 3 → ⊥) → (status ≡ 6 → ⊥) → (status ≡ 11 → ⊥)
+      → Adds before.outputs.out.taken [] after.outputs.out.taken
+  pub unread : IsTrue (is_before_data status) → after.inputs.source ≡ before.inputs.source
+  pub unloaded : status ≡ 4 → after.inputs.files ≡ before.inputs.files
+  pub used_up : IsTrue (is_of_data status) → IsUsedUp before.inputs.source.left after.inputs.source.left
+  -- each count of faults stands where the status is not that of its fault; want of memory for a note can hide a fault of
+  -- the source or of the files
+  pub out_still : (status ≡ 6 → ⊥) → after.outputs.out.faults ≡ before.outputs.out.faults
+  pub source_still : (status ≡ 5 → ⊥) → (status ≡ 9 → ⊥) → after.inputs.source.faults ≡ before.inputs.source.faults
+  pub files_still : (status ≡ 7 → ⊥) → (status ≡ 9 → ⊥) → after.inputs.files.faults ≡ before.inputs.files.faults
+  -- at most one file is loaded
+  pub loads : (after.inputs.files.loads ≡ before.inputs.files.loads)
+      ⊎ (after.inputs.files.loads ≡ one_more before.inputs.files.loads)

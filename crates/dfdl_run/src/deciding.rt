@@ -1,0 +1,89 @@
+// What a run comes to, before anything is written.
+ghost use Rattle.std.specs.Prelude.{◌≡◌, ◌<◌, ◌+◌, ◌^◌, ◌≤◌, IsSome, IfOk, Some, length, map, string_bytes};
+ghost use Rattle.dfdl_terms.specs.Record.{Record, record_of};
+ghost use Rattle.dfdl_record.specs.Pieces.{IsWholeRecord};
+ghost use Rattle.dfdl_run.specs.Decided.{Decided, IsReadEnd};
+ghost use Rattle.dfdl_run.specs.Meaning.{answer_of};
+
+use crate::answer::Answer;
+use crate::command::{Verb, command_of};
+use crate::loading::{limit, load_terms};
+use crate::parsing::parse;
+use crate::stop::Stop;
+use crate::unparsing::unparse;
+use dfdl_edge::{Files, Source, SourceFault, read_to_limit};
+use dfdl_report::LimitCause;
+use dfdl_terms::Terms;
+use std::alloc::{AllocError, Global};
+
+/// The most bytes that are read of the source.
+pub const MOST_INPUT: u64 = 1 << 30;
+
+// What the bytes of the source come to.
+fn meaning(alloc: Global, verb: Verb, terms: &Terms, bytes: &[u8]) -> Result<Answer, AllocError>
+    requires small { length bytes.now ≤ 2 ^ 60 }
+    requires described { IsSome (record_of terms.now) }
+    requires whole { (described : Record) → record_of terms.now ≡ Some described → IsWholeRecord described }
+    ensures { (described : Record) → record_of terms.now ≡ Some described
+        → IfOk result (λ answer. answer ≡ answer_of verb described bytes.now) }
+{
+    match verb {
+        Verb::Parse => parse(alloc, terms, bytes),
+        Verb::Unparse => unparse(alloc, terms, bytes),
+    }
+}
+
+// What the source comes to.
+fn read_answer<S: Source>(
+    alloc: Global,
+    source: &mut S,
+    verb: Verb,
+    terms: &Terms,
+) -> Result<Answer, Stop>
+    requires described { IsSome (record_of terms.now) }
+    requires whole { (described : Record) → record_of terms.now ≡ Some described → IsWholeRecord described }
+    ensures { (described : Record) → record_of terms.now ≡ Some described
+        → IsReadEnd verb described (S.seen source.old) (S.seen source.new) result }
+{
+    let bytes = match read_to_limit(alloc, source, MOST_INPUT) {
+        Ok(bytes) => bytes,
+        Err(SourceFault::Failed) => return Err(Stop::SourceFailed),
+        Err(SourceFault::TooLarge) => return Err(limit(LimitCause::Input, MOST_INPUT)),
+        Err(SourceFault::OutOfMemory) => return Err(Stop::OutOfMemory),
+    };
+    match meaning(alloc, verb, terms, &bytes) {
+        Ok(answer) => Ok(answer),
+        Err(_) => Err(Stop::OutOfMemory),
+    }
+}
+
+// What a run comes to.
+pub(crate) fn decide<S: Source, F: Files>(
+    alloc: Global,
+    words: &[String],
+    files: &mut F,
+    source: &mut S,
+) -> Result<Answer, Stop>
+    ensures { Decided (map string_bytes words.now)
+        (record { files = F.seen files.old; source = S.seen source.old })
+        (record { files = F.seen files.new; source = S.seen source.new }) result }
+{
+    let command = match command_of(words) {
+        Ok(command) => command,
+        Err(at) => return Err(usage(at)),
+    };
+    match load_terms(alloc, files, command.schema) {
+        Ok(terms) => read_answer(alloc, source, command.verb, &terms),
+        Err(stop) => Err(stop),
+    }
+}
+
+// What stops a run where no command goes on at this word, counted from 0.
+fn usage(at: usize) -> Stop
+    requires { at < 2 ^ 63 }
+    ensures { result ≡ Stop.Usage (at + 1) }
+{
+    Stop::Usage {
+        word: at as u64 + 1,
+    }
+}

@@ -26,8 +26,10 @@ pub record IsThree (front : ℕ) : Type 0 where
   pub no_surrogate : (front < 864) ⊎ (896 ≤ front)
   pub most : front < 1024
 
-pub three_front : (a b : ℕ) → IsPair a b → 0xE0 ≤ a → a < 0xF0 → IsThree ((a - 0xE0) * 64 + (b - 0x80))
-three_front a b pair least less = record { least = grind arith; no_surrogate = grind arith; most = grind arith }
+pub three_front : (a b : ℕ) → IsPair a b → 0xE0 ≤ a → a < 0xF0
+    → IsThree ((a - 0xE0) * 64 + (b - 0x80))
+three_front a b pair least less =
+    record { least = grind arith; no_surrogate = grind arith; most = grind arith }
 
 -- and those of one of four to no overlong form, and to nothing past the last code
 pub record IsFour (front : ℕ) : Type 0 where

@@ -1,9 +1,11 @@
 -- What is seen of one, two, three and four bytes, as facts on numbers.
-use Rattle.std.proofs.Common.{◌≡◌, ℕ, ◌<◌, ◌≤◌, ◌&&◌, nat_le, nat_lt, List, [], ◌∷◌, Bool, true, false, if◌then◌else◌, refl, arith, ltb-true, ltb-false, leb-true}
+use Rattle.std.proofs.Common.{◌≡◌, ℕ, ◌<◌, ◌≤◌, ◌&&◌, nat_le, nat_lt, List, [], ◌∷◌, Bool, true}
+use Rattle.std.proofs.Common.{false, if◌then◌else◌, refl, arith, ltb-true, ltb-false, leb-true}
 use Rattle.std.proofs.lemmas.Bool.{and_parts}
 use Rattle.std.proofs.lemmas.Bool.Decides.{nat_tests}
 use Rattle.dfdl_layers.specs.Bytes.{Whole, Part, Bad}
-use Rattle.dfdl_xml_chars.specs.Utf8.{is_tail, is_pair, code_of_two, code_of_three, code_of_four, see}
+use Rattle.dfdl_xml_chars.specs.Utf8.{is_tail, is_pair, code_of_two, code_of_three, code_of_four}
+use Rattle.dfdl_xml_chars.specs.Utf8.{see}
 use Rattle.dfdl_xml_chars.proofs.Pairs.{IsPair, pair_facts, facts_pair}
 
 -- a byte that goes on
@@ -31,11 +33,13 @@ pub whole_one : (a n : ℕ) → see (a ∷ []) ≡ Whole n → (a < 0x80) × (n 
 unfolding see
 whole_one a n sees = grind (arith, nat_tests)
 
-pub whole_two : (a b n : ℕ) → see (a ∷ b ∷ []) ≡ Whole n → IsPair a b × (a < 0xE0) × (n ≡ code_of_two a b)
+pub whole_two : (a b n : ℕ) → see (a ∷ b ∷ []) ≡ Whole n
+    → IsPair a b × (a < 0xE0) × (n ≡ code_of_two a b)
 unfolding see
 whole_two a b n sees = grind (arith, nat_tests, pair_facts)
 
-pub three_whole : (a b c : ℕ) → IsPair a b → 0xE0 ≤ a → a < 0xF0 → IsTail c → see (a ∷ b ∷ c ∷ []) ≡ Whole (code_of_three a b c)
+pub three_whole : (a b c : ℕ) → IsPair a b → 0xE0 ≤ a → a < 0xF0 → IsTail c
+    → see (a ∷ b ∷ c ∷ []) ≡ Whole (code_of_three a b c)
 unfolding see
 three_whole a b c pair least less tail = let is = facts_pair a b pair in grind (arith, nat_tests)
 
@@ -43,11 +47,14 @@ pub three_part : (a b c : ℕ) → IsPair a b → 0xF0 ≤ a → IsTail c → se
 unfolding see
 three_part a b c pair least tail = let is = facts_pair a b pair in grind (arith, nat_tests)
 
-pub four_whole : (a b c d : ℕ) → IsPair a b → 0xF0 ≤ a → IsTail c → IsTail d → see (a ∷ b ∷ c ∷ d ∷ []) ≡ Whole (code_of_four a b c d)
+pub four_whole : (a b c d : ℕ) → IsPair a b → 0xF0 ≤ a → IsTail c → IsTail d
+    → see (a ∷ b ∷ c ∷ d ∷ []) ≡ Whole (code_of_four a b c d)
 unfolding see
-four_whole a b c d pair least third fourth = let is = facts_pair a b pair in grind (arith, nat_tests)
+four_whole a b c d pair least third fourth = let is = facts_pair a b pair in
+    grind (arith, nat_tests)
 
-whole_if : (p q : Bool) (m n : ℕ) → (if p then (if q then Whole m else Part) else Bad) ≡ Whole n → (p ≡ true) × (q ≡ true) × (n ≡ m)
+whole_if : (p q : Bool) (m n : ℕ) → (if p then (if q then Whole m else Part) else Bad) ≡ Whole n
+    → (p ≡ true) × (q ≡ true) × (n ≡ m)
 whole_if true true m n is = (refl, refl, cc)
 whole_if true false m n is = absurd (cc)
 whole_if false q m n is = absurd (cc)
@@ -56,7 +63,8 @@ whole_once : (p : Bool) (m n : ℕ) → (if p then Whole m else Bad) ≡ Whole n
 whole_once true m n is = (refl, cc)
 whole_once false m n is = absurd (cc)
 
-part_if : (p q : Bool) (m : ℕ) → (if p then (if q then Whole m else Part) else Bad) ≡ Part → (p ≡ true) × (q ≡ false)
+part_if : (p q : Bool) (m : ℕ) → (if p then (if q then Whole m else Part) else Bad) ≡ Part
+    → (p ≡ true) × (q ≡ false)
 part_if true true m is = absurd (cc)
 part_if true false m is = (refl, refl)
 part_if false q m is = absurd (cc)
@@ -64,23 +72,38 @@ part_if false q m is = absurd (cc)
 tail_facts : (b : ℕ) → is_tail b ≡ true → IsTail b
 tail_facts b is = grind (arith, nat_tests)
 
-pub whole_three : (a b c n : ℕ) → see (a ∷ b ∷ c ∷ []) ≡ Whole n → IsPair a b × (0xE0 ≤ a) × (a < 0xF0) × IsTail c × (n ≡ code_of_three a b c)
+pub whole_three : (a b c n : ℕ) → see (a ∷ b ∷ c ∷ []) ≡ Whole n
+    → IsPair a b × (0xE0 ≤ a) × (a < 0xF0) × IsTail c × (n ≡ code_of_three a b c)
 unfolding see
 whole_three a b c n sees =
-    let both = whole_if (nat_le 0xE0 a && (is_pair a b && is_tail c)) (nat_lt a 0xF0) (code_of_three a b c) n sees in
+    let both =
+    whole_if (nat_le 0xE0 a && (is_pair a b && is_tail c)) (nat_lt a 0xF0)
+    (code_of_three a b c) n sees in
     let first = and_parts (nat_le 0xE0 a) (is_pair a b && is_tail c) both.0 in
-    let more = and_parts (is_pair a b) (is_tail c) first.1 in
-    (pair_facts a b more.0, leb-true 0xE0 a first.0, ltb-true a 0xF0 both.1, tail_facts c more.1, both.2)
+    let more = and_parts (is_pair a b) (is_tail c) first.1 in (
+      pair_facts a b more.0,
+      leb-true 0xE0 a first.0,
+      ltb-true a 0xF0 both.1,
+      tail_facts c more.1,
+      both.2,
+    )
 
 pub whole_four : (a b c d n : ℕ) → see (a ∷ b ∷ c ∷ d ∷ []) ≡ Whole n
     → IsPair a b × (0xF0 ≤ a) × IsTail c × IsTail d × (n ≡ code_of_four a b c d)
 unfolding see
 whole_four a b c d n sees =
-    let both = whole_once (nat_le 0xF0 a && (is_pair a b && (is_tail c && is_tail d))) (code_of_four a b c d) n sees in
+    let both =
+    whole_once (nat_le 0xF0 a && (is_pair a b && (is_tail c && is_tail d)))
+    (code_of_four a b c d) n sees in
     let first = and_parts (nat_le 0xF0 a) (is_pair a b && (is_tail c && is_tail d)) both.0 in
     let more = and_parts (is_pair a b) (is_tail c && is_tail d) first.1 in
-    let last = and_parts (is_tail c) (is_tail d) more.1 in
-    (pair_facts a b more.0, leb-true 0xF0 a first.0, tail_facts c last.0, tail_facts d last.1, both.1)
+    let last = and_parts (is_tail c) (is_tail d) more.1 in (
+      pair_facts a b more.0,
+      leb-true 0xF0 a first.0,
+      tail_facts c last.0,
+      tail_facts d last.1,
+      both.1,
+    )
 
 pub part_one : (a : ℕ) → see (a ∷ []) ≡ Part → (0xC2 ≤ a) × (a ≤ 0xF4)
 unfolding see
@@ -93,7 +116,9 @@ part_two a b sees = grind (arith, nat_tests, pair_facts)
 pub part_three : (a b c : ℕ) → see (a ∷ b ∷ c ∷ []) ≡ Part → IsPair a b × (0xF0 ≤ a) × IsTail c
 unfolding see
 part_three a b c sees =
-    let both = part_if (nat_le 0xE0 a && (is_pair a b && is_tail c)) (nat_lt a 0xF0) (code_of_three a b c) sees in
+    let both =
+    part_if (nat_le 0xE0 a && (is_pair a b && is_tail c)) (nat_lt a 0xF0)
+    (code_of_three a b c) sees in
     let first = and_parts (nat_le 0xE0 a) (is_pair a b && is_tail c) both.0 in
     let more = and_parts (is_pair a b) (is_tail c) first.1 in
     let least : 0xF0 ≤ a = ltb-false a 0xF0 both.1 in
@@ -116,6 +141,7 @@ pub no_whole_none : (n : ℕ) → see [] ≡ Whole n → ⊥
 unfolding see
 no_whole_none n sees = cc
 
-pub no_whole_more : (a b c d e : ℕ) (rest : List ℕ) (n : ℕ) → see (a ∷ b ∷ c ∷ d ∷ e ∷ rest) ≡ Whole n → ⊥
+pub no_whole_more : (a b c d e : ℕ) (rest : List ℕ) (n : ℕ)
+    → see (a ∷ b ∷ c ∷ d ∷ e ∷ rest) ≡ Whole n → ⊥
 unfolding see
 no_whole_more a b c d e rest n sees = cc

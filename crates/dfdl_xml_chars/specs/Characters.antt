@@ -22,8 +22,10 @@ is_allowed c = is_in char_rows c
 -- the rows past ASCII of the production NameStartChar
 unfoldable pub high_start_rows : List Row
 high_start_rows =
-    (0xC0, 0xD6) ∷ (0xD8, 0xF6) ∷ (0xF8, 0x2FF) ∷ (0x370, 0x37D) ∷ (0x37F, 0x1FFF) ∷ (0x200C, 0x200D) ∷ (0x2070, 0x218F)
-    ∷ (0x2C00, 0x2FEF) ∷ (0x3001, 0xD7FF) ∷ (0xF900, 0xFDCF) ∷ (0xFDF0, 0xFFFD) ∷ (0x1_0000, 0xE_FFFF) ∷ []
+    (0xC0, 0xD6) ∷ (0xD8, 0xF6) ∷ (0xF8, 0x2FF) ∷ (0x370, 0x37D) ∷ (0x37F, 0x1FFF)
+    ∷ (0x200C, 0x200D) ∷ (0x2070, 0x218F)
+    ∷ (0x2C00, 0x2FEF) ∷ (0x3001, 0xD7FF) ∷ (0xF900, 0xFDCF) ∷ (0xFDF0, 0xFFFD)
+    ∷ (0x1_0000, 0xE_FFFF) ∷ []
 
 -- the rows past ASCII of the production NameChar
 unfoldable pub high_name_rows : List Row
@@ -36,7 +38,8 @@ low_start_rows = (0x41, 0x5A) ∷ (0x5F, 0x5F) ∷ (0x61, 0x7A) ∷ []
 unfoldable pub low_name_rows : List Row
 low_name_rows = (0x2D, 0x2E) ∷ (0x30, 0x39) ∷ low_start_rows
 
--- the production NameStartChar without the colon: what a part of a name (NCName of 'Namespaces in XML 1.0') begins with
+-- the production NameStartChar without the colon: what a part of a name (NCName of 'Namespaces in
+-- XML 1.0') begins with
 unfoldable pub is_name_start : ℕ → Bool
 is_name_start c = is_in low_start_rows c || is_in high_start_rows c
 
@@ -46,7 +49,8 @@ is_name_char c = is_in low_name_rows c || is_in high_name_rows c
 
 -- some character of the rows begins with these bytes of one that is not whole
 abbrev pub meets : List Row → List ℕ → Bool
-meets rows bytes = list_any (λ row. nat_le row.0 (high_of bytes) && nat_le (low_of bytes) row.1) rows
+meets rows bytes =
+    list_any (λ row. nat_le row.0 (high_of bytes) && nat_le (low_of bytes) row.1) rows
 
 -- this character begins with them
 abbrev pub begins : List ℕ → ℕ → Bool
@@ -58,4 +62,5 @@ are_proper rows = list_all (λ row. nat_le row.0 row.1) rows
 
 -- each of the rows lies in one of the others
 abbrev pub are_inside : List Row → List Row → Bool
-are_inside rows others = list_all (λ row. list_any (λ other. nat_le other.0 row.0 && nat_le row.1 other.1) others) rows
+are_inside rows others =
+    list_all (λ row. list_any (λ other. nat_le other.0 row.0 && nat_le row.1 other.1) others) rows

@@ -1,5 +1,6 @@
 -- UTF-8, read byte by byte: what the bytes of a character that may not be whole yet are.
-use Rattle.std.specs.Prelude.{ℕ, ◌+◌, ◌-◌, ◌*◌, ◌==◌, ◌&&◌, ◌||◌, Bool, not, nat_le, nat_lt, min, max, List, [], ◌∷◌, if◌then◌else◌}
+use Rattle.std.specs.Prelude.{ℕ, ◌+◌, ◌-◌, ◌*◌, ◌==◌, ◌&&◌, ◌||◌, Bool, not, nat_le, nat_lt, min}
+use Rattle.std.specs.Prelude.{max, List, [], ◌∷◌, if◌then◌else◌}
 use Rattle.dfdl_layers.specs.Bytes.{Seen, Whole, Part, Bad}
 
 -- a byte that goes on in a sequence
@@ -10,11 +11,12 @@ is_tail b = nat_le 0x80 b && nat_le b 0xBF
 abbrev pub is_lead : ℕ → Bool
 is_lead a = nat_le 0xC2 a && nat_le a 0xF4
 
--- the two bytes begin a sequence: the table 'Well-Formed UTF-8 Byte Sequences' of the Unicode Standard, with no overlong
--- form, no surrogate, nothing past U+10FFFF
+-- the two bytes begin a sequence: the table 'Well-Formed UTF-8 Byte Sequences' of the Unicode
+-- Standard, with no overlong form, no surrogate, nothing past U+10FFFF
 abbrev pub is_pair : ℕ → ℕ → Bool
 is_pair a b =
-    is_lead a && (is_tail b && ((not (a == 0xE0) || nat_le 0xA0 b) && ((not (a == 0xED) || nat_le b 0x9F)
+    is_lead a
+    && (is_tail b && ((not (a == 0xE0) || nat_le 0xA0 b) && ((not (a == 0xED) || nat_le b 0x9F)
     && ((not (a == 0xF0) || nat_le 0x90 b) && (not (a == 0xF4) || nat_le b 0x8F)))))
 
 -- what a sequence of one, two, three and four bytes is worth
@@ -30,18 +32,23 @@ code_of_four a b c d = (((a - 0xF0) * 64 + (b - 0x80)) * 64 + (c - 0x80)) * 64 +
 -- what the bytes are: a character, a part of one, or no front of any
 unfoldable pub see : List ℕ → Seen
 see (a ∷ []) = if nat_lt a 0x80 then Whole a else (if is_lead a then Part else Bad)
-see (a ∷ b ∷ []) = if is_pair a b then (if nat_lt a 0xE0 then Whole (code_of_two a b) else Part) else Bad
+see (a ∷ b ∷ []) =
+    if is_pair a b then (if nat_lt a 0xE0 then Whole (code_of_two a b) else Part) else Bad
 see (a ∷ b ∷ c ∷ []) =
-    if nat_le 0xE0 a && (is_pair a b && is_tail c) then (if nat_lt a 0xF0 then Whole (code_of_three a b c) else Part) else Bad
+    if nat_le 0xE0 a && (is_pair a b && is_tail c)
+    then (if nat_lt a 0xF0 then Whole (code_of_three a b c) else Part) else Bad
 see (a ∷ b ∷ c ∷ d ∷ []) =
-    if nat_le 0xF0 a && (is_pair a b && (is_tail c && is_tail d)) then Whole (code_of_four a b c d) else Bad
+    if nat_le 0xF0 a && (is_pair a b && (is_tail c && is_tail d)) then Whole (code_of_four a b c d)
+    else Bad
 see _ = Bad
 
--- the least and the greatest code of the characters that begin with these bytes, where they are a part of one
+-- the least and the greatest code of the characters that begin with these bytes, where they are a
+-- part of one
 unfoldable pub low_of : List ℕ → ℕ
 low_of (a ∷ []) =
     if nat_lt a 0xE0 then (a - 0xC0) * 64
-    else (if nat_lt a 0xF0 then max 0x800 ((a - 0xE0) * 4096) else max 0x1_0000 ((a - 0xF0) * 26_2144))
+    else (if nat_lt a 0xF0 then max 0x800 ((a - 0xE0) * 4096)
+    else max 0x1_0000 ((a - 0xF0) * 26_2144))
 low_of (a ∷ b ∷ []) = if nat_lt a 0xF0 then code_of_three a b 0x80 else code_of_four a b 0x80 0x80
 low_of (a ∷ b ∷ c ∷ []) = code_of_four a b c 0x80
 low_of _ = 0

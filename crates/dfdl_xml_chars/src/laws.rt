@@ -8,7 +8,8 @@ ghost use Rattle.dfdl_xml_chars.specs.Characters.{Row, begins, is_in, meets};
 ghost use Rattle.dfdl_xml_chars.specs.Beyond.{AreAllowed};
 ghost use Rattle.dfdl_xml_chars.specs.Utf8.{see};
 
-/// What is seen of bytes is what they are in UTF-8: a character, a part of one, or the front of none.
+/// What is seen of bytes is what they are in UTF-8: a character, a part of one, or the front of
+/// none.
 pub fn bytes_are_seen()
     ensures { IsCoding IsScalar encode_utf8 see }
 {}
@@ -22,5 +23,6 @@ pub fn characters_begin()
 /// Rows meet a part of a character exactly where one of theirs begins so.
 pub fn rows_meet()
     ensures { (rows : List Row) (bytes : List ℕ) → AreAllowed rows → see bytes ≡ Part
-        → IsTrue (meets rows bytes) ↔ ((c : ℕ) × IsBegun IsScalar encode_utf8 bytes c × IsTrue (is_in rows c)) }
+        → IsTrue (meets rows bytes)
+        ↔ ((c : ℕ) × IsBegun IsScalar encode_utf8 bytes c × IsTrue (is_in rows c)) }
 {}

@@ -2,7 +2,10 @@
 #![tactic(auto)]
 
 ghost use Rattle.std.specs.Prelude.{◌≡◌};
-ghost use Rattle.dfdl_xml_chars.specs.Characters.{high_name_rows, high_start_rows, low_name_rows, low_start_rows, is_in, is_name_char as is_of_name, is_name_start as begins_name, meets};
+ghost use Rattle.dfdl_xml_chars.specs.Characters.{high_name_rows, high_start_rows, low_name_rows};
+ghost use Rattle.dfdl_xml_chars.specs.Characters.{low_start_rows, is_in};
+ghost use Rattle.dfdl_xml_chars.specs.Characters.{is_name_char as is_of_name};
+ghost use Rattle.dfdl_xml_chars.specs.Characters.{is_name_start as begins_name, meets};
 ghost use Rattle.dfdl_xml_chars.specs.Shown.{bytes_of};
 
 use crate::Begun;
@@ -111,7 +114,8 @@ pub fn is_name_char(c: char) -> bool
     }
 }
 
-/// A part of a name may begin with some character that begins so, where the bytes are a part of one.
+/// A part of a name may begin with some character that begins so, where the bytes are a part of
+/// one.
 #[tactic(auto, unfolding(crate::specs::Characters::high_start_rows))]
 pub fn meets_name_start(begun: Begun) -> bool
     ensures { result ≡ meets high_start_rows (bytes_of begun) }

@@ -2,7 +2,8 @@
 #![tactic(auto, unfolding(crate::specs::Utf8::see))]
 
 ghost use Rattle.std.specs.Prelude.{◌≡◌, ◌↔◌, ◌++◌, ◌≤◌, ◌<◌, [], ◌∷◌, IsTrue};
-ghost use Rattle.dfdl_xml_chars.specs.Utf8.{see, is_tail, is_pair, code_of_two, code_of_three, code_of_four};
+ghost use Rattle.dfdl_xml_chars.specs.Utf8.{see, is_tail, is_pair, code_of_two, code_of_three};
+ghost use Rattle.dfdl_xml_chars.specs.Utf8.{code_of_four};
 ghost use Rattle.dfdl_xml_chars.specs.Shown.{bytes_of, seen_of, IfPart};
 
 use crate::{Begun, Taken};

@@ -5,21 +5,25 @@
 //! and Framing' and 'Simple Types'.
 #![tactic(auto)]
 
+pub mod binary;
 pub mod encoding;
 pub mod fault;
 pub mod literals;
 pub mod number;
 pub mod number_pattern;
 pub mod order;
+pub mod packed;
 mod separators;
 pub mod simple;
 pub mod text;
 
+pub use binary::{BitTruthForm, IntForm};
 pub use encoding::Encoding;
 pub use fault::{NoFit, NoTruth};
 pub use literals::{Literals, Piece};
 pub use number::{NumberForm, Rounding};
 pub use number_pattern::{NumberPattern, Point};
 pub use order::{BitOrder, ByteOrder};
+pub use packed::{PackedForm, PackedRep, ZonedForm, ZonedStyle};
 pub use simple::{Form, Simple};
 pub use text::{CharList, EscapeKind, EscapeScheme, Justify, PadForm, PlainTexts, TruthForm};

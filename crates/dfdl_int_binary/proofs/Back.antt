@@ -11,9 +11,10 @@ use Rattle.dfdl_forms.specs.declared.simple.Form.TheVariants.{Signed, Unsigned, 
 use Rattle.dfdl_value.specs.declared.value.Value.{Value}
 use Rattle.dfdl_value.specs.declared.value.Value.TheVariants.{Int, Uns, Dec}
 use Rattle.dfdl_int_binary.specs.Signed.{signed_of, pattern_of}
-use Rattle.dfdl_int_binary.specs.Integers.{HasSize, scaled_of, pattern_if, value_in, number_in}
-use Rattle.dfdl_int_binary.specs.declared.form.BitTruthForm.{BitTruthForm}
-use Rattle.dfdl_int_binary.specs.Truths.{IsTruthForm, DiffersInNumber, truth_reading, truth_writing, true_number, held_in, inverted_in}
+use Rattle.dfdl_forms.specs.Binary.{HasSize, IsTruthForm, DiffersInNumber}
+use Rattle.dfdl_int_binary.specs.Integers.{scaled_of, pattern_if, value_in, number_in}
+use Rattle.dfdl_forms.specs.declared.binary.BitTruthForm.{BitTruthForm}
+use Rattle.dfdl_int_binary.specs.Truths.{truth_reading, truth_writing, true_number, held_in, inverted_in}
 use Rattle.dfdl_int_binary.proofs.Powers.{halves}
 use Rattle.dfdl_int_binary.proofs.Scaled.{zeros_more}
 

@@ -8,18 +8,8 @@ use Rattle.dfdl_forms.specs.declared.simple.Form.{Form}
 use Rattle.dfdl_forms.specs.declared.simple.Form.TheVariants.{Signed, Unsigned, Fixed}
 use Rattle.dfdl_value.specs.declared.value.Value.{Value}
 use Rattle.dfdl_value.specs.declared.value.Value.TheVariants.{Int, Uns, Dec}
-use Rattle.dfdl_int_binary.specs.declared.form.IntForm.{IntForm}
+use Rattle.dfdl_forms.specs.declared.binary.IntForm.{IntForm}
 use Rattle.dfdl_int_binary.specs.Signed.{signed_of, pattern_of}
-
--- a field of a type has at least one bit, and at most as many as the type; a decimal has at most 128 (profile)
-abbrev pub HasSize : Form → ℕ → Type 0
-HasSize (Signed most) bits = (1 ≤ bits) × (bits ≤ most)
-HasSize (Unsigned most) bits = (1 ≤ bits) × (bits ≤ most)
-HasSize Fixed bits = (1 ≤ bits) × (bits ≤ 128)
-HasSize _ bits = ⊥
-
-abbrev pub IsIntForm : IntForm → Type 0
-IsIntForm form = HasSize (form_of form.kind) form.bits
 
 -- the number of the field that begins at a bit
 abbrev pub field_of : IntForm → List ℕ → ℕ → ℕ

@@ -1,15 +1,7 @@
 -- Binary booleans. 'Simple Types' (binaryBooleanTrueRep, binaryBooleanFalseRep).
 use Rattle.std.specs.Prelude.{◌≢◌, ℕ, ◌-◌, ◌^◌, ◌≤◌, Bool, true, false, ◌==◌, nat_lt, List, Option, Some, None, if◌then◌else◌}
 use Rattle.dfdl_bits.specs.Bits.{number_of}
-use Rattle.dfdl_int_binary.specs.declared.form.BitTruthForm.{BitTruthForm}
-
--- a field has from 1 to 32 bits
-abbrev pub IsTruthForm : BitTruthForm → Type 0
-IsTruthForm form = (1 ≤ form.bits) × (form.bits ≤ 32)
-
--- the two numbers differ
-abbrev pub DiffersInNumber : BitTruthForm → Type 0
-DiffersInNumber form = form.truth ≢ Some form.falsity
+use Rattle.dfdl_forms.specs.declared.binary.BitTruthForm.{BitTruthForm}
 
 -- the number of the field that begins at a bit
 abbrev pub truth_field_of : BitTruthForm → List ℕ → ℕ → ℕ

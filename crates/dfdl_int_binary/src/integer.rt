@@ -2,14 +2,16 @@
 ghost use Rattle.std.specs.Prelude.{◌≡◌, ◌+◌, ◌*◌, ◌^◌, ◌<◌, ◌≤◌, ◌↔◌, Some, None, length, IfOk, IfSome, IsErr, OnOk, OnErr};
 ghost use Rattle.std.specs.Option.{SomeIff};
 ghost use Rattle.std.specs.Result.{result_ok};
+ghost use Rattle.dfdl_forms.specs.Binary.{IsIntForm};
 ghost use Rattle.dfdl_bits.specs.Bits.{KeepsOutside};
 ghost use Rattle.dfdl_value.specs.Types.{IsOfType};
-ghost use Rattle.dfdl_int_binary.specs.Integers.{IsIntForm, field_of, integer_reading, integer_writing};
+ghost use Rattle.dfdl_int_binary.specs.Integers.{field_of, integer_reading, integer_writing};
 
 use crate::decimal::{divided, scaled_pattern};
-use crate::form::{IntForm, NoFit, NotInType};
+use crate::fault::NotInType;
 use crate::signed::{pattern, signed};
 use dfdl_bits::{number_at, put_number};
+use dfdl_forms::{IntForm, NoFit};
 use dfdl_value::{Form, Value};
 
 /// Reads the field that begins at bit `bit`. It is not in its type exactly where it is a decimal with more than

@@ -2,10 +2,11 @@
 ghost use Rattle.std.specs.Prelude.{◌≡◌, ℕ, Some, Bool};
 ghost use Rattle.dfdl_value.specs.Types.{IsOfType};
 ghost use Rattle.dfdl_value.specs.declared.value.Value.{Value};
-ghost use Rattle.dfdl_int_binary.specs.declared.form.IntForm.{IntForm};
-ghost use Rattle.dfdl_int_binary.specs.declared.form.BitTruthForm.{BitTruthForm};
-ghost use Rattle.dfdl_int_binary.specs.Integers.{IsIntForm, integer_reading, integer_writing};
-ghost use Rattle.dfdl_int_binary.specs.Truths.{IsTruthForm, DiffersInNumber, truth_reading, truth_writing};
+ghost use Rattle.dfdl_forms.specs.declared.binary.IntForm.{IntForm};
+ghost use Rattle.dfdl_forms.specs.declared.binary.BitTruthForm.{BitTruthForm};
+ghost use Rattle.dfdl_forms.specs.Binary.{IsIntForm, IsTruthForm, DiffersInNumber};
+ghost use Rattle.dfdl_int_binary.specs.Integers.{integer_reading, integer_writing};
+ghost use Rattle.dfdl_int_binary.specs.Truths.{truth_reading, truth_writing};
 
 /// What a value of a type is written as is read as that value, and as no other.
 pub fn read_back()

@@ -4,13 +4,14 @@
 #![tactic(auto)]
 
 pub mod decimal;
-pub mod form;
+mod fault;
 mod integer;
 pub mod laws;
 mod signed;
 mod truth;
 
-pub use form::{BitTruthForm, IntForm, NoFit, NoTruth, NotInType};
+pub use dfdl_forms::{BitTruthForm, IntForm, NoFit, NoTruth};
+pub use fault::NotInType;
 pub use integer::{read, write};
 pub use truth::{read_truth, write_truth};
 

@@ -2,11 +2,12 @@
 ghost use Rattle.std.specs.Prelude.{◌≡◌, ◌+◌, ◌-◌, ◌*◌, ◌^◌, ◌<◌, ◌≤◌, ◌↔◌, Some, None, length, IfSome, IsErr, OnOk, OnErr};
 ghost use Rattle.std.specs.Option.{SomeIff};
 ghost use Rattle.std.specs.Result.{result_ok};
+ghost use Rattle.dfdl_forms.specs.Binary.{IsTruthForm};
 ghost use Rattle.dfdl_bits.specs.Bits.{KeepsOutside};
-ghost use Rattle.dfdl_int_binary.specs.Truths.{IsTruthForm, truth_field_of, truth_reading, truth_writing, held_in, inverted_in};
+ghost use Rattle.dfdl_int_binary.specs.Truths.{truth_field_of, truth_reading, truth_writing, held_in, inverted_in};
 
-use crate::form::{BitTruthForm, NoFit, NoTruth};
 use dfdl_bits::{number_at, put_number};
+use dfdl_forms::{BitTruthForm, NoFit, NoTruth};
 
 /// Reads the boolean whose field begins at bit `bit`.
 pub fn read_truth(bytes: &[u8], bit: u64, form: &BitTruthForm) -> Result<bool, NoTruth>

@@ -5,8 +5,7 @@ ghost use Rattle.dfdl_terms.specs.declared.row.Row.TheVariants.{Elem};
 ghost use Rattle.dfdl_terms.specs.Record.{record_of};
 
 use crate::{InfosetFault, events_of};
-use dfdl_bits::{BitOrder, ByteOrder};
-use dfdl_int_binary::IntForm;
+use dfdl_forms::{BitOrder, ByteOrder, IntForm};
 use dfdl_terms::{Event, Primitive, Row, RowId, RowList, Tables, Terms};
 use dfdl_value::{Simple, TextValue, Value};
 use std::alloc::{AllocError, Global};

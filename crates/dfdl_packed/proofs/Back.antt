@@ -10,14 +10,15 @@ use Rattle.dfdl_forms.specs.declared.simple.Form.{Form}
 use Rattle.dfdl_forms.specs.declared.simple.Form.TheVariants.{Signed, Unsigned, Fixed}
 use Rattle.dfdl_value.specs.declared.value.Value.{Value}
 use Rattle.dfdl_value.specs.declared.value.Value.TheVariants.{Int, Uns, Dec}
-use Rattle.dfdl_packed.specs.declared.form.PackedForm.{PackedForm}
-use Rattle.dfdl_packed.specs.declared.form.PackedRep.{PackedRep}
-use Rattle.dfdl_packed.specs.declared.form.PackedRep.TheVariants.{Packed, Bcd, Ibm4690}
-use Rattle.dfdl_packed.specs.declared.form.ZonedForm.{ZonedForm}
+use Rattle.dfdl_forms.specs.declared.packed.PackedForm.{PackedForm}
+use Rattle.dfdl_forms.specs.declared.packed.PackedRep.{PackedRep}
+use Rattle.dfdl_forms.specs.declared.packed.PackedRep.TheVariants.{Packed, Bcd, Ibm4690}
+use Rattle.dfdl_forms.specs.declared.packed.ZonedForm.{ZonedForm}
 use Rattle.dfdl_packed.specs.Digits.{padded_digits, digit_count}
-use Rattle.dfdl_packed.specs.Packed.{IsPackedForm, are_allowed, packed_reading, packed_writing, number_by, value_if, nibbles_by, nibbles_if, is_negative}
+use Rattle.dfdl_forms.specs.Packed.{IsPackedForm, are_allowed, IsZonedForm}
+use Rattle.dfdl_packed.specs.Packed.{packed_reading, packed_writing, number_by, value_if, nibbles_by, nibbles_if, is_negative}
 use Rattle.dfdl_packed.specs.Typed.{integer_in}
-use Rattle.dfdl_packed.specs.Zoned.{IsZonedForm, zoned_reading, zoned_writing, zoned_value_if, signed_chars, chars_if}
+use Rattle.dfdl_packed.specs.Zoned.{zoned_reading, zoned_writing, zoned_value_if, signed_chars, chars_if}
 use Rattle.dfdl_packed.proofs.BackValues.{value_back}
 use Rattle.dfdl_packed.proofs.PackedBack.{FitsKind, fits_kind, packed_back, bcd_back, ibm_back, count_some, count_below}
 use Rattle.dfdl_packed.proofs.ScaledLemmas.{small_product}

@@ -9,9 +9,10 @@ use Rattle.dfdl_forms.specs.declared.simple.Form.{Form}
 use Rattle.dfdl_forms.specs.declared.simple.Form.TheVariants.{Signed, Unsigned, Fixed}
 use Rattle.dfdl_value.specs.declared.value.Value.{Value}
 use Rattle.dfdl_value.specs.declared.value.Value.TheVariants.{Int, Uns, Dec}
-use Rattle.dfdl_packed.specs.declared.form.PackedForm.{PackedForm}
+use Rattle.dfdl_forms.specs.declared.packed.PackedForm.{PackedForm}
 use Rattle.dfdl_packed.specs.Digits.{padded_digits, digit_count}
-use Rattle.dfdl_packed.specs.Packed.{strict_sign, lax_sign, signed_digits, some_digits, packed_number, ibm_number, is_negative, code_in, digits_in, with_code, bcd_nibbles, ibm_nibbles, ibm_filled, is_positive_code, are_allowed}
+use Rattle.dfdl_forms.specs.Packed.{is_positive_code, are_allowed}
+use Rattle.dfdl_packed.specs.Packed.{strict_sign, lax_sign, signed_digits, some_digits, packed_number, ibm_number, is_negative, code_in, digits_in, with_code, bcd_nibbles, ibm_nibbles, ibm_filled}
 use Rattle.dfdl_packed.specs.Typed.{integer_in}
 use Rattle.dfdl_packed.proofs.DigitLemmas.{padded_are_digits, digits_back}
 use Rattle.dfdl_packed.proofs.FillLemmas.{length-padded_digits}

@@ -8,7 +8,7 @@ use Rattle.dfdl_decimal.specs.Decimal.{shortest_from, fixed_of, with_sign}
 use Rattle.dfdl_int_binary.proofs.Back.{zeros_cut, shortest_stays}
 use Rattle.dfdl_int_binary.proofs.Powers.{half_small}
 use Rattle.dfdl_int_binary.proofs.Scaled.{neg-times}
-use Rattle.dfdl_packed.specs.declared.form.PackedFault.TheVariants.{PastType}
+use Rattle.dfdl_packed.specs.declared.fault.PackedFault.TheVariants.{PastType}
 use Rattle.dfdl_packed.specs.declared.size.Size.{Size}
 use Rattle.dfdl_packed.specs.Sizes.{IsHeld, Shows}
 use Rattle.dfdl_packed.specs.Typed.{signed_value, unsigned_value, decimal_value}

@@ -4,7 +4,7 @@ use Rattle.std.proofs.lemmas.Bool.{cases_lt, lt-ltb, le-ltb, le-leb}
 use Rattle.std.proofs.lemmas.Bool.Decides.{nat_tests}
 use Rattle.std.proofs.Math.Bool.{and-false}
 use Rattle.std.proofs.Math.Nat.{pow-le-pow_right, le_trans}
-use Rattle.dfdl_packed.specs.declared.form.PackedForm.{PackedForm}
+use Rattle.dfdl_forms.specs.declared.packed.PackedForm.{PackedForm}
 use Rattle.dfdl_packed.specs.declared.scaled.Scaled.{Scaled}
 use Rattle.dfdl_packed.specs.Digits.{padded_digits, digit_count}
 use Rattle.dfdl_packed.specs.Packed.{is_negative, ibm_filled, nibbles_by, nibbles_if}

@@ -8,9 +8,9 @@ use Rattle.std.proofs.lemmas.List.Folds.{list_all-append}
 use Rattle.std.proofs.lemmas.List.Sums.{fold-append}
 use Rattle.dfdl_forms.specs.declared.simple.Form.{Form}
 use Rattle.dfdl_forms.specs.declared.simple.Form.TheVariants.{Signed, Unsigned, Fixed}
-use Rattle.dfdl_packed.specs.declared.form.ZonedForm.{ZonedForm}
-use Rattle.dfdl_packed.specs.declared.form.ZonedStyle.{ZonedStyle}
-use Rattle.dfdl_packed.specs.declared.form.ZonedStyle.TheVariants.{AsciiStandard, TranslatedEbcdic}
+use Rattle.dfdl_forms.specs.declared.packed.ZonedForm.{ZonedForm}
+use Rattle.dfdl_forms.specs.declared.packed.ZonedStyle.{ZonedStyle}
+use Rattle.dfdl_forms.specs.declared.packed.ZonedStyle.TheVariants.{AsciiStandard, TranslatedEbcdic}
 use Rattle.dfdl_packed.specs.Digits.{digits_number, are_digits, padded_digits}
 use Rattle.dfdl_packed.specs.Packed.{is_negative}
 use Rattle.dfdl_packed.specs.Zoned.{are_plain, number_behind, sign_digit, number_around, zoned_number, plain_char, sign_char, char_in, signed_chars}

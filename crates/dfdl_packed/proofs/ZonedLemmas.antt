@@ -2,7 +2,7 @@
 use Rattle.std.proofs.Common.{◌≡◌, ℕ, suc, ◌-◌, ◌<◌, ◌≤◌, List, [], ◌∷◌, ◌++◌, length, take, drop, set, get_or, map, Bool, true, false, cond, length-set, refl, ap, sym, ◌∙◌, arith, ℤ, unsigned_abs, Option, Some, None}
 use Rattle.std.proofs.lemmas.List.{set_split, get_or-map, length-map, take-map, drop_all, get_or_append_left, set-append_left, take_at}
 use Rattle.dfdl_forms.specs.declared.simple.Form.{Form}
-use Rattle.dfdl_packed.specs.declared.form.ZonedForm.{ZonedForm}
+use Rattle.dfdl_forms.specs.declared.packed.ZonedForm.{ZonedForm}
 use Rattle.dfdl_packed.specs.declared.scaled.Scaled.{Scaled}
 use Rattle.dfdl_packed.specs.Packed.{is_negative}
 use Rattle.dfdl_packed.specs.Written.{ShowsInteger}

@@ -9,22 +9,13 @@ use Rattle.dfdl_forms.specs.Types.{form_of}
 use Rattle.dfdl_forms.specs.declared.simple.Form.{Form}
 use Rattle.dfdl_forms.specs.declared.simple.Form.TheVariants.{Unsigned}
 use Rattle.dfdl_value.specs.declared.value.Value.{Value}
-use Rattle.dfdl_packed.specs.declared.form.PackedFault.{PackedFault}
-use Rattle.dfdl_packed.specs.declared.form.PackedFault.TheVariants.{BadNibble}
-use Rattle.dfdl_packed.specs.declared.form.PackedForm.{PackedForm}
-use Rattle.dfdl_packed.specs.declared.form.PackedRep.{PackedRep}
-use Rattle.dfdl_packed.specs.declared.form.PackedRep.TheVariants.{Packed, Bcd, Ibm4690}
+use Rattle.dfdl_packed.specs.declared.fault.PackedFault.{PackedFault}
+use Rattle.dfdl_packed.specs.declared.fault.PackedFault.TheVariants.{BadNibble}
+use Rattle.dfdl_forms.specs.declared.packed.PackedForm.{PackedForm}
+use Rattle.dfdl_forms.specs.declared.packed.PackedRep.{PackedRep}
+use Rattle.dfdl_forms.specs.declared.packed.PackedRep.TheVariants.{Packed, Bcd, Ibm4690}
 use Rattle.dfdl_packed.specs.Digits.{digits_number, are_digits, padded_digits, digit_count}
 use Rattle.dfdl_packed.specs.Typed.{value_in, integer_in}
-
--- how many nibbles a field can have (profile)
-abbrev pub most_nibbles : PackedRep → ℕ
-most_nibbles Bcd = 38
-most_nibbles _ = 39
-
--- a field has at least one nibble and at most so many, and the codes of its signs are nibbles
-abbrev pub IsPackedForm : PackedForm → Type 0
-IsPackedForm form = (1 ≤ form.nibbles) × (form.nibbles ≤ most_nibbles form.rep) × IsTrue (list_all (λ code. nat_lt code 16) form.codes)
 
 -- nibble i of a field is the number of the four bits that begin 4 * i bits behind its begin
 unfoldable pub nibbles_of : BitOrder → List ℕ → ℕ → ℕ → List ℕ
@@ -136,14 +127,3 @@ nibbles_if form (Some z) = nibbles_by form.rep form z
 -- what nibbles a value is written as, if the field can hold it
 abbrev pub packed_writing : PackedForm → Value → Option (List ℕ)
 packed_writing form value = nibbles_if form (integer_in (form_of form.kind) form.point value)
-
--- four codes that are allowed: positive of A, C, E, F; negative of B, D; unsigned F; zero of A, C, E, F, 0
-abbrev pub is_positive_code : ℕ → Bool
-is_positive_code code = code == 10 || code == 12 || code == 14 || code == 15
-
-abbrev pub are_allowed : List ℕ → Bool
-are_allowed codes =
-    is_positive_code (slice_index codes 0)
-    && (slice_index codes 1 == 11 || slice_index codes 1 == 13)
-    && slice_index codes 2 == 15
-    && (is_positive_code (slice_index codes 3) || slice_index codes 3 == 0)

@@ -6,8 +6,8 @@ use Rattle.dfdl_forms.specs.declared.simple.Form.TheVariants.{Signed, Unsigned, 
 use Rattle.dfdl_value.specs.declared.value.Value.{Value}
 use Rattle.dfdl_value.specs.declared.value.Value.TheVariants.{Int, Uns, Dec}
 use Rattle.dfdl_int_binary.specs.Integers.{scaled_of}
-use Rattle.dfdl_packed.specs.declared.form.PackedFault.{PackedFault}
-use Rattle.dfdl_packed.specs.declared.form.PackedFault.TheVariants.{BadNibble, PastType}
+use Rattle.dfdl_packed.specs.declared.fault.PackedFault.{PackedFault}
+use Rattle.dfdl_packed.specs.declared.fault.PackedFault.TheVariants.{BadNibble, PastType}
 
 -- an integer as a signed number of some bits, or as an unsigned one
 abbrev pub signed_value : ℕ → ℤ → Result Value PackedFault

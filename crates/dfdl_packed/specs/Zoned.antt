@@ -6,18 +6,14 @@ use Rattle.dfdl_forms.specs.Types.{form_of}
 use Rattle.dfdl_forms.specs.declared.simple.Form.{Form}
 use Rattle.dfdl_forms.specs.declared.simple.Form.TheVariants.{Unsigned}
 use Rattle.dfdl_value.specs.declared.value.Value.{Value}
-use Rattle.dfdl_packed.specs.declared.form.PackedFault.{PackedFault}
-use Rattle.dfdl_packed.specs.declared.form.PackedFault.TheVariants.{BadNibble}
-use Rattle.dfdl_packed.specs.declared.form.ZonedForm.{ZonedForm}
-use Rattle.dfdl_packed.specs.declared.form.ZonedStyle.{ZonedStyle}
-use Rattle.dfdl_packed.specs.declared.form.ZonedStyle.TheVariants.{AsciiStandard, TranslatedEbcdic}
+use Rattle.dfdl_packed.specs.declared.fault.PackedFault.{PackedFault}
+use Rattle.dfdl_packed.specs.declared.fault.PackedFault.TheVariants.{BadNibble}
+use Rattle.dfdl_forms.specs.declared.packed.ZonedForm.{ZonedForm}
+use Rattle.dfdl_forms.specs.declared.packed.ZonedStyle.{ZonedStyle}
+use Rattle.dfdl_forms.specs.declared.packed.ZonedStyle.TheVariants.{AsciiStandard, TranslatedEbcdic}
 use Rattle.dfdl_packed.specs.Digits.{padded_digits, digit_count}
 use Rattle.dfdl_packed.specs.Packed.{is_negative}
 use Rattle.dfdl_packed.specs.Typed.{value_in, integer_in}
-
--- a pattern has at most 38 digits
-abbrev pub IsZonedForm : ZonedForm → Type 0
-IsZonedForm form = form.point ≤ 38
 
 -- the digits `0` to `9`
 abbrev pub are_plain : List ℕ → Bool

@@ -2,11 +2,12 @@
 ghost use Rattle.std.specs.Prelude.{◌≡◌, ℕ, List, Some, Ok, IsTrue};
 ghost use Rattle.dfdl_value.specs.Types.{IsOfType};
 ghost use Rattle.dfdl_value.specs.declared.value.Value.{Value};
-ghost use Rattle.dfdl_packed.specs.declared.form.PackedForm.{PackedForm};
-ghost use Rattle.dfdl_packed.specs.declared.form.PackedRep.TheVariants.{Packed};
-ghost use Rattle.dfdl_packed.specs.declared.form.ZonedForm.{ZonedForm};
-ghost use Rattle.dfdl_packed.specs.Packed.{IsPackedForm, are_allowed, packed_reading, packed_writing};
-ghost use Rattle.dfdl_packed.specs.Zoned.{IsZonedForm, zoned_reading, zoned_writing};
+ghost use Rattle.dfdl_forms.specs.declared.packed.PackedForm.{PackedForm};
+ghost use Rattle.dfdl_forms.specs.declared.packed.PackedRep.TheVariants.{Packed};
+ghost use Rattle.dfdl_forms.specs.declared.packed.ZonedForm.{ZonedForm};
+ghost use Rattle.dfdl_forms.specs.Packed.{IsPackedForm, are_allowed, IsZonedForm};
+ghost use Rattle.dfdl_packed.specs.Packed.{packed_reading, packed_writing};
+ghost use Rattle.dfdl_packed.specs.Zoned.{zoned_reading, zoned_writing};
 
 /// What a value of a type is written as is read as that value, and as no other.
 pub fn read_back()

@@ -3,7 +3,7 @@
 // `zoned_writing` (`specs/Zoned.antt`). Serves 'Simple Types'.
 #![tactic(auto)]
 
-pub mod form;
+mod fault;
 pub mod laws;
 mod nibbles;
 mod packed;
@@ -18,6 +18,7 @@ mod zoned;
 mod zoned_reading;
 mod zoned_writing;
 
-pub use form::{NoFit, PackedFault, PackedForm, PackedRep, ZonedForm, ZonedStyle};
+pub use dfdl_forms::{NoFit, PackedForm, PackedRep, ZonedForm, ZonedStyle};
+pub use fault::PackedFault;
 pub use packed::{read, write};
 pub use zoned::{read_zoned, write_zoned};

@@ -1,13 +1,15 @@
 // Packed decimal, BCD and IBM 4690 packed numbers.
 ghost use Rattle.std.specs.Prelude.{◌≡◌, ◌+◌, ◌*◌, ◌≤◌, ◌↔◌, Some, None, length, IsErr, OnOk, OnErr};
+ghost use Rattle.dfdl_forms.specs.Packed.{IsPackedForm};
 ghost use Rattle.dfdl_bits.specs.Bits.{KeepsOutside};
-ghost use Rattle.dfdl_packed.specs.Packed.{IsPackedForm, nibbles_in, packed_reading, packed_writing};
+ghost use Rattle.dfdl_packed.specs.Packed.{nibbles_in, packed_reading, packed_writing};
 
-use crate::form::{NoFit, PackedFault, PackedForm};
+use crate::fault::PackedFault;
 use crate::nibbles::{nibbles_at, put_nibbles};
 use crate::reading::number_of;
 use crate::typed::value_of;
 use crate::writing::nibbles_for;
+use dfdl_forms::{NoFit, PackedForm};
 use dfdl_value::Value;
 
 /// Reads the field that begins at bit `bit`.

@@ -3,8 +3,8 @@ ghost use Rattle.std.specs.Prelude.{◌≡◌, ◌<◌, ◌≤◌, length};
 ghost use Rattle.dfdl_packed.specs.Packed.{strict_sign, lax_sign, sign_of, some_digits, packed_number, ibm_number, number_by};
 ghost use Rattle.dfdl_packed.specs.Sizes.{ShowsSigned};
 
-use crate::form::{PackedForm, PackedRep};
 use crate::size::{SignedSize, size_of};
+use dfdl_forms::{PackedForm, PackedRep};
 
 /// The number that the nibbles of a field write.
 pub fn number_of(nibbles: &[u8], form: &PackedForm) -> Option<SignedSize>

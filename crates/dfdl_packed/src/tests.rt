@@ -1,7 +1,6 @@
 // Fields written by a COBOL compiler, and fields that say what is refused.
 ghost use Rattle.std.specs.Prelude.{◌≡◌, ◌≤◌};
-ghost use Rattle.dfdl_packed.specs.Packed.{IsPackedForm};
-ghost use Rattle.dfdl_packed.specs.Zoned.{IsZonedForm};
+ghost use Rattle.dfdl_forms.specs.Packed.{IsPackedForm, IsZonedForm};
 
 use crate::*;
 use PackedRep::{Bcd, Ibm4690, Packed};

@@ -5,7 +5,7 @@ ghost use Rattle.dfdl_forms.specs.Types.{form_of};
 ghost use Rattle.dfdl_packed.specs.Sizes.{IsHeld, Shows};
 ghost use Rattle.dfdl_packed.specs.Typed.{value_in, signed_value, unsigned_value, decimal_value};
 
-use crate::form::PackedFault;
+use crate::fault::PackedFault;
 use crate::size::{Size, with_zeros};
 use dfdl_value::{Fixed, Form, Simple, Value};
 
@@ -153,11 +153,7 @@ fn shortest(negative: bool, number: Option<u128>, scale: u8) -> Result<Value, Pa
 {
     match number {
         None => Err(PackedFault::PastType),
-        Some(number) => decimal_value(dfdl_decimal::shortest(
-            negative,
-            number,
-            u32::from(scale),
-        )),
+        Some(number) => decimal_value(dfdl_decimal::shortest(negative, number, u32::from(scale))),
     }
 }
 

@@ -3,13 +3,14 @@ ghost use Rattle.std.specs.Prelude.{◌≡◌, ◌+◌, ◌-◌, ◌^◌, ◌<�
 ghost use Rattle.std.specs.List.{list_all};
 ghost use Rattle.dfdl_forms.specs.Types.{form_of};
 ghost use Rattle.dfdl_packed.specs.Digits.{padded_digits};
-ghost use Rattle.dfdl_packed.specs.Packed.{IsPackedForm, packed_writing, is_negative, nibbles_by, ibm_filled, code_in};
-ghost use Rattle.dfdl_packed.specs.declared.form.PackedRep.TheVariants.{Packed, Bcd, Ibm4690};
+ghost use Rattle.dfdl_forms.specs.Packed.{IsPackedForm};
+ghost use Rattle.dfdl_packed.specs.Packed.{packed_writing, is_negative, nibbles_by, ibm_filled, code_in};
+ghost use Rattle.dfdl_forms.specs.declared.packed.PackedRep.TheVariants.{Packed, Bcd, Ibm4690};
 ghost use Rattle.dfdl_packed.specs.Written.{ShowsNibbles};
 
-use crate::form::{PackedForm, PackedRep};
 use crate::nibbles::MOST;
 use crate::scaled::{Rest, Scaled, integer_of};
+use dfdl_forms::{PackedForm, PackedRep};
 use dfdl_value::{Form, Value};
 
 /// The nibbles that a value is written as, at the front of the array.

@@ -1,12 +1,14 @@
 // Zoned numbers.
 ghost use Rattle.std.specs.Prelude.{◌≡◌, ◌≤◌, ◌↔◌, Some, None, length, take, drop, IsErr, IfOk, OnErr};
-ghost use Rattle.dfdl_packed.specs.Zoned.{IsZonedForm, zoned_reading, zoned_writing};
+ghost use Rattle.dfdl_forms.specs.Packed.{IsZonedForm};
+ghost use Rattle.dfdl_packed.specs.Zoned.{zoned_reading, zoned_writing};
 
-use crate::form::{NoFit, PackedFault, ZonedForm};
+use crate::fault::PackedFault;
 use crate::scaled::integer_of;
 use crate::typed::value_of;
 use crate::zoned_reading::number_of;
 use crate::zoned_writing::put_signed;
+use dfdl_forms::{NoFit, ZonedForm};
 use dfdl_value::Value;
 
 /// Reads digits of which one carries the sign.

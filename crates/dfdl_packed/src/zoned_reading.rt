@@ -3,8 +3,8 @@ ghost use Rattle.std.specs.Prelude.{◌≡◌, ℕ, ◌+◌, ◌^◌, ◌<◌, �
 ghost use Rattle.dfdl_packed.specs.Sizes.{Shows, ShowsSigned, ShowsBehind};
 ghost use Rattle.dfdl_packed.specs.Zoned.{counted_from, or_else, sign_digit, number_around, zoned_number};
 
-use crate::form::{ZonedForm, ZonedStyle};
 use crate::size::{SignedSize, Size};
+use dfdl_forms::{ZonedForm, ZonedStyle};
 
 /// The number that zoned digits write.
 pub fn number_of(chars: &[char], form: &ZonedForm) -> Option<SignedSize>

@@ -4,10 +4,10 @@ ghost use Rattle.dfdl_forms.specs.Types.{form_of};
 ghost use Rattle.dfdl_packed.specs.Digits.{padded_digits, digit_count};
 ghost use Rattle.dfdl_packed.specs.Packed.{is_negative};
 ghost use Rattle.dfdl_packed.specs.Zoned.{plain_char, sign_char, char_in, signed_chars, chars_if};
-ghost use Rattle.dfdl_packed.specs.declared.form.ZonedStyle.TheVariants.{AsciiStandard, TranslatedEbcdic};
+ghost use Rattle.dfdl_forms.specs.declared.packed.ZonedStyle.TheVariants.{AsciiStandard, TranslatedEbcdic};
 
-use crate::form::{ZonedForm, ZonedStyle};
 use crate::scaled::{Rest, Scaled};
+use dfdl_forms::{ZonedForm, ZonedStyle};
 use dfdl_value::{Form, Simple};
 
 /// Writes a number as at least as many digits as the form's width, and answers how many characters these are.

@@ -13,7 +13,7 @@ use Rattle.dfdl_forms.specs.declared.simple.Form.{Form}
 use Rattle.dfdl_forms.specs.declared.simple.Form.TheVariants.{Unsigned}
 use Rattle.dfdl_value.specs.declared.value.Value.{Value}
 use Rattle.dfdl_value.specs.declared.value.Value.TheVariants.{Uns}
-use Rattle.dfdl_int_binary.specs.declared.form.IntForm.{IntForm}
+use Rattle.dfdl_forms.specs.declared.binary.IntForm.{IntForm}
 use Rattle.dfdl_int_binary.specs.Integers.{integer_writing, number_in}
 use Rattle.dfdl_record.specs.Outcomes.{number_at}
 use Rattle.dfdl_record.specs.Pieces.{IsWholeField, bytes_of, in_order, piece_of}

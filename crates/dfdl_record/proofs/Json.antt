@@ -16,7 +16,7 @@ use Rattle.dfdl_forms.specs.declared.simple.Simple.{Simple}
 use Rattle.dfdl_value.specs.Writing.{text_of}
 use Rattle.dfdl_value.specs.declared.value.Value.{Value}
 use Rattle.dfdl_value.specs.declared.value.Value.TheVariants.{Uns}
-use Rattle.dfdl_int_binary.specs.declared.form.IntForm.{IntForm}
+use Rattle.dfdl_forms.specs.declared.binary.IntForm.{IntForm}
 use Rattle.dfdl_report.specs.Paths.{field_path, root_path}
 use Rattle.dfdl_terms.specs.Record.{Field, Record}
 use Rattle.dfdl_report.specs.declared.cause.InfosetCause.{InfosetCause}

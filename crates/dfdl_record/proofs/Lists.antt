@@ -9,7 +9,7 @@ use Rattle.std.proofs.lemmas.List.Elements.{All-from_recursion, recursion_from_A
 use Rattle.dfdl_value.specs.Types.{IsOfType}
 use Rattle.dfdl_value.specs.declared.value.Value.{Value}
 use Rattle.dfdl_value.specs.declared.value.Value.TheVariants.{Uns}
-use Rattle.dfdl_int_binary.specs.declared.form.IntForm.{IntForm}
+use Rattle.dfdl_forms.specs.declared.binary.IntForm.{IntForm}
 use Rattle.dfdl_terms.specs.Record.{Field, Record}
 use Rattle.dfdl_record.specs.Outcomes.{Item, Outcome, Read, Ends, number_at, outcome_of, with_item}
 use Rattle.dfdl_record.specs.Pieces.{IsWholeField, IsWholeRecord, Unparsed, joined, piece_of, unparsed_of}

@@ -2,7 +2,7 @@
 use Rattle.std.specs.Prelude.{ℕ, ◌+◌, ◌*◌, if◌then◌else◌, nat_le, List, [], ◌∷◌, length, fold, decimal}
 use Rattle.serde_json.specs.Data.{Data, string, object, Members, no_members, put}
 use Rattle.dfdl_bits.specs.Bits.{number_of}
-use Rattle.dfdl_int_binary.specs.declared.form.IntForm.{IntForm}
+use Rattle.dfdl_forms.specs.declared.binary.IntForm.{IntForm}
 use Rattle.dfdl_terms.specs.Record.{Field}
 
 -- an element's name and its number

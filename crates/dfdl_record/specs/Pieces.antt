@@ -7,7 +7,7 @@ use Rattle.dfdl_forms.specs.declared.order.ByteOrder.TheVariants.{Big, Little}
 use Rattle.dfdl_forms.specs.Types.{form_of}
 use Rattle.dfdl_forms.specs.declared.simple.Form.TheVariants.{Unsigned}
 use Rattle.dfdl_value.specs.declared.value.Value.{Value}
-use Rattle.dfdl_int_binary.specs.declared.form.IntForm.{IntForm}
+use Rattle.dfdl_forms.specs.declared.binary.IntForm.{IntForm}
 use Rattle.dfdl_int_binary.specs.Integers.{integer_writing}
 use Rattle.dfdl_terms.specs.Record.{Field, Record}
 

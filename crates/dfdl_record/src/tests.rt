@@ -7,8 +7,7 @@ ghost use Rattle.dfdl_terms.specs.Record.{Record, record_of};
 ghost use Rattle.dfdl_record.specs.Pieces.{IsWholeField, IsWholeRecord};
 
 use crate::{Piece, Unparsed, unparse};
-use dfdl_bits::{BitOrder, ByteOrder};
-use dfdl_int_binary::IntForm;
+use dfdl_forms::{BitOrder, ByteOrder, IntForm};
 use dfdl_json::events_of;
 use dfdl_terms::{Primitive, Row, RowId, RowList, Tables, Terms};
 use dfdl_value::{Simple, TextValue};

@@ -8,8 +8,7 @@ ghost use Rattle.dfdl_record.specs.Pieces.{IsWholeField, IsWholeRecord, bytes_of
 ghost use Rattle.dfdl_record.specs.Shown.{first_value, unparsed_shown};
 
 use crate::piece::{MOST_BYTES, Piece, PieceList};
-use dfdl_bits::ByteOrder;
-use dfdl_int_binary::IntForm;
+use dfdl_forms::{ByteOrder, IntForm};
 use dfdl_terms::{Event, RowId, Terms, field_of_row, root_of_record};
 use dfdl_value::Value;
 use std::alloc::{AllocError, Global};

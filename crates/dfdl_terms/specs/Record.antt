@@ -1,6 +1,6 @@
 -- A record: a root element whose content is a sequence of fields, each of which is a binary integer.
 use Rattle.std.specs.Prelude.{ℕ, ◌-◌, List, [], ◌∷◌, length, map, Option, None, Some, option_map, option_and_then, slice_get, unwrap_or}
-use Rattle.dfdl_int_binary.specs.declared.form.IntForm.{IntForm}
+use Rattle.dfdl_forms.specs.declared.binary.IntForm.{IntForm}
 use Rattle.dfdl_terms.specs.declared.row.Primitive.{Primitive}
 use Rattle.dfdl_terms.specs.declared.row.Primitive.TheVariants.{Integer}
 use Rattle.dfdl_terms.specs.declared.row.Row.{Row}

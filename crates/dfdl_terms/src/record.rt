@@ -6,7 +6,7 @@ ghost use Rattle.dfdl_terms.specs.RecordShown.{field_shown, root_shown};
 
 use crate::row::{Primitive, Row, RowId};
 use crate::terms::Terms;
-use dfdl_int_binary::IntForm;
+use dfdl_forms::IntForm;
 
 /// One field of a record: its element's local name, and how its number lies in the data.
 #[derive(Clone, Copy, Debug)]

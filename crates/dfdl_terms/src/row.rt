@@ -1,6 +1,6 @@
 ghost use Rattle.std.specs.Prelude.{◌≡◌, ◌<◌, List};
 
-use dfdl_int_binary::IntForm;
+use dfdl_forms::IntForm;
 use dfdl_value::{Simple, TextValue};
 use std::marker::Model;
 

@@ -1,7 +1,7 @@
 use Rattle.std.proofs.Common.{◌≡◌, ℕ, ◌-◌, ◌<◌, List, [], ◌∷◌, length, take, get_or, false, sym, ap, arith}
 use Rattle.std.proofs.lemmas.Bool.Decides.{nat_tests}
 use Rattle.std.proofs.lemmas.Grind.{get_or_default_zero}
-use Rattle.dfdl_packed.specs.declared.form.ZonedForm.{ZonedForm}
+use Rattle.dfdl_forms.specs.declared.packed.ZonedForm.{ZonedForm}
 use Rattle.dfdl_packed.specs.Zoned.{sign_digit, number_around, zoned_number}
 use Rattle.dfdl_packed.proofs.zoned_reading.number_of.Goals as goal
 

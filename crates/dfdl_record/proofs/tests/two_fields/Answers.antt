@@ -3,7 +3,7 @@ use Rattle.std.proofs.lemmas.List.Elements.{All-cons, All-nil}
 use Rattle.std.proofs.lemmas.List.Kept.{AllPairs-cons}
 use Rattle.dfdl_forms.specs.declared.order.BitOrder.TheVariants.{MostFirst}
 use Rattle.dfdl_forms.specs.declared.order.ByteOrder.{ByteOrder}
-use Rattle.dfdl_int_binary.specs.declared.form.IntForm.{IntForm}
+use Rattle.dfdl_forms.specs.declared.binary.IntForm.{IntForm}
 use Rattle.dfdl_forms.specs.declared.simple.Simple.{Simple}
 use Rattle.dfdl_forms.specs.declared.simple.Simple.TheVariants.{UnsignedByte, UnsignedShort}
 use Rattle.dfdl_terms.specs.declared.row.Primitive.{Primitive}

@@ -1,5 +1,6 @@
-use dfdl_forms::{BitOrder, ByteOrder};
-use dfdl_value::Simple;
+// Binary integers, binary decimals and binary booleans.
+use crate::order::{BitOrder, ByteOrder};
+use crate::simple::Simple;
 
 /// How a binary integer or decimal lies in the data.
 #[derive(Debug, Clone, Copy, PartialEq, Eq)]
@@ -25,15 +26,3 @@ pub struct BitTruthForm {
     /// the number of false
     pub falsity: u32,
 }
-
-/// The number of the field is no value of its type.
-#[derive(Debug, Clone, Copy, PartialEq, Eq)]
-pub struct NotInType;
-
-/// The number of the field is neither that of true nor that of false.
-#[derive(Debug, Clone, Copy, PartialEq, Eq)]
-pub struct NoTruth;
-
-/// The bits of the field can't hold the value.
-#[derive(Debug, Clone, Copy, PartialEq, Eq)]
-pub struct NoFit;

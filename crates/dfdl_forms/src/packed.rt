@@ -1,5 +1,6 @@
-use dfdl_forms::{BitOrder, ByteOrder};
-use dfdl_value::Simple;
+// Packed decimal, BCD, IBM 4690 packed and zoned numbers.
+use crate::order::{BitOrder, ByteOrder};
+use crate::simple::Simple;
 
 /// How the digits of a packed number lie in its nibbles.
 #[derive(Debug, Clone, Copy, PartialEq, Eq)]
@@ -50,16 +51,3 @@ pub struct ZonedForm {
     pub point: u8,
     pub kind: Simple,
 }
-
-/// Why a packed or zoned number is not read.
-#[derive(Debug, Clone, Copy, PartialEq, Eq)]
-pub enum PackedFault {
-    /// A nibble or character is none that can stand there, or an integer has a fraction.
-    BadNibble,
-    /// The number is no value of its type.
-    PastType,
-}
-
-/// The field can't hold the value.
-#[derive(Debug, Clone, Copy, PartialEq, Eq)]
-pub struct NoFit;

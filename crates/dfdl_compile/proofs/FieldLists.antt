@@ -1,5 +1,5 @@
 -- Reading all of a list's values, and the values that are left.
-use Rattle.std.proofs.Common.{◌≡◌, ℕ, ◌+◌, ◌<◌, List, [], ◌∷◌, ◌++◌, length, drop, map, get_or, Option, None, Some, option_map, refl, sym, ap, ◌∙◌, append_assoc, add-one, drop-cons}
+use Rattle.std.proofs.Common.{◌≡◌, ℕ, ◌+◌, ◌<◌, List, [], ◌∷◌, ◌++◌, length, drop, map, get_or, Option, None, Some, option_map, refl, sym, ap, ◌∙◌, append_assoc}
 use Rattle.std.proofs.lemmas.List.{get_or_default, map-append}
 use Rattle.dfdl_terms.specs.declared.record.Field.{Field as DeclaredField}
 use Rattle.dfdl_terms.specs.RecordShown.{field_shown}

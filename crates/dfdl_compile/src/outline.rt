@@ -8,8 +8,7 @@ ghost use Rattle.dfdl_compile.specs.Schema.{value_of, is_text, has, only, is_ele
 ghost use Rattle.dfdl_compile.specs.OutlineShown.{outline_shown};
 
 use dfdl_doc_tree::{Tree, is_name_byte, is_name_start};
-use dfdl_forms::{BitOrder, ByteOrder};
-use dfdl_int_binary::IntForm;
+use dfdl_forms::{BitOrder, ByteOrder, IntForm};
 use dfdl_terms::Field;
 use dfdl_value::Simple;
 

@@ -1,10 +1,9 @@
 -- The answer that follows from the root element of a record.
-use Rattle.std.proofs.Common.{◌≡◌, Vec, Global, List, [], Option, None, Some, Result, Err, cond, true, false, map, option_map, option_and_then, IsSome, refl, sym, ap, subst, ◌∙◌}
-use Rattle.std.specs.Option.{unwrap_or}
+use Rattle.std.proofs.Common.{◌≡◌, Vec, Global, List, Option, None, Some, Result, Err, cond, true, false, sym, ap, subst, ◌∙◌}
 use Rattle.serde_json.specs.Data.{Data, Members}
 use Rattle.dfdl_terms.specs.declared.event.Event.{Event}
 use Rattle.dfdl_terms.specs.Rows.{Table}
-use Rattle.dfdl_terms.specs.Record.{Record, Root, all_of, field_at, fields_at, root_at, record_from, record_of}
+use Rattle.dfdl_terms.specs.Record.{Record, Root, fields_at, root_at, record_of}
 use Rattle.dfdl_terms.proofs.RecordLemmas.{described_is}
 use Rattle.dfdl_report.specs.declared.cause.InfosetCause.TheVariants.{RootExpected, UnknownMember}
 use Rattle.dfdl_json.specs.declared.fault.InfosetFault.{InfosetFault}

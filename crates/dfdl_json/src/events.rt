@@ -8,12 +8,10 @@ ghost use Rattle.dfdl_json.specs.Fitting.{Fits, child_rows, events_if, events_in
 ghost use Rattle.dfdl_report.specs.Paths.{field_path, root_path};
 ghost use Rattle.dfdl_json.specs.Infosets.{content_values, field_values, members_values, value_at, value_in};
 
-use dfdl_report::{InfosetCause, path_of_field, path_of_root};
 use crate::fault::InfosetFault;
 use crate::members::{are_members_known, content_of_root, member_of, names_of_fields, read_member};
-use dfdl_terms::{
-    Event, Field, Root, RowId, Terms, field_of_row, root_of_record,
-};
+use dfdl_report::{InfosetCause, path_of_field, path_of_root};
+use dfdl_terms::{Event, Field, Root, RowId, Terms, field_of_row, root_of_record};
 use dfdl_value::{TextValue, Value};
 use serde_json::{Map, Value as Json};
 use std::alloc::Global;

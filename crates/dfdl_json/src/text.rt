@@ -6,9 +6,9 @@ ghost use Rattle.dfdl_json.specs.Answers.{Answers};
 ghost use Rattle.dfdl_json.specs.Fitting.{Fits};
 ghost use Rattle.dfdl_json.specs.Texts.{events_of_text, json_in};
 
-use dfdl_report::InfosetCause;
 use crate::events::events_of;
 use crate::fault::InfosetFault;
+use dfdl_report::InfosetCause;
 use dfdl_terms::{Event, Terms};
 use dfdl_value::TextValue;
 use serde_json::Value as Json;

@@ -1,7 +1,7 @@
 -- Packed decimal, BCD and IBM 4690 packed numbers. 'Simple Types' (binaryNumberRep, binaryPackedSignCodes,
 -- binaryNumberCheckPolicy).
-use Rattle.std.specs.Prelude.{ℕ, zero, suc, ◌+◌, ◌-◌, ◌*◌, ◌^◌, ◌≤◌, ◌==◌, ◌||◌, ◌&&◌, ℤ, pos, negsuc, unsigned_abs, Bool, true, false, IsTrue, nat_lt, nat_le, List, [], ◌∷◌, ◌++◌, length, take, slice_index, replicate, map, Option, Some, None, Result, Err, if◌then◌else◌}
-use Rattle.std.specs.List.{range_with_len, list_all}
+use Rattle.std.specs.Prelude.{ℕ, zero, suc, ◌+◌, ◌-◌, ◌*◌, ◌^◌, ◌==◌, ◌||◌, ◌&&◌, ℤ, pos, negsuc, unsigned_abs, Bool, true, false, nat_lt, nat_le, List, [], ◌∷◌, ◌++◌, length, take, slice_index, replicate, map, Option, Some, None, Result, Err, if◌then◌else◌}
+use Rattle.std.specs.List.{range_with_len}
 use Rattle.dfdl_bits.specs.Bits.{number_of}
 use Rattle.dfdl_forms.specs.declared.order.BitOrder.{BitOrder}
 use Rattle.dfdl_forms.specs.declared.order.ByteOrder.TheVariants.{Big}

@@ -1,5 +1,5 @@
 -- Zoned numbers. 'Simple Types' (textNumberRep, textZonedSignStyle).
-use Rattle.std.specs.Prelude.{ℕ, ◌+◌, ◌-◌, ◌*◌, ◌≤◌, ◌==◌, ◌&&◌, ℤ, unsigned_abs, Bool, true, false, nat_lt, nat_le, max, List, [], ◌∷◌, ◌++◌, length, take, slice_index, map, fold, Option, Some, None, Result, Err, if◌then◌else◌}
+use Rattle.std.specs.Prelude.{ℕ, ◌+◌, ◌-◌, ◌*◌, ◌==◌, ◌&&◌, ℤ, unsigned_abs, Bool, true, false, nat_lt, nat_le, max, List, [], ◌∷◌, ◌++◌, length, take, slice_index, map, fold, Option, Some, None, Result, Err, if◌then◌else◌}
 use Rattle.std.specs.Char.{is_ascii_digit}
 use Rattle.std.specs.List.{list_all}
 use Rattle.dfdl_forms.specs.Types.{form_of}

@@ -1,5 +1,5 @@
 -- The infoset of a record's items says their values.
-use Rattle.std.proofs.Common.{◌≡◌, ◌≢◌, ℕ, suc, Bool, true, false, cond, ◌||◌, ◌&&◌, List, [], ◌∷◌, map, fold, Option, Some, None, Result, Ok, Err, refl, ap, sym, subst, ◌∙◌, arith, decimal, nat_cmp, bytes_eq}
+use Rattle.std.proofs.Common.{◌≡◌, ◌≢◌, ℕ, suc, Bool, true, false, cond, ◌||◌, List, [], ◌∷◌, map, fold, Option, Some, None, Result, Ok, Err, refl, ap, sym, subst, ◌∙◌, arith, decimal, nat_cmp, bytes_eq}
 use Rattle.std.specs.declared.cmp.Ordering.TheVariants.{Less, Equal, Greater}
 use Rattle.std.specs.Ordering.{match_ordering}
 use Rattle.std.specs.Cmp.Lexicographic.{slice_cmp}
@@ -15,7 +15,6 @@ use Rattle.dfdl_value.specs.Types.{IsOfType, IsPlain}
 use Rattle.dfdl_forms.specs.declared.simple.Simple.{Simple}
 use Rattle.dfdl_value.specs.Writing.{text_of}
 use Rattle.dfdl_value.specs.declared.value.Value.{Value}
-use Rattle.dfdl_value.specs.declared.value.Value.TheVariants.{Uns}
 use Rattle.dfdl_forms.specs.declared.binary.IntForm.{IntForm}
 use Rattle.dfdl_report.specs.Paths.{field_path, root_path}
 use Rattle.dfdl_terms.specs.Record.{Field, Record}

@@ -1,4 +1,3 @@
-use Rattle.std.proofs.Common.{◌≡◌}
 use Rattle.std.proofs.lemmas.Bool.{both_ways}
 use Rattle.dfdl_json.proofs.TextReading.{json_read, json_refused}
 use Rattle.dfdl_json.proofs.text.json_of.Goals as goal

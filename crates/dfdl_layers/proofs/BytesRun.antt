@@ -1,8 +1,8 @@
 -- A run over characters, and the run over the bytes of their coding.
-use Rattle.std.proofs.Common.{◌≡◌, ℕ, ◌≤◌, List, [], ◌∷◌, ◌++◌, Bool, Option, Some, None, Result}
+use Rattle.std.proofs.Common.{◌≡◌, ℕ, ◌≤◌, List, [], ◌∷◌, ◌++◌, Option, Some, None, Result}
 use Rattle.std.proofs.Common.{Ok, Err, refl, sym, subst, ◌∙◌, arith, append_assoc}
 use Rattle.std.specs.List.{flat_map}
-use Rattle.dfdl_layers.specs.Tellers.{Each, go_on, run, Keeps, IsTeller}
+use Rattle.dfdl_layers.specs.Tellers.{Each, go_on, run, Keeps}
 use Rattle.dfdl_layers.specs.Bytes.{Seen, Whole, Part, IsCoding, Inside, between, behind, waits}
 use Rattle.dfdl_layers.specs.Bytes.{by_seen, byte_step, FailsBy, IsForesight}
 
@@ -52,13 +52,11 @@ kept_following n (Ok t) q follows kept = subst (λ a. Keeps n a) (sym follows) t
 kept_following n (Err k) (Ok i) follows kept = absurd follows
 kept_following n (Err k) (Err m) follows kept = omega arith
 
-module _ {S : Type 0} {step : S → ℕ → Result S ℕ} {start : S} {accepts : S → Bool} {all : ℕ}
-    {Scalar : ℕ → Type 0} {encode : ℕ → List ℕ}
-    {see : List ℕ → Seen} {could : S → List ℕ → Option ℕ} {Sound : S → Type 0}
-    {Rest : ℕ → S → List ℕ → Type 0} (rule : ℕ)
+module _ {S : Type 0} {step : S → ℕ → Result S ℕ} {Scalar : ℕ → Type 0} {encode : ℕ → List ℕ}
+    {see : List ℕ → Seen} {could : S → List ℕ → Option ℕ} {Sound : S → Type 0} (rule : ℕ)
+    (goes : (s t : S) (c : ℕ) → Sound s → step s c ≡ Ok t → Sound t)
     (coding : IsCoding Scalar encode see)
-    (foresight : IsForesight step Scalar encode see could Sound)
-    (teller : IsTeller step start accepts all Scalar Sound Rest) where
+    (foresight : IsForesight step Scalar encode see could Sound) where
   -- over what is left of one character's bytes
   character_passes : (s : S) (c : ℕ) → Sound s → Scalar c
       → (front : List ℕ) (b : ℕ) (rest behind : List ℕ) → encode c ≡ front ++ b ∷ rest
@@ -103,4 +101,4 @@ module _ {S : Type 0} {step : S → ℕ → Result S ℕ} {start : S} {accepts :
       (λ t. run (byte_step rule step could see) (between t) (flat_map encode characters))
       (run (byte_step rule step could see) (between s) (encode c ++ flat_map encode characters))
       (coded_passes s c sound each.0 (encode c) (flat_map encode characters) refl)
-      (λ t goes. text_follows characters t (teller.goes s t c sound goes) each.1)
+      (λ t is. text_follows characters t (goes s t c sound is) each.1)

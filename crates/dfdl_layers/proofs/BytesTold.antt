@@ -287,7 +287,7 @@ module _ {S : Type 0} {step : S → ℕ → Result S ℕ} {start : S} {accepts :
       (sym (rest.encoded less))
       (kept_following n (run step start rest.characters)
       (run (byte_step rule step could see) (between start) (flat_map encode rest.characters))
-      (text_follows rule coding foresight teller rest.characters start teller.begins
+      (text_follows rule teller.goes coding foresight rest.characters start teller.begins
       (rest.are_scalar less)) (teller.keeps n rest.characters rest.rest))
 
   keeps_bytes : (n : ℕ) (bytes : List ℕ)
@@ -311,7 +311,7 @@ module _ {S : Type 0} {step : S → ℕ → Result S ℕ} {start : S} {accepts :
   full_bytes within bytes rest =
       let found = teller.full rest.characters rest.rest in
       let follows =
-      text_follows rule coding foresight teller rest.characters start teller.begins
+      text_follows rule teller.goes coding foresight rest.characters start teller.begins
       (rest.are_scalar within) in (
         between found.0,
         ap (λ l. run (byte_step rule step could see) (between start) l) (rest.encoded within)

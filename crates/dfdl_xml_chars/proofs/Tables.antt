@@ -4,13 +4,15 @@ use Rattle.std.proofs.Common.{◌∷◌, Bool, true, false, refl, sym, ap, ap₂
 use Rattle.std.proofs.Common.{leb-true}
 use Rattle.std.specs.List.{list_any, list_all}
 use Rattle.std.proofs.lemmas.Bool.{and_parts, or_parts, or_right, cases_Bool}
+use Rattle.std.proofs.lemmas.List.Folds.{list_any-append}
 use Rattle.std.proofs.lemmas.Bool.Decides.{nat_tests}
 use Rattle.std.proofs.Math.Bool.{or-false}
 use Rattle.std.specs.Char.{encode_utf8, IsScalar}
 use Rattle.dfdl_layers.specs.Bytes.{Part, IsBegun}
 use Rattle.dfdl_xml_chars.specs.Utf8.{see, low_of, high_of}
 use Rattle.dfdl_xml_chars.specs.Characters.{Row, is_in, is_allowed, char_rows, meets, begins}
-use Rattle.dfdl_xml_chars.specs.Characters.{are_proper, are_inside, high_start_rows, high_name_rows}
+use Rattle.dfdl_xml_chars.specs.Characters.{are_proper, are_inside, high_start_rows, high_mark_rows}
+use Rattle.dfdl_xml_chars.specs.Characters.{high_name_rows}
 use Rattle.dfdl_xml_chars.specs.Characters.{low_start_rows, low_name_rows, is_name_start}
 use Rattle.dfdl_xml_chars.specs.Characters.{is_name_char}
 use Rattle.dfdl_xml_chars.specs.Beyond.{AreAllowed}
@@ -157,7 +159,7 @@ unfolding high_start_rows char_rows
 start_rows_allowed = record { proper = refl; allowed = refl }
 
 pub name_rows_allowed : AreAllowed high_name_rows
-unfolding high_name_rows high_start_rows char_rows
+unfolding high_name_rows high_mark_rows high_start_rows char_rows
 name_rows_allowed = record { proper = refl; allowed = refl }
 
 pub no_rows_allowed : AreAllowed []
@@ -198,7 +200,7 @@ high_start c least =
     ap (λ b. b || is_in high_start_rows c) (none_above low_start_rows 127 c (omega arith) refl)
 
 pub low_char : (c : ℕ) → c < 128 → is_name_char c ≡ is_in low_name_rows c
-unfolding is_name_char high_name_rows high_start_rows
+unfolding is_name_char high_name_rows high_mark_rows high_start_rows
 low_char c less =
     ap (λ b. is_in low_name_rows c || b) (none_below high_name_rows 128 c less refl)
     ∙ or-false (is_in low_name_rows c)
@@ -232,3 +234,18 @@ meets_exactly rows bytes allowed sees = (
         absurd (cc))
   ],
 )
+
+-- the rows of names are the marks, and those that names begin with
+pub in_name_rows : (c : ℕ)
+    → is_in high_name_rows c ≡ (is_in high_mark_rows c || is_in high_start_rows c)
+unfolding high_name_rows
+in_name_rows c =
+    list_any-append (λ row. nat_le row.0 c && nat_le c row.1) high_mark_rows high_start_rows
+
+pub meets_name_rows : (bytes : List ℕ)
+    → meets high_name_rows bytes ≡ (meets high_mark_rows bytes || meets high_start_rows bytes)
+unfolding high_name_rows
+meets_name_rows bytes =
+    list_any-append
+    (λ row. nat_le row.0 (high_of bytes) && nat_le (low_of bytes) row.1) high_mark_rows
+    high_start_rows

@@ -1,5 +1,5 @@
 -- The characters of XML documents, as tables of intervals.
-use Rattle.std.specs.Prelude.{ℕ, ◌&&◌, ◌||◌, Bool, nat_le, List, [], ◌∷◌}
+use Rattle.std.specs.Prelude.{◌++◌, ℕ, ◌&&◌, ◌||◌, Bool, nat_le, List, [], ◌∷◌}
 use Rattle.std.specs.List.{list_any, list_all}
 use Rattle.dfdl_xml_chars.specs.Utf8.{low_of, high_of}
 
@@ -27,9 +27,13 @@ high_start_rows =
     ∷ (0x2C00, 0x2FEF) ∷ (0x3001, 0xD7FF) ∷ (0xF900, 0xFDCF) ∷ (0xFDF0, 0xFFFD)
     ∷ (0x1_0000, 0xE_FFFF) ∷ []
 
+-- the rows past ASCII that the production NameChar has besides
+unfoldable pub high_mark_rows : List Row
+high_mark_rows = (0xB7, 0xB7) ∷ (0x300, 0x36F) ∷ (0x203F, 0x2040) ∷ []
+
 -- the rows past ASCII of the production NameChar
 unfoldable pub high_name_rows : List Row
-high_name_rows = (0xB7, 0xB7) ∷ (0x300, 0x36F) ∷ (0x203F, 0x2040) ∷ high_start_rows
+high_name_rows = high_mark_rows ++ high_start_rows
 
 -- the ASCII rows of both, without the colon
 unfoldable pub low_start_rows : List Row

@@ -2,7 +2,7 @@
 #![tactic(auto)]
 
 ghost use Rattle.std.specs.Prelude.{◌≡◌};
-ghost use Rattle.dfdl_xml_chars.specs.Characters.{high_name_rows, high_start_rows, low_name_rows};
+ghost use Rattle.dfdl_xml_chars.specs.Characters.{high_mark_rows, high_name_rows, high_start_rows, low_name_rows};
 ghost use Rattle.dfdl_xml_chars.specs.Characters.{low_start_rows, is_in};
 ghost use Rattle.dfdl_xml_chars.specs.Characters.{is_name_char as is_of_name};
 ghost use Rattle.dfdl_xml_chars.specs.Characters.{is_name_start as begins_name, meets};
@@ -28,23 +28,7 @@ static NAME_STARTS: [Row; 12] = [
     (0x1_0000, 0xE_FFFF),
 ];
 
-static NAME_CHARS: [Row; 15] = [
-    (0xB7, 0xB7),
-    (0x300, 0x36F),
-    (0x203F, 0x2040),
-    (0xC0, 0xD6),
-    (0xD8, 0xF6),
-    (0xF8, 0x2FF),
-    (0x370, 0x37D),
-    (0x37F, 0x1FFF),
-    (0x200C, 0x200D),
-    (0x2070, 0x218F),
-    (0x2C00, 0x2FEF),
-    (0x3001, 0xD7FF),
-    (0xF900, 0xFDCF),
-    (0xFDF0, 0xFFFD),
-    (0x1_0000, 0xE_FFFF),
-];
+static NAME_MARKS: [Row; 3] = [(0xB7, 0xB7), (0x300, 0x36F), (0x203F, 0x2040)];
 
 // The code point lies in one of the rows.
 fn lies_in(rows: &[Row], code: u32) -> bool
@@ -69,11 +53,18 @@ fn is_high_start(code: u32) -> bool
     lies_in(&NAME_STARTS, code)
 }
 
-#[tactic(auto, unfolding(crate::specs::Characters::high_name_rows, crate::specs::Characters::high_start_rows))]
+#[tactic(auto, unfolding(crate::specs::Characters::high_mark_rows))]
+fn is_high_mark(code: u32) -> bool
+    ensures { result ≡ is_in high_mark_rows code }
+{
+    lies_in(&NAME_MARKS, code)
+}
+
+#[tactic(auto, using(crate::proofs::Tables::in_name_rows))]
 fn is_high_char(code: u32) -> bool
     ensures { result ≡ is_in high_name_rows code }
 {
-    lies_in(&NAME_CHARS, code)
+    is_high_mark(code) || is_high_start(code)
 }
 
 #[tactic(auto, unfolding(crate::specs::Characters::low_start_rows))]
@@ -123,10 +114,17 @@ pub fn meets_name_start(begun: Begun) -> bool
     reaches(&NAME_STARTS, begun)
 }
 
+#[tactic(auto, unfolding(crate::specs::Characters::high_mark_rows))]
+fn meets_name_mark(begun: Begun) -> bool
+    ensures { result ≡ meets high_mark_rows (bytes_of begun) }
+{
+    reaches(&NAME_MARKS, begun)
+}
+
 /// A part of a name may have some character that begins so, where the bytes are a part of one.
-#[tactic(auto, unfolding(crate::specs::Characters::high_name_rows, crate::specs::Characters::high_start_rows))]
+#[tactic(auto, using(crate::proofs::Tables::meets_name_rows))]
 pub fn meets_name_char(begun: Begun) -> bool
     ensures { result ≡ meets high_name_rows (bytes_of begun) }
 {
-    reaches(&NAME_CHARS, begun)
+    meets_name_mark(begun) || meets_name_start(begun)
 }

@@ -6,3 +6,5 @@ pub mod Patches
 pub mod Putting
 pub mod Whole
 pub mod Windows
+pub mod Loads
+pub mod Words

@@ -96,11 +96,11 @@ pub number_of-none : (bytes : List ℕ) (b : ℕ) (bytes_by : ByteOrder) (bits_b
 unfolding number_of sum_below
 number_of-none bytes b bytes_by bits_by = refl
 
-big-one : (bytes : List ℕ) (b : ℕ) → number_of bytes b 1 Big MostFirst ≡ data_bit MostFirst bytes b
+pub big-one : (bytes : List ℕ) (b : ℕ) → number_of bytes b 1 Big MostFirst ≡ data_bit MostFirst bytes b
 unfolding number_of sum_below
 big-one bytes b = rw add-zero (omega arith)
 
-least-one : (bytes : List ℕ) (b : ℕ) → number_of bytes b 1 Little LeastFirst ≡ data_bit LeastFirst bytes b
+pub least-one : (bytes : List ℕ) (b : ℕ) → number_of bytes b 1 Little LeastFirst ≡ data_bit LeastFirst bytes b
 unfolding number_of sum_below
 least-one bytes b = rw add-zero (omega arith)
 

@@ -10,6 +10,9 @@ and_low w n len few = rw (one_shl len w few) (and_mask n len)
 pub shl_or : (w a j k b : ℕ) → a < 2 ^ j → j + k ≤ w → b < 2 ^ k → bit_or (a * 2 ^ k % 2 ^ w) b ≡ a * 2 ^ k + b
 shl_or w a j k b high fits low = rw (shl_whole a j k w high fits) (or_shifted a k b low)
 
--- `a | b << k`, at 128 bits
+-- `a | b << k`, at w bits
+pub or_shl_at : (w a b j k : ℕ) → a < 2 ^ k → b < 2 ^ j → j + k ≤ w → bit_or a (b * 2 ^ k % 2 ^ w) ≡ a + b * 2 ^ k
+or_shl_at w a b j k low high fits = or_comm a (b * 2 ^ k % 2 ^ w) ∙ (shl_or w b j k a high fits low ∙ omega arith)
+
 pub or_shl : (a b j k : ℕ) → a < 2 ^ k → b < 2 ^ j → j + k ≤ 128 → bit_or a (b * 2 ^ k % 2 ^ 128) ≡ a + b * 2 ^ k
-or_shl a b j k low high fits = or_comm a (b * 2 ^ k % 2 ^ 128) ∙ (shl_or 128 b j k a high fits low ∙ omega arith)
+or_shl = or_shl_at 128

@@ -9,8 +9,9 @@ mod number;
 mod put;
 pub mod steps;
 pub mod window;
+mod word;
 
-pub use number::{nibble_at, number_at};
+pub use number::{nibble_at, number_at, number_at_64};
 pub use dfdl_forms::{BitOrder, ByteOrder};
 pub use put::{put_nibble, put_number};
 pub use steps::Steps;

@@ -4,6 +4,7 @@ ghost use Rattle.dfdl_bits.specs.Bits.{number_of};
 ghost use Rattle.dfdl_forms.specs.declared.order.BitOrder.TheVariants.{MostFirst, LeastFirst};
 ghost use Rattle.dfdl_forms.specs.declared.order.ByteOrder.TheVariants.{Big, Little};
 
+use crate::word::{load_16, load_32, load_64, low_bits, regrouped, whole_order};
 use dfdl_forms::{BitOrder, ByteOrder};
 
 /// The number of the `len` bits of the data that begin at bit `bit`.
@@ -14,9 +15,84 @@ pub fn number_at(bytes: &[u8], bit: u64, len: u32, bytes_by: ByteOrder, bits_by:
     ensures number { result ≡ number_of bytes.now bit len bytes_by bits_by }
     ensures below { result < 2 ^ len }
 {
+    if len <= 64 {
+        return u128::from(number_at_64(bytes, bit, len, bytes_by, bits_by));
+    }
+    wide_at(bytes, bit, len, bytes_by, bits_by)
+}
+
+/// The number of at most 64 bits that begin at bit `bit`, without arithmetic in 128 bits. Whole numbers of 8, 16, 32
+/// and 64 bits that begin with a byte are read by one load.
+#[tactic(auto, using(crate::proofs::Numbers::number_below))]
+pub fn number_at_64(
+    bytes: &[u8],
+    bit: u64,
+    len: u32,
+    bytes_by: ByteOrder,
+    bits_by: BitOrder,
+) -> u64
+    requires few { len ≤ 64 }
+    requires inside { bit + len ≤ 8 * length bytes.now }
+    ensures number { result ≡ number_of bytes.now bit len bytes_by bits_by }
+    ensures below { result < 2 ^ len }
+{
+    let first = (bit / 8) as usize;
+    if bit % 8 == 0 {
+        let order = whole_order(bytes_by, bits_by);
+        match len {
+            8 => return u64::from(bytes[first]),
+            16 => return u64::from(load_16(bytes, first, order)),
+            32 => return u64::from(load_32(bytes, first, order)),
+            64 => return load_64(bytes, first, order),
+            _ => (),
+        }
+    }
     if len == 0 {
         return 0;
     }
+    let skip = (bit % 8) as u32;
+    if skip + len <= 64 && bytes.len() - first >= 8 {
+        return in_word(bytes, first, skip, len, bytes_by, bits_by);
+    }
+    wide_at(bytes, bit, len, bytes_by, bits_by) as u64
+}
+
+// A range that lies in eight bytes of the data from its first one on.
+fn in_word(
+    bytes: &[u8],
+    first: usize,
+    skip: u32,
+    len: u32,
+    bytes_by: ByteOrder,
+    bits_by: BitOrder,
+) -> u64
+    requires skip { skip + len ≤ 64 }
+    requires some { 0 < len }
+    requires room { first + 8 ≤ length bytes.now }
+    ensures { result ≡ number_of bytes.now (8 * first + skip) len bytes_by bits_by }
+{
+    match bits_by {
+        BitOrder::LeastFirst => low_bits(load_64(bytes, first, ByteOrder::Little) >> skip, len),
+        BitOrder::MostFirst => {
+            let word = load_64(bytes, first, ByteOrder::Big);
+            let number = low_bits(word >> (64 - skip - len), len);
+            match bytes_by {
+                ByteOrder::Big => number,
+                ByteOrder::Little => regrouped(number, len),
+            }
+        }
+    }
+}
+
+// Of any length.
+#[tactic(auto, using(crate::proofs::Numbers::number_below))]
+fn wide_at(bytes: &[u8], bit: u64, len: u32, bytes_by: ByteOrder, bits_by: BitOrder) -> u128
+    requires few { len ≤ 128 }
+    requires some { 0 < len }
+    requires inside { bit + len ≤ 8 * length bytes.now }
+    ensures number { result ≡ number_of bytes.now bit len bytes_by bits_by }
+    ensures below { result < 2 ^ len }
+{
     let first = (bit / 8) as usize;
     let skip = (bit % 8) as u32;
     match bits_by {

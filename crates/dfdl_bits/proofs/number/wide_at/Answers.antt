@@ -3,7 +3,7 @@ use Rattle.dfdl_bits.specs.Bits.{number_of}
 use Rattle.dfdl_forms.specs.declared.order.BitOrder.TheVariants.{LeastFirst}
 use Rattle.dfdl_forms.specs.declared.order.ByteOrder.TheVariants.{Little}
 use Rattle.dfdl_bits.proofs.Numbers.{least_any}
-use Rattle.dfdl_bits.proofs.number.number_at.Goals as goal
+use Rattle.dfdl_bits.proofs.number.wide_at.Goals as goal
 
 pub returns-in-LeastFirst-clause-number : goal.returns-in-LeastFirst-clause-number
 returns-in-LeastFirst-clause-number c =

@@ -1,0 +1,9 @@
+use Rattle.std.proofs.Common.{◌∙◌, sym, arith}
+use Rattle.dfdl_bits.proofs.Loads.{big_2, little_2}
+use Rattle.dfdl_bits.proofs.word.load_16.Goals as goal
+
+pub returns-in-Big : goal.returns-in-Big
+returns-in-Big c = rw c.in-Big.is (omega (arith, c.from_be_bytes.ensures, big_2 c.args.bytes.now (λ i. omega (arith, c.type_inv.bytes i)) c.args.first))
+
+pub returns-in-Little : goal.returns-in-Little
+returns-in-Little c = rw c.in-Little.is (omega (arith, c.from_le_bytes.ensures, little_2 c.args.bytes.now (λ i. omega (arith, c.type_inv.bytes i)) c.args.first))

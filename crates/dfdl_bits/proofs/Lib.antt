@@ -8,3 +8,4 @@ pub mod Whole
 pub mod Windows
 pub mod Loads
 pub mod Words
+pub mod Stores

@@ -5,8 +5,8 @@ use Rattle.dfdl_bits.specs.Bits.{number_of, data_bit}
 use Rattle.dfdl_forms.specs.declared.order.BitOrder.TheVariants.{MostFirst, LeastFirst}
 use Rattle.dfdl_forms.specs.declared.order.ByteOrder.{ByteOrder}
 use Rattle.dfdl_forms.specs.declared.order.ByteOrder.TheVariants.{Big, Little}
-use Rattle.std.specs.Int.{w64, from_be_bytes, from_le_bytes, to_be_bytes, byte_at, bytes_high_first}
-use Rattle.dfdl_bits.proofs.Loads.{big_8, little_8}
+use Rattle.std.specs.Int.{w16, w32, w64, from_be_bytes, from_le_bytes, to_be_bytes, byte_at, bytes_high_first}
+use Rattle.dfdl_bits.proofs.Loads.{big_2, big_4, big_8, little_2, little_4, little_8}
 use Rattle.dfdl_bits.proofs.Numbers.{big-split, least-split, groups-split, groups-whole, one_group, least_any, big-one, big-in_byte, big-byte, number_of-same, number_below}
 
 -- n bits behind s of a range with r behind them
@@ -44,19 +44,31 @@ pub same_groups : (xs ys : List ℕ) (b c n : ℕ) → number_of xs b n Big Most
     → number_of xs b n Little MostFirst ≡ number_of ys c n Little MostFirst
 same_groups xs ys b c n same = number_of-same xs ys b c n Little MostFirst (λ i within. same_bits xs ys b c n i same within)
 
--- eight bytes, all of their bits
+-- all bits of two, four and eight bytes
 module _ (bytes : List ℕ) (small : (i : ℕ) → get_or bytes i 0 < 256) where
-  pub word_big : number_of bytes 0 64 Big MostFirst ≡ from_be_bytes w64 bytes
-  word_big = big_8 bytes small 0 ∙ omega arith
+  pub word_be_16 : number_of bytes 0 16 Big MostFirst ≡ from_be_bytes w16 bytes
+  word_be_16 = big_2 bytes small 0 ∙ omega arith
 
-  pub word_little : number_of bytes 0 64 Little MostFirst ≡ from_le_bytes w64 bytes
-  word_little = little_8 bytes small 0 ∙ omega arith
+  pub word_le_16 : number_of bytes 0 16 Little MostFirst ≡ from_le_bytes w16 bytes
+  word_le_16 = little_2 bytes small 0 ∙ omega arith
+
+  pub word_be_32 : number_of bytes 0 32 Big MostFirst ≡ from_be_bytes w32 bytes
+  word_be_32 = big_4 bytes small 0 ∙ omega arith
+
+  pub word_le_32 : number_of bytes 0 32 Little MostFirst ≡ from_le_bytes w32 bytes
+  word_le_32 = little_4 bytes small 0 ∙ omega arith
+
+  pub word_be_64 : number_of bytes 0 64 Big MostFirst ≡ from_be_bytes w64 bytes
+  word_be_64 = big_8 bytes small 0 ∙ omega arith
+
+  pub word_le_64 : number_of bytes 0 64 Little MostFirst ≡ from_le_bytes w64 bytes
+  word_le_64 = little_8 bytes small 0 ∙ omega arith
 
   -- whole groups at the front
   pub front_groups : (g : ℕ) → g ≤ 8 → number_of bytes 0 (8 * g) Little MostFirst ≡ from_le_bytes w64 bytes % 2 ^ (8 * g)
   front_groups g few =
       let size : 0 + (8 * g + (64 - 8 * g)) ≡ 64 = omega arith in
-      let all : number_of bytes 0 64 Little LeastFirst ≡ from_le_bytes w64 bytes = sym (groups-whole bytes 0 8) ∙ word_little in
+      let all : number_of bytes 0 64 Little LeastFirst ≡ from_le_bytes w64 bytes = sym (groups-whole bytes 0 8) ∙ word_le_64 in
       groups-whole bytes 0 g ∙ least_part bytes 0 0 (8 * g) (64 - 8 * g)
       ∙ ap (λ m. number_of bytes 0 m Little LeastFirst / 1 % 2 ^ (8 * g)) size
       ∙ rw (all, div-one) refl
@@ -79,27 +91,27 @@ shifted_front bytes small number len few fits is =
     let size : 0 + len + (64 - len) ≡ 64 = omega arith in
     let whole : number * 2 ^ (64 - len) % 2 ^ 64 ≡ number * 2 ^ (64 - len) = shl_whole number len (64 - len) 64 fits (omega arith) in
     let word : number_of bytes 0 64 Big MostFirst ≡ number * 2 ^ (64 - len) + 0 =
-    word_big bytes small ∙ ap (from_be_bytes w64) is ∙ from_be_bytes-to_be_bytes_8 _ (omega arith) ∙ whole ∙ omega arith in
+    word_be_64 bytes small ∙ ap (from_be_bytes w64) is ∙ from_be_bytes-to_be_bytes_8 _ (omega arith) ∙ whole ∙ omega arith in
     big_part bytes 0 0 len (64 - len)
     ∙ ap (λ m. number_of bytes 0 m Big MostFirst / 2 ^ (64 - len) % 2 ^ len) size
     ∙ rw (word, shr_high number (64 - len) 0 (pow_pos (64 - len))) (mod-eq_of_lt fits)
 
 -- each byte of a number is one
-small_cons : (x : ℕ) (xs : List ℕ) (i : ℕ) → x < 256 → ((j : ℕ) → get_or xs j 0 < 256) → get_or (x ∷ xs) i 0 < 256
+pub small_cons : (x : ℕ) (xs : List ℕ) (i : ℕ) → x < 256 → ((j : ℕ) → get_or xs j 0 < 256) → get_or (x ∷ xs) i 0 < 256
 small_cons x xs zero here rest = here
 small_cons x xs (suc i) here rest = rest i
 
-small_none : (i : ℕ) → get_or [] i 0 < 256
+pub small_none : (i : ℕ) → get_or [] i 0 < 256
 small_none i = omega arith
 
 low_byte : (n : ℕ) → n % 256 < 256
 low_byte n = mod_below n 256 (omega arith)
 
-byte_at_small : (k v : ℕ) → byte_at k v < 256
+pub byte_at_small : (k v : ℕ) → byte_at k v < 256
 byte_at_small zero v = low_byte v
 byte_at_small (suc k) v = low_byte (v / 256 ^ suc k)
 
-high_small : (k v i : ℕ) → get_or (bytes_high_first k v) i 0 < 256
+pub high_small : (k v i : ℕ) → get_or (bytes_high_first k v) i 0 < 256
 high_small zero v i = small_none i
 high_small (suc k) v i = small_cons (byte_at k v) (bytes_high_first k v) i (byte_at_small k v) (high_small k v)
 

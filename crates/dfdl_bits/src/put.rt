@@ -1,10 +1,12 @@
 // The number of a range of bits, written by whole bytes.
 ghost use Rattle.std.specs.Prelude.{◌≡◌, ◌⊎◌, ℕ, ◌+◌, ◌*◌, ◌/◌, ◌%◌, ◌^◌, ◌<◌, ◌≤◌, length};
 ghost use Rattle.dfdl_bits.specs.Bits.{number_of, patched, KeepsOutside, Puts};
+ghost use Rattle.dfdl_bits.specs.Words.{IsWord};
 ghost use Rattle.dfdl_forms.specs.declared.order.BitOrder.TheVariants.{MostFirst, LeastFirst};
 ghost use Rattle.dfdl_forms.specs.declared.order.ByteOrder.{ByteOrder};
 ghost use Rattle.dfdl_forms.specs.declared.order.ByteOrder.TheVariants.{Big, Little};
 
+use crate::word::{is_word, store};
 use dfdl_forms::{BitOrder, ByteOrder};
 
 /// Makes `value` the number of the `len` bits of the data that begin at bit `bit`.
@@ -25,12 +27,44 @@ pub fn put_number(
     ensures apart { (b n : ℕ) (by : ByteOrder) → (b + n ≤ bit) ⊎ (bit + len ≤ b)
         → number_of bytes.new b n by bits_by ≡ number_of bytes.old b n by bits_by }
 {
-    if len == 0 {
+    if len <= 64 {
+        put_number_64(bytes, bit, len, value as u64, bytes_by, bits_by);
         return;
     }
     let first = (bit / 8) as usize;
     let skip = (bit % 8) as u32;
     put_at(bytes, first, skip, len, value, bytes_by, bits_by)
+}
+
+/// Makes `value` the number of at most 64 bits that begin at bit `bit`. Whole numbers of 8, 16, 32 and 64 bits that begin
+/// with a byte are written by one store.
+pub fn put_number_64(
+    bytes: &mut [u8],
+    bit: u64,
+    len: u32,
+    value: u64,
+    bytes_by: ByteOrder,
+    bits_by: BitOrder,
+)
+    requires few { len ≤ 64 }
+    requires inside { bit + len ≤ 8 * length bytes.old }
+    requires fits { value < 2 ^ len }
+    ensures number { number_of bytes.new bit len bytes_by bits_by ≡ value }
+    ensures kept { KeepsOutside bits_by bytes.old bytes.new bit len }
+    // So each range before it or behind it keeps its number.
+    ensures apart { (b n : ℕ) (by : ByteOrder) → (b + n ≤ bit) ⊎ (bit + len ≤ b)
+        → number_of bytes.new b n by bits_by ≡ number_of bytes.old b n by bits_by }
+{
+    let first = (bit / 8) as usize;
+    if bit % 8 == 0 && is_word(len) {
+        put_word(bytes, first, len, value, bytes_by, bits_by);
+        return;
+    }
+    if len == 0 {
+        return;
+    }
+    let skip = (bit % 8) as u32;
+    put_at(bytes, first, skip, len, u128::from(value), bytes_by, bits_by)
 }
 
 /// Makes `nibble` the number of the four bits of nibble `at` of those that begin at bit `bit`.
@@ -54,6 +88,26 @@ pub fn put_nibble(bytes: &mut [u8], bit: u64, at: u32, nibble: u8, bits_by: BitO
         ByteOrder::Big,
         bits_by,
     )
+}
+
+// A whole number of 8, 16, 32 or 64 bits from a byte on. Under the least significant bit first it is little endian.
+fn put_word(
+    bytes: &mut [u8],
+    first: usize,
+    len: u32,
+    value: u64,
+    bytes_by: ByteOrder,
+    bits_by: BitOrder,
+)
+    requires word { IsWord len }
+    requires room { 8 * first + len ≤ 8 * length bytes.old }
+    requires fits { value < 2 ^ len }
+    ensures { Puts bytes_by bits_by bytes.old bytes.new (8 * first) len value }
+{
+    match bits_by {
+        BitOrder::MostFirst => store(bytes, first, len, value, bytes_by),
+        BitOrder::LeastFirst => store(bytes, first, len, value, ByteOrder::Little),
+    }
 }
 
 // From bit `skip` of byte `first` on.

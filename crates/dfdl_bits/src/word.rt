@@ -1,6 +1,7 @@
 // Numbers of two, four and eight whole bytes, and the bits of a word of 64.
-ghost use Rattle.std.specs.Prelude.{ℕ, List, ◌≡◌, ◌+◌, ◌*◌, ◌/◌, ◌%◌, ◌^◌, ◌<◌, ◌≤◌, length};
-ghost use Rattle.dfdl_bits.specs.Bits.{number_of};
+ghost use Rattle.std.specs.Prelude.{ℕ, List, ◌⊎◌, ◌++◌, take, drop, ◌≡◌, ◌↔◌, IsTrue, ◌+◌, ◌*◌, ◌/◌, ◌%◌, ◌^◌, ◌<◌, ◌≤◌, length};
+ghost use Rattle.dfdl_bits.specs.Bits.{number_of, Puts};
+ghost use Rattle.dfdl_bits.specs.Words.{IsWord};
 ghost use Rattle.dfdl_forms.specs.declared.order.BitOrder.TheVariants.{MostFirst};
 ghost use Rattle.dfdl_forms.specs.declared.order.ByteOrder.TheVariants.{Big, Little};
 
@@ -91,4 +92,64 @@ pub(crate) fn regrouped(number: u64, len: u32) -> u64
     }
     let last = u64::from(bytes[groups as usize] >> (8 - rest));
     word | last << (8 * groups)
+}
+
+/// Whether so many bits are a whole number of 8, 16, 32 or 64 bits.
+pub(crate) fn is_word(len: u32) -> bool
+    ensures { IsTrue result ↔ IsWord len }
+{
+    matches!(len, 8 | 16 | 32 | 64)
+}
+
+// Writes a whole number of so many bits from a byte on.
+pub(crate) fn store(bytes: &mut [u8], first: usize, len: u32, value: u64, order: ByteOrder)
+    requires word { IsWord len }
+    requires room { 8 * first + len ≤ 8 * length bytes.old }
+    requires fits { value < 2 ^ len }
+    ensures { Puts order MostFirst bytes.old bytes.new (8 * first) len value }
+{
+    match len {
+        8 => write_at(bytes, first, &[value as u8]),
+        16 => store_16(bytes, first, value as u16, order),
+        32 => store_32(bytes, first, value as u32, order),
+        _ => store_64(bytes, first, value, order),
+    }
+}
+
+fn store_16(bytes: &mut [u8], first: usize, value: u16, order: ByteOrder)
+    requires { first + 2 ≤ length bytes.old }
+    ensures { Puts order MostFirst bytes.old bytes.new (8 * first) 16 value }
+{
+    match order {
+        ByteOrder::Big => write_at(bytes, first, &value.to_be_bytes()),
+        ByteOrder::Little => write_at(bytes, first, &value.to_le_bytes()),
+    }
+}
+
+fn store_32(bytes: &mut [u8], first: usize, value: u32, order: ByteOrder)
+    requires { first + 4 ≤ length bytes.old }
+    ensures { Puts order MostFirst bytes.old bytes.new (8 * first) 32 value }
+{
+    match order {
+        ByteOrder::Big => write_at(bytes, first, &value.to_be_bytes()),
+        ByteOrder::Little => write_at(bytes, first, &value.to_le_bytes()),
+    }
+}
+
+fn store_64(bytes: &mut [u8], first: usize, value: u64, order: ByteOrder)
+    requires { first + 8 ≤ length bytes.old }
+    ensures { Puts order MostFirst bytes.old bytes.new (8 * first) 64 value }
+{
+    match order {
+        ByteOrder::Big => write_at(bytes, first, &value.to_be_bytes()),
+        ByteOrder::Little => write_at(bytes, first, &value.to_le_bytes()),
+    }
+}
+
+// Writes a piece over the bytes from a place on.
+fn write_at(bytes: &mut [u8], first: usize, piece: &[u8])
+    requires { first + length piece.now ≤ length bytes.old }
+    ensures { bytes.new ≡ take first bytes.old ++ piece.now ++ drop (first + length piece.now) bytes.old }
+{
+    bytes[first..first + piece.len()].copy_from_slice(piece);
 }

@@ -1,13 +1,6 @@
-use Rattle.std.proofs.Common.{◌≡◌, ◌+◌, ◌*◌, ◌/◌, ◌%◌, ◌^◌, ◌<◌, ◌∙◌, arith}
-use Rattle.dfdl_bits.proofs.Numbers.{number_of-none}
+use Rattle.std.proofs.Common.{◌≡◌, ◌+◌, ◌*◌, ◌/◌, ◌%◌, arith}
 use Rattle.dfdl_bits.proofs.Putting.{range_stays}
 use Rattle.dfdl_bits.proofs.put.put_number.Goals as goal
-
-pub returns-then-len-eq0-clause-number : goal.returns-then-len-eq0-clause-number
-returns-then-len-eq0-clause-number c =
-    let none : c.args.len ≡ 0 = omega arith in
-    let below : c.args.value < 2 ^ 0 = rw none at c.requires.fits in
-    rw none (number_of-none c.args.bytes.now c.args.bit c.args.bytes_by c.args.bits_by ∙ omega arith)
 
 pub returns-clause-apart : goal.returns-clause-apart
 returns-clause-apart c =

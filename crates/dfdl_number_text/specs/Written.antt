@@ -1,5 +1,5 @@
 -- What the parts of the unparser answer.
-use Rattle.std.specs.Prelude.{◌≡◌, ℕ, ◌+◌, ◌-◌, ◌*◌, ◌^◌, ◌%◌, ◌<◌, ◌≤◌, ◌==◌, ◌&&◌, not, nat_lt, if◌then◌else◌, List, [], ◌∷◌, ◌++◌, length, take, drop, map, Option, Some, None, Result, Ok, Err, unsigned_abs}
+use Rattle.std.specs.Prelude.{◌≡◌, ℕ, ◌+◌, ◌-◌, ◌*◌, ◌^◌, ◌/◌, ◌%◌, ◌<◌, ◌≤◌, ◌==◌, ◌&&◌, not, nat_lt, if◌then◌else◌, List, [], ◌∷◌, ◌++◌, length, take, drop, map, Option, Some, None, Result, Ok, Err, unsigned_abs}
 use Rattle.dfdl_decimal.specs.Decimal.{DecimalNumber}
 use Rattle.dfdl_forms.specs.declared.fault.NoFit.{NoFit}
 use Rattle.dfdl_number_text.specs.Digits.{digits_at, digit_character}
@@ -43,6 +43,10 @@ IsPut before at characters after = after ≡ take at before ++ (characters ++ dr
 -- the separator behind a digit that has so many digits behind it, where a group ends there
 abbrev pub separator_behind : ℕ → ℕ → ℕ → List ℕ
 separator_behind separator group behind = if not (group == 0) && (nat_lt 0 behind && (behind % group == 0)) then separator ∷ [] else []
+
+-- how many separators stand between so many digits in groups
+abbrev pub separators_between : ℕ → ℕ → ℕ
+separators_between count group = if group == 0 then 0 else (count - 1) / group
 
 -- the characters of the last digits of a number in a base, in groups
 abbrev pub digit_text : Groups → ℕ → ℕ → ℕ → List ℕ

@@ -2,7 +2,9 @@
 ghost use Rattle.std.specs.Prelude.{◌≡◌, ℕ, max, ◌+◌, ◌-◌, ◌*◌, ◌/◌, ◌%◌, ◌^◌, ◌==◌, ◌&&◌, ◌<◌, ◌≤◌, not, nat_lt, [], ◌∷◌, map, length, if◌then◌else◌};
 ghost use Rattle.dfdl_number_text.specs.Digits.{digits_at, digit_count, digit_character};
 ghost use Rattle.dfdl_number_text.specs.Writing.{fraction_digits, grouped};
-ghost use Rattle.dfdl_number_text.specs.Written.{HasDigits, IsPut, digit_text, separator_behind};
+ghost use Rattle.dfdl_number_text.specs.Written.{HasDigits, IsPut, digit_text, separator_behind, separators_between};
+
+use crate::division::last_digit;
 
 /// The last digits of a number in a base.
 #[derive(Clone, Copy)]
@@ -21,12 +23,10 @@ pub struct Groups {
 
 /// The digits of a number in a base, at least so many.
 pub fn digits_of(base: u8, least: u16, number: u128) -> Digits
-    requires base { 1 < base }
-    requires least { 0 < least → base ^ (least - 1) < 2 ^ 128 }
+    requires { 1 < base }
     ensures base { result.base ≡ base }
     ensures number { result.number ≡ number }
     ensures count { (most : ℕ) → number < base ^ most → result.count ≡ max least (digit_count base most number) }
-    ensures power { 0 < result.count → base ^ (result.count - 1) < 2 ^ 128 }
 {
     let count = least.max(digit_count(base, number));
     Digits {
@@ -45,7 +45,7 @@ fn digit_count(base: u8, number: u128) -> u16
     let mut rest = number;
     let mut count = 0;
     while rest > 0 {
-        rest /= u128::from(base);
+        rest = last_digit(rest, base).front;
         count += 1;
     }
     count
@@ -60,8 +60,12 @@ pub fn without_zeros(least: u16, places: u16, fraction: u128) -> Digits
 {
     let mut count = places;
     let mut number = fraction;
-    while count > least && number % 10 == 0 {
-        number /= 10;
+    while count > least {
+        let last = last_digit(number, 10);
+        if last.digit != 0 {
+            break;
+        }
+        number = last.front;
         count -= 1;
     }
     Digits {
@@ -75,23 +79,19 @@ pub fn without_zeros(least: u16, places: u16, fraction: u128) -> Digits
 pub fn put_digits(into: &mut [char], at: usize, digits: Digits, groups: Groups) -> usize
     requires base { 1 < digits.base }
     requires most { digits.base ≤ 36 }
-    requires power { 0 < digits.count → digits.base ^ (digits.count - 1) < 2 ^ 128 }
     requires room { at + length (digit_text groups digits.base digits.count digits.number) ≤ length into.old }
     ensures place { result ≡ at + length (digit_text groups digits.base digits.count digits.number) }
     ensures put { IsPut into.old at (digit_text groups digits.base digits.count digits.number) into.new }
 {
-    let mut place = at;
-    for behind in (0..digits.count).rev() {
-        place = put_digit(into, place, digit_at(digits, behind), behind, groups);
-    }
-    place
+    let end = at + usize::from(digits.count) + separator_count(digits.count, groups.size);
+    put_in_front(into, end, digits, groups);
+    end
 }
 
 /// Puts digits without groups.
 pub fn put_plain(into: &mut [char], at: usize, digits: Digits) -> usize
     requires base { 1 < digits.base }
     requires most { digits.base ≤ 36 }
-    requires power { 0 < digits.count → digits.base ^ (digits.count - 1) < 2 ^ 128 }
     requires room { at + digits.count ≤ length into.old }
     ensures place { result ≡ at + digits.count }
     ensures put { IsPut into.old at (map digit_character (digits_at digits.base digits.count digits.number)) into.new }
@@ -103,31 +103,52 @@ pub fn put_plain(into: &mut [char], at: usize, digits: Digits) -> usize
     put_digits(into, at, digits, groups)
 }
 
-// The digit that has so many behind it.
-fn digit_at(digits: Digits, behind: u16) -> u8
-    requires base { 1 < digits.base }
-    requires power { 0 < digits.count → digits.base ^ (digits.count - 1) < 2 ^ 128 }
-    requires within { behind < digits.count }
-    ensures digit { result ≡ digits.number / digits.base ^ behind % digits.base }
-    ensures small { result < digits.base }
+// How many separators stand between so many digits in groups.
+fn separator_count(count: u16, size: u16) -> usize
+    ensures { result ≡ separators_between count size }
 {
-    let base = u128::from(digits.base);
-    (digits.number / base.pow(u32::from(behind)) % base) as u8
+    if size == 0 {
+        0
+    } else {
+        usize::from(count.saturating_sub(1) / size)
+    }
 }
 
-// Puts a digit with so many behind it, and a separator where a group ends.
-fn put_digit(into: &mut [char], at: usize, digit: u8, behind: u16, groups: Groups) -> usize
-    requires digit { digit < 36 }
-    requires room { at + length (digit_character digit ∷ separator_behind groups.separator groups.size behind) ≤ length into.old }
-    ensures place { result ≡ at + length (digit_character digit ∷ separator_behind groups.separator groups.size behind) }
-    ensures put { IsPut into.old at (digit_character digit ∷ separator_behind groups.separator groups.size behind) into.new }
+// Puts digits in front of a place, the last one first.
+fn put_in_front(into: &mut [char], end: usize, digits: Digits, groups: Groups)
+    requires base { 1 < digits.base }
+    requires most { digits.base ≤ 36 }
+    requires room { length (digit_text groups digits.base digits.count digits.number) ≤ end }
+    requires inside { end ≤ length into.old }
+    ensures {
+        IsPut into.old (end - length (digit_text groups digits.base digits.count digits.number))
+            (digit_text groups digits.base digits.count digits.number) into.new
+    }
 {
-    into[at] = digit_character(digit);
+    let mut place = end;
+    let mut rest = digits.number;
+    for behind in 0..digits.count {
+        let last = last_digit(rest, digits.base);
+        place = put_digit(into, place, last.digit, behind, groups);
+        rest = last.front;
+    }
+}
+
+// Puts a digit with so many behind it in front of a place, and before that a separator where a group ends.
+fn put_digit(into: &mut [char], end: usize, digit: u8, behind: u16, groups: Groups) -> usize
+    requires digit { digit < 36 }
+    requires room { length (digit_character digit ∷ separator_behind groups.separator groups.size behind) ≤ end }
+    requires inside { end ≤ length into.old }
+    ensures place { result + length (digit_character digit ∷ separator_behind groups.separator groups.size behind) ≡ end }
+    ensures put { IsPut into.old result (digit_character digit ∷ separator_behind groups.separator groups.size behind) into.new }
+{
     if ends_group(groups.size, behind) {
-        into[at + 1] = groups.separator;
-        at + 2
+        into[end - 1] = groups.separator;
+        into[end - 2] = digit_character(digit);
+        end - 2
     } else {
-        at + 1
+        into[end - 1] = digit_character(digit);
+        end - 1
     }
 }
 

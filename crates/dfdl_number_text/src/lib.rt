@@ -8,6 +8,7 @@
 mod body;
 mod body_digits;
 mod digits;
+mod division;
 pub mod fault;
 mod read_affix;
 mod read_base;

@@ -14,7 +14,7 @@ loop-rest-preserved c =
     let least : base ^ c.loop-rest.count ≤ c.args.number = quotient_some base c.args.number c.loop-rest.count c.requires (omega (arith, c.loop-rest.invariant.rest, c.loop-rest-test.true)) in
     let here : c.loop-rest.count + 1 - 1 ≡ c.loop-rest.count = omega arith in
     record {
-      rest = rw c.from-rest.ensures (ap (λ (n : ℕ). n / base) c.loop-rest.invariant.rest ∙ next_quotient base c.args.number c.loop-rest.count);
+      rest = c.last_digit-rest.ensures.front ∙ (ap (λ (n : ℕ). n / base) c.loop-rest.invariant.rest ∙ next_quotient base c.args.number c.loop-rest.count);
       above = λ some. rw here least;
       few = omega (arith, digits_within base c.args.number c.loop-rest.count c.requires c.ranges.number.fits least);
     }

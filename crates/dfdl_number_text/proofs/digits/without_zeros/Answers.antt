@@ -1,4 +1,4 @@
-use Rattle.std.proofs.Common.{◌≡◌, ◌-◌, ◌≤◌, ℕ, suc, map, ap, ◌∙◌, arith}
+use Rattle.std.proofs.Common.{◌≡◌, ◌-◌, ◌≤◌, ℕ, suc, map, ap, sym, ◌∙◌, arith}
 use Rattle.dfdl_number_text.specs.Writing.{fraction_digits}
 use Rattle.dfdl_number_text.specs.Digits.{digits_at, digit_character}
 use Rattle.dfdl_number_text.proofs.WriteLists.{zero_off, none_off, least_digits}
@@ -12,17 +12,18 @@ loop-count-preserved c =
     record {
       digits = c.loop-count.invariant.digits
           ∙ ap (λ (k : ℕ). fraction_digits c.args.least k c.loop-count.number) here
-          ∙ zero_off c.args.least before c.loop-count.number fits c.if-number-eq0.true;
+          ∙ zero_off c.args.least before c.loop-count.number fits (sym c.last_digit-last.ensures.digit ∙ c.if-last-ne0.false)
+          ∙ ap (fraction_digits c.args.least before) (sym c.last_digit-last.ensures.front);
       least = fits;
       most = omega (arith, c.loop-count.invariant.most);
     }
 
-pub returns-else-number-eq0-clause-digits : goal.returns-else-number-eq0-clause-digits
-returns-else-number-eq0-clause-digits c =
+pub returns-then-last-ne0-clause-digits : goal.returns-then-last-ne0-clause-digits
+returns-then-last-ne0-clause-digits c =
     let before : ℕ = c.loop-count.count - 1 in
     let here : c.loop-count.count ≡ suc before = omega arith in
     let all : fraction_digits c.args.least c.loop-count.count c.loop-count.number ≡ map digit_character (digits_at 10 c.loop-count.count c.loop-count.number) =
-    rw here (none_off c.args.least before c.loop-count.number (omega arith) c.if-number-eq0.false) in
+    rw here (none_off c.args.least before c.loop-count.number (omega arith) (λ none. c.if-last-ne0.true (c.last_digit-last.ensures.digit ∙ none))) in
     c.loop-count.invariant.digits ∙ all
 
 pub returns-after-loop-count-clause-digits : goal.returns-after-loop-count-clause-digits

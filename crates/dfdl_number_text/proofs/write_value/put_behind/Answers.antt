@@ -4,9 +4,6 @@ use Rattle.dfdl_number_text.proofs.DigitLemmas.{length-characters}
 use Rattle.dfdl_number_text.proofs.WriteLists.{put_none}
 use Rattle.dfdl_number_text.proofs.write_value.put_behind.Goals as goal
 
-pub put_plain-requires-clause-power : goal.put_plain-requires-clause-power
-put_plain-requires-clause-power c = λ some. rw c.requires.base (power_small (c.args.fraction.count - 1) (omega (arith, c.requires.digits)))
-
 pub returns-in-Absent-clause-put : goal.returns-in-Absent-clause-put
 returns-in-Absent-clause-put c = rw c.in-Absent.is (put_none c.args.into.now c.args.at)
 

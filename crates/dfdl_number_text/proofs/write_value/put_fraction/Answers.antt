@@ -27,9 +27,6 @@ returns-then-is_left_away-clause-put c =
     let d = c.args.digits in
     rw (nothing c.args.places c.args.decimal d.count d.number _ c.is_left_away.ensures c.if-is_left_away.true) (put_none c.args.into.now c.args.at)
 
-pub put_plain-requires-clause-power : goal.put_plain-requires-clause-power
-put_plain-requires-clause-power c = λ some. rw c.requires.base (power_small (c.args.digits.count - 1) (omega (arith, c.requires.few)))
-
 pub returns-clause-place : goal.returns-clause-place
 returns-clause-place c =
     let d = c.args.digits in

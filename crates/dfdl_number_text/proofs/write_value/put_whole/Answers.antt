@@ -3,9 +3,6 @@ use Rattle.dfdl_number_text.proofs.RoundingLemmas.{power_small}
 use Rattle.dfdl_number_text.proofs.WriteLemmas.{integer_text, integer_long}
 use Rattle.dfdl_number_text.proofs.write_value.put_whole.Goals as goal
 
-pub digits_of-requires-clause-least : goal.digits_of-requires-clause-least
-digits_of-requires-clause-least c = λ some. power_small (c.args.least - 1) (omega (arith, c.requires.least))
-
 pub put_digits-requires-clause-room : goal.put_digits-requires-clause-room
 put_digits-requires-clause-room c =
     let digits = c.digits_of.result in

@@ -81,8 +81,8 @@ pub body_is : (form : NumberForm) (pattern : NumberPattern) (whole fraction leas
     → written_fraction pattern pattern.point (whole * 10 ^ places_of pattern pattern.point + fraction) ≡ map digit_character (digits_at 10 count n)
     → least ≡ least_digits pattern count
     → body_text form pattern (whole * 10 ^ places_of pattern pattern.point + fraction)
-        ≡ grouped form.grouping pattern.group_size (integer_digits least whole)
-        ++ behind_integer form pattern pattern.point (map digit_character (digits_at 10 count n))
+    ≡ grouped form.grouping pattern.group_size (integer_digits least whole)
+    ++ behind_integer form pattern pattern.point (map digit_character (digits_at 10 count n))
 body_is form pattern whole fraction least count n small told is =
     rw (told, integer_of_size whole (places_of pattern pattern.point) fraction small, length-characters 10 count n, is) refl
 

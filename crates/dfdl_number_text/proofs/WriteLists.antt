@@ -62,6 +62,7 @@ more_separators group k some = elim (cases_lt (k % group + 1) group) [
       let test : (suc k % group == 0) ≡ true = eq-eqb (suc k % group) 0 rest in
       quotient ∙ rw test refl
 ]
+
 pub grouped_more : (separator group digit : ℕ) (rest : List ℕ)
     → grouped separator group (digit ∷ rest) ≡ (digit ∷ separator_behind separator group (length rest)) ++ grouped separator group rest
 grouped_more separator group digit rest = by_test (not (group == 0) && (nat_lt 0 (length rest) && (length rest % group == 0)))

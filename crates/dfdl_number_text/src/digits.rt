@@ -120,10 +120,8 @@ fn put_in_front(into: &mut [char], end: usize, digits: Digits, groups: Groups)
     requires most { digits.base ≤ 36 }
     requires room { length (digit_text groups digits.base digits.count digits.number) ≤ end }
     requires inside { end ≤ length into.old }
-    ensures {
-        IsPut into.old (end - length (digit_text groups digits.base digits.count digits.number))
-            (digit_text groups digits.base digits.count digits.number) into.new
-    }
+    ensures { IsPut into.old (end - length (digit_text groups digits.base digits.count digits.number))
+        (digit_text groups digits.base digits.count digits.number) into.new }
 {
     let mut place = end;
     let mut rest = digits.number;

@@ -11,10 +11,8 @@ fn is_same(part: &[char], affix: &[char]) -> bool
 
 /// What stands between a prefix and a suffix, if the text begins and ends with them.
 pub fn between<'a>(text: &'a [char], prefix: &[char], suffix: &[char]) -> Option<&'a [char]>
-    ensures {
-        MatchOption result (between_of prefix.now suffix.now text.now ≡ None)
-            (λ inner. between_of prefix.now suffix.now text.now ≡ Some inner.now)
-    }
+    ensures { MatchOption result (between_of prefix.now suffix.now text.now ≡ None)
+        (λ inner. between_of prefix.now suffix.now text.now ≡ Some inner.now) }
 {
     let front = prefix.len();
     let back = suffix.len();

@@ -4,11 +4,7 @@ use dfdl_number_pattern::read_pattern;
 use std::alloc::Global;
 use std::test::Fail;
 
-fn form(
-    base: u8,
-    pattern: Option<NumberPattern>,
-    rounding: Rounding,
-) -> Result<NumberForm, Fail> {
+fn form(base: u8, pattern: Option<NumberPattern>, rounding: Rounding) -> Result<NumberForm, Fail> {
     Ok(NumberForm::new(base, pattern, '.', ',', rounding).ok_or("no form")?)
 }
 

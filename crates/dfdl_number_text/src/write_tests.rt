@@ -1,9 +1,9 @@
 // Texts of the standard's number patterns, and the roundings that Java's documents list.
 use crate::test_forms::{based, patterned};
 use crate::write;
+use dfdl_decimal::shortest;
 use dfdl_forms::{NumberForm, Rounding};
 use dfdl_value::Value;
-use dfdl_decimal::shortest;
 use std::alloc::{AllocError, Global};
 use std::test::Fail;
 
@@ -105,11 +105,7 @@ fn put(
     }
 }
 
-fn text_of(
-    alloc: Global,
-    form: &NumberForm,
-    value: &Value,
-) -> Result<String, AllocError> {
+fn text_of(alloc: Global, form: &NumberForm, value: &Value) -> Result<String, AllocError> {
     let mut text = String::new(alloc);
     put(alloc, &mut text, form, value)?;
     Ok(text)

@@ -210,10 +210,8 @@ fn put_body(
 fn fraction_of(pattern: &NumberPattern, fraction: u128) -> Digits
     ensures base { result.base ≡ 10 }
     ensures few { result.count ≤ 38 }
-    ensures digits {
-        (whole : ℕ) → written_fraction pattern.now pattern.now.point (whole * 10 ^ places_of pattern.now pattern.now.point + fraction)
-            ≡ map digit_character (digits_at 10 result.count result.number)
-    }
+    ensures digits { (whole : ℕ) → written_fraction pattern.now pattern.now.point (whole * 10 ^ places_of pattern.now pattern.now.point + fraction)
+        ≡ map digit_character (digits_at 10 result.count result.number) }
 {
     match pattern.point {
         Point::Absent => Digits {
@@ -268,13 +266,9 @@ fn put_behind(
     requires base { fraction.base ≡ 10 }
     requires digits { fraction.count ≤ 38 }
     requires room { at + 39 ≤ length into.old }
-    ensures place {
-        result ≡ at + length (behind_integer form.now pattern.now pattern.now.point (map digit_character (digits_at 10 fraction.count fraction.number)))
-    }
+    ensures place { result ≡ at + length (behind_integer form.now pattern.now pattern.now.point (map digit_character (digits_at 10 fraction.count fraction.number))) }
     ensures few { result ≤ at + 39 }
-    ensures put {
-        IsPut into.old at (behind_integer form.now pattern.now pattern.now.point (map digit_character (digits_at 10 fraction.count fraction.number))) into.new
-    }
+    ensures put { IsPut into.old at (behind_integer form.now pattern.now pattern.now.point (map digit_character (digits_at 10 fraction.count fraction.number))) into.new }
 {
     match pattern.point {
         Point::Absent => at,
@@ -291,13 +285,7 @@ fn is_left_away(places: u16, count: u16) -> bool
 }
 
 // Puts fraction digits behind the decimal separator.
-fn put_fraction(
-    into: &mut [char],
-    at: usize,
-    places: u16,
-    decimal: char,
-    digits: Digits,
-) -> usize
+fn put_fraction(into: &mut [char], at: usize, places: u16, decimal: char, digits: Digits) -> usize
     requires base { digits.base ≡ 10 }
     requires few { digits.count ≤ 38 }
     requires room { at + 39 ≤ length into.old }

@@ -1,7 +1,6 @@
 use Rattle.std.proofs.Common.{◌≡◌, ℕ, ◌-◌, ◌&&◌, not, nat_eq, Bool, true, false, List, [], ◌∷◌, ◌++◌, map, length, ap, sym, ◌∙◌, if◌then◌else◌, arith}
 use Rattle.dfdl_number_text.specs.Digits.{digits_at, digit_character}
 use Rattle.dfdl_number_text.specs.Writing.{with_separator}
-use Rattle.dfdl_number_text.proofs.RoundingLemmas.{power_small}
 use Rattle.dfdl_number_text.proofs.DigitLemmas.{length-characters}
 use Rattle.dfdl_number_text.proofs.WriteLists.{put_none, put_joined}
 use Rattle.dfdl_number_text.proofs.WriteLemmas.{fraction_is}

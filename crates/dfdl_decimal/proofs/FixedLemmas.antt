@@ -48,9 +48,10 @@ shortest_from-stops s z other =
     ap (λ t. if t then shortest_from s (int_div z (pos 10)) else record { mantissa = z; scale = suc s }) (ne_eqb _ _ other)
 
 -- zero has no digit after the point
-pub shortest_from-nothing : (s : ℕ) → shortest_from s (pos 0) ≡ record { mantissa = pos 0; scale = 0 }
-shortest_from-nothing zero = refl
-shortest_from-nothing (suc s) = shortest_from-nothing s
+pub shortest_from-none : (b : Bool) (s : ℕ) → shortest_from s (with_sign b 0) ≡ record { mantissa = with_sign b 0; scale = 0 }
+shortest_from-none b zero = refl
+shortest_from-none true (suc s) = shortest_from-none true s
+shortest_from-none false (suc s) = shortest_from-none false s
 
 pub not_round : (n d : ℕ) → 0 < d → d < 10 → (n * 10 + d) % 10 ≢ 0
 not_round n d some less = λ e. omega arith
@@ -67,10 +68,3 @@ fixed_of-fixed d fixed =
     let small : is_small d ≡ true = ap (λ b. b && nat_lt d.scale 256) (lt-ltb _ _ fixed.digits) ∙ lt-ltb _ _ fixed.places in
     ap (λ e. if is_small e then Some e else None) (shortest_from-fixed d.mantissa d.scale fixed.shortest)
     ∙ ap (λ b. if b then Some d else None) small
-
-pub fixed_of-nothing : (b : Bool) (s n : ℕ) → n ≡ 0 → Some (record { mantissa = pos 0; scale = 0 }) ≡ fixed_of (record { mantissa = with_sign b n; scale = s })
-fixed_of-nothing b s n none = sym (ap (λ d. if is_small d then Some d else None) (ap (λ m. shortest_from s (with_sign b m)) none ∙ ap (shortest_from s) (no_sign b) ∙ shortest_from-nothing s))
-  where
-    no_sign : (b : Bool) → with_sign b 0 ≡ pos 0
-    no_sign true = refl
-    no_sign false = refl

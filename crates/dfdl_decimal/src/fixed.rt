@@ -1,6 +1,6 @@
 // Decimal numbers of at most 38 digits, of which at most 255 are fraction digits. Each number has one form.
-ghost use Rattle.std.specs.Prelude.{◌≡◌, ◌^◌, ◌<◌};
-ghost use Rattle.dfdl_decimal.specs.Decimal.{fixed_of, with_sign};
+ghost use Rattle.std.specs.Prelude.{◌≡◌, ◌≢◌, ◌^◌, ◌%◌, ◌<◌, Bool};
+ghost use Rattle.dfdl_decimal.specs.Decimal.{fixed_of, shortest_from, with_sign};
 
 use std::marker::Model;
 use thiserror::Error;
@@ -97,31 +97,68 @@ fn signed(negative: bool, magnitude: u128) -> i128
     }
 }
 
-/// The form that `Fixed` has for a number that isn't zero: at most 38 zeros are dropped.
-fn some_shortest(negative: bool, magnitude: u128, scale: u32) -> Option<Fixed>
-    ensures { result ≡ fixed_of (record { mantissa = with_sign negative magnitude; scale = scale }) }
+/// The digits of a number, of which `scale` stand behind the point.
+#[derive(Clone, Copy, Debug, PartialEq, Eq)]
+pub struct Digits {
+    pub magnitude: u128,
+    pub scale: usize,
+}
+
+// At most 38 zeros are dropped.
+fn without_some_zeros(digits: Digits) -> Digits
+    requires { 0 < digits.magnitude }
+    ensures same { (b : Bool) → shortest_from result.scale (with_sign b result.magnitude)
+        ≡ shortest_from digits.scale (with_sign b digits.magnitude) }
+    ensures last { 0 < result.scale → result.magnitude % 10 ≢ 0 }
 {
-    let mut magnitude = magnitude;
-    let mut scale = scale;
+    let mut magnitude = digits.magnitude;
+    let mut scale = digits.scale;
     while scale > 0 && magnitude % 10 == 0 {
         magnitude /= 10;
         scale -= 1;
     }
-    if magnitude >= DIGITS {
+    Digits { magnitude, scale }
+}
+
+/// The digits without the zeros at the end of those behind the point. It takes no more than 38 steps.
+pub fn without_zeros(digits: Digits) -> Digits
+    ensures same { (b : Bool) → shortest_from result.scale (with_sign b result.magnitude)
+        ≡ shortest_from digits.scale (with_sign b digits.magnitude) }
+    ensures last { 0 < result.scale → result.magnitude % 10 ≢ 0 }
+{
+    if digits.magnitude == 0 {
+        return Digits {
+            magnitude: 0,
+            scale: 0,
+        };
+    }
+    without_some_zeros(digits)
+}
+
+/// The form that `Fixed` has for digits whose last is no zero where some stand behind the point.
+fn held(negative: bool, digits: Digits) -> Option<Fixed>
+    requires { 0 < digits.scale → digits.magnitude % 10 ≢ 0 }
+    ensures { result ≡ fixed_of (record { mantissa = with_sign negative digits.magnitude; scale = digits.scale }) }
+{
+    if digits.magnitude >= DIGITS {
         return None;
     }
-    if scale > 255 {
+    if digits.scale > 255 {
         return None;
     }
-    Some(Fixed::new(signed(negative, magnitude), scale as u8))
+    Some(Fixed::new(
+        signed(negative, digits.magnitude),
+        digits.scale as u8,
+    ))
 }
 
 /// The form that `Fixed` has for a number, if it has one.
 pub fn shortest(negative: bool, magnitude: u128, scale: u32) -> Option<Fixed>
     ensures { result ≡ fixed_of (record { mantissa = with_sign negative magnitude; scale = scale }) }
 {
-    if magnitude == 0 {
-        return Some(Fixed::new(0, 0));
-    }
-    some_shortest(negative, magnitude, scale)
+    let digits = Digits {
+        magnitude,
+        scale: scale as usize,
+    };
+    held(negative, without_zeros(digits))
 }

@@ -12,7 +12,7 @@ pub mod laws;
 mod product;
 mod quotient;
 
-pub use fixed::{DivFault, Fixed, Overflow, shortest};
+pub use fixed::{Digits, DivFault, Fixed, Overflow, shortest, without_zeros};
 
 #[cfg(test)]
 mod tests;

@@ -6,7 +6,7 @@ use Rattle.serde_json.specs.Data.{Data, null, boolean, number, string, array, ob
 use Rattle.serde_json.specs.Find.{get_member}
 use Rattle.dfdl_forms.specs.declared.simple.Simple.{Simple}
 use Rattle.dfdl_value.specs.declared.value.Value.{Value}
-use Rattle.dfdl_value.specs.Reading.{Reading, reading_of}
+use Rattle.dfdl_value.specs.ReadValues.{Reading, reading_of}
 use Rattle.dfdl_report.specs.Paths.{whole_path, root_path, field_path}
 use Rattle.dfdl_terms.specs.Record.{Field, Record}
 use Rattle.dfdl_report.specs.declared.cause.InfosetCause.{InfosetCause}

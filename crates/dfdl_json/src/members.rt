@@ -8,7 +8,7 @@ ghost use Rattle.std.specs.Ordering.{nat_cmp};
 ghost use Rattle.serde_json.specs.Find.{get_member};
 ghost use Rattle.serde_json.specs.View.{view, members_view};
 ghost use Rattle.dfdl_value.specs.Types.{IsOfType};
-ghost use Rattle.dfdl_value.specs.Reading.{reading_of};
+ghost use Rattle.dfdl_value.specs.ReadValues.{reading_of};
 ghost use Rattle.dfdl_terms.specs.Record.{all_of, field_at, fields_at};
 ghost use Rattle.dfdl_json.specs.Infosets.{content_in, value_if, value_in};
 ghost use Rattle.dfdl_json.specs.Names.{HasNames};

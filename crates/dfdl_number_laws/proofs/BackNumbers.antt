@@ -12,12 +12,12 @@ use Rattle.std.proofs.lemmas.List.Folds.{list_all-append}
 use Rattle.std.proofs.lemmas.Nat.{div-add-mod'}
 use Rattle.dfdl_decimal.specs.Decimal.{DecimalNumber, SameNumber, shortest_from, is_small, with_sign}
 use Rattle.dfdl_value.specs.Numbers.{number_reading, whole_of, whole_if_short}
-use Rattle.dfdl_value.specs.Reading.{signed_reading, unsigned_reading, fixed_reading}
+use Rattle.dfdl_value.specs.ReadValues.{signed_reading, unsigned_reading, fixed_reading}
 use Rattle.dfdl_value.specs.Texts.{is_zero, number_after}
 use Rattle.dfdl_lemmas.specs.Trimmed.{before_rest, without_trailing}
 use Rattle.dfdl_forms.specs.Types.{HasFewBits}
 use Rattle.dfdl_value.specs.Types.{HasForm}
-use Rattle.dfdl_value.specs.declared.read.ReadFault.TheVariants.{PastType}
+use Rattle.dfdl_value.specs.declared.read.NoValue.TheVariants.{PastType}
 use Rattle.dfdl_forms.specs.declared.simple.Form.{Form}
 use Rattle.dfdl_forms.specs.declared.simple.Form.TheVariants.{Signed, Unsigned, Fixed}
 use Rattle.dfdl_value.specs.declared.value.Value.{Value}

@@ -4,7 +4,7 @@ use Rattle.std.proofs.Math.Nat.{le_trans, le_of_mul-le-mul_right, mul-le-mul_lef
 use Rattle.std.proofs.lemmas.Bool.{lt-ltb}
 use Rattle.dfdl_decimal.specs.Decimal.{DecimalNumber, shortest_from, is_small, with_sign}
 use Rattle.dfdl_value.specs.Numbers.{number_reading}
-use Rattle.dfdl_value.specs.Reading.{fixed_reading}
+use Rattle.dfdl_value.specs.ReadValues.{fixed_reading}
 use Rattle.dfdl_value.specs.Types.{HasForm}
 use Rattle.dfdl_forms.specs.declared.simple.Form.{Form}
 use Rattle.dfdl_forms.specs.declared.simple.Form.TheVariants.{Signed, Unsigned, Fixed}

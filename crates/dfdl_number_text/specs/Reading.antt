@@ -3,11 +3,11 @@ use Rattle.std.specs.Prelude.{ℕ, ◌+◌, ◌*◌, ◌&&◌, Bool, true, false
 use Rattle.std.specs.Char.{digit_value}
 use Rattle.std.specs.List.{list_all}
 use Rattle.dfdl_decimal.specs.Decimal.{DecimalNumber}
-use Rattle.dfdl_value.specs.Reading.{Reading}
+use Rattle.dfdl_value.specs.ReadValues.{Reading}
 use Rattle.dfdl_value.specs.Numbers.{number_reading}
 use Rattle.dfdl_forms.specs.Types.{form_of}
-use Rattle.dfdl_value.specs.declared.read.ReadFault.{ReadFault}
-use Rattle.dfdl_value.specs.declared.read.ReadFault.TheVariants.{NotAValue, PastType as PastTypeOfValue, OutOfMemory}
+use Rattle.dfdl_value.specs.declared.read.NoValue.{NoValue}
+use Rattle.dfdl_value.specs.declared.read.NoValue.TheVariants.{NotAValue, PastType as PastTypeOfValue}
 use Rattle.dfdl_forms.specs.declared.simple.Form.{Form}
 use Rattle.dfdl_forms.specs.declared.simple.Form.TheVariants.{Signed, Unsigned}
 use Rattle.dfdl_forms.specs.declared.simple.Simple.{Simple}
@@ -19,10 +19,9 @@ use Rattle.dfdl_number_text.specs.declared.fault.NumberFault.TheVariants.{NotANu
 use Rattle.dfdl_number_text.specs.Body.{between, body_number}
 
 -- the fault of a text number
-abbrev pub fault_of : ReadFault → NumberFault
+abbrev pub fault_of : NoValue → NumberFault
 fault_of NotAValue = NotANumber
 fault_of PastTypeOfValue = PastType
-fault_of OutOfMemory = PastType
 
 -- a value or a fault of a text number
 abbrev pub of_value : Reading → Result Value NumberFault

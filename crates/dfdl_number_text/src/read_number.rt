@@ -6,7 +6,7 @@ ghost use Rattle.dfdl_number_text.specs.Reading.{fault_of, number_if};
 ghost use Rattle.dfdl_number_text.specs.ReadShown.{Shows};
 
 use crate::fault::NumberFault;
-use dfdl_value::{ReadFault, Simple, Value, value_of_number};
+use dfdl_value::{NoValue, Simple, Value, value_of_number};
 
 /// A number without the zeros at the end of its fraction.
 #[derive(Clone, Copy)]
@@ -18,12 +18,12 @@ pub struct Number {
     pub scale: usize,
 }
 
-fn fault(fault: ReadFault) -> NumberFault
+fn fault(fault: NoValue) -> NumberFault
     ensures { result ≡ fault_of fault }
 {
     match fault {
-        ReadFault::NotAValue => NumberFault::NotANumber,
-        ReadFault::PastType | ReadFault::OutOfMemory => NumberFault::PastType,
+        NoValue::NotAValue => NumberFault::NotANumber,
+        NoValue::PastType => NumberFault::PastType,
     }
 }
 

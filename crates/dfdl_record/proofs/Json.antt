@@ -10,7 +10,7 @@ use Rattle.serde_json.specs.Data.{Data, object, string, Members, no_members, mem
 use Rattle.serde_json.specs.Find.{get_member}
 use Rattle.serde_json.proofs.Views.{get_member-put, get_member-put_other}
 use Rattle.dfdl_lemmas.proofs.Bools.{both}
-use Rattle.dfdl_value.specs.Reading.{reading_of}
+use Rattle.dfdl_value.specs.ReadValues.{reading_of}
 use Rattle.dfdl_value.specs.Types.{IsOfType, IsPlain}
 use Rattle.dfdl_forms.specs.declared.simple.Simple.{Simple}
 use Rattle.dfdl_value.specs.Writing.{text_of}

@@ -13,11 +13,11 @@ use Rattle.std.proofs.lemmas.Bool.Decides.{nat_tests}
 use Rattle.std.proofs.Math.Pow.{pow_mono}
 use Rattle.std.proofs.Math.Dec.{T}
 use Rattle.std.proofs.lemmas.Int.{ints}
-use Rattle.dfdl_value.specs.declared.read.ReadFault.TheVariants.{PastType}
+use Rattle.dfdl_value.specs.declared.read.NoValue.TheVariants.{PastType}
 use Rattle.dfdl_forms.specs.declared.simple.Form.TheVariants.{Signed, Unsigned}
 use Rattle.dfdl_value.specs.declared.value.Value.TheVariants.{Int, Uns, Bytes}
 use Rattle.dfdl_value.specs.Types.{HasForm}
-use Rattle.dfdl_value.specs.Reading.{form_reading, signed_reading, unsigned_reading, bytes_reading}
+use Rattle.dfdl_value.specs.ReadValues.{form_reading, signed_reading, unsigned_reading, bytes_reading}
 use Rattle.dfdl_value.specs.Writing.{text_of}
 use Rattle.dfdl_value.proofs.TextLemmas.{integer_of-numeral}
 use Rattle.dfdl_value.specs.Texts.{is_xml_space, trimmed, is_negative, unsigned_part, is_numeral, number_after, number_of, integer_of}

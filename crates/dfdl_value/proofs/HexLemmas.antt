@@ -5,8 +5,8 @@ use Rattle.std.proofs.lemmas.List.Sums.{AllPass-from_list_all, list_all-from_All
 use Rattle.hex.specs.declared.error.FromHexError.{FromHexError}
 use Rattle.hex.specs.Hex.{is_hex_digit, decode_of}
 use Rattle.hex.proofs.HexLemmas.{decode_of-ok, decode_of-digits}
-use Rattle.dfdl_value.specs.declared.read.ReadFault.TheVariants.{NotAValue}
-use Rattle.dfdl_value.specs.Reading.{bytes_reading}
+use Rattle.dfdl_value.specs.declared.read.NoValue.TheVariants.{NotAValue}
+use Rattle.dfdl_value.specs.ReadValues.{bytes_reading}
 
 bytes_reading-bad : (r : Result (List ℕ) FromHexError) → ((bytes : List ℕ) → r ≡ Ok bytes → ⊥) → bytes_reading r ≡ Err NotAValue
 bytes_reading-bad (Ok bytes) bad = absurd (bad bytes refl)

@@ -2,22 +2,17 @@
 use Rattle.std.proofs.Common.{◌≡◌, ◌≢◌, ℕ, zero, suc, ◌%◌, ◌^◌, ◌<◌, ◌≤◌, ◌==◌, Bool, true, false, ◌&&◌, nat_lt, if◌then◌else◌, refl, sym, ap, ◌∙◌, arith, unsigned_abs, Option, Some, None}
 use Rattle.std.proofs.lemmas.Bool.{le-ltb, eqb-true, eqb-false}
 use Rattle.std.proofs.Math.Bool.{and-false}
+use Rattle.dfdl_forms.specs.declared.simple.Form.{Form}
 use Rattle.dfdl_forms.specs.declared.simple.Form.TheVariants.{Signed, Unsigned, Fixed}
 use Rattle.dfdl_decimal.specs.Decimal.{DecimalNumber, shortest_from, is_small, fixed_of, with_sign}
 use Rattle.dfdl_value.specs.Numbers.{whole_if_short, number_reading}
-use Rattle.dfdl_value.specs.Reading.{signed_reading, unsigned_reading, fixed_reading}
+use Rattle.dfdl_value.specs.ReadValues.{signed_reading, unsigned_reading, fixed_reading}
 use Rattle.dfdl_decimal.proofs.FixedLemmas.{unsigned_abs-with_sign, shortest_from-stops}
 
 -- a number without a zero at its end is in its shortest form
 shortest_from-last : (b : Bool) (n s : ℕ) → (0 < s → n % 10 ≢ 0) → shortest_from s (with_sign b n) ≡ record { mantissa = with_sign b n; scale = s }
 shortest_from-last b n zero last = refl
 shortest_from-last b n (suc s) last = shortest_from-stops s (with_sign b n) (rw unsigned_abs-with_sign (last (omega arith)))
-
--- zero has no fraction
-shortest_from-none : (b : Bool) (s : ℕ) → shortest_from s (with_sign b 0) ≡ record { mantissa = with_sign b 0; scale = 0 }
-shortest_from-none b zero = refl
-shortest_from-none true (suc s) = shortest_from-none true s
-shortest_from-none false (suc s) = shortest_from-none false s
 
 -- what the form that `Fixed` has is taken from
 abbrev picked : DecimalNumber → Option DecimalNumber
@@ -36,32 +31,17 @@ fixed_of-deep b n s last deep =
     ap picked (shortest_from-last b n s last)
     ∙ ap (λ t. if t then Some (record { mantissa = with_sign b n; scale = s }) else None) none
 
--- how many fraction digits the shortest form has
-module _ (b : Bool) (n s t : ℕ) (ends : 0 < s → n % 10 ≡ 0 → n ≡ 0) (is : t ≡ (if n == 0 then 0 else s)) where
-  by_zero : (z : Bool) → (n == 0) ≡ z → t ≡ (if z then 0 else s) → (0 < t → n % 10 ≢ 0) × (shortest_from s (with_sign b n) ≡ record { mantissa = with_sign b n; scale = t })
-  by_zero true e at =
-      let none : n ≡ 0 = eqb-true n 0 e in (
-        λ some. absurd (omega (arith, at)),
-        ap (λ k. shortest_from s (with_sign b k)) none ∙ shortest_from-none b s ∙ ap (λ k. record { mantissa = with_sign b k; scale = 0 }) (sym none)
-            ∙ ap (λ k. record { mantissa = with_sign b n; scale = k }) (sym at),
-      )
-  by_zero false e at =
-      let last : 0 < s → n % 10 ≢ 0 = λ some round. eqb-false n 0 e (ends some round) in (
-        λ some. last (omega (arith, at)),
-        shortest_from-last b n s last ∙ ap (λ k. record { mantissa = with_sign b n; scale = k }) (sym at),
-      )
+-- a number without a zero at its end is read as it stands
+module _ (b : Bool) (n s : ℕ) (last : 0 < s → n % 10 ≢ 0) where
+  pub signed_short : (bits : ℕ) → number_reading (Signed bits) (record { mantissa = with_sign b n; scale = s }) ≡ signed_reading bits (whole_if_short (record { mantissa = with_sign b n; scale = s }))
+  signed_short bits = ap (λ d. signed_reading bits (whole_if_short d)) (shortest_from-last b n s last)
 
-  pub last_of : 0 < t → n % 10 ≢ 0
-  last_of = (by_zero (n == 0) refl is).0
+  pub unsigned_short : (bits : ℕ) → number_reading (Unsigned bits) (record { mantissa = with_sign b n; scale = s }) ≡ unsigned_reading bits (whole_if_short (record { mantissa = with_sign b n; scale = s }))
+  unsigned_short bits = ap (λ d. unsigned_reading bits (whole_if_short d)) (shortest_from-last b n s last)
 
-  short : shortest_from s (with_sign b n) ≡ record { mantissa = with_sign b n; scale = t }
-  short = (by_zero (n == 0) refl is).1
-
-  pub signed_short : (bits : ℕ) → number_reading (Signed bits) (record { mantissa = with_sign b n; scale = s }) ≡ signed_reading bits (whole_if_short (record { mantissa = with_sign b n; scale = t }))
-  signed_short bits = ap (λ d. signed_reading bits (whole_if_short d)) short
-
-  pub unsigned_short : (bits : ℕ) → number_reading (Unsigned bits) (record { mantissa = with_sign b n; scale = s }) ≡ unsigned_reading bits (whole_if_short (record { mantissa = with_sign b n; scale = t }))
-  unsigned_short bits = ap (λ d. unsigned_reading bits (whole_if_short d)) short
-
-  pub fixed_short : number_reading Fixed (record { mantissa = with_sign b n; scale = s }) ≡ fixed_reading (fixed_of (record { mantissa = with_sign b n; scale = t }))
-  fixed_short = ap (λ d. fixed_reading (picked d)) (short ∙ sym (shortest_from-last b n t last_of))
+-- two numbers with one shortest form are read as one
+pub number_reading-same : (form : Form) (d e : DecimalNumber) → shortest_from d.scale d.mantissa ≡ shortest_from e.scale e.mantissa → number_reading form d ≡ number_reading form e
+number_reading-same (Signed bits) d e same = ap (λ f. signed_reading bits (whole_if_short f)) same
+number_reading-same (Unsigned bits) d e same = ap (λ f. unsigned_reading bits (whole_if_short f)) same
+number_reading-same Fixed d e same = ap (λ f. fixed_reading (picked f)) same
+number_reading-same _ d e same = refl

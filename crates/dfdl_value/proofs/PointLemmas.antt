@@ -13,7 +13,7 @@ use Rattle.dfdl_value.proofs.PaddingLemmas.{length-padded_decimal}
 use Rattle.std.proofs.lemmas.Bool.Decides.{nat_tests}
 use Rattle.dfdl_decimal.specs.Decimal.{DecimalNumber, IsFixed, with_sign}
 use Rattle.dfdl_value.specs.declared.value.Value.TheVariants.{Dec}
-use Rattle.dfdl_value.specs.Reading.{decimal_reading, fixed_reading}
+use Rattle.dfdl_value.specs.ReadValues.{decimal_reading, fixed_reading}
 use Rattle.dfdl_value.specs.Writing.{decimal_text, pointed, padded_decimal, minus_of}
 use Rattle.dfdl_value.specs.Texts.{is_xml_space, trimmed, is_negative, unsigned_part, is_numeral, is_point, number_after, number_of, fraction_part, decimal_of}
 use Rattle.dfdl_value.proofs.DecimalLemmas.{number_after-append}

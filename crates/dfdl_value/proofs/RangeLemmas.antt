@@ -5,13 +5,14 @@ use Rattle.std.proofs.Math.Pow.{pow_mono}
 use Rattle.std.proofs.lemmas.Nat.{pow_pos}
 use Rattle.std.proofs.lemmas.Float.{T_from_true}
 use Rattle.std.specs.Int.Signed.{le_z_yes}
-use Rattle.dfdl_value.specs.declared.read.ReadFault.{ReadFault}
-use Rattle.dfdl_value.specs.declared.read.ReadFault.TheVariants.{NotAValue, PastType, OutOfMemory}
-use Rattle.dfdl_forms.specs.declared.simple.Form.TheVariants.{Signed}
+use Rattle.dfdl_value.specs.declared.read.NoValue.{NoValue}
+use Rattle.dfdl_value.specs.declared.read.NoValue.TheVariants.{NotAValue, PastType}
+use Rattle.dfdl_forms.specs.declared.simple.Form.TheVariants.{Signed, Unsigned}
 use Rattle.dfdl_value.specs.declared.value.Value.{Value}
-use Rattle.dfdl_value.specs.declared.value.Value.TheVariants.{Int}
+use Rattle.dfdl_value.specs.declared.value.Value.TheVariants.{Int, Uns}
 use Rattle.dfdl_lemmas.proofs.Bools.{both}
-use Rattle.dfdl_value.specs.Reading.{Reading, signed_reading, unsigned_reading}
+use Rattle.dfdl_value.specs.ReadValues.{Reading, signed_reading, unsigned_reading}
+use Rattle.dfdl_value.specs.WholeShown.{IsWholeOf}
 use Rattle.dfdl_value.specs.Types.{HasForm, least_signed, greatest_signed}
 
 -- the test of a range around zero, from its half
@@ -53,14 +54,11 @@ below-far greatest (negsuc n) far = refl
 pub unsigned_reading-far : (bits : ℕ) (z : ℤ) → bits ≤ 128 → 2 ^ 128 ≤ unsigned_abs z → unsigned_reading bits (Some z) ≡ Err PastType
 unsigned_reading-far bits z few far = rw (below-far (2 ^ bits) z (omega (arith, pow_mono few)))
 
--- why a text gives no whole number of 128 bits is why a type that is no wider reads no value
-pub reading_of_fault : (reading : Option ℤ → Reading) (number : Option ℤ) (fault : ReadFault)
-    → (fault ≡ NotAValue → number ≡ None) → (fault ≡ PastType → (z : ℤ) × (number ≡ Some z) × (2 ^ 128 ≤ unsigned_abs z)) → ¬ (fault ≡ OutOfMemory)
-    → reading None ≡ Err NotAValue → ((z : ℤ) → 2 ^ 128 ≤ unsigned_abs z → reading (Some z) ≡ Err PastType) → Err fault ≡ reading number
-reading_of_fault reading number NotAValue none past memory at_none at_far = sym (ap reading (none refl) ∙ at_none)
-reading_of_fault reading number PastType none past memory at_none at_far =
-    let far = past refl in sym (ap reading far.1 ∙ at_far far.0 far.2)
-reading_of_fault reading number OutOfMemory none past memory at_none at_far = absurd (memory refl)
+-- why there is no whole number of 128 bits is why a type that is no wider reads no value
+pub reading_of_refusal : (reading : Option ℤ → Reading) (number : Option ℤ) (why : NoValue) → IsWholeOf number (Err why)
+    → reading None ≡ Err NotAValue → ((z : ℤ) → 2 ^ 128 ≤ unsigned_abs z → reading (Some z) ≡ Err PastType) → Err why ≡ reading number
+reading_of_refusal reading number NotAValue none at_none at_far = sym (ap reading none ∙ at_none)
+reading_of_refusal reading number PastType far at_none at_far = sym (ap reading far.1 ∙ at_far far.0 far.2)
 
 -- what passes the test of a choice is the first of it
 chosen : {A : Type 0} (b : Bool) (x y z : A) → ¬ (y ≡ z) → cond b x y ≡ z → (b ≡ true) × (x ≡ z)
@@ -77,7 +75,15 @@ HasForm-signed bits (Some z) v e =
     let P : Value → Type 0 = λ w. HasForm (Signed bits) w in
     subst P is (le_z_yes (T_from_true _ tests.0), le_z_yes (T_from_true _ tests.1))
 
--- a fact of what is read
-pub IfOk-reading : (r : Reading) (P : Value → Type 0) → ((v : Value) → r ≡ Ok v → P v) → IfOk r P
-IfOk-reading (Ok v) P known = known v refl
-IfOk-reading (Err e) P known = tt
+below_is : (most : ℕ) (z : ℤ) → int_le (pos 0) z ≡ true → int_lt z (pos most) ≡ true → unsigned_abs z < most
+below_is most (pos n) low high = grind (arith, nat_tests)
+below_is most (negsuc n) low high = absurd (cc)
+
+pub HasForm-unsigned : (bits : ℕ) (number : Option ℤ) (v : Value) → unsigned_reading bits number ≡ Ok v → HasForm (Unsigned bits) v
+HasForm-unsigned bits None v e = absurd (cc)
+HasForm-unsigned bits (Some z) v e =
+    let taken = chosen (int_le (pos 0) z && int_lt z (pos (2 ^ bits))) (Ok (Uns (unsigned_abs z))) (Err PastType) (Ok v) (λ h. cc) e in
+    let tests : (int_le (pos 0) z ≡ true) × (int_lt z (pos (2 ^ bits)) ≡ true) = both _ _ taken.0 in
+    let is : Uns (unsigned_abs z) ≡ v = cc in
+    let P : Value → Type 0 = λ w. HasForm (Unsigned bits) w in
+    subst P is (below_is (2 ^ bits) z tests.0 tests.1)

@@ -6,28 +6,13 @@ use Rattle.dfdl_forms.specs.declared.simple.Simple.{Simple}
 use Rattle.dfdl_forms.specs.declared.simple.Simple.TheVariants.{String, HexBinary, Boolean, Decimal, Integer, NonNegativeInteger, Byte, Short, Int as IntType, Long, UnsignedByte, UnsignedShort, UnsignedInt, UnsignedLong}
 use Rattle.dfdl_value.specs.declared.value.Value.{Value}
 use Rattle.dfdl_value.specs.declared.value.Value.TheVariants.{Int, Uns, Dec, Text, Truth, Bytes}
-use Rattle.dfdl_value.specs.Reading.{form_reading}
+use Rattle.dfdl_value.specs.ReadValues.{form_reading}
+use Rattle.dfdl_forms.proofs.KindLemmas.{few_bits}
 use Rattle.dfdl_forms.specs.Types.{HasFewBits, form_of}
 use Rattle.dfdl_value.specs.Types.{HasForm}
 use Rattle.dfdl_value.specs.Writing.{text_of}
 use Rattle.dfdl_value.proofs.BackLemmas.{signed_back, unsigned_back}
 use Rattle.dfdl_value.proofs.PointLemmas.{decimal_back}
-
-few_bits : (kind : Simple) → HasFewBits (form_of kind)
-few_bits String = tt
-few_bits HexBinary = tt
-few_bits Boolean = tt
-few_bits Decimal = tt
-few_bits Integer = (lit≤ tt, lit≤ tt)
-few_bits NonNegativeInteger = (lit≤ tt, lit≤ tt)
-few_bits Byte = (lit≤ tt, lit≤ tt)
-few_bits Short = (lit≤ tt, lit≤ tt)
-few_bits IntType = (lit≤ tt, lit≤ tt)
-few_bits Long = (lit≤ tt, lit≤ tt)
-few_bits UnsignedByte = (lit≤ tt, lit≤ tt)
-few_bits UnsignedShort = (lit≤ tt, lit≤ tt)
-few_bits UnsignedInt = (lit≤ tt, lit≤ tt)
-few_bits UnsignedLong = (lit≤ tt, lit≤ tt)
 
 -- of each value but bytes
 form_back : (form : Form) (v : Value) → HasFewBits form → HasForm form v → ((bytes : _) → v ≡ Bytes bytes → ⊥) → form_reading form (text_of v) ≡ Ok v

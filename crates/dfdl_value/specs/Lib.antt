@@ -1,5 +1,6 @@
 pub mod Numbers
-pub mod Reading
+pub mod ReadValues
 pub mod Texts
 pub mod Types
+pub mod WholeShown
 pub mod Writing

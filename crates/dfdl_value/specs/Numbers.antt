@@ -2,9 +2,9 @@
 use Rattle.std.specs.Prelude.{◌==◌, if◌then◌else◌, Option, Some, None, Err, ℤ}
 use Rattle.dfdl_forms.specs.declared.simple.Form.{Form}
 use Rattle.dfdl_forms.specs.declared.simple.Form.TheVariants.{Signed, Unsigned, Fixed}
-use Rattle.dfdl_value.specs.declared.read.ReadFault.TheVariants.{NotAValue}
+use Rattle.dfdl_value.specs.declared.read.NoValue.TheVariants.{NotAValue}
 use Rattle.dfdl_decimal.specs.Decimal.{DecimalNumber, shortest_from, fixed_of}
-use Rattle.dfdl_value.specs.Reading.{Reading, signed_reading, unsigned_reading, fixed_reading}
+use Rattle.dfdl_value.specs.ReadValues.{Reading, signed_reading, unsigned_reading, fixed_reading}
 
 -- the whole number that a decimal number is, if it is one
 abbrev pub whole_if_short : DecimalNumber → Option ℤ

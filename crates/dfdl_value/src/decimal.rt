@@ -4,11 +4,11 @@ ghost use Rattle.std.specs.Char.{is_ascii_digit};
 ghost use Rattle.std.specs.List.{list_all, position, position_or_len, before_first, after_first};
 ghost use Rattle.std.specs.Option.{SomeIff};
 ghost use Rattle.dfdl_decimal.specs.Decimal.{fixed_of, with_sign};
-ghost use Rattle.dfdl_value.specs.Reading.{decimal_reading};
+ghost use Rattle.dfdl_value.specs.ReadValues.{decimal_reading};
 ghost use Rattle.dfdl_value.specs.Texts.{is_point, is_zero, decimal_of, number_of};
 ghost use Rattle.dfdl_lemmas.specs.Trimmed.{without_trailing};
 
-use super::read::ReadFault;
+use super::read::NoValue;
 use super::text::{appended, are_digits, is_negative, unsigned_part};
 use super::value::Value;
 use dfdl_decimal::{Fixed, shortest};
@@ -90,17 +90,17 @@ fn fixed_from(negative: bool, whole: &[u8], fraction: &[u8]) -> Option<Fixed>
 }
 
 /// What a text without white space at its ends says of a decimal.
-pub(crate) fn read_decimal(text: &[u8]) -> Result<Value, ReadFault>
+pub(crate) fn read_decimal(text: &[u8]) -> Result<Value, NoValue>
     ensures { result ≡ decimal_reading (decimal_of text.now) }
 {
     let whole = before_point(unsigned_part(text));
     let fraction = after_point(unsigned_part(text));
     let is_empty = whole.is_empty() && fraction.is_empty();
     if is_empty || !are_digits(whole) || !are_digits(fraction) {
-        return Err(ReadFault::NotAValue);
+        return Err(NoValue::NotAValue);
     }
     match fixed_from(is_negative(text), whole, fraction) {
         Some(number) => Ok(Value::Dec(number)),
-        None => Err(ReadFault::PastType),
+        None => Err(NoValue::PastType),
     }
 }

@@ -1,10 +1,11 @@
 // The reading of whole numbers.
-ghost use Rattle.std.specs.Prelude.{◌≡◌, ℕ, ◌-◌, ◌^◌, ◌≤◌, Some, None, ℤ, pos, neg_ℤ, IfOk, IsErrOf, unsigned_abs};
+ghost use Rattle.std.specs.Prelude.{◌≡◌, ℕ, ◌-◌, ◌^◌, ◌≤◌, Option, Some, None, ℤ, pos, neg_ℤ, IfOk, IsErrOf, unsigned_abs};
 ghost use Rattle.dfdl_value.specs.Texts.{integer_of};
 ghost use Rattle.dfdl_decimal.specs.Decimal.{with_sign};
-ghost use Rattle.dfdl_value.specs.Reading.{signed_reading, unsigned_reading};
+ghost use Rattle.dfdl_value.specs.ReadValues.{signed_reading, unsigned_reading};
+ghost use Rattle.dfdl_value.specs.WholeShown.{IsWholeOf};
 
-use super::read::ReadFault;
+use super::read::NoValue;
 use super::text::{appended, is_negative, is_numeral, unsigned_part};
 use super::value::Value;
 
@@ -15,23 +16,19 @@ pub(crate) struct Whole {
     pub(crate) magnitude: u128,
 }
 
-/// `PastType` is a number of which the magnitude takes more than 128 bits.
-fn read_whole(text: &[u8]) -> Result<Whole, ReadFault>
-    ensures number { IfOk result (λ w. integer_of text.now ≡ Some (with_sign w.negative w.magnitude)) }
-    ensures none { IsErrOf result ReadFault.NotAValue → integer_of text.now ≡ None }
-    ensures past { IsErrOf result ReadFault.PastType → (z : ℤ) × (integer_of text.now ≡ Some z) × (2 ^ 128 ≤ unsigned_abs z) }
-    ensures memory { ¬ IsErrOf result ReadFault.OutOfMemory }
+fn read_whole(text: &[u8]) -> Result<Whole, NoValue>
+    ensures { IsWholeOf (integer_of text.now) result }
 {
     let digits = unsigned_part(text);
     if !is_numeral(digits) {
-        return Err(ReadFault::NotAValue);
+        return Err(NoValue::NotAValue);
     }
     match appended(0, digits) {
         Some(magnitude) => Ok(Whole {
             negative: is_negative(text),
             magnitude,
         }),
-        None => Err(ReadFault::PastType),
+        None => Err(NoValue::PastType),
     }
 }
 
@@ -58,7 +55,7 @@ fn negated(magnitude: u128) -> i128
 }
 
 /// The value of a signed type of so many bits.
-pub(crate) fn signed_value(bits: u32, number: Whole) -> Result<Value, ReadFault>
+fn signed_value(bits: u32, number: Whole) -> Result<Value, NoValue>
     requires some { 1 ≤ bits }
     requires few { bits ≤ 128 }
     ensures { result ≡ signed_reading bits (Some (with_sign number.negative number.magnitude)) }
@@ -67,19 +64,19 @@ pub(crate) fn signed_value(bits: u32, number: Whole) -> Result<Value, ReadFault>
     let magnitude = number.magnitude;
     if number.negative {
         if magnitude > half {
-            return Err(ReadFault::PastType);
+            return Err(NoValue::PastType);
         }
         Ok(Value::Int(negated(magnitude)))
     } else {
         if magnitude >= half {
-            return Err(ReadFault::PastType);
+            return Err(NoValue::PastType);
         }
         Ok(Value::Int(magnitude as i128))
     }
 }
 
 /// The value of an unsigned type of so many bits.
-pub(crate) fn unsigned_value(bits: u32, number: Whole) -> Result<Value, ReadFault>
+fn unsigned_value(bits: u32, number: Whole) -> Result<Value, NoValue>
     requires some { 1 ≤ bits }
     requires few { bits ≤ 128 }
     ensures { result ≡ unsigned_reading bits (Some (with_sign number.negative number.magnitude)) }
@@ -88,37 +85,55 @@ pub(crate) fn unsigned_value(bits: u32, number: Whole) -> Result<Value, ReadFaul
     let magnitude = number.magnitude;
     if number.negative {
         if magnitude > 0 {
-            return Err(ReadFault::PastType);
+            return Err(NoValue::PastType);
         }
         Ok(Value::Uns(0))
     } else {
         if magnitude > half - 1 + half {
-            return Err(ReadFault::PastType);
+            return Err(NoValue::PastType);
         }
         Ok(Value::Uns(magnitude))
     }
 }
 
+/// What a whole number says of a signed type of so many bits.
+pub(crate) fn signed_of(bits: u32, whole: Result<Whole, NoValue>) -> Result<Value, NoValue>
+    requires some { 1 ≤ bits }
+    requires few { bits ≤ 128 }
+    ensures { (number : Option ℤ) → IsWholeOf number whole → result ≡ signed_reading bits number }
+{
+    match whole {
+        Ok(number) => signed_value(bits, number),
+        Err(why) => Err(why),
+    }
+}
+
+/// What a whole number says of an unsigned type of so many bits.
+pub(crate) fn unsigned_of(bits: u32, whole: Result<Whole, NoValue>) -> Result<Value, NoValue>
+    requires some { 1 ≤ bits }
+    requires few { bits ≤ 128 }
+    ensures { (number : Option ℤ) → IsWholeOf number whole → result ≡ unsigned_reading bits number }
+{
+    match whole {
+        Ok(number) => unsigned_value(bits, number),
+        Err(why) => Err(why),
+    }
+}
+
 /// What a text without white space at its ends says of a signed type of so many bits.
-pub(crate) fn read_signed(bits: u32, text: &[u8]) -> Result<Value, ReadFault>
+pub(crate) fn read_signed(bits: u32, text: &[u8]) -> Result<Value, NoValue>
     requires some { 1 ≤ bits }
     requires few { bits ≤ 128 }
     ensures { result ≡ signed_reading bits (integer_of text.now) }
 {
-    match read_whole(text) {
-        Ok(number) => signed_value(bits, number),
-        Err(fault) => Err(fault),
-    }
+    signed_of(bits, read_whole(text))
 }
 
 /// What a text without white space at its ends says of an unsigned type of so many bits.
-pub(crate) fn read_unsigned(bits: u32, text: &[u8]) -> Result<Value, ReadFault>
+pub(crate) fn read_unsigned(bits: u32, text: &[u8]) -> Result<Value, NoValue>
     requires some { 1 ≤ bits }
     requires few { bits ≤ 128 }
     ensures { result ≡ unsigned_reading bits (integer_of text.now) }
 {
-    match read_whole(text) {
-        Ok(number) => unsigned_value(bits, number),
-        Err(fault) => Err(fault),
-    }
+    unsigned_of(bits, read_whole(text))
 }

@@ -1,7 +1,7 @@
 // Laws of the definitions that the contracts cite. The calls do nothing.
 ghost use Rattle.std.specs.Prelude.{◌≡◌, Ok};
 ghost use Rattle.hex.specs.Hex.{IsBytes, decode_of, encode_upper};
-ghost use Rattle.dfdl_value.specs.Reading.{bytes_reading, reading_of};
+ghost use Rattle.dfdl_value.specs.ReadValues.{bytes_reading, reading_of};
 ghost use Rattle.dfdl_value.specs.Texts.{trimmed};
 ghost use Rattle.dfdl_value.specs.Types.{IsOfType, IsPlain};
 ghost use Rattle.dfdl_value.specs.Writing.{text_of};

@@ -21,7 +21,7 @@ pub use dfdl_decimal::{DivFault, Fixed, Overflow};
 pub use dfdl_forms::{Form, Simple};
 pub use held::{ByteValue, TextValue};
 pub use number::value_of_number;
-pub use read::ReadFault;
+pub use read::{NoValue, ReadFault};
 pub use value::Value;
 
 #[cfg(test)]

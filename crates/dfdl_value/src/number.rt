@@ -1,107 +1,90 @@
 // The value of a type that a decimal number is.
-ghost use Rattle.std.specs.Prelude.{◌≡◌, ◌≢◌, ℕ, ◌^◌, ◌<◌, ◌≤◌, ◌%◌, ◌==◌, if◌then◌else◌};
+ghost use Rattle.std.specs.Prelude.{◌≡◌, ◌≢◌, ℕ, ◌^◌, ◌<◌, ◌≤◌, ◌%◌, Some, None};
 ghost use Rattle.std.specs.Option.{SomeIff};
 ghost use Rattle.dfdl_decimal.specs.Decimal.{fixed_of, with_sign};
-ghost use Rattle.dfdl_value.specs.Numbers.{number_reading, whole_if_short};
-ghost use Rattle.dfdl_value.specs.Reading.{signed_reading, unsigned_reading, fixed_reading};
 ghost use Rattle.dfdl_forms.specs.Types.{form_of};
+ghost use Rattle.dfdl_value.specs.Numbers.{number_reading, whole_if_short};
+ghost use Rattle.dfdl_value.specs.ReadValues.{fixed_reading};
+ghost use Rattle.dfdl_value.specs.WholeShown.{IsWholeOf};
 
-use super::integer::{Whole, signed_value, unsigned_value};
-use super::read::ReadFault;
-use dfdl_decimal::shortest;
-use dfdl_forms::{Form, Simple};
+use super::integer::{Whole, signed_of, unsigned_of};
+use super::read::NoValue;
 use super::value::Value;
+use dfdl_decimal::{Digits, shortest, without_zeros};
+use dfdl_forms::{Form, Simple};
 
-/// How many digits stand behind the point in the shortest form.
-fn shortest_scale(magnitude: Option<u128>, scale: usize) -> usize
-    ensures { (n : ℕ) → SomeIff magnitude (n < 2 ^ 128) n → result ≡ (if n == 0 then 0 else scale) }
-{
-    if magnitude == Some(0) { 0 } else { scale }
-}
-
-fn signed_number(
-    bits: u32,
+fn whole_number(
     negative: bool,
     magnitude: Option<u128>,
     scale: usize,
-) -> Result<Value, ReadFault>
-    requires some { 1 ≤ bits }
-    requires few { bits ≤ 128 }
-    ensures { (n : ℕ) → SomeIff magnitude (n < 2 ^ 128) n → result ≡ signed_reading bits (whole_if_short (record { mantissa = with_sign negative n; scale = scale })) }
+) -> Result<Whole, NoValue>
+    ensures { (n : ℕ) → SomeIff magnitude (n < 2 ^ 128) n
+        → IsWholeOf (whole_if_short (record { mantissa = with_sign negative n; scale = scale })) result }
 {
     if scale > 0 {
-        return Err(ReadFault::NotAValue);
+        return Err(NoValue::NotAValue);
     }
     match magnitude {
-        Some(magnitude) => signed_value(
-            bits,
-            Whole {
-                negative,
-                magnitude,
-            },
-        ),
-        None => Err(ReadFault::PastType),
+        Some(magnitude) => Ok(Whole {
+            negative,
+            magnitude,
+        }),
+        None => Err(NoValue::PastType),
     }
 }
 
-fn unsigned_number(
-    bits: u32,
-    negative: bool,
-    magnitude: Option<u128>,
-    scale: usize,
-) -> Result<Value, ReadFault>
-    requires some { 1 ≤ bits }
-    requires few { bits ≤ 128 }
-    ensures { (n : ℕ) → SomeIff magnitude (n < 2 ^ 128) n → result ≡ unsigned_reading bits (whole_if_short (record { mantissa = with_sign negative n; scale = scale })) }
-{
-    if scale > 0 {
-        return Err(ReadFault::NotAValue);
-    }
-    match magnitude {
-        Some(magnitude) => unsigned_value(
-            bits,
-            Whole {
-                negative,
-                magnitude,
-            },
-        ),
-        None => Err(ReadFault::PastType),
-    }
-}
-
-/// The decimal of a number in its shortest form.
-fn decimal_number(negative: bool, magnitude: Option<u128>, scale: usize) -> Result<Value, ReadFault>
+fn decimal_number(negative: bool, magnitude: Option<u128>, scale: usize) -> Result<Value, NoValue>
     ensures { (n : ℕ) → SomeIff magnitude (n < 2 ^ 128) n → (0 < scale → n % 10 ≢ 0)
         → result ≡ fixed_reading (fixed_of (record { mantissa = with_sign negative n; scale = scale })) }
 {
     if scale > 255 {
-        return Err(ReadFault::PastType);
+        return Err(NoValue::PastType);
     }
     let Some(magnitude) = magnitude else {
-        return Err(ReadFault::PastType);
+        return Err(NoValue::PastType);
     };
     match shortest(negative, magnitude, scale as u32) {
         Some(number) => Ok(Value::Dec(number)),
-        None => Err(ReadFault::PastType),
+        None => Err(NoValue::PastType),
     }
 }
 
-/// The value that a number is: `magnitude` is its digits, or none where these take more than 128 bits, and `scale` how
-/// many of them stand behind the point. Unless the number is zero, the last of these is no zero. No memory is taken.
+// Of digits whose last is no zero where some stand behind the point.
+fn value_of_short(
+    kind: Simple,
+    negative: bool,
+    magnitude: Option<u128>,
+    scale: usize,
+) -> Result<Value, NoValue>
+    ensures { (n : ℕ) → SomeIff magnitude (n < 2 ^ 128) n → (0 < scale → n % 10 ≢ 0)
+        → result ≡ number_reading (form_of kind) (record { mantissa = with_sign negative n; scale = scale }) }
+{
+    match kind.form() {
+        Form::Signed { bits } => signed_of(bits, whole_number(negative, magnitude, scale)),
+        Form::Unsigned { bits } => unsigned_of(bits, whole_number(negative, magnitude, scale)),
+        Form::Fixed => decimal_number(negative, magnitude, scale),
+        Form::Characters | Form::Truths | Form::Octets => Err(NoValue::NotAValue),
+    }
+}
+
+/// The value that a number is: `magnitude` is its digits, and `scale` how many of them stand behind the point. No
+/// magnitude stands for each of more than 128 bits whose last digit is no zero where some stand behind the point.
 pub fn value_of_number(
     kind: Simple,
     negative: bool,
     magnitude: Option<u128>,
     scale: usize,
-) -> Result<Value, ReadFault>
-    ensures { (n : ℕ) → SomeIff magnitude (n < 2 ^ 128) n → (0 < scale → n % 10 ≡ 0 → n ≡ 0)
+) -> Result<Value, NoValue>
+    ensures held { (n : ℕ) → magnitude ≡ Some n
+        → result ≡ number_reading (form_of kind) (record { mantissa = with_sign negative n; scale = scale }) }
+    ensures past { magnitude ≡ None → (n : ℕ) → 2 ^ 128 ≤ n → (0 < scale → n % 10 ≢ 0)
         → result ≡ number_reading (form_of kind) (record { mantissa = with_sign negative n; scale = scale }) }
 {
-    let scale = shortest_scale(magnitude, scale);
-    match kind.form() {
-        Form::Signed { bits } => signed_number(bits, negative, magnitude, scale),
-        Form::Unsigned { bits } => unsigned_number(bits, negative, magnitude, scale),
-        Form::Fixed => decimal_number(negative, magnitude, scale),
-        Form::Characters | Form::Truths | Form::Octets => Err(ReadFault::NotAValue),
+    match magnitude {
+        Some(magnitude) => {
+            let digits = without_zeros(Digits { magnitude, scale });
+            value_of_short(kind, negative, Some(digits.magnitude), digits.scale)
+        }
+        None => value_of_short(kind, negative, None, scale),
     }
 }

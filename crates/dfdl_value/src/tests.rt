@@ -1,5 +1,5 @@
 use super::laws::text_is_read_back;
-use super::{ByteValue, CellId, Fixed, ReadFault, Simple, TextValue, Value, value_of_number};
+use super::{ByteValue, CellId, Fixed, NoValue, ReadFault, Simple, TextValue, Value, value_of_number};
 use std::alloc::Global;
 use std::test::Fail;
 
@@ -104,10 +104,12 @@ fn values_of_numbers(rt: HostRuntime) {
     assert_eq!(rt; number, Ok(Value::Dec(Fixed::new(-12345, 2))));
     let zero = value_of_number(Simple::Byte, true, Some(0), 1000);
     assert_eq!(rt; zero, Ok(Value::Int(0)));
+    let longer = value_of_number(Simple::Short, true, Some(32000), 2);
+    assert_eq!(rt; longer, Ok(Value::Int(-320)));
     let whole = value_of_number(Simple::UnsignedByte, false, Some(255), 0);
     assert_eq!(rt; whole, Ok(Value::Uns(255)));
     let fraction = value_of_number(Simple::Integer, false, None, 1);
-    assert_eq!(rt; fraction, Err(ReadFault::NotAValue));
+    assert_eq!(rt; fraction, Err(NoValue::NotAValue));
     let wide = value_of_number(Simple::Integer, false, None, 0);
-    assert_eq!(rt; wide, Err(ReadFault::PastType));
+    assert_eq!(rt; wide, Err(NoValue::PastType));
 }

@@ -5,8 +5,8 @@ use Rattle.hex.specs.Hex.{decode_of}
 use Rattle.dfdl_forms.specs.declared.simple.Form.{Form}
 use Rattle.dfdl_forms.specs.declared.simple.Form.TheVariants.{Signed, Unsigned, Fixed, Characters, Truths, Octets}
 use Rattle.dfdl_forms.specs.declared.simple.Simple.{Simple}
-use Rattle.dfdl_value.specs.declared.read.ReadFault.{ReadFault}
-use Rattle.dfdl_value.specs.declared.read.ReadFault.TheVariants.{NotAValue, PastType}
+use Rattle.dfdl_value.specs.declared.read.NoValue.{NoValue}
+use Rattle.dfdl_value.specs.declared.read.NoValue.TheVariants.{NotAValue, PastType}
 use Rattle.dfdl_value.specs.declared.value.Value.{Value}
 use Rattle.dfdl_value.specs.declared.value.Value.TheVariants.{Int, Uns, Dec, Text, Truth, Bytes}
 use Rattle.dfdl_decimal.specs.Decimal.{DecimalNumber, fixed_of}
@@ -16,7 +16,7 @@ use Rattle.dfdl_value.specs.Types.{least_signed, greatest_signed}
 
 -- what is read or why nothing is
 abbrev pub Reading : Type 0
-Reading = Result Value ReadFault
+Reading = Result Value NoValue
 
 -- what the number that a text writes, if it writes one, says of a signed type
 abbrev pub signed_reading : ℕ → Option ℤ → Reading

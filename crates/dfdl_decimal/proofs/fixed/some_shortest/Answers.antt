@@ -1,7 +1,0 @@
-use Rattle.std.proofs.Common.{◌∙◌}
-use Rattle.dfdl_decimal.proofs.FixedLemmas.{shortest_from-divides}
-use Rattle.dfdl_decimal.proofs.fixed.some_shortest.Goals as goal
-
-pub loop-scale-preserved : goal.loop-scale-preserved
-loop-scale-preserved c =
-    shortest_from-divides c.loop-scale.scale c.args.negative c.loop-scale.magnitude c.loop-scale-test.true c.if-magnitude-eq0.true ∙ c.loop-scale.invariant

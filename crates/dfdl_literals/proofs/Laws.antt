@@ -14,9 +14,10 @@ use Rattle.dfdl_literals.specs.declared.scan.Act.{Act}
 use Rattle.dfdl_literals.specs.declared.scan.Act.TheVariants.{Move, Add, Close, Letter}
 use Rattle.dfdl_literals.specs.Names.{named, begins_name, is_empty_name}
 use Rattle.std.specs.Cmp.Lexicographic.{same_text}
-use Rattle.dfdl_literals.specs.Lists.{Item, Divider, Sign, PercentSign, Empty, Entity, DecimalCode, HexCode, ByteCode, Written, Then, Fits, is_divider, is_scalar, with_digit, number, spelling, item_spelling, ending, ended, open_pieces, may_follow, goes_on, goes_on_by}
-use Rattle.dfdl_literals.specs.Steps.{State, between, behind, whole, entity, in_name, at_hash, in_decimal, in_hexadecimal, raw_low, acted, step}
-use Rattle.dfdl_literals.proofs.Table.{both, begins_empty}
+use Rattle.dfdl_literals.specs.Lists.{Item, Divider, Sign, PercentSign, Empty, Entity, DecimalCode, HexCode, ByteCode, Written, Then, Fits, is_divider, is_scalar, with_digit, number, spelling, item_spelling, ending, ended, open_pieces, may_follow, may_extend, may_extend_by}
+use Rattle.dfdl_literals.specs.Steps.{State, act_plain, act_behind, whole, entity, in_name, at_hash, in_decimal, in_hexadecimal, raw_low, acted, step}
+use Rattle.dfdl_lemmas.proofs.Bools.{both}
+use Rattle.dfdl_literals.proofs.Table.{begins_empty}
 
 -- what has been read of an item that is not whole
 pub data Tail : Type 0 where
@@ -65,14 +66,14 @@ tail_mark before (BehindLow high low n is byte) = RawByte n
 
 abbrev pub Continues : Ending → Tail → Type 0
 Continues before Outside = Unit {0}
-Continues before (InName front is) = goes_on before ≡ true
-Continues before AtHash = goes_on before ≡ true
-Continues before (InDecimal first more n is) = goes_on before ≡ true
-Continues before AtHex = goes_on before ≡ true
-Continues before (InHex first more n is) = goes_on before ≡ true
-Continues before AtRaw = goes_on before ≡ true
-Continues before (BehindHigh high n is) = goes_on before ≡ true
-Continues before (BehindLow high low n is byte) = goes_on before ≡ true
+Continues before (InName front is) = may_extend before ≡ true
+Continues before AtHash = may_extend before ≡ true
+Continues before (InDecimal first more n is) = may_extend before ≡ true
+Continues before AtHex = may_extend before ≡ true
+Continues before (InHex first more n is) = may_extend before ≡ true
+Continues before AtRaw = may_extend before ≡ true
+Continues before (BehindHigh high n is) = may_extend before ≡ true
+Continues before (BehindLow high low n is byte) = may_extend before ≡ true
 
 abbrev pub state_of : Written → Tail → State
 state_of w t = record { ended = ended w; open_pieces = open_pieces w; name = tail_name t; mark = tail_mark (ending w) t }
@@ -116,24 +117,24 @@ GoesOn e w t c o = IfSome (option_and_then (acted (state_of w t)) o) (λ u. Reac
 and_not : (a b : Bool) → a ≡ false → b ≡ false → (not a && not b) ≡ true
 and_not a b first second = rw (first, second) refl
 
-between_goes : (e : Bool) (w : Written) (c : ℕ) → Fits e w → is_divider c ≡ false → goes_on (ending w) ≡ true → goes_on_by (ending w) c ≡ true → GoesOn e w Outside c (between c)
-between_goes e w c fits no_divider on by =
+plain_goes : (e : Bool) (w : Written) (c : ℕ) → Fits e w → is_divider c ≡ false → may_extend (ending w) ≡ true → may_extend_by (ending w) c ≡ true → GoesOn e w Outside c (act_plain c)
+plain_goes e w c fits no_divider on by =
     cond_both (c == 37) (Some (Move Name)) (Some (Add (Char c) Ordinary)) (GoesOn e w Outside c)
     (λ is. grow e w Outside (InName [] begins_empty) c fits on (ap (λ d. d ∷ []) (eqb-true c 37 is)))
     (λ other. finish e w Outside (Sign c (and_not _ _ no_divider other)) c fits by refl)
 
-behind_goes : (e : Bool) (w : Written) (c : ℕ) (before : Ending) → Fits e w → is_divider c ≡ false → ending w ≡ before → GoesOn e w Outside c (behind before c)
-behind_goes e w c Ordinary fits no_divider is = between_goes e w c fits no_divider (ap goes_on is) (ap (λ x. goes_on_by x c) is)
-behind_goes e w c Doubled fits no_divider is =
-    cond_both (c == 59) None (between c) (GoesOn e w Outside c) (λ end. tt)
-    (λ other. between_goes e w c fits no_divider (ap goes_on is) (ap (λ x. goes_on_by x c) is ∙ ap not other))
-behind_goes e w c Alone fits no_divider is = tt
+ending_goes : (e : Bool) (w : Written) (c : ℕ) (before : Ending) → Fits e w → is_divider c ≡ false → ending w ≡ before → GoesOn e w Outside c (act_behind before c)
+ending_goes e w c Ordinary fits no_divider is = plain_goes e w c fits no_divider (ap may_extend is) (ap (λ x. may_extend_by x c) is)
+ending_goes e w c Doubled fits no_divider is =
+    cond_both (c == 59) None (act_plain c) (GoesOn e w Outside c) (λ end. tt)
+    (λ other. plain_goes e w c fits no_divider (ap may_extend is) (ap (λ x. may_extend_by x c) is ∙ ap not other))
+ending_goes e w c Alone fits no_divider is = tt
 
 outside_goes : (e : Bool) (w : Written) (c : ℕ) → Fits e w → GoesOn e w Outside c (whole (ending w) c)
 outside_goes e w c fits =
-    cond_both (is_divider c) (Some Close) (behind (ending w) c) (GoesOn e w Outside c)
+    cond_both (is_divider c) (Some Close) (act_behind (ending w) c) (GoesOn e w Outside c)
     (λ is. finish e w Outside (Divider c is) c fits refl refl)
-    (λ other. behind_goes e w c (ending w) fits other refl)
+    (λ other. ending_goes e w c (ending w) fits other refl)
 
 both_hold : (a b : Bool) → a ≡ true → b ≡ true → (a && b) ≡ true
 both_hold a b first second = rw (first, second) refl
@@ -144,7 +145,7 @@ empty_name name is = same_text name (69 ∷ 83 ∷ []) (sym is)
 not_nil : (c : ℕ) (name : List ℕ) → (length (c ∷ name) == 0) ≡ true → ⊥
 not_nil c name is = let same : length (c ∷ name) ≡ 0 = eqb-true _ 0 is in omega (arith, same)
 
-entity_goes : (e : Bool) (w : Written) (f : List ℕ) (begins : begins_name f ≡ true) (c : ℕ) (o : Option Piece) → Fits e w → goes_on (ending w) ≡ true → (c == 59) ≡ true
+entity_goes : (e : Bool) (w : Written) (f : List ℕ) (begins : begins_name f ≡ true) (c : ℕ) (o : Option Piece) → Fits e w → may_extend (ending w) ≡ true → (c == 59) ≡ true
     → named f ≡ o → GoesOn e w (InName f begins) c (entity (e && (length (open_pieces w) == 0)) f o)
 entity_goes e w f begins c (Some piece) fits on end is =
     finish e w (InName f begins) (Entity f piece is) c fits on (ap (λ d. 37 ∷ (f ++ d ∷ [])) (eqb-true c 59 end))
@@ -156,13 +157,13 @@ entity_goes e w f begins c None fits on end is =
     (ap (λ d. 37 ∷ (f ++ d ∷ [])) (eqb-true c 59 end) ∙ ap (λ g. 37 ∷ (g ++ 59 ∷ [])) (empty_name f parts.1))))
     (λ other. tt)
 
-letter_goes : (e : Bool) (w : Written) (f : List ℕ) (begins : begins_name f ≡ true) (c : ℕ) → Fits e w → goes_on (ending w) ≡ true → GoesOn e w (InName f begins) c (Some (Letter c))
+letter_goes : (e : Bool) (w : Written) (f : List ℕ) (begins : begins_name f ≡ true) (c : ℕ) → Fits e w → may_extend (ending w) ≡ true → GoesOn e w (InName f begins) c (Some (Letter c))
 letter_goes e w f begins c fits on =
     cond_both (begins_name (f ++ c ∷ [])) (Some (record { ended = ended w; open_pieces = open_pieces w; name = f ++ c ∷ []; mark = Name })) None
     (λ o. IfSome o (λ u. Reached e u ((spelling w ++ (37 ∷ f)) ++ c ∷ [])))
     (λ is. grow e w (InName f begins) (InName (f ++ c ∷ []) is) c fits on refl) (λ other. tt)
 
-name_goes : (e : Bool) (w : Written) (f : List ℕ) (begins : begins_name f ≡ true) (c : ℕ) → Fits e w → goes_on (ending w) ≡ true
+name_goes : (e : Bool) (w : Written) (f : List ℕ) (begins : begins_name f ≡ true) (c : ℕ) → Fits e w → may_extend (ending w) ≡ true
     → GoesOn e w (InName f begins) c (in_name (e && (length (open_pieces w) == 0)) f c)
 name_goes e w [] begins c fits on =
     let t = InName [] begins in
@@ -192,7 +193,7 @@ number_push base n m k c digits is more = run_push (with_digit base) digits c n 
 first_digit : (base c n : ℕ) → with_digit base 0 c ≡ Some n → number base 0 (c ∷ []) ≡ Some n
 first_digit base c n is = ap (λ o. option_and_then (λ t. Some t) o) is
 
-hash_goes : (e : Bool) (w : Written) (c : ℕ) (o : Option ℕ) → Fits e w → goes_on (ending w) ≡ true → with_digit 10 0 c ≡ o → GoesOn e w AtHash c (at_hash o c)
+hash_goes : (e : Bool) (w : Written) (c : ℕ) (o : Option ℕ) → Fits e w → may_extend (ending w) ≡ true → with_digit 10 0 c ≡ o → GoesOn e w AtHash c (at_hash o c)
 hash_goes e w c (Some n) fits on is = grow e w AtHash (InDecimal c [] n (first_digit 10 c n is)) c fits on refl
 hash_goes e w c None fits on is =
     cond_both (c == 120) (Some (Move Hex)) (cond (c == 114) (Some (Move Raw)) None) (GoesOn e w AtHash c)
@@ -200,7 +201,7 @@ hash_goes e w c None fits on is =
     (λ other. cond_both (c == 114) (Some (Move Raw)) None (GoesOn e w AtHash c)
     (λ raw. grow e w AtHash AtRaw c fits on (ap (λ d. 37 ∷ 35 ∷ d ∷ []) (eqb-true c 114 raw))) (λ none. tt))
 
-decimal_goes : (e : Bool) (w : Written) (first : ℕ) (more : List ℕ) (n : ℕ) (is : number 10 0 (first ∷ more) ≡ Some n) (c : ℕ) (o : Option ℕ) → Fits e w → goes_on (ending w) ≡ true
+decimal_goes : (e : Bool) (w : Written) (first : ℕ) (more : List ℕ) (n : ℕ) (is : number 10 0 (first ∷ more) ≡ Some n) (c : ℕ) (o : Option ℕ) → Fits e w → may_extend (ending w) ≡ true
     → with_digit 10 n c ≡ o → GoesOn e w (InDecimal first more n is) c (in_decimal o n c)
 decimal_goes e w first more n is c (Some m) fits on digit =
     grow e w (InDecimal first more n is) (InDecimal first (more ++ c ∷ []) m (number_push 10 0 n m c (first ∷ more) is digit)) c fits on refl
@@ -211,7 +212,7 @@ decimal_goes e w first more n is c None fits on digit =
     (λ scalar. finish e w t (DecimalCode first more n is scalar) c fits on (ap (λ d. 37 ∷ 35 ∷ first ∷ (more ++ d ∷ [])) (eqb-true c 59 end))) (λ none. tt))
     (λ other. tt)
 
-hex_goes : (e : Bool) (w : Written) (first : ℕ) (more : List ℕ) (n : ℕ) (is : number 16 0 (first ∷ more) ≡ Some n) (c : ℕ) (o : Option ℕ) → Fits e w → goes_on (ending w) ≡ true
+hex_goes : (e : Bool) (w : Written) (first : ℕ) (more : List ℕ) (n : ℕ) (is : number 16 0 (first ∷ more) ≡ Some n) (c : ℕ) (o : Option ℕ) → Fits e w → may_extend (ending w) ≡ true
     → with_digit 16 n c ≡ o → GoesOn e w (InHex first more n is) c (in_hexadecimal o n c)
 hex_goes e w first more n is c (Some m) fits on digit =
     grow e w (InHex first more n is) (InHex first (more ++ c ∷ []) m (number_push 16 0 n m c (first ∷ more) is digit)) c fits on refl
@@ -222,17 +223,17 @@ hex_goes e w first more n is c None fits on digit =
     (λ scalar. finish e w t (HexCode first more n is scalar) c fits on (ap (λ d. 37 ∷ 35 ∷ 120 ∷ first ∷ (more ++ d ∷ [])) (eqb-true c 59 end))) (λ none. tt))
     (λ other. tt)
 
-first_hex_goes : (e : Bool) (w : Written) (c : ℕ) (o : Option ℕ) → Fits e w → goes_on (ending w) ≡ true → with_digit 16 0 c ≡ o
+first_hex_goes : (e : Bool) (w : Written) (c : ℕ) (o : Option ℕ) → Fits e w → may_extend (ending w) ≡ true → with_digit 16 0 c ≡ o
     → GoesOn e w AtHex c (option_and_then (λ n. Some (Move (Hexadecimal n))) o)
 first_hex_goes e w c (Some n) fits on is = grow e w AtHex (InHex c [] n (first_digit 16 c n is)) c fits on refl
 first_hex_goes e w c None fits on is = tt
 
-high_goes : (e : Bool) (w : Written) (c : ℕ) (o : Option ℕ) → Fits e w → goes_on (ending w) ≡ true → with_digit 16 0 c ≡ o
+high_goes : (e : Bool) (w : Written) (c : ℕ) (o : Option ℕ) → Fits e w → may_extend (ending w) ≡ true → with_digit 16 0 c ≡ o
     → GoesOn e w AtRaw c (option_and_then (λ n. Some (Move (RawHigh n))) o)
 high_goes e w c (Some n) fits on is = grow e w AtRaw (BehindHigh c n is) c fits on refl
 high_goes e w c None fits on is = tt
 
-low_goes : (e : Bool) (w : Written) (high n : ℕ) (is : with_digit 16 0 high ≡ Some n) (c : ℕ) (o : Option ℕ) → Fits e w → goes_on (ending w) ≡ true → with_digit 16 n c ≡ o
+low_goes : (e : Bool) (w : Written) (high n : ℕ) (is : with_digit 16 0 high ≡ Some n) (c : ℕ) (o : Option ℕ) → Fits e w → may_extend (ending w) ≡ true → with_digit 16 n c ≡ o
     → GoesOn e w (BehindHigh high n is) c (raw_low o)
 low_goes e w high n is c (Some m) fits on digit =
     let t = BehindHigh high n is in

@@ -17,9 +17,10 @@ use Rattle.dfdl_literals.specs.declared.scan.Mark.{Mark}
 use Rattle.dfdl_literals.specs.declared.scan.Mark.TheVariants.{Whole, Name, Hash, Decimal, Hex, Hexadecimal, Raw, RawHigh, RawByte}
 use Rattle.dfdl_literals.specs.declared.scan.Act.TheVariants.{Move, Add, Letter}
 use Rattle.dfdl_literals.specs.Names.{named, begins_name}
-use Rattle.dfdl_literals.specs.Lists.{Item, Divider, Sign, PercentSign, Empty, Entity, DecimalCode, HexCode, ByteCode, Written, Start, Then, Fits, is_divider, is_plain, is_scalar, with_digit, number, spelling, item_spelling, ending, ended, open_pieces, literals, may_follow, goes_on, goes_on_by, closed, IsList, Spells, Reads}
+use Rattle.dfdl_literals.specs.Lists.{Item, Divider, Sign, PercentSign, Empty, Entity, DecimalCode, HexCode, ByteCode, Written, Start, Then, Fits, is_divider, is_plain, is_scalar, with_digit, number, spelling, item_spelling, ending, ended, open_pieces, literals, may_follow, may_extend, may_extend_by, closed, IsList, Spells, Reads}
 use Rattle.dfdl_literals.specs.Steps.{State, start, whole, entity, in_name, at_hash, in_decimal, in_hexadecimal, raw_low, acted, step, accepts, accepts_mark}
-use Rattle.dfdl_literals.proofs.Table.{both, begun, begins_named, letter_named, begins_e, begins_es, empty_unnamed, is_letter}
+use Rattle.dfdl_lemmas.proofs.Bools.{both}
+use Rattle.dfdl_literals.proofs.Table.{begun, begins_named, letter_named, begins_e, begins_es, empty_unnamed, is_letter}
 use Rattle.dfdl_literals.proofs.Laws.{Tail, Outside, InName, AtHash, InDecimal, AtHex, InHex, AtRaw, BehindHigh, BehindLow, tail_spelling, tail_mark, state_of, Reached, goes}
 
 abbrev standing : List (List Piece) → List Piece → List ℕ → Mark → State
@@ -94,18 +95,18 @@ hex_end e d o n is =
 
 -- each list is run through
 
-percent_act : (before : Ending) → goes_on before ≡ true → whole before 37 ≡ Some (Move Name)
+percent_act : (before : Ending) → may_extend before ≡ true → whole before 37 ≡ Some (Move Name)
 percent_act Ordinary on = refl
 percent_act Doubled on = refl
 percent_act Alone on = let no_it : ⊥ = cc in absurd no_it
 
-percent_run : (e : Bool) (w : Written) (l : List ℕ) → goes_on (ending w) ≡ true
+percent_run : (e : Bool) (w : Written) (l : List ℕ) → may_extend (ending w) ≡ true
     → run (step e) (state_of w Outside) (37 ∷ l) ≡ run (step e) (standing (ended w) (open_pieces w) [] Name) l
 percent_run e w l on =
     run_step e (state_of w Outside) (standing (ended w) (open_pieces w) [] Name) 37 l
     (ap (λ a. option_and_then (acted (state_of w Outside)) a) (percent_act (ending w) on))
 
-sign_act : (before : Ending) (c : ℕ) → is_plain c ≡ true → goes_on_by before c ≡ true → whole before c ≡ Some (Add (Char c) Ordinary)
+sign_act : (before : Ending) (c : ℕ) → is_plain c ≡ true → may_extend_by before c ≡ true → whole before c ≡ Some (Add (Char c) Ordinary)
 sign_act Ordinary c plain on =
     let parts = both (not (is_divider c)) (not (c == 37)) plain in
     cond-false _ _ _ (not_true (is_divider c) parts.0) ∙ cond-false _ _ _ (not_true (c == 37) parts.1)
@@ -128,7 +129,7 @@ item_run e w (Sign c is) may =
     run_step e (state_of w Outside) (state_of (Then w (Sign c is)) Outside) c [] (ap (λ a. option_and_then (acted (state_of w Outside)) a) (sign_act (ending w) c is may))
 item_run e w PercentSign may = percent_run e w (37 ∷ []) may
 item_run e w Empty may =
-    let parts = both (goes_on (ending w)) (e && (length (open_pieces w) == 0)) may in
+    let parts = both (may_extend (ending w)) (e && (length (open_pieces w) == 0)) may in
     let d = ended w in
     let o = open_pieces w in
     percent_run e w (69 ∷ 83 ∷ 59 ∷ []) parts.0

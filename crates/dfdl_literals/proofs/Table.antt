@@ -1,5 +1,5 @@
 -- What is begun of a name can become one, and what names are written with.
-use Rattle.std.proofs.Common.{◌≡◌, ℕ, List, [], ◌∷◌, ◌++◌, length, drop, Some, None, Bool, true, false, not, ◌&&◌, ◌==◌, eqb, refl, sym, subst, ◌∙◌}
+use Rattle.std.proofs.Common.{◌≡◌, ℕ, List, [], ◌∷◌, ◌++◌, length, drop, Some, None, Bool, true, not, ◌&&◌, ◌==◌, eqb, refl, sym, subst, ◌∙◌}
 use Rattle.std.proofs.lemmas.Bool.{cond_both, cond-true}
 use Rattle.std.proofs.lemmas.Bool.Decides.{Decides-eqb}
 use Rattle.std.proofs.lemmas.List.Folds.{list_all-append}
@@ -7,6 +7,7 @@ use Rattle.std.proofs.lemmas.Slice.Eq.{starts_is}
 use Rattle.std.specs.Cmp.Lexicographic.{pointwise, same_text, other_text}
 use Rattle.std.specs.List.{starts_with, list_all}
 use Rattle.dfdl_forms.specs.declared.literals.Piece.{Piece}
+use Rattle.dfdl_lemmas.proofs.Bools.{both}
 use Rattle.dfdl_literals.specs.Names.{Entry, names, named, named_in, begins_name, begins_in}
 
 begun_in : (entries : List Entry) (front : List ℕ) → begins_in entries front ≡ true
@@ -44,10 +45,6 @@ is_letter c = not (c == 59) && (not (c == 37) && not (c == 35))
 
 abbrev are_letters : List Entry → Bool
 are_letters entries = list_all (λ e. list_all is_letter e.name) entries
-
-pub both : (a b : Bool) → (a && b) ≡ true → (a ≡ true) × (b ≡ true)
-both true b is = (refl, is)
-both false b is = let no : ⊥ = cc in absurd no
 
 letter_in : (entries : List Entry) (front rest : List ℕ) (c : ℕ) (piece : Piece) → are_letters entries ≡ true
     → named_in entries (front ++ c ∷ rest) ≡ Some piece → is_letter c ≡ true

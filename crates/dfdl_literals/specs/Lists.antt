@@ -29,6 +29,16 @@ with_digit base n c = if nat_lt (digit_value c) base then (if nat_lt (n * base +
 abbrev pub number : ℕ → ℕ → List ℕ → Option ℕ
 number base n digits = run (with_digit base) n digits
 
+-- a piece that is a character
+abbrev pub is_character : Piece → Bool
+is_character (Char c) = true
+is_character (Byte b) = false
+is_character NewLine = false
+is_character Space = false
+is_character Spaces = false
+is_character MaybeSpaces = false
+is_character Nothing = false
+
 -- a piece that can match nothing
 abbrev pub is_optional : Piece → Bool
 is_optional (Char c) = false
@@ -93,14 +103,17 @@ pub data Written : Type 0 where
   Start : Written
   Then : Written → Item → Written
 
+-- the characters of items
 abbrev pub spelling : Written → List ℕ
 spelling Start = []
 spelling (Then w item) = spelling w ++ item_spelling item
 
+-- what has to be known of the last item for the one behind it
 abbrev pub ending : Written → Ending
 ending Start = Ordinary
 ending (Then w item) = item_ending item
 
+-- the pieces of the open literal with an item; white space ends it
 abbrev pub with_piece : List Piece → Option Piece → List Piece
 with_piece pieces None = []
 with_piece pieces (Some piece) = pieces ++ piece ∷ []
@@ -110,6 +123,7 @@ abbrev pub closed : List (List Piece) → List Piece → List (List Piece)
 closed literals [] = literals
 closed literals (piece ∷ pieces) = literals ++ (piece ∷ pieces) ∷ []
 
+-- the literals that are ended, with an item
 abbrev pub with_end : List (List Piece) → List Piece → Option Piece → List (List Piece)
 with_end literals pieces None = closed literals pieces
 with_end literals pieces (Some piece) = literals
@@ -128,28 +142,30 @@ ended (Then w item) = with_end (ended w) (open_pieces w) (item_piece item)
 abbrev pub literals : Written → List (List Piece)
 literals w = closed (ended w) (open_pieces w)
 
--- behind an %ES; its literal ends, and behind %% no ; stands
-abbrev pub goes_on : Ending → Bool
-goes_on Ordinary = true
-goes_on Doubled = true
-goes_on Alone = false
+-- an item may follow in the same literal: behind an %ES; none does
+abbrev pub may_extend : Ending → Bool
+may_extend Ordinary = true
+may_extend Doubled = true
+may_extend Alone = false
 
-abbrev pub goes_on_by : Ending → ℕ → Bool
-goes_on_by Ordinary c = true
-goes_on_by Doubled c = not (c == 59)
-goes_on_by Alone c = false
+-- a character that stands for itself may follow in the same literal: behind %% no ; does
+abbrev pub may_extend_by : Ending → ℕ → Bool
+may_extend_by Ordinary c = true
+may_extend_by Doubled c = not (c == 59)
+may_extend_by Alone c = false
 
 -- the item may follow; %ES; stands at the beginning of its literal, and only where a literal may be empty
 abbrev pub may_follow : Bool → Ending → List Piece → Item → Bool
 may_follow empty_allowed before pieces (Divider c is) = true
-may_follow empty_allowed before pieces (Sign c is) = goes_on_by before c
-may_follow empty_allowed before pieces PercentSign = goes_on before
-may_follow empty_allowed before pieces Empty = goes_on before && (empty_allowed && (length pieces == 0))
-may_follow empty_allowed before pieces (Entity name piece is) = goes_on before
-may_follow empty_allowed before pieces (DecimalCode first more n is scalar) = goes_on before
-may_follow empty_allowed before pieces (HexCode first more n is scalar) = goes_on before
-may_follow empty_allowed before pieces (ByteCode high low n is byte) = goes_on before
+may_follow empty_allowed before pieces (Sign c is) = may_extend_by before c
+may_follow empty_allowed before pieces PercentSign = may_extend before
+may_follow empty_allowed before pieces Empty = may_extend before && (empty_allowed && (length pieces == 0))
+may_follow empty_allowed before pieces (Entity name piece is) = may_extend before
+may_follow empty_allowed before pieces (DecimalCode first more n is scalar) = may_extend before
+may_follow empty_allowed before pieces (HexCode first more n is scalar) = may_extend before
+may_follow empty_allowed before pieces (ByteCode high low n is byte) = may_extend before
 
+-- each item may follow those before it
 abbrev pub Fits : Bool → Written → Type 0
 Fits empty_allowed Start = Unit {0}
 Fits empty_allowed (Then w item) = Fits empty_allowed w × (may_follow empty_allowed (ending w) (open_pieces w) item ≡ true)

@@ -14,6 +14,7 @@ ghost use Rattle.dfdl_literals.specs.Steps.{accepts, start, step};
 ghost use Rattle.dfdl_machines.specs.Machines.{run};
 
 mod names;
+mod plain;
 mod scan;
 #[cfg(test)]
 mod tests;
@@ -21,6 +22,7 @@ mod tests;
 pub use dfdl_forms::{
     CharList, EscapeKind, EscapeScheme, Justify, Literals, PadForm, Piece, PlainTexts, TruthForm,
 };
+pub use plain::{PlainFault, plain_texts};
 use scan::Scan;
 use std::alloc::Global;
 use thiserror::Error;

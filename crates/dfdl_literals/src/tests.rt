@@ -1,7 +1,7 @@
 // Lists as they are read, and where they are refused.
 #![tactic(auto)]
 
-use crate::{LiteralFault, Piece, read_literals};
+use crate::{LiteralFault, Piece, PlainFault, can_match_nothing, plain_texts, read_literals};
 use std::test::Fail;
 
 #[test]
@@ -78,7 +78,7 @@ fn pieces(rt: HostRuntime) -> Result<(), Fail> {
         .as_slice()
     );
     assert_eq!(rt; literals.pieces(2), [Piece::Nothing].as_slice());
-    assert!(rt; literals.can_match_nothing());
+    assert!(rt; can_match_nothing(&literals));
     Ok(())
 }
 
@@ -101,5 +101,37 @@ fn faults(rt: HostRuntime) -> Result<(), Fail> {
             Err(fault) => assert_eq!(rt; fault, expected),
         }
     }
+    Ok(())
+}
+
+#[test]
+fn texts_of_literals(rt: HostRuntime) -> Result<(), Fail> {
+    let literals = read_literals(rt.alloc(), "yes %#x4A;a %%", false)?;
+    let texts = plain_texts(rt.alloc(), &literals).unwrap();
+    assert_eq!(rt; texts.len(), 3);
+    assert_eq!(rt; texts.text(1), ['J', 'a'].as_slice());
+    assert_eq!(rt; texts.text(2), ['%'].as_slice());
+    for text in ["y%NL;", "n %#rFF;", "%WSP;", ""] {
+        let literals = read_literals(rt.alloc(), text, false)?;
+        match plain_texts(rt.alloc(), &literals) {
+            Ok(_) => assert!(rt; false, "{text}"),
+            Err(fault) => assert_eq!(rt; fault, PlainFault::NotPlain),
+        }
+    }
+    Ok(())
+}
+
+#[test]
+fn a_long_list(rt: HostRuntime) -> Result<(), Fail> {
+    let mut text = String::new(rt.alloc());
+    for _ in 0..3000 {
+        text.push_str("ab%SP; ")?;
+    }
+    let literals = read_literals(rt.alloc(), text.as_str(), false)?;
+    assert_eq!(rt; literals.len(), 3000);
+    let copy = literals.copy(rt.alloc())?;
+    assert_eq!(rt; copy.pieces(2999), literals.pieces(2999));
+    let texts = plain_texts(rt.alloc(), &copy).unwrap();
+    assert_eq!(rt; texts.text(2999), ['a', 'b', ' '].as_slice());
     Ok(())
 }

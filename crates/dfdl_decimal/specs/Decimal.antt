@@ -6,8 +6,8 @@ pub record DecimalNumber : Type 0 where
   pub mantissa : ℤ
   pub scale : ℕ
 
--- the number in the one form that `Fixed` has for it: at most 38 digits, at most 255 of them after the point,
--- and no trailing zero after the point
+-- the number in the one form that `Fixed` has for it: at most 38 digits, at most 255 of them after
+-- the point, and no trailing zero after the point
 pub record IsFixed (d : DecimalNumber) : Type 0 where
   pub digits : unsigned_abs d.mantissa < 10 ^ 38
   pub places : d.scale < 256
@@ -24,7 +24,9 @@ SameNumber d e = d.mantissa *ℤ pos (10 ^ e.scale) ≡ e.mantissa *ℤ pos (10 
 -- the number without trailing zeros after the point
 abbrev pub shortest_from : ℕ → ℤ → DecimalNumber
 shortest_from zero mantissa = record { mantissa = mantissa; scale = zero }
-shortest_from (suc scale) mantissa = if unsigned_abs mantissa % 10 == 0 then shortest_from scale (int_div mantissa (pos 10)) else record { mantissa = mantissa; scale = suc scale }
+shortest_from (suc scale) mantissa =
+    if unsigned_abs mantissa % 10 == 0 then shortest_from scale (int_div mantissa (pos 10))
+    else record { mantissa = mantissa; scale = suc scale }
 
 -- it has at most 38 digits, at most 255 of them after the point
 abbrev pub is_small : DecimalNumber → Bool
@@ -32,4 +34,6 @@ is_small d = nat_lt (unsigned_abs d.mantissa) (10 ^ 38) && nat_lt d.scale 256
 
 -- the form that `Fixed` has for the number, if it has one
 abbrev pub fixed_of : DecimalNumber → Option DecimalNumber
-fixed_of d = let shortest = shortest_from d.scale d.mantissa in if is_small shortest then Some shortest else None
+fixed_of d =
+    let shortest = shortest_from d.scale d.mantissa in
+    if is_small shortest then Some shortest else None

@@ -7,7 +7,7 @@ ghost use Rattle.dfdl_decimal.specs.Decimal.{fixed_of, with_sign};
 
 use super::fixed::{DivFault, Fixed, Overflow, shortest};
 use super::product::product_at;
-use super::quotient::quotient_at;
+use super::quotient::{Division, quotient_at};
 use std::cmp::Ordering;
 
 /// The magnitude with so many zeros behind it, if that has 128 bits at most.
@@ -42,7 +42,8 @@ fn order_at(left: u128, left_scale: u32, right: u128, right_scale: u32) -> Order
 
 /// How the numbers without their signs compare.
 fn magnitude_order(left: &Fixed, right: &Fixed) -> Ordering
-    ensures { result ≡ nat_cmp (unsigned_abs left.now.mantissa * 10 ^ right.now.scale) (unsigned_abs right.now.mantissa * 10 ^ left.now.scale) }
+    ensures { result ≡ nat_cmp (unsigned_abs left.now.mantissa * 10 ^ right.now.scale)
+        (unsigned_abs right.now.mantissa * 10 ^ left.now.scale) }
 {
     order_at(
         left.magnitude(),
@@ -60,7 +61,8 @@ struct Signed {
 }
 
 fn signed_sum(left: Signed, right: Signed) -> Option<Signed>
-    ensures sum { IfSome result (λ s. with_sign s.negative s.magnitude ≡ with_sign left.negative left.magnitude +ℤ with_sign right.negative right.magnitude) }
+    ensures sum { IfSome result (λ s. with_sign s.negative s.magnitude
+        ≡ with_sign left.negative left.magnitude +ℤ with_sign right.negative right.magnitude) }
     ensures same_signs { IsNone result → left.negative ≡ right.negative }
     ensures past { IsNone result → 2 ^ 128 ≤ left.magnitude + right.magnitude }
 {
@@ -90,7 +92,11 @@ fn sum_at(long: Signed, short: Signed, zeros: u32, scale: u32) -> Option<Fixed>
     requires short { short.magnitude < 10 ^ 38 }
     requires within { zeros ≤ scale }
     requires last { 0 < scale → long.magnitude % 10 ≢ 0 }
-    ensures { result ≡ fixed_of (record { mantissa = with_sign long.negative long.magnitude +ℤ with_sign short.negative (short.magnitude * 10 ^ zeros); scale = scale }) }
+    ensures { result ≡ fixed_of (record {
+      mantissa = with_sign long.negative long.magnitude
+          +ℤ with_sign short.negative (short.magnitude * 10 ^ zeros);
+      scale = scale;
+    }) }
 {
     let magnitude = shifted(short.magnitude, zeros)?;
     let moved = Signed {
@@ -137,13 +143,12 @@ fn quotient(left: &Fixed, right: &Fixed) -> Result<Fixed, DivFault>
     if right.magnitude() == 0 {
         return Err(DivFault::Zero);
     }
-    quotient_at(
-        left.is_negative() != right.is_negative(),
-        left.magnitude(),
-        u32::from(right.scale()) + 18,
-        right.magnitude(),
-        u32::from(left.scale()),
-    )
+    let of = Division {
+        negative: left.is_negative() != right.is_negative(),
+        dividend: left.magnitude(),
+        divisor: right.magnitude(),
+    };
+    quotient_at(of, u32::from(right.scale()) + 18, u32::from(left.scale()))
 }
 
 impl Fixed {
@@ -165,8 +170,10 @@ impl Fixed {
     }
 
     pub fn sub(&self, other: &Fixed) -> Result<Fixed, Overflow>
-        ensures value { IfOk result (λ f. fixed_of (sum_of self.now (negated_of other.now)) ≡ Some f) }
-        ensures overflow { IsErr result ↔ (fixed_of (sum_of self.now (negated_of other.now)) ≡ None) }
+        ensures value { IfOk result (λ f. fixed_of (sum_of self.now (negated_of other.now))
+            ≡ Some f) }
+        ensures overflow { IsErr result
+            ↔ (fixed_of (sum_of self.now (negated_of other.now)) ≡ None) }
     {
         self.add(&other.negated())
     }
@@ -180,10 +187,14 @@ impl Fixed {
 
     pub fn div(&self, other: &Fixed) -> Result<Fixed, DivFault>
         ensures answer { result ≡ division_of self.now other.now }
-        ensures value { IfOk result (λ f. option_and_then fixed_of (quotient_of self.now other.now) ≡ Some f) }
+        ensures value { IfOk result (λ f. option_and_then fixed_of (quotient_of self.now other.now)
+            ≡ Some f) }
         ensures zero { IsErrOf result DivFault.Zero ↔ (other.now.mantissa ≡ pos 0) }
-        ensures inexact { IsErrOf result DivFault.Inexact ↔ ((other.now.mantissa ≢ pos 0) × (quotient_of self.now other.now ≡ None)) }
-        ensures overflow { IsErrOf result DivFault.Overflow ↔ ((other.now.mantissa ≢ pos 0) × IsSome (quotient_of self.now other.now) × (option_and_then fixed_of (quotient_of self.now other.now) ≡ None)) }
+        ensures inexact { IsErrOf result DivFault.Inexact
+            ↔ ((other.now.mantissa ≢ pos 0) × (quotient_of self.now other.now ≡ None)) }
+        ensures overflow { IsErrOf result DivFault.Overflow
+            ↔ ((other.now.mantissa ≢ pos 0) × IsSome (quotient_of self.now other.now)
+            × (option_and_then fixed_of (quotient_of self.now other.now) ≡ None)) }
     {
         quotient(self, other)
     }

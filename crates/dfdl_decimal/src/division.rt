@@ -15,7 +15,8 @@ fn part_sum(left: Part, right: Part, divisor: u128) -> Part
     requires right { right.rest < divisor }
     requires left_times { left.times < 32 }
     requires right_times { right.times < 32 }
-    ensures sum { result.times * divisor + result.rest ≡ (left.times + right.times) * divisor + (left.rest + right.rest) }
+    ensures sum { result.times * divisor + result.rest
+        ≡ (left.times + right.times) * divisor + (left.rest + right.rest) }
     ensures rest { result.rest < divisor }
     ensures times { result.times ≤ left.times + right.times + 1 }
 {
@@ -45,21 +46,23 @@ fn ten_times(rest: u128, divisor: u128) -> Part
     part_sum(five, five, divisor)
 }
 
-/// A quotient that the division gives exactly, or nothing in place of one past 128 bits, and how many zeros were
-/// put behind the dividend.
+/// A quotient that the division gives exactly, or nothing in place of one past 128 bits, and how
+/// many zeros were put behind the dividend.
 #[derive(Clone, Copy)]
 pub(crate) struct Quotient {
     pub number: Option<u128>,
     pub zeros: u32,
 }
 
-/// The quotient with the fewest zeros behind the dividend by which the division leaves nothing, if at most so many do.
+/// The quotient with the fewest zeros behind the dividend by which the division leaves nothing, if
+/// at most so many do.
 pub(crate) fn divide(dividend: u128, divisor: u128, most: u32) -> Option<Quotient>
     requires some { 0 < divisor }
     requires divisor { divisor < 2 ^ 127 }
     ensures few { IfSome result (λ q. q.zeros ≤ most) }
     ensures exact { IfSome result (λ q. dividend * 10 ^ q.zeros % divisor ≡ 0) }
-    ensures number { IfSome result (λ q. SomeIff q.number (dividend * 10 ^ q.zeros / divisor < 2 ^ 128) (dividend * 10 ^ q.zeros / divisor)) }
+    ensures number { IfSome result (λ q. SomeIff q.number
+        (dividend * 10 ^ q.zeros / divisor < 2 ^ 128) (dividend * 10 ^ q.zeros / divisor)) }
     ensures last { IfSome result (λ q. 0 < q.zeros → dividend * 10 ^ q.zeros / divisor % 10 ≢ 0) }
     ensures inexact { IfNone result (dividend * 10 ^ most % divisor ≢ 0) }
 {
@@ -80,7 +83,8 @@ pub(crate) fn divide(dividend: u128, divisor: u128, most: u32) -> Option<Quotien
 
 /// The number with a digit more.
 fn extended(number: Option<u128>, digit: u128) -> Option<u128>
-    ensures { (n : ℕ) → SomeIff number (n < 2 ^ 128) n → SomeIff result (n * 10 + digit < 2 ^ 128) (n * 10 + digit) }
+    ensures { (n : ℕ) → SomeIff number (n < 2 ^ 128) n
+        → SomeIff result (n * 10 + digit < 2 ^ 128) (n * 10 + digit) }
 {
     number?.checked_mul(10)?.checked_add(digit)
 }

@@ -1,4 +1,5 @@
-// Decimal numbers of at most 38 digits, of which at most 255 are fraction digits. Each number has one form.
+// Decimal numbers of at most 38 digits, of which at most 255 are fraction digits. Each number has
+// one form.
 ghost use Rattle.std.specs.Prelude.{◌≡◌, ◌≢◌, ◌^◌, ◌%◌, ◌<◌, Bool};
 ghost use Rattle.dfdl_decimal.specs.Decimal.{fixed_of, shortest_from, with_sign};
 
@@ -120,7 +121,8 @@ fn without_some_zeros(digits: Digits) -> Digits
     Digits { magnitude, scale }
 }
 
-/// The digits without the zeros at the end of those behind the point. It takes no more than 38 steps.
+/// The digits without the zeros at the end of those behind the point. It takes no more than 38
+/// steps.
 pub fn without_zeros(digits: Digits) -> Digits
     ensures same { (b : Bool) → shortest_from result.scale (with_sign b result.magnitude)
         ≡ shortest_from digits.scale (with_sign b digits.magnitude) }
@@ -138,7 +140,10 @@ pub fn without_zeros(digits: Digits) -> Digits
 /// The form that `Fixed` has for digits whose last is no zero where some stand behind the point.
 fn held(negative: bool, digits: Digits) -> Option<Fixed>
     requires { 0 < digits.scale → digits.magnitude % 10 ≢ 0 }
-    ensures { result ≡ fixed_of (record { mantissa = with_sign negative digits.magnitude; scale = digits.scale }) }
+    ensures { result ≡ fixed_of (record {
+      mantissa = with_sign negative digits.magnitude;
+      scale = digits.scale;
+    }) }
 {
     if digits.magnitude >= DIGITS {
         return None;
@@ -146,15 +151,13 @@ fn held(negative: bool, digits: Digits) -> Option<Fixed>
     if digits.scale > 255 {
         return None;
     }
-    Some(Fixed::new(
-        signed(negative, digits.magnitude),
-        digits.scale as u8,
-    ))
+    Some(Fixed::new(signed(negative, digits.magnitude), digits.scale as u8))
 }
 
 /// The form that `Fixed` has for a number, if it has one.
 pub fn shortest(negative: bool, magnitude: u128, scale: u32) -> Option<Fixed>
-    ensures { result ≡ fixed_of (record { mantissa = with_sign negative magnitude; scale = scale }) }
+    ensures { result
+        ≡ fixed_of (record { mantissa = with_sign negative magnitude; scale = scale }) }
 {
     let digits = Digits {
         magnitude,

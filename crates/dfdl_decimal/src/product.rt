@@ -32,7 +32,9 @@ fn tenth(left: u128, right: u128) -> Option<(u128, u128)>
 
 /// The product without the zeros at the end of its digits after the point.
 fn reduced(product: Product) -> Product
-    ensures same { (b : Bool) → shortest_from result.scale (with_sign b (result.left * result.right)) ≡ shortest_from product.scale (with_sign b (product.left * product.right)) }
+    ensures same { (b : Bool)
+        → shortest_from result.scale (with_sign b (result.left * result.right))
+        ≡ shortest_from product.scale (with_sign b (product.left * product.right)) }
     ensures last { 0 < result.scale → result.left * result.right % 10 ≢ 0 }
 {
     let mut left = product.left;
@@ -51,7 +53,8 @@ fn reduced(product: Product) -> Product
 
 /// The form that `Fixed` has for a product, if it has one.
 pub(crate) fn product_at(negative: bool, left: u128, right: u128, scale: u32) -> Option<Fixed>
-    ensures { result ≡ fixed_of (record { mantissa = with_sign negative (left * right); scale = scale }) }
+    ensures { result
+        ≡ fixed_of (record { mantissa = with_sign negative (left * right); scale = scale }) }
 {
     let product = reduced(Product { left, right, scale });
     let magnitude = product.left.checked_mul(product.right)?;

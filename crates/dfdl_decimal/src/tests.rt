@@ -51,7 +51,11 @@ fn sums_and_differences(rt: HostRuntime) -> Result<(), Overflow> {
 fn products_and_quotients(rt: HostRuntime) -> Result<(), Overflow> {
     let products = [
         ((125, 2), (-8, 1), (-1, 0)),
-        ((199999999999999999995, 1), (2, 0), (39999999999999999999, 0)),
+        (
+            (199999999999999999995, 1),
+            (2, 0),
+            (39999999999999999999, 0),
+        ),
         (
             (1267650600228229401496703205376, 0),
             (9765625, 0),

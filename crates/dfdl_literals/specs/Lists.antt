@@ -23,7 +23,10 @@ is_scalar n = nat_lt n 0xD800 || (nat_le 0xE000 n && nat_lt n 0x110000)
 
 -- the number with one digit more, up to the last code point
 abbrev pub with_digit : ℕ → ℕ → ℕ → Option ℕ
-with_digit base n c = if nat_lt (digit_value c) base then (if nat_lt (n * base + digit_value c) 0x110000 then Some (n * base + digit_value c) else None) else None
+with_digit base n c =
+    if nat_lt (digit_value c) base
+    then (if nat_lt (n * base + digit_value c) 0x110000 then Some (n * base + digit_value c) else None)
+    else None
 
 -- the number that the digits write behind n, up to the last code point
 abbrev pub number : ℕ → ℕ → List ℕ → Option ℕ
@@ -53,16 +56,19 @@ is_optional Nothing = true
 abbrev pub matches_nothing : List (List Piece) → Bool
 matches_nothing literals = list_any (list_all is_optional) literals
 
--- one thing of a list as it is written: white space between literals, a character that stands for itself, %%,
--- %ES;, a name, a code point in decimal or hexadecimal, or one byte in two hexadecimal digits
+-- one thing of a list as it is written: white space between literals, a character that stands for
+-- itself, %%, %ES;, a name, a code point in decimal or hexadecimal, or one byte in two hexadecimal
+-- digits
 pub data Item : Type 0 where
   Divider : (c : ℕ) → is_divider c ≡ true → Item
   Sign : (c : ℕ) → is_plain c ≡ true → Item
   PercentSign : Item
   Empty : Item
   Entity : (name : List ℕ) (piece : Piece) → named name ≡ Some piece → Item
-  DecimalCode : (first : ℕ) (more : List ℕ) (n : ℕ) → number 10 0 (first ∷ more) ≡ Some n → is_scalar n ≡ true → Item
-  HexCode : (first : ℕ) (more : List ℕ) (n : ℕ) → number 16 0 (first ∷ more) ≡ Some n → is_scalar n ≡ true → Item
+  DecimalCode : (first : ℕ) (more : List ℕ) (n : ℕ) → number 10 0 (first ∷ more) ≡ Some n
+      → is_scalar n ≡ true → Item
+  HexCode : (first : ℕ) (more : List ℕ) (n : ℕ) → number 16 0 (first ∷ more) ≡ Some n
+      → is_scalar n ≡ true → Item
   ByteCode : (high low n : ℕ) → number 16 0 (high ∷ low ∷ []) ≡ Some n → nat_lt n 256 ≡ true → Item
 
 -- the characters of an item
@@ -154,12 +160,14 @@ may_extend_by Ordinary c = true
 may_extend_by Doubled c = not (c == 59)
 may_extend_by Alone c = false
 
--- the item may follow; %ES; stands at the beginning of its literal, and only where a literal may be empty
+-- the item may follow; %ES; stands at the beginning of its literal, and only where a literal may be
+-- empty
 abbrev pub may_follow : Bool → Ending → List Piece → Item → Bool
 may_follow empty_allowed before pieces (Divider c is) = true
 may_follow empty_allowed before pieces (Sign c is) = may_extend_by before c
 may_follow empty_allowed before pieces PercentSign = may_extend before
-may_follow empty_allowed before pieces Empty = may_extend before && (empty_allowed && (length pieces == 0))
+may_follow empty_allowed before pieces Empty =
+    may_extend before && (empty_allowed && (length pieces == 0))
 may_follow empty_allowed before pieces (Entity name piece is) = may_extend before
 may_follow empty_allowed before pieces (DecimalCode first more n is scalar) = may_extend before
 may_follow empty_allowed before pieces (HexCode first more n is scalar) = may_extend before
@@ -168,7 +176,8 @@ may_follow empty_allowed before pieces (ByteCode high low n is byte) = may_exten
 -- each item may follow those before it
 abbrev pub Fits : Bool → Written → Type 0
 Fits empty_allowed Start = Unit {0}
-Fits empty_allowed (Then w item) = Fits empty_allowed w × (may_follow empty_allowed (ending w) (open_pieces w) item ≡ true)
+Fits empty_allowed (Then w item) =
+    Fits empty_allowed w × (may_follow empty_allowed (ending w) (open_pieces w) item ≡ true)
 
 -- the characters write these literals
 pub record Spells (empty_allowed : Bool) (list : List (List Piece)) (text : List ℕ) : Type 0 where

@@ -22,14 +22,17 @@ row_of r = record { name = r.name.now; piece = r.piece }
 -- what a name stands for
 abbrev pub named_in : List Entry → List ℕ → Option Piece
 named_in [] name = None
-named_in (e ∷ entries) name = if pointwise eqb e.name name then Some e.piece else named_in entries name
+named_in (e ∷ entries) name =
+    if pointwise eqb e.name name then Some e.piece else named_in entries name
 
 -- some name begins with these characters
 abbrev pub begins_in : List Entry → List ℕ → Bool
 begins_in [] front = false
-begins_in (e ∷ entries) front = if starts_with eqb e.name front then true else begins_in entries front
+begins_in (e ∷ entries) front =
+    if starts_with eqb e.name front then true else begins_in entries front
 
--- the characters' names, in the order of their code points, and then the classes but for the empty one
+-- the characters' names, in the order of their code points, and then the classes but for the empty
+-- one
 unfoldable pub names : List Entry
 names =
     entry (78 ∷ 85 ∷ 76 ∷ []) (Char 0) ∷

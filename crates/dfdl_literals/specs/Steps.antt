@@ -12,7 +12,8 @@ use Rattle.dfdl_literals.specs.declared.scan.Mark.TheVariants.{Whole, Name, Hash
 use Rattle.dfdl_literals.specs.declared.scan.Act.{Act}
 use Rattle.dfdl_literals.specs.declared.scan.Act.TheVariants.{Move, Add, Close, Letter}
 
--- what has been read: the literals that are ended, the pieces of the open one, the letters of a name, and where it stands
+-- what has been read: the literals that are ended, the pieces of the open one, the letters of a
+-- name, and where it stands
 pub record State : Type 0 where
   pub ended : List (List Piece)
   pub open_pieces : List Piece
@@ -46,11 +47,15 @@ entity alone name (Some piece) = Some (Add piece Ordinary)
 abbrev pub in_name : Bool → List ℕ → ℕ → Option Act
 in_name alone name c =
     if c == 59 then entity alone name (named name)
-    else (if length name == 0 then (if c == 37 then Some (Add (Char 37) Doubled) else (if c == 35 then Some (Move Hash) else Some (Letter c))) else Some (Letter c))
+    else (if length name == 0
+    then (if c == 37 then Some (Add (Char 37) Doubled)
+    else (if c == 35 then Some (Move Hash) else Some (Letter c)))
+    else Some (Letter c))
 
 -- what a character does behind the digits of a code point: ; ends it, if it is a scalar value
 abbrev pub code_end : ℕ → ℕ → Option Act
-code_end n c = if c == 59 then (if is_scalar n then Some (Add (Char n) Ordinary) else None) else None
+code_end n c =
+    if c == 59 then (if is_scalar n then Some (Add (Char n) Ordinary) else None) else None
 
 -- what a character does behind %#, where the digit that it is, is given
 abbrev pub at_hash : Option ℕ → ℕ → Option Act
@@ -87,13 +92,34 @@ act alone name (RawByte n) c = if c == 59 then Some (Add (Byte n) Ordinary) else
 -- what a list comes to by an act
 abbrev pub acted : State → Act → Option State
 acted s (Move mark) = Some (record s { mark = mark })
-acted s (Add piece before) = Some (record { ended = s.ended; open_pieces = s.open_pieces ++ piece ∷ []; name = []; mark = Whole before })
-acted s Close = Some (record { ended = closed s.ended s.open_pieces; open_pieces = []; name = []; mark = Whole Ordinary })
-acted s (Letter c) = if begins_name (s.name ++ c ∷ []) then Some (record { ended = s.ended; open_pieces = s.open_pieces; name = s.name ++ c ∷ []; mark = Name }) else None
+acted s (Add piece before) =
+    Some (record {
+      ended = s.ended;
+      open_pieces = s.open_pieces ++ piece ∷ [];
+      name = [];
+      mark = Whole before;
+    })
+acted s Close =
+    Some (record {
+      ended = closed s.ended s.open_pieces;
+      open_pieces = [];
+      name = [];
+      mark = Whole Ordinary;
+    })
+acted s (Letter c) =
+    if begins_name (s.name ++ c ∷ [])
+    then Some (record {
+      ended = s.ended;
+      open_pieces = s.open_pieces;
+      name = s.name ++ c ∷ [];
+      mark = Name;
+    })
+    else None
 
 -- what a list comes to by a character, if it can go on by it
 abbrev pub step : Bool → State → ℕ → Option State
-step empty_allowed s c = option_and_then (acted s) (act (empty_allowed && (length s.open_pieces == 0)) s.name s.mark c)
+step empty_allowed s c =
+    option_and_then (acted s) (act (empty_allowed && (length s.open_pieces == 0)) s.name s.mark c)
 
 -- no entity is open
 abbrev pub accepts_mark : Mark → Bool

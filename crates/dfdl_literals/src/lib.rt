@@ -1,8 +1,9 @@
 //! Lists of literals, as delimiters, nil values and truth values are written in a schema.
 //!
-//! `specs/Lists.antt` says how a list is written and which pieces its literals are made of, `specs/Names.antt` which
-//! names there are, and `specs/Faults.antt` where a list is refused: `read_literals` answers by them. It serves
-//! 'DFDL Syntax Basics', on string literals, entities and character classes.
+//! `specs/Lists.antt` says how a list is written and which pieces its literals are made of,
+//! `specs/Names.antt` which names there are, and `specs/Faults.antt` where a list is refused:
+//! `read_literals` answers by them. It serves 'DFDL Syntax Basics', on string literals, entities
+//! and character classes.
 #![tactic(auto)]
 
 ghost use Rattle.std.specs.Prelude.{◌≡◌, length, false, ◌<◌, IfErr, IfOk};
@@ -74,7 +75,8 @@ fn can_be_nothing(piece: Piece) -> bool
     matches!(piece, Piece::MaybeSpaces | Piece::Nothing)
 }
 
-/// Reads a list of literals, which white space divides; `empty_allowed` lets a literal match nothing, and `%ES;` stand.
+/// Reads a list of literals, which white space divides; `empty_allowed` lets a literal match
+/// nothing, and `%ES;` stand.
 pub fn read_literals(
     alloc: Global,
     text: &str,
@@ -103,7 +105,8 @@ fn read_any(alloc: Global, text: &str, empty_allowed: bool) -> Result<Literals, 
 }
 
 fn scanned(alloc: Global, text: &str, empty_allowed: bool) -> Result<Scan, LiteralFault>
-    ensures found { IfOk result (λ s. Reads empty_allowed (closed s.ended s.open_pieces) (chars text.now)) }
+    ensures found { IfOk result (λ s. Reads empty_allowed
+        (closed s.ended s.open_pieces) (chars text.now)) }
     ensures refused { IfErr result (λ e. IsRefusalOf empty_allowed (chars text.now) e) }
 {
     let mut scan = Scan::new(alloc);

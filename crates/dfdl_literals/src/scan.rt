@@ -168,7 +168,12 @@ pub struct Scan {
 impl Model for Scan {
     ghost Value = { State };
 
-    ghost view = { λ s. record { ended = map (λ v. v.items) s.ended.items; open_pieces = s.pieces.items; name = s.name.items; mark = s.mark } };
+    ghost view = { λ s. record {
+      ended = map (λ v. v.items) s.ended.items;
+      open_pieces = s.pieces.items;
+      name = s.name.items;
+      mark = s.mark;
+    } };
 }
 
 impl Scan {
@@ -185,7 +190,8 @@ impl Scan {
 
     // Whether the list could go on by the character.
     pub fn step(&mut self, alloc: Global, c: char, empty_allowed: bool) -> Result<bool, AllocError>
-        ensures { IfOk result (λ goes. step empty_allowed self.old c ≡ (if goes then Some self.new else None)) }
+        ensures { IfOk result (λ goes. step empty_allowed self.old c
+            ≡ (if goes then Some self.new else None)) }
     {
         let alone = empty_allowed && self.pieces.is_empty();
         match act_at(alone, &self.name, self.mark, c) {
@@ -195,7 +201,8 @@ impl Scan {
     }
 
     fn take(&mut self, alloc: Global, act: Act) -> Result<bool, AllocError>
-        ensures { IfOk result (λ goes. acted self.old act ≡ (if goes then Some self.new else None)) }
+        ensures { IfOk result (λ goes. acted self.old act
+            ≡ (if goes then Some self.new else None)) }
     {
         match act {
             Act::Move(mark) => self.mark = mark,

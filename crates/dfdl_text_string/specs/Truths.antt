@@ -1,4 +1,5 @@
--- Which boolean a text is, and what a boolean is written as. 'Simple Types' (textBooleanTrueRep, textBooleanFalseRep).
+-- Which boolean a text is, and what a boolean is written as. 'Simple Types' (textBooleanTrueRep,
+-- textBooleanFalseRep).
 use Rattle.std.specs.Prelude.{ℕ, List, [], ◌∷◌, Option, Some, None, Bool, true, false, ◌==◌, if◌then◌else◌}
 use Rattle.std.specs.Char.{eq_ignore_ascii_case}
 use Rattle.std.specs.List.{list_any}

@@ -17,9 +17,11 @@ pub fn truth_is_read_back(form: &TruthForm)
     let _falses = form.falses.len();
 }
 
-/// A text that was padded is trimmed to that text again, if it survives: it has no pad characters where it is trimmed.
+/// A text that was padded is trimmed to that text again, if it survives: it has no pad characters
+/// where it is trimmed.
 
 pub fn padding_is_trimmed()
-    ensures { (form : PadForm) (pad : ℕ) (text : List ℕ) (size : ℕ) → form.trim ≡ Some pad → Survives form pad text
+    ensures { (form : PadForm) (pad : ℕ) (text : List ℕ) (size : ℕ) → form.trim ≡ Some pad
+        → Survives form pad text
         → trimmed form (padded form.justify pad text size) ≡ text }
 {}

@@ -83,17 +83,20 @@ fn bare_range(form: &PadForm, chars: &[char]) -> (usize, usize)
 
 // Whether a zero is kept of a text of so many characters, of which so many are left.
 fn is_zero_kept(form: &PadForm, size: usize, left: usize) -> bool
-    ensures { result ≡ (form.now.keeps_zero && (is_trim form.now.trim 48 && (nat_lt 0 size && (left == 0)))) }
+    ensures { result
+        ≡ (form.now.keeps_zero && (is_trim form.now.trim 48 && (nat_lt 0 size && (left == 0)))) }
 {
     form.keeps_zero && is_trimmed(form.trim, '0') && size > 0 && left == 0
 }
 
-/// The range of the characters that are kept: where it begins, and where it ends. It knows nothing of escapes.
+/// The range of the characters that are kept: where it begins, and where it ends. It knows nothing
+/// of escapes.
 pub fn trim(form: &PadForm, chars: &[char]) -> (usize, usize)
     ensures begin { result.0 ≡ trimmed_from form.now chars.now }
     ensures end { result.1 ≡ result.0 + length (trimmed form.now chars.now) }
     ensures within { result.1 ≤ length chars.now }
-    ensures kept { take (result.1 - result.0) (drop result.0 chars.now) ≡ trimmed form.now chars.now }
+    ensures kept { take (result.1 - result.0) (drop result.0 chars.now)
+        ≡ trimmed form.now chars.now }
 {
     let (begin, end) = bare_range(form, chars);
     if is_zero_kept(form, chars.len(), end - begin) {
@@ -114,9 +117,9 @@ fn padding_before(justify: Justify, missing: usize) -> usize
     }
 }
 
-/// Puts pad characters around the text that the first `len` characters of the slice are, so that it has the length of
-/// the slice, and answers where the text begins then. Without a pad character the slice stays as it is: the text
-/// begins at 0.
+/// Puts pad characters around the text that the first `len` characters of the slice are, so that it
+/// has the length of the slice, and answers where the text begins then. Without a pad character the
+/// slice stays as it is: the text begins at 0.
 pub fn pad(form: &PadForm, len: usize, chars: &mut [char]) -> usize
     requires within { len ≤ length chars.old }
     ensures padded { chars.new ≡ room_padded form.now.justify form.now.pad len chars.old }
@@ -131,7 +134,8 @@ pub fn pad(form: &PadForm, len: usize, chars: &mut [char]) -> usize
     before
 }
 
-/// The range of the characters that are kept of a text of `len` characters where there is room for `room`.
+/// The range of the characters that are kept of a text of `len` characters where there is room for
+/// `room`.
 pub fn cut(form: &PadForm, len: usize, room: usize) -> Result<(usize, usize), TooLong>
     ensures begin { IfOk result (λ r. r.0 ≡ cut_from form.now.justify len room) }
     ensures end { IfOk result (λ r. r.1 ≡ r.0 + min len room) }

@@ -2,8 +2,8 @@
 #![tactic(auto)]
 
 use crate::{
-    Justify, NoTruth, PadForm, PlainTexts, TooLong, TruthForm, cut, laws, pad, read_truth, trim, truth_length,
-    write_truth,
+    Justify, NoTruth, PadForm, PlainTexts, TooLong, TruthForm, cut, laws, pad, read_truth, trim,
+    truth_length, write_truth,
 };
 use std::alloc::Global;
 use std::test::Fail;

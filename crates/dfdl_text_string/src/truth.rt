@@ -77,8 +77,8 @@ pub fn truth_length(form: &TruthForm, truth: bool) -> usize
     text_of(form, truth).len()
 }
 
-/// Writes a boolean to the front of the slice, which has to have the room that `truth_length` answers, and answers how
-/// many characters it wrote. It is written by the first text of its list.
+/// Writes a boolean to the front of the slice, which has to have the room that `truth_length`
+/// answers, and answers how many characters it wrote. It is written by the first text of its list.
 pub fn write_truth(form: &TruthForm, truth: bool, into: &mut [char]) -> usize
     requires { length (written_truth form.now truth) ≤ length into.old }
     ensures length { result ≡ length (written_truth form.now truth) }

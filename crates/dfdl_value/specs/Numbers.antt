@@ -13,7 +13,8 @@ whole_if_short shortest = if shortest.scale == 0 then Some shortest.mantissa els
 abbrev pub whole_of : DecimalNumber → Option ℤ
 whole_of d = whole_if_short (shortest_from d.scale d.mantissa)
 
--- what a number says of values of a form: an integer has no fraction, and other types than numbers have no number
+-- what a number says of values of a form: an integer has no fraction, and other types than numbers
+-- have no number
 abbrev pub number_reading : Form → DecimalNumber → Reading
 number_reading (Signed bits) d = signed_reading bits (whole_of d)
 number_reading (Unsigned bits) d = unsigned_reading bits (whole_of d)

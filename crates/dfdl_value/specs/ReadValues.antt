@@ -21,12 +21,16 @@ Reading = Result Value NoValue
 -- what the number that a text writes, if it writes one, says of a signed type
 abbrev pub signed_reading : ℕ → Option ℤ → Reading
 signed_reading bits None = Err NotAValue
-signed_reading bits (Some z) = if int_le (least_signed bits) z && int_le z (greatest_signed bits) then Ok (Int z) else Err PastType
+signed_reading bits (Some z) =
+    if int_le (least_signed bits) z && int_le z (greatest_signed bits) then Ok (Int z)
+    else Err PastType
 
 -- and of an unsigned type
 abbrev pub unsigned_reading : ℕ → Option ℤ → Reading
 unsigned_reading bits None = Err NotAValue
-unsigned_reading bits (Some z) = if int_le (pos 0) z && int_lt z (pos (2 ^ bits)) then Ok (Uns (unsigned_abs z)) else Err PastType
+unsigned_reading bits (Some z) =
+    if int_le (pos 0) z && int_lt z (pos (2 ^ bits)) then Ok (Uns (unsigned_abs z))
+    else Err PastType
 
 -- of a decimal
 abbrev pub fixed_reading : Option DecimalNumber → Reading

@@ -39,7 +39,9 @@ number_of digits = number_after 0 digits
 
 -- the number that an integer's text writes, an optional sign and a numeral of any length
 abbrev pub integer_of : List ℕ → Option ℤ
-integer_of text = if is_numeral (unsigned_part text) then Some (with_sign (is_negative text) (number_of (unsigned_part text))) else None
+integer_of text =
+    if is_numeral (unsigned_part text)
+    then Some (with_sign (is_negative text) (number_of (unsigned_part text))) else None
 
 -- the digit zero
 abbrev pub is_zero : ℕ → Bool
@@ -56,11 +58,16 @@ whole_part text = before_first is_point (unsigned_part text)
 abbrev pub fraction_part : List ℕ → List ℕ
 fraction_part text = after_first is_point (unsigned_part text)
 
--- the number that a decimal's text writes: an optional sign, and digits with at most one point before, between or
--- after them
+-- the number that a decimal's text writes: an optional sign, and digits with at most one point
+-- before, between or after them
 abbrev pub decimal_of : List ℕ → Option DecimalNumber
 decimal_of text = let digits = whole_part text ++ fraction_part text in
-    if is_numeral digits then Some (record { mantissa = with_sign (is_negative text) (number_of digits); scale = length (fraction_part text) }) else None
+    if is_numeral digits
+    then Some (record {
+      mantissa = with_sign (is_negative text) (number_of digits);
+      scale = length (fraction_part text);
+    })
+    else None
 
 -- what a boolean's text says
 abbrev pub truth_of : List ℕ → Option Bool

@@ -5,8 +5,8 @@ use Rattle.dfdl_value.specs.declared.integer.Whole.{Whole}
 use Rattle.dfdl_value.specs.declared.read.NoValue.{NoValue}
 use Rattle.dfdl_value.specs.declared.read.NoValue.TheVariants.{NotAValue, PastType}
 
--- the number by its sign and its magnitude, or why there is none: it is no whole number, or its magnitude takes more
--- than 128 bits
+-- the number by its sign and its magnitude, or why there is none: it is no whole number, or its
+-- magnitude takes more than 128 bits
 abbrev pub IsWholeOf : Option ℤ → Result Whole NoValue → Type 0
 IsWholeOf number (Ok whole) = number ≡ Some (with_sign whole.negative whole.magnitude)
 IsWholeOf number (Err NotAValue) = number ≡ None

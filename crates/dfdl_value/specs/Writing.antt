@@ -16,13 +16,17 @@ padded_decimal least n = replicate (least - length (decimal n)) 48 ++ decimal n
 
 -- digits, with a point before the last `scale` of them
 abbrev pub pointed : ℕ → List ℕ → List ℕ
-pointed scale digits = take (length digits - scale) digits ++ (if scale == 0 then [] else 46 ∷ drop (length digits - scale) digits)
+pointed scale digits =
+    take (length digits - scale) digits
+    ++ (if scale == 0 then [] else 46 ∷ drop (length digits - scale) digits)
 
 -- a decimal number with a digit or more before the point, and no point without digits after it
 abbrev pub decimal_text : DecimalNumber → List ℕ
-decimal_text d = minus_of d.mantissa ++ pointed d.scale (padded_decimal (d.scale + 1) (unsigned_abs d.mantissa))
+decimal_text d =
+    minus_of d.mantissa ++ pointed d.scale (padded_decimal (d.scale + 1) (unsigned_abs d.mantissa))
 
--- the text that a value is written as: a whole number in plain decimal digits, hexBinary in upper case
+-- the text that a value is written as: a whole number in plain decimal digits, hexBinary in upper
+-- case
 abbrev pub text_of : Value → List ℕ
 text_of (Int z) = signed_decimal z
 text_of (Uns n) = decimal n

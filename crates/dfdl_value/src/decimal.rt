@@ -67,17 +67,22 @@ fn without_trailing_zeros(digits: &[u8]) -> &[u8]
 fn joined(whole: &[u8], fraction: &[u8]) -> Option<u128>
     requires whole { IsTrue (list_all is_ascii_digit whole.now) }
     requires fraction { IsTrue (list_all is_ascii_digit fraction.now) }
-    ensures { SomeIff result (number_of (whole.now ++ fraction.now) < 2 ^ 128) (number_of (whole.now ++ fraction.now)) }
+    ensures { SomeIff result
+        (number_of (whole.now ++ fraction.now) < 2 ^ 128) (number_of (whole.now ++ fraction.now)) }
 {
     let number = appended(0, whole)?;
     appended(number, fraction)
 }
 
-/// The number of which these are the digits before and after the point, if `Fixed` has a form for it.
+/// The number of which these are the digits before and after the point, if `Fixed` has a form for
+/// it.
 fn fixed_from(negative: bool, whole: &[u8], fraction: &[u8]) -> Option<Fixed>
     requires whole { IsTrue (list_all is_ascii_digit whole.now) }
     requires fraction { IsTrue (list_all is_ascii_digit fraction.now) }
-    ensures { result ≡ fixed_of (record { mantissa = with_sign negative (number_of (whole.now ++ fraction.now)); scale = length fraction.now }) }
+    ensures { result ≡ fixed_of (record {
+      mantissa = with_sign negative (number_of (whole.now ++ fraction.now));
+      scale = length fraction.now;
+    }) }
 {
     let kept = without_trailing_zeros(fraction);
     if kept.len() > 255 {

@@ -1,5 +1,5 @@
-// Texts and bytes that a value holds. A contract sees a text as the list of its UTF-8 bytes, and bytes as
-// their list.
+// Texts and bytes that a value holds. A contract sees a text as the list of its UTF-8 bytes, and
+// bytes as their list.
 ghost use Rattle.std.specs.Prelude.{◌≡◌, IfOk, string_bytes};
 
 use std::alloc::{AllocError, Global};

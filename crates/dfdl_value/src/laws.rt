@@ -10,8 +10,8 @@ ghost use Rattle.dfdl_value.specs.declared.value.Value.{Value as AnyValue};
 ghost use Rattle.dfdl_value.specs.declared.value.Value.TheVariants.{Bytes};
 
 use super::held::ByteValue;
-use dfdl_forms::Simple;
 use super::value::Value;
+use dfdl_forms::Simple;
 
 fn are_bytes(bytes: &[u8])
     ensures { IsBytes bytes.now }
@@ -35,5 +35,6 @@ pub fn text_is_read_back(kind: Simple, value: &Value)
 
 /// The same of every value that holds no memory.
 pub fn plain_text_is_read_back()
-    ensures { (kind : AnySimple) (value : AnyValue) → IsPlain value → IsOfType kind value → reading_of kind (text_of value) ≡ Ok value }
+    ensures { (kind : AnySimple) (value : AnyValue) → IsPlain value → IsOfType kind value
+        → reading_of kind (text_of value) ≡ Ok value }
 {}

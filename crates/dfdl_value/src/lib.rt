@@ -1,7 +1,8 @@
-//! Values of the simple types: what each type's values are, and the reading and writing of a value as text.
+//! Values of the simple types: what each type's values are, and the reading and writing of a value
+//! as text.
 //!
-//! The contracts cite `IsOfType` of specs/Types.antt, which says what values a type has, and the definitions of what a
-//! text means. It serves the chapter 'The DFDL Information Set'.
+//! The contracts cite `IsOfType` of specs/Types.antt, which says what values a type has, and the
+//! definitions of what a text means. It serves the chapter 'The DFDL Information Set'.
 #![tactic(auto)]
 
 pub mod cell;

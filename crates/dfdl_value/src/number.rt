@@ -13,13 +13,12 @@ use super::value::Value;
 use dfdl_decimal::{Digits, shortest, without_zeros};
 use dfdl_forms::{Form, Simple};
 
-fn whole_number(
-    negative: bool,
-    magnitude: Option<u128>,
-    scale: usize,
-) -> Result<Whole, NoValue>
+fn whole_number(negative: bool, magnitude: Option<u128>, scale: usize) -> Result<Whole, NoValue>
     ensures { (n : ℕ) → SomeIff magnitude (n < 2 ^ 128) n
-        → IsWholeOf (whole_if_short (record { mantissa = with_sign negative n; scale = scale })) result }
+        → IsWholeOf (whole_if_short (record {
+          mantissa = with_sign negative n;
+          scale = scale;
+        })) result }
 {
     if scale > 0 {
         return Err(NoValue::NotAValue);
@@ -35,7 +34,10 @@ fn whole_number(
 
 fn decimal_number(negative: bool, magnitude: Option<u128>, scale: usize) -> Result<Value, NoValue>
     ensures { (n : ℕ) → SomeIff magnitude (n < 2 ^ 128) n → (0 < scale → n % 10 ≢ 0)
-        → result ≡ fixed_reading (fixed_of (record { mantissa = with_sign negative n; scale = scale })) }
+        → result ≡ fixed_reading (fixed_of (record {
+          mantissa = with_sign negative n;
+          scale = scale;
+        })) }
 {
     if scale > 255 {
         return Err(NoValue::PastType);
@@ -57,7 +59,10 @@ fn value_of_short(
     scale: usize,
 ) -> Result<Value, NoValue>
     ensures { (n : ℕ) → SomeIff magnitude (n < 2 ^ 128) n → (0 < scale → n % 10 ≢ 0)
-        → result ≡ number_reading (form_of kind) (record { mantissa = with_sign negative n; scale = scale }) }
+        → result ≡ number_reading (form_of kind) (record {
+          mantissa = with_sign negative n;
+          scale = scale;
+        }) }
 {
     match kind.form() {
         Form::Signed { bits } => signed_of(bits, whole_number(negative, magnitude, scale)),
@@ -67,8 +72,9 @@ fn value_of_short(
     }
 }
 
-/// The value that a number is: `magnitude` is its digits, and `scale` how many of them stand behind the point. No
-/// magnitude stands for each of more than 128 bits whose last digit is no zero where some stand behind the point.
+/// The value that a number is: `magnitude` is its digits, and `scale` how many of them stand behind
+/// the point. No magnitude stands for each of more than 128 bits whose last digit is no zero where
+/// some stand behind the point.
 pub fn value_of_number(
     kind: Simple,
     negative: bool,
@@ -76,9 +82,15 @@ pub fn value_of_number(
     scale: usize,
 ) -> Result<Value, NoValue>
     ensures held { (n : ℕ) → magnitude ≡ Some n
-        → result ≡ number_reading (form_of kind) (record { mantissa = with_sign negative n; scale = scale }) }
+        → result ≡ number_reading (form_of kind) (record {
+          mantissa = with_sign negative n;
+          scale = scale;
+        }) }
     ensures past { magnitude ≡ None → (n : ℕ) → 2 ^ 128 ≤ n → (0 < scale → n % 10 ≢ 0)
-        → result ≡ number_reading (form_of kind) (record { mantissa = with_sign negative n; scale = scale }) }
+        → result ≡ number_reading (form_of kind) (record {
+          mantissa = with_sign negative n;
+          scale = scale;
+        }) }
 {
     match magnitude {
         Some(magnitude) => {

@@ -38,7 +38,8 @@ fn are_hex_digits(text: &[u8]) -> bool
 /// What a text without white space at its ends says of hexBinary.
 pub(crate) fn read_bytes(alloc: Global, text: &[u8]) -> Result<Value, ReadFault>
     ensures value { IfOk result (λ v. bytes_reading (decode_of text.now) ≡ Ok v) }
-    ensures not_a_value { IsErrOf result ReadFault.NotAValue ↔ (bytes_reading (decode_of text.now) ≡ Err NoValue.NotAValue) }
+    ensures not_a_value { IsErrOf result ReadFault.NotAValue
+        ↔ (bytes_reading (decode_of text.now) ≡ Err NoValue.NotAValue) }
     ensures past_type { ¬ IsErrOf result ReadFault.PastType }
 {
     if text.len() % 2 != 0 {

@@ -7,9 +7,9 @@ use super::decimal::read_decimal;
 use super::held::TextValue;
 use super::integer::{read_signed, read_unsigned};
 use super::octets::{read_bytes, read_truth};
-use dfdl_forms::{Form, Simple};
 use super::text::trimmed;
 use super::value::Value;
+use dfdl_forms::{Form, Simple};
 use std::alloc::Global;
 use thiserror::Error;
 
@@ -71,8 +71,10 @@ impl Value {
     pub fn read(alloc: Global, kind: Simple, text: &str) -> Result<Value, ReadFault>
         ensures value { IfOk result (λ v. reading_of kind text.now ≡ Ok v) }
         ensures typed { IfOk result (IsOfType kind) }
-        ensures not_a_value { IsErrOf result ReadFault.NotAValue ↔ (reading_of kind text.now ≡ Err NoValue.NotAValue) }
-        ensures past_type { IsErrOf result ReadFault.PastType ↔ (reading_of kind text.now ≡ Err NoValue.PastType) }
+        ensures not_a_value { IsErrOf result ReadFault.NotAValue
+            ↔ (reading_of kind text.now ≡ Err NoValue.NotAValue) }
+        ensures past_type { IsErrOf result ReadFault.PastType
+            ↔ (reading_of kind text.now ≡ Err NoValue.PastType) }
         ensures memory { IsErrOf result ReadFault.OutOfMemory → HoldsMemory (form_of kind) }
     {
         let inner = trimmed(text.as_bytes());

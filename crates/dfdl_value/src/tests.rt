@@ -1,5 +1,7 @@
 use super::laws::text_is_read_back;
-use super::{ByteValue, CellId, Fixed, NoValue, ReadFault, Simple, TextValue, Value, value_of_number};
+use super::{
+    ByteValue, CellId, Fixed, NoValue, ReadFault, Simple, TextValue, Value, value_of_number,
+};
 use std::alloc::Global;
 use std::test::Fail;
 

@@ -75,7 +75,8 @@ pub(crate) fn is_numeral(text: &[u8]) -> bool
 /// The number that the digits write behind those of `number`, if it has 128 bits at most.
 pub(crate) fn appended(number: u128, digits: &[u8]) -> Option<u128>
     requires { IsTrue (list_all is_ascii_digit digits.now) }
-    ensures { SomeIff result (number_after number digits.now < 2 ^ 128) (number_after number digits.now) }
+    ensures { SomeIff result
+        (number_after number digits.now < 2 ^ 128) (number_after number digits.now) }
 {
     let mut number = number;
     for digit in digits {

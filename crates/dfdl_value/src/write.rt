@@ -21,7 +21,8 @@ fn padded_digits(alloc: Global, number: u128, least: usize) -> Result<String, Al
 fn push_pointed(text: &mut String, digits: &str, scale: usize) -> Result<(), AllocError>
     requires ascii { IsAscii digits.now }
     requires some { scale < length digits.now }
-    ensures { OnOk result (string_bytes text.new ≡ string_bytes text.old ++ pointed_of scale digits.now) }
+    ensures { OnOk result (string_bytes text.new
+        ≡ string_bytes text.old ++ pointed_of scale digits.now) }
 {
     let (whole, fraction) = digits.split_at(digits.len() - scale);
     text.push_str(whole)?;

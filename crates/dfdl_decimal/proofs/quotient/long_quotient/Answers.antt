@@ -6,11 +6,11 @@ use Rattle.dfdl_decimal.proofs.quotient.long_quotient.Goals as goal
 
 pub returns-in-Some : goal.returns-in-Some
 returns-in-Some c =
-    let x = c.args.dividend in
-    let y = c.args.divisor in
+    let x = c.args.of.dividend in
+    let y = c.args.of.divisor in
     let k = c.in-Some.found.zeros in
     let n = x * 10 ^ k / y in
     let found = c.in-Some.ensures in
     c.ok_or.ensures.value
     ∙ ap (λ o. ok_or o Overflow) (c.raised.ensures n found.number (last_of (n % 10 ≢ 0) x y k (omega arith) found.last))
-    ∙ sym (ap quotient_answer (exact_longer c.args.negative x y k c.args.zeros c.requires.some found.few found.exact))
+    ∙ sym (ap quotient_answer (exact_longer c.args.of.negative x y k c.args.zeros c.requires.some found.few found.exact))

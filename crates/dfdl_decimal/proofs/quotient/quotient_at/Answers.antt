@@ -5,8 +5,8 @@ use Rattle.dfdl_decimal.proofs.quotient.quotient_at.Goals as goal
 
 pub returns-then-down-up : goal.returns-then-down-up
 returns-then-down-up c =
-    c.long_quotient.ensures ∙ ap quotient_answer (exact_up c.args.negative c.args.dividend c.args.divisor c.args.up c.args.down c.requires.some c.if-down-up.true)
+    c.long_quotient.ensures ∙ ap quotient_answer (exact_up c.args.of.negative c.args.of.dividend c.args.of.divisor c.args.up c.args.down c.requires.some c.if-down-up.true)
 
 pub returns-else-down-up : goal.returns-else-down-up
 returns-else-down-up c =
-    c.short_quotient.ensures ∙ ap quotient_answer (exact_down c.args.negative c.args.dividend c.args.divisor c.args.up c.args.down c.requires.some (omega arith))
+    c.short_quotient.ensures ∙ ap quotient_answer (exact_down c.args.of.negative c.args.of.dividend c.args.of.divisor c.args.up c.args.down c.requires.some (omega arith))

@@ -12,15 +12,15 @@ some_longer y z some = some_product y (10 ^ z) some (pow_some z)
 pub returns-then-dividend-eq0 : goal.returns-then-dividend-eq0
 returns-then-dividend-eq0 c =
     c.ok_or.ensures.value ∙ ap (λ o. ok_or o Overflow) c.shortest.ensures
-    ∙ sym (ap quotient_answer (exact_none c.args.negative c.args.dividend (c.args.divisor * 10 ^ c.args.zeros) (some_longer c.args.divisor c.args.zeros c.requires.some) c.if-dividend-eq0.true))
+    ∙ sym (ap quotient_answer (exact_none c.args.of.negative c.args.of.dividend (c.args.of.divisor * 10 ^ c.args.zeros) (some_longer c.args.of.divisor c.args.zeros c.requires.some) c.if-dividend-eq0.true))
 
 pub returns-in_default : goal.returns-in_default
 returns-in_default c =
-    sym (ap quotient_answer (inexact_few c.args.negative c.args.dividend (c.args.divisor * 10 ^ c.args.zeros) (omega arith) (omega (arith, c.in_default.ensures))))
+    sym (ap quotient_answer (inexact_few c.args.of.negative c.args.of.dividend (c.args.of.divisor * 10 ^ c.args.zeros) (omega arith) (omega (arith, c.in_default.ensures))))
 
 pub returns-then-longer-dividend : goal.returns-then-longer-dividend
 returns-then-longer-dividend c =
-    sym (ap quotient_answer (inexact_few c.args.negative c.args.dividend (c.args.divisor * 10 ^ c.args.zeros) (omega arith) (omega (arith, c.in-Some.ensures.1))))
+    sym (ap quotient_answer (inexact_few c.args.of.negative c.args.of.dividend (c.args.of.divisor * 10 ^ c.args.zeros) (omega arith) (omega (arith, c.in-Some.ensures.1))))
 
 pub nonzero_rem-dividend : goal.nonzero_rem-dividend
-nonzero_rem-dividend c = omega (arith, c.in-Some.ensures.1, some_longer c.args.divisor c.args.zeros c.requires.some)
+nonzero_rem-dividend c = omega (arith, c.in-Some.ensures.1, some_longer c.args.of.divisor c.args.zeros c.requires.some)

@@ -10,8 +10,7 @@ returns-in-None c = λ n past.
     let P : Option ℕ → Type 0 = λ m. SomeIff m (n < 2 ^ 128) n in
     let more : ¬ (n < 2 ^ 128) = subst P c.in-None.is past in
     let none : c.args.scale ≡ 0 = omega arith in
-    let far : 2 ^ 128 ≤ n = omega (arith, more) in
-    (
+    let far : 2 ^ 128 ≤ n = omega (arith, more) in (
       with_sign c.args.negative n,
       ap (λ s. whole_if_short (record { mantissa = with_sign c.args.negative n; scale = s })) none,
       rw unsigned_abs-with_sign far,

@@ -1,16 +1,17 @@
-// The program `dfdl`: it makes the real objects and calls `run`, whose contract says what it does. Its words are those
-// behind its name, the data is standard input, the answer is standard output and the notes are standard error.
+//! The program `dfdl`: it makes the real objects and calls `run`, whose contract says what it does. Its words are those
+//! behind its name, the data is standard input, the answer is standard output and the notes are standard error.
 #![tactic(auto)]
 
-use dfdl_edge::{DirFiles, RegexPatterns, StdSink, StdSource};
+use dfdl_edge::{DirFiles, RegexPatterns, Sink, StdSink, StdSource, words_of};
+use dfdl_report::{Status, line};
 use dfdl_run::{FirstReady, run};
+use std::alloc::AllocError;
 use std::process::ExitCode;
-use std::{env, io};
 
 // The status of a run on the program's words.
-fn start(rt: &HostRuntime) -> io::Result<u8> {
+fn start(rt: &HostRuntime) -> Result<u8, AllocError> {
     let alloc = rt.alloc();
-    let words: Vec<String> = env::args(rt)?.skip(1).collect(alloc)?;
+    let words = words_of(alloc, rt)?;
     let mut files = DirFiles::new(rt);
     let mut source = StdSource::new(rt.stdin());
     let mut out = StdSink::new(rt.stdout());
@@ -29,10 +30,13 @@ fn start(rt: &HostRuntime) -> io::Result<u8> {
     ))
 }
 
-// The words of the program take memory: without it the status is that of want of memory.
+// The words of the program take memory: without it the run ends as one that has none.
 fn main(rt: HostRuntime) -> ExitCode {
     match start(&rt) {
         Ok(status) => ExitCode::from(status),
-        Err(_) => ExitCode::from(9),
+        Err(_) => {
+            let _ = StdSink::new(rt.stderr()).write(line::of_memory().as_bytes());
+            ExitCode::from(Status::OutOfMemory.number())
+        }
     }
 }

@@ -1,5 +1,6 @@
 use super::*;
 use std::io::{ErrorKind, Read, Write};
+use std::env::{Env, FillError};
 use std::test::Fail;
 use std::{fs, io, process};
 
@@ -275,5 +276,46 @@ fn files_of_the_system_are_loaded_by_name(rt: HostRuntime) -> Result<(), Fail> {
     assert_eq!(rt; whole?.as_slice(), b"abc".as_slice());
     assert_eq!(rt; past.err(), Some(LoadFault::TooLarge { size: 3 }));
     assert_eq!(rt; missing.err(), Some(LoadFault::Failed));
+    Ok(())
+}
+
+// A program's name and its words, as bytes.
+struct Given<'a> {
+    words: &'a [&'a [u8]],
+}
+
+impl<'a> Env for Given<'a> {
+    fn arg(&self, i: usize, buf: &mut [u8]) -> Result<usize, FillError> {
+        let Some(word) = self.words.get(i) else {
+            return Err(FillError::NotPresent);
+        };
+        if word.len() > buf.len() {
+            return Err(FillError::TooLong);
+        }
+        buf[..word.len()].copy_from_slice(*word);
+        Ok(word.len())
+    }
+
+    fn var(&self, _name: &str, _buf: &mut [u8]) -> Result<usize, FillError> {
+        Err(FillError::NotPresent)
+    }
+
+    fn var_at(&self, _i: usize, _buf: &mut [u8]) -> Result<usize, FillError> {
+        Err(FillError::NotPresent)
+    }
+}
+
+#[test]
+fn words_of_a_program(rt: HostRuntime) -> Result<(), Fail> {
+    let long = [b'x'; 700];
+    let given = Given {
+        words: &[b"dfdl", b"parse", b"\xff.xsd", b"", "é".as_bytes(), &long],
+    };
+    let words = words_of(rt.alloc(), &given)?;
+    assert_eq!(rt; words.len(), 5);
+    for (at, word) in [(0, "parse"), (1, ""), (2, ""), (3, "é")] {
+        assert_eq!(rt; words[at].as_str(), word, "word {at}");
+    }
+    assert_eq!(rt; words[4].len(), 700);
     Ok(())
 }

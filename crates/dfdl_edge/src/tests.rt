@@ -1,6 +1,6 @@
 use super::*;
-use std::io::{ErrorKind, Read, Write};
 use std::env::{Env, FillError};
+use std::io::{ErrorKind, Read, Write};
 use std::test::Fail;
 use std::{fs, io, process};
 

@@ -20,11 +20,7 @@ pub fn words_of<R: Env>(alloc: Global, runtime: &R) -> Result<Vec<String>, Alloc
 }
 
 // The word at this place, where 0 is the program's name. Room is doubled as long as the word doesn't fit.
-fn word_at<R: Env>(
-    alloc: Global,
-    runtime: &R,
-    place: usize,
-) -> Result<Option<String>, AllocError> {
+fn word_at<R: Env>(alloc: Global, runtime: &R, place: usize) -> Result<Option<String>, AllocError> {
     let mut room = FIRST_ROOM;
     for _ in 0..usize::BITS {
         let mut bytes = Vec::new(alloc);

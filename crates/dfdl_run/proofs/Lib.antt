@@ -1,7 +1,10 @@
 pub mod Decisions
 pub mod Ends
+pub mod LineTexts
 pub mod Lines
+pub mod LinesBack
 pub mod Loads
+pub mod MemberLists
 pub mod PieceLemmas
 pub mod Rankings
 pub mod Readings

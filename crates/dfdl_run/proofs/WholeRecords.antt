@@ -1,9 +1,12 @@
 -- The record of a schema has whole fields.
-use Rattle.std.proofs.Common.{All, ◌≡◌, ◌*◌, ◌≤◌, ◌<◌, ℕ, Bool, List, [], ◌∷◌, map, cond, Option, None, Some, IfSome, option_map, option_and_then, refl, sym, ap, subst, ◌∙◌, arith}
+use Rattle.std.proofs.Common.{All, ◌≡◌, ◌*◌, ◌≤◌, ◌<◌, ℕ, Bool, true, ◌&&◌, nat_lt, IsUtf8, List, [], ◌∷◌, map, cond, Option, None, Some, IfSome, option_map, option_and_then, refl, sym, ap, subst, ◌∙◌, arith}
 use Rattle.std.specs.Str.{bytes_eq}
 use Rattle.std.specs.Prelude.{codes}
-use Rattle.std.proofs.lemmas.Bool.{cond_both}
-use Rattle.std.proofs.lemmas.List.Elements.{All-cons, All-nil}
+use Rattle.std.specs.List.{list_all}
+use Rattle.std.proofs.lemmas.Bool.{and_from, cond_both}
+use Rattle.std.proofs.lemmas.Bool.Decides.{nat_tests}
+use Rattle.json.proofs.Printed.Utf8.{IsUtf8-are_ascii, are_ascii}
+use Rattle.std.proofs.lemmas.List.Elements.{All-cons, All-nil, recursion_from_All}
 use Rattle.dfdl_forms.specs.declared.order.ByteOrder.{ByteOrder}
 use Rattle.dfdl_forms.specs.declared.order.BitOrder.TheVariants.{MostFirst}
 use Rattle.dfdl_forms.specs.Types.{form_of as form_of_kind}
@@ -11,10 +14,14 @@ use Rattle.dfdl_forms.specs.declared.simple.Form.TheVariants.{Unsigned}
 use Rattle.dfdl_forms.specs.declared.simple.Simple.{Simple}
 use Rattle.dfdl_forms.specs.declared.simple.Simple.TheVariants.{UnsignedByte, UnsignedShort, UnsignedInt, UnsignedLong}
 use Rattle.dfdl_forms.specs.declared.binary.IntForm.{IntForm}
+use Rattle.dfdl_lemmas.proofs.Bools.{both}
+use Rattle.dfdl_doc_tree.specs.Content.{is_name_byte, is_name_start, is_part}
 use Rattle.dfdl_doc_tree.specs.Node.{Node, node_at}
 use Rattle.dfdl_terms.specs.Record.{Field, Record, all_of, record_of}
 use Rattle.dfdl_terms.specs.Rows.{Table}
 use Rattle.dfdl_record.specs.Pieces.{IsWholeField, IsWholeRecord}
+use Rattle.dfdl_run.specs.RoundTrip.{HasTextNames}
+use Rattle.dfdl_compile.specs.Schema.{IsSchema, field_elements, has, is_element, is_schema, only, root_name, root_outline}
 use Rattle.dfdl_compile.specs.Schema.{Outline, IsRecordTree, bits_of, field_of, form_of, integer_form, is_field, kind_of, local_name, order_of, outline_of, outline_record, value_of}
 use Rattle.dfdl_run.specs.Loaded.{AreTermsOf}
 
@@ -103,3 +110,93 @@ pub loaded_whole : (bytes : List ℕ) (terms : Table) → AreTermsOf bytes terms
 loaded_whole bytes terms loaded described is =
     let same : loaded.described ≡ described = let terms_are = loaded.terms_are in cc in
     subst IsWholeRecord same (record { whole = tree_whole loaded.schema.nodes loaded.described loaded.schema.tree; different = loaded.schema.tree.different })
+
+-- ---- the names of a schema's record are texts
+
+start_ascii : (b : ℕ) → is_name_start b ≡ true → nat_lt b 128 ≡ true
+unfolding is_name_start
+start_ascii b start = grind (arith, nat_tests)
+
+byte_ascii : (b : ℕ) → is_name_byte b ≡ true → nat_lt b 128 ≡ true
+unfolding is_name_byte is_name_start
+byte_ascii b inside = grind (arith, nat_tests)
+
+bytes_ascii : (bytes : List ℕ) → list_all is_name_byte bytes ≡ true → are_ascii bytes ≡ true
+bytes_ascii [] all = refl
+bytes_ascii (b ∷ bytes) all =
+    let parts = both (is_name_byte b) (list_all is_name_byte bytes) all in
+    and_from (nat_lt b 128) (are_ascii bytes) (byte_ascii b parts.0) (bytes_ascii bytes parts.1)
+
+part_utf8 : (name : List ℕ) → is_part name ≡ true → IsUtf8 name
+part_utf8 [] part = absurd (cc)
+part_utf8 (b ∷ bytes) part =
+    let parts = both (is_name_start b) (list_all is_name_byte bytes) part in
+    IsUtf8-are_ascii (b ∷ bytes) (and_from (nat_lt b 128) (are_ascii bytes) (start_ascii b parts.0) (bytes_ascii bytes parts.1))
+
+local_utf8 : (name : List ℕ) → IfSome (local_name name) IsUtf8
+local_utf8 name = cond_both (is_part name) (Some name) None (λ (o : Option (List ℕ)). IfSome o IsUtf8) (λ part. part_utf8 name part) (λ _. tt)
+
+-- the name that an attribute gives
+given_utf8 : (o : Option (List ℕ)) → IfSome (option_and_then local_name o) IsUtf8
+given_utf8 o = some_then (λ _. Unit {0}) IsUtf8 local_name o (some_any o) (λ name _. local_utf8 name)
+
+abbrev IsNamed : Field → Type 0
+IsNamed field = IsUtf8 field.name
+
+field_named : (node : Node) → IfSome (field_of node) IsNamed
+field_named node =
+    cond_both (is_field node) _ None (λ (o : Option Field). IfSome o IsNamed)
+    (λ _. some_then IsUtf8 IsNamed (λ name. option_map (λ form. let f : Field = record { name = name; form = form } in f) (form_of node))
+    (option_and_then local_name (value_of (codes "name") node.attributes)) (given_utf8 _)
+    (λ name utf8. some_map (λ _. Unit {0}) IsNamed (λ form. record { name = name; form = form }) (form_of node) (some_any _) (λ form _. utf8)))
+    (λ _. tt)
+
+abbrev IsRooted : Outline → Type 0
+IsRooted outline = IsUtf8 outline.root
+
+root_named : (node : Node) → IfSome (root_name node) IsUtf8
+root_named node =
+    cond_both (is_element (codes "xs:element") 2 node && has node (codes "dfdl:lengthKind") (codes "implicit")) _ None
+    (λ (o : Option (List ℕ)). IfSome o IsUtf8) (λ _. given_utf8 (value_of (codes "name") node.attributes)) (λ _. tt)
+
+element_rooted : (nodes : List Node) (element : ℕ) → IfSome (root_outline nodes element) IsRooted
+element_rooted nodes element =
+    some_then IsUtf8 IsRooted
+    (λ name. option_map (λ fields. let o : Outline = record { root = name; fields = fields } in o) (field_elements nodes (node_at nodes element).children))
+    (root_name (node_at nodes element)) (root_named (node_at nodes element))
+    (λ name utf8. some_map (λ _. Unit {0}) IsRooted (λ fields. record { root = name; fields = fields }) _ (some_any _) (λ fields _. utf8))
+
+outline_rooted : (nodes : List Node) → IfSome (outline_of nodes) IsRooted
+outline_rooted nodes =
+    cond_both (is_schema (node_at nodes 0)) _ None (λ (o : Option Outline). IfSome o IsRooted)
+    (λ _. some_then (λ _. Unit {0}) IsRooted (root_outline nodes) (only (node_at nodes 0).children) (some_any _) (λ element _. element_rooted nodes element))
+    (λ _. tt)
+
+tree_named : (nodes : List Node) (described : Record) → IsRecordTree nodes described → IsUtf8 described.root × All IsNamed described.fields
+tree_named nodes described tree =
+    (elim (outline_of nodes) as
+    (λ o. IfSome o IsRooted → option_and_then (outline_record nodes) o ≡ Some described → IsUtf8 described.root × All IsNamed described.fields) [
+      | None ↦ λ _ none. absurd (cc)
+      | Some outline ↦ λ rooted some.
+          (elim (all_of (map (λ element. field_of (node_at nodes element)) outline.fields)) as
+          (λ o. all_of (map (λ element. field_of (node_at nodes element)) outline.fields) ≡ o
+          → option_map (λ fields. let r : Record = record { root = outline.root; fields = fields } in r) o ≡ Some described
+          → IsUtf8 described.root × All IsNamed described.fields) [
+            | None ↦ λ _ none. absurd (cc)
+            | Some fields ↦ λ read same.
+                let same_root : outline.root ≡ described.root = cc in
+                let same_fields : fields ≡ described.fields = cc in (
+                  subst IsUtf8 same_root rooted,
+                  subst (λ (fs : List Field). All IsNamed fs) same_fields
+                  (all_whole IsNamed (λ element. field_of (node_at nodes element)) outline.fields fields (λ element. field_named (node_at nodes element)) read),
+                )
+          ]) refl some
+    ]) (outline_rooted nodes) tree.shape
+
+pub schema_whole : (schema : List ℕ) (described : Record) → IsSchema schema described → IsWholeRecord described
+schema_whole schema described is = record { whole = tree_whole is.nodes described is.tree; different = is.tree.different }
+
+pub schema_names : (schema : List ℕ) (described : Record) → IsSchema schema described → HasTextNames described
+schema_names schema described is =
+    let names = tree_named is.nodes described is.tree in
+    record { root = names.0; fields = recursion_from_All IsNamed described.fields names.1 }

@@ -8,4 +8,5 @@ pub mod Loaded
 pub mod Meaning
 pub mod Outside
 pub mod Reading
+pub mod RoundTrip
 pub mod Run

@@ -512,11 +512,9 @@ const LACKS_THE_LAST_OF_17: &str =
 
 const DATA_OF_3: &str = "\x03\x0a\x11";
 
-const DATA_OF_16: &str =
-    "\x03\x0a\x11\x18\x1f\x26\x2d\x34\x3b\x42\x49\x50\x57\x5e\x65\x6c";
+const DATA_OF_16: &str = "\x03\x0a\x11\x18\x1f\x26\x2d\x34\x3b\x42\x49\x50\x57\x5e\x65\x6c";
 
-const DATA_OF_17: &str =
-    "\x03\x0a\x11\x18\x1f\x26\x2d\x34\x3b\x42\x49\x50\x57\x5e\x65\x6c\x73";
+const DATA_OF_17: &str = "\x03\x0a\x11\x18\x1f\x26\x2d\x34\x3b\x42\x49\x50\x57\x5e\x65\x6c\x73";
 
 // So many bytes, each 7 more than the one before.
 fn sevens(rt: &HostRuntime, size: usize) -> Result<Vec<u8>, Fail> {
@@ -574,7 +572,14 @@ fn infosets_of_other_sizes_are_unparsed(rt: HostRuntime) -> Result<(), Fail> {
         (3, LINE_OF_3, 100_000, 0, DATA_OF_3, ""),
         (17, LINE_OF_17, 2_000, 0, DATA_OF_17, ""),
         (17, LINE_OF_17, 100_000, 0, DATA_OF_17, ""),
-        (3, LINE_OF_17, 2_000, 12, "", "error I3 in /r: unknown member\n"),
+        (
+            3,
+            LINE_OF_17,
+            2_000,
+            12,
+            "",
+            "error I3 in /r: unknown member\n",
+        ),
         (
             17,
             LINE_OF_3,

@@ -280,6 +280,7 @@ fn files_of_the_system_are_loaded_by_name(rt: HostRuntime) -> Result<(), Fail> {
 }
 
 // A program's name and its words, as bytes.
+#[derive(Drop)]
 struct Given<'a> {
     words: &'a [&'a [u8]],
 }

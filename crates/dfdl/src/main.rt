@@ -1,5 +1,6 @@
-//! The program `dfdl`: it makes the real objects and calls `run`, whose contract says what it does. Its words are those
-//! behind its name, the data is standard input, the answer is standard output and the notes are standard error.
+//! The program `dfdl`: it makes the real objects and calls `run`, whose contract says what it does.
+//! Its words are those behind its name, the data is standard input, the answer is standard output
+//! and the notes are standard error.
 #![tactic(auto)]
 
 use dfdl_edge::{DirFiles, RegexPatterns, Sink, StdSink, StdSource, words_of};

@@ -1,10 +1,12 @@
 -- What contracts see of the implementations in memory.
-use Rattle.std.specs.Prelude.{Bool, ℕ, ◌-◌, ◌%◌, ◌^◌, max, List, [], ◌∷◌, length, slice_index, Option, option_map, Contains}
+use Rattle.std.specs.Prelude.{Bool, ℕ, ◌-◌, ◌%◌, ◌^◌, max, List, [], ◌∷◌, length, slice_index}
+use Rattle.std.specs.Prelude.{Option, option_map, Contains}
 use Rattle.std.specs.List.{find}
 use Rattle.std.specs.Str.{bytes_eq}
 use Rattle.dfdl_edge.specs.Faults.{one_more}
 
--- the calls of one implementation: the numbers, from 1 on, of those that are to fail, how many were made, and how many failed
+-- the calls of one implementation: the numbers, from 1 on, of those that are to fail, how many were
+-- made, and how many failed
 pub record CallCount : Type 0 where
   pub failing : List ℕ
   pub made : ℕ
@@ -32,12 +34,14 @@ pub record SourceInMemory : Type 0 where
   pub cuts : List ℕ
   pub calls : CallCount
 
--- How many bytes read number `call` gives at most. The cuts come in turn, over and over; each counts as 1 at least.
+-- How many bytes read number `call` gives at most. The cuts come in turn, over and over; each
+-- counts as 1 at least.
 abbrev pub cut_at : List ℕ → ℕ → ℕ
 cut_at [] call = 2 ^ 64 - 1
 cut_at (cut ∷ cuts) call = max (slice_index (cut ∷ cuts) ((call - 1) % length (cut ∷ cuts))) 1
 
--- a sink: the bytes that it has taken, whether there was no memory for the piece of its last write, and its writes
+-- a sink: the bytes that it has taken, whether there was no memory for the piece of its last write,
+-- and its writes
 pub record SinkInMemory : Type 0 where
   pub bytes : List ℕ
   pub short : Bool

@@ -14,7 +14,8 @@ pub record IsPatternOf (text : List ℕ) (pattern : Regex) : Type 0 where
   pub options : regex_config pattern ≡ default_config
   pub read : IsReadFromSource pattern
 
--- `regex` refuses the text for another cause than memory: the text is no pattern, or it is one that is too big
+-- `regex` refuses the text for another cause than memory: the text is no pattern, or it is one that
+-- is too big
 pub record IsRefusedText (text : List ℕ) : Type 0 where
   pub fault : Error
   pub memory : fault ≢ error.OutOfMemory

@@ -1,4 +1,5 @@
--- What an implementation of the outside tells of its content. It may tell nothing: then it is `None`.
+-- What an implementation of the outside tells of its content. It may tell nothing: then it is
+-- `None`.
 use Rattle.std.specs.Prelude.{Option, Some, None, ◌≡◌, ℕ, List, ◌<◌, ◌≤◌, length, IfSome}
 
 -- both are told and stand in the relation R, or neither is told

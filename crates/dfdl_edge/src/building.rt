@@ -19,7 +19,8 @@ pub enum PatternRefusal {
 
 /// The building of regular expressions from their texts.
 pub trait Patterns {
-    // how many builds were refused for another cause than memory; at the last value of a u64 it stands still
+    // how many builds were refused for another cause than memory; at the last value of a u64 it
+    // stands still
     ghost faults: { Self → ℕ };
 
     // the text last refused, if any was; `None` where this isn't told
@@ -30,10 +31,12 @@ pub trait Patterns {
         ensures pattern { IfOk result (IsPatternOf text.now) }
 
         ensures later { faults self.old ≤ faults self.new }
-        ensures cause { IsErrOf result PatternRefusal.Refused → Rose (faults self.old) (faults self.new) }
+        ensures cause { IsErrOf result PatternRefusal.Refused
+            → Rose (faults self.old) (faults self.new) }
         ensures still { result ≢ Err PatternRefusal.Refused → faults self.new ≡ faults self.old }
 
         ensures last { IsErrOf result PatternRefusal.Refused →
             IsNowLast (last_refused self.old) text.now (last_refused self.new) }
-        ensures last_kept { result ≢ Err PatternRefusal.Refused → last_refused self.new ≡ last_refused self.old };
+        ensures last_kept { result ≢ Err PatternRefusal.Refused
+            → last_refused self.new ≡ last_refused self.old };
 }

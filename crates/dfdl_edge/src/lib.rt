@@ -1,8 +1,9 @@
-//! The outside: traits for the bytes that come in, the bytes that go out, files by name and the building of
-//! patterns, with implementations in memory and adapters of the system. Each trait counts its faults, and a call
-//! answers a fault only where its count rose (`Rose` of specs/Faults); bytes are exact where an implementation tells
-//! them. It serves 'DFDL Processing Introduction', where a processor meets its data, its schema documents and its
-//! diagnostics, and 'DFDL Regular Expressions'.
+//! The outside: traits for the bytes that come in, the bytes that go out, files by name and the
+//! building of patterns, with implementations in memory and adapters of the system. Each trait
+//! counts its faults, and a call answers a fault only where its count rose (`Rose` of
+//! specs/Faults); bytes are exact where an implementation tells them. It serves 'DFDL Processing
+//! Introduction', where a processor meets its data, its schema documents and its diagnostics, and
+//! 'DFDL Regular Expressions'.
 #![tactic(auto)]
 
 mod building;

@@ -1,4 +1,5 @@
-ghost use Rattle.std.specs.Prelude.{◌≡◌, ◌≢◌, ◌⊎◌, ℕ, Bool, false, IsTrue, ◌<◌, ◌≤◌, List, Option, IfOk, IsErrOf, vec_len};
+ghost use Rattle.std.specs.Prelude.{◌≡◌, ◌≢◌, ◌⊎◌, ℕ, Bool, false, IsTrue, ◌<◌, ◌≤◌, List, Option};
+ghost use Rattle.std.specs.Prelude.{IfOk, IsErrOf, vec_len};
 ghost use Rattle.dfdl_edge.specs.Faults.{Rose, one_more};
 ghost use Rattle.dfdl_edge.specs.Told.{IsAll, IsNowLast};
 ghost use Rattle.dfdl_edge.specs.Files.{FilesSeen, IsTooLargeExactly};
@@ -21,7 +22,8 @@ pub enum LoadFault {
 
 /// Files by their names, as schema documents.
 pub trait Files {
-    // what is told of the files, and the counts of loads; at the last value of a u64 a count stands still
+    // what is told of the files, and the counts of loads; at the last value of a u64 a count stands
+    // still
     ghost seen: { Self → FilesSeen };
 
     /// The bytes of a file. `most` is the greatest length allowed, in bytes.
@@ -36,11 +38,15 @@ pub trait Files {
         ensures counted { (seen self.new).loads ≡ one_more (seen self.old).loads }
 
         ensures later { (seen self.old).faults ≤ (seen self.new).faults }
-        ensures cause { IsErrOf result LoadFault.Failed → Rose (seen self.old).faults (seen self.new).faults }
-        ensures still { result ≢ Err LoadFault.Failed → (seen self.new).faults ≡ (seen self.old).faults }
+        ensures cause { IsErrOf result LoadFault.Failed
+            → Rose (seen self.old).faults (seen self.new).faults }
+        ensures still { result ≢ Err LoadFault.Failed
+            → (seen self.new).faults ≡ (seen self.old).faults }
 
-        ensures last { IsErrOf result LoadFault.Failed → IsNowLast (seen self.old).last_failed name.now (seen self.new).last_failed }
-        ensures last_kept { result ≢ Err LoadFault.Failed → (seen self.new).last_failed ≡ (seen self.old).last_failed }
+        ensures last { IsErrOf result LoadFault.Failed
+            → IsNowLast (seen self.old).last_failed name.now (seen self.new).last_failed }
+        ensures last_kept { result ≢ Err LoadFault.Failed
+            → (seen self.new).last_failed ≡ (seen self.old).last_failed }
         ensures content_kept { (seen self.new).content ≡ (seen self.old).content }
         ensures missing_kept { (seen self.new).is_missing ≡ (seen self.old).is_missing };
 }

@@ -1,9 +1,11 @@
 // A source and a sink in memory.
-ghost use Rattle.std.specs.Prelude.{◌≡◌, ◌↔◌, ◌+◌, ◌-◌, ◌<◌, ◌≤◌, min, [], drop, length, Some, ◌⊎◌, false, true, IsTrue, IsOk, IsErr, IfOk, OnOk, OnErr};
+ghost use Rattle.std.specs.Prelude.{◌≡◌, ◌↔◌, ◌+◌, ◌-◌, ◌<◌, ◌≤◌, min, [], drop, length, Some, ◌⊎◌};
+ghost use Rattle.std.specs.Prelude.{false, true, IsTrue, IsOk, IsErr, IfOk, OnOk, OnErr};
 ghost use Rattle.dfdl_edge.specs.Faults.{Rose};
 ghost use Rattle.dfdl_edge.specs.Source.{Takes};
 ghost use Rattle.dfdl_edge.specs.Sink.{Adds, AddsFront};
-ghost use Rattle.dfdl_edge.specs.Memory.{SourceInMemory, SinkInMemory, IsToFail, after_call, after_fault, cut_at};
+ghost use Rattle.dfdl_edge.specs.Memory.{SourceInMemory, SinkInMemory, IsToFail, after_call};
+ghost use Rattle.dfdl_edge.specs.Memory.{after_fault, cut_at};
 
 use crate::calls::Calls;
 use crate::reading::{Failed, Source};
@@ -11,7 +13,8 @@ use crate::writing::Sink;
 use std::alloc::Global;
 use std::marker::Model;
 
-/// Bytes in memory as a source. Its reads come in pieces of any cut, and those that are listed fail.
+/// Bytes in memory as a source. Its reads come in pieces of any cut, and those that are listed
+/// fail.
 #[derive(Drop)]
 pub struct MemorySource {
     bytes: Vec<u8>,
@@ -29,8 +32,9 @@ impl Model for MemorySource {
 }
 
 impl MemorySource {
-    /// A source of these bytes. Read number k, from 1 on, gives at most as many bytes as `cuts` says in turn, over and
-    /// over, and at least one; with no cuts it fills the buffer. It fails where `failing` lists k.
+    /// A source of these bytes. Read number k, from 1 on, gives at most as many bytes as `cuts`
+    /// says in turn, over and over, and at least one; with no cuts it fills the buffer. It fails
+    /// where `failing` lists k.
     pub fn new(bytes: Vec<u8>, cuts: Vec<usize>, failing: Vec<u64>) -> Self
         ensures { result ≡ record {
           rest = bytes.items;
@@ -106,7 +110,8 @@ fn cut_at(cuts: &[usize], call: u64) -> usize
     cuts[at as usize].max(1)
 }
 
-/// A sink in memory. Its writes number from 1, and those that are listed fail. A write that fails takes nothing.
+/// A sink in memory. Its writes number from 1, and those that are listed fail. A write that fails
+/// takes nothing.
 #[derive(Drop)]
 pub struct MemorySink {
     bytes: Vec<u8>,

@@ -1,11 +1,14 @@
 // Files in memory.
-ghost use Rattle.std.specs.Prelude.{◌≡◌, ◌≢◌, ◌⊎◌, ℕ, ◌-◌, ◌<◌, ◌≤◌, map, string_bytes, vec_len, Option, Some, None, option_map, option_copied, is_none, IsTrue, IsNone, IfOk, IsErr, IsErrOf};
+ghost use Rattle.std.specs.Prelude.{◌≡◌, ◌≢◌, ◌⊎◌, ℕ, ◌-◌, ◌<◌, ◌≤◌, map, string_bytes, vec_len};
+ghost use Rattle.std.specs.Prelude.{Option, Some, None, option_map, option_copied, is_none, IsTrue};
+ghost use Rattle.std.specs.Prelude.{IsNone, IfOk, IsErr, IsErrOf};
 ghost use Rattle.std.specs.List.{find};
 ghost use Rattle.std.specs.Str.{bytes_eq};
 ghost use Rattle.dfdl_edge.specs.Faults.{Rose, one_more};
 ghost use Rattle.dfdl_edge.specs.Told.{IsAll, IsNowLast};
 ghost use Rattle.dfdl_edge.specs.Files.{IsTooLargeExactly};
-ghost use Rattle.dfdl_edge.specs.Memory.{FilesInMemory, IsToFail, after_call, after_fault, bytes_of};
+ghost use Rattle.dfdl_edge.specs.Memory.{FilesInMemory, IsToFail, after_call, after_fault};
+ghost use Rattle.dfdl_edge.specs.Memory.{bytes_of};
 
 use crate::calls::Calls;
 use crate::loading::{Files, LoadFault};
@@ -19,7 +22,8 @@ pub struct MemoryFile {
     pub bytes: Vec<u8>,
 }
 
-/// Files in memory. Of several with one name the first counts. Loads number from 1, and those that are listed fail.
+/// Files in memory. Of several with one name the first counts. Loads number from 1, and those that
+/// are listed fail.
 #[derive(Drop)]
 pub struct MemoryFiles {
     files: Vec<MemoryFile>,
@@ -98,17 +102,22 @@ impl Files for MemoryFiles {
         ensures fails { IsToFail self.old.calls → IsErr result }
         ensures only { IsErrOf result LoadFault.Failed →
             IsToFail self.old.calls ⊎ IsNone (bytes_of self.old.files name.now) }
-        ensures after_failed { IsErrOf result LoadFault.Failed → self.new.calls ≡ after_fault self.old.calls }
-        ensures after_other { result ≢ Err LoadFault.Failed → self.new.calls ≡ after_call self.old.calls }
+        ensures after_failed { IsErrOf result LoadFault.Failed
+            → self.new.calls ≡ after_fault self.old.calls }
+        ensures after_other { result ≢ Err LoadFault.Failed
+            → self.new.calls ≡ after_call self.old.calls }
         ensures files { self.new.files ≡ self.old.files }
 
         ensures counted { self.new.calls.made ≡ one_more self.old.calls.made }
 
         ensures later { self.old.calls.failed ≤ self.new.calls.failed }
-        ensures cause { IsErrOf result LoadFault.Failed → Rose self.old.calls.failed self.new.calls.failed }
-        ensures still { result ≢ Err LoadFault.Failed → self.new.calls.failed ≡ self.old.calls.failed }
+        ensures cause { IsErrOf result LoadFault.Failed
+            → Rose self.old.calls.failed self.new.calls.failed }
+        ensures still { result ≢ Err LoadFault.Failed
+            → self.new.calls.failed ≡ self.old.calls.failed }
 
-        ensures last { IsErrOf result LoadFault.Failed → IsNowLast (Some self.old.last) name.now (Some self.new.last) }
+        ensures last { IsErrOf result LoadFault.Failed
+            → IsNowLast (Some self.old.last) name.now (Some self.new.last) }
         ensures last_kept { result ≢ Err LoadFault.Failed → self.new.last ≡ self.old.last }
     {
         let listed = self.calls.begin();
@@ -134,7 +143,8 @@ impl Files for MemoryFiles {
 
 // The first file of this name.
 fn find_file<'f>(files: &'f [MemoryFile], name: &str) -> Option<&'f MemoryFile>
-    ensures { option_copied result ≡ find (λ file. bytes_eq (string_bytes file.name) name.now) files.now }
+    ensures { option_copied result
+        ≡ find (λ file. bytes_eq (string_bytes file.name) name.now) files.now }
 {
     files.iter().find(|file| file.name.as_str() == name)
 }

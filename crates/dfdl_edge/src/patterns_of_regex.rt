@@ -1,5 +1,6 @@
 // The building of patterns by the crate `regex`, with and without a text that is kept.
-ghost use Rattle.std.specs.Prelude.{◌≡◌, ◌≢◌, ◌⊎◌, ℕ, ◌-◌, ◌≤◌, Option, Some, None, option_map, option_copied, string_bytes, IfOk, IsErr, IsErrOf};
+ghost use Rattle.std.specs.Prelude.{◌≡◌, ◌≢◌, ◌⊎◌, ℕ, ◌-◌, ◌≤◌, Option, Some, None, option_map};
+ghost use Rattle.std.specs.Prelude.{option_copied, string_bytes, IfOk, IsErr, IsErrOf};
 ghost use Rattle.dfdl_edge.specs.Faults.{Rose};
 ghost use Rattle.dfdl_edge.specs.Told.{IsNowLast};
 ghost use Rattle.dfdl_edge.specs.Patterns.{IsPatternOf, IsRefusedText};
@@ -11,7 +12,8 @@ use regex::{Error, Regex};
 use std::alloc::Global;
 use std::marker::Model;
 
-/// Builds patterns and keeps the text last refused. Builds number from 1, and those that are listed are refused.
+/// Builds patterns and keeps the text last refused. Builds number from 1, and those that are listed
+/// are refused.
 #[derive(Drop)]
 pub struct MemoryPatterns {
     last: Option<String>,
@@ -65,13 +67,18 @@ impl Patterns for MemoryPatterns {
         ensures pattern { IfOk result (IsPatternOf text.now) }
 
         ensures fails { IsToFail self.old.calls → IsErr result }
-        ensures only { IsErrOf result PatternRefusal.Refused → IsToFail self.old.calls ⊎ IsRefusedText text.now }
-        ensures after_refused { IsErrOf result PatternRefusal.Refused → self.new.calls ≡ after_fault self.old.calls }
-        ensures after_other { result ≢ Err PatternRefusal.Refused → self.new.calls ≡ after_call self.old.calls }
+        ensures only { IsErrOf result PatternRefusal.Refused
+            → IsToFail self.old.calls ⊎ IsRefusedText text.now }
+        ensures after_refused { IsErrOf result PatternRefusal.Refused
+            → self.new.calls ≡ after_fault self.old.calls }
+        ensures after_other { result ≢ Err PatternRefusal.Refused
+            → self.new.calls ≡ after_call self.old.calls }
 
         ensures later { self.old.calls.failed ≤ self.new.calls.failed }
-        ensures cause { IsErrOf result PatternRefusal.Refused → Rose self.old.calls.failed self.new.calls.failed }
-        ensures still { result ≢ Err PatternRefusal.Refused → self.new.calls.failed ≡ self.old.calls.failed }
+        ensures cause { IsErrOf result PatternRefusal.Refused
+            → Rose self.old.calls.failed self.new.calls.failed }
+        ensures still { result ≢ Err PatternRefusal.Refused
+            → self.new.calls.failed ≡ self.old.calls.failed }
 
         ensures last { IsErrOf result PatternRefusal.Refused →
             IsNowLast (Some self.old.last) text.now (Some self.new.last) }

@@ -1,4 +1,5 @@
-ghost use Rattle.std.specs.Prelude.{◌≡◌, ℕ, ◌<◌, ◌≤◌, List, Option, length, IfOk, IsOk, IsErr, OnErr};
+ghost use Rattle.std.specs.Prelude.{◌≡◌, ℕ, ◌<◌, ◌≤◌, List, Option, length, IfOk, IsOk, IsErr};
+ghost use Rattle.std.specs.Prelude.{OnErr};
 ghost use Rattle.dfdl_edge.specs.Faults.{Rose};
 ghost use Rattle.dfdl_edge.specs.Source.{SourceSeen, Takes};
 
@@ -11,10 +12,12 @@ pub struct Failed;
 
 /// Bytes that come in, as the data that is parsed.
 pub trait Source {
-    // the bytes that are left and the reads that have failed; at the last value of a u64 a count stands still
+    // the bytes that are left and the reads that have failed; at the last value of a u64 a count
+    // stands still
     ghost seen: { Self → SourceSeen };
 
-    /// Reads at least one byte into the front of `into` and answers how many, or 0 at the end of the bytes.
+    /// Reads at least one byte into the front of `into` and answers how many, or 0 at the end of
+    /// the bytes.
     fn read(&mut self, into: &mut [u8]) -> Result<usize, Failed>
         requires { 0 < length into.old }
         ensures count { IfOk result (λ count. count ≤ length into.old) }

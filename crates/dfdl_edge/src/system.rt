@@ -1,5 +1,6 @@
 // The adapters of the system: they tell nothing of content.
-ghost use Rattle.std.specs.Prelude.{◌≡◌, ℕ, ◌+◌, ◌-◌, ◌^◌, ◌<◌, ◌≤◌, max, false, Some, None, Ok, Err, length, IfOk, IfSome, OnErr, IsErr, IsErrOf, vec_len};
+ghost use Rattle.std.specs.Prelude.{◌≡◌, ℕ, ◌+◌, ◌-◌, ◌^◌, ◌<◌, ◌≤◌, max, false, Some, None, Ok};
+ghost use Rattle.std.specs.Prelude.{Err, length, IfOk, IfSome, OnErr, IsErr, IsErrOf, vec_len};
 ghost use Rattle.dfdl_edge.specs.Files.{FileCounts};
 
 use crate::loading::{Files, LoadFault};
@@ -92,7 +93,8 @@ impl<W: Write + Drop> Sink for StdSink<W> {
     }
 }
 
-// Writes all of the piece. A write that a signal interrupts is tried again; one that takes nothing has failed.
+// Writes all of the piece. A write that a signal interrupts is tried again; one that takes nothing
+// has failed.
 fn write_whole<W: Write>(writer: &mut W, piece: &[u8]) -> Result<(), Failed> {
     let mut rest = piece;
     for _ in 0..u64::MAX {
@@ -170,8 +172,8 @@ fn load_file<R: rt::Files>(
     handed_on(read_to_limit(alloc, &mut source, most as u64), size, most)
 }
 
-// What the reading of a file comes to. A file past the limit has the size that the system tells of it, or else one
-// that is just past.
+// What the reading of a file comes to. A file past the limit has the size that the system tells of
+// it, or else one that is just past.
 fn handed_on(
     read: Result<Vec<u8>, SourceFault>,
     size: u64,
@@ -182,7 +184,8 @@ fn handed_on(
     ensures failed { IsErrOf read SourceFault.Failed → result ≡ Err LoadFault.Failed }
     ensures too_large { IsErrOf read SourceFault.TooLarge →
         result ≡ Err (LoadFault.TooLarge (max size (most + 1))) }
-    ensures out_of_memory { IsErrOf read SourceFault.OutOfMemory → result ≡ Err LoadFault.OutOfMemory }
+    ensures out_of_memory { IsErrOf read SourceFault.OutOfMemory
+        → result ≡ Err LoadFault.OutOfMemory }
 {
     match read {
         Ok(bytes) => Ok(bytes),
@@ -194,7 +197,8 @@ fn handed_on(
     }
 }
 
-// What one call of the system came to; `None` where a signal has interrupted it, so that it is tried again.
+// What one call of the system came to; `None` where a signal has interrupted it, so that it is
+// tried again.
 fn settled(answer: Result<usize, Error>) -> Option<Result<usize, Failed>>
     ensures ok { IfOk answer (λ count. result ≡ Some (Ok count)) }
     ensures failed { OnErr answer (IfSome result (λ settled. IsErr settled)) }

@@ -1,5 +1,6 @@
 // The reading of a whole source.
-ghost use Rattle.std.specs.Prelude.{◌≡◌, ◌≢◌, ◌+◌, ◌-◌, ◌^◌, ◌<◌, ◌≤◌, [], take, drop, IfOk, OnOk, OnErr, IsErrOf, vec_len};
+ghost use Rattle.std.specs.Prelude.{◌≡◌, ◌≢◌, ◌+◌, ◌-◌, ◌^◌, ◌<◌, ◌≤◌, [], take, drop, IfOk, OnOk};
+ghost use Rattle.std.specs.Prelude.{OnErr, IsErrOf, vec_len};
 ghost use Rattle.dfdl_edge.specs.Faults.{Rose};
 ghost use Rattle.dfdl_edge.specs.Told.{IsAll, IsLonger, IsWithin};
 ghost use Rattle.dfdl_edge.specs.Source.{Takes};
@@ -58,15 +59,18 @@ pub fn read_to_limit<S: Source>(
     ensures fits { IfOk result (λ v. vec_len v ≤ most) }
     ensures used_up { OnOk result (IsUsedUp (S.seen source.old).left (S.seen source.new).left) }
     ensures within { OnOk result (IsWithin (S.seen source.old).left most) }
-    ensures too_large { IsErrOf result SourceFault.TooLarge → IsLonger (S.seen source.old).left most }
+    ensures too_large { IsErrOf result SourceFault.TooLarge
+        → IsLonger (S.seen source.old).left most }
     ensures rest { IsRestOf (S.seen source.old).left (S.seen source.new).left }
 
     // A Vec has fewer than 2 ^ 63 bytes, so a greater limit is not passed.
     ensures limit { IsErrOf result SourceFault.TooLarge → most < 2 ^ 63 }
 
     ensures later { (S.seen source.old).faults ≤ (S.seen source.new).faults }
-    ensures cause { IsErrOf result SourceFault.Failed → Rose (S.seen source.old).faults (S.seen source.new).faults }
-    ensures still { result ≢ Err SourceFault.Failed → (S.seen source.new).faults ≡ (S.seen source.old).faults }
+    ensures cause { IsErrOf result SourceFault.Failed
+        → Rose (S.seen source.old).faults (S.seen source.new).faults }
+    ensures still { result ≢ Err SourceFault.Failed
+        → (S.seen source.new).faults ≡ (S.seen source.old).faults }
 {
     let most = most as usize;
     let mut bytes = Vec::new(alloc);
@@ -101,8 +105,10 @@ fn read_more<S: Source>(
     ensures never { result ≢ Err SourceFault.TooLarge }
 
     ensures later { (S.seen source.old).faults ≤ (S.seen source.new).faults }
-    ensures cause { IsErrOf result SourceFault.Failed → Rose (S.seen source.old).faults (S.seen source.new).faults }
-    ensures still { result ≢ Err SourceFault.Failed → (S.seen source.new).faults ≡ (S.seen source.old).faults }
+    ensures cause { IsErrOf result SourceFault.Failed
+        → Rose (S.seen source.old).faults (S.seen source.new).faults }
+    ensures still { result ≢ Err SourceFault.Failed
+        → (S.seen source.new).faults ≡ (S.seen source.old).faults }
 {
     if filled == bytes.len() {
         let room = filled.saturating_add(CHUNK).min(most);
@@ -121,8 +127,10 @@ fn expect_end<S: Source>(source: &mut S) -> Result<(), SourceFault>
     ensures rest { IsRestOf (S.seen source.old).left (S.seen source.new).left }
 
     ensures later { (S.seen source.old).faults ≤ (S.seen source.new).faults }
-    ensures cause { IsErrOf result SourceFault.Failed → Rose (S.seen source.old).faults (S.seen source.new).faults }
-    ensures still { result ≢ Err SourceFault.Failed → (S.seen source.new).faults ≡ (S.seen source.old).faults }
+    ensures cause { IsErrOf result SourceFault.Failed
+        → Rose (S.seen source.old).faults (S.seen source.new).faults }
+    ensures still { result ≢ Err SourceFault.Failed
+        → (S.seen source.new).faults ≡ (S.seen source.old).faults }
 {
     let mut next = [0u8; 1];
     match source.read(&mut next)? {

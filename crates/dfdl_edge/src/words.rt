@@ -7,7 +7,8 @@ use std::env::{Env, FillError};
 // How many bytes of a word are made room for at first.
 const FIRST_ROOM: usize = 256;
 
-/// The words behind the program's name. A word that isn't UTF-8 stands as an empty word, so no command goes on there.
+/// The words behind the program's name. A word that isn't UTF-8 stands as an empty word, so no
+/// command goes on there.
 pub fn words_of<R: Env>(alloc: Global, runtime: &R) -> Result<Vec<String>, AllocError> {
     let mut words = Vec::new(alloc);
     for place in 1..usize::MAX {
@@ -19,7 +20,8 @@ pub fn words_of<R: Env>(alloc: Global, runtime: &R) -> Result<Vec<String>, Alloc
     Ok(words)
 }
 
-// The word at this place, where 0 is the program's name. Room is doubled as long as the word doesn't fit.
+// The word at this place, where 0 is the program's name. Room is doubled as long as the word
+// doesn't fit.
 fn word_at<R: Env>(alloc: Global, runtime: &R, place: usize) -> Result<Option<String>, AllocError> {
     let mut room = FIRST_ROOM;
     for _ in 0..usize::BITS {

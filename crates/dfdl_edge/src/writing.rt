@@ -6,7 +6,8 @@ use crate::reading::Failed;
 
 /// Bytes that go out, as the answer of a run or its notes.
 pub trait Sink {
-    // the bytes taken so far and the writes that have failed; at the last value of a u64 a count stands still
+    // the bytes taken so far and the writes that have failed; at the last value of a u64 a count
+    // stands still
     ghost seen: { Self → SinkSeen };
 
     /// Takes all of the piece, or fails after a front of it.

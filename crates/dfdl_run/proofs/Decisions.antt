@@ -1,5 +1,6 @@
 -- What a run decides, from what its stages answer.
-use Rattle.std.proofs.Common.{◌≡◌, ◌⊎◌, ℕ, ◌≤◌, IsTrue, List, length, Option, None, Some, IsSome, IfSome, IsErrOf, Ok, refl, sym, subst, ◌∙◌, inl, inr}
+use Rattle.std.proofs.Common.{◌≡◌, ◌⊎◌, ℕ, ◌≤◌, IsTrue, List, length, Option, None, Some, IsSome}
+use Rattle.std.proofs.Common.{IfSome, IsErrOf, Ok, refl, sym, subst, ◌∙◌, inl, inr}
 use Rattle.dfdl_edge.specs.Files.{FilesSeen}
 use Rattle.dfdl_edge.specs.Told.{IsAll}
 use Rattle.dfdl_report.specs.declared.cause.SchemaCause.TheVariants.{OutsideSubset}
@@ -16,14 +17,16 @@ use Rattle.dfdl_run.specs.Loaded.{AreTermsOf}
 use Rattle.dfdl_run.specs.Meaning.{answer_of}
 
 -- what holds of these bytes, where they are all that is told
-told : (P : List ℕ → Type 0) (file : Option (List ℕ)) (bytes : List ℕ) → IsAll file bytes → P bytes → IfSome file P
+told : (P : List ℕ → Type 0) (file : Option (List ℕ)) (bytes : List ℕ) → IsAll file bytes → P bytes
+    → IfSome file P
 told P None bytes all here = tt
 told P (Some content) bytes all here = subst P all here
 
 -- a schema that is refused, or no memory for the name
 pub refused_fault : (before after : FilesSeen) (name bytes : List ℕ) (stop : Stop)
     → (stop ≡ Refused OutsideSubset name 0) ⊎ (stop ≡ OutOfMemory)
-    → IsAll (before.content name) bytes → length bytes ≤ most_schema → ((described : Record) → IsSchema bytes described → ⊥)
+    → IsAll (before.content name) bytes → length bytes ≤ most_schema
+    → ((described : Record) → IsSchema bytes described → ⊥)
     → IsLoaded before after name → IsLoadFault before after name stop
 refused_fault before after name bytes stop (inl is) all fits none loaded =
     subst (λ (s : Stop). IsLoadFault before after name s) (sym is)

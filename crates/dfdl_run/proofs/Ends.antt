@@ -1,5 +1,7 @@
 -- How a run ends, from what it decided and what came of it.
-use Rattle.std.proofs.Common.{◌==◌, ◌||◌, ◌≡◌, ◌⊎◌, ℕ, ◌+◌, ◌++◌, IsTrue, List, [], length, Option, None, Some, Ok, Err, refl, sym, ap, subst, ◌∙◌, arith, append-nil, inl, inr}
+use Rattle.std.proofs.Common.{◌==◌, ◌||◌, ◌≡◌, ◌⊎◌, ℕ, ◌+◌, ◌++◌, IsTrue, List, [], length, Option}
+use Rattle.std.proofs.Common.{None, Some, Ok, Err, refl, sym, ap, subst, ◌∙◌, arith, append-nil}
+use Rattle.std.proofs.Common.{inl, inr}
 use Rattle.std.proofs.Math.Seq.{take-length}
 use Rattle.dfdl_edge.specs.Faults.{Rose, one_more}
 use Rattle.dfdl_edge.specs.Files.{FilesSeen}
@@ -11,24 +13,31 @@ use Rattle.dfdl_report.specs.declared.cause.LimitCause.TheVariants.{Input, Schem
 use Rattle.dfdl_terms.specs.Record.{Record}
 use Rattle.dfdl_run.specs.declared.command.Verb.{Verb}
 use Rattle.dfdl_run.specs.declared.answer.Answer.{Answer}
-use Rattle.dfdl_run.specs.declared.answer.Answer.TheVariants.{Done, LeftOver, Failed, Unparsed, NotUnparsed, NoInfoset}
+use Rattle.dfdl_run.specs.declared.answer.Answer.TheVariants.{Done, LeftOver, Failed, Unparsed}
+use Rattle.dfdl_run.specs.declared.answer.Answer.TheVariants.{NotUnparsed, NoInfoset}
 use Rattle.dfdl_run.specs.declared.stop.Stop.{Stop}
-use Rattle.dfdl_run.specs.declared.stop.Stop.TheVariants.{Usage, FilesFailed, Refused, SourceFailed, Limit, OutOfMemory}
+use Rattle.dfdl_run.specs.declared.stop.Stop.TheVariants.{Usage, FilesFailed, Refused, SourceFailed}
+use Rattle.dfdl_run.specs.declared.stop.Stop.TheVariants.{Limit, OutOfMemory}
 use Rattle.dfdl_run.specs.Answer.{End, answer_status, answer_bytes, status_of, written_of, note_of}
 use Rattle.dfdl_run.specs.Decided.{Decided, by_words, by_schema, by_data, IsLoadFault, IsReadEnd}
-use Rattle.dfdl_run.specs.Expects.{Expects, no_command, no_file, long_schema, no_schema, long_input, meant, is_excused, Tells, Gives, NoneFailed, IsAsExpected}
+use Rattle.dfdl_run.specs.Expects.{Expects, no_command, no_file, long_schema, no_schema, long_input}
+use Rattle.dfdl_run.specs.Expects.{meant, is_excused, Tells, Gives, NoneFailed, IsAsExpected}
 use Rattle.dfdl_run.specs.Finished.{Finished, all, no_sink, no_memory, Writes}
 use Rattle.dfdl_run.specs.Outside.{Inputs, Outputs, Outside}
-use Rattle.dfdl_run.specs.Run.{IsRun, NamesFile, FilesFail, SinkFails, SourceFails, is_of_data, is_before_data}
+use Rattle.dfdl_run.specs.Run.{IsRun, NamesFile, FilesFail, SinkFails, SourceFails, is_of_data}
+use Rattle.dfdl_run.specs.Run.{is_before_data}
 use Rattle.dfdl_run.proofs.Rankings.{Ranked, same, files, source, memory, ranked}
 
-adds_front : (old new : Option (List ℕ)) (piece : List ℕ) → Adds old piece new → AddsFront old piece new
+adds_front : (old new : Option (List ℕ)) (piece : List ℕ) → Adds old piece new
+    → AddsFront old piece new
 adds_front None None piece added = tt
 adds_front None (Some now) piece added = added
 adds_front (Some before) None piece added = added
-adds_front (Some before) (Some now) piece added = (length piece, added ∙ ap (λ xs. before ++ xs) (sym (take-length piece)))
+adds_front (Some before) (Some now) piece added =
+    (length piece, added ∙ ap (λ xs. before ++ xs) (sym (take-length piece)))
 
-none_front : (old new : Option (List ℕ)) (piece : List ℕ) → Adds old [] new → AddsFront old piece new
+none_front : (old new : Option (List ℕ)) (piece : List ℕ) → Adds old [] new
+    → AddsFront old piece new
 none_front None None piece added = tt
 none_front None (Some now) piece added = added
 none_front (Some before) None piece added = added
@@ -38,10 +47,12 @@ same_adds : (old new : Option (List ℕ)) → new ≡ old → Adds old [] new
 same_adds None None is = tt
 same_adds None (Some now) is = absurd (cc)
 same_adds (Some before) None is = absurd (cc)
-same_adds (Some before) (Some now) is = let same_bytes : now ≡ before = cc in same_bytes ∙ sym (append-nil before)
+same_adds (Some before) (Some now) is =
+    let same_bytes : now ≡ before = cc in same_bytes ∙ sym (append-nil before)
 
 -- each end that is expected is excused by want of memory
-memory_excused : (words : List (List ℕ)) (told : Inputs) (b : End) → Expects words told b → IsTrue (is_excused b 9)
+memory_excused : (words : List (List ℕ)) (told : Inputs) (b : End) → Expects words told b
+    → IsTrue (is_excused b 9)
 memory_excused words told _ (no_command at place) = refl
 memory_excused words told _ (no_file order orders missing) = refl
 memory_excused words told _ (long_schema order schema orders is long) = refl
@@ -58,8 +69,10 @@ of_data (Unparsed pieces) = refl
 of_data (NotUnparsed pieces cause path) = refl
 of_data (NoInfoset cause path) = refl
 
-no_answer : (answer : Answer) (status : ℕ) → status_of (Ok answer) ≡ status → (IsTrue (is_of_data status) → ⊥) → ⊥
-no_answer answer status is none = none (subst (λ (s : ℕ). IsTrue (is_of_data s)) is (of_data answer))
+no_answer : (answer : Answer) (status : ℕ) → status_of (Ok answer) ≡ status
+    → (IsTrue (is_of_data status) → ⊥) → ⊥
+no_answer answer status is none =
+    none (subst (λ (s : ℕ). IsTrue (is_of_data s)) is (of_data answer))
 
 five : (e : End) → status_of e ≡ 5 → e ≡ Err SourceFailed
 five (Err SourceFailed) is = refl
@@ -85,7 +98,8 @@ never_six (Err (Limit cause quantity)) is = cc
 never_six (Err OutOfMemory) is = cc
 never_six (Ok answer) is = no_answer answer 6 is (λ none. cc)
 
-nothing_written : (e : End) → (status_of e ≡ 0 → ⊥) → (status_of e ≡ 3 → ⊥) → (status_of e ≡ 11 → ⊥) → written_of e ≡ []
+nothing_written : (e : End) → (status_of e ≡ 0 → ⊥) → (status_of e ≡ 3 → ⊥) → (status_of e ≡ 11 → ⊥)
+    → written_of e ≡ []
 nothing_written (Ok (Done line)) not_done _ _ = absurd (not_done refl)
 nothing_written (Ok (LeftOver line bit)) _ _ not_over = absurd (not_over refl)
 nothing_written (Ok (Unparsed pieces)) not_done _ _ = absurd (not_done refl)
@@ -121,7 +135,8 @@ answer_late (NotUnparsed pieces cause path) early = cc
 answer_late (NoInfoset cause path) early = cc
 
 -- what the source came to has no status of what stops a run before
-read_late : (verb : Verb) (described : Record) (before after : SourceSeen) (e : End) → IsReadEnd verb described before after e
+read_late : (verb : Verb) (described : Record) (before after : SourceSeen) (e : End)
+    → IsReadEnd verb described before after e
     → IsTrue (is_before_data (status_of e)) → ⊥
 read_late verb described before after (Ok answer) read early = answer_late answer early
 read_late verb described before after (Err SourceFailed) read early = cc
@@ -131,13 +146,15 @@ read_late verb described before after (Err (Usage word)) read early = absurd rea
 read_late verb described before after (Err (FilesFailed name)) read early = absurd read
 read_late verb described before after (Err (Refused cause document at)) read early = absurd read
 
-read_used : (verb : Verb) (described : Record) (before after : SourceSeen) (e : End) → IsReadEnd verb described before after e
+read_used : (verb : Verb) (described : Record) (before after : SourceSeen) (e : End)
+    → IsReadEnd verb described before after e
     → IsTrue (is_of_data (status_of e)) → IsUsedUp before.left after.left
 read_used verb described before after (Ok answer) read of = read.used_up
 read_used verb described before after (Err stop) read of = absurd (stop_early stop of)
 
 -- the count of faults of the source stands where no read failed
-read_still : (verb : Verb) (described : Record) (before after : SourceSeen) (e : End) → IsReadEnd verb described before after e
+read_still : (verb : Verb) (described : Record) (before after : SourceSeen) (e : End)
+    → IsReadEnd verb described before after e
     → (e ≡ Err SourceFailed → ⊥) → after.faults ≡ before.faults
 read_still verb described before after (Ok answer) read well = read.still
 read_still verb described before after (Err SourceFailed) read well = absurd (well refl)
@@ -148,7 +165,8 @@ read_still verb described before after (Err (FilesFailed name)) read well = absu
 read_still verb described before after (Err (Refused cause document at)) read well = absurd read
 
 -- no schema is no usage
-load_late : (before after : FilesSeen) (name : List ℕ) (stop : Stop) → IsLoadFault before after name stop
+load_late : (before after : FilesSeen) (name : List ℕ) (stop : Stop)
+    → IsLoadFault before after name stop
     → status_of (Err stop) ≡ 4 → ⊥
 load_late before after name (Usage word) fault four = absurd fault
 load_late before after name (FilesFailed failed) fault four = cc
@@ -158,7 +176,8 @@ load_late before after name (Limit cause quantity) fault four = cc
 load_late before after name OutOfMemory fault four = cc
 
 -- the count of faults of the files stands where no load failed
-load_still : (before after : FilesSeen) (name : List ℕ) (stop : Stop) → IsLoadFault before after name stop
+load_still : (before after : FilesSeen) (name : List ℕ) (stop : Stop)
+    → IsLoadFault before after name stop
     → ((status_of (Err stop) ≡ 7) ⊎ (status_of (Err stop) ≡ 9) → ⊥) → after.faults ≡ before.faults
 load_still before after name (FilesFailed failed) fault well = absurd (well (inl refl))
 load_still before after name (Refused cause document at) fault well = fault.4.still
@@ -173,25 +192,38 @@ module _ (words : List (List ℕ)) (before after : Outside) (status : ℕ) (a : 
   abbrev Ends : End → Type 0
   Ends b = Gives b before.outputs after.outputs status
 
-  at_status : (b : End) (number : ℕ) → status ≡ number → IsTrue (is_excused b number) → IsTrue (is_excused b status)
+  at_status : (b : End) (number : ℕ) → status ≡ number → IsTrue (is_excused b number)
+      → IsTrue (is_excused b status)
   at_status b number is excused = subst (λ (s : ℕ). IsTrue (is_excused b s)) (sym is) excused
 
-  exact : (b : End) → Ranked before.inputs after.inputs a b → Finished a before.outputs after.outputs status
+  exact : (b : End) → Ranked before.inputs after.inputs a b
+      → Finished a before.outputs after.outputs status
       → IsTrue (is_excused b 9) → IsTrue (is_excused b status) ⊎ Ends b
   exact b (same is) (all gives still) excused = inr (subst Ends is gives)
-  exact b (same is) (no_sink line number rose written told) excused = inl (at_status b 6 number (subst Writes is line))
+  exact b (same is) (no_sink line number rose written told) excused =
+      inl (at_status b 6 number (subst Writes is line))
   exact b (same is) (no_memory number none told) excused = inl (at_status b 9 number excused)
-  exact b (files name is rose earlier) (all gives still) excused = inl (at_status b 7 (gives.status_is ∙ ap status_of is) earlier)
-  exact b (files name is rose earlier) (no_sink line number _ written told) excused = absurd (let none = subst Writes is line in cc)
-  exact b (files name is rose earlier) (no_memory number none told) excused = inl (at_status b 9 number excused)
-  exact b (source is rose earlier) (all gives still) excused = inl (at_status b 5 (gives.status_is ∙ ap status_of is) earlier)
-  exact b (source is rose earlier) (no_sink line number _ written told) excused = absurd (let none = subst Writes is line in cc)
-  exact b (source is rose earlier) (no_memory number none told) excused = inl (at_status b 9 number excused)
-  exact b (memory is earlier) (all gives still) excused = inl (at_status b 9 (gives.status_is ∙ ap status_of is) earlier)
-  exact b (memory is earlier) (no_sink line number _ written told) excused = absurd (let none = subst Writes is line in cc)
-  exact b (memory is earlier) (no_memory number none told) excused = inl (at_status b 9 number excused)
+  exact b (files name is rose earlier) (all gives still) excused =
+      inl (at_status b 7 (gives.status_is ∙ ap status_of is) earlier)
+  exact b (files name is rose earlier) (no_sink line number _ written told) excused =
+      absurd (let none = subst Writes is line in cc)
+  exact b (files name is rose earlier) (no_memory number none told) excused =
+      inl (at_status b 9 number excused)
+  exact b (source is rose earlier) (all gives still) excused =
+      inl (at_status b 5 (gives.status_is ∙ ap status_of is) earlier)
+  exact b (source is rose earlier) (no_sink line number _ written told) excused =
+      absurd (let none = subst Writes is line in cc)
+  exact b (source is rose earlier) (no_memory number none told) excused =
+      inl (at_status b 9 number excused)
+  exact b (memory is earlier) (all gives still) excused =
+      inl (at_status b 9 (gives.status_is ∙ ap status_of is) earlier)
+  exact b (memory is earlier) (no_sink line number _ written told) excused =
+      absurd (let none = subst Writes is line in cc)
+  exact b (memory is earlier) (no_memory number none told) excused =
+      inl (at_status b 9 number excused)
 
-  complete : (b : End) → Ranked before.inputs after.inputs a b → Finished a before.outputs after.outputs status
+  complete : (b : End) → Ranked before.inputs after.inputs a b
+      → Finished a before.outputs after.outputs status
       → NoneFailed before after → (status ≡ 9) ⊎ Ends b
   complete b ranking (no_memory number none told) well = inl number
   complete b ranking (no_sink line number rose written told) well = absurd (well.out rose)
@@ -208,7 +240,8 @@ module _ (words : List (List ℕ)) (before after : Outside) (status : ℕ) (a : 
       none_front before.outputs.out.taken after.outputs.out.taken (written_of b)
       (subst (λ (piece : List ℕ). Adds before.outputs.out.taken piece after.outputs.out.taken) (ap written_of is) gives.written)
 
-  front : (b : End) → Ranked before.inputs after.inputs a b → Finished a before.outputs after.outputs status → Front b
+  front : (b : End) → Ranked before.inputs after.inputs a b
+      → Finished a before.outputs after.outputs status → Front b
   front b ranking (no_memory number none told) =
       none_front before.outputs.out.taken after.outputs.out.taken (written_of b)
       (same_adds before.outputs.out.taken after.outputs.out.taken (ap (λ (s : SinkSeen). s.taken) none))
@@ -216,15 +249,20 @@ module _ (words : List (List ℕ)) (before after : Outside) (status : ℕ) (a : 
       adds_front before.outputs.out.taken after.outputs.out.taken (written_of b)
       (subst (λ (e : End). Adds before.outputs.out.taken (written_of e) after.outputs.out.taken) is gives.written)
   front b (same is) (no_sink line number rose written told) = subst Front is written
-  front b (files name is rose earlier) (all gives still) = nothing_front b (FilesFailed name) is gives
-  front b (files name is rose earlier) (no_sink line number _ written told) = absurd (let none = subst Writes is line in cc)
+  front b (files name is rose earlier) (all gives still) =
+      nothing_front b (FilesFailed name) is gives
+  front b (files name is rose earlier) (no_sink line number _ written told) =
+      absurd (let none = subst Writes is line in cc)
   front b (source is rose earlier) (all gives still) = nothing_front b SourceFailed is gives
-  front b (source is rose earlier) (no_sink line number _ written told) = absurd (let none = subst Writes is line in cc)
+  front b (source is rose earlier) (no_sink line number _ written told) =
+      absurd (let none = subst Writes is line in cc)
   front b (memory is earlier) (all gives still) = nothing_front b OutOfMemory is gives
-  front b (memory is earlier) (no_sink line number _ written told) = absurd (let none = subst Writes is line in cc)
+  front b (memory is earlier) (no_sink line number _ written told) =
+      absurd (let none = subst Writes is line in cc)
 
   comes : (b : End) (number : ℕ) → IsTrue (is_excused b status) ⊎ Ends b
-      → IsTrue (is_excused b status) ⊎ ((status ≡ number → status_of b ≡ number) × (status_of b ≡ number → status ≡ number))
+      → IsTrue (is_excused b status)
+      ⊎ ((status ≡ number → status_of b ≡ number) × (status_of b ≡ number → status ≡ number))
   comes b number (inl excused) = inl excused
   comes b number (inr gives) = inr (λ is. sym gives.status_is ∙ is, λ is. gives.status_is ∙ is)
 
@@ -252,14 +290,16 @@ module _ (words : List (List ℕ)) (before after : Outside) (status : ℕ) (a : 
   source_rises end (by_data order described orders told loaded loads read) =
       subst (λ (e : End). IsReadEnd order.verb described before.inputs.source after.inputs.source e) end read
 
-  source_failed : Finished a before.outputs after.outputs status → status ≡ 5 → SourceFails before after
+  source_failed : Finished a before.outputs after.outputs status → status ≡ 5
+      → SourceFails before after
   source_failed (no_sink line number rose written told) is = absurd (omega arith)
   source_failed (no_memory number none told) is = absurd (omega arith)
   source_failed (all gives still) is =
       let end = five a (sym gives.status_is ∙ is) in
       record {
         rose = source_rises end decided;
-        told = subst (λ (e : End). Tells (note_of e) before.outputs.notes after.outputs.notes) end gives.told;
+        told =
+            subst (λ (e : End). Tells (note_of e) before.outputs.notes after.outputs.notes) end gives.told;
       }
 
   sink_failed : Finished a before.outputs after.outputs status → status ≡ 6 → SinkFails before after
@@ -267,7 +307,8 @@ module _ (words : List (List ℕ)) (before after : Outside) (status : ℕ) (a : 
   sink_failed (no_memory number none told) is = absurd (omega arith)
   sink_failed (all gives still) is = absurd (never_six a (sym gives.status_is ∙ is))
 
-  names : (name : List ℕ) → a ≡ Err (FilesFailed name) → Ends a → Decided words before.inputs after.inputs a → FilesFail words before after
+  names : (name : List ℕ) → a ≡ Err (FilesFailed name) → Ends a
+      → Decided words before.inputs after.inputs a → FilesFail words before after
   names name end gives (by_words at place is untouched) = absurd (let no = sym end ∙ is in cc)
   names name end gives (by_schema order stop orders is fault loads unread) =
       let same_stop : stop ≡ FilesFailed name = let no = sym is ∙ end in cc in
@@ -280,16 +321,19 @@ module _ (words : List (List ℕ)) (before after : Outside) (status : ℕ) (a : 
           order = order;
           orders = orders;
           last = failed.1.last;
-          told = subst (λ (e : End). Tells (note_of e) before.outputs.notes after.outputs.notes) end_is gives.told;
+          told =
+              subst (λ (e : End). Tells (note_of e) before.outputs.notes after.outputs.notes) end_is gives.told;
         };
       }
   names name end gives (by_data order described orders told loaded loads read) =
       absurd (subst (λ (e : End). IsReadEnd order.verb described before.inputs.source after.inputs.source e) end read)
 
-  files_failed : Finished a before.outputs after.outputs status → status ≡ 7 → FilesFail words before after
+  files_failed : Finished a before.outputs after.outputs status → status ≡ 7
+      → FilesFail words before after
   files_failed (no_sink line number rose written told) is = absurd (omega arith)
   files_failed (no_memory number none told) is = absurd (omega arith)
-  files_failed (all gives still) is = let end = seven a (sym gives.status_is ∙ is) in names end.0 end.1 gives decided
+  files_failed (all gives still) is =
+      let end = seven a (sym gives.status_is ∙ is) in names end.0 end.1 gives decided
 
   out_of_memory : Finished a before.outputs after.outputs status → status ≡ 9
       → Tells memory_line before.outputs.notes after.outputs.notes
@@ -298,9 +342,11 @@ module _ (words : List (List ℕ)) (before after : Outside) (status : ℕ) (a : 
   out_of_memory (all gives still) is =
       subst (λ (e : End). Tells (note_of e) before.outputs.notes after.outputs.notes) (nine a (sym gives.status_is ∙ is)) gives.told
 
-  unwritten : Finished a before.outputs after.outputs status → (status ≡ 0 → ⊥) → (status ≡ 3 → ⊥) → (status ≡ 6 → ⊥)
+  unwritten : Finished a before.outputs after.outputs status → (status ≡ 0 → ⊥) → (status ≡ 3 → ⊥)
+      → (status ≡ 6 → ⊥)
       → (status ≡ 11 → ⊥) → Adds before.outputs.out.taken [] after.outputs.out.taken
-  unwritten (no_sink line number rose written told) not_done not_unparsed not_failed not_over = absurd (not_failed number)
+  unwritten (no_sink line number rose written told) not_done not_unparsed not_failed not_over =
+      absurd (not_failed number)
   unwritten (no_memory number none told) not_done not_unparsed not_failed not_over =
       same_adds before.outputs.out.taken after.outputs.out.taken (ap (λ (s : SinkSeen). s.taken) none)
   unwritten (all gives still) not_done not_unparsed not_failed not_over =
@@ -312,10 +358,12 @@ module _ (words : List (List ℕ)) (before after : Outside) (status : ℕ) (a : 
   stopped : (stop : Stop) → a ≡ Err stop → Finished a before.outputs after.outputs status
       → (status ≡ status_of (Err stop)) ⊎ (status ≡ 9)
   stopped stop is (all gives still) = inl (gives.status_is ∙ ap status_of is)
-  stopped stop is (no_sink line number rose written told) = absurd (unwritten_stop stop (subst Writes is line))
+  stopped stop is (no_sink line number rose written told) =
+      absurd (unwritten_stop stop (subst Writes is line))
   stopped stop is (no_memory number none told) = inr number
 
-  unread : Finished a before.outputs after.outputs status → Decided words before.inputs after.inputs a
+  unread : Finished a before.outputs after.outputs status
+      → Decided words before.inputs after.inputs a
       → IsTrue (is_before_data status) → after.inputs.source ≡ before.inputs.source
   unread end (by_words at place is untouched) early = ap (λ (i : Inputs). i.source) untouched
   unread end (by_schema order stop orders is fault loads kept) early = kept
@@ -327,14 +375,16 @@ module _ (words : List (List ℕ)) (before after : Outside) (status : ℕ) (a : 
   unread (no_memory number none told) (by_data order described orders told' loaded loads read) early =
       absurd (let no : IsTrue (is_before_data 9) = subst (λ (s : ℕ). IsTrue (is_before_data s)) number early in cc)
 
-  unloaded : Finished a before.outputs after.outputs status → Decided words before.inputs after.inputs a
+  unloaded : Finished a before.outputs after.outputs status
+      → Decided words before.inputs after.inputs a
       → status ≡ 4 → after.inputs.files ≡ before.inputs.files
   unloaded end (by_words at place is untouched) four = ap (λ (i : Inputs). i.files) untouched
   unloaded end (by_schema order stop orders is fault loads kept) four =
       absurd (no_usage (stopped stop is end))
     where
       no_usage : (status ≡ status_of (Err stop)) ⊎ (status ≡ 9) → ⊥
-      no_usage (inl own) = load_late before.inputs.files after.inputs.files order.schema stop fault (sym own ∙ four)
+      no_usage (inl own) =
+          load_late before.inputs.files after.inputs.files order.schema stop fault (sym own ∙ four)
       no_usage (inr none) = absurd (omega arith)
   unloaded (all gives still) (by_data order described orders told loaded loads read) four =
       absurd (read_late order.verb described before.inputs.source after.inputs.source a read
@@ -342,7 +392,8 @@ module _ (words : List (List ℕ)) (before after : Outside) (status : ℕ) (a : 
   unloaded (no_sink line number rose written told) (by_data order described orders told' loaded loads read) four = absurd (omega arith)
   unloaded (no_memory number none told) (by_data order described orders told' loaded loads read) four = absurd (omega arith)
 
-  used_up : Finished a before.outputs after.outputs status → Decided words before.inputs after.inputs a
+  used_up : Finished a before.outputs after.outputs status
+      → Decided words before.inputs after.inputs a
       → IsTrue (is_of_data status) → IsUsedUp before.inputs.source.left after.inputs.source.left
   used_up (no_sink line number rose written told) decision of =
       absurd (let no : IsTrue (is_of_data 6) = subst (λ (s : ℕ). IsTrue (is_of_data s)) number of in cc)
@@ -362,10 +413,14 @@ module _ (words : List (List ℕ)) (before after : Outside) (status : ℕ) (a : 
   out_still (no_sink line number rose written told) not_failed = absurd (not_failed number)
   out_still (no_memory number none told) not_failed = ap (λ (s : SinkSeen). s.faults) none
 
-  source_still : Finished a before.outputs after.outputs status → Decided words before.inputs after.inputs a
-      → (status ≡ 5 → ⊥) → (status ≡ 9 → ⊥) → after.inputs.source.faults ≡ before.inputs.source.faults
-  source_still end (by_words at place is untouched) not_failed some = ap (λ (i : Inputs). i.source.faults) untouched
-  source_still end (by_schema order stop orders is fault loads kept) not_failed some = ap (λ (s : SourceSeen). s.faults) kept
+  source_still : Finished a before.outputs after.outputs status
+      → Decided words before.inputs after.inputs a
+      → (status ≡ 5 → ⊥) → (status ≡ 9 → ⊥)
+      → after.inputs.source.faults ≡ before.inputs.source.faults
+  source_still end (by_words at place is untouched) not_failed some =
+      ap (λ (i : Inputs). i.source.faults) untouched
+  source_still end (by_schema order stop orders is fault loads kept) not_failed some =
+      ap (λ (s : SourceSeen). s.faults) kept
   source_still end (by_data order described orders told loaded loads read) not_failed some =
       read_still order.verb described before.inputs.source after.inputs.source a read
       (λ is. either (stopped SourceFailed is end))
@@ -374,21 +429,26 @@ module _ (words : List (List ℕ)) (before after : Outside) (status : ℕ) (a : 
       either (inl failed) = not_failed failed
       either (inr none) = some none
 
-  files_still : Finished a before.outputs after.outputs status → Decided words before.inputs after.inputs a
+  files_still : Finished a before.outputs after.outputs status
+      → Decided words before.inputs after.inputs a
       → (status ≡ 7 → ⊥) → (status ≡ 9 → ⊥) → after.inputs.files.faults ≡ before.inputs.files.faults
-  files_still end (by_words at place is untouched) not_failed some = ap (λ (i : Inputs). i.files.faults) untouched
+  files_still end (by_words at place is untouched) not_failed some =
+      ap (λ (i : Inputs). i.files.faults) untouched
   files_still end (by_schema order stop orders is fault loads kept) not_failed some =
       load_still before.inputs.files after.inputs.files order.schema stop fault
       (λ own. either (stopped stop is end) own)
     where
-      either : (status ≡ status_of (Err stop)) ⊎ (status ≡ 9) → (status_of (Err stop) ≡ 7) ⊎ (status_of (Err stop) ≡ 9) → ⊥
+      either : (status ≡ status_of (Err stop)) ⊎ (status ≡ 9)
+          → (status_of (Err stop) ≡ 7) ⊎ (status_of (Err stop) ≡ 9) → ⊥
       either (inl own) (inl failed) = not_failed (own ∙ failed)
       either (inl own) (inr none) = some (own ∙ none)
       either (inr none) number = some none
-  files_still end (by_data order described orders told loaded loads read) not_failed some = loaded.still
+  files_still end (by_data order described orders told loaded loads read) not_failed some =
+      loaded.still
 
   few_loads : Decided words before.inputs after.inputs a
-      → (after.inputs.files.loads ≡ before.inputs.files.loads) ⊎ (after.inputs.files.loads ≡ one_more before.inputs.files.loads)
+      → (after.inputs.files.loads ≡ before.inputs.files.loads)
+      ⊎ (after.inputs.files.loads ≡ one_more before.inputs.files.loads)
   few_loads (by_words at place is untouched) = inl (ap (λ (i : Inputs). i.files.loads) untouched)
   few_loads (by_schema order stop orders is fault loads kept) = inr loads
   few_loads (by_data order described orders told loaded loads read) = inr loads

@@ -1,5 +1,8 @@
 -- The line of a record's items is unparsed to the data that they were read from.
-use Rattle.std.proofs.Common.{◌≡◌, ℕ, zero, suc, ◌+◌, ◌*◌, ◌/◌, ◌^◌, ◌<◌, ◌≤◌, List, [], ◌∷◌, ◌++◌, length, map, fold, take, IsUtf8, decimal, Option, None, Some, Result, Ok, Err, nat_le, if◌then◌else◌, Bool, refl, sym, ap, subst, ◌∙◌, arith, inl, inr}
+use Rattle.std.proofs.Common.{◌≡◌, ℕ, zero, suc, ◌+◌, ◌*◌, ◌/◌, ◌^◌, ◌<◌, ◌≤◌, List, [], ◌∷◌, ◌++◌}
+use Rattle.std.proofs.Common.{length, map, fold, take, IsUtf8, decimal, Option, None, Some, Result}
+use Rattle.std.proofs.Common.{Ok, Err, nat_le, if◌then◌else◌, Bool, refl, sym, ap, subst, ◌∙◌}
+use Rattle.std.proofs.Common.{arith, inl, inr}
 use Rattle.std.specs.List.{All, AllByRecursion}
 use Rattle.std.proofs.lemmas.Bool.{cases_lt, cond-true, cond-false, le-leb, lt-leb}
 use Rattle.std.proofs.lemmas.Fmt.{IsAscii-decimal}
@@ -9,9 +12,10 @@ use Rattle.serde_json.specs.Data.{Data, Members, no_members, string}
 use Rattle.serde_json.specs.Read.{read}
 use Rattle.dfdl_value.specs.declared.value.Value.{Value}
 use Rattle.dfdl_terms.specs.Record.{Field, Record}
-use Rattle.dfdl_json.specs.Infosets.{Refusal}
+use Rattle.dfdl_json.specs.Infosets.{values_of}
 use Rattle.dfdl_json.specs.Texts.{json_if, json_in, values_if, values_of_text}
-use Rattle.dfdl_record.specs.Outcomes.{Item, Outcome, Read, Ends, infoset_of, outcome_of, with_member}
+use Rattle.dfdl_record.specs.Outcomes.{Item, Outcome, Read, Ends, infoset_of, outcome_of}
+use Rattle.dfdl_record.specs.Outcomes.{with_member}
 use Rattle.dfdl_record.specs.Pieces.{IsWholeRecord, joined, unparsed_of}
 use Rattle.dfdl_record.specs.Pieces.{Unparsed as UnparsedPieces}
 use Rattle.dfdl_record.specs.RoundTrip.{AreValuesOf, IsUnparsedBack, items_of, pieces_of}
@@ -30,22 +34,28 @@ abbrev pub AreTextItems : List Item → Type 0
 AreTextItems [] = Unit {0}
 AreTextItems (item ∷ items) = IsUtf8 item.name × IsUtf8 (decimal item.number) × AreTextItems items
 
-texts_of : (items : List Item) (ms : Members) → AreTextItems items → AreTexts ms → AreTexts (fold with_member ms items)
+texts_of : (items : List Item) (ms : Members) → AreTextItems items → AreTexts ms
+    → AreTexts (fold with_member ms items)
 texts_of [] ms names texts = texts
 texts_of (item ∷ items) ms names texts =
     texts_of items (with_member ms item) names.2 (texts_put item.name (decimal item.number) ms names.0 names.1 texts)
 
-sorted_of : (items : List Item) (ms : Members) → AreSorted ms → AreSorted (fold with_member ms items)
+sorted_of : (items : List Item) (ms : Members) → AreSorted ms
+    → AreSorted (fold with_member ms items)
 sorted_of [] ms sorted = sorted
-sorted_of (item ∷ items) ms sorted = sorted_of items (with_member ms item) (sorted_put item.name (string (decimal item.number)) ms sorted)
+sorted_of (item ∷ items) ms sorted =
+    sorted_of items (with_member ms item) (sorted_put item.name (string (decimal item.number)) ms sorted)
 
 -- text in UTF-8 that is read
-read_json : (text : List ℕ) (content : Data) → IsUtf8 text → read text ≡ Some content → json_in text ≡ Ok content
+read_json : (text : List ℕ) (content : Data) → IsUtf8 text → read text ≡ Some content
+    → json_in text ≡ Ok content
 read_json text content utf8 is =
-    ap (λ (b : Bool). json_if (if b then read text else None)) (is_utf8-from_IsUtf8 text utf8) ∙ ap json_if is
+    ap (λ (b : Bool). json_if (if b then read text else None)) (is_utf8-from_IsUtf8 text utf8)
+    ∙ ap json_if is
 
 -- the line is read as the infoset
-line_json : (root : List ℕ) (items : List Item) → IsUtf8 root → AreTextItems items → json_in (line_of root items) ≡ Ok (infoset_of root items)
+line_json : (root : List ℕ) (items : List Item) → IsUtf8 root → AreTextItems items
+    → json_in (line_of root items) ≡ Ok (infoset_of root items)
 line_json root items name names =
     let ms = fold with_member no_members items in
     let texts = texts_of items no_members names tt in
@@ -68,7 +78,8 @@ small form_bits k n is few low =
     most (suc (suc (suc (suc (suc (suc (suc (suc zero)))))))) few n low = omega arith
     most (suc (suc (suc (suc (suc (suc (suc (suc (suc k))))))))) few n low = absurd (omega arith)
 
-text_items : (fields : List Field) (values : List Value) → AllByRecursion (λ field. IsUtf8 field.name) fields → AreWhole fields
+text_items : (fields : List Field) (values : List Value)
+    → AllByRecursion (λ field. IsUtf8 field.name) fields → AreWhole fields
     → AreValuesOf fields values → AreTextItems (items_of fields values)
 text_items [] values names whole typed = tt
 text_items (field ∷ fields) [] names whole typed = tt
@@ -78,9 +89,39 @@ text_items (field ∷ fields) (value ∷ values) names whole typed = (
   text_items fields values names.1 whole.1 typed.1,
 )
 
+-- the line of values is unparsed to their pieces
+pub values_unparsed : (described : Record) (values : List Value) → IsWholeRecord described
+    → HasTextNames described → AreValuesOf described.fields values
+    → values_of described (infoset_of described.root (items_of described.fields values))
+    ≡ Ok (map Some values)
+    → unparsed_of described.fields (map Some values)
+    ≡ record { pieces = pieces_of described.fields values; missing = None }
+    → answer_of Unparse described (line_of described.root (items_of described.fields values))
+    ≡ Unparsed (pieces_of described.fields values)
+values_unparsed described values whole names typed said complete =
+    let items = items_of described.fields values in
+    let texts : AreTextItems items =
+    text_items described.fields values names.fields (whole_fields described whole) typed in
+    let text_said : values_of_text described (line_of described.root items) ≡ Ok (map Some values) =
+    ap (values_if described) (line_json described.root items names.root texts) ∙ said in
+    ap (values_answer described) text_said
+    ∙ ap (λ (u : UnparsedPieces). pieces_answer described.root u.pieces u.missing) complete
+
+-- data that is read to its end is parsed as a line
+pub all_parsed : (described : Record) (bytes : List ℕ) (items : List Item)
+    → outcome_of bytes 0 described.fields ≡ Read items (8 * length bytes)
+    → answer_of Parse described bytes ≡ Done (line_of described.root items)
+all_parsed described bytes items read =
+    let bits = 8 * length bytes in
+    ap (answer_at described.root bits) read
+    ∙ cond-false (nat_le (bits + 8) bits) (LeftOver (line_of described.root items) bits)
+    (Done (line_of described.root items)) (lt-leb (bits + 8) bits (omega arith))
+
 -- the line of items that are unparsed to data is unparsed to it
-pub line_back : (described : Record) (bytes : List ℕ) (items : List Item) (bit : ℕ) → IsWholeRecord described → HasTextNames described
-    → IsUnparsedBack described bytes items bit → IsUnparsedTo described (line_of described.root items) (take (bit / 8) bytes)
+pub line_back : (described : Record) (bytes : List ℕ) (items : List Item) (bit : ℕ)
+    → IsWholeRecord described → HasTextNames described
+    → IsUnparsedBack described bytes items bit
+    → IsUnparsedTo described (line_of described.root items) (take (bit / 8) bytes)
 line_back described bytes items bit whole names back =
     let texts : AreTextItems items =
     subst AreTextItems (sym back.same) (text_items described.fields back.values names.fields (whole_fields described whole) back.typed) in
@@ -107,7 +148,8 @@ record IsFront (root : List ℕ) (o : Outcome) (line : List ℕ) (bit : ℕ) : T
   read : o ≡ Read items bit
   line_is : line ≡ line_of root items
 
-done_line : (root : List ℕ) (bits : ℕ) (o : Outcome) (line : List ℕ) → answer_at root bits o ≡ Done line → IsLine root bits o line
+done_line : (root : List ℕ) (bits : ℕ) (o : Outcome) (line : List ℕ)
+    → answer_at root bits o ≡ Done line → IsLine root bits o line
 done_line root bits (Ends name at) line is = absurd (cc)
 done_line root bits (Read items at) line is =
     elim (cases_lt bits (at + 8)) [
@@ -124,7 +166,8 @@ done_line root bits (Read items at) line is =
           sym (cond-true (nat_le (at + 8) bits) (LeftOver (line_of root items) at) (Done (line_of root items)) (le-leb (at + 8) bits many)) ∙ is in cc)
     ]
 
-front_line : (root : List ℕ) (bits : ℕ) (o : Outcome) (line : List ℕ) (bit : ℕ) → answer_at root bits o ≡ LeftOver line bit → IsFront root o line bit
+front_line : (root : List ℕ) (bits : ℕ) (o : Outcome) (line : List ℕ) (bit : ℕ)
+    → answer_at root bits o ≡ LeftOver line bit → IsFront root o line bit
 front_line root bits (Ends name at) line bit is = absurd (cc)
 front_line root bits (Read items at) line bit is =
     elim (cases_lt bits (at + 8)) [
@@ -139,26 +182,34 @@ front_line root bits (Read items at) line bit is =
 
 -- the items of data are unparsed to it
 abbrev IsUndone : Record → List ℕ → Type 0
-IsUndone described bytes = (items : List Item) (bit : ℕ) → outcome_of bytes 0 described.fields ≡ Read items bit → IsUnparsedBack described bytes items bit
+IsUndone described bytes =
+    (items : List Item) (bit : ℕ) → outcome_of bytes 0 described.fields ≡ Read items bit
+    → IsUnparsedBack described bytes items bit
 
-whole_front : (bytes : List ℕ) (end count : ℕ) → end ≡ 8 * count → 8 * length bytes < end + 8 → take (end / 8) bytes ≡ bytes
+whole_front : (bytes : List ℕ) (end count : ℕ) → end ≡ 8 * count → 8 * length bytes < end + 8
+    → take (end / 8) bytes ≡ bytes
 whole_front bytes end count is few =
     let same : end / 8 ≡ count = omega (arith, is) in
     take_all (end / 8) bytes (omega (arith, is, few, same))
 
-pub done_back : (described : Record) (bytes line : List ℕ) → IsWholeRecord described → HasTextNames described → IsUndone described bytes
+pub done_back : (described : Record) (bytes line : List ℕ) → IsWholeRecord described
+    → HasTextNames described → IsUndone described bytes
     → answer_of Parse described bytes ≡ Done line → IsUnparsedTo described line bytes
 done_back described bytes line whole names undone is =
-    let l = done_line described.root (8 * length bytes) (outcome_of bytes 0 described.fields) line is in
+    let l =
+    done_line described.root (8 * length bytes) (outcome_of bytes 0 described.fields) line is in
     let back = undone l.items l.end l.read in
     let made = line_back described bytes l.items l.end whole names back in
     subst (λ (text : List ℕ). IsUnparsedTo described text bytes) (sym l.line_is)
     (subst (λ (bs : List ℕ). IsUnparsedTo described (line_of described.root l.items) bs)
     (whole_front bytes l.end (length (joined (pieces_of described.fields back.values))) back.ends l.few) made)
 
-pub front_back : (described : Record) (bytes line : List ℕ) (bit : ℕ) → IsWholeRecord described → HasTextNames described → IsUndone described bytes
-    → answer_of Parse described bytes ≡ LeftOver line bit → IsUnparsedTo described line (take (bit / 8) bytes)
+pub front_back : (described : Record) (bytes line : List ℕ) (bit : ℕ) → IsWholeRecord described
+    → HasTextNames described → IsUndone described bytes
+    → answer_of Parse described bytes ≡ LeftOver line bit
+    → IsUnparsedTo described line (take (bit / 8) bytes)
 front_back described bytes line bit whole names undone is =
-    let l = front_line described.root (8 * length bytes) (outcome_of bytes 0 described.fields) line bit is in
+    let l =
+    front_line described.root (8 * length bytes) (outcome_of bytes 0 described.fields) line bit is in
     subst (λ (text : List ℕ). IsUnparsedTo described text (take (bit / 8) bytes)) (sym l.line_is)
     (line_back described bytes l.items bit whole names (undone l.items bit l.read))

@@ -9,11 +9,13 @@ use Rattle.dfdl_compile.specs.Compiled.{IsCompiled}
 use Rattle.dfdl_run.specs.Loaded.{AreTermsOf}
 
 -- elements are a schema of one record
-one_record : (nodes : List Node) (a b : Record) → IsRecordTree nodes a → IsRecordTree nodes b → a ≡ b
+one_record : (nodes : List Node) (a b : Record) → IsRecordTree nodes a → IsRecordTree nodes b
+    → a ≡ b
 one_record nodes a b first second = let shapes = sym first.shape ∙ second.shape in cc
 
 pub loaded : (bytes : List ℕ) (nodes : List Node) (terms : Table) → IsDocument bytes nodes
-    → ((others : List Node) → IsDocument bytes others → nodes ≡ others) → IsCompiled nodes terms → AreTermsOf bytes terms
+    → ((others : List Node) → IsDocument bytes others → nodes ≡ others) → IsCompiled nodes terms
+    → AreTermsOf bytes terms
 loaded bytes nodes terms document only compiled = record {
   described = compiled.described;
   schema = record { nodes = nodes; document = document; tree = compiled.tree };
@@ -22,7 +24,9 @@ loaded bytes nodes terms document only compiled = record {
       (subst (λ (ns : List Node). IsRecordTree ns other) (sym (only schema.nodes schema.document)) schema.tree) compiled.tree;
 }
 
-pub no_record : (bytes : List ℕ) (nodes : List Node) → ((others : List Node) → IsDocument bytes others → nodes ≡ others)
-    → ((described : Record) → IsRecordTree nodes described → ⊥) → (described : Record) → IsSchema bytes described → ⊥
+pub no_record : (bytes : List ℕ) (nodes : List Node)
+    → ((others : List Node) → IsDocument bytes others → nodes ≡ others)
+    → ((described : Record) → IsRecordTree nodes described → ⊥) → (described : Record)
+    → IsSchema bytes described → ⊥
 no_record bytes nodes only none described schema =
     none described (subst (λ (ns : List Node). IsRecordTree ns described) (sym (only schema.nodes schema.document)) schema.tree)

@@ -1,5 +1,7 @@
 -- The record of a schema has whole fields.
-use Rattle.std.proofs.Common.{All, ◌≡◌, ◌*◌, ◌≤◌, ◌<◌, ℕ, Bool, true, ◌&&◌, nat_lt, IsUtf8, List, [], ◌∷◌, map, cond, Option, None, Some, IfSome, option_map, option_and_then, refl, sym, ap, subst, ◌∙◌, arith}
+use Rattle.std.proofs.Common.{All, ◌≡◌, ◌*◌, ◌≤◌, ◌<◌, ℕ, Bool, true, ◌&&◌, nat_lt, IsUtf8, List}
+use Rattle.std.proofs.Common.{[], ◌∷◌, map, cond, Option, None, Some, IfSome, option_map}
+use Rattle.std.proofs.Common.{option_and_then, refl, sym, ap, subst, ◌∙◌, arith}
 use Rattle.std.specs.Str.{bytes_eq}
 use Rattle.std.specs.Prelude.{codes}
 use Rattle.std.specs.List.{list_all}
@@ -12,7 +14,8 @@ use Rattle.dfdl_forms.specs.declared.order.BitOrder.TheVariants.{MostFirst}
 use Rattle.dfdl_forms.specs.Types.{form_of as form_of_kind}
 use Rattle.dfdl_forms.specs.declared.simple.Form.TheVariants.{Unsigned}
 use Rattle.dfdl_forms.specs.declared.simple.Simple.{Simple}
-use Rattle.dfdl_forms.specs.declared.simple.Simple.TheVariants.{UnsignedByte, UnsignedShort, UnsignedInt, UnsignedLong}
+use Rattle.dfdl_forms.specs.declared.simple.Simple.TheVariants.{UnsignedByte, UnsignedShort}
+use Rattle.dfdl_forms.specs.declared.simple.Simple.TheVariants.{UnsignedInt, UnsignedLong}
 use Rattle.dfdl_forms.specs.declared.binary.IntForm.{IntForm}
 use Rattle.dfdl_lemmas.proofs.Bools.{both}
 use Rattle.dfdl_doc_tree.specs.Content.{is_name_byte, is_name_start, is_part}
@@ -21,8 +24,11 @@ use Rattle.dfdl_terms.specs.Record.{Field, Record, all_of, record_of}
 use Rattle.dfdl_terms.specs.Rows.{Table}
 use Rattle.dfdl_record.specs.Pieces.{IsWholeField, IsWholeRecord}
 use Rattle.dfdl_run.specs.RoundTrip.{HasTextNames}
-use Rattle.dfdl_compile.specs.Schema.{IsSchema, field_elements, has, is_element, is_schema, only, root_name, root_outline}
-use Rattle.dfdl_compile.specs.Schema.{Outline, IsRecordTree, bits_of, field_of, form_of, integer_form, is_field, kind_of, local_name, order_of, outline_of, outline_record, value_of}
+use Rattle.dfdl_compile.specs.Schema.{IsSchema, field_elements, has, is_element, is_schema, only}
+use Rattle.dfdl_compile.specs.Schema.{root_name, root_outline}
+use Rattle.dfdl_compile.specs.Schema.{Outline, IsRecordTree, bits_of, field_of, form_of}
+use Rattle.dfdl_compile.specs.Schema.{integer_form, is_field, kind_of, local_name, order_of}
+use Rattle.dfdl_compile.specs.Schema.{outline_of, outline_record, value_of}
 use Rattle.dfdl_run.specs.Loaded.{AreTermsOf}
 
 -- the type is unsigned, and has this many whole bytes
@@ -45,11 +51,13 @@ kind_whole name =
     (λ _. record { count = 8; unsigned = refl; bits = refl; some = omega arith; few = omega arith })
     (λ _. tt))))
 
-some_then : {A B : Type 0} (P : A → Type 0) (Q : B → Type 0) (f : A → Option B) (o : Option A) → IfSome o P → ((a : A) → P a → IfSome (f a) Q) → IfSome (option_and_then f o) Q
+some_then : {A B : Type 0} (P : A → Type 0) (Q : B → Type 0) (f : A → Option B) (o : Option A)
+    → IfSome o P → ((a : A) → P a → IfSome (f a) Q) → IfSome (option_and_then f o) Q
 some_then P Q f None here next = tt
 some_then P Q f (Some a) here next = next a here
 
-some_map : {A B : Type 0} (P : A → Type 0) (Q : B → Type 0) (f : A → B) (o : Option A) → IfSome o P → ((a : A) → P a → Q (f a)) → IfSome (option_map f o) Q
+some_map : {A B : Type 0} (P : A → Type 0) (Q : B → Type 0) (f : A → B) (o : Option A) → IfSome o P
+    → ((a : A) → P a → Q (f a)) → IfSome (option_map f o) Q
 some_map P Q f None here next = tt
 some_map P Q f (Some a) here next = next a here
 
@@ -77,19 +85,24 @@ field_whole node =
     (λ name _. some_map IsWholeField IsWhole (λ form. record { name = name; form = form }) (form_of node) (form_whole node) (λ form whole. whole)))
     (λ _. tt)
 
-all_whole : {A B : Type 0} (P : B → Type 0) (read : A → Option B) (xs : List A) (ys : List B) → ((x : A) → IfSome (read x) P) → all_of (map read xs) ≡ Some ys → All P ys
-all_whole {B = B} P read [] ys each is = let same : (let none : List B = [] in none) ≡ ys = cc in subst (λ (l : List B). All P l) same (All-nil P)
+all_whole : {A B : Type 0} (P : B → Type 0) (read : A → Option B) (xs : List A) (ys : List B)
+    → ((x : A) → IfSome (read x) P) → all_of (map read xs) ≡ Some ys → All P ys
+all_whole {B = B} P read [] ys each is = let same : (let none : List B = [] in none)
+    ≡ ys = cc in subst (λ (l : List B). All P l) same (All-nil P)
 all_whole {A = A} {B = B} P read (x ∷ xs) ys each is =
-    let rest : (zs : List B) → all_of (map read xs) ≡ Some zs → All P zs = λ zs. all_whole P read xs zs each in
+    let rest : (zs : List B) → all_of (map read xs) ≡ Some zs → All P zs =
+    λ zs. all_whole P read xs zs each in
     (elim (read x) as (λ o. IfSome o P → all_of (o ∷ map read xs) ≡ Some ys → All P ys) [
       | None ↦ λ _ none. absurd (cc)
       | Some y ↦ λ here. (elim (all_of (map read xs)) as (λ o. ((zs : List B) → o ≡ Some zs → All P zs) → option_map (λ zs. y ∷ zs) o ≡ Some ys → All P ys) [
         | None ↦ λ _ none. absurd (cc)
-        | Some zs ↦ λ others some. let same : y ∷ zs ≡ ys = cc in subst (λ (l : List B). All P l) same (All-cons P y zs here (others zs refl))
+        | Some zs ↦ λ others some. let same : y ∷ zs ≡ ys =
+            cc in subst (λ (l : List B). All P l) same (All-cons P y zs here (others zs refl))
       ]) rest
     ]) (each x) is
 
-tree_whole : (nodes : List Node) (described : Record) → IsRecordTree nodes described → All IsWhole described.fields
+tree_whole : (nodes : List Node) (described : Record) → IsRecordTree nodes described
+    → All IsWhole described.fields
 tree_whole nodes described tree =
     (elim (outline_of nodes) as (λ o. option_and_then (outline_record nodes) o ≡ Some described → All IsWhole described.fields) [
       | None ↦ λ none. absurd (cc)
@@ -106,7 +119,8 @@ tree_whole nodes described tree =
     ]) tree.shape
 
 -- the record that loaded terms are
-pub loaded_whole : (bytes : List ℕ) (terms : Table) → AreTermsOf bytes terms → (described : Record) → record_of terms ≡ Some described → IsWholeRecord described
+pub loaded_whole : (bytes : List ℕ) (terms : Table) → AreTermsOf bytes terms → (described : Record)
+    → record_of terms ≡ Some described → IsWholeRecord described
 loaded_whole bytes terms loaded described is =
     let same : loaded.described ≡ described = let terms_are = loaded.terms_are in cc in
     subst IsWholeRecord same (record { whole = tree_whole loaded.schema.nodes loaded.described loaded.schema.tree; different = loaded.schema.tree.different })
@@ -134,11 +148,13 @@ part_utf8 (b ∷ bytes) part =
     IsUtf8-are_ascii (b ∷ bytes) (and_from (nat_lt b 128) (are_ascii bytes) (start_ascii b parts.0) (bytes_ascii bytes parts.1))
 
 local_utf8 : (name : List ℕ) → IfSome (local_name name) IsUtf8
-local_utf8 name = cond_both (is_part name) (Some name) None (λ (o : Option (List ℕ)). IfSome o IsUtf8) (λ part. part_utf8 name part) (λ _. tt)
+local_utf8 name =
+    cond_both (is_part name) (Some name) None (λ (o : Option (List ℕ)). IfSome o IsUtf8) (λ part. part_utf8 name part) (λ _. tt)
 
 -- the name that an attribute gives
 given_utf8 : (o : Option (List ℕ)) → IfSome (option_and_then local_name o) IsUtf8
-given_utf8 o = some_then (λ _. Unit {0}) IsUtf8 local_name o (some_any o) (λ name _. local_utf8 name)
+given_utf8 o =
+    some_then (λ _. Unit {0}) IsUtf8 local_name o (some_any o) (λ name _. local_utf8 name)
 
 abbrev IsNamed : Field → Type 0
 IsNamed field = IsUtf8 field.name
@@ -172,10 +188,12 @@ outline_rooted nodes =
     (λ _. some_then (λ _. Unit {0}) IsRooted (root_outline nodes) (only (node_at nodes 0).children) (some_any _) (λ element _. element_rooted nodes element))
     (λ _. tt)
 
-tree_named : (nodes : List Node) (described : Record) → IsRecordTree nodes described → IsUtf8 described.root × All IsNamed described.fields
+tree_named : (nodes : List Node) (described : Record) → IsRecordTree nodes described
+    → IsUtf8 described.root × All IsNamed described.fields
 tree_named nodes described tree =
     (elim (outline_of nodes) as
-    (λ o. IfSome o IsRooted → option_and_then (outline_record nodes) o ≡ Some described → IsUtf8 described.root × All IsNamed described.fields) [
+    (λ o. IfSome o IsRooted → option_and_then (outline_record nodes) o ≡ Some described
+    → IsUtf8 described.root × All IsNamed described.fields) [
       | None ↦ λ _ none. absurd (cc)
       | Some outline ↦ λ rooted some.
           (elim (all_of (map (λ element. field_of (node_at nodes element)) outline.fields)) as
@@ -188,15 +206,18 @@ tree_named nodes described tree =
                 let same_fields : fields ≡ described.fields = cc in (
                   subst IsUtf8 same_root rooted,
                   subst (λ (fs : List Field). All IsNamed fs) same_fields
-                  (all_whole IsNamed (λ element. field_of (node_at nodes element)) outline.fields fields (λ element. field_named (node_at nodes element)) read),
+                      (all_whole IsNamed (λ element. field_of (node_at nodes element)) outline.fields fields (λ element. field_named (node_at nodes element)) read),
                 )
           ]) refl some
     ]) (outline_rooted nodes) tree.shape
 
-pub schema_whole : (schema : List ℕ) (described : Record) → IsSchema schema described → IsWholeRecord described
-schema_whole schema described is = record { whole = tree_whole is.nodes described is.tree; different = is.tree.different }
+pub schema_whole : (schema : List ℕ) (described : Record) → IsSchema schema described
+    → IsWholeRecord described
+schema_whole schema described is =
+    record { whole = tree_whole is.nodes described is.tree; different = is.tree.different }
 
-pub schema_names : (schema : List ℕ) (described : Record) → IsSchema schema described → HasTextNames described
+pub schema_names : (schema : List ℕ) (described : Record) → IsSchema schema described
+    → HasTextNames described
 schema_names schema described is =
     let names = tree_named is.nodes described is.tree in
     record { root = names.0; fields = recursion_from_All IsNamed described.fields names.1 }

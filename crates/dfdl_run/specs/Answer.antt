@@ -3,13 +3,16 @@ use Rattle.std.specs.Prelude.{ℕ, List, [], Bool, true, false, Result, Ok, Err}
 use Rattle.dfdl_report.specs.declared.status.Status.{Status}
 use Rattle.dfdl_report.specs.declared.status.Status.TheVariants as status
 use Rattle.dfdl_report.specs.Statuses.{status_number}
-use Rattle.dfdl_report.specs.Lines.{files_line, infoset_line, left_over_line, limit_line, memory_line}
+use Rattle.dfdl_report.specs.Lines.{files_line, infoset_line, left_over_line, limit_line}
+use Rattle.dfdl_report.specs.Lines.{memory_line}
 use Rattle.dfdl_report.specs.Lines.{parse_line, schema_line, source_line, unparse_line, usage_line}
 use Rattle.dfdl_record.specs.Pieces.{joined}
 use Rattle.dfdl_run.specs.declared.answer.Answer.{Answer}
-use Rattle.dfdl_run.specs.declared.answer.Answer.TheVariants.{Done, LeftOver, Failed, Unparsed, NotUnparsed, NoInfoset}
+use Rattle.dfdl_run.specs.declared.answer.Answer.TheVariants.{Done, LeftOver, Failed, Unparsed}
+use Rattle.dfdl_run.specs.declared.answer.Answer.TheVariants.{NotUnparsed, NoInfoset}
 use Rattle.dfdl_run.specs.declared.stop.Stop.{Stop}
-use Rattle.dfdl_run.specs.declared.stop.Stop.TheVariants.{Usage, FilesFailed, Refused, SourceFailed, Limit, OutOfMemory}
+use Rattle.dfdl_run.specs.declared.stop.Stop.TheVariants.{Usage, FilesFailed, Refused, SourceFailed}
+use Rattle.dfdl_run.specs.declared.stop.Stop.TheVariants.{Limit, OutOfMemory}
 
 -- the end of a run: what its data came to, or what stopped it before that
 abbrev pub End : Type 0

@@ -12,7 +12,8 @@ use Rattle.dfdl_terms.specs.Record.{Record}
 use Rattle.dfdl_compile.specs.Schema.{IsSchema}
 use Rattle.dfdl_run.specs.declared.answer.Answer.{Answer}
 use Rattle.dfdl_run.specs.declared.stop.Stop.{Stop}
-use Rattle.dfdl_run.specs.declared.stop.Stop.TheVariants.{Usage, FilesFailed, Refused, SourceFailed, Limit, OutOfMemory}
+use Rattle.dfdl_run.specs.declared.stop.Stop.TheVariants.{Usage, FilesFailed, Refused, SourceFailed}
+use Rattle.dfdl_run.specs.declared.stop.Stop.TheVariants.{Limit, OutOfMemory}
 use Rattle.dfdl_run.specs.declared.command.Verb.{Verb}
 use Rattle.dfdl_run.specs.Answer.{End}
 use Rattle.dfdl_run.specs.Command.{Order, Orders, IsCommand}
@@ -46,19 +47,23 @@ abbrev pub IsLoadFault : FilesSeen → FilesSeen → List ℕ → Stop → Type 
 IsLoadFault before after name (FilesFailed failed) = (failed ≡ name) × IsNotLoaded before after name
 IsLoadFault before after name OutOfMemory = Unit {0}
 IsLoadFault before after name (Limit cause quantity) =
-    (cause ≡ Schema) × (quantity ≡ most_schema) × IsLonger (before.content name) most_schema × IsLoaded before after name
+    (cause ≡ Schema) × (quantity ≡ most_schema) × IsLonger (before.content name) most_schema
+    × IsLoaded before after name
 IsLoadFault before after name (Refused cause document at) =
-    (cause ≡ OutsideSubset) × (document ≡ name) × (at ≡ 0) × IfSome (before.content name) IsNoSchema × IsLoaded before after name
+    (cause ≡ OutsideSubset) × (document ≡ name) × (at ≡ 0) × IfSome (before.content name) IsNoSchema
+    × IsLoaded before after name
 IsLoadFault before after name (Usage word) = ⊥
 IsLoadFault before after name SourceFailed = ⊥
 
 -- the bytes fit their limit and come to this answer
-pub record IsMeant (verb : Verb) (described : Record) (answer : Answer) (bytes : List ℕ) : Type 0 where
+pub record IsMeant (verb : Verb) (described : Record) (answer : Answer)
+    (bytes : List ℕ) : Type 0 where
   pub fits : length bytes ≤ most_input
   pub answer_is : answer ≡ answer_of verb described bytes
 
 -- the source was read to its end, with no fault, and its bytes come to this answer
-pub record IsAnswered (verb : Verb) (described : Record) (before after : SourceSeen) (answer : Answer) : Type 0 where
+pub record IsAnswered (verb : Verb) (described : Record) (before after : SourceSeen)
+    (answer : Answer) : Type 0 where
   pub meant : IfSome before.left (IsMeant verb described answer)
   pub used_up : IsUsedUp before.left after.left
   pub still : after.faults ≡ before.faults
@@ -69,20 +74,24 @@ IsReadEnd verb described before after (Ok answer) = IsAnswered verb described be
 IsReadEnd verb described before after (Err SourceFailed) = Rose before.faults after.faults
 IsReadEnd verb described before after (Err OutOfMemory) = after.faults ≡ before.faults
 IsReadEnd verb described before after (Err (Limit cause quantity)) =
-    (cause ≡ Input) × (quantity ≡ most_input) × IsLonger before.left most_input × (after.faults ≡ before.faults)
+    (cause ≡ Input) × (quantity ≡ most_input) × IsLonger before.left most_input
+    × (after.faults ≡ before.faults)
 IsReadEnd verb described before after (Err (Usage word)) = ⊥
 IsReadEnd verb described before after (Err (FilesFailed name)) = ⊥
 IsReadEnd verb described before after (Err (Refused cause document at)) = ⊥
 
--- What was decided, by the stage at which it was. Where the words decide, nothing is loaded; else one file is, the
--- schema. Only where the data decides is the source touched.
+-- What was decided, by the stage at which it was. Where the words decide, nothing is loaded; else
+-- one file is, the schema. Only where the data decides is the source touched.
 pub data Decided (words : List (List ℕ)) (before after : Inputs) (end : End) : Type 0 where
   by_words : (at : ℕ) → IsPlace IsCommand words at → end ≡ Err (Usage (at + 1)) → after ≡ before
       → Decided words before after end
   by_schema : (order : Order) (stop : Stop) → Orders words order → end ≡ Err stop
-      → IsLoadFault before.files after.files order.schema stop → after.files.loads ≡ one_more before.files.loads
+      → IsLoadFault before.files after.files order.schema stop
+      → after.files.loads ≡ one_more before.files.loads
       → after.source ≡ before.source → Decided words before after end
   by_data : (order : Order) (described : Record) → Orders words order
-      → IfSome (before.files.content order.schema) (IsSchemaOf described) → IsLoaded before.files after.files order.schema
+      → IfSome (before.files.content order.schema) (IsSchemaOf described)
+      → IsLoaded before.files after.files order.schema
       → after.files.loads ≡ one_more before.files.loads
-      → IsReadEnd order.verb described before.source after.source end → Decided words before after end
+      → IsReadEnd order.verb described before.source after.source end
+      → Decided words before after end

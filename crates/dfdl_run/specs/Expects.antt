@@ -1,5 +1,6 @@
 -- What a run comes to, as far as the outside tells its bytes.
-use Rattle.std.specs.Prelude.{◌≡◌, ◌⊎◌, ◌↔◌, ℕ, ◌+◌, ◌<◌, ◌≤◌, ◌^◌, ◌||◌, ◌&&◌, ◌==◌, Bool, false, IsTrue, List, length, Some, Ok, Err}
+use Rattle.std.specs.Prelude.{◌≡◌, ◌⊎◌, ◌↔◌, ℕ, ◌+◌, ◌<◌, ◌≤◌, ◌^◌, ◌||◌, ◌&&◌, ◌==◌, Bool, false}
+use Rattle.std.specs.Prelude.{IsTrue, List, length, Some, Ok, Err}
 use Rattle.dfdl_fronts.specs.Fronts.{IsPlace}
 use Rattle.dfdl_edge.specs.Faults.{Rose}
 use Rattle.dfdl_edge.specs.Sink.{Adds, AddsFront, SinkSeen}
@@ -7,7 +8,8 @@ use Rattle.dfdl_report.specs.declared.cause.SchemaCause.TheVariants.{OutsideSubs
 use Rattle.dfdl_report.specs.declared.cause.LimitCause.TheVariants.{Input, Schema}
 use Rattle.dfdl_terms.specs.Record.{Record}
 use Rattle.dfdl_compile.specs.Schema.{IsSchema}
-use Rattle.dfdl_run.specs.declared.stop.Stop.TheVariants.{Usage, FilesFailed, Refused, SourceFailed, Limit, OutOfMemory}
+use Rattle.dfdl_run.specs.declared.stop.Stop.TheVariants.{Usage, FilesFailed, Refused, SourceFailed}
+use Rattle.dfdl_run.specs.declared.stop.Stop.TheVariants.{Limit, OutOfMemory}
 use Rattle.dfdl_run.specs.Answer.{End, is_written, note_of, status_of, written_of}
 use Rattle.dfdl_run.specs.Command.{Order, Orders, IsCommand}
 use Rattle.dfdl_run.specs.Meaning.{answer_of}
@@ -20,8 +22,9 @@ most_schema = 4194304
 abbrev pub most_input : ℕ
 most_input = 2 ^ 30
 
--- The end of a run on these words, as far as the bytes of the files and of the source are told. The words count first,
--- then the schema file, then the schema, then the source, then the infoset, then the meaning.
+-- The end of a run on these words, as far as the bytes of the files and of the source are told. The
+-- words count first, then the schema file, then the schema, then the source, then the infoset, then
+-- the meaning.
 pub data Expects (words : List (List ℕ)) (told : Inputs) : End → Type 0 where
   -- the words are no command from word `at` on
   no_command : (at : ℕ) → IsPlace IsCommand words at → Expects words told (Err (Usage (at + 1)))
@@ -29,37 +32,47 @@ pub data Expects (words : List (List ℕ)) (told : Inputs) : End → Type 0 wher
   no_file : (order : Order) → Orders words order → IsTrue (told.files.is_missing order.schema)
       → Expects words told (Err (FilesFailed order.schema))
   -- the schema file is longer than the limit
-  long_schema : (order : Order) (schema : List ℕ) → Orders words order → told.files.content order.schema ≡ Some schema
+  long_schema : (order : Order) (schema : List ℕ) → Orders words order
+      → told.files.content order.schema ≡ Some schema
       → most_schema < length schema → Expects words told (Err (Limit Schema most_schema))
   -- the schema file is no schema
-  no_schema : (order : Order) (schema : List ℕ) → Orders words order → told.files.content order.schema ≡ Some schema
+  no_schema : (order : Order) (schema : List ℕ) → Orders words order
+      → told.files.content order.schema ≡ Some schema
       → length schema ≤ most_schema → ((described : Record) → IsSchema schema described → ⊥)
       → Expects words told (Err (Refused OutsideSubset order.schema 0))
   -- the source gives a byte past the limit
-  long_input : (order : Order) (schema : List ℕ) (described : Record) (bytes : List ℕ) → Orders words order
-      → told.files.content order.schema ≡ Some schema → length schema ≤ most_schema → IsSchema schema described
-      → told.source.left ≡ Some bytes → most_input < length bytes → Expects words told (Err (Limit Input most_input))
+  long_input : (order : Order) (schema : List ℕ) (described : Record) (bytes : List ℕ)
+      → Orders words order
+      → told.files.content order.schema ≡ Some schema → length schema ≤ most_schema
+      → IsSchema schema described
+      → told.source.left ≡ Some bytes → most_input < length bytes
+      → Expects words told (Err (Limit Input most_input))
   -- the bytes are parsed or unparsed
-  meant : (order : Order) (schema : List ℕ) (described : Record) (bytes : List ℕ) → Orders words order
-      → told.files.content order.schema ≡ Some schema → length schema ≤ most_schema → IsSchema schema described
-      → told.source.left ≡ Some bytes → length bytes ≤ most_input → Expects words told (Ok (answer_of order.verb described bytes))
+  meant : (order : Order) (schema : List ℕ) (described : Record) (bytes : List ℕ)
+      → Orders words order
+      → told.files.content order.schema ≡ Some schema → length schema ≤ most_schema
+      → IsSchema schema described
+      → told.source.left ≡ Some bytes → length bytes ≤ most_input
+      → Expects words told (Ok (answer_of order.verb described bytes))
 
--- the statuses that can come in place of an end, since they come before it: those of the files, the source and `out`
--- where a call on them failed before, and that of want of memory
+-- the statuses that can come in place of an end, since they come before it: those of the files, the
+-- source and `out` where a call on them failed before, and that of want of memory
 abbrev pub is_excused : End → ℕ → Bool
 is_excused (Err (Usage word)) status = status == 9
 is_excused (Err (FilesFailed name)) status = status == 9
 is_excused (Err (Limit Schema quantity)) status = status == 7 || status == 9
 is_excused (Err (Refused cause document at)) status = status == 7 || status == 9
 is_excused (Err (Limit Input quantity)) status = status == 5 || status == 7 || status == 9
-is_excused (Ok answer) status = status == 5 || status == 7 || status == 9 || (status == 6 && is_written answer)
+is_excused (Ok answer) status =
+    status == 5 || status == 7 || status == 9 || (status == 6 && is_written answer)
 is_excused (Err SourceFailed) status = false
 is_excused (Err OutOfMemory) status = false
 
 -- the line was told on the notes, or a front of it where a call on them failed
 abbrev pub Tells : List ℕ → SinkSeen → SinkSeen → Type 0
 Tells line before after =
-    Adds before.taken line after.taken ⊎ (Rose before.faults after.faults × AddsFront before.taken line after.taken)
+    Adds before.taken line after.taken
+    ⊎ (Rose before.faults after.faults × AddsFront before.taken line after.taken)
 
 -- the run has ended so: its status, all that it writes to `out`, and its note
 pub record Gives (end : End) (before after : Outputs) (status : ℕ) : Type 0 where
@@ -78,8 +91,10 @@ pub record IsAsExpected (end : End) (before after : Outside) (status : ℕ) : Ty
   -- the run has ended so, or with a status that comes before it
   pub exact : IsTrue (is_excused end status) ⊎ Gives end before.outputs after.outputs status
   -- where no call has failed, that is want of memory
-  pub complete : NoneFailed before after → (status ≡ 9) ⊎ Gives end before.outputs after.outputs status
+  pub complete : NoneFailed before after
+      → (status ≡ 9) ⊎ Gives end before.outputs after.outputs status
   -- what is written is a front of what was to be written
   pub front : AddsFront before.outputs.out.taken (written_of end) after.outputs.out.taken
   -- a status that is not excused comes exactly where it is that of the end
-  pub comes : (number : ℕ) → IsTrue (is_excused end status) ⊎ ((status ≡ number) ↔ (status_of end ≡ number))
+  pub comes : (number : ℕ)
+      → IsTrue (is_excused end status) ⊎ ((status ≡ number) ↔ (status_of end ≡ number))

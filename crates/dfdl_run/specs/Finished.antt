@@ -13,9 +13,11 @@ Writes end = IsTrue (is_excused end 6)
 
 -- What has come of an end: all of it, or `out` failed, or there was no memory for the note.
 pub data Finished (end : End) (before after : Outputs) (status : ℕ) : Type 0 where
-  all : Gives end before after status → after.out.faults ≡ before.out.faults → Finished end before after status
+  all : Gives end before after status → after.out.faults ≡ before.out.faults
+      → Finished end before after status
   no_sink : Writes end → status ≡ 6 → Rose before.out.faults after.out.faults
-      → AddsFront before.out.taken (written_of end) after.out.taken → Tells sink_line before.notes after.notes
+      → AddsFront before.out.taken (written_of end) after.out.taken
+      → Tells sink_line before.notes after.notes
       → Finished end before after status
   no_memory : status ≡ 9 → after.out ≡ before.out → Tells memory_line before.notes after.notes
       → Finished end before after status

@@ -1,9 +1,11 @@
--- Mirror for the prover: what the reader of a record's data has, with members of a map in the place of items.
+-- Mirror for the prover: what the reader of a record's data has, with members of a map in the place
+-- of items.
 use Rattle.std.specs.Prelude.{ℕ, List, fold}
 use Rattle.serde_json.specs.Data.{Members}
 use Rattle.serde_json.specs.View.{members_view}
 use Rattle.dfdl_run.specs.declared.parsing.Reading.{Reading}
-use Rattle.dfdl_run.specs.declared.parsing.Reading.TheVariants.{Read as ReadVariant, Ends as EndsVariant}
+use Rattle.dfdl_run.specs.declared.parsing.Reading.TheVariants.{Read as ReadVariant}
+use Rattle.dfdl_run.specs.declared.parsing.Reading.TheVariants.{Ends as EndsVariant}
 use Rattle.dfdl_record.specs.Outcomes.{Outcome, Read, Ends, with_member}
 
 pub data Reached : Type 0 where

@@ -46,24 +46,28 @@ pub record IsRun (words : List (List ℕ)) (before after : Outside) (status : �
   pub answered : (end : End) × Decided words before.inputs after.inputs end
       × Finished end before.outputs after.outputs status
   -- where the outside tells its bytes: the run is as expected
-  pub expected : (end : End) → Expects words before.inputs end → IsAsExpected end before after status
+  pub expected : (end : End) → Expects words before.inputs end
+      → IsAsExpected end before after status
   -- the faults of the outside and want of memory
   pub source_failed : status ≡ 5 → SourceFails before after
   pub sink_failed : status ≡ 6 → SinkFails before after
   pub files_failed : status ≡ 7 → FilesFail words before after
   pub out_of_memory : status ≡ 9 → Tells memory_line before.outputs.notes after.outputs.notes
-  -- what the run leaves as it was: `out` at each status that has nothing written, the source where something before the
-  -- data ended the run, the files where the words did; and the source is used up where its data came to something
+  -- what the run leaves as it was: `out` at each status that has nothing written, the source where
+  -- something before the data ended the run, the files where the words did; and the source is used
+  -- up where its data came to something
   pub unwritten : (status ≡ 0 → ⊥) → (status ≡ 3 → ⊥) → (status ≡ 6 → ⊥) → (status ≡ 11 → ⊥)
       → Adds before.outputs.out.taken [] after.outputs.out.taken
   pub unread : IsTrue (is_before_data status) → after.inputs.source ≡ before.inputs.source
   pub unloaded : status ≡ 4 → after.inputs.files ≡ before.inputs.files
   pub used_up : IsTrue (is_of_data status) → IsUsedUp before.inputs.source.left after.inputs.source.left
-  -- each count of faults stands where the status is not that of its fault; want of memory for a note can hide a fault of
-  -- the source or of the files
+  -- each count of faults stands where the status is not that of its fault; want of memory for a
+  -- note can hide a fault of the source or of the files
   pub out_still : (status ≡ 6 → ⊥) → after.outputs.out.faults ≡ before.outputs.out.faults
-  pub source_still : (status ≡ 5 → ⊥) → (status ≡ 9 → ⊥) → after.inputs.source.faults ≡ before.inputs.source.faults
-  pub files_still : (status ≡ 7 → ⊥) → (status ≡ 9 → ⊥) → after.inputs.files.faults ≡ before.inputs.files.faults
+  pub source_still : (status ≡ 5 → ⊥) → (status ≡ 9 → ⊥)
+      → after.inputs.source.faults ≡ before.inputs.source.faults
+  pub files_still : (status ≡ 7 → ⊥) → (status ≡ 9 → ⊥)
+      → after.inputs.files.faults ≡ before.inputs.files.faults
   -- at most one file is loaded
   pub loads : (after.inputs.files.loads ≡ before.inputs.files.loads)
       ⊎ (after.inputs.files.loads ≡ one_more before.inputs.files.loads)

@@ -8,8 +8,8 @@ use crate::delivery::finish;
 use dfdl_edge::{Files, Patterns, Sink, Source};
 use std::alloc::Global;
 
-/// One run of the program: the words of the command, the files, the data on `source`, the answer on `out` and the
-/// notes. The result is the exit status.
+/// One run of the program: the words of the command, the files, the data on `source`, the answer on
+/// `out` and the notes. The result is the exit status.
 pub fn run<S: Source, K: Sink, N: Sink, F: Files, C: Chooser, P: Patterns>(
     alloc: Global,
     words: &[String],

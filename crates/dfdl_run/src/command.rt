@@ -1,4 +1,5 @@
-ghost use Rattle.std.specs.Prelude.{◌≡◌, IfOk, IfErr, IfSome, IfNone, IsTrue, ◌↔◌, List, map, string_bytes};
+ghost use Rattle.std.specs.Prelude.{◌≡◌, IfOk, IfErr, IfSome, IfNone, IsTrue, ◌↔◌, List, map};
+ghost use Rattle.std.specs.Prelude.{string_bytes};
 ghost use Rattle.dfdl_fronts.specs.Fronts.{IsPlace};
 ghost use Rattle.dfdl_run.specs.Command.{IsCommand, IsOperand, Orders, verb_word};
 ghost use Rattle.dfdl_run.specs.declared.command.Verb.{Verb};
@@ -21,7 +22,8 @@ pub struct Command<'w> {
     pub schema: &'w str,
 }
 
-// The command that the words are, or the number of the word, counted from 0, at which no command can go on.
+// The command that the words are, or the number of the word, counted from 0, at which no command
+// can go on.
 pub(crate) fn command_of(words: &[String]) -> Result<Command<'_>, usize>
     ensures ok { IfOk result (λ c. Orders (map string_bytes words.now) (order_shown c)) }
     ensures place { IfErr result (IsPlace IsCommand (map string_bytes words.now)) }

@@ -1,5 +1,6 @@
 // What a run comes to, before anything is written.
-ghost use Rattle.std.specs.Prelude.{◌≡◌, ◌<◌, ◌+◌, ◌^◌, ◌≤◌, IsSome, IfOk, Some, length, map, string_bytes};
+ghost use Rattle.std.specs.Prelude.{◌≡◌, ◌<◌, ◌+◌, ◌^◌, ◌≤◌, IsSome, IfOk, Some, length, map};
+ghost use Rattle.std.specs.Prelude.{string_bytes};
 ghost use Rattle.dfdl_terms.specs.Record.{Record, record_of};
 ghost use Rattle.dfdl_record.specs.Pieces.{IsWholeRecord};
 ghost use Rattle.dfdl_run.specs.Decided.{Decided, IsReadEnd};
@@ -23,7 +24,8 @@ pub const MOST_INPUT: u64 = 1 << 30;
 fn meaning(alloc: Global, verb: Verb, terms: &Terms, bytes: &[u8]) -> Result<Answer, AllocError>
     requires small { length bytes.now ≤ 2 ^ 60 }
     requires described { IsSome (record_of terms.now) }
-    requires whole { (described : Record) → record_of terms.now ≡ Some described → IsWholeRecord described }
+    requires whole { (described : Record) → record_of terms.now ≡ Some described
+        → IsWholeRecord described }
     ensures { (described : Record) → record_of terms.now ≡ Some described
         → IfOk result (λ answer. answer ≡ answer_of verb described bytes.now) }
 {
@@ -41,7 +43,8 @@ fn read_answer<S: Source>(
     terms: &Terms,
 ) -> Result<Answer, Stop>
     requires described { IsSome (record_of terms.now) }
-    requires whole { (described : Record) → record_of terms.now ≡ Some described → IsWholeRecord described }
+    requires whole { (described : Record) → record_of terms.now ≡ Some described
+        → IsWholeRecord described }
     ensures { (described : Record) → record_of terms.now ≡ Some described
         → IsReadEnd verb described (S.seen source.old) (S.seen source.new) result }
 {

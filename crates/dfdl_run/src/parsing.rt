@@ -1,5 +1,6 @@
 // The reading of a record's data, and the line of its infoset.
-ghost use Rattle.std.specs.Prelude.{◌<◌, ◌≡◌, ◌^◌, ◌≤◌, ◌*◌, ◌++◌, [], ◌∷◌, List, ℕ, IfOk, IsSome, Some, false, length, map};
+ghost use Rattle.std.specs.Prelude.{◌<◌, ◌≡◌, ◌^◌, ◌≤◌, ◌*◌, ◌++◌, [], ◌∷◌, List, ℕ, IfOk, IsSome};
+ghost use Rattle.std.specs.Prelude.{Some, false, length, map};
 ghost use Rattle.serde_json.specs.Data.{object, no_members, put as with_member};
 ghost use Rattle.serde_json.specs.View.{members_view};
 ghost use Rattle.serde_json.specs.Written.{has_float, compact_text};
@@ -44,7 +45,8 @@ fn read_fields<'t>(
     requires small { length bytes.now ≤ 2 ^ 60 }
     requires fields { IsSome (all_of (map (field_at terms.now) rows.now)) }
     ensures { IfOk result (λ reading.
-        reading_shown reading ≡ reached no_members (outcome_of bytes.now 0 (fields_at terms.now rows.now))) }
+        reading_shown reading
+        ≡ reached no_members (outcome_of bytes.now 0 (fields_at terms.now rows.now))) }
 {
     let mut members = Map::new(alloc);
     let mut bit = 0u64;
@@ -96,7 +98,8 @@ fn line_of_members(
 pub(crate) fn parse(alloc: Global, terms: &Terms, bytes: &[u8]) -> Result<Answer, AllocError>
     requires small { length bytes.now ≤ 2 ^ 60 }
     requires described { IsSome (record_of terms.now) }
-    ensures { (described : Record) → record_of terms.now ≡ Some described → IfOk result (λ answer. answer ≡ parse_answer described bytes.now) }
+    ensures { (described : Record) → record_of terms.now ≡ Some described
+        → IfOk result (λ answer. answer ≡ parse_answer described bytes.now) }
 {
     let Some(root) = root_of_record(terms) else {
         unreachable!()
@@ -113,7 +116,8 @@ pub(crate) fn parse(alloc: Global, terms: &Terms, bytes: &[u8]) -> Result<Answer
 
 // The answer where the data ends in a field.
 fn failed(alloc: Global, root: &str, name: &str, bit: u64) -> Result<Answer, AllocError>
-    ensures { IfOk result (λ answer. answer ≡ Answer.Failed DataEnds bit (field_path root.now name.now)) }
+    ensures { IfOk result (λ answer. answer
+        ≡ Answer.Failed DataEnds bit (field_path root.now name.now)) }
 {
     Ok(Answer::Failed {
         cause: ParseCause::DataEnds,

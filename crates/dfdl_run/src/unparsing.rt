@@ -15,8 +15,10 @@ use std::alloc::{AllocError, Global};
 // What unparsing the text of an infoset comes to.
 pub(crate) fn unparse(alloc: Global, terms: &Terms, text: &[u8]) -> Result<Answer, AllocError>
     requires described { IsSome (record_of terms.now) }
-    requires whole { (described : Record) → record_of terms.now ≡ Some described → IsWholeRecord described }
-    ensures { (described : Record) → record_of terms.now ≡ Some described → IfOk result (λ answer. answer ≡ unparse_answer described text.now) }
+    requires whole { (described : Record) → record_of terms.now ≡ Some described
+        → IsWholeRecord described }
+    ensures { (described : Record) → record_of terms.now ≡ Some described
+        → IfOk result (λ answer. answer ≡ unparse_answer described text.now) }
 {
     let events = match events_of_json(alloc, terms, text) {
         Ok(events) => events,

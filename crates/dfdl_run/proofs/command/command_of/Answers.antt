@@ -20,11 +20,13 @@ returns-in_default-operands-clause-place c =
 pub returns-then-not-is_operand-clause-place : goal.returns-then-not-is_operand-clause-place
 returns-then-not-is_operand-clause-place c =
     at_operand string_bytes _ _ _ _ c.in-len1-up.len_at_least c.first-item.is
-    (sym c.as_str.ensures.value ∙ c.in-Some.ensures.some) c.in-len1-up-operands.len_at_least c.schema-item.is
+    (sym c.as_str.ensures.value
+    ∙ c.in-Some.ensures.some) c.in-len1-up-operands.len_at_least c.schema-item.is
     (λ operand. let is : IsTrue false = c.if-not-is_operand.ensures.1 (subst IsOperand (sym c.as_str-2.ensures.value) operand) in cc)
 
 pub returns-then-not-is_empty-clause-place : goal.returns-then-not-is_empty-clause-place
 returns-then-not-is_empty-clause-place c =
     at_surplus string_bytes _ _ _ _ c.in-len1-up.len_at_least c.first-item.is
-    (sym c.as_str.ensures.value ∙ c.in-Some.ensures.some) c.in-len1-up-operands.len_at_least c.schema-item.is
+    (sym c.as_str.ensures.value
+    ∙ c.in-Some.ensures.some) c.in-len1-up-operands.len_at_least c.schema-item.is
     (subst IsOperand c.as_str-2.ensures.value (c.if-not-is_operand.ensures.0 refl)) (grind (arith, nat_tests))

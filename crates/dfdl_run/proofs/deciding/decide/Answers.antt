@@ -10,7 +10,8 @@ returns-in-Err g c = by_words c.in-Err.at c.in-Err.ensures.place (cc) refl
 
 pub returns-in-Ok-load_terms : goal.returns-in-Ok-load_terms
 returns-in-Ok-load_terms g c =
-    let some = described_by (record_of c.in-Ok-load_terms.terms) c.in-Ok-load_terms.ensures.described in
+    let some =
+    described_by (record_of c.in-Ok-load_terms.terms) c.in-Ok-load_terms.ensures.described in
     by_data (order_shown c.in-Ok.command) some.0 c.in-Ok.ensures.ok (c.in-Ok-load_terms.ensures.ok some.0 some.1)
     c.in-Ok-load_terms.ensures.loaded c.in-Ok-load_terms.ensures.one_load (c.read_answer.ensures some.0 some.1)
 

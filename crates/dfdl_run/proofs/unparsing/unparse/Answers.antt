@@ -15,9 +15,11 @@ unreachable-requires c = described_root _ c.in_default.ensures c.requires.descri
 pub returns : goal.returns
 returns c = λ described some.
     let unparsed = c.in_ok-unparsed.unparsed in
-    let root_is : described.root ≡ c.in-Some.root.name.now = ap (λ d. d.root) (described_is c.args.terms.now (root_shown c.in-Some.root) described c.in-Some.ensures some) in
+    let root_is : described.root ≡ c.in-Some.root.name.now =
+    ap (λ d. d.root) (described_is c.args.terms.now (root_shown c.in-Some.root) described c.in-Some.ensures some) in
     let missing_is : unparsed.missing ≡ Some c.in-Some-missing.name = c.in-Some-missing.is in
-    ap (λ (path : List ℕ). NotUnparsed unparsed.pieces WrongOccurrences path) (c.from_string.ensures ∙ c.in_ok-path_of_field-in-Some-missing.ensures)
+    ap (λ (path : List ℕ). NotUnparsed unparsed.pieces WrongOccurrences path) (c.from_string.ensures
+    ∙ c.in_ok-path_of_field-in-Some-missing.ensures)
     ∙ (ap (λ (root : List ℕ). NotUnparsed unparsed.pieces WrongOccurrences (field_path root c.in-Some-missing.name.now)) (sym root_is)
     ∙ (ap (λ (missing : Option (Bor (List ℕ))). pieces_answer described.root unparsed.pieces (option_map (λ name. name.now) missing)) (sym missing_is)
     ∙ unparsed_answer c.args.terms.now described c.args.text.now c.in-Ok.events.items (unparsed_shown unparsed) (c.in-Ok.ensures.answer described some)

@@ -1,7 +1,8 @@
 use Rattle.std.proofs.Common.{rules, inl, inr, arith}
 use Rattle.std.proofs.lemmas.Grind.{common_steps}
 use Rattle.dfdl_edge.proofs.memory_files.MemoryFilesFiles.load.Goals as goal
-use Rattle.dfdl_edge.proofs.memory_files.MemoryFilesFiles.load.Goals.{then-not-listed+in_default, else-not-listed}
+use Rattle.dfdl_edge.proofs.memory_files.MemoryFilesFiles.load.Goals.{then-not-listed+in_default}
+use Rattle.dfdl_edge.proofs.memory_files.MemoryFilesFiles.load.Goals.{else-not-listed}
 
 -- a load fails that is listed, or whose file is missing
 pub returns-in-Ok-clause-only : goal.returns-in-Ok-clause-only

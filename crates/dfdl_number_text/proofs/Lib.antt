@@ -1,6 +1,7 @@
 pub mod BodyDigits
 pub mod BodyParts
 pub mod DigitLemmas
+pub mod Grouping
 pub mod ReadNumber
 pub mod RoundingLemmas
 pub mod ShortNumbers

@@ -1,5 +1,5 @@
 -- What the parts of the unparser answer.
-use Rattle.std.specs.Prelude.{◌≡◌, ℕ, ◌+◌, ◌-◌, ◌*◌, ◌^◌, ◌/◌, ◌%◌, ◌<◌, ◌≤◌, ◌==◌, ◌&&◌, not, nat_lt, if◌then◌else◌, List, [], ◌∷◌, ◌++◌, length, take, drop, map, Option, Some, None, Result, Ok, Err, unsigned_abs}
+use Rattle.std.specs.Prelude.{◌≡◌, ℕ, ◌+◌, ◌-◌, ◌*◌, ◌^◌, ◌/◌, ◌%◌, ◌<◌, ◌≤◌, ◌==◌, ◌&&◌, not, nat_lt, Bool, if◌then◌else◌, List, [], ◌∷◌, ◌++◌, length, take, drop, map, Option, Some, None, Result, Ok, Err, unsigned_abs}
 use Rattle.dfdl_decimal.specs.Decimal.{DecimalNumber}
 use Rattle.dfdl_forms.specs.declared.fault.NoFit.{NoFit}
 use Rattle.dfdl_number_text.specs.Digits.{digits_at, digit_character}
@@ -43,6 +43,17 @@ IsPut before at characters after = after ≡ take at before ++ (characters ++ dr
 -- the separator behind a digit that has so many digits behind it, where a group ends there
 abbrev pub separator_behind : ℕ → ℕ → ℕ → List ℕ
 separator_behind separator group behind = if not (group == 0) && (nat_lt 0 behind && (behind % group == 0)) then separator ∷ [] else []
+
+-- the separator, where a group ends
+abbrev pub separator_if : Bool → ℕ → List ℕ
+separator_if ends separator = if ends then separator ∷ [] else []
+
+-- Of so many digits so many stand in front of the separator that was put last, or all where none was.
+pub record IsInGroup (size behind count : ℕ) : Type 0 where
+  pub few : count ≤ behind
+  pub some : 0 < behind → 0 < count
+  pub within : 0 < size → count ≤ size
+  pub same : 0 < size → behind % size ≡ count % size
 
 -- how many separators stand between so many digits in groups
 abbrev pub separators_between : ℕ → ℕ → ℕ

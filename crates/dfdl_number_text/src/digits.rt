@@ -2,7 +2,7 @@
 ghost use Rattle.std.specs.Prelude.{◌≡◌, ℕ, max, ◌+◌, ◌-◌, ◌*◌, ◌/◌, ◌%◌, ◌^◌, ◌==◌, ◌&&◌, ◌<◌, ◌≤◌, not, nat_lt, [], ◌∷◌, map, length, if◌then◌else◌};
 ghost use Rattle.dfdl_number_text.specs.Digits.{digits_at, digit_count, digit_character};
 ghost use Rattle.dfdl_number_text.specs.Writing.{fraction_digits, grouped};
-ghost use Rattle.dfdl_number_text.specs.Written.{HasDigits, IsPut, digit_text, separator_behind, separators_between};
+ghost use Rattle.dfdl_number_text.specs.Written.{HasDigits, IsPut, digit_text, IsInGroup, separator_if, separators_between};
 
 use crate::division::last_digit;
 
@@ -125,23 +125,26 @@ fn put_in_front(into: &mut [char], end: usize, digits: Digits, groups: Groups)
 {
     let mut place = end;
     let mut rest = digits.number;
+    let mut in_group = 0;
     for behind in 0..digits.count {
         let last = last_digit(rest, digits.base);
-        place = put_digit(into, place, last.digit, behind, groups);
+        let ends = ends_group(groups.size, in_group);
+        place = put_digit(into, place, last.digit, ends, groups.separator);
         rest = last.front;
+        in_group = more_in_group(in_group, ends);
     }
 }
 
-// Puts a digit with so many behind it in front of a place, and before that a separator where a group ends.
-fn put_digit(into: &mut [char], end: usize, digit: u8, behind: u16, groups: Groups) -> usize
+// Puts a digit in front of a place, and before that a separator where a group ends.
+fn put_digit(into: &mut [char], end: usize, digit: u8, ends: bool, separator: char) -> usize
     requires digit { digit < 36 }
-    requires room { length (digit_character digit ∷ separator_behind groups.separator groups.size behind) ≤ end }
+    requires room { length (digit_character digit ∷ separator_if ends separator) ≤ end }
     requires inside { end ≤ length into.old }
-    ensures place { result + length (digit_character digit ∷ separator_behind groups.separator groups.size behind) ≡ end }
-    ensures put { IsPut into.old result (digit_character digit ∷ separator_behind groups.separator groups.size behind) into.new }
+    ensures place { result + length (digit_character digit ∷ separator_if ends separator) ≡ end }
+    ensures put { IsPut into.old result (digit_character digit ∷ separator_if ends separator) into.new }
 {
-    if ends_group(groups.size, behind) {
-        into[end - 1] = groups.separator;
+    if ends {
+        into[end - 1] = separator;
         into[end - 2] = digit_character(digit);
         end - 2
     } else {
@@ -150,11 +153,24 @@ fn put_digit(into: &mut [char], end: usize, digit: u8, behind: u16, groups: Grou
     }
 }
 
-// A group ends at a digit with so many behind it.
-fn ends_group(size: u16, behind: u16) -> bool
-    ensures { result ≡ not (size == 0) && (nat_lt 0 behind && (behind % size == 0)) }
+// Whether a group ends in front of so many digits that stand behind the last separator.
+#[tactic(auto, using(crate::proofs::Grouping::ends_is))]
+fn ends_group(size: u16, in_group: u16) -> bool
+    ensures value { result ≡ (not (in_group == 0) && (in_group == size)) }
+    ensures group {
+        (behind : ℕ) → IsInGroup size behind in_group
+            → result ≡ (not (size == 0) && (nat_lt 0 behind && (behind % size == 0)))
+    }
 {
-    size != 0 && behind > 0 && behind % size == 0
+    in_group != 0 && in_group == size
+}
+
+// How many digits stand behind the last separator with one more digit, which it may stand before.
+fn more_in_group(in_group: u16, ends: bool) -> u16
+    requires { in_group < 65535 }
+    ensures { result ≡ (if ends then 1 else in_group + 1) }
+{
+    if ends { 1 } else { in_group + 1 }
 }
 
 fn digit_character(digit: u8) -> char

@@ -157,10 +157,8 @@ fn put_digit(into: &mut [char], end: usize, digit: u8, ends: bool, separator: ch
 #[tactic(auto, using(crate::proofs::Grouping::ends_is))]
 fn ends_group(size: u16, in_group: u16) -> bool
     ensures value { result ≡ (not (in_group == 0) && (in_group == size)) }
-    ensures group {
-        (behind : ℕ) → IsInGroup size behind in_group
-            → result ≡ (not (size == 0) && (nat_lt 0 behind && (behind % size == 0)))
-    }
+    ensures group { (behind : ℕ) → IsInGroup size behind in_group
+        → result ≡ (not (size == 0) && (nat_lt 0 behind && (behind % size == 0))) }
 {
     in_group != 0 && in_group == size
 }

@@ -7,6 +7,7 @@
 
 mod body;
 mod body_digits;
+mod bytes;
 mod digits;
 mod division;
 pub mod fault;
@@ -18,6 +19,7 @@ mod rounding;
 mod write_text;
 mod write_value;
 
+pub use bytes::{MOST_BYTES, read_bytes};
 pub use dfdl_forms::NoFit;
 pub use fault::NumberFault;
 pub use reading::read;
@@ -27,5 +29,7 @@ pub use write_value::write;
 mod read_tests;
 #[cfg(test)]
 mod test_forms;
+#[cfg(test)]
+mod vector_tests;
 #[cfg(test)]
 mod write_tests;

@@ -8,6 +8,7 @@ use Rattle.std.proofs.lemmas.List.{append-nil, length-replicate}
 use Rattle.std.proofs.Math.Nat.{pow-suc, mul_assoc, mul_comm}
 use Rattle.dfdl_decimal.specs.Decimal.{shortest_from, with_sign}
 use Rattle.dfdl_value.specs.Texts.{number_after, number_of, is_zero}
+use Rattle.dfdl_lemmas.proofs.Bools.{both}
 use Rattle.dfdl_lemmas.specs.Trimmed.{without_trailing}
 use Rattle.dfdl_value.proofs.DecimalLemmas.{trailing_zeros, number_after-append, list_all-without_trailing, IsShortest, IsShortest-without_trailing}
 use Rattle.dfdl_decimal.proofs.FixedLemmas.{shortest_from-shift}
@@ -79,10 +80,6 @@ filter-digits [] h = refl
 filter-digits (x ∷ xs) h =
     let parts = both _ _ h in
     ap (λ b. if b then x ∷ filter is_ascii_digit xs else filter is_ascii_digit xs) parts.0 ∙ ap (λ r. x ∷ r) (filter-digits xs parts.1)
-  where
-    both : (a b : Bool) → (a && b) ≡ true → (a ≡ true) × (b ≡ true)
-    both true b e = (refl, e)
-    both false b e = absurd (cc)
 
 number_of-zeros : (k : ℕ) (xs : List ℕ) → number_of (xs ++ replicate k 48) ≡ number_of xs * 10 ^ k
 number_of-zeros zero xs = ap number_of (append-nil xs) ∙ omega arith

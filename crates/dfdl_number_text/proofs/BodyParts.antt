@@ -2,15 +2,11 @@
 use Rattle.std.proofs.Common.{◌≡◌, ℕ, Bool, true, false, ◌&&◌, refl, subst, Option, Some, None, if◌then◌else◌}
 use Rattle.std.specs.Char.{is_ascii_digit}
 use Rattle.std.specs.List.{list_all}
+use Rattle.dfdl_lemmas.proofs.Bools.{both}
 use Rattle.dfdl_number_text.specs.declared.read_number.Number.{Number}
 use Rattle.dfdl_number_text.specs.Body.{Parts, are_digits, parts_number}
 use Rattle.dfdl_number_text.specs.ReadShown.{IsNumber, Shows}
 
-both : (a b : Bool) → (a && b) ≡ true → (a ≡ true) × (b ≡ true)
-both true b e = (refl, e)
-both false b e = absurd (cc)
-
--- digits of a body have digits behind the decimal point
 pub fraction_digits : (separator : Option ℕ) (parts : Parts) → are_digits separator parts ≡ true → list_all is_ascii_digit parts.fraction ≡ true
 fraction_digits separator parts digits = (both _ _ (both _ _ digits).0).1
 

@@ -42,10 +42,28 @@ fn digit_count(base: u8, number: u128) -> u16
     ensures digits { HasDigits base number result }
     ensures few { result ≤ 128 }
 {
+    if base == 10 && number < 1_000_000_000_000_000_000 {
+        return decimal_count(number as u64);
+    }
     let mut rest = number;
     let mut count = 0;
     while rest > 0 {
         rest = last_digit(rest, base).front;
+        count += 1;
+    }
+    count
+}
+
+// The same in base 10, by the powers of ten that a number reaches.
+fn decimal_count(number: u64) -> u16
+    requires { number < 10 ^ 18 }
+    ensures digits { HasDigits 10 number result }
+    ensures few { result ≤ 128 }
+{
+    let mut power: u64 = 1;
+    let mut count = 0;
+    while power <= number {
+        power *= 10;
         count += 1;
     }
     count

@@ -7,7 +7,12 @@ use std::alloc::Global;
 use std::test::Fail;
 
 /// The text of the value that a text is read as, or the fault's name.
-fn said(alloc: Global, form: &NumberForm, kind: Simple, text: &str) -> Result<TextValue, Fail> {
+pub(crate) fn said(
+    alloc: Global,
+    form: &NumberForm,
+    kind: Simple,
+    text: &str,
+) -> Result<TextValue, Fail> {
     let chars: Vec<char> = text.chars().collect(alloc)?;
     match read(form, kind, &chars) {
         Ok(value) => Ok(value.text(alloc)?),

@@ -1,9 +1,11 @@
 // Random decimals, written by Python's decimal module: format(d, ',f') without the zeros at the end.
+use crate::read_tests::said;
 use crate::test_forms::patterned;
-use crate::{MOST_BYTES, read, read_bytes, write};
-use dfdl_decimal::shortest;
-use dfdl_forms::{Rounding, Simple};
-use dfdl_value::Value;
+use crate::write_tests::{decimal, text_of};
+use crate::{MOST_BYTES, read_bytes};
+use dfdl_forms::{NumberForm, Rounding, Simple};
+use dfdl_value::TextValue;
+use std::alloc::Global;
 use std::test::Fail;
 
 // digits, how many of them are fraction digits, text
@@ -57,27 +59,30 @@ const VECTORS: [(i128, u32, &str); 31] = [
     (10000000000000000000, 1, "1,000,000,000,000,000,000"),
 ];
 
+/// The text of the value that bytes are read as.
+fn said_by_bytes(alloc: Global, form: &NumberForm, text: &str) -> Result<TextValue, Fail> {
+    let bytes = text.as_bytes();
+    if bytes.len() > MOST_BYTES {
+        return Ok(TextValue::from_string(String::new(alloc)));
+    }
+    match read_bytes(form, Simple::Decimal, bytes) {
+        Ok(value) => Ok(value.text(alloc)?),
+        Err(fault) => Ok(TextValue::from_string(format!(in alloc; "{fault}")?)),
+    }
+}
+
 #[test]
 fn writes_and_reads_as_python_does(rt: HostRuntime) -> Result<(), Fail> {
     let form = patterned(rt.alloc(), "#,##0.#####", Rounding::Unnecessary)?;
-    let mut room = vec![in rt.alloc(); '~'; 256]?;
     for (digits, scale, text) in VECTORS {
-        let value = Value::Dec(shortest(digits < 0, digits.unsigned_abs(), scale).ok_or(
-            "no number",
-        )?);
-        assert!(rt; form.room() <= room.len());
-        let count = write(&form, &value, &mut room)?;
-        let chars: Vec<char> = text.chars().collect(rt.alloc())?;
-        assert_eq!(rt; &room[..count], chars.as_slice(), "{text}");
-        let again = read(&form, Simple::Decimal, &chars)?;
-        assert_eq!(rt; again.text(rt.alloc())?, value.text(rt.alloc())?, "{text}");
-        assert!(rt; text.len() <= MOST_BYTES);
-        let by_bytes = read_bytes(&form, Simple::Decimal, text.as_bytes())?;
-        assert_eq!(rt;
-            by_bytes.text(rt.alloc())?,
-            value.text(rt.alloc())?,
-            "{text}"
-        );
+        let value = decimal(digits, scale);
+        let written = text_of(rt.alloc(), &form, &value)?;
+        assert_eq!(rt; written.as_str(), text);
+        let plain = value.text(rt.alloc())?;
+        let back = said(rt.alloc(), &form, Simple::Decimal, text)?;
+        assert_eq!(rt; back.as_str(), plain.as_str());
+        let by_bytes = said_by_bytes(rt.alloc(), &form, text)?;
+        assert_eq!(rt; by_bytes.as_str(), plain.as_str());
     }
     Ok(())
 }

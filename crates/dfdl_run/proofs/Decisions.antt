@@ -1,5 +1,5 @@
 -- What a run decides, from what its stages answer.
-use Rattle.std.proofs.Common.{◌≡◌, ◌⊎◌, ℕ, ◌≤◌, IsTrue, List, length, Option, None, Some, IsSome}
+use Rattle.std.proofs.Common.{◌≡◌, ◌⊎◌, ℕ, ◌≤◌, List, length, Option, None, Some, IsSome}
 use Rattle.std.proofs.Common.{IfSome, IsErrOf, Ok, refl, sym, subst, ◌∙◌, inl, inr}
 use Rattle.dfdl_edge.specs.Files.{FilesSeen}
 use Rattle.dfdl_edge.specs.Told.{IsAll}

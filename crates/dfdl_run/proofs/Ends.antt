@@ -1,5 +1,5 @@
 -- How a run ends, from what it decided and what came of it.
-use Rattle.std.proofs.Common.{◌==◌, ◌||◌, ◌≡◌, ◌⊎◌, ℕ, ◌+◌, ◌++◌, IsTrue, List, [], length, Option}
+use Rattle.std.proofs.Common.{◌≡◌, ◌⊎◌, ℕ, ◌+◌, ◌++◌, IsTrue, List, [], length, Option}
 use Rattle.std.proofs.Common.{None, Some, Ok, Err, refl, sym, ap, subst, ◌∙◌, arith, append-nil}
 use Rattle.std.proofs.Common.{inl, inr}
 use Rattle.std.proofs.Math.Seq.{take-length}
@@ -8,7 +8,7 @@ use Rattle.dfdl_edge.specs.Files.{FilesSeen}
 use Rattle.dfdl_edge.specs.Sink.{Adds, AddsFront, SinkSeen}
 use Rattle.dfdl_edge.specs.Source.{SourceSeen}
 use Rattle.dfdl_edge.specs.Whole.{IsUsedUp}
-use Rattle.dfdl_report.specs.Lines.{memory_line, source_line}
+use Rattle.dfdl_report.specs.Lines.{memory_line}
 use Rattle.dfdl_report.specs.declared.cause.LimitCause.TheVariants.{Input, Schema}
 use Rattle.dfdl_terms.specs.Record.{Record}
 use Rattle.dfdl_run.specs.declared.command.Verb.{Verb}
@@ -18,13 +18,13 @@ use Rattle.dfdl_run.specs.declared.answer.Answer.TheVariants.{NotUnparsed, NoInf
 use Rattle.dfdl_run.specs.declared.stop.Stop.{Stop}
 use Rattle.dfdl_run.specs.declared.stop.Stop.TheVariants.{Usage, FilesFailed, Refused, SourceFailed}
 use Rattle.dfdl_run.specs.declared.stop.Stop.TheVariants.{Limit, OutOfMemory}
-use Rattle.dfdl_run.specs.Answer.{End, answer_status, answer_bytes, status_of, written_of, note_of}
+use Rattle.dfdl_run.specs.Answer.{End, status_of, written_of, note_of}
 use Rattle.dfdl_run.specs.Decided.{Decided, by_words, by_schema, by_data, IsLoadFault, IsReadEnd}
 use Rattle.dfdl_run.specs.Expects.{Expects, no_command, no_file, long_schema, no_schema, long_input}
 use Rattle.dfdl_run.specs.Expects.{meant, is_excused, Tells, Gives, NoneFailed, IsAsExpected}
 use Rattle.dfdl_run.specs.Finished.{Finished, all, no_sink, no_memory, Writes}
-use Rattle.dfdl_run.specs.Outside.{Inputs, Outputs, Outside}
-use Rattle.dfdl_run.specs.Run.{IsRun, NamesFile, FilesFail, SinkFails, SourceFails, is_of_data}
+use Rattle.dfdl_run.specs.Outside.{Inputs, Outside}
+use Rattle.dfdl_run.specs.Run.{IsRun, FilesFail, SinkFails, SourceFails, is_of_data}
 use Rattle.dfdl_run.specs.Run.{is_before_data}
 use Rattle.dfdl_run.proofs.Rankings.{Ranked, same, files, source, memory, ranked}
 

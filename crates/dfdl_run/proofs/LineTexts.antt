@@ -1,14 +1,14 @@
 -- The text of an infoset's object of strings is read as that object, and the line feed behind it is
 -- white space.
 use Rattle.std.proofs.Common.{◌≡◌, ℕ, ◌≤◌, Bool, true, false, cond, Option, List, [], ◌∷◌, ◌++◌}
-use Rattle.std.proofs.Common.{Some, IsUtf8, refl, sym, ap, ap₂, subst, ◌∙◌, arith, append_assoc}
+use Rattle.std.proofs.Common.{Some, IsUtf8, refl, sym, ap, ap₂, ◌∙◌, arith, append_assoc}
 use Rattle.std.proofs.Common.{append-nil, option_map, option_and_then, max}
 use Rattle.std.proofs.lemmas.Str.{IsUtf8-append}
-use Rattle.json.specs.Token.{Token, begin_object, end_object, key}
+use Rattle.json.specs.Token.{Token, begin_object, end_object}
 use Rattle.json.specs.Token.{string as string_token}
 use Rattle.json.specs.Lex.{Lexeme, token, comma, colon, lex, between, punctuate, fresh, tokens}
 use Rattle.json.specs.Lex.{string_token as token_of}
-use Rattle.json.specs.Print.{escape, quoted, print, ArePrintable}
+use Rattle.json.specs.Print.{escape, quoted, ArePrintable}
 use Rattle.json.specs.Json as json
 use Rattle.json.specs.Json.{if_last}
 use Rattle.json.specs.Tree as tree
@@ -19,7 +19,7 @@ use Rattle.json.proofs.Printed.Utf8.{IsUtf8-are_ascii, IsUtf8-quoted}
 use Rattle.serde_json.specs.Data.{Data, null, boolean, number, string, array, object, Members}
 use Rattle.serde_json.specs.Data.{no_members, member}
 use Rattle.serde_json.specs.Read.{read, max_depth, of_json, of_members}
-use Rattle.serde_json.specs.Written.{compact_text, members_text, outline, members_outline, comma_if}
+use Rattle.serde_json.specs.Written.{compact_text, members_text, outline, members_outline}
 use Rattle.serde_json.proofs.Texts.{print-outline}
 use Rattle.dfdl_run.proofs.MemberLists.{AreTexts, AreSorted, read_again}
 

@@ -1,9 +1,8 @@
 -- The infoset of a record has no float, and its answer follows from what was read.
 use Rattle.std.proofs.Common.{◌≡◌, ℕ, ◌+◌, ◌*◌, ◌<◌, ◌≤◌, false, ◌||◌, List, [], ◌∷◌, ◌++◌, length}
-use Rattle.std.proofs.Common.{map, fold, Option, None, Some, option_map, option_and_then, IsSome}
+use Rattle.std.proofs.Common.{fold, Some}
 use Rattle.std.proofs.Common.{refl, sym, ap, subst, ◌∙◌, nat_le, decimal, nat_cmp}
 use Rattle.std.specs.declared.cmp.Ordering.TheVariants.{Less, Equal, Greater}
-use Rattle.std.specs.Option.{unwrap_or}
 use Rattle.std.specs.Ordering.{match_ordering}
 use Rattle.std.specs.Cmp.Lexicographic.{slice_cmp}
 use Rattle.std.proofs.lemmas.Bool.{cond-true, cond-false, le-leb, lt-leb, or_parts, or_from}
@@ -12,7 +11,7 @@ use Rattle.serde_json.specs.Written.{has_float, members_have_float, compact_text
 use Rattle.dfdl_report.specs.declared.cause.ParseCause.TheVariants.{DataEnds}
 use Rattle.dfdl_terms.specs.Rows.{Table}
 use Rattle.dfdl_terms.proofs.RecordLemmas.{described_is}
-use Rattle.dfdl_terms.specs.Record.{Record, Root, all_of, field_at, fields_at, root_at, record_from}
+use Rattle.dfdl_terms.specs.Record.{Record, Root, fields_at, root_at}
 use Rattle.dfdl_terms.specs.Record.{record_of}
 use Rattle.dfdl_run.specs.declared.answer.Answer.TheVariants.{Done, LeftOver, Failed}
 use Rattle.dfdl_report.specs.Paths.{field_path}

@@ -1,9 +1,9 @@
 -- The line of a record's items is unparsed to the data that they were read from.
-use Rattle.std.proofs.Common.{◌≡◌, ℕ, zero, suc, ◌+◌, ◌*◌, ◌/◌, ◌^◌, ◌<◌, ◌≤◌, List, [], ◌∷◌, ◌++◌}
-use Rattle.std.proofs.Common.{length, map, fold, take, IsUtf8, decimal, Option, None, Some, Result}
-use Rattle.std.proofs.Common.{Ok, Err, nat_le, if◌then◌else◌, Bool, refl, sym, ap, subst, ◌∙◌}
+use Rattle.std.proofs.Common.{◌≡◌, ℕ, zero, suc, ◌+◌, ◌*◌, ◌/◌, ◌^◌, ◌<◌, ◌≤◌, List, [], ◌∷◌}
+use Rattle.std.proofs.Common.{length, map, fold, take, IsUtf8, decimal, None, Some}
+use Rattle.std.proofs.Common.{Ok, nat_le, if◌then◌else◌, Bool, refl, sym, ap, subst, ◌∙◌}
 use Rattle.std.proofs.Common.{arith, inl, inr}
-use Rattle.std.specs.List.{All, AllByRecursion}
+use Rattle.std.specs.List.{AllByRecursion}
 use Rattle.std.proofs.lemmas.Bool.{cases_lt, cond-true, cond-false, le-leb, lt-leb}
 use Rattle.std.proofs.lemmas.Fmt.{IsAscii-decimal}
 use Rattle.std.proofs.lemmas.List.{take_all}
@@ -19,9 +19,8 @@ use Rattle.dfdl_record.specs.Outcomes.{with_member}
 use Rattle.dfdl_record.specs.Pieces.{IsWholeRecord, joined, unparsed_of}
 use Rattle.dfdl_record.specs.Pieces.{Unparsed as UnparsedPieces}
 use Rattle.dfdl_record.specs.RoundTrip.{AreValuesOf, IsUnparsedBack, items_of, pieces_of}
-use Rattle.dfdl_record.proofs.Fields.{written, written-low, bits-whole}
+use Rattle.dfdl_record.proofs.Fields.{written, written-low}
 use Rattle.dfdl_record.proofs.Lists.{AreWhole, whole_fields}
-use Rattle.dfdl_run.specs.declared.answer.Answer.{Answer}
 use Rattle.dfdl_run.specs.declared.answer.Answer.TheVariants.{Done, LeftOver, Unparsed}
 use Rattle.dfdl_run.specs.declared.command.Verb.TheVariants.{Parse, Unparse}
 use Rattle.dfdl_run.specs.Meaning.{answer_at, answer_of, line_of, pieces_answer, values_answer}

@@ -1,7 +1,7 @@
 -- The members of an object in the order of their names: put into an object one after another they
 -- give that object.
-use Rattle.std.proofs.Common.{◌≡◌, ℕ, List, [], ◌∷◌, fold, Some, IsUtf8, refl, sym, ap, ◌∙◌}
-use Rattle.std.proofs.Common.{nat_cmp, option_map, option_and_then}
+use Rattle.std.proofs.Common.{◌≡◌, ℕ, List, Some, IsUtf8, refl, sym, ap, ◌∙◌}
+use Rattle.std.proofs.Common.{nat_cmp}
 use Rattle.std.specs.declared.cmp.Ordering.TheVariants.{Less, Equal, Greater}
 use Rattle.std.specs.Ordering.{match_ordering, ordering_reverse}
 use Rattle.std.specs.Cmp.Lexicographic.{slice_cmp}

@@ -4,9 +4,6 @@ use Rattle.std.proofs.Common.{Err, refl, sym, ap, subst, ◌∙◌, arith}
 use Rattle.dfdl_fronts.specs.Fronts.{IsPlace}
 use Rattle.dfdl_fronts.proofs.Places.{one_place}
 use Rattle.dfdl_edge.specs.Faults.{Rose}
-use Rattle.dfdl_edge.specs.Files.{FilesSeen}
-use Rattle.dfdl_edge.specs.Source.{SourceSeen}
-use Rattle.dfdl_edge.specs.Told.{IsLonger}
 use Rattle.dfdl_report.specs.declared.cause.SchemaCause.TheVariants.{OutsideSubset}
 use Rattle.dfdl_report.specs.declared.cause.LimitCause.TheVariants.{Input, Schema}
 use Rattle.dfdl_terms.specs.Record.{Record}

@@ -1,6 +1,6 @@
 -- One more field of a record's data.
 use Rattle.std.proofs.Common.{◌≡◌, ℕ, ◌+◌, ◌*◌, ◌<◌, ◌≤◌, List, [], ◌∷◌, length, drop, map, get_or}
-use Rattle.std.proofs.Common.{Option, None, Some, option_map, IsSome, refl, sym, ap, ◌∙◌, arith}
+use Rattle.std.proofs.Common.{None, Some, IsSome, refl, sym, ap, ◌∙◌, arith}
 use Rattle.std.proofs.Common.{nat_le, decimal}
 use Rattle.std.proofs.Math.ListN.{drop_of_length-le}
 use Rattle.std.specs.Option.{unwrap_or}
@@ -12,7 +12,6 @@ use Rattle.dfdl_terms.specs.Record.{Field, all_of, field_at, fields_at}
 use Rattle.dfdl_record.specs.Outcomes.{Outcome, Read, Ends, with_item, with_member, number_at}
 use Rattle.dfdl_record.specs.Outcomes.{outcome_of, Item}
 use Rattle.dfdl_run.specs.Reading.{AllRead, EndsAt, reached}
-use Rattle.dfdl_lemmas.proofs.Lists.{left_at}
 
 -- where the reader stands in a record's data: the fields that are left, and the members so far
 pub record IsAt (t : Table) (rows : List ℕ) (k : ℕ) (bytes : List ℕ) (bit : ℕ)

@@ -1,6 +1,6 @@
 -- The answer of an infoset's text, from its events and their pieces.
-use Rattle.std.proofs.Common.{◌≡◌, ℕ, List, Option, None, Some, Result, Ok, Err, option_map, refl}
-use Rattle.std.proofs.Common.{sym, ap, subst, ◌∙◌}
+use Rattle.std.proofs.Common.{◌≡◌, ℕ, List, Option, Result, Ok, Err}
+use Rattle.std.proofs.Common.{ap}
 use Rattle.dfdl_value.specs.declared.value.Value.{Value}
 use Rattle.dfdl_terms.specs.declared.event.Event.{Event}
 use Rattle.dfdl_terms.specs.Record.{Record}
@@ -10,7 +10,6 @@ use Rattle.dfdl_json.specs.Fitting.{events_if, record_events}
 use Rattle.dfdl_json.specs.Infosets.{Refusal}
 use Rattle.dfdl_json.specs.Texts.{events_of_text, values_of_text}
 use Rattle.dfdl_record.specs.Pieces.{Unparsed, unparsed_of}
-use Rattle.dfdl_run.specs.declared.answer.Answer.{Answer}
 use Rattle.dfdl_run.specs.declared.answer.Answer.TheVariants.{NoInfoset}
 use Rattle.dfdl_run.specs.Meaning.{pieces_answer, values_answer, unparse_answer}
 

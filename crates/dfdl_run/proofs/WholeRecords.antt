@@ -1,7 +1,7 @@
 -- The record of a schema has whole fields.
-use Rattle.std.proofs.Common.{All, ◌≡◌, ◌*◌, ◌≤◌, ◌<◌, ℕ, Bool, true, ◌&&◌, nat_lt, IsUtf8, List}
-use Rattle.std.proofs.Common.{[], ◌∷◌, map, cond, Option, None, Some, IfSome, option_map}
-use Rattle.std.proofs.Common.{option_and_then, refl, sym, ap, subst, ◌∙◌, arith}
+use Rattle.std.proofs.Common.{All, ◌≡◌, ◌*◌, ◌≤◌, ℕ, true, ◌&&◌, nat_lt, IsUtf8, List}
+use Rattle.std.proofs.Common.{[], ◌∷◌, map, Option, None, Some, IfSome, option_map}
+use Rattle.std.proofs.Common.{option_and_then, refl, subst, arith}
 use Rattle.std.specs.Str.{bytes_eq}
 use Rattle.std.specs.Prelude.{codes}
 use Rattle.std.specs.List.{list_all}
@@ -9,14 +9,11 @@ use Rattle.std.proofs.lemmas.Bool.{and_from, cond_both}
 use Rattle.std.proofs.lemmas.Bool.Decides.{nat_tests}
 use Rattle.json.proofs.Printed.Utf8.{IsUtf8-are_ascii, are_ascii}
 use Rattle.std.proofs.lemmas.List.Elements.{All-cons, All-nil, recursion_from_All}
-use Rattle.dfdl_forms.specs.declared.order.ByteOrder.{ByteOrder}
-use Rattle.dfdl_forms.specs.declared.order.BitOrder.TheVariants.{MostFirst}
 use Rattle.dfdl_forms.specs.Types.{form_of as form_of_kind}
 use Rattle.dfdl_forms.specs.declared.simple.Form.TheVariants.{Unsigned}
 use Rattle.dfdl_forms.specs.declared.simple.Simple.{Simple}
 use Rattle.dfdl_forms.specs.declared.simple.Simple.TheVariants.{UnsignedByte, UnsignedShort}
 use Rattle.dfdl_forms.specs.declared.simple.Simple.TheVariants.{UnsignedInt, UnsignedLong}
-use Rattle.dfdl_forms.specs.declared.binary.IntForm.{IntForm}
 use Rattle.dfdl_lemmas.proofs.Bools.{both}
 use Rattle.dfdl_doc_tree.specs.Content.{is_name_byte, is_name_start, is_part}
 use Rattle.dfdl_doc_tree.specs.Node.{Node, node_at}

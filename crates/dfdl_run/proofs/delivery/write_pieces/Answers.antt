@@ -1,4 +1,4 @@
-use Rattle.std.proofs.Common.{◌≡◌, ◌∙◌, ap, sym, subst, OnErr}
+use Rattle.std.proofs.Common.{subst, OnErr}
 use Rattle.dfdl_edge.specs.Sink.{AddsFront}
 use Rattle.dfdl_record.specs.Pieces.{joined}
 use Rattle.dfdl_run.proofs.PieceLemmas.{stopped}

@@ -4,8 +4,8 @@ ghost use Rattle.std.specs.Char.Escape.{encode_utf16};
 ghost use Rattle.std.specs.List.{flat_map};
 ghost use Rattle.dfdl_chars.specs.Encodings.{encoded_of, unit_bytes_of};
 
-use dfdl_forms::Encoding;
 use dfdl_bits::ByteOrder;
+use dfdl_forms::Encoding;
 use thiserror::Error;
 
 /// The encoding lacks the character.
@@ -80,7 +80,7 @@ fn put_utf16(c: char, order: ByteOrder, into: &mut [u8; 4]) -> usize
             let [first, second] = unit_bytes(*high, order);
             let [third, fourth] = unit_bytes(*low, order);
             *into = [first, second, third, fourth];
-            4
+            into.len()
         }
         [] => 0,
     }

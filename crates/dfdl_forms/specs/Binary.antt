@@ -1,27 +1,25 @@
--- Which binary forms there are. 'Simple Types' (binary number representation, binaryBooleanTrueRep,
+-- Which sizes binary fields can have. 'Simple Types' (binary number representation, binaryBooleanTrueRep,
 -- binaryBooleanFalseRep).
-use Rattle.std.specs.Prelude.{◌≢◌, ℕ, ◌≤◌, Some}
-use Rattle.dfdl_forms.specs.Types.{form_of}
-use Rattle.dfdl_forms.specs.declared.binary.BitTruthForm.{BitTruthForm}
-use Rattle.dfdl_forms.specs.declared.binary.IntForm.{IntForm}
+use Rattle.std.specs.Prelude.{ℕ, ◌≤◌}
 use Rattle.dfdl_forms.specs.declared.simple.Form.{Form}
 use Rattle.dfdl_forms.specs.declared.simple.Form.TheVariants.{Signed, Unsigned, Fixed}
 
--- a field of a type has at least one bit, and at most as many as the type; a decimal has at most 128 (profile)
-abbrev pub HasSize : Form → ℕ → Type 0
-HasSize (Signed most) bits = (1 ≤ bits) × (bits ≤ most)
-HasSize (Unsigned most) bits = (1 ≤ bits) × (bits ≤ most)
-HasSize Fixed bits = (1 ≤ bits) × (bits ≤ 128)
-HasSize _ bits = ⊥
+-- how many bits the field of a number can have: as many as the type, and 128 for a decimal (profile)
+abbrev pub most_bits : Form → ℕ
+most_bits (Signed bits) = bits
+most_bits (Unsigned bits) = bits
+most_bits Fixed = 128
+most_bits _ = 0
 
--- the field of an integer or a decimal has a size of its type
-abbrev pub IsIntForm : IntForm → Type 0
-IsIntForm form = HasSize (form_of form.kind) form.bits
+-- how many digits can stand behind the virtual point (profile); an integer has none
+abbrev pub most_places : Form → ℕ
+most_places Fixed = 38
+most_places _ = 0
 
--- the field of a boolean has from 1 to 32 bits
-abbrev pub IsTruthForm : BitTruthForm → Type 0
-IsTruthForm form = (1 ≤ form.bits) × (form.bits ≤ 32)
+-- the sizes in bits of a number's field
+abbrev pub IsNumberSize : Form → ℕ → Type 0
+IsNumberSize form bits = (1 ≤ bits) × (bits ≤ most_bits form)
 
--- the two numbers differ
-abbrev pub DiffersInNumber : BitTruthForm → Type 0
-DiffersInNumber form = form.truth ≢ Some form.falsity
+-- the sizes in bits of a boolean's field
+abbrev pub IsTruthSize : ℕ → Type 0
+IsTruthSize bits = (1 ≤ bits) × (bits ≤ 32)

@@ -1,4 +1,5 @@
 pub mod Binary
+pub mod BinaryNumbers
 pub mod NumberForms
 pub mod NumberRooms
 pub mod Packed

@@ -1,4 +1,9 @@
 // Packed decimal, BCD, IBM 4690 packed and zoned numbers.
+ghost use Rattle.std.specs.Prelude.{◌≡◌, ◌≤◌, IsTrue};
+ghost use Rattle.dfdl_forms.specs.Binary.{most_places};
+ghost use Rattle.dfdl_forms.specs.Packed.{most_nibbles, are_allowed, IsPackedSize};
+ghost use Rattle.dfdl_forms.specs.Types.{form_of};
+
 use crate::order::{BitOrder, ByteOrder};
 use crate::simple::Simple;
 
@@ -28,6 +33,11 @@ pub struct PackedForm {
     pub kind: Simple,
     pub bytes_by: ByteOrder,
     pub bits_by: BitOrder,
+    pub ghost some: { 1 ≤ nibbles },
+    pub ghost few: { nibbles ≤ most_nibbles rep },
+    pub ghost short: { nibbles ≤ 39 },
+    pub ghost allowed: { IsTrue (are_allowed codes) },
+    pub ghost places: { point ≤ most_places (form_of kind) },
 }
 
 /// Which characters carry the sign of a zoned number.
@@ -47,7 +57,52 @@ pub struct ZonedForm {
     pub first: bool,
     /// the least number of digits that are written
     pub width: u32,
-    /// how many digits stand behind the virtual point
+    /// how many digits stand behind the virtual point of the pattern, integers among them
     pub point: u8,
     pub kind: Simple,
+    // A pattern has at most 38 digits.
+    pub ghost places: { point ≤ 38 },
+}
+
+impl PackedForm {
+    ghost use Rattle.std.specs.Prelude.{◌↔◌, ◌*◌, IfSome, IsSome};
+
+    /// The form with a field of `bits` bits, if a field of its kind can have so many.
+    pub fn with_bits(self, bits: u64) -> Option<PackedForm>
+        ensures size { IsSome result ↔ IsPackedSize self.rep bits }
+        ensures bits { IfSome result (λ form. 4 * form.nibbles ≡ bits) }
+        ensures kind { IfSome result (λ form. (form.rep ≡ self.rep) × (form.kind ≡ self.kind)
+            × (form.point ≡ self.point)) }
+        ensures codes { IfSome result (λ form. (form.codes ≡ self.codes)
+            × (form.strict ≡ self.strict)) }
+        ensures order { IfSome result (λ form. (form.bytes_by ≡ self.bytes_by)
+            × (form.bits_by ≡ self.bits_by)) }
+    {
+        let nibbles = bits / 4;
+        if bits % 4 != 0 || nibbles < 1 || nibbles > u64::from(most_nibbles(self.rep)) {
+            return None;
+        }
+        let codes = self.codes;
+        Some(PackedForm {
+            nibbles: nibbles as u32,
+            rep: self.rep,
+            codes,
+            strict: self.strict,
+            point: self.point,
+            kind: self.kind,
+            bytes_by: self.bytes_by,
+            bits_by: self.bits_by,
+        })
+    }
+}
+
+// How many nibbles a field can have.
+fn most_nibbles(rep: PackedRep) -> u32
+    ensures most { result ≡ most_nibbles rep }
+    ensures few { result ≤ 39 }
+{
+    match rep {
+        PackedRep::Bcd => 38,
+        PackedRep::Packed | PackedRep::Ibm4690 => 39,
+    }
 }

@@ -11,10 +11,10 @@ use Rattle.dfdl_forms.specs.declared.simple.Form.TheVariants.{Signed, Unsigned, 
 use Rattle.dfdl_value.specs.declared.value.Value.{Value}
 use Rattle.dfdl_value.specs.declared.value.Value.TheVariants.{Int, Uns, Dec}
 use Rattle.dfdl_int_binary.specs.Signed.{signed_of, pattern_of}
-use Rattle.dfdl_forms.specs.Binary.{HasSize, IsTruthForm, DiffersInNumber}
+use Rattle.dfdl_forms.specs.Binary.{IsNumberSize}
 use Rattle.dfdl_int_binary.specs.Integers.{scaled_of, pattern_if, value_in, number_in}
 use Rattle.dfdl_forms.specs.declared.binary.BitTruthForm.{BitTruthForm}
-use Rattle.dfdl_int_binary.specs.Truths.{truth_reading, truth_writing, true_number, held_in, inverted_in}
+use Rattle.dfdl_int_binary.specs.Truths.{DiffersInNumber, truth_reading, truth_writing, true_number, held_in, inverted_in}
 use Rattle.dfdl_int_binary.proofs.Powers.{halves}
 use Rattle.dfdl_int_binary.proofs.Scaled.{zeros_more}
 
@@ -92,14 +92,14 @@ decimal_back bits point n d some is e = by_place (nat_le d.scale point) refl e
         rw (pattern_back bits (d.mantissa *ℤ pos (10 ^ (point - d.scale))) n some h, fixed_of-fixed d point is inside) refl
 
 -- ---- every form
-pub form_back : (form : Form) (bits point n : ℕ) (value : Value) → HasSize form bits → HasForm form value
+pub form_back : (form : Form) (bits point n : ℕ) (value : Value) → IsNumberSize form bits → HasForm form value
     → number_in form bits point value ≡ Some n → value_in form bits point n ≡ Some value
 form_back (Signed most) bits point n (Int z) size is e = ap (λ (z : ℤ). Some (Int z)) (pattern_back bits z n size.0 e)
 form_back (Unsigned most) bits point n (Uns m) size is e = ap (λ (m : ℕ). Some (Uns m)) (sym (chosen (nat_lt m (2 ^ bits)) m n e).1)
 form_back Fixed bits point n (Dec d) size is e = decimal_back bits point n d size.0 is e
-form_back Characters bits point n value size is e = absurd size
-form_back Truths bits point n value size is e = absurd size
-form_back Octets bits point n value size is e = absurd size
+form_back Characters bits point n value size is e = absurd (omega arith)
+form_back Truths bits point n value size is e = absurd (omega arith)
+form_back Octets bits point n value size is e = absurd (omega arith)
 form_back form bits point n value size is e = absurd is
 
 -- ---- booleans
@@ -114,17 +114,17 @@ inverted_back bits m n some e =
     let whole : 2 ^ bits ≡ 2 ^ (bits - 1) + 2 ^ (bits - 1) = halves bits some in
     λ same. omega (arith, held.1)
 
-pub truth_back : (form : BitTruthForm) (truth : Bool) (n : ℕ) → IsTruthForm form → DiffersInNumber form
+pub truth_back : (form : BitTruthForm) (truth : Bool) (n : ℕ) → DiffersInNumber form
     → truth_writing form truth ≡ Some n → truth_reading form n ≡ Some truth
-truth_back form false n is differs e =
+truth_back form false n differs e =
     let same : nat_eq n form.falsity ≡ true = eq-eqb _ _ (sym (held_back form.bits form.falsity n e)) in
     rw same refl
-truth_back form true n is differs e = by_number form.truth refl e
+truth_back form true n differs e = by_number form.truth refl e
   where
     by_number : (number : Option ℕ) → form.truth ≡ number → true_number number form.bits form.falsity ≡ Some n
         → truth_reading form n ≡ Some true
     by_number None told h =
-        let other : nat_eq n form.falsity ≡ false = ne_eqb _ _ (inverted_back form.bits form.falsity n is.0 h) in
+        let other : nat_eq n form.falsity ≡ false = ne_eqb _ _ (inverted_back form.bits form.falsity n form.some h) in
         rw (other, told) refl
     by_number (Some t) told h =
         let same : t ≡ n = held_back form.bits t n h in

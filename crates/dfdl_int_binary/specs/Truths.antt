@@ -3,17 +3,22 @@ use Rattle.std.specs.Prelude.{◌≢◌, ℕ, ◌-◌, ◌^◌, ◌≤◌, Bool,
 use Rattle.dfdl_bits.specs.Bits.{number_of}
 use Rattle.dfdl_forms.specs.declared.binary.BitTruthForm.{BitTruthForm}
 
+-- the two numbers differ
+abbrev pub DiffersInNumber : BitTruthForm → Type 0
+DiffersInNumber form = form.truth ≢ Some form.falsity
+
 -- the number of the field that begins at a bit
 abbrev pub truth_field_of : BitTruthForm → List ℕ → ℕ → ℕ
 truth_field_of form bytes bit = number_of bytes bit form.bits form.bytes_by form.bits_by
 
--- The false number is read as false. The true number is read as true, and so is every other number where there is none.
-abbrev pub other_reading : Option ℕ → ℕ → Option Bool
-other_reading None number = Some true
-other_reading (Some truth) number = if number == truth then Some true else None
+-- what a number is read as that isn't the false one: true where it is the true one, or there is none
+abbrev pub true_reading : Option ℕ → ℕ → Option Bool
+true_reading None number = Some true
+true_reading (Some truth) number = if number == truth then Some true else None
 
+-- what a field's number is read as
 abbrev pub truth_reading : BitTruthForm → ℕ → Option Bool
-truth_reading form number = if number == form.falsity then Some false else other_reading form.truth number
+truth_reading form number = if number == form.falsity then Some false else true_reading form.truth number
 
 -- a number that bits bits can hold
 abbrev pub held_in : ℕ → ℕ → Option ℕ

@@ -2,7 +2,7 @@
 ghost use Rattle.std.specs.Prelude.{◌≡◌, ◌+◌, ◌*◌, ◌^◌, ◌<◌, ◌≤◌, ◌↔◌, Some, None, length, IfOk, IfSome, IsErr, OnOk, OnErr};
 ghost use Rattle.std.specs.Option.{SomeIff};
 ghost use Rattle.std.specs.Result.{result_ok};
-ghost use Rattle.dfdl_forms.specs.Binary.{IsIntForm};
+ghost use Rattle.dfdl_forms.specs.BinaryNumbers.{IsIntForm};
 ghost use Rattle.dfdl_bits.specs.Bits.{KeepsOutside};
 ghost use Rattle.dfdl_value.specs.Types.{IsOfType};
 ghost use Rattle.dfdl_int_binary.specs.Integers.{field_of, integer_reading, integer_writing};

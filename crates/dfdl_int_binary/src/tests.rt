@@ -8,6 +8,7 @@ use dfdl_value::{Fixed, Simple, Value};
 fn form(bits: u32, bytes_by: ByteOrder, point: u8, kind: Simple) -> IntForm
     ensures bits { result.bits ≡ bits }
     ensures kind { result.kind ≡ kind }
+    ensures point { result.point ≡ point }
 {
     IntForm {
         bits,
@@ -99,4 +100,21 @@ fn truths_have_numbers(rt: HostRuntime) {
     form.falsity = 256;
     assert_eq!(rt; write_truth(true, &form, &mut bytes, 8), Err(NoFit));
     assert_eq!(rt; write_truth(false, &form, &mut bytes, 8), Err(NoFit));
+}
+
+#[test]
+fn sizes_of_fields_are_those_of_their_types(rt: HostRuntime) {
+    let short = form(12, ByteOrder::Big, 0, Simple::UnsignedShort);
+    assert!(rt; short.with_bits(16).is_some());
+    assert!(rt; short.with_bits(17).is_none());
+    assert!(rt; short.with_bits(0).is_none());
+    let truth = BitTruthForm {
+        bits: 1,
+        bytes_by: ByteOrder::Big,
+        bits_by: BitOrder::MostFirst,
+        truth: None,
+        falsity: 0,
+    };
+    assert!(rt; truth.with_bits(32).is_some());
+    assert!(rt; truth.with_bits(33).is_none());
 }

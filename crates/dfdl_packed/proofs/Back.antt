@@ -1,11 +1,10 @@
 -- What a value is written as is read as that value.
-use Rattle.std.proofs.Common.{◌≡◌, ℕ, ◌+◌, ◌-◌, ◌*◌, ◌^◌, ◌<◌, ◌≤◌, max, ℤ, pos, negsuc, ◌*ℤ◌, unsigned_abs, IsTrue, Bool, true, false, cond, nat_le, List, Option, Some, None, Ok, refl, ap, sym, ◌∙◌, arith}
+use Rattle.std.proofs.Common.{◌≡◌, ℕ, ◌+◌, ◌-◌, ◌*◌, ◌^◌, ◌<◌, ◌≤◌, max, ℤ, pos, negsuc, ◌*ℤ◌, unsigned_abs, Bool, true, false, cond, nat_le, List, Option, Some, None, Ok, refl, ap, sym, ◌∙◌, arith}
 use Rattle.std.proofs.lemmas.Int.{unsigned_abs-mul, ints}
 use Rattle.std.proofs.Math.Nat.{le_trans, pow-le-pow_right}
 use Rattle.dfdl_forms.specs.Types.{form_of, HasFewBits}
+use Rattle.dfdl_forms.proofs.KindLemmas.{few_bits}
 use Rattle.dfdl_value.specs.Types.{IsOfType, HasForm}
-use Rattle.dfdl_forms.specs.declared.simple.Simple.{Simple}
-use Rattle.dfdl_forms.specs.declared.simple.Simple.TheVariants.{String, HexBinary, Boolean, Decimal, Integer, NonNegativeInteger, Byte, Short, Int as IntType, Long, UnsignedByte, UnsignedShort, UnsignedInt, UnsignedLong}
 use Rattle.dfdl_forms.specs.declared.simple.Form.{Form}
 use Rattle.dfdl_forms.specs.declared.simple.Form.TheVariants.{Signed, Unsigned, Fixed}
 use Rattle.dfdl_value.specs.declared.value.Value.{Value}
@@ -15,7 +14,6 @@ use Rattle.dfdl_forms.specs.declared.packed.PackedRep.{PackedRep}
 use Rattle.dfdl_forms.specs.declared.packed.PackedRep.TheVariants.{Packed, Bcd, Ibm4690}
 use Rattle.dfdl_forms.specs.declared.packed.ZonedForm.{ZonedForm}
 use Rattle.dfdl_packed.specs.Digits.{padded_digits, digit_count}
-use Rattle.dfdl_forms.specs.Packed.{IsPackedForm, are_allowed, IsZonedForm}
 use Rattle.dfdl_packed.specs.Packed.{packed_reading, packed_writing, number_by, value_if, nibbles_by, nibbles_if, is_negative}
 use Rattle.dfdl_packed.specs.Typed.{integer_in}
 use Rattle.dfdl_packed.specs.Zoned.{zoned_reading, zoned_writing, zoned_value_if, signed_chars, chars_if}
@@ -24,45 +22,27 @@ use Rattle.dfdl_packed.proofs.PackedBack.{FitsKind, fits_kind, packed_back, bcd_
 use Rattle.dfdl_packed.proofs.ScaledLemmas.{small_product}
 use Rattle.dfdl_packed.proofs.ZonedBack.{zoned_back}
 
-number_back : (form : PackedForm) (rep : PackedRep) (z : ℤ) (nibbles : List ℕ) → 1 ≤ form.nibbles
-    → (rep ≡ Packed → IsTrue (are_allowed form.codes)) → FitsKind (form_of form.kind) z
+number_back : (form : PackedForm) (rep : PackedRep) (z : ℤ) (nibbles : List ℕ) → FitsKind (form_of form.kind) z
     → nibbles_by rep form z ≡ Some nibbles → number_by rep form nibbles ≡ Some (is_negative z, unsigned_abs z)
-number_back form Packed z nibbles some allowed fits e = packed_back form z nibbles (allowed refl) fits e
-number_back form Bcd z nibbles some allowed fits e = bcd_back form.nibbles z nibbles some e
-number_back form Ibm4690 z nibbles some allowed fits e = ibm_back form.nibbles z nibbles e
+number_back form Packed z nibbles fits e = packed_back form z nibbles form.allowed fits e
+number_back form Bcd z nibbles fits e = bcd_back form.nibbles z nibbles form.some e
+number_back form Ibm4690 z nibbles fits e = ibm_back form.nibbles z nibbles e
 
-pub packed_law : (form : PackedForm) (value : Value) (nibbles : List ℕ) → IsPackedForm form
-    → (form.rep ≡ Packed → IsTrue (are_allowed form.codes)) → IsOfType form.kind value
+pub packed_law : (form : PackedForm) (value : Value) (nibbles : List ℕ) → IsOfType form.kind value
     → packed_writing form value ≡ Some nibbles → packed_reading form nibbles ≡ Ok value
-packed_law form value nibbles is allowed of e = by (integer_in (form_of form.kind) form.point value) refl e
+packed_law form value nibbles of e = by (integer_in (form_of form.kind) form.point value) refl e
   where
     by : (o : Option ℤ) → integer_in (form_of form.kind) form.point value ≡ o → nibbles_if form o ≡ Some nibbles → packed_reading form nibbles ≡ Ok value
     by None held h = absurd cc
     by (Some z) held h =
         let fits : FitsKind (form_of form.kind) z = fits_kind (form_of form.kind) form.point value z held in
-        ap (value_if form) (number_back form form.rep z nibbles is.0 allowed fits h)
+        ap (value_if form) (number_back form form.rep z nibbles fits h)
         ∙ value_back (form_of form.kind) form.point value z of held
 
 -- ---- zoned
 size_is : (bits : ℕ) (y : ℤ) → HasForm (Signed bits) (Int y) → unsigned_abs y ≤ 2 ^ (bits - 1)
 size_is bits (pos n) is = omega (arith, ints, is.1)
 size_is bits (negsuc n) is = omega (arith, ints, is.0)
-
-few_bits : (kind : Simple) → HasFewBits (form_of kind)
-few_bits Byte = (omega arith, omega arith)
-few_bits Short = (omega arith, omega arith)
-few_bits IntType = (omega arith, omega arith)
-few_bits Long = (omega arith, omega arith)
-few_bits Integer = (omega arith, omega arith)
-few_bits UnsignedByte = (omega arith, omega arith)
-few_bits UnsignedShort = (omega arith, omega arith)
-few_bits UnsignedInt = (omega arith, omega arith)
-few_bits UnsignedLong = (omega arith, omega arith)
-few_bits NonNegativeInteger = (omega arith, omega arith)
-few_bits Decimal = tt
-few_bits String = tt
-few_bits Boolean = tt
-few_bits HexBinary = tt
 
 small_power : (m point : ℕ) → m < 2 ^ 128 → point ≤ 38 → m * 10 ^ point < 10 ^ 80
 small_power m point small few =
@@ -90,9 +70,9 @@ small_integer Fixed point (Dec d) z few is places e = by (nat_le d.scale point) 
         rw (← same, unsigned_abs-mul) (small_power (unsigned_abs d.mantissa) (point - d.scale) small (omega arith))
 small_integer kind point value z few is places e = absurd cc
 
-pub zoned_law : (form : ZonedForm) (value : Value) (chars : List ℕ) → IsZonedForm form → IsOfType form.kind value
+pub zoned_law : (form : ZonedForm) (value : Value) (chars : List ℕ) → IsOfType form.kind value
     → zoned_writing form value ≡ Some chars → zoned_reading form chars ≡ Ok value
-zoned_law form value chars is of e = by (integer_in kind form.point value) refl e
+zoned_law form value chars of e = by (integer_in kind form.point value) refl e
   where
     kind : Form
     kind = form_of form.kind
@@ -102,7 +82,7 @@ zoned_law form value chars is of e = by (integer_in kind form.point value) refl 
     by (Some z) held h =
         let n : ℕ = unsigned_abs z in
         let count : ℕ = max form.width (digit_count 79 n) in
-        let small : n < 10 ^ 80 = small_integer kind form.point value z (few_bits form.kind) of is held in
+        let small : n < 10 ^ 80 = small_integer kind form.point value z (few_bits form.kind) of form.places held in
         let enough : 10 ^ digit_count 79 n ≤ 10 ^ count = pow-le-pow_right {n = 10} (omega arith) (let less : digit_count 79 n ≤ count = omega arith in less) in
         let some : 1 ≤ count = omega (arith, count_some 79 n) in
         let same : signed_chars kind form (is_negative z) (padded_digits count n) ≡ chars = cc in

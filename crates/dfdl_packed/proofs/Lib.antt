@@ -1,5 +1,6 @@
 pub mod Back
 pub mod BackValues
+pub mod CodeLemmas
 pub mod DigitLemmas
 pub mod FillLemmas
 pub mod PackedBack

@@ -14,48 +14,11 @@ use Rattle.dfdl_packed.specs.Digits.{padded_digits, digit_count}
 use Rattle.dfdl_forms.specs.Packed.{is_positive_code, are_allowed}
 use Rattle.dfdl_packed.specs.Packed.{strict_sign, lax_sign, signed_digits, some_digits, packed_number, ibm_number, is_negative, code_in, digits_in, with_code, bcd_nibbles, ibm_nibbles, ibm_filled}
 use Rattle.dfdl_packed.specs.Typed.{integer_in}
+use Rattle.dfdl_packed.proofs.CodeLemmas.{IsPlus, IsMinus, Allowed, allowed_is}
 use Rattle.dfdl_packed.proofs.DigitLemmas.{padded_are_digits, digits_back}
 use Rattle.dfdl_packed.proofs.FillLemmas.{length-padded_digits}
 
 -- ---- signs
--- what codes a form may have
-abbrev IsPlus : ℕ → Type 0
-IsPlus code = is_positive_code code ≡ true
-
-abbrev IsMinus : ℕ → Type 0
-IsMinus code = (code ≡ 11) ⊎ (code ≡ 13)
-
-record Allowed (codes : List ℕ) : Type 0 where
-  plus : IsPlus (slice_index codes 0)
-  minus : IsMinus (slice_index codes 1)
-  unsigned : slice_index codes 2 ≡ 15
-  none : IsPlus (slice_index codes 3) ⊎ (slice_index codes 3 ≡ 0)
-
-minus_is : (code : ℕ) → (nat_eq code 11 || nat_eq code 13) ≡ true → IsMinus code
-minus_is code is = elim (cases_eq code 11) [
-  | inl e ↦ inl e
-  | inr n ↦ inr (grind (arith, nat_tests))
-]
-
-none_is : (code : ℕ) → (is_positive_code code || nat_eq code 0) ≡ true → IsPlus code ⊎ (code ≡ 0)
-none_is code is = elim (cases_eq code 0) [
-  | inl e ↦ inr e
-  | inr n ↦ inl (rw (ne_eqb code 0 n, or-false) at is)
-]
-
-allowed_is : (codes : List ℕ) → are_allowed codes ≡ true → Allowed codes
-allowed_is codes is =
-    let last = and_parts _ _ is in
-    let third = and_parts _ _ last.0 in
-    let second = and_parts _ _ third.0 in
-    let fifteen : nat_eq (slice_index codes 2) 15 ≡ true = third.1 in
-    record {
-      plus = second.0;
-      minus = minus_is (slice_index codes 1) second.1;
-      unsigned = grind (arith, nat_tests);
-      none = none_is (slice_index codes 3) last.1;
-    }
-
 signs_differ : (plus minus : ℕ) → IsPlus plus → IsMinus minus → nat_eq minus plus ≡ false
 signs_differ plus minus p (inl e) = grind (arith, nat_tests)
 signs_differ plus minus p (inr e) = grind (arith, nat_tests)

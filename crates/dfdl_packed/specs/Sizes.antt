@@ -24,7 +24,17 @@ abbrev pub ShowsDigits : Option Size → List ℕ → Type 0
 ShowsDigits None digits = are_digits digits ≡ false
 ShowsDigits (Some size) digits = (are_digits digits ≡ true) × Shows size (digits_number digits)
 
+-- the number of digits, if they are digits
+abbrev pub ShowsShort : Option ℕ → List ℕ → Type 0
+ShowsShort None digits = are_digits digits ≡ false
+ShowsShort (Some n) digits = (are_digits digits ≡ true) × (n ≡ digits_number digits)
+
 -- the number that goes on with digits as text, if they are digits
+abbrev pub ShowsPlain : Option ℕ → ℕ → List ℕ → Type 0
+ShowsPlain None front chars = are_plain chars ≡ false
+ShowsPlain (Some n) front chars = (are_plain chars ≡ true) × (n ≡ number_behind front chars)
+
+-- the size of the number that goes on with digits as text, if they are digits
 abbrev pub ShowsBehind : Option Size → Size → List ℕ → Type 0
 ShowsBehind None size chars = are_plain chars ≡ false
 ShowsBehind (Some new) size chars = (are_plain chars ≡ true) × ((n : ℕ) → Shows size n → Shows new (number_behind n chars))

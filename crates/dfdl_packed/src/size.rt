@@ -1,7 +1,7 @@
 // The size of a number that is read digit by digit.
-ghost use Rattle.std.specs.Prelude.{◌≡◌, ℕ, ◌+◌, ◌*◌, ◌^◌, ◌<◌, ◌≤◌, ◌==◌};
+ghost use Rattle.std.specs.Prelude.{◌≡◌, ℕ, ◌+◌, ◌*◌, ◌^◌, ◌<◌, ◌≤◌, ◌==◌, length};
 ghost use Rattle.std.specs.Option.{SomeIff};
-ghost use Rattle.dfdl_packed.specs.Sizes.{Shows, ShowsDigits};
+ghost use Rattle.dfdl_packed.specs.Sizes.{Shows, ShowsDigits, ShowsShort};
 
 /// A number without its trailing zeros, as far as 128 bits hold that, and how many zeros these are.
 #[derive(Clone, Copy)]
@@ -9,6 +9,9 @@ pub struct Size {
     pub mantissa: Option<u128>,
     pub zeros: u64,
 }
+
+/// The most digits that 64 bits hold whatever they are.
+pub const SHORT: usize = 18;
 
 /// A number's size and whether it is negative.
 #[derive(Clone, Copy)]
@@ -26,6 +29,25 @@ impl Size {
         Size {
             mantissa: Some(0),
             zeros: 0,
+        }
+    }
+
+    /// The size of a number of 64 bits.
+    pub fn of(number: u64) -> Size
+        ensures { Shows result number }
+    {
+        if number == 0 {
+            return Size::zero();
+        }
+        let mut mantissa = number;
+        let mut zeros = 0;
+        while mantissa % 10 == 0 {
+            mantissa /= 10;
+            zeros += 1;
+        }
+        Size {
+            mantissa: Some(u128::from(mantissa)),
+            zeros,
         }
     }
 
@@ -69,6 +91,34 @@ impl Size {
 
 /// The size of the number that digits write, if they are digits.
 pub fn size_of(digits: &[u8]) -> Option<Size>
+    ensures { ShowsDigits result digits.now }
+{
+    if digits.len() > SHORT {
+        return long_size_of(digits);
+    }
+    match short_number(digits) {
+        Some(number) => Some(Size::of(number)),
+        None => None,
+    }
+}
+
+// The number of digits that 64 bits hold.
+fn short_number(digits: &[u8]) -> Option<u64>
+    requires { length digits.now ≤ 18 }
+    ensures { ShowsShort result digits.now }
+{
+    let mut number = 0;
+    for digit in digits {
+        if *digit > 9 {
+            return None;
+        }
+        number = number * 10 + u64::from(*digit);
+    }
+    Some(number)
+}
+
+/// The size of digits one by one.
+pub fn long_size_of(digits: &[u8]) -> Option<Size>
     ensures { ShowsDigits result digits.now }
 {
     let mut size = Size::zero();

@@ -1,7 +1,8 @@
 // Fields written by a COBOL compiler, and fields that say what is refused.
 ghost use Rattle.std.specs.Prelude.{◌≡◌, ◌≤◌};
-ghost use Rattle.dfdl_forms.specs.Packed.{IsPackedForm, IsZonedForm};
+ghost use Rattle.dfdl_forms.specs.Packed.{most_nibbles};
 
+use crate::size::{long_size_of, size_of};
 use crate::*;
 use PackedRep::{Bcd, Ibm4690, Packed};
 use ZonedStyle::{AsciiStandard, TranslatedEbcdic};
@@ -70,11 +71,26 @@ const ZONED: [(ZonedStyle, bool, char, char, char, i128); 32] = [
     (TranslatedEbcdic, true, 'R', '8', '0', -980),
 ];
 
+// digits, and the number that they write without its trailing zeros, by another program
+const SIZES: [([u8; 18], u128, u64); 10] = [
+    ([0, 0, 0, 0, 0, 0, 0, 0, 0, 0, 0, 0, 0, 0, 0, 0, 0, 0], 0, 0),
+    ([0, 0, 0, 0, 0, 0, 0, 0, 0, 8, 7, 7, 5, 9, 7, 7, 7, 4], 877597774, 0),
+    ([0, 0, 0, 0, 0, 0, 0, 0, 0, 6, 3, 2, 0, 1, 9, 0, 9, 9], 632019099, 0),
+    ([0, 0, 0, 0, 0, 0, 0, 0, 1, 6, 9, 0, 4, 0, 0, 0, 0, 0], 16904, 5),
+    ([0, 0, 0, 0, 0, 0, 0, 0, 0, 9, 9, 2, 6, 3, 6, 5, 9, 6], 992636596, 0),
+    ([0, 0, 0, 0, 0, 0, 0, 0, 0, 0, 0, 0, 0, 0, 0, 8, 1, 5], 815, 0),
+    ([0, 0, 0, 0, 0, 0, 0, 0, 0, 0, 0, 0, 4, 8, 0, 0, 0, 0], 48, 4),
+    ([0, 0, 0, 0, 0, 0, 0, 0, 0, 0, 0, 0, 0, 0, 0, 0, 2, 0], 2, 1),
+    ([0, 0, 0, 0, 0, 0, 0, 0, 0, 0, 0, 0, 6, 8, 4, 8, 7, 7], 684877, 0),
+    ([0, 0, 0, 5, 0, 3, 5, 3, 2, 7, 2, 3, 7, 4, 0, 0, 0, 0], 50353272374, 4),
+];
+
 fn packed(nibbles: u32, rep: PackedRep, strict: bool, kind: Simple) -> PackedForm
     requires some { 1 ≤ nibbles }
-    requires few { nibbles ≤ 38 }
-    ensures form { IsPackedForm result }
+    requires few { nibbles ≤ most_nibbles rep }
+    requires short { nibbles ≤ 39 }
     ensures nibbles { result.nibbles ≡ nibbles }
+    ensures kind { result.kind ≡ kind }
 {
     PackedForm {
         nibbles,
@@ -89,8 +105,7 @@ fn packed(nibbles: u32, rep: PackedRep, strict: bool, kind: Simple) -> PackedFor
 }
 
 fn zoned(style: ZonedStyle, first: bool, kind: Simple) -> ZonedForm
-    ensures form { IsZonedForm result }
-    ensures width { result.width ≡ 3 }
+    ensures { result.width ≡ 3 }
 {
     ZonedForm {
         style,
@@ -226,4 +241,33 @@ fn signs_stand_in_one_digit(rt: HostRuntime) {
         write_zoned(&Value::Dec(Fixed::new(15, 1)), &whole, &mut chars),
         Err(NoFit)
     );
+}
+
+#[test]
+fn digits_in_64_bits_are_those_one_by_one(rt: HostRuntime) {
+    for (digits, mantissa, zeros) in SIZES {
+        let short = size_of(&digits);
+        let long = long_size_of(&digits);
+        match (short, long) {
+            (Some(short), Some(long)) => {
+                assert_eq!(rt; short.mantissa, Some(mantissa));
+                assert_eq!(rt; long.mantissa, Some(mantissa));
+                assert_eq!(rt; short.zeros, zeros);
+                assert_eq!(rt; long.zeros, zeros);
+            }
+            _ => assert!(rt; false, "{digits:?}"),
+        }
+    }
+}
+
+#[test]
+fn sizes_of_fields_are_whole_nibbles(rt: HostRuntime) {
+    let form = packed(4, Packed, true, Simple::Integer);
+    assert!(rt; form.with_bits(156).is_some());
+    assert!(rt; form.with_bits(22).is_none());
+    assert!(rt; form.with_bits(0).is_none());
+    assert!(rt; form.with_bits(160).is_none());
+    // `12345C` as an integer
+    let field = packed(6, Packed, false, Simple::Integer);
+    assert_eq!(rt; read(&[0x12, 0x34, 0x5C], 0, &field), Ok(Value::Int(12345)));
 }

@@ -1,9 +1,9 @@
 // The number in zoned digits.
-ghost use Rattle.std.specs.Prelude.{◌≡◌, ℕ, ◌+◌, ◌^◌, ◌<◌, ◌≤◌, length, IfSome};
-ghost use Rattle.dfdl_packed.specs.Sizes.{Shows, ShowsSigned, ShowsBehind};
+ghost use Rattle.std.specs.Prelude.{◌≡◌, ℕ, ◌+◌, ◌*◌, ◌^◌, ◌<◌, ◌≤◌, length, IfSome};
+ghost use Rattle.dfdl_packed.specs.Sizes.{Shows, ShowsSigned, ShowsBehind, ShowsPlain};
 ghost use Rattle.dfdl_packed.specs.Zoned.{counted_from, or_else, sign_digit, number_around, zoned_number};
 
-use crate::size::{SignedSize, Size};
+use crate::size::{SHORT, SignedSize, Size};
 use dfdl_forms::{ZonedForm, ZonedStyle};
 
 /// The number that zoned digits write.
@@ -27,13 +27,55 @@ fn around(before: &[char], signed: Option<(bool, u8)>, behind: &[char]) -> Optio
     requires digit { IfSome signed (λ found. found.1 < 10) }
     ensures { ShowsSigned result (number_around before.now signed behind.now) }
 {
+    if before.len() + behind.len() < SHORT {
+        return short_around(before, signed, behind);
+    }
+    long_around(before, signed, behind)
+}
+
+// Digits that 64 bits hold.
+#[tactic(auto, using(crate::proofs::SizeLemmas::around_fits, crate::proofs::SizeLemmas::around_room, crate::proofs::SizeLemmas::few_fit,))]
+fn short_around(before: &[char], signed: Option<(bool, u8)>, behind: &[char]) -> Option<SignedSize>
+    requires few { length before.now + length behind.now < 18 }
+    requires digit { IfSome signed (λ found. found.1 < 10) }
+    ensures { ShowsSigned result (number_around before.now signed behind.now) }
+{
+    let (negative, digit) = signed?;
+    let front = short_plain(0, before)?;
+    let number = short_plain(front * 10 + u64::from(digit), behind)?;
+    let size = Size::of(number);
+    Some(SignedSize { negative, size })
+}
+
+// Digits one by one.
+fn long_around(before: &[char], signed: Option<(bool, u8)>, behind: &[char]) -> Option<SignedSize>
+    requires few { length before.now + length behind.now + 2 < 2 ^ 64 }
+    requires digit { IfSome signed (λ found. found.1 < 10) }
+    ensures { ShowsSigned result (number_around before.now signed behind.now) }
+{
     let (negative, digit) = signed?;
     let front = plain(Size::zero(), before)?;
     let size = plain(front.then(digit), behind)?;
     Some(SignedSize { negative, size })
 }
 
-// The number that goes on with plain digits.
+// The number that goes on with plain digits, where 64 bits hold it.
+fn short_plain(front: u64, chars: &[char]) -> Option<u64>
+    requires { (front + 1) * 10 ^ length chars.now ≤ 10 ^ 18 }
+    ensures number { ShowsPlain result front chars.now }
+    ensures small { IfSome result (λ number. number + 1 ≤ (front + 1) * 10 ^ length chars.now) }
+{
+    let mut number = front;
+    for char in chars {
+        if !char.is_ascii_digit() {
+            return None;
+        }
+        number = number * 10 + u64::from(*char as u32 - 48);
+    }
+    Some(number)
+}
+
+// The size of the number that goes on with plain digits, one by one.
 fn plain(front: Size, chars: &[char]) -> Option<Size>
     requires { front.zeros + length chars.now < 2 ^ 64 }
     ensures shows { ShowsBehind result front chars.now }

@@ -1,5 +1,5 @@
 use Rattle.std.proofs.Common.{refl}
-use Rattle.dfdl_packed.proofs.zoned_reading.around.Goals as goal
+use Rattle.dfdl_packed.proofs.zoned_reading.long_around.Goals as goal
 
 pub returns : goal.returns
 returns c =

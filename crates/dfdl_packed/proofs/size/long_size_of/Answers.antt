@@ -3,7 +3,7 @@ use Rattle.std.proofs.lemmas.Bool.{lt-ltb}
 use Rattle.std.proofs.lemmas.List.Folds.{list_all_more}
 use Rattle.std.proofs.lemmas.List.Sums.{fold_more}
 use Rattle.dfdl_packed.specs.Digits.{are_digits, digits_number}
-use Rattle.dfdl_packed.proofs.size.size_of.Goals as goal
+use Rattle.dfdl_packed.proofs.size.long_size_of.Goals as goal
 
 pub loop-digit-preserved : goal.loop-digit-preserved
 loop-digit-preserved c =

@@ -1,7 +1,7 @@
 use Rattle.std.proofs.Common.{◌≡◌, ◌≤◌, true, take}
 use Rattle.dfdl_packed.specs.Digits.{are_digits, digits_number}
 use Rattle.dfdl_packed.specs.Sizes.{Shows}
-use Rattle.dfdl_packed.proofs.size.size_of.Given as goal
+use Rattle.dfdl_packed.proofs.size.long_size_of.Given as goal
 
 abbrev pub invariant-loop-digit : goal.invariant-loop-digit
 invariant-loop-digit l = record {

@@ -6,8 +6,8 @@ ghost use Rattle.dfdl_decimal.specs.Decimal.{fixed_of};
 ghost use Rattle.dfdl_int_binary.specs.Integers.{scaled_of, pattern_if};
 
 use crate::signed::pattern;
-use dfdl_value::Fixed;
 use dfdl_decimal::shortest;
+use dfdl_value::Fixed;
 
 /// The integer divided by ten to the power of `point`, if it has no more digits than a decimal can have.
 pub fn divided(integer: i128, point: u8) -> Option<Fixed>

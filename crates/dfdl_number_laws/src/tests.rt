@@ -1,10 +1,10 @@
 // What is written is read back, as the law of the crate says of all numbers.
 use crate::read_back;
+use dfdl_decimal::shortest;
 use dfdl_forms::{NumberForm, NumberPattern, Rounding, Simple};
 use dfdl_number_pattern::read_pattern;
 use dfdl_number_text::{read, write};
 use dfdl_value::Value;
-use dfdl_decimal::shortest;
 use std::alloc::Global;
 use std::test::Fail;
 
@@ -45,7 +45,11 @@ fn decimals(rt: HostRuntime) -> Result<(), Fail> {
         let number = shortest(digits < 0, digits.unsigned_abs(), scale).ok_or("no number")?;
         let value = Value::Dec(number);
         let text = back(rt.alloc(), &form, Simple::Decimal, &value)?;
-        assert_eq!(rt; text.as_str(), value.text(rt.alloc())?.as_str(), "{pattern}");
+        assert_eq!(rt;
+            text.as_str(),
+            value.text(rt.alloc())?.as_str(),
+            "{pattern}"
+        );
     }
     Ok(())
 }

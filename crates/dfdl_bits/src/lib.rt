@@ -18,6 +18,8 @@ pub use steps::Steps;
 pub use window::{Seen, Window};
 
 #[cfg(test)]
+mod number_tests;
+#[cfg(test)]
 mod tests;
 #[cfg(test)]
 mod window_tests;

@@ -201,9 +201,9 @@ impl Window {
         ensures cost { steps.new ≡ steps.old + length result.now }
     {
         let held = self.held(k, most);
-        let run = &held[..count_below(held, limit)];
-        steps.add(run.len() as u64);
-        run
+        let count = count_below(held, limit);
+        steps.add(count as u64);
+        &held[..count]
     }
 
     // The bytes that are held from byte `k` of the data on, at most `most` of them.

@@ -1,5 +1,5 @@
 -- The bytes of a character in an encoding.
-use Rattle.std.specs.Prelude.{ℕ, ◌/◌, ◌%◌, nat_lt, if◌then◌else◌, List, [], ◌∷◌, Option, Some, None, encode_utf8}
+use Rattle.std.specs.Prelude.{ℕ, ◌/◌, ◌%◌, nat_lt, if◌then◌else◌, List, [], ◌∷◌, ◌++◌, Option, Some, None, encode_utf8}
 use Rattle.std.specs.Char.Escape.{encode_utf16}
 use Rattle.std.specs.List.{flat_map}
 use Rattle.dfdl_forms.specs.declared.order.ByteOrder.{ByteOrder}
@@ -26,3 +26,14 @@ encoded_of UsAscii c = if nat_lt c 128 then Some (c ∷ []) else None
 encoded_of Iso88591 c = if nat_lt c 256 then Some (c ∷ []) else None
 encoded_of Utf16Be c = Some (flat_map (unit_bytes_of Big) (encode_utf16 c))
 encoded_of Utf16Le c = Some (flat_map (unit_bytes_of Little) (encode_utf16 c))
+
+-- the bytes of both, one after the other, where both are there
+abbrev pub joined : Option (List ℕ) → Option (List ℕ) → Option (List ℕ)
+joined (Some xs) (Some ys) = Some (xs ++ ys)
+joined (Some xs) None = None
+joined None ys = None
+
+-- the bytes of characters one after the other, if the encoding has each of them
+abbrev pub encoded_text : Encoding → List ℕ → Option (List ℕ)
+encoded_text enc [] = Some []
+encoded_text enc (c ∷ cs) = joined (encoded_of enc c) (encoded_text enc cs)

@@ -80,7 +80,7 @@ fn put_utf16(c: char, order: ByteOrder, into: &mut [u8; 4]) -> usize
             let [first, second] = unit_bytes(*high, order);
             let [third, fourth] = unit_bytes(*low, order);
             *into = [first, second, third, fourth];
-            4
+            into.len()
         }
         [] => 0,
     }

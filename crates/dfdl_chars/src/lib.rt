@@ -7,6 +7,7 @@ pub mod decode;
 pub mod encoded;
 pub mod run;
 mod sequences;
+pub mod text;
 mod utf16;
 mod utf8;
 
@@ -14,6 +15,9 @@ pub use decode::{Chars, decode_at};
 pub use encoded::{NoSuchChar, encode};
 pub use dfdl_forms::Encoding;
 pub use run::decode_run;
+pub use text::{TextFault, encode_run};
 
+#[cfg(test)]
+mod run_tests;
 #[cfg(test)]
 mod tests;

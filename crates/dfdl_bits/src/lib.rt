@@ -11,8 +11,8 @@ pub mod steps;
 pub mod window;
 mod word;
 
-pub use number::{nibble_at, number_at, number_at_64};
 pub use dfdl_forms::{BitOrder, ByteOrder};
+pub use number::{nibble_at, number_at, number_at_64};
 pub use put::{put_nibble, put_number, put_number_64};
 pub use steps::Steps;
 pub use window::{Seen, Window};

@@ -24,13 +24,7 @@ pub fn number_at(bytes: &[u8], bit: u64, len: u32, bytes_by: ByteOrder, bits_by:
 /// The number of at most 64 bits that begin at bit `bit`, without arithmetic in 128 bits. Whole numbers of 8, 16, 32
 /// and 64 bits that begin with a byte are read by one load.
 #[tactic(auto, using(crate::proofs::Numbers::number_below))]
-pub fn number_at_64(
-    bytes: &[u8],
-    bit: u64,
-    len: u32,
-    bytes_by: ByteOrder,
-    bits_by: BitOrder,
-) -> u64
+pub fn number_at_64(bytes: &[u8], bit: u64, len: u32, bytes_by: ByteOrder, bits_by: BitOrder) -> u64
     requires few { len ≤ 64 }
     requires inside { bit + len ≤ 8 * length bytes.now }
     ensures number { result ≡ number_of bytes.now bit len bytes_by bits_by }

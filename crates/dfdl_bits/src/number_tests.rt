@@ -6,7 +6,10 @@ use BitOrder::{LeastFirst, MostFirst};
 use ByteOrder::{Big, Little};
 use std::process::Abort;
 
-const RANDOM: [u8; 20] = [0xF3, 0x3F, 0xCE, 0x08, 0x68, 0x89, 0x67, 0x4B, 0x28, 0xD5, 0xE1, 0x65, 0x0C, 0x2A, 0xCE, 0x02, 0x20, 0x59, 0x35, 0x17];
+const RANDOM: [u8; 20] = [
+    0xF3, 0x3F, 0xCE, 0x08, 0x68, 0x89, 0x67, 0x4B, 0x28, 0xD5, 0xE1, 0x65, 0x0C, 0x2A, 0xCE, 0x02,
+    0x20, 0x59, 0x35, 0x17,
+];
 
 // first bit, bits, byte order, bit order, number of these bits of RANDOM
 const RANGES: [(u8, u8, ByteOrder, BitOrder, u128); 80] = [
@@ -93,13 +96,7 @@ const RANGES: [(u8, u8, ByteOrder, BitOrder, u128); 80] = [
 ];
 
 /// The number, by its definition: each bit with its weight.
-fn bit_by_bit(
-    bytes: &[u8; 20],
-    bit: u64,
-    len: u32,
-    bytes_by: ByteOrder,
-    bits_by: BitOrder,
-) -> u128
+fn bit_by_bit(bytes: &[u8; 20], bit: u64, len: u32, bytes_by: ByteOrder, bits_by: BitOrder) -> u128
     requires few { len ≤ 128 }
     requires near { bit ≤ 160 }
 {

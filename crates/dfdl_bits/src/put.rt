@@ -64,7 +64,15 @@ pub fn put_number_64(
         return;
     }
     let skip = (bit % 8) as u32;
-    put_at(bytes, first, skip, len, u128::from(value), bytes_by, bits_by)
+    put_at(
+        bytes,
+        first,
+        skip,
+        len,
+        u128::from(value),
+        bytes_by,
+        bits_by,
+    )
 }
 
 /// Makes `nibble` the number of the four bits of nibble `at` of those that begin at bit `bit`.

@@ -68,7 +68,7 @@ const OPS: [Op; 48] = [
     Op::Look(14, Seen::Byte(0x00)),
     Op::Run(11, 3, b"\x80\x30\x80"),
     Op::RunBelow(12, 7, 0x7F, b"\x30"),
-    Op::Look(18, Seen::Over)
+    Op::Look(18, Seen::Over),
 ];
 
 fn call<L: Ledger>(rt: &impl Abort, window: &mut Window, op: Op, steps: &mut Steps<L>) {

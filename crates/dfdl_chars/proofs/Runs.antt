@@ -1,12 +1,12 @@
 -- What stands at a place where a byte is, and where none of a run stands.
-use Rattle.std.proofs.Common.{◌≡◌, ℕ, zero, suc, ◌+◌, ◌*◌, ◌<◌, ◌≤◌, Bool, true, false, cond, leb, ltb, List, [], ◌∷◌, ◌++◌, length, refl, ap, sym, ◌∙◌, arith, add-zero, length-append}
-use Rattle.std.proofs.lemmas.Bool.{lt-ltb, le-leb, leb-true, ltb-true, cond-true, cond_both, both_ways}
+use Rattle.std.proofs.Common.{◌≡◌, ℕ, zero, suc, ◌+◌, ◌*◌, ◌<◌, ◌≤◌, true, false, cond, leb, ltb, List, [], ◌∷◌, ◌++◌, length, refl, ap, ◌∙◌, arith, add-zero, length-append}
+use Rattle.std.proofs.lemmas.Bool.{lt-ltb, le-leb, leb-true, cond-true, cond_both, both_ways}
 use Rattle.std.proofs.lemmas.Bool.Decides.{nat_tests}
 use Rattle.dfdl_bits.specs.declared.window.Seen.{Seen}
 use Rattle.dfdl_bits.specs.declared.window.Seen.TheVariants.{Byte, End as NoByte, NotYet as NotSeen, Over as PastWindow}
 use Rattle.dfdl_chars.specs.declared.decode.Chars.{Chars}
-use Rattle.dfdl_chars.specs.declared.decode.Chars.TheVariants.{Char, Bad, End}
-use Rattle.dfdl_forms.specs.declared.encoding.Encoding.TheVariants.{Utf8, UsAscii, Iso88591}
+use Rattle.dfdl_chars.specs.declared.decode.Chars.TheVariants.{Bad, End}
+use Rattle.dfdl_forms.specs.declared.encoding.Encoding.TheVariants.{Utf8, UsAscii}
 use Rattle.dfdl_chars.specs.Decoding.{Boxed, Walk, Decoded, after_look, at_byte, looked, char_of, bad_of, end_after, utf8_after, narrow_at, decoded_at, no_look, found}
 use Rattle.dfdl_chars.specs.Runs.{is_single, single_at}
 use Rattle.dfdl_chars.specs.Sequences.{is_sequence, is_begun, code_of}

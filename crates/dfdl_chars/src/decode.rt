@@ -3,10 +3,10 @@ ghost use Rattle.std.specs.Prelude.{ℕ, ◌≡◌, ◌+◌, ◌*◌, ◌/◌, �
 ghost use Rattle.dfdl_chars.specs.Decoding.{in_box, Walk, Decoded, at_byte, decoded_at, narrow_at as narrow_of, no_look, HasWholeBytes};
 ghost use Rattle.dfdl_chars.specs.Looks.{after, answered};
 
-use dfdl_forms::Encoding;
 use super::utf8::utf8_at;
 use super::utf16::utf16_at;
 use dfdl_bits::{ByteOrder, Seen, Steps, Window};
+use dfdl_forms::Encoding;
 use std::sync::ledger::Ledger;
 
 /// What stands at a place of the data; sizes are in bits.

@@ -4,8 +4,8 @@ ghost use Rattle.std.specs.Char.Escape.{encode_utf16};
 ghost use Rattle.std.specs.List.{flat_map};
 ghost use Rattle.dfdl_chars.specs.Encodings.{encoded_of, unit_bytes_of};
 
-use dfdl_forms::Encoding;
 use dfdl_bits::ByteOrder;
+use dfdl_forms::Encoding;
 use thiserror::Error;
 
 /// The encoding lacks the character.

@@ -12,8 +12,8 @@ mod utf16;
 mod utf8;
 
 pub use decode::{Chars, decode_at};
-pub use encoded::{NoSuchChar, encode};
 pub use dfdl_forms::Encoding;
+pub use encoded::{NoSuchChar, encode};
 pub use run::decode_run;
 pub use text::{TextFault, encode_run};
 

@@ -1,6 +1,6 @@
-use Rattle.std.proofs.Common.{◌≡◌, ℕ, ◌+◌, ◌-◌, ◌*◌, ◌/◌, ◌<◌, ◌≤◌, All, get_or, length, ◌∙◌, ap, sym, arith, inl, inr}
+use Rattle.std.proofs.Common.{◌≡◌, ℕ, ◌+◌, ◌*◌, ◌/◌, ◌<◌, ◌≤◌, get_or, length, arith, inl, inr}
 use Rattle.dfdl_bits.specs.declared.window.Seen.TheVariants.{Byte}
-use Rattle.dfdl_chars.specs.Decoding.{in_box, no_look, decoded_at}
+use Rattle.dfdl_chars.specs.Decoding.{in_box, no_look}
 use Rattle.dfdl_chars.proofs.Runs.{utf8_single, narrow_single, utf8_stops, ascii_stops}
 use Rattle.dfdl_chars.proofs.run.decode_run.Goals as goal
 

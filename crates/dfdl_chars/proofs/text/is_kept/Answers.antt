@@ -1,7 +1,6 @@
-use Rattle.std.proofs.Common.{rules, ◌≡◌, Some, ap, ◌∙◌, inl, inr}
+use Rattle.std.proofs.Common.{rules, Some, ap, ◌∙◌, inl, inr}
 use Rattle.std.specs.Str.{chars, IsAscii}
 use Rattle.std.proofs.lemmas.Str.{encodes-chars, chars-IsAscii}
-use Rattle.dfdl_chars.specs.Encodings.{encoded_text}
 use Rattle.dfdl_chars.proofs.Texts.{utf8_text, ascii_text, latin_text}
 use Rattle.dfdl_chars.proofs.text.is_kept.Goals as goal
 

@@ -11,7 +11,7 @@ use Rattle.dfdl_doc_tree.specs.declared.reader.Reader.{Reader}
 
 -- a start tag as far as it was read
 abbrev pub tag_seen : Tag → StartTag
-tag_seen t = record { name = string_bytes t.name; attributes = map attribute_seen t.attributes.items; at = t.at }
+tag_seen t = record { name = string_bytes t.name; attributes = map attribute_seen t.attributes.items.items; at = t.at }
 
 -- the place of a mark, with the word, the tag and the attribute's name that are being read
 abbrev pub place_seen : Mark → List ℕ → StartTag → List ℕ → Place

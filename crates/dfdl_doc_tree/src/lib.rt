@@ -3,6 +3,7 @@
 // 'DFDL Schema Component Model', whose components are written as XML.
 #![tactic(auto)]
 
+mod attribute_list;
 mod fault;
 mod mark;
 mod reader;

@@ -5,6 +5,7 @@ ghost use Rattle.std.specs.List.{list_any};
 ghost use Rattle.dfdl_doc_tree.specs.Machine.{Answers, may_open, has_attribute, adopt, step, tag_next, content_next, opened_next, tag_name_next, in_tag_next, attribute_name_next, equals_next, value_next, slash_next, end_name_next, end_space_next, entered, added};
 ghost use Rattle.dfdl_doc_tree.specs.Shown.{node_of_element};
 
+use crate::attribute_list::AttributeList;
 use crate::mark::{Mark, Part, is_name_start, is_value_byte, is_white};
 use crate::tree::{Attribute, Element};
 use crate::{DocFault, Tree};
@@ -19,20 +20,19 @@ const MAX_DEPTH: usize = 250;
 #[derive(Drop)]
 pub(crate) struct Tag {
     name: String,
-    attributes: Vec<Attribute>,
+    attributes: AttributeList,
     at: u64,
-    ghost few_attributes: { length attributes.items < 2 ^ 32 },
 }
 
 impl Tag {
     fn new(alloc: Global, name: String, at: u64) -> Tag
         ensures name { result.name ≡ name }
-        ensures attributes { result.attributes.items ≡ [] }
+        ensures attributes { result.attributes.items.items ≡ [] }
         ensures at { result.at ≡ at }
     {
         Tag {
             name,
-            attributes: Vec::new(alloc),
+            attributes: AttributeList::new(alloc),
             at,
         }
     }
@@ -64,15 +64,6 @@ fn adopt(elements: &mut Vec<Element>, parent: u32, child: u32) -> Result<(), All
     let parent = &mut elements[parent as usize];
     parent.children.push(child)?;
     Ok(())
-}
-
-/// Whether an attribute has this name.
-fn is_name_among(attributes: &[Attribute], name: &str) -> bool
-    ensures { result ≡ list_any (λ a. bytes_eq (string_bytes a.name) name.now) attributes.now }
-{
-    attributes
-        .iter()
-        .any(|attribute| attribute.name.as_str() == name)
 }
 
 impl Reader {
@@ -128,7 +119,7 @@ impl Reader {
         let tag = mem::replace(&mut self.tag, empty);
         Element {
             name: tag.name,
-            attributes: tag.attributes,
+            attributes: tag.attributes.into_items(),
             children: Vec::new(self.alloc),
             at: tag.at,
         }
@@ -279,7 +270,7 @@ impl Reader {
     fn has_attribute(&self) -> bool
         ensures { result ≡ has_attribute (tag_seen self.now.tag) (string_bytes self.now.word) }
     {
-        is_name_among(&self.tag.attributes, self.word.as_str())
+        self.tag.attributes.has(self.word.as_str())
     }
 
     #[tactic(auto, unfolding(crate::specs::Machine::attribute_name_next))]
@@ -336,14 +327,12 @@ impl Reader {
         ensures ancestors { self.new.ancestors.items ≡ self.old.ancestors.items }
         ensures only_memory { result ≡ Err DocFault.Bad → ⊥ }
     {
-        if self.tag.attributes.len() >= u32::MAX as usize {
-            return Err(DocFault::OutOfMemory);
-        }
         let attribute = Attribute {
             value: self.word.clone()?,
             name: mem::replace(&mut self.attribute_name, String::new(self.alloc)),
         };
-        self.tag.attributes.push(attribute)?;
+        let before = mem::replace(&mut self.tag.attributes, AttributeList::new(self.alloc));
+        self.tag.attributes = before.with(attribute)?;
         Ok(())
     }
 

@@ -10,9 +10,8 @@ use Rattle.dfdl_doc_tree.proofs.reader.Reader.has_attribute.Goals as goal
 
 pub returns : goal.returns
 returns c =
-    let items = c.args.self.now.tag.attributes.items in
+    let items = c.args.self.now.tag.attributes.items.items in
     let word = string_bytes c.args.self.now.word in
-    c.is_name_among.ensures
-    ∙ (ap (λ (xs : List Attribute). list_any (λ a. bytes_eq (string_bytes a.name) c.as_str.result.now) xs) c.deref.ensures.value
+    c.has.ensures
     ∙ (ap (λ (n : List ℕ). list_any (λ (a : Attribute). bytes_eq (string_bytes a.name) n) items) c.as_str.ensures.value
-    ∙ list_any-map attribute_seen (λ (a : Seen). bytes_eq a.name word) items))
+    ∙ list_any-map attribute_seen (λ (a : Seen). bytes_eq a.name word) items)

@@ -29,6 +29,7 @@ pub record Decoded : Type 0 where
   pub chars : Chars
   pub walk : Walk
 
+-- what stands at a place, and where the walk is behind it
 abbrev pub found : Chars → Walk → Decoded
 found chars walk = record { chars = chars; walk = walk }
 
@@ -56,6 +57,7 @@ at_byte box k walk at_end go =
 abbrev pub char_of : ℕ → ℕ → Walk → Decoded
 char_of c bytes walk = found (Char c (8 * bytes)) walk
 
+-- a bad unit of so many bits, where the walk is behind it
 abbrev pub bad_of : ℕ → Walk → Decoded
 bad_of bytes walk = found (Bad (8 * bytes)) walk
 
@@ -81,6 +83,7 @@ utf8_after (suc more) box k bytes walk =
 abbrev pub is_high : ℕ → Bool
 is_high unit = nat_le 0xD800 unit && nat_lt unit 0xDC00
 
+-- a low surrogate
 abbrev pub is_low : ℕ → Bool
 is_low unit = nat_le 0xDC00 unit && nat_lt unit 0xE000
 
@@ -97,18 +100,22 @@ at_unit join box k walk ends go =
 abbrev pub utf16_second : ℕ → ℕ → Walk → Decoded
 utf16_second high unit walk = if is_low unit then char_of (pair_code high unit) 4 walk else bad_of 2 walk
 
+-- the character whose first unit is this one
 abbrev pub utf16_first : (ℕ → ℕ → ℕ) → Boxed → ℕ → ℕ → Walk → Decoded
 utf16_first join box k unit walk =
     if is_high unit then at_unit join box (k + 2) walk (Bad 16, Bad 16) (λ second w. utf16_second unit second w)
     else if is_low unit then bad_of 2 walk
     else char_of unit 2 walk
 
+-- what stands at a place of UTF-16, where two bytes make a unit so
 abbrev pub utf16_at : (ℕ → ℕ → ℕ) → Boxed → ℕ → Walk → Decoded
 utf16_at join box k walk = at_unit join box k walk (End, Bad 8) (λ unit w. utf16_first join box k unit w)
 
+-- the unit of two bytes, the first of which is the more significant
 abbrev pub big_unit : ℕ → ℕ → ℕ
 big_unit a b = a * 256 + b
 
+-- the unit of two bytes, the second of which is the more significant
 abbrev pub little_unit : ℕ → ℕ → ℕ
 little_unit a b = b * 256 + a
 

@@ -11,6 +11,7 @@ use Rattle.dfdl_forms.specs.declared.encoding.Encoding.TheVariants.{Utf8, UsAsci
 abbrev pub big_bytes : ℕ → List ℕ
 big_bytes unit = unit / 256 ∷ unit % 256 ∷ []
 
+-- the bytes of a unit, the less significant first
 abbrev pub little_bytes : ℕ → List ℕ
 little_bytes unit = unit % 256 ∷ unit / 256 ∷ []
 

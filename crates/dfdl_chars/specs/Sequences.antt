@@ -6,6 +6,7 @@ use Rattle.std.specs.List.{list_any}
 abbrev pub Span : Type 0
 Span = ℕ × ℕ
 
+-- the byte is in the span
 abbrev pub is_within : Span → ℕ → Bool
 is_within span byte = nat_le span.0 byte && nat_le byte span.1
 
@@ -61,6 +62,7 @@ code_of _ = 0
 abbrev pub IsTail : ℕ → Type 0
 IsTail b = (0x80 ≤ b) × (b ≤ 0xBF)
 
+-- the unit begins a pair of surrogates
 abbrev pub BeginsPair : ℕ → Type 0
 BeginsPair b = (0xC2 ≤ b) × (b ≤ 0xDF)
 

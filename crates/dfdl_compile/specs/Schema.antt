@@ -110,6 +110,7 @@ order_of _ (Some text) =
 abbrev pub integer_form : Simple → ByteOrder → IntForm
 integer_form kind order = record { bits = bits_of kind; bytes_by = order; bits_by = MostFirst; point = 0; kind = kind }
 
+-- how the number of a field lies in the data
 abbrev pub form_of : Node → Option IntForm
 form_of node =
     option_and_then (λ kind. option_map (integer_form kind) (order_of kind (value_of (codes "dfdl:byteOrder") node.attributes)))
@@ -130,6 +131,7 @@ is_field node =
     && has node (codes "dfdl:binaryNumberRep") (codes "binary")
     && has node (codes "dfdl:lengthKind") (codes "implicit")
 
+-- the field that an element is
 abbrev pub field_of : Node → Option Field
 field_of node =
     if is_field node

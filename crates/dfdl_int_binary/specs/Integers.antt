@@ -23,6 +23,7 @@ value_in (Unsigned most) bits point number = Some (Uns number)
 value_in Fixed bits point number = option_map Dec (fixed_of (record { mantissa = signed_of bits number; scale = point }))
 value_in _ bits point number = None
 
+-- the value that the number of a field is read as
 abbrev pub integer_reading : IntForm → ℕ → Option Value
 integer_reading form number = value_in (form_of form.kind) form.bits form.point number
 
@@ -42,5 +43,6 @@ number_in (Unsigned most) bits point (Uns n) = if nat_lt n (2 ^ bits) then Some 
 number_in Fixed bits point (Dec d) = pattern_if bits (scaled_of d point)
 number_in _ bits point _ = None
 
+-- the number that a value is written as
 abbrev pub integer_writing : IntForm → Value → Option ℕ
 integer_writing form value = number_in (form_of form.kind) form.bits form.point value

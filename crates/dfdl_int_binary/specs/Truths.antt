@@ -33,6 +33,7 @@ abbrev pub true_number : Option ℕ → ℕ → ℕ → Option ℕ
 true_number None bits falsity = inverted_in bits falsity
 true_number (Some truth) bits falsity = held_in bits truth
 
+-- the number that a boolean is written as
 abbrev pub truth_writing : BitTruthForm → Bool → Option ℕ
 truth_writing form false = held_in form.bits form.falsity
 truth_writing form true = true_number form.truth form.bits form.falsity

@@ -19,7 +19,7 @@ use Rattle.dfdl_forms.specs.NumberForms.{is_base}
 use Rattle.dfdl_forms.specs.declared.number.NumberForm.{NumberForm}
 use Rattle.dfdl_forms.specs.declared.number_pattern.NumberPattern.{NumberPattern}
 use Rattle.dfdl_number_text.specs.Digits.{digits_at, digit_count, digit_character}
-use Rattle.dfdl_number_text.specs.Reading.{reading, reading_by, base_reading, base_number, whole_if, number_if, of_value}
+use Rattle.dfdl_number_text.specs.NumberReading.{reading, reading_by, base_reading, base_number, whole_if, number_if, of_value}
 use Rattle.dfdl_number_text.specs.Writing.{writing, writing_by, base_text, base_digits}
 use Rattle.dfdl_forms.proofs.KindLemmas.{few_bits}
 use Rattle.dfdl_number_laws.proofs.BackDigits.{digits_below, length-digits_at, fold_digits, count_below, value_of_character}

@@ -23,7 +23,7 @@ use Rattle.dfdl_number_text.specs.Body.{Parts, parts_at, are_grouped, separator_
 use Rattle.dfdl_number_text.specs.Digits.{digits_at, digit_character}
 use Rattle.dfdl_number_laws.specs.ReadBack.{NeedsNoRounding, IsNotPositive, HasOneSign}
 use Rattle.dfdl_number_laws.proofs.BackPlain.{HasPlainGrouping, HasPlainDecimal, HasPlainSeparators, plain_separators}
-use Rattle.dfdl_number_text.specs.Reading.{reading, reading_by, of_value, number_if, or_else, signed_number}
+use Rattle.dfdl_number_text.specs.NumberReading.{reading, reading_by, of_value, number_if, or_else, signed_number}
 use Rattle.dfdl_number_text.specs.Writing.{number_of_value, is_below_zero, places_of, size_at, grouped, integer_digits, least_digits, written_fraction, behind_integer, body_text, signed_text, pattern_text, writing, writing_by}
 use Rattle.dfdl_number_laws.proofs.BackDigits.{decimal_digits, digits_behind, integer_number, integer_length, length-digits_at}
 use Rattle.dfdl_number_laws.proofs.BackGroups.{grouped_longer, separated_are_grouped, separated_digits, separated_without}

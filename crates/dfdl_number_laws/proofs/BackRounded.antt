@@ -14,7 +14,7 @@ use Rattle.dfdl_decimal.proofs.FixedLemmas.{int_div-with_sign, unsigned_abs-with
 use Rattle.dfdl_decimal.proofs.OrderLemmas.{pow_some, pow_split}
 use Rattle.dfdl_forms.specs.declared.number.Rounding.{Rounding}
 use Rattle.dfdl_forms.specs.declared.number_pattern.Point.{Point}
-use Rattle.dfdl_number_text.specs.Reading.{of_value}
+use Rattle.dfdl_number_text.specs.NumberReading.{of_value}
 use Rattle.dfdl_number_text.specs.Writing.{number_of_value, size_at}
 use Rattle.dfdl_number_laws.proofs.BackNumbers.{near}
 

@@ -7,7 +7,7 @@ use Rattle.dfdl_forms.specs.declared.number_pattern.NumberPattern.{NumberPattern
 use Rattle.dfdl_forms.specs.declared.number_pattern.Point.{Point}
 use Rattle.dfdl_forms.specs.declared.number_pattern.Point.TheVariants.{Written, Implied}
 use Rattle.dfdl_number_text.specs.Body.{separator_of, is_separator}
-use Rattle.dfdl_number_text.specs.Reading.{signed_number}
+use Rattle.dfdl_number_text.specs.NumberReading.{signed_number}
 use Rattle.dfdl_number_text.specs.Writing.{body_text, places_of}
 
 -- The number has no more fraction digits than the pattern; a whole number has none. Where the decimal point is implied, a

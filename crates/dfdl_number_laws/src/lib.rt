@@ -14,7 +14,7 @@ ghost use Rattle.dfdl_value.specs.declared.value.Value.{Value};
 ghost use Rattle.dfdl_forms.specs.declared.number.NumberForm.{NumberForm};
 ghost use Rattle.dfdl_forms.specs.declared.number_pattern.NumberPattern.{NumberPattern};
 ghost use Rattle.dfdl_number_laws.specs.ReadBack.{NeedsNoRounding, HasOneSign, is_of_body, tells_sign};
-ghost use Rattle.dfdl_number_text.specs.Reading.{reading, of_value};
+ghost use Rattle.dfdl_number_text.specs.NumberReading.{reading, of_value};
 ghost use Rattle.dfdl_number_text.specs.Writing.{number_of_value, is_below_zero, places_of, size_at, writing};
 
 /// What a value of a type is written as is read as that value, and as no other (`pattern`, `base`). What a pattern rounds is

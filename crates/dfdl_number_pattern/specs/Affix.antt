@@ -9,6 +9,7 @@ is_special b =
     (nat_le 48 b && nat_le b 57)
     || (b == 35 || (b == 44 || (b == 46 || (b == 86 || (b == 80 || (b == 59 || (b == 69 || (b == 64 || (b == 42 || b == 37)))))))))
 
+-- the byte stands for itself outside of quotes
 unfoldable pub is_plain : ℕ → Bool
 is_plain b = not (is_special b)
 

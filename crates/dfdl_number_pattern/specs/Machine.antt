@@ -36,6 +36,7 @@ apostrophe_next AfterC2 = None
 apostrophe_next AfterE2 = None
 apostrophe_next AfterE280 = None
 
+-- the state of quotes behind one more byte of an affix
 unfoldable pub quote_next : Quote → ℕ → Option Quote
 quote_next q b = if b == 39 then apostrophe_next q else character_next q b
 
@@ -53,24 +54,30 @@ says q b = not (b == 39) || doubles q
 abbrev pub told : Quote → ℕ → List ℕ → List ℕ
 told q b w = if says q b then w ++ b ∷ [] else w
 
+-- the digits with one more `#`
 abbrev pub hash_next : Digits → Option Digits
 hash_next d =
     if (d.zeros == 0 && may_group d.groups) && may_sign d then Some (record d { hashes = d.hashes + 1; groups = group_more d.groups })
     else None
 
+-- the digits with one more `0`
 abbrev pub zero_next : Digits → Option Digits
 zero_next d = if may_group d.groups && may_sign d then Some (record d { zeros = d.zeros + 1; groups = group_more d.groups }) else None
 
+-- the digits with these groups, if there are some
 abbrev pub with_groups : Option Groups → Digits → Option Digits
 with_groups None d = None
 with_groups (Some g) d = Some (record d { groups = g })
 
+-- the digits with one more `,`
 abbrev pub comma_next : Digits → Option Digits
 comma_next d = with_groups (group_next (sign_count d) d.groups) d
 
+-- the digits where another part begins
 abbrev pub part_next : Part → Digits → Option Digits
 part_next part d = if may_end d.groups then Some (record d { part = part }) else None
 
+-- the digits with one more byte of the integer part
 unfoldable pub integer_next : Digits → ℕ → Option Digits
 integer_next d b =
     if b == 35 then hash_next d
@@ -78,19 +85,23 @@ integer_next d b =
     else (if b == 44 then comma_next d
     else (if b == 46 then part_next Fraction d else (if b == 86 then part_next Implied d else None))))
 
+-- the digits with one more byte behind the point
 unfoldable pub fraction_next : Digits → ℕ → Option Digits
 fraction_next d b =
     if b == 48 then (if d.fraction_hashes == 0 && may_sign d then Some (record d { fraction_zeros = d.fraction_zeros + 1 }) else None)
     else (if b == 35 && may_sign d then Some (record d { fraction_hashes = d.fraction_hashes + 1 }) else None)
 
+-- the digits with one more byte behind the implied point
 unfoldable pub implied_next : Digits → ℕ → Option Digits
 implied_next d b = if b == 48 && may_sign d then Some (record d { implied = d.implied + 1 }) else None
 
+-- the digits with one more byte of this part
 abbrev pub digit_of : Part → Digits → ℕ → Option Digits
 digit_of Integer d b = integer_next d b
 digit_of Fraction d b = fraction_next d b
 digit_of Implied d b = implied_next d b
 
+-- the digits with one more byte
 abbrev pub digit_next : Digits → ℕ → Option Digits
 digit_next d b = digit_of d.part d b
 
@@ -108,6 +119,7 @@ pub record State : Type 0 where
   pub digits : Digits
   pub first : Option Subpattern
 
+-- nothing was read
 abbrev pub start : State
 start = record { place = Prefix Bare; prefix = []; suffix = []; digits = none; first = None }
 
@@ -117,6 +129,7 @@ second_after (Some f) s = None
 second_after None s =
     Some (record { place = Prefix Bare; prefix = []; suffix = []; digits = none; first = Some (record { prefix = s.prefix; suffix = s.suffix; digits = s.digits }) })
 
+-- the second sub-pattern begins
 unfoldable pub second_next : State → Option State
 second_next s = second_after s.first s
 
@@ -125,32 +138,40 @@ abbrev pub with_digits : Option Digits → State → Option State
 with_digits None s = None
 with_digits (Some d) s = Some (record s { place = Number; digits = d })
 
+-- the prefix goes on, or the digits begin
 abbrev pub prefix_or : Option Quote → Quote → State → ℕ → Option State
 prefix_or (Some r) q s b = Some (record s { place = Prefix r; prefix = told q b s.prefix })
 prefix_or None q s b = if is_whole q then with_digits (digit_next s.digits b) s else None
 
+-- one more byte where a prefix can go on
 unfoldable pub prefix_next : Quote → State → ℕ → Option State
 prefix_next q s b = prefix_or (quote_next q b) q s b
 
+-- the suffix begins, or the digits go on
 abbrev pub number_or : Option Quote → State → ℕ → Option State
 number_or (Some r) s b = if is_complete s.digits then Some (record s { place = Suffix r; suffix = told Bare b s.suffix }) else None
 number_or None s b = if b == 59 then (if is_complete s.digits then second_next s else None) else with_digits (digit_next s.digits b) s
 
+-- one more byte where digits can go on
 unfoldable pub number_next : State → ℕ → Option State
 number_next s b = number_or (quote_next Bare b) s b
 
+-- the suffix goes on, or the second sub-pattern begins
 abbrev pub suffix_or : Option Quote → Quote → State → ℕ → Option State
 suffix_or (Some r) q s b = Some (record s { place = Suffix r; suffix = told q b s.suffix })
 suffix_or None q s b = if b == 59 && is_whole q then second_next s else None
 
+-- one more byte where a suffix can go on
 unfoldable pub suffix_next : Quote → State → ℕ → Option State
 suffix_next q s b = suffix_or (quote_next q b) q s b
 
+-- one more byte at a place
 abbrev pub step_from : Place → State → ℕ → Option State
 step_from (Prefix q) s b = prefix_next q s b
 step_from Number s b = number_next s b
 step_from (Suffix q) s b = suffix_next q s b
 
+-- one more byte
 abbrev pub step : State → ℕ → Option State
 step s b = step_from s.place s b
 
@@ -160,6 +181,7 @@ accepts_at (Prefix q) d = false
 accepts_at Number d = is_complete d
 accepts_at (Suffix q) d = is_whole q
 
+-- a pattern can end here
 abbrev pub accepts : State → Bool
 accepts s = accepts_at s.place s.digits
 
@@ -168,5 +190,6 @@ abbrev pub value_after : Option Subpattern → State → Pattern
 value_after None s = pattern_of s.digits s.prefix s.suffix (45 ∷ s.prefix) s.suffix
 value_after (Some f) s = pattern_of f.digits f.prefix f.suffix s.prefix s.suffix
 
+-- the pattern that was read
 abbrev pub value : State → Pattern
 value s = value_after s.first s

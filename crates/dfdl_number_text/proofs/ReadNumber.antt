@@ -7,7 +7,7 @@ use Rattle.dfdl_value.specs.Numbers.{number_reading}
 use Rattle.dfdl_value.specs.ReadValues.{Reading}
 use Rattle.dfdl_value.proofs.NumberLemmas.{number_reading-same}
 use Rattle.dfdl_number_text.specs.declared.read_number.Number.{Number}
-use Rattle.dfdl_number_text.specs.Reading.{of_value, number_if}
+use Rattle.dfdl_number_text.specs.NumberReading.{of_value, number_if}
 use Rattle.dfdl_number_text.specs.ReadShown.{Shows}
 
 -- what is read of a number, by whether its digits are held

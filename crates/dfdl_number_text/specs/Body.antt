@@ -55,6 +55,7 @@ parts_at Written decimal implied body =
 parts_at Implied decimal implied body =
     record { whole = take (length body - implied) body; fraction = drop (length body - implied) body; scale = implied }
 
+-- the digits of a body before and behind its point
 abbrev pub parts_of : NumberForm → NumberPattern → List ℕ → Parts
 parts_of form pattern body = parts_at pattern.point form.decimal pattern.implied body
 

@@ -1,7 +1,7 @@
 pub mod Body
 pub mod Digits
 pub mod ReadShown
-pub mod Reading
+pub mod NumberReading
 pub mod Rounding
 pub mod Writing
 pub mod Written

@@ -1,6 +1,6 @@
 // The reading of a text number whose characters are bytes.
 ghost use Rattle.std.specs.Prelude.{◌≡◌, ◌≤◌, ◌++◌, drop, length};
-ghost use Rattle.dfdl_number_text.specs.Reading.{reading};
+ghost use Rattle.dfdl_number_text.specs.NumberReading.{reading};
 
 use crate::fault::NumberFault;
 use crate::reading::read;

@@ -1,6 +1,6 @@
 //! Text numbers: what value the characters of a number are read as, and what characters a value is written as.
 //!
-//! The contracts cite `reading` of `specs/Reading.antt` and `writing` of `specs/Writing.antt`; `specs/Rounding.antt` has
+//! The contracts cite `reading` of `specs/NumberReading.antt` and `writing` of `specs/Writing.antt`; `specs/Rounding.antt` has
 //! the rounding modes. It serves 'The DFDL Number Pattern' and 'Properties Specific to Number with Text Representation'.
 //! That what is written is read back is the law of dfdl_number_laws.
 #![tactic(auto)]

@@ -4,7 +4,7 @@ ghost use Rattle.std.specs.Char.{digit_value};
 ghost use Rattle.std.specs.List.{list_all};
 ghost use Rattle.std.specs.Option.{SomeIff};
 ghost use Rattle.dfdl_forms.specs.Types.{form_of};
-ghost use Rattle.dfdl_number_text.specs.Reading.{base_number as base_number_of, base_reading, whole_if};
+ghost use Rattle.dfdl_number_text.specs.NumberReading.{base_number as base_number_of, base_reading, whole_if};
 ghost use Rattle.dfdl_number_text.specs.ReadShown.{Shows};
 
 use crate::fault::NumberFault;

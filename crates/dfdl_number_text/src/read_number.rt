@@ -2,7 +2,7 @@
 ghost use Rattle.std.specs.Prelude.{◌≡◌, Option};
 ghost use Rattle.dfdl_decimal.specs.Decimal.{DecimalNumber};
 ghost use Rattle.dfdl_forms.specs.Types.{form_of};
-ghost use Rattle.dfdl_number_text.specs.Reading.{fault_of, number_if};
+ghost use Rattle.dfdl_number_text.specs.NumberReading.{fault_of, number_if};
 ghost use Rattle.dfdl_number_text.specs.ReadShown.{Shows};
 
 use crate::fault::NumberFault;

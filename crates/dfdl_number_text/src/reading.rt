@@ -1,6 +1,6 @@
 // The reading of a text number.
 ghost use Rattle.std.specs.Prelude.{◌≡◌};
-ghost use Rattle.dfdl_number_text.specs.Reading.{pattern_number as pattern_number_of, reading, signed_number as signed_number_of};
+ghost use Rattle.dfdl_number_text.specs.NumberReading.{pattern_number as pattern_number_of, reading, signed_number as signed_number_of};
 ghost use Rattle.dfdl_number_text.specs.ReadShown.{Shows};
 
 use crate::body::body_number;

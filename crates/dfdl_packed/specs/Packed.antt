@@ -21,6 +21,7 @@ use Rattle.dfdl_packed.specs.Typed.{value_in, integer_in}
 unfoldable pub nibbles_of : BitOrder → List ℕ → ℕ → ℕ → List ℕ
 nibbles_of bits_by bytes bit count = map (λ i. number_of bytes (bit + 4 * i) 4 Big bits_by) (range_with_len 0 count)
 
+-- the nibbles of the field that begins at a bit
 abbrev pub nibbles_in : PackedForm → List ℕ → ℕ → List ℕ
 nibbles_in form bytes bit = nibbles_of form.bits_by bytes bit form.nibbles
 
@@ -40,6 +41,7 @@ lax_sign is_zero nibble =
     else (if nibble == 11 || nibble == 13 then Some true
     else (if nibble == 0 && is_zero then Some false else None))
 
+-- the sign of a sign nibble, by the form
 abbrev pub sign_of : PackedForm → Bool → ℕ → Option Bool
 sign_of form is_zero nibble = if form.strict then strict_sign form.codes is_zero nibble else lax_sign is_zero nibble
 
@@ -53,6 +55,7 @@ abbrev pub some_digits : Bool → List ℕ → Option (Bool × ℕ)
 some_digits negative [] = None
 some_digits negative (digit ∷ digits) = signed_digits (Some negative) (digit ∷ digits)
 
+-- a packed number: digits, and a sign nibble behind them
 abbrev pub packed_number : PackedForm → List ℕ → Option (Bool × ℕ)
 packed_number form nibbles =
     let digits = take (length nibbles - 1) nibbles in
@@ -65,11 +68,13 @@ ibm_number (nibble ∷ nibbles) =
     if nibble == 15 then ibm_number nibbles
     else (if nibble == 13 then some_digits true nibbles else some_digits false (nibble ∷ nibbles))
 
+-- the sign and the size, by the representation
 abbrev pub number_by : PackedRep → PackedForm → List ℕ → Option (Bool × ℕ)
 number_by Packed form nibbles = packed_number form nibbles
 number_by Bcd form nibbles = some_digits false nibbles
 number_by Ibm4690 form nibbles = ibm_number nibbles
 
+-- the value of a sign and a size, if they are there
 abbrev pub value_if : PackedForm → Option (Bool × ℕ) → Result Value PackedFault
 value_if form None = Err BadNibble
 value_if form (Some number) = value_in (form_of form.kind) form.point number.0 number.1
@@ -80,6 +85,7 @@ packed_reading form nibbles = value_if form (number_by form.rep form nibbles)
 
 -- ---- writing
 
+-- the number is below zero
 abbrev pub is_negative : ℤ → Bool
 is_negative (pos n) = false
 is_negative (negsuc n) = true
@@ -95,10 +101,12 @@ code_in _ codes (negsuc n) = slice_index codes 1
 abbrev pub digits_in : ℕ → ℕ → Option (List ℕ)
 digits_in len n = if nat_lt n (10 ^ len) then Some (padded_digits len n) else None
 
+-- the digits, if they are there, and a sign nibble behind them
 abbrev pub with_code : Option (List ℕ) → ℕ → Option (List ℕ)
 with_code None code = None
 with_code (Some digits) code = Some (digits ++ code ∷ [])
 
+-- the nibbles of a BCD number, which has no sign
 abbrev pub bcd_nibbles : ℕ → ℤ → Option (List ℕ)
 bcd_nibbles count (pos n) = digits_in count n
 bcd_nibbles count (negsuc n) = None
@@ -111,15 +119,18 @@ ibm_filled count mark n =
     then Some (replicate (count - (length mark + len)) 15 ++ mark ++ padded_digits len n)
     else None
 
+-- the nibbles of an IBM 4690 number: filled, then its mark if it is negative, then digits
 abbrev pub ibm_nibbles : ℕ → ℤ → Option (List ℕ)
 ibm_nibbles count (pos n) = ibm_filled count [] n
 ibm_nibbles count (negsuc n) = ibm_filled count (13 ∷ []) (suc n)
 
+-- the nibbles, by the representation
 abbrev pub nibbles_by : PackedRep → PackedForm → ℤ → Option (List ℕ)
 nibbles_by Packed form z = with_code (digits_in (form.nibbles - 1) (unsigned_abs z)) (code_in (form_of form.kind) form.codes z)
 nibbles_by Bcd form z = bcd_nibbles form.nibbles z
 nibbles_by Ibm4690 form z = ibm_nibbles form.nibbles z
 
+-- the nibbles of a number, if it is there
 abbrev pub nibbles_if : PackedForm → Option ℤ → Option (List ℕ)
 nibbles_if form None = None
 nibbles_if form (Some z) = nibbles_by form.rep form z

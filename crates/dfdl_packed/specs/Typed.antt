@@ -14,10 +14,12 @@ abbrev pub signed_value : ℕ → ℤ → Result Value PackedFault
 signed_value bits (pos n) = if nat_lt n (2 ^ (bits - 1)) then Ok (Int (pos n)) else Err PastType
 signed_value bits (negsuc n) = if nat_lt n (2 ^ (bits - 1)) then Ok (Int (negsuc n)) else Err PastType
 
+-- an unsigned value, if the number is one of so many bits
 abbrev pub unsigned_value : ℕ → ℤ → Result Value PackedFault
 unsigned_value bits (pos n) = if nat_lt n (2 ^ bits) then Ok (Uns n) else Err PastType
 unsigned_value bits (negsuc n) = Err PastType
 
+-- a decimal, if the number has a form
 abbrev pub decimal_value : Option DecimalNumber → Result Value PackedFault
 decimal_value None = Err PastType
 decimal_value (Some d) = Ok (Dec d)

@@ -28,6 +28,7 @@ abbrev pub counted_from : ℕ → ℕ → ℕ → Bool → ℕ → Option (Bool 
 counted_from first count digit negative char =
     if nat_le first char && nat_lt char (first + count) then Some (negative, char - first + digit) else None
 
+-- the first, if it is there, else the second
 abbrev pub or_else : Option (Bool × ℕ) → Option (Bool × ℕ) → Option (Bool × ℕ)
 or_else None other = other
 or_else (Some found) other = Some found
@@ -50,6 +51,7 @@ number_around before (Some signed) behind =
     then Some (signed.0, number_behind (number_behind 0 before * 10 + signed.1) behind)
     else None
 
+-- the sign and the size that characters are read as
 abbrev pub zoned_number : ZonedForm → List ℕ → Option (Bool × ℕ)
 zoned_number form [] = None
 zoned_number form (char ∷ chars) =
@@ -57,6 +59,7 @@ zoned_number form (char ∷ chars) =
     if form.first then number_around [] (sign_digit form.style char) chars
     else number_around (take (length chars) all) (sign_digit form.style (slice_index all (length chars))) []
 
+-- the value of a sign and a size, if they are there
 abbrev pub zoned_value_if : ZonedForm → Option (Bool × ℕ) → Result Value PackedFault
 zoned_value_if form None = Err BadNibble
 zoned_value_if form (Some number) = value_in (form_of form.kind) form.point number.0 number.1
@@ -91,6 +94,7 @@ signed_chars kind form negative (digit ∷ digits) =
     if form.first then char_in kind form.style negative digit ∷ map plain_char digits
     else map plain_char (take (length digits) all) ++ char_in kind form.style negative (slice_index all (length digits)) ∷ []
 
+-- the characters of a number, if it is there
 abbrev pub chars_if : ZonedForm → Option ℤ → Option (List ℕ)
 chars_if form None = None
 chars_if form (Some z) =

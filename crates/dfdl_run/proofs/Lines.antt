@@ -17,7 +17,7 @@ use Rattle.dfdl_run.specs.declared.answer.Answer.TheVariants.{Done, LeftOver, Fa
 use Rattle.dfdl_report.specs.Paths.{field_path}
 use Rattle.dfdl_record.specs.Outcomes.{Item, Outcome, Read, Ends, with_member, outcome_of}
 use Rattle.dfdl_run.specs.Meaning.{line_of, answer_at, parse_answer}
-use Rattle.dfdl_run.specs.Reading.{AllRead, EndsAt, reached}
+use Rattle.dfdl_run.specs.RecordReading.{AllRead, EndsAt, reached}
 
 put-no_float : (k : List ℕ) (d : Data) (ms : Members) → has_float d ≡ false
     → members_have_float ms ≡ false → members_have_float (put k d ms) ≡ false

@@ -11,7 +11,7 @@ use Rattle.dfdl_terms.proofs.RecordLemmas.{next_field}
 use Rattle.dfdl_terms.specs.Record.{Field, all_of, field_at, fields_at}
 use Rattle.dfdl_record.specs.Outcomes.{Outcome, Read, Ends, with_item, with_member, number_at}
 use Rattle.dfdl_record.specs.Outcomes.{outcome_of, Item}
-use Rattle.dfdl_run.specs.Reading.{AllRead, EndsAt, reached}
+use Rattle.dfdl_run.specs.RecordReading.{AllRead, EndsAt, reached}
 
 -- where the reader stands in a record's data: the fields that are left, and the members so far
 pub record IsAt (t : Table) (rows : List ℕ) (k : ℕ) (bytes : List ℕ) (bit : ℕ)

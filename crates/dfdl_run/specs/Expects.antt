@@ -15,10 +15,11 @@ use Rattle.dfdl_run.specs.Command.{Order, Orders, IsCommand}
 use Rattle.dfdl_run.specs.Meaning.{answer_of}
 use Rattle.dfdl_run.specs.Outside.{Inputs, Outputs, Outside}
 
--- the most bytes of a schema file, and of the source
+-- the most bytes of a schema file
 abbrev pub most_schema : ℕ
 most_schema = 4194304
 
+-- the most bytes of the source
 abbrev pub most_input : ℕ
 most_input = 2 ^ 30
 

@@ -7,6 +7,6 @@ pub mod Finished
 pub mod Loaded
 pub mod Meaning
 pub mod Outside
-pub mod Reading
+pub mod RecordReading
 pub mod RoundTrip
 pub mod Run

@@ -27,15 +27,17 @@ pub record NamesFile (words : List (List ℕ)) (before after : Outside) : Type 0
   pub last : IsNowLast before.inputs.files.last_failed order.schema after.inputs.files.last_failed
   pub told : Tells (files_line order.schema) before.outputs.notes after.outputs.notes
 
--- a call on the source has failed, on `out`, or on the files, in this run, and the note tells it
+-- a call on the source has failed in this run, and the note tells it
 pub record SourceFails (before after : Outside) : Type 0 where
   pub rose : Rose before.inputs.source.faults after.inputs.source.faults
   pub told : Tells source_line before.outputs.notes after.outputs.notes
 
+-- a call on `out` has failed in this run, and the note tells it
 pub record SinkFails (before after : Outside) : Type 0 where
   pub rose : Rose before.outputs.out.faults after.outputs.out.faults
   pub told : Tells sink_line before.outputs.notes after.outputs.notes
 
+-- a load has failed in this run, and the note names the file
 pub record FilesFail (words : List (List ℕ)) (before after : Outside) : Type 0 where
   pub rose : Rose before.inputs.files.faults after.inputs.files.faults
   pub named : NamesFile words before after

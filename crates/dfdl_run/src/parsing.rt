@@ -10,7 +10,7 @@ ghost use Rattle.dfdl_run.specs.declared.answer.Answer.{Answer};
 ghost use Rattle.dfdl_report.specs.Paths.{field_path};
 ghost use Rattle.dfdl_record.specs.Outcomes.{outcome_of};
 ghost use Rattle.dfdl_run.specs.Meaning.{parse_answer};
-ghost use Rattle.dfdl_run.specs.Reading.{reached, reading_shown};
+ghost use Rattle.dfdl_run.specs.RecordReading.{reached, reading_shown};
 
 use crate::answer::Answer;
 use dfdl_bits::number_at;

@@ -10,6 +10,7 @@ use Rattle.dfdl_value.specs.ReadValues.{Reading, signed_reading, unsigned_readin
 abbrev pub whole_if_short : DecimalNumber → Option ℤ
 whole_if_short shortest = if shortest.scale == 0 then Some shortest.mantissa else None
 
+-- the whole number that a decimal is, if it is one
 abbrev pub whole_of : DecimalNumber → Option ℤ
 whole_of d = whole_if_short (shortest_from d.scale d.mantissa)
 

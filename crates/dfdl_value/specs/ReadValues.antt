@@ -37,6 +37,7 @@ abbrev pub fixed_reading : Option DecimalNumber → Reading
 fixed_reading None = Err PastType
 fixed_reading (Some d) = Ok (Dec d)
 
+-- the decimal of a number, if it has a form
 abbrev pub decimal_reading : Option DecimalNumber → Reading
 decimal_reading None = Err NotAValue
 decimal_reading (Some d) = fixed_reading (fixed_of d)

@@ -55,6 +55,7 @@ is_point c = c == 46
 abbrev pub whole_part : List ℕ → List ℕ
 whole_part text = before_first is_point (unsigned_part text)
 
+-- the digits behind the point
 abbrev pub fraction_part : List ℕ → List ℕ
 fraction_part text = after_first is_point (unsigned_part text)
 

@@ -14,10 +14,11 @@ HoldsMemory Characters = Unit {0}
 HoldsMemory Octets = Unit {0}
 HoldsMemory _ = ⊥
 
--- the least and the greatest number of a signed type
+-- the least number of a signed type
 abbrev pub least_signed : ℕ → ℤ
 least_signed bits = neg_ℤ (pos (2 ^ (bits - 1)))
 
+-- the greatest number of a signed type
 abbrev pub greatest_signed : ℕ → ℤ
 greatest_signed bits = pos (2 ^ (bits - 1) - 1)
 

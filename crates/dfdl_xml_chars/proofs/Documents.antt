@@ -8,8 +8,8 @@ use Rattle.dfdl_layers.proofs.AllowedTold.{allowed_teller}
 use Rattle.dfdl_layers.proofs.BytesTold.{bytes_teller}
 use Rattle.dfdl_xml_chars.specs.Characters.{is_allowed}
 use Rattle.dfdl_xml_chars.specs.Beyond.{Beyond}
-use Rattle.dfdl_xml_chars.specs.Reading.{document_step, SoundDocument, RestOfDocument}
-use Rattle.dfdl_xml_chars.specs.Reading.{ReadsCharacters}
+use Rattle.dfdl_xml_chars.specs.DocumentReading.{document_step, SoundDocument, RestOfDocument}
+use Rattle.dfdl_xml_chars.specs.DocumentReading.{ReadsCharacters}
 use Rattle.dfdl_xml_chars.proofs.Coding.{utf8_coding}
 use Rattle.dfdl_xml_chars.proofs.Foresight.{utf8_foresight}
 

@@ -2,4 +2,4 @@ pub mod Utf8
 pub mod Characters
 pub mod Beyond
 pub mod Shown
-pub mod Reading
+pub mod DocumentReading

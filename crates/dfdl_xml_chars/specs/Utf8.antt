@@ -23,9 +23,11 @@ is_pair a b =
 abbrev pub code_of_two : ℕ → ℕ → ℕ
 code_of_two a b = (a - 0xC0) * 64 + (b - 0x80)
 
+-- the code point of three bytes
 abbrev pub code_of_three : ℕ → ℕ → ℕ → ℕ
 code_of_three a b c = ((a - 0xE0) * 64 + (b - 0x80)) * 64 + (c - 0x80)
 
+-- the code point of four bytes
 abbrev pub code_of_four : ℕ → ℕ → ℕ → ℕ → ℕ
 code_of_four a b c d = (((a - 0xF0) * 64 + (b - 0x80)) * 64 + (c - 0x80)) * 64 + (d - 0x80)
 
@@ -53,6 +55,7 @@ low_of (a ∷ b ∷ []) = if nat_lt a 0xF0 then code_of_three a b 0x80 else code
 low_of (a ∷ b ∷ c ∷ []) = code_of_four a b c 0x80
 low_of _ = 0
 
+-- the greatest code point of the characters that begin with these bytes
 unfoldable pub high_of : List ℕ → ℕ
 high_of (a ∷ []) =
     if nat_lt a 0xE0 then (a - 0xC0) * 64 + 63

@@ -1,7 +1,7 @@
 use Rattle.std.proofs.Common.{Option, Err, ap, sym, subst, ◌∙◌}
 use Rattle.dfdl_forms.specs.Types.{form_of}
 use Rattle.dfdl_number_text.specs.declared.read_number.Number.{Number}
-use Rattle.dfdl_number_text.specs.Reading.{of_value}
+use Rattle.dfdl_number_text.specs.NumberReading.{of_value}
 use Rattle.dfdl_number_text.specs.ReadShown.{Shows}
 use Rattle.dfdl_number_text.proofs.ReadNumber.{value_if}
 use Rattle.dfdl_number_text.proofs.read_number.value_of.Goals as goal

@@ -5,7 +5,7 @@ use Rattle.dfdl_terms.specs.Record.{fields_at}
 use Rattle.dfdl_run.specs.declared.answer.Answer.{Answer}
 use Rattle.dfdl_run.specs.declared.answer.Answer.TheVariants.{Done, LeftOver}
 use Rattle.dfdl_record.specs.Outcomes.{outcome_of}
-use Rattle.dfdl_run.specs.Reading.{reading_shown}
+use Rattle.dfdl_run.specs.RecordReading.{reading_shown}
 use Rattle.dfdl_run.proofs.Lines.{read_no_float, answer_ends, answer_over, answer_done}
 use Rattle.dfdl_run.proofs.Lines.{record_answer}
 use Rattle.dfdl_terms.proofs.RecordLemmas.{described_root, described_fields}

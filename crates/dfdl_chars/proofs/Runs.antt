@@ -12,22 +12,22 @@ use Rattle.dfdl_chars.specs.Runs.{is_single, single_at}
 use Rattle.dfdl_chars.specs.Sequences.{is_sequence, is_begun, code_of}
 
 -- a byte in the box
-at_byte_is : (box : Boxed) (k b : ℕ) (walk : Walk) (at_end : Chars) (go : ℕ → Walk → Decoded) → 8 * k + 8 ≤ box.stop → box.look k ≡ Byte b
+pub at_byte_is : (box : Boxed) (k b : ℕ) (walk : Walk) (at_end : Chars) (go : ℕ → Walk → Decoded) → 8 * k + 8 ≤ box.stop → box.look k ≡ Byte b
     → at_byte box k walk at_end go ≡ go b (looked k walk)
 at_byte_is box k b walk at_end go inside seen =
     ap (λ t. cond t (after_look (box.look k) k walk at_end go) (found at_end walk)) (le-leb _ _ inside)
     ∙ ap (λ s. after_look s k walk at_end go) seen
 
-one_byte : (b : ℕ) → b < 128 → is_sequence (b ∷ []) ≡ true
+pub one_byte : (b : ℕ) → b < 128 → is_sequence (b ∷ []) ≡ true
 unfolding is_sequence
 one_byte b small = grind (arith, nat_tests)
 
-no_one_byte : (b : ℕ) → 128 ≤ b → is_sequence (b ∷ []) ≡ false
+pub no_one_byte : (b : ℕ) → 128 ≤ b → is_sequence (b ∷ []) ≡ false
 unfolding is_sequence
 no_one_byte b high = grind (arith, nat_tests)
 
 -- UTF-8 looks at a first byte, whatever it is
-first_byte : (box : Boxed) (k : ℕ) (walk : Walk)
+pub first_byte : (box : Boxed) (k : ℕ) (walk : Walk)
     → utf8_after 4 box k [] walk ≡ at_byte box k walk End (λ b w. utf8_after 3 box k (b ∷ []) w)
 unfolding is_sequence is_begun
 first_byte box k walk = ap (λ at. at_byte box at walk End (λ b w. utf8_after 3 box k (b ∷ []) w)) (add-zero k)

@@ -3,3 +3,4 @@ pub mod Encodings
 pub mod Looks
 pub mod Runs
 pub mod Sequences
+pub mod Sights

@@ -5,6 +5,7 @@
 
 pub mod decode;
 pub mod encoded;
+pub mod laws;
 pub mod run;
 mod sequences;
 pub mod text;

@@ -13,6 +13,8 @@ mod size;
 #[cfg(test)]
 mod tests;
 mod typed;
+#[cfg(test)]
+mod vector_tests;
 mod writing;
 mod zoned;
 mod zoned_reading;

@@ -107,7 +107,7 @@ fn faults(rt: HostRuntime) -> Result<(), Fail> {
 #[test]
 fn texts_of_literals(rt: HostRuntime) -> Result<(), Fail> {
     let literals = read_literals(rt.alloc(), "yes %#x4A;a %%", false)?;
-    let texts = plain_texts(rt.alloc(), &literals).unwrap();
+    let texts = plain_texts(rt.alloc(), &literals)?;
     assert_eq!(rt; texts.len(), 3);
     assert_eq!(rt; texts.text(1), ['J', 'a'].as_slice());
     assert_eq!(rt; texts.text(2), ['%'].as_slice());
@@ -131,7 +131,7 @@ fn a_long_list(rt: HostRuntime) -> Result<(), Fail> {
     assert_eq!(rt; literals.len(), 3000);
     let copy = literals.copy(rt.alloc())?;
     assert_eq!(rt; copy.pieces(2999), literals.pieces(2999));
-    let texts = plain_texts(rt.alloc(), &copy).unwrap();
+    let texts = plain_texts(rt.alloc(), &copy)?;
     assert_eq!(rt; texts.text(2999), ['a', 'b', ' '].as_slice());
     Ok(())
 }

@@ -99,7 +99,7 @@ fn texts(alloc: Global, words: &[&str]) -> Result<PlainTexts, Fail> {
         }
         texts.push(text)?;
     }
-    Ok(PlainTexts::new(texts).unwrap())
+    Ok(PlainTexts::new(texts).ok_or("no texts")?)
 }
 
 fn form(alloc: Global, truths: &[&str], falses: &[&str], fold: bool) -> Result<TruthForm, Fail> {

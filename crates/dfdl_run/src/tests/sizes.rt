@@ -39,12 +39,12 @@ fn spaced(rt: &HostRuntime, text: &str, size: usize) -> Result<String, Fail> {
 
 // What stands on the source: so many bytes, or a text with spaces behind it up to a size.
 #[derive(Clone, Copy)]
-enum Input {
+enum Input<'a> {
     Sevens(usize),
-    Spaced(&'static str, usize),
+    Spaced(&'a str, usize),
 }
 
-fn bytes_of(rt: &HostRuntime, input: Input) -> Result<Vec<u8>, Fail> {
+fn bytes_of(rt: &HostRuntime, input: Input<'_>) -> Result<Vec<u8>, Fail> {
     match input {
         Input::Sevens(size) => sevens(rt, size),
         Input::Spaced(text, size) => Ok(spaced(rt, text, size)?.as_bytes().to_vec(rt.alloc())?),
@@ -53,16 +53,16 @@ fn bytes_of(rt: &HostRuntime, input: Input) -> Result<Vec<u8>, Fail> {
 
 // A run over a record of so many fields, and how it ends: its status, what it writes and what it tells.
 #[derive(Clone, Copy)]
-struct Case {
-    verb: &'static str,
+struct Case<'a> {
+    verb: &'a str,
     fields: usize,
-    input: Input,
+    input: Input<'a>,
     status: u8,
-    out: &'static str,
-    note: &'static str,
+    out: &'a str,
+    note: &'a str,
 }
 
-fn parse(fields: usize, size: usize, status: u8, out: &'static str, note: &'static str) -> Case {
+fn parse<'a>(fields: usize, size: usize, status: u8, out: &'a str, note: &'a str) -> Case<'a> {
     Case {
         verb: "parse",
         fields,
@@ -73,14 +73,14 @@ fn parse(fields: usize, size: usize, status: u8, out: &'static str, note: &'stat
     }
 }
 
-fn unparse(
+fn unparse<'a>(
     fields: usize,
-    text: &'static str,
+    text: &'a str,
     size: usize,
     status: u8,
-    out: &'static str,
-    note: &'static str,
-) -> Case {
+    out: &'a str,
+    note: &'a str,
+) -> Case<'a> {
     Case {
         verb: "unparse",
         fields,
@@ -93,7 +93,7 @@ fn unparse(
 
 #[test]
 fn records_of_other_sizes(rt: HostRuntime) -> Result<(), Fail> {
-    let cases: [Case; 18] = [
+    let cases: [Case<'_>; 18] = [
         parse(3, 2, 1, "", "error P4 at bit 16 in /r/f2: data ends\n"),
         parse(3, 3, 0, LINE_OF_3, ""),
         parse(3, 17, 11, LINE_OF_3, "left over data at bit 24\n"),
@@ -137,16 +137,23 @@ fn records_of_other_sizes(rt: HostRuntime) -> Result<(), Fail> {
     for case in cases {
         let schema = schema_of_bytes(&rt, case.fields)?;
         let data = bytes_of(&rt, case.input)?;
-        let given = Given {
-            words: &[case.verb, "s.xsd"],
-            schema: schema.as_str(),
-            data: data.as_slice(),
-            cuts: &[700, 1],
-            ..PARSE
-        };
+        let words = [case.verb, "s.xsd"];
+        let given = given_of(&words, schema.as_str(), data.as_slice());
         ends(&rt, &given, case.status, case.out, case.note)?;
     }
     Ok(())
+}
+
+// A run on these words over a schema and data, which is read in pieces.
+fn given_of<'a>(words: &'a [&'a str], schema: &'a str, data: &'a [u8]) -> Given<'a> {
+    Given {
+        words,
+        schema,
+        data,
+        cuts: &[700, 1],
+        failing_reads: &[],
+        failing_writes: &[],
+    }
 }
 
 #[test]
@@ -241,23 +248,21 @@ fn runs_of_other_sizes_are_stopped(rt: HostRuntime) -> Result<(), Fail> {
 fn values_of_many_digits_are_refused(rt: HostRuntime) -> Result<(), Fail> {
     let schema = schema_of_bytes(&rt, 3)?;
     for digits in [3usize, 17, 2_000, 100_000] {
-        let mut text = String::from_str(rt.alloc(), "{\"r\":{\"f0\":\"3\",\"f1\":\"")?;
-        for _ in 0..digits {
-            text.push('9')?;
-        }
-        text.push_str("\"}}")?;
-        let given = Given {
-            schema: schema.as_str(),
-            data: text.as_bytes(),
-            ..UNPARSE
-        };
-        ends(
-            &rt,
-            &given,
-            12,
-            "",
-            "error I7 in /r/f1: not a value of the type\n",
-        )?;
+        let text = of_nines(&rt, digits)?;
+        let words = ["unparse", "s.xsd"];
+        let given = given_of(&words, schema.as_str(), text.as_bytes());
+        let note = "error I7 in /r/f1: not a value of the type\n";
+        ends(&rt, &given, 12, "", note)?;
     }
     Ok(())
+}
+
+// An infoset whose second field has so many nines.
+fn of_nines(rt: &HostRuntime, digits: usize) -> Result<String, Fail> {
+    let mut text = String::from_str(rt.alloc(), "{\"r\":{\"f0\":\"3\",\"f1\":\"")?;
+    for _ in 0..digits {
+        text.push('9')?;
+    }
+    text.push_str("\"}}")?;
+    Ok(text)
 }

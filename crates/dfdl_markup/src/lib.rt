@@ -1,0 +1,2 @@
+//! The markup of schema documents.
+#![tactic(auto)]

@@ -1,5 +1,5 @@
 -- What may still come at each place of a document, so that the whole keeps the rules below n: with
--- any way in which the piece of markup that is open may have been written before it.
+-- any way in which the piece of markup that is open may have been written before it, by these rules.
 use Rattle.std.proofs.Common.{◌≡◌, ℕ, zero, suc, ◌+◌, ◌==◌, ◌<◌, ◌≤◌, ◌⊎◌, Bool, true, false, List, [], ◌∷◌, ◌++◌}
 use Rattle.std.proofs.Common.{length, Option, Some, None, map}
 use Rattle.std.specs.List.{flat_map}
@@ -55,18 +55,18 @@ abbrev pub dashes_of : ℕ → List ℕ
 dashes_of zero = []
 dashes_of (suc n) = 45 ∷ dashes_of n
 
--- this tag was written so, and all of it keeps all rules of its own
-pub record WroteTag (tag : StartTag) (t : Tag) : Type 0 where
+-- this tag was written so, and all of it keeps the rules of its own below n
+pub record WroteTag (n : ℕ) (tag : StartTag) (t : Tag) : Type 0 where
   pub name : t.name ≡ tag.name
   pub attributes : attributes_of t ≡ tag.attributes
   pub named : IsName t.name
-  pub given : (n : ℕ) → Each (GivenKeeps n) t.attributes
+  pub given : Each (GivenKeeps n) t.attributes
   pub space : AreWhite t.space
 
 -- a tag with white space behind it, and an attribute's name
-pub record WroteName (tag : StartTag) (front : List ℕ) (raw : List ℕ) : Type 0 where
+pub record WroteName (n : ℕ) (tag : StartTag) (front : List ℕ) (raw : List ℕ) : Type 0 where
   pub t : Tag
-  pub wrote : WroteTag tag t
+  pub wrote : WroteTag n tag t
   pub some_space : 0 < length t.space
   pub is : raw ≡ 60 ∷ (tag_characters t ++ front)
 
@@ -76,7 +76,7 @@ ReadAs (Some fixed) v items = (items ≡ map Letter v.text) × (begins v.text fi
 ReadAs None v items = (items_read false items ≡ v.text) × (ends_in_cr false items ≡ v.behind_cr)
 
 -- a tag and an attribute up to the end of what was read of its value
-pub record WroteValue (v : OpenValue) (raw : List ℕ) : Type 0 where
+pub record WroteValue (n : ℕ) (v : OpenValue) (raw : List ℕ) : Type 0 where
   pub before : List ℕ
   pub after : List ℕ
   pub items : List Item
@@ -85,39 +85,39 @@ pub record WroteValue (v : OpenValue) (raw : List ℕ) : Type 0 where
   pub white_before : AreWhite before
   pub white_after : AreWhite after
   pub read : ReadAs (fixed_value v.name) v items
-  pub keep : (n : ℕ) → Each (ItemKeeps n v.quote) items
-  pub wrote : WroteName v.tag (given_start v.name before after v.quote ++ flat_map item_characters items) raw
+  pub keep : Each (ItemKeeps n v.quote) items
+  pub wrote : WroteName n v.tag (given_start v.name before after v.quote ++ flat_map item_characters items) raw
 
 -- what stands before a reference
-abbrev pub WroteWithin : Within → List ℕ → Type 0
-WroteWithin InContent raw = raw ≡ []
-WroteWithin (InValue v) raw = WroteValue v raw × (fixed_value v.name ≡ None)
+abbrev pub WroteWithin : ℕ → Within → List ℕ → Type 0
+WroteWithin n InContent raw = raw ≡ []
+WroteWithin n (InValue v) raw = WroteValue n v raw × (fixed_value v.name ≡ None)
 
 -- and this behind it
-abbrev pub WroteReference : Within → List ℕ → List ℕ → Type 0
-WroteReference within inside raw = (front : List ℕ) × WroteWithin within front × (raw ≡ front ++ 38 ∷ inside)
+abbrev pub WroteReference : ℕ → Within → List ℕ → List ℕ → Type 0
+WroteReference n within inside raw = (front : List ℕ) × WroteWithin n within front × (raw ≡ front ++ 38 ∷ inside)
 
 -- what was said in the XML declaration, with the white space behind it
-pub data WroteSaid (raw : List ℕ) : Option Said → (space : List ℕ) → Type 0 where
-  WroteNone : (space : List ℕ) → raw ≡ 60 ∷ 63 ∷ (xml_word ++ space) → WroteSaid raw None space
+pub data WroteSaid (n : ℕ) (raw : List ℕ) : Option Said → (space : List ℕ) → Type 0 where
+  WroteNone : (space : List ℕ) → raw ≡ 60 ∷ 63 ∷ (xml_word ++ space) → WroteSaid n raw None space
   WroteVersion : (version : Saying) (space : List ℕ) → SayingKeeps version
       → version.value ≡ version_value
       → raw ≡ 60 ∷ 63 ∷ (xml_word ++ (saying_characters Version version ++ space))
-      → WroteSaid raw (Some Version) space
+      → WroteSaid n raw (Some Version) space
   WroteEncoding : (version encoding : Saying) (space : List ℕ) → SayingKeeps version
       → version.value ≡ version_value → SayingKeeps encoding
-      → ((n : ℕ) → EncodingKeeps n encoding.value)
+      → EncodingKeeps n encoding.value
       → raw ≡ 60 ∷ 63 ∷ (xml_word ++ (saying_characters Version version
           ++ (saying_characters Encoding encoding ++ space)))
-      → WroteSaid raw (Some Encoding) space
+      → WroteSaid n raw (Some Encoding) space
   WroteStandalone : (version standalone : Saying) (encoding : Option Saying) (space : List ℕ)
       → SayingKeeps version
-      → version.value ≡ version_value → ((n : ℕ) → SaysEncoding n encoding)
+      → version.value ≡ version_value → SaysEncoding n encoding
       → SaysStandalone (Some standalone)
       → raw ≡ 60 ∷ 63 ∷ (xml_word ++ (saying_characters Version version
           ++ (optional_characters Encoding encoding
           ++ (saying_characters Standalone standalone ++ space))))
-      → WroteSaid raw (Some Standalone) space
+      → WroteSaid n raw (Some Standalone) space
 
 -- what is said next may stand behind what was said last
 abbrev pub Follows : Option Said → Said → Type 0
@@ -128,79 +128,79 @@ Follows (Some Encoding) Standalone = Unit {0}
 Follows _ _ = ⊥
 
 -- what was said, white space, and what is begun to be said
-pub record WroteSaying (said : Said) (inside : List ℕ) (raw : List ℕ) : Type 0 where
+pub record WroteSaying (n : ℕ) (said : Said) (inside : List ℕ) (raw : List ℕ) : Type 0 where
   pub last : Option Said
   pub front : List ℕ
   pub space : List ℕ
-  pub wrote : WroteSaid front last space
+  pub wrote : WroteSaid n front last space
   pub white : AreWhite space
   pub some_space : 0 < length space
   pub follows : Follows last said
   pub is : raw ≡ front ++ inside
 
--- the piece of markup that is open at the place may have been written so, where an end tag must have
--- the name `want`
-abbrev pub Wrote : List ℕ → Place → List ℕ → Type 0
-Wrote want (AtContent before) raw = raw ≡ []
-Wrote want AtOpened raw = raw ≡ 60 ∷ []
-Wrote want AtBang raw = raw ≡ 60 ∷ 33 ∷ []
-Wrote want AtDash raw = raw ≡ 60 ∷ 33 ∷ 45 ∷ []
-Wrote want (AtComment dashes) raw =
+-- by the rules below n, the piece of markup that is open at the place may have been written so, where
+-- an end tag must have the name `want`
+abbrev pub Wrote : ℕ → List ℕ → Place → List ℕ → Type 0
+Wrote n want (AtContent before) raw = raw ≡ []
+Wrote n want AtOpened raw = raw ≡ 60 ∷ []
+Wrote n want AtBang raw = raw ≡ 60 ∷ 33 ∷ []
+Wrote n want AtDash raw = raw ≡ 60 ∷ 33 ∷ 45 ∷ []
+Wrote n want (AtComment dashes) raw =
     (text : List ℕ) × IsCommentText false text
     × (raw ≡ 60 ∷ 33 ∷ 45 ∷ 45 ∷ (text ++ dashes_of dashes))
-Wrote want (AtSectionWord left) raw =
+Wrote n want (AtSectionWord left) raw =
     (word : List ℕ) × (word ++ left ≡ section_word) × (raw ≡ 60 ∷ 33 ∷ 91 ∷ word)
-Wrote want (AtSection before) raw =
+Wrote n want (AtSection before) raw =
     (text : List ℕ) × HasNoEnd 0 text × (brackets_behind 0 text ≡ before)
     × (raw ≡ 60 ∷ 33 ∷ 91 ∷ (section_word ++ text))
-Wrote want AtQuestion raw = raw ≡ 60 ∷ 63 ∷ []
-Wrote want (AtTarget target) raw = (raw ≡ 60 ∷ 63 ∷ target) × IsPart target
-Wrote want AtTargetEnd raw = (target : List ℕ) × IsPart target × (raw ≡ 60 ∷ 63 ∷ (target ++ 63 ∷ []))
+Wrote n want AtQuestion raw = raw ≡ 60 ∷ 63 ∷ []
+Wrote n want (AtTarget target) raw = (raw ≡ 60 ∷ 63 ∷ target) × IsPart target
+Wrote n want AtTargetEnd raw = (target : List ℕ) × IsPart target × (raw ≡ 60 ∷ 63 ∷ (target ++ 63 ∷ []))
     × (is_xml target ≡ false)
-Wrote want (AtInstruction mark) raw =
+Wrote n want (AtInstruction mark) raw =
     (target : List ℕ) × (text : List ℕ) × IsPart target × (is_xml target ≡ false)
     × ((w : ℕ) × (more : List ℕ) × (text ≡ w ∷ more) × (is_white w ≡ true) × HasNoMark false more
     × (mark_behind false more ≡ mark))
     × (raw ≡ 60 ∷ 63 ∷ (target ++ text))
-Wrote want (AtTagName reading) raw = (raw ≡ 60 ∷ reading_characters reading) × IsReading reading
-Wrote want (AtTag tag spaced) raw =
-    (t : Tag) × WroteTag tag t × (raw ≡ 60 ∷ tag_characters t) × (spaced ≡ true → 0 < length t.space)
-Wrote want (AtAttributeName tag reading) raw = WroteName tag (reading_characters reading) raw × IsReading reading
-Wrote want (AtNamed tag name) raw =
-    (before : List ℕ) × AreWhite before × IsName name × WroteName tag (name_characters name ++ before) raw
-Wrote want (AtEquals tag name) raw =
+Wrote n want (AtTagName reading) raw = (raw ≡ 60 ∷ reading_characters reading) × IsReading reading
+Wrote n want (AtTag tag spaced) raw =
+    (t : Tag) × WroteTag n tag t × (raw ≡ 60 ∷ tag_characters t) × (spaced ≡ true → 0 < length t.space)
+Wrote n want (AtAttributeName tag reading) raw = WroteName n tag (reading_characters reading) raw × IsReading reading
+Wrote n want (AtNamed tag name) raw =
+    (before : List ℕ) × AreWhite before × IsName name × WroteName n tag (name_characters name ++ before) raw
+Wrote n want (AtEquals tag name) raw =
     (before : List ℕ) × (after : List ℕ) × AreWhite before × AreWhite after × IsName name
-    × WroteName tag (name_characters name ++ (before ++ 61 ∷ after)) raw
-Wrote want (AtValue v) raw = WroteValue v raw
-Wrote want (AtSlash tag) raw = (t : Tag) × WroteTag tag t × (raw ≡ 60 ∷ (tag_characters t ++ 47 ∷ []))
-Wrote want AtEndTag raw = raw ≡ 60 ∷ 47 ∷ []
-Wrote want (AtEndName reading left) raw = (raw ≡ 60 ∷ 47 ∷ reading_characters reading) × IsReading reading
-Wrote want AtEndSpace raw =
+    × WroteName n tag (name_characters name ++ (before ++ 61 ∷ after)) raw
+Wrote n want (AtValue v) raw = WroteValue n v raw
+Wrote n want (AtSlash tag) raw = (t : Tag) × WroteTag n tag t × (raw ≡ 60 ∷ (tag_characters t ++ 47 ∷ []))
+Wrote n want AtEndTag raw = raw ≡ 60 ∷ 47 ∷ []
+Wrote n want (AtEndName reading left) raw = (raw ≡ 60 ∷ 47 ∷ reading_characters reading) × IsReading reading
+Wrote n want AtEndSpace raw =
     (name : Name) × (space : List ℕ) × IsName name × AreWhite space × (name_characters name ≡ want)
     × (raw ≡ 60 ∷ 47 ∷ (name_characters name ++ space))
-Wrote want (AtReference within) raw = WroteReference within [] raw
-Wrote want (AtEntity within name) raw = WroteReference within name raw × IsPart name
-Wrote want (AtHash within) raw = WroteReference within (35 ∷ []) raw
-Wrote want (AtHexadecimal within) raw = WroteReference within (35 ∷ 120 ∷ []) raw
-Wrote want (AtNumber within hexadecimal value) raw =
+Wrote n want (AtReference within) raw = WroteReference n within [] raw
+Wrote n want (AtEntity within name) raw = WroteReference n within name raw × IsPart name
+Wrote n want (AtHash within) raw = WroteReference n within (35 ∷ []) raw
+Wrote n want (AtHexadecimal within) raw = WroteReference n within (35 ∷ 120 ∷ []) raw
+Wrote n want (AtNumber within hexadecimal value) raw =
     (digits : List ℕ) × (0 < length digits) × Each (λ c. is_digit hexadecimal c ≡ true) digits
     × (number_on hexadecimal 0 digits ≡ value)
-    × WroteReference within (35 ∷ (base_mark hexadecimal ++ digits)) raw
-Wrote want (AtDeclaration last spaced) raw =
-    (space : List ℕ) × WroteSaid raw last space × AreWhite space × (spaced ≡ true → 0 < length space)
-Wrote want (AtSaidWord said left) raw =
-    (word : List ℕ) × (word ++ left ≡ said_word said) × WroteSaying said word raw
-Wrote want (AtSaid said) raw =
-    (before : List ℕ) × AreWhite before × WroteSaying said (said_word said ++ before) raw
-Wrote want (AtSaidEquals said) raw =
+    × WroteReference n within (35 ∷ (base_mark hexadecimal ++ digits)) raw
+Wrote n want (AtDeclaration last spaced) raw =
+    (space : List ℕ) × WroteSaid n raw last space × AreWhite space × (spaced ≡ true → 0 < length space)
+Wrote n want (AtSaidWord said left) raw =
+    (word : List ℕ) × (word ++ left ≡ said_word said) × WroteSaying n said word raw
+Wrote n want (AtSaid said) raw =
+    (before : List ℕ) × AreWhite before × WroteSaying n said (said_word said ++ before) raw
+Wrote n want (AtSaidEquals said) raw =
     (before : List ℕ) × (after : List ℕ) × AreWhite before × AreWhite after
-    × WroteSaying said (said_word said ++ (before ++ 61 ∷ after)) raw
-Wrote want (AtSaidValue said quote read) raw =
+    × WroteSaying n said (said_word said ++ (before ++ 61 ∷ after)) raw
+Wrote n want (AtSaidValue said quote read) raw =
     (before : List ℕ) × (after : List ℕ) × (value : List ℕ) × AreWhite before × AreWhite after × (is_quote quote ≡ true)
     × (map (said_character said) value ≡ read)
-    × WroteSaying said (said_word said ++ (before ++ 61 ∷ (after ++ quote ∷ value))) raw
-Wrote want AtDeclarationEnd raw =
-    (declaration : Declaration) × ((n : ℕ) → MayDeclareItself n (Some declaration))
+    × WroteSaying n said (said_word said ++ (before ++ 61 ∷ (after ++ quote ∷ value))) raw
+Wrote n want AtDeclarationEnd raw =
+    (declaration : Declaration) × MayDeclareItself n (Some declaration)
     × (raw ++ 62 ∷ [] ≡ declaration_characters (Some declaration))
 
 -- a content, and what comes behind it
@@ -255,7 +255,7 @@ brackets_at _ = 0
 
 -- what may follow at the state
 pub record From (n : ℕ) (s : State) (text : List ℕ) : Type 0 where
-  pub whole : (raw : List ℕ) → Wrote (wanted s.frames) s.place raw
+  pub whole : (raw : List ℕ) → Wrote n (wanted s.frames) s.place raw
       → Whole s.ahead n s.begun s.frames (brackets_at s.place) (raw ++ text)
 
 abbrev pub Rest : ℕ → State → List ℕ → Type 0

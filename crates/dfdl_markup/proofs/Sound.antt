@@ -6,7 +6,7 @@ use Rattle.std.specs.Str.{bytes_eq}
 use Rattle.dfdl_layers.specs.Tellers.{Each}
 use Rattle.dfdl_markup.specs.Grammar.{Name, name_characters, Said, is_quote, section_word, said_word}
 use Rattle.dfdl_markup.specs.Values.{Attribute, same_name, bindings_of, same_expanded, have_same}
-use Rattle.dfdl_markup.specs.Values.{names_of}
+use Rattle.dfdl_markup.specs.Values.{names_of, declares}
 use Rattle.dfdl_markup.specs.Rules.{IsPart, IsName, deepest}
 use Rattle.dfdl_markup.specs.Machine.{Reading, StartTag, OpenValue, Within, InContent, InValue, Place}
 use Rattle.dfdl_markup.specs.Machine.{AtContent, AtOpened, AtBang, AtDash, AtComment, AtSectionWord}
@@ -18,6 +18,7 @@ use Rattle.dfdl_markup.specs.Machine.{AtSaid, AtSaidEquals, AtSaidValue, AtDecla
 use Rattle.dfdl_markup.specs.Machine.{MarkAhead, DeclarationAhead, NothingAhead, Frame, State}
 use Rattle.dfdl_markup.specs.Machine.{may_begin, have_clash, all_found, scope_of, is_given}
 use Rattle.dfdl_markup.specs.Machine.{fixed_value, begins, begins_entity, said_values, wanted}
+use Rattle.dfdl_markup.specs.Machine.{may_close}
 use Rattle.dfdl_markup.proofs.Rest.{reading_characters, IsReading}
 
 -- the open elements have names, and are so many at most
@@ -34,12 +35,19 @@ abbrev pub IsInside : List Frame → Type 0
 IsInside [] = ⊥
 IsInside (frame ∷ frames) = Unit {0}
 
--- a start tag as far as it was read: its names are names, and none is given twice so far
+-- what an attribute declares, if it does, may be declared
+abbrev pub MayStand : Attribute → Type 0
+MayStand attribute =
+    may_close (declares attribute.name) (fixed_value attribute.name) attribute.value ≡ true
+
+-- a start tag as far as it was read: its names are names, none is given twice so far, and what is
+-- declared may be
 pub record SoundTag (tag : StartTag) : Type 0 where
   pub name : IsName tag.name
   pub names : Each IsName (names_of tag.attributes)
   pub written : have_same same_name (names_of tag.attributes) ≡ false
   pub expanded : have_same (same_expanded (bindings_of tag.attributes)) (names_of tag.attributes) ≡ false
+  pub binds : Each MayStand tag.attributes
 
 -- an element may begin where its start tag is
 abbrev pub MayBegin : ℕ → List Frame → Type 0

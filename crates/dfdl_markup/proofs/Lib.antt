@@ -1,3 +1,4 @@
 pub mod Rest
 pub mod Sound
 pub mod Answers
+pub mod Closing

@@ -1,36 +1,34 @@
 -- How a document ends from any place in it, and what a piece of markup in front of the rest makes of
 -- the rest.
-use Rattle.std.proofs.Common.{◌≡◌, ℕ, zero, suc, ◌+◌, ◌<◌, ◌≤◌, ◌||◌, ◌≢◌, nat_lt, Bool, true, false, List, [], ◌∷◌, ◌++◌}
+use Rattle.std.proofs.Common.{◌≡◌, ℕ, zero, suc, ◌+◌, ◌<◌, ◌≤◌, ◌||◌, ◌≢◌, nat_lt, true, false, List, [], ◌∷◌, ◌++◌}
 use Rattle.std.proofs.Common.{length, Option, Some, None, refl, ap, sym, subst, ◌∙◌, arith, inl, inr}
 use Rattle.std.proofs.Common.{append_assoc}
 use Rattle.std.proofs.lemmas.Bool.{cases_Bool, cond_both, ltb-true}
 use Rattle.std.proofs.lemmas.Bool.Decides.{nat_tests}
 use Rattle.std.proofs.lemmas.Slice.Eq.{bytes_eq-Decides}
 use Rattle.std.specs.Char.{IsScalar}
-use Rattle.std.specs.List.{flat_map}
 use Rattle.dfdl_layers.specs.Tellers.{Each}
-use Rattle.dfdl_layers.specs.Allowed.{GoodAllowed}
 use Rattle.dfdl_xml_chars.specs.Characters.{is_in, is_allowed, is_name_start, is_name_char, char_rows}
 use Rattle.dfdl_xml_chars.specs.Characters.{low_name_rows, low_start_rows, high_name_rows}
 use Rattle.dfdl_xml_chars.specs.Characters.{high_start_rows, high_mark_rows}
 use Rattle.dfdl_xml_chars.proofs.Tables.{allowed_in, name_rows_allowed, in_others}
-use Rattle.dfdl_markup.specs.Grammar.{is_white, Name, Plain, Prefixed, name_characters, Given, Tag}
-use Rattle.dfdl_markup.specs.Grammar.{given_characters, tag_characters, Content, Nothing, Character}
+use Rattle.dfdl_markup.specs.Grammar.{is_white, Name, Plain, Prefixed, name_characters, Tag}
+use Rattle.dfdl_markup.specs.Grammar.{tag_characters, Content, Nothing, Character}
 use Rattle.dfdl_markup.specs.Grammar.{Referring, Comment, Instruction, Section, Single, Nested}
 use Rattle.dfdl_markup.specs.Grammar.{spelling, Reference, reference_characters, section_word}
 use Rattle.dfdl_markup.specs.Grammar.{Declaration, declaration_characters}
-use Rattle.dfdl_markup.specs.Values.{Binding, outer_scope, same_name, scope_in}
+use Rattle.dfdl_markup.specs.Values.{outer_scope, same_name, scope_in}
 use Rattle.dfdl_markup.specs.Rules.{IsPart, IsName, AreWhite, TagKeeps, attributes_of, ContentKeeps}
 use Rattle.dfdl_markup.specs.Rules.{roots, brackets, is_text, deepest, MayDeclareItself}
 use Rattle.dfdl_markup.specs.Rules.{ReferenceKeeps, IsCommentText, IsTarget, IsInstructionText}
 use Rattle.dfdl_markup.specs.Rules.{HasNoEnd}
 use Rattle.dfdl_markup.specs.Machine.{StartTag, Ahead, MarkAhead, DeclarationAhead, NothingAhead}
-use Rattle.dfdl_markup.specs.Machine.{Frame, State, Place, stand, go, scope_of, wanted, may_begin}
+use Rattle.dfdl_markup.specs.Machine.{Frame, State, Place, stand, go, scope_of, wanted}
 use Rattle.dfdl_markup.specs.Machine.{begun_by, frame_of, may_declare}
-use Rattle.dfdl_markup.proofs.Rest.{Wrote, Last, Inner, Close, Declared, Marked, Whole, brackets_at}
+use Rattle.dfdl_markup.proofs.Rest.{Wrote, Close, Whole, brackets_at}
 use Rattle.dfdl_markup.proofs.Rest.{From}
-use Rattle.dfdl_markup.proofs.Sound.{SoundFrames, SoundRoots, Sound, MayBegin}
-use Rattle.dfdl_markup.proofs.Answers.{Good, Leads}
+use Rattle.dfdl_markup.proofs.Sound.{SoundFrames, SoundRoots, MayBegin}
+use Rattle.dfdl_markup.proofs.Answers.{Good}
 
 -- the characters that are given
 
@@ -258,27 +256,27 @@ shifted raw c text = append_assoc raw (c ∷ []) text
 
 -- behind which the document may no longer be declared
 pub moves : (s : State) (place : Place) (c : ℕ) → brackets_at s.place ≡ brackets_at place
-    → ((raw : List ℕ) → Wrote (wanted s.frames) s.place raw
-    → Wrote (wanted s.frames) place (raw ++ c ∷ []))
+    → ((n : ℕ) (raw : List ℕ) → Wrote n (wanted s.frames) s.place raw
+    → Wrote n (wanted s.frames) place (raw ++ c ∷ []))
     → (n : ℕ) (text : List ℕ) → From n (stand s place) text → From n s (c ∷ text)
 moves s place c same wrote n text from = record {
   whole = λ raw w.
       whole_of_close s.ahead n s.begun s.frames (brackets_at s.place) (raw ++ c ∷ text)
       (subst (Close n s.begun s.frames (brackets_at s.place)) (shifted raw c text)
       (subst (λ before. Close n s.begun s.frames before ((raw ++ c ∷ []) ++ text)) (sym same)
-      (from.whole (raw ++ c ∷ []) (wrote raw w))));
+      (from.whole (raw ++ c ∷ []) (wrote n raw w))));
 }
 
 -- and behind which it may
 pub moves_on : (s : State) (place : Place) (c : ℕ) → brackets_at s.place ≡ brackets_at place
-    → ((raw : List ℕ) → Wrote (wanted s.frames) s.place raw
-    → Wrote (wanted s.frames) place (raw ++ c ∷ []))
+    → ((n : ℕ) (raw : List ℕ) → Wrote n (wanted s.frames) s.place raw
+    → Wrote n (wanted s.frames) place (raw ++ c ∷ []))
     → (n : ℕ) (text : List ℕ) → From n (go s place) text → From n s (c ∷ text)
 moves_on s place c same wrote n text from = record {
   whole = λ raw w.
       subst (Whole s.ahead n s.begun s.frames (brackets_at s.place)) (shifted raw c text)
       (subst (λ before. Whole s.ahead n s.begun s.frames before ((raw ++ c ∷ []) ++ text)) (sym same)
-      (from.whole (raw ++ c ∷ []) (wrote raw w)));
+      (from.whole (raw ++ c ∷ []) (wrote n raw w)));
 }
 
 -- a piece of markup in front of a content

@@ -6,6 +6,9 @@ use Rattle.dfdl_report.specs.declared.cause.UnparseCause.{UnparseCause}
 use Rattle.dfdl_report.specs.declared.cause.UnparseCause.TheVariants.{WrongOccurrences}
 use Rattle.dfdl_report.specs.declared.cause.SchemaCause.{SchemaCause}
 use Rattle.dfdl_report.specs.declared.cause.SchemaCause.TheVariants.{OutsideSubset}
+use Rattle.dfdl_report.specs.declared.cause.DocCause.{DocCause}
+use Rattle.dfdl_report.specs.declared.cause.DocCause.TheVariants.{NotUtf8, CharacterNotAllowed, Malformed, EndTagMismatch, AttributeTwice}
+use Rattle.dfdl_report.specs.declared.cause.DocCause.TheVariants.{UnknownReference, PrefixNotDeclared, DocumentType, EncodingRefused, OneRoot, TooDeep, DocumentEnds}
 use Rattle.dfdl_report.specs.declared.cause.InfosetCause.{InfosetCause}
 use Rattle.dfdl_report.specs.declared.cause.InfosetCause.TheVariants.{NotJson, RootExpected, UnknownMember, ObjectExpected, ArrayExpected, StringExpected, NotAValue, NullNotAllowed}
 use Rattle.dfdl_report.specs.declared.cause.LimitCause.{LimitCause}
@@ -34,6 +37,36 @@ schema_number OutsideSubset = 3
 -- what a refusal of a schema is told as
 abbrev pub schema_text : SchemaCause → List ℕ
 schema_text OutsideSubset = codes "construct outside the subset"
+
+-- refusals of documents, X
+abbrev pub document_number : DocCause → ℕ
+document_number NotUtf8 = 1
+document_number CharacterNotAllowed = 2
+document_number Malformed = 3
+document_number EndTagMismatch = 4
+document_number AttributeTwice = 5
+document_number UnknownReference = 6
+document_number PrefixNotDeclared = 7
+document_number DocumentType = 8
+document_number EncodingRefused = 9
+document_number OneRoot = 10
+document_number TooDeep = 11
+document_number DocumentEnds = 12
+
+-- what a refusal of a document is told as
+abbrev pub document_text : DocCause → List ℕ
+document_text NotUtf8 = codes "bytes not UTF-8"
+document_text CharacterNotAllowed = codes "character not allowed"
+document_text Malformed = codes "markup malformed"
+document_text EndTagMismatch = codes "end tag does not match"
+document_text AttributeTwice = codes "attribute twice"
+document_text UnknownReference = codes "unknown reference"
+document_text PrefixNotDeclared = codes "prefix not declared"
+document_text DocumentType = codes "document type refused"
+document_text EncodingRefused = codes "encoding refused"
+document_text OneRoot = codes "one root expected"
+document_text TooDeep = codes "nested deeper than 250"
+document_text DocumentEnds = codes "document ends"
 
 -- refusals of infosets, I
 abbrev pub infoset_number : InfosetCause → ℕ

@@ -4,8 +4,10 @@ use Rattle.std.specs.Prelude.{ℕ, List, ◌++◌, codes, decimal}
 use Rattle.dfdl_report.specs.declared.cause.ParseCause.{ParseCause}
 use Rattle.dfdl_report.specs.declared.cause.UnparseCause.{UnparseCause}
 use Rattle.dfdl_report.specs.declared.cause.SchemaCause.{SchemaCause}
+use Rattle.dfdl_report.specs.declared.cause.DocCause.{DocCause}
 use Rattle.dfdl_report.specs.declared.cause.InfosetCause.{InfosetCause}
 use Rattle.dfdl_report.specs.declared.cause.LimitCause.{LimitCause}
+use Rattle.dfdl_report.specs.Causes.{document_number, document_text}
 use Rattle.dfdl_report.specs.Causes.{infoset_number, infoset_text, limit_number, parse_number, parse_text}
 use Rattle.dfdl_report.specs.Causes.{schema_number, schema_text, unparse_number, unparse_text}
 
@@ -29,6 +31,12 @@ abbrev pub schema_line : SchemaCause → List ℕ → ℕ → List ℕ
 schema_line cause document at =
     codes "error C" ++ (decimal (schema_number cause) ++ (codes " at " ++ (document ++ (codes ":" ++ (decimal at
     ++ (codes ": " ++ ended (schema_text cause)))))))
+
+-- a refusal of the document of this name, at this byte
+abbrev pub document_line : DocCause → List ℕ → ℕ → List ℕ
+document_line cause document at =
+    codes "error X" ++ (decimal (document_number cause) ++ (codes " at " ++ (document ++ (codes ":" ++ (decimal at
+    ++ (codes ": " ++ ended (document_text cause)))))))
 
 -- a refusal of an infoset in the element of this path
 abbrev pub infoset_line : InfosetCause → List ℕ → List ℕ

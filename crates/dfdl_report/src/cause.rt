@@ -1,5 +1,6 @@
 // The causes, each with the number and the text by which the program tells it.
 ghost use Rattle.std.specs.Prelude.{◌≡◌};
+ghost use Rattle.dfdl_report.specs.Causes.{document_number, document_text};
 ghost use Rattle.dfdl_report.specs.Causes.{infoset_number, infoset_text, limit_number};
 ghost use Rattle.dfdl_report.specs.Causes.{parse_number, parse_text, schema_number, schema_text};
 ghost use Rattle.dfdl_report.specs.Causes.{unparse_number, unparse_text};
@@ -23,6 +24,36 @@ pub enum UnparseCause {
 pub enum SchemaCause {
     /// A construct that is not of the subset.
     OutsideSubset,
+}
+
+/// Why a document is refused: the numbers X ('Extensible Markup Language (XML) 1.0' and 'Namespaces
+/// in XML 1.0').
+#[derive(Debug, Clone, Copy, PartialEq, Eq)]
+pub enum DocCause {
+    /// The bytes are not UTF-8.
+    NotUtf8,
+    /// A character that XML does not allow, as it is or by its number.
+    CharacterNotAllowed,
+    /// Markup that is not well formed.
+    Malformed,
+    /// An end tag has another name than its start tag.
+    EndTagMismatch,
+    /// A tag has two attributes of one name.
+    AttributeTwice,
+    /// A reference to an entity that is none of the five.
+    UnknownReference,
+    /// A prefix that no namespace is declared for.
+    PrefixNotDeclared,
+    /// A document type declaration.
+    DocumentType,
+    /// An encoding other than UTF-8.
+    EncodingRefused,
+    /// Something else than one element at the top.
+    OneRoot,
+    /// An element inside of 250 others.
+    TooDeep,
+    /// The document ends inside of markup or of an element.
+    DocumentEnds,
 }
 
 /// Why an infoset is refused: the numbers I of infosets ('The DFDL Information Set').
@@ -108,6 +139,47 @@ impl SchemaCause {
     {
         match self {
             SchemaCause::OutsideSubset => "construct outside the subset",
+        }
+    }
+}
+
+impl DocCause {
+    /// The number that follows the X.
+    pub fn number(&self) -> u8
+        ensures { result ≡ document_number self.now }
+    {
+        match self {
+            DocCause::NotUtf8 => 1,
+            DocCause::CharacterNotAllowed => 2,
+            DocCause::Malformed => 3,
+            DocCause::EndTagMismatch => 4,
+            DocCause::AttributeTwice => 5,
+            DocCause::UnknownReference => 6,
+            DocCause::PrefixNotDeclared => 7,
+            DocCause::DocumentType => 8,
+            DocCause::EncodingRefused => 9,
+            DocCause::OneRoot => 10,
+            DocCause::TooDeep => 11,
+            DocCause::DocumentEnds => 12,
+        }
+    }
+
+    pub fn text(&self) -> &'static str
+        ensures { result.now ≡ document_text self.now }
+    {
+        match self {
+            DocCause::NotUtf8 => "bytes not UTF-8",
+            DocCause::CharacterNotAllowed => "character not allowed",
+            DocCause::Malformed => "markup malformed",
+            DocCause::EndTagMismatch => "end tag does not match",
+            DocCause::AttributeTwice => "attribute twice",
+            DocCause::UnknownReference => "unknown reference",
+            DocCause::PrefixNotDeclared => "prefix not declared",
+            DocCause::DocumentType => "document type refused",
+            DocCause::EncodingRefused => "encoding refused",
+            DocCause::OneRoot => "one root expected",
+            DocCause::TooDeep => "nested deeper than 250",
+            DocCause::DocumentEnds => "document ends",
         }
     }
 }

@@ -11,7 +11,7 @@ pub mod line;
 pub mod path;
 pub mod status;
 
-pub use cause::{InfosetCause, LimitCause, ParseCause, SchemaCause, UnparseCause};
+pub use cause::{DocCause, InfosetCause, LimitCause, ParseCause, SchemaCause, UnparseCause};
 pub use path::{path_of_field, path_of_root};
 pub use status::Status;
 

@@ -1,9 +1,10 @@
 // The lines of standard error.
 ghost use Rattle.std.specs.Prelude.{◌≡◌, IfOk, string_bytes};
+ghost use Rattle.dfdl_report.specs.Lines.{document_line};
 ghost use Rattle.dfdl_report.specs.Lines.{files_line, infoset_line, left_over_line, limit_line, memory_line};
 ghost use Rattle.dfdl_report.specs.Lines.{parse_line, schema_line, sink_line, source_line, unparse_line, usage_line};
 
-use crate::cause::{InfosetCause, LimitCause, ParseCause, SchemaCause, UnparseCause};
+use crate::cause::{DocCause, InfosetCause, LimitCause, ParseCause, SchemaCause, UnparseCause};
 use std::alloc::{AllocError, Global};
 
 /// A processing error that began at this bit, in the element of this path.
@@ -41,6 +42,20 @@ pub fn of_schema(
     let number = cause.number();
     let text = cause.text();
     format!(in alloc; "error C{number} at {document}:{at}: {text}\n")
+}
+
+/// A refusal of the document of this name, at this byte.
+pub fn of_document(
+    alloc: Global,
+    cause: DocCause,
+    document: &str,
+    at: u64,
+) -> Result<String, AllocError>
+    ensures { IfOk result (λ line. string_bytes line ≡ document_line cause document.now at) }
+{
+    let number = cause.number();
+    let text = cause.text();
+    format!(in alloc; "error X{number} at {document}:{at}: {text}\n")
 }
 
 /// A refusal of an infoset in the element of this path.

@@ -1,5 +1,7 @@
 // The lines as they are printed.
-use crate::{InfosetCause, LimitCause, ParseCause, SchemaCause, UnparseCause, line, path_of_field};
+use crate::{
+    DocCause, InfosetCause, LimitCause, ParseCause, SchemaCause, UnparseCause, line, path_of_field,
+};
 use std::test::Fail;
 
 // Each kind of line once, in the form that users match on.
@@ -18,6 +20,11 @@ fn lines_are_told(rt: HostRuntime) -> Result<(), Fail> {
     assert_eq!(rt;
         told.as_str(),
         "error C3 at s.xsd:17: construct outside the subset\n"
+    );
+    let told = line::of_document(alloc, DocCause::DocumentType, "s.xsd", 2)?;
+    assert_eq!(rt;
+        told.as_str(),
+        "error X8 at s.xsd:2: document type refused\n"
     );
     let told = line::of_infoset(alloc, InfosetCause::NotJson, "/")?;
     assert_eq!(rt; told.as_str(), "error I1 in /: not JSON\n");

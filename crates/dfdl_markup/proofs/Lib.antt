@@ -2,3 +2,4 @@ pub mod Rest
 pub mod Sound
 pub mod Answers
 pub mod Closing
+pub mod Readings

@@ -3,3 +3,5 @@ pub mod Sound
 pub mod Answers
 pub mod Closing
 pub mod Readings
+pub mod Moves
+pub mod NamesRead

@@ -5,3 +5,4 @@ pub mod Closing
 pub mod Readings
 pub mod Moves
 pub mod NamesRead
+pub mod TreesRead

@@ -19,7 +19,7 @@ use Rattle.dfdl_markup.proofs.Sound.{Sound}
 
 -- the markup that may follow at the start is that of a document
 
-document_of : (n : ℕ) (characters : List ℕ) → Marked n 0 0 [] characters
+pub document_of : (n : ℕ) (characters : List ℕ) → Marked n 0 0 [] characters
     → (document : Document) × IsDocument n document characters
 document_of n characters marked =
     let declared = marked.declared in
@@ -55,7 +55,7 @@ of_document n document characters is = record {
   };
 }
 
-from_start : (n : ℕ) (characters : List ℕ) → From n start characters → Marked n 0 0 [] characters
+pub from_start : (n : ℕ) (characters : List ℕ) → From n start characters → Marked n 0 0 [] characters
 unfolding start
 from_start n characters from = from.whole [] refl
 

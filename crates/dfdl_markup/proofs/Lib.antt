@@ -6,3 +6,4 @@ pub mod Readings
 pub mod Moves
 pub mod NamesRead
 pub mod TreesRead
+pub mod BytesRead

@@ -2,12 +2,15 @@
 use Rattle.std.specs.Prelude.{ℕ, zero, suc, ◌+◌, ◌==◌, ◌&&◌, ◌||◌, Bool, true, false, List, [], ◌∷◌}
 use Rattle.std.specs.Prelude.{◌++◌, length, Option, Some, None, Result, Ok, Err, if◌then◌else◌}
 use Rattle.std.specs.Prelude.{replicate}
+use Rattle.dfdl_layers.specs.Bytes.{Inside, between, byte_accepts}
+use Rattle.dfdl_xml_chars.specs.DocumentReading.{document_step}
 use Rattle.dfdl_markup.specs.Grammar.{Name, Plain}
 use Rattle.dfdl_markup.specs.Values.{entity, or_zero}
 use Rattle.dfdl_markup.specs.Trees.{Node, size, line_read}
 use Rattle.dfdl_markup.specs.Machine.{StartTag, Within, InContent, InValue, Place, AtContent, AtSection}
 use Rattle.dfdl_markup.specs.Machine.{AtTagName, AtTag, AtSlash, AtEndName, AtEndSpace, AtEntity}
 use Rattle.dfdl_markup.specs.Machine.{AtNumber, Frame, State, start, step, tag_of, whole_name}
+use Rattle.dfdl_markup.specs.Machine.{accepts, beyond}
 
 -- what a character does to the tree
 pub data Effect : Type 0 where
@@ -169,3 +172,15 @@ build_step r c =
 -- nothing is read
 abbrev pub build_start : Reader
 build_start = record { state = start; built = nothing_built }
+
+-- the step of both over the bytes of a document
+unfoldable pub read_step : Inside Reader → ℕ → Result (Inside Reader) ℕ
+read_step i b = document_step build_step (λ r. beyond r.state) i b
+
+-- nothing is read of the bytes
+abbrev pub read_start : Inside Reader
+read_start = between build_start
+
+-- the bytes may end there
+abbrev pub read_accepts : Inside Reader → Bool
+read_accepts i = byte_accepts (λ r. accepts r.state) i

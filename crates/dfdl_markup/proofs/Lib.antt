@@ -7,3 +7,8 @@ pub mod Moves
 pub mod NamesRead
 pub mod TreesRead
 pub mod BytesRead
+pub mod ReferenceNumbers
+pub mod ReferenceForms
+pub mod ReferenceEntities
+pub mod ReferenceSteps
+pub mod ReferenceAnswers

@@ -1,0 +1,171 @@
+-- References as they are written: how one grows, and what may follow where it ends.
+use Rattle.std.proofs.Common.{◌≡◌, ℕ, suc, ◌+◌, ◌<◌, ◌≤◌, ◌==◌, Bool, true, false, List, [], ◌∷◌}
+use Rattle.std.proofs.Common.{◌++◌, length, Option, Some, None, refl, sym, ap, subst, ◌∙◌, arith}
+use Rattle.std.proofs.Common.{append_assoc, append-nil, zero-lt-suc}
+use Rattle.std.specs.List.{flat_map}
+use Rattle.std.proofs.lemmas.List.Concat.{flat_map-append}
+use Rattle.dfdl_layers.specs.Tellers.{Each}
+use Rattle.dfdl_layers.proofs.Runs.{each-append}
+use Rattle.dfdl_markup.specs.Grammar.{Reference, Item, Letter, Referred, item_characters, spelling}
+use Rattle.dfdl_markup.specs.Grammar.{reference_inside, reference_characters, name_characters}
+use Rattle.dfdl_markup.specs.Grammar.{Referring, Name, given_start, tag_characters}
+use Rattle.dfdl_markup.specs.Values.{referred, items_read, ends_in_cr, letter_read}
+use Rattle.dfdl_markup.specs.Rules.{ReferenceKeeps, ItemKeeps}
+use Rattle.dfdl_markup.specs.Machine.{Within, InContent, InValue, OpenValue, Place, AtContent, AtValue}
+use Rattle.dfdl_markup.specs.Machine.{Ahead, NothingAhead, Frame, State, stand, with_text, fixed_value}
+use Rattle.dfdl_markup.specs.Machine.{referred_to, wanted}
+use Rattle.dfdl_markup.proofs.Rest.{ReadAs, WroteValue, WroteName, WroteWithin, WroteReference, Wrote}
+use Rattle.dfdl_markup.proofs.Rest.{Close, Whole, From, brackets_at}
+use Rattle.dfdl_markup.proofs.Sound.{IsInside, SoundWithin}
+
+-- the state at a place
+abbrev pub placed : Ahead → Place → ℕ → List Frame → State
+placed ahead place begun frames =
+    record { ahead = ahead; place = place; begun = begun; frames = frames }
+
+-- and behind all that may come before
+abbrev pub standing : Place → ℕ → List Frame → State
+standing place begun frames = placed NothingAhead place begun frames
+
+-- the place behind a reference to this character
+abbrev pub place_behind : Within → ℕ → Place
+place_behind InContent d = AtContent 0
+place_behind (InValue v) d = AtValue (with_text v (d ∷ []) false)
+
+pub behind_is : (s : State) (within : Within) (d : ℕ)
+    → referred_to s within d ≡ standing (place_behind within d) s.begun s.frames
+behind_is s InContent d = refl
+behind_is s (InValue v) d = refl
+
+-- a reference that goes on by a character
+pub reference_more : (n : ℕ) (within : Within) (inside raw : List ℕ) (c : ℕ)
+    → WroteReference n within inside raw → WroteReference n within (inside ++ c ∷ []) (raw ++ c ∷ [])
+reference_more n within inside raw c wrote = (
+  wrote.0,
+  wrote.1,
+  ap (λ l. l ++ c ∷ []) wrote.2 ∙ append_assoc wrote.0 (38 ∷ inside) (c ∷ []),
+)
+
+items_read-push : (behind_cr : Bool) (items : List Item) (reference : Reference)
+    → items_read behind_cr (items ++ Referred reference ∷ [])
+    ≡ items_read behind_cr items ++ referred reference ∷ []
+items_read-push behind_cr [] reference = refl
+items_read-push behind_cr (Letter c ∷ items) reference =
+    ap (λ l. letter_read behind_cr c ++ l) (items_read-push (c == 13) items reference)
+    ∙ sym (append_assoc (letter_read behind_cr c) (items_read (c == 13) items) (referred reference ∷ []))
+items_read-push behind_cr (Referred r ∷ items) reference =
+    ap (λ l. referred r ∷ l) (items_read-push false items reference)
+
+ends_in_cr-push : (behind_cr : Bool) (items : List Item) (reference : Reference)
+    → ends_in_cr behind_cr (items ++ Referred reference ∷ []) ≡ false
+ends_in_cr-push behind_cr [] reference = refl
+ends_in_cr-push behind_cr (Letter c ∷ items) reference = ends_in_cr-push (c == 13) items reference
+ends_in_cr-push behind_cr (Referred r ∷ items) reference = ends_in_cr-push false items reference
+
+-- the items of a value with a reference behind them
+read_more : (o : Option (List ℕ)) (v : OpenValue) (items : List Item) (reference : Reference) → o ≡ None
+    → ReadAs o v items
+    → ReadAs o (with_text v (referred reference ∷ []) false) (items ++ Referred reference ∷ [])
+read_more (Some fixed) v items reference none read = absurd (cc)
+read_more None v items reference none read = (
+  items_read-push false items reference ∙ ap (λ l. l ++ referred reference ∷ []) read.0,
+  ends_in_cr-push false items reference,
+)
+
+written_more : (front more tag start items : List ℕ) → front ≡ 60 ∷ (tag ++ (start ++ items))
+    → front ++ more ≡ 60 ∷ (tag ++ (start ++ (items ++ more)))
+written_more front more tag start items is =
+    ap (λ l. l ++ more) is
+    ∙ ap (λ l. 60 ∷ l)
+    (append_assoc tag (start ++ items) more ∙ ap (λ l. tag ++ l) (append_assoc start items more))
+
+items_more : (items : List Item) (reference : Reference)
+    → flat_map item_characters (items ++ Referred reference ∷ [])
+    ≡ flat_map item_characters items ++ reference_characters reference
+items_more items reference =
+    flat_map-append item_characters items (Referred reference ∷ [])
+    ∙ ap (λ l. flat_map item_characters items ++ l) (append-nil (reference_characters reference))
+
+-- a value with a reference behind it
+value_more : (n : ℕ) (v : OpenValue) (front : List ℕ) (reference : Reference)
+    → fixed_value v.name ≡ None → ReferenceKeeps n reference → WroteValue n v front
+    → WroteValue n (with_text v (referred reference ∷ []) false) (front ++ reference_characters reference)
+value_more n v front reference none keeps wrote = record {
+  before = wrote.before;
+  after = wrote.after;
+  items = wrote.items ++ Referred reference ∷ [];
+  named = wrote.named;
+  quote = wrote.quote;
+  white_before = wrote.white_before;
+  white_after = wrote.white_after;
+  read = read_more (fixed_value v.name) v wrote.items reference none wrote.read;
+  keep = each-append (ItemKeeps n v.quote) wrote.items (Referred reference ∷ []) wrote.keep (keeps, tt);
+  wrote = record {
+    t = wrote.wrote.t;
+    wrote = wrote.wrote.wrote;
+    some_space = wrote.wrote.some_space;
+    is =
+        written_more front (reference_characters reference) (tag_characters wrote.wrote.t)
+        (given_start v.name wrote.before wrote.after v.quote) (flat_map item_characters wrote.items)
+        wrote.wrote.is
+        ∙ ap (λ l. 60 ∷ (tag_characters wrote.wrote.t
+        ++ (given_start v.name wrote.before wrote.after v.quote ++ l)))
+        (sym (items_more wrote.items reference));
+  };
+}
+
+-- a reference before what is inside of an element
+grow_reference : (n begun : ℕ) (frames : List Frame) (reference : Reference) (text : List ℕ)
+    → IsInside frames → ReferenceKeeps n reference → Close n begun frames 0 text
+    → Close n begun frames 0 (reference_characters reference ++ text)
+grow_reference n begun [] reference text inside keeps close = absurd inside
+grow_reference n begun (frame ∷ frames) reference text inside keeps close = record {
+  content = Referring reference close.content;
+  keeps = (keeps, λ _. zero-lt-suc (length frames), close.keeps);
+  name = close.name;
+  space = close.space;
+  rest = close.rest;
+  is =
+      ap (λ l. reference_characters reference ++ l) close.is
+      ∙ sym (append_assoc (reference_characters reference) (spelling close.content)
+      (60 ∷ 47 ∷ (name_characters close.name ++ (close.space ++ 62 ∷ close.rest))));
+  closed = close.closed;
+  white = close.white;
+  ends = close.ends;
+  after = close.after;
+}
+
+-- what follows behind a reference follows behind its `&` with the reference before it
+pub reference_whole : (n begun : ℕ) (frames : List Frame) (within : Within) (reference : Reference)
+    (front text : List ℕ) → SoundWithin within begun frames → ReferenceKeeps n reference
+    → WroteWithin n within front
+    → From n (standing (place_behind within (referred reference)) begun frames) text
+    → Close n begun frames 0 (front ++ (reference_characters reference ++ text))
+reference_whole n begun frames InContent reference front text sound keeps wrote from =
+    subst (λ l. Close n begun frames 0 (l ++ (reference_characters reference ++ text))) (sym wrote)
+    (grow_reference n begun frames reference text sound keeps (from.whole [] refl))
+reference_whole n begun frames (InValue v) reference front text sound keeps wrote from =
+    subst (λ l. Close n begun frames 0 l) (append_assoc front (reference_characters reference) text)
+    (from.whole (front ++ reference_characters reference)
+    (value_more n v front reference wrote.1 keeps wrote.0))
+
+-- the characters in between, in another order
+joined : (front inside more text all : List ℕ) → inside ++ more ≡ all
+    → (front ++ 38 ∷ inside) ++ (more ++ 59 ∷ text) ≡ front ++ (38 ∷ (all ++ 59 ∷ []) ++ text)
+joined front inside more text all is =
+    append_assoc front (38 ∷ inside) (more ++ 59 ∷ text)
+    ∙ ap (λ l. front ++ 38 ∷ l)
+    (sym (append_assoc inside more (59 ∷ text))
+    ∙ (ap (λ l. l ++ 59 ∷ text) is ∙ sym (append_assoc all (59 ∷ []) text)))
+
+-- the rest of a reference that is begun, and what follows behind it
+pub reference_ends : (n begun : ℕ) (frames : List Frame) (within : Within) (reference : Reference)
+    (inside more raw text : List ℕ) → SoundWithin within begun frames → ReferenceKeeps n reference
+    → inside ++ more ≡ reference_inside reference → WroteReference n within inside raw
+    → From n (standing (place_behind within (referred reference)) begun frames) text
+    → Close n begun frames 0 (raw ++ (more ++ 59 ∷ text))
+reference_ends n begun frames within reference inside more raw text sound keeps is wrote from =
+    subst (λ l. Close n begun frames 0 l)
+    (sym (ap (λ l. l ++ (more ++ 59 ∷ text)) wrote.2
+    ∙ joined wrote.0 inside more text (reference_inside reference) is))
+    (reference_whole n begun frames within reference wrote.0 text sound keeps wrote.1 from)

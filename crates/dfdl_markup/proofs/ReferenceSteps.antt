@@ -1,0 +1,163 @@
+-- What a step within a reference leads to, and what may be said of one that is refused.
+use Rattle.std.proofs.Common.{◌≡◌, ℕ, ◌+◌, ◌*◌, ◌<◌, ◌≤◌, ◌==◌, Bool, true, false, List, [], ◌∷◌}
+use Rattle.std.proofs.Common.{◌++◌, length, Option, Some, None, Result, Ok, Err, refl, sym, ap, subst}
+use Rattle.std.proofs.Common.{◌∙◌, arith, append_assoc, append-nil, nat_le, if◌then◌else◌, IsSome, codes}
+use Rattle.std.proofs.Common.{length-append}
+use Rattle.std.proofs.lemmas.Bool.{cond_both, eqb-true, leb-true}
+use Rattle.dfdl_layers.specs.Tellers.{Each}
+use Rattle.dfdl_layers.proofs.Runs.{each-append}
+use Rattle.dfdl_xml_chars.specs.Characters.{is_allowed, is_name_start, is_name_char}
+use Rattle.dfdl_markup.specs.Grammar.{Reference, Named, Numbered, base_mark, reference_inside}
+use Rattle.dfdl_markup.specs.Values.{is_digit, digit_value, base_of, number_on, entity, referred}
+use Rattle.dfdl_markup.specs.Values.{or_zero}
+use Rattle.dfdl_markup.specs.Rules.{IsPart, ReferenceKeeps}
+use Rattle.dfdl_markup.specs.Machine.{Within, InContent, InValue, Place, AtContent, AtValue, AtReference}
+use Rattle.dfdl_markup.specs.Machine.{AtEntity, AtHash, AtHexadecimal, AtNumber, Ahead, NothingAhead}
+use Rattle.dfdl_markup.specs.Machine.{MarkAhead, DeclarationAhead, Frame, State, stand, with_text}
+use Rattle.dfdl_markup.specs.Machine.{fixed_value, referred_to, wanted, begins_entity, entity_next}
+use Rattle.dfdl_markup.specs.Machine.{reference_step, entity_ended, entity_step, number_next, hash_step}
+use Rattle.dfdl_markup.specs.Machine.{hexadecimal_step, number_step}
+use Rattle.dfdl_markup.proofs.Rest.{WroteReference, Wrote, Close, Whole, From, brackets_at}
+use Rattle.dfdl_markup.proofs.Sound.{IsInside, KeepsFixed, SoundWithin, SoundAt, SoundFrames, SoundRoots}
+use Rattle.dfdl_markup.proofs.Sound.{in_declaration, before_declaration, Sound}
+use Rattle.dfdl_markup.proofs.Answers.{Good, Leads, Told, Live, Answer, live_by}
+use Rattle.dfdl_markup.proofs.ReferenceNumbers.{number_on-append, Grows, grows, digit_least, nine_allowed}
+use Rattle.dfdl_markup.proofs.ReferenceEntities.{plain_good, IsEntity, Completes, completes, less_than}
+use Rattle.dfdl_markup.proofs.ReferenceForms.{placed, standing, place_behind, behind_is, reference_more}
+use Rattle.dfdl_markup.proofs.ReferenceForms.{reference_ends}
+
+-- a step that only reads on
+pub moves : (ahead : Ahead) (begun : ℕ) (frames : List Frame) (p q : Place) (n c : ℕ) (text : List ℕ)
+    → brackets_at p ≡ brackets_at q
+    → ((raw : List ℕ) → Wrote n (wanted frames) p raw → Wrote n (wanted frames) q (raw ++ c ∷ []))
+    → From n (placed ahead q begun frames) text → From n (placed ahead p begun frames) (c ∷ text)
+moves ahead begun frames p q n c text same wrote from = record {
+  whole = λ raw w.
+      subst (λ l. Whole ahead n begun frames (brackets_at p) l) (append_assoc raw (c ∷ []) text)
+      (subst (λ b. Whole ahead n begun frames b ((raw ++ c ∷ []) ++ text)) (sym same)
+      (from.whole (raw ++ c ∷ []) (wrote raw w)));
+}
+
+-- where only nothing may come before any more
+pub only_standing : (P : State → Type 0) (ahead : Ahead) (place : Place) (begun : ℕ) (frames : List Frame)
+    → before_declaration place ≡ false → Sound (placed ahead place begun frames)
+    → (Sound (standing place begun frames) → P (standing place begun frames))
+    → P (placed ahead place begun frames)
+only_standing P NothingAhead place begun frames late sound holds = holds sound
+only_standing P DeclarationAhead place begun frames late sound holds =
+    let early = sound.ahead.0 in absurd (cc)
+only_standing P MarkAhead place begun frames late sound holds =
+    let early = sound.ahead.0 in absurd (cc)
+
+-- a reference that these characters end, before `;`
+pub record Ends (n : ℕ) (within : Within) (raw more : List ℕ) (d : ℕ) : Type 0 where
+  pub reference : Reference
+  pub inside : List ℕ
+  pub keeps : ReferenceKeeps n reference
+  pub is : inside ++ more ≡ reference_inside reference
+  pub wrote : WroteReference n within inside raw
+  pub means : referred reference ≡ d
+
+behind_within : (begun : ℕ) (frames : List Frame) (within : Within) (d : ℕ)
+    → SoundWithin within begun frames → SoundAt (place_behind within d) begun frames
+behind_within begun [] InContent d sound = absurd sound
+behind_within begun (frame ∷ frames) InContent d sound = omega arith
+behind_within begun frames (InValue v) d sound =
+    ((sound.0.0, sound.0.1,
+    subst (λ o. KeepsFixed o (v.text ++ d ∷ [])) (sym sound.1) tt), sound.2)
+
+no_declaration_behind : (within : Within) (d : ℕ) → in_declaration (place_behind within d) ≡ false
+no_declaration_behind InContent d = refl
+no_declaration_behind (InValue v) d = refl
+
+-- of the places of a reference
+module _ (begun : ℕ) (frames : List Frame) (within : Within) where
+  -- another place there
+  at_place : (p q : Place) → Sound (standing p begun frames) → in_declaration q ≡ false
+      → SoundAt q begun frames → Sound (standing q begun frames)
+  at_place p q sound late place =
+      record { frames = sound.frames; roots = sound.roots; ahead = late; place = place }
+
+  -- behind the reference
+  sound_behind : (p : Place) (d : ℕ) → Sound (standing p begun frames)
+      → SoundWithin within begun frames → Sound (standing (place_behind within d) begun frames)
+  sound_behind p d sound inside =
+      at_place p (place_behind within d) sound (no_declaration_behind within d)
+      (behind_within begun frames within d inside)
+
+  from_behind : (p : Place) (n d : ℕ) (more text : List ℕ) → brackets_at p ≡ 0
+      → SoundWithin within begun frames
+      → ((raw : List ℕ) → Wrote n (wanted frames) p raw → Ends n within raw more d)
+      → From n (standing (place_behind within d) begun frames) text
+      → From n (standing p begun frames) (more ++ 59 ∷ text)
+  from_behind p n d more text none inside ends from = record {
+    whole = λ raw w.
+        let e = ends raw w in
+        subst (λ b. Close n begun frames b (raw ++ (more ++ 59 ∷ text))) (sym none)
+        (reference_ends n begun frames within e.reference e.inside more raw text inside e.keeps e.is
+        e.wrote
+        (subst (λ m. From n (standing (place_behind within m) begun frames) text) (sym e.means) from));
+  }
+
+  -- a reading on within the reference
+  pub leads_on : (p q : Place) (c : ℕ) → Sound (standing p begun frames) → in_declaration q ≡ false
+      → SoundAt q begun frames → brackets_at p ≡ brackets_at q
+      → ((n : ℕ) (raw : List ℕ) → Wrote n (wanted frames) p raw
+      → Wrote n (wanted frames) q (raw ++ c ∷ []))
+      → Leads (standing p begun frames) c (standing q begun frames)
+  leads_on p q c sound late place same wrote = record {
+    sound = at_place p q sound late place;
+    back = λ n text from. moves NothingAhead begun frames p q n c text same (wrote n) from;
+  }
+
+  -- the `;`
+  pub leads_behind : (p : Place) (c d : ℕ) → c ≡ 59 → Sound (standing p begun frames)
+      → SoundWithin within begun frames → brackets_at p ≡ 0
+      → ((n : ℕ) (raw : List ℕ) → Wrote n (wanted frames) p raw → Ends n within raw [] d)
+      → Leads (standing p begun frames) c (referred_to (standing p begun frames) within d)
+  leads_behind p c d is sound inside none ends =
+      subst (λ t. Leads (standing p begun frames) c t)
+      (sym (behind_is (standing p begun frames) within d))
+      (record {
+        sound = sound_behind p d sound inside;
+        back = λ n text from.
+            subst (λ x. From n (standing p begun frames) (x ∷ text)) (sym is)
+            (from_behind p n d [] text none inside (ends n) from);
+      })
+
+  module _ (behind : (d : ℕ) → Live (standing (place_behind within d) begun frames)) where
+    semicolon : Good 59
+    semicolon = plain_good 59 (omega arith) (omega arith)
+
+    -- the rest of a reference ends the document
+    pub live_behind : (p : Place) (d : ℕ) (more : List ℕ) → Each Good more
+        → SoundWithin within begun frames → brackets_at p ≡ 0
+        → ((n : ℕ) (raw : List ℕ) → Wrote n (wanted frames) p raw → Ends n within raw more d)
+        → Live (standing p begun frames)
+    live_behind p d more good inside none ends = record {
+      more = more ++ 59 ∷ (behind d).more;
+      good = each-append Good more (59 ∷ (behind d).more) good (semicolon, (behind d).good);
+      from = λ n. from_behind p n d more (behind d).more none inside (ends n) ((behind d).from n);
+    }
+
+    -- a character that breaks a rule of references, and one that does so as their last
+    pub told_last : (p : Place) (n c d : ℕ) → SoundWithin within begun frames → brackets_at p ≡ 0
+        → ((raw : List ℕ) → Wrote n (wanted frames) p raw → Ends n within raw (c ∷ []) d)
+        → Told n (standing p begun frames) c
+    told_last p n c d inside none ends = record {
+      more = 59 ∷ (behind d).more;
+      good = (semicolon, (behind d).good);
+      from = from_behind p n d (c ∷ []) (behind d).more none inside ends ((behind d).from n);
+    }
+
+    pub told_behind : (p : Place) (n c d : ℕ) → c ≡ 59 → SoundWithin within begun frames
+        → brackets_at p ≡ 0
+        → ((raw : List ℕ) → Wrote n (wanted frames) p raw → Ends n within raw [] d)
+        → Told n (standing p begun frames) c
+    told_behind p n c d is inside none ends = record {
+      more = (behind d).more;
+      good = (behind d).good;
+      from =
+          subst (λ x. From n (standing p begun frames) (x ∷ (behind d).more)) (sym is)
+          (from_behind p n d [] (behind d).more none inside ends ((behind d).from n));
+    }

@@ -10,23 +10,21 @@ use Rattle.dfdl_xml_chars.specs.Characters.{is_allowed, is_name_start, is_name_c
 use Rattle.dfdl_markup.specs.Grammar.{Named, Numbered, base_mark, reference_inside}
 use Rattle.dfdl_markup.specs.Values.{is_digit, digit_value, base_of, number_on, entity, or_zero}
 use Rattle.dfdl_markup.specs.Rules.{IsPart, ReferenceKeeps}
-use Rattle.dfdl_markup.specs.Machine.{Within, Place, AtReference, AtEntity, AtHash, AtHexadecimal}
-use Rattle.dfdl_markup.specs.Machine.{AtNumber, Ahead, Frame, State, stand, referred_to, wanted}
+use Rattle.dfdl_markup.specs.Machine.{Within, InContent, Place, AtReference, AtEntity, AtHash, AtHexadecimal}
+use Rattle.dfdl_markup.specs.Machine.{AtNumber, Ahead, NothingAhead, Frame, State, stand, referred_to, wanted}
 use Rattle.dfdl_markup.specs.Machine.{begins_entity, entity_next, reference_step, entity_ended}
 use Rattle.dfdl_markup.specs.Machine.{entity_step, number_next, hash_step, hexadecimal_step, number_step}
-use Rattle.dfdl_markup.proofs.Rest.{WroteReference, Wrote, brackets_at}
-use Rattle.dfdl_markup.proofs.Sound.{SoundWithin, Sound}
+use Rattle.dfdl_markup.proofs.Rest.{WroteReference, Wrote, Close, brackets_at}
+use Rattle.dfdl_markup.proofs.Sound.{SoundWithin, SoundFrames, SoundRoots, Sound}
 use Rattle.dfdl_markup.proofs.Answers.{Good, Live, Answer}
 use Rattle.dfdl_markup.proofs.ReferenceNumbers.{number_on-append, grows, digit_least, digit_plain}
 use Rattle.dfdl_markup.proofs.ReferenceNumbers.{nine_digits}
-use Rattle.dfdl_markup.proofs.ReferenceEntities.{plain_good, plain_text, completes, less_than}
-use Rattle.dfdl_markup.proofs.ReferenceForms.{placed, standing, place_behind, reference_more}
-use Rattle.dfdl_markup.proofs.ReferenceSteps.{only_standing, Ends, leads_on, leads_behind}
+use Rattle.dfdl_markup.proofs.Closing.{good_low, close_all}
+use Rattle.dfdl_markup.proofs.Moves.{at, malformed, reads_on}
+use Rattle.dfdl_markup.proofs.ReferenceEntities.{plain_text, completes, less_than}
+use Rattle.dfdl_markup.proofs.ReferenceForms.{standing, place_behind, reference_more}
+use Rattle.dfdl_markup.proofs.ReferenceSteps.{only_standing, Ends, leads_behind}
 use Rattle.dfdl_markup.proofs.ReferenceSteps.{live_behind, told_last, told_behind}
-
--- where the markup is ill formed nothing is owed
-pub malformed : (s : State) (c : ℕ) → Answer s c (Err 3)
-malformed s c = (omega arith, omega arith, λ less. absurd (omega (arith, less)))
 
 all_push : (f : ℕ → Bool) (text : List ℕ) (c : ℕ) → Each (λ d. f d ≡ true) text → f c ≡ true
     → Each (λ d. f d ≡ true) (text ++ c ∷ [])
@@ -73,8 +71,8 @@ module _ (begun : ℕ) (frames : List Frame) (within : Within)
       cond_both (begins_entity (name ++ c ∷ []))
       (Ok (standing (AtEntity within (name ++ c ∷ [])) begun frames)) (Err 6)
       (λ r. Answer (standing p begun frames) c r)
-      (λ some. leads_on begun frames within p (AtEntity within (name ++ c ∷ [])) c sound refl
-      (inside, part, some) none
+      (λ some. reads_on NothingAhead p (AtEntity within (name ++ c ∷ [])) begun frames c sound none refl
+      (inside, part, some)
       (λ n raw w. (reference_more n within name raw c (wrote n raw w), part)))
       (λ other. (omega arith, omega arith, λ _.
       told_last begun frames within behind p 6 c (or_zero (entity (name ++ c ∷ []))) inside none
@@ -126,8 +124,8 @@ module _ (begun : ℕ) (frames : List Frame) (within : Within)
       cond_both (nat_le next 0x10FFFF)
       (Ok (standing (AtNumber within hexadecimal next) begun frames)) (Err 12)
       (λ r. Answer (standing p begun frames) c r)
-      (λ less. leads_on begun frames within p (AtNumber within hexadecimal next) c sound refl
-      (inside, leb-true next 0x10FFFF less) none
+      (λ less. reads_on NothingAhead p (AtNumber within hexadecimal next) begun frames c sound none refl
+      (inside, leb-true next 0x10FFFF less)
       (λ n raw w. let d = wrote n raw w in (
         d.digits ++ c ∷ [],
         some_push d.digits c,
@@ -151,3 +149,283 @@ module _ (begun : ℕ) (frames : List Frame) (within : Within)
         wrote = d.wrote;
         means = number_push hexadecimal d.digits value c d.number ∙ is;
       })))
+
+  reference_step_answers : (c : ℕ) → Sound (standing (AtReference within) begun frames)
+      → Answer (standing (AtReference within) begun frames) c
+          (reference_step (standing (AtReference within) begun frames) within c)
+  unfolding reference_step
+  reference_step_answers c sound =
+      let s = standing (AtReference within) begun frames in
+      cond_both (is_name_start c) (entity_next s within (c ∷ []))
+      (if c == 35 then Ok (standing (AtHash within) begun frames) else Err 3) (λ r. Answer s c r)
+      (λ first. name_answers (AtReference within) [] c sound sound.place refl (first, tt)
+      (λ n raw w. w))
+      (λ other. cond_both (c == 35) (Ok (standing (AtHash within) begun frames)) (Err 3)
+      (λ r. Answer s c r)
+      (λ is. reads_on NothingAhead (AtReference within) (AtHash within) begun frames c sound refl refl
+      sound.place
+      (λ n raw w. subst (λ d. WroteReference n within (d ∷ []) (raw ++ c ∷ [])) (eqb-true c 35 is)
+      (reference_more n within [] raw c w)))
+      (λ _. malformed s c))
+
+  entity_step_answers : (name : List ℕ) (c : ℕ) → Sound (standing (AtEntity within name) begun frames)
+      → Answer (standing (AtEntity within name) begun frames) c
+          (entity_step (standing (AtEntity within name) begun frames) within name c)
+  unfolding entity_step
+  entity_step_answers name c sound =
+      let s = standing (AtEntity within name) begun frames in
+      cond_both (is_name_char c) (entity_next s within (name ++ c ∷ []))
+      (if c == 59 then entity_ended s within (entity name) else Err 3) (λ r. Answer s c r)
+      (λ more. name_answers (AtEntity within name) name c sound sound.place.0 refl
+      (part_push name c sound.place.1 more) (λ n raw w. w.0))
+      (λ other. cond_both (c == 59) (entity_ended s within (entity name)) (Err 3)
+      (λ r. Answer s c r) (λ is. name_ends name (entity name) c refl (eqb-true c 59 is) sound)
+      (λ _. malformed s c))
+
+  hash_step_answers : (c : ℕ) → Sound (standing (AtHash within) begun frames)
+      → Answer (standing (AtHash within) begun frames) c
+          (hash_step (standing (AtHash within) begun frames) within c)
+  unfolding hash_step
+  hash_step_answers c sound =
+      let s = standing (AtHash within) begun frames in
+      cond_both (is_digit false c) (number_next s within false (digit_value c))
+      (if c == 120 then Ok (standing (AtHexadecimal within) begun frames) else Err 3)
+      (λ r. Answer s c r)
+      (λ is. number_answers_next (AtHash within) false 0 (digit_value c) c sound sound.place refl is
+      (omega arith) (λ n raw w. record { digits = []; are = tt; number = refl; wrote = w }))
+      (λ other. cond_both (c == 120) (Ok (standing (AtHexadecimal within) begun frames)) (Err 3)
+      (λ r. Answer s c r)
+      (λ is. reads_on NothingAhead (AtHash within) (AtHexadecimal within) begun frames c sound refl refl
+      sound.place
+      (λ n raw w. subst (λ d. WroteReference n within (35 ∷ d ∷ []) (raw ++ c ∷ []))
+      (eqb-true c 120 is) (reference_more n within (35 ∷ []) raw c w)))
+      (λ _. malformed s c))
+
+  hexadecimal_step_answers : (c : ℕ) → Sound (standing (AtHexadecimal within) begun frames)
+      → Answer (standing (AtHexadecimal within) begun frames) c
+          (hexadecimal_step (standing (AtHexadecimal within) begun frames) within c)
+  unfolding hexadecimal_step
+  hexadecimal_step_answers c sound =
+      let s = standing (AtHexadecimal within) begun frames in
+      cond_both (is_digit true c) (number_next s within true (digit_value c)) (Err 3)
+      (λ r. Answer s c r)
+      (λ is. number_answers_next (AtHexadecimal within) true 0 (digit_value c) c sound sound.place refl
+      is (omega arith) (λ n raw w. record { digits = []; are = tt; number = refl; wrote = w }))
+      (λ _. malformed s c)
+
+  -- a number that ends
+  number_ends : (hexadecimal : Bool) (value c : ℕ) → c ≡ 59
+      → Sound (standing (AtNumber within hexadecimal value) begun frames)
+      → Answer (standing (AtNumber within hexadecimal value) begun frames) c
+          (if is_allowed value
+          then Ok (referred_to (standing (AtNumber within hexadecimal value) begun frames) within value)
+          else Err 12)
+  number_ends hexadecimal value c is sound =
+      let p = AtNumber within hexadecimal value in
+      cond_both (is_allowed value) (Ok (referred_to (standing p begun frames) within value)) (Err 12)
+      (λ r. Answer (standing p begun frames) c r)
+      (λ allowed. leads_behind begun frames within p c value is sound sound.place.0 refl
+      (λ n raw w. record {
+        reference = Numbered hexadecimal w.0;
+        inside = 35 ∷ (base_mark hexadecimal ++ w.0);
+        keeps = (w.1, w.2, λ _. ap is_allowed w.3 ∙ allowed);
+        is = append-nil (35 ∷ (base_mark hexadecimal ++ w.0));
+        wrote = w.4;
+        means = w.3;
+      }))
+      (λ other. (omega arith, omega arith, λ _.
+      told_behind begun frames within behind p 12 c value is sound.place.0 refl
+      (λ raw w. record {
+        reference = Numbered hexadecimal w.0;
+        inside = 35 ∷ (base_mark hexadecimal ++ w.0);
+        keeps = (w.1, w.2, λ less. absurd (omega (arith, less)));
+        is = append-nil (35 ∷ (base_mark hexadecimal ++ w.0));
+        wrote = w.4;
+        means = w.3;
+      })))
+
+  number_step_answers : (hexadecimal : Bool) (value c : ℕ)
+      → Sound (standing (AtNumber within hexadecimal value) begun frames)
+      → Answer (standing (AtNumber within hexadecimal value) begun frames) c
+          (number_step (standing (AtNumber within hexadecimal value) begun frames) within hexadecimal
+          value c)
+  unfolding number_step
+  number_step_answers hexadecimal value c sound =
+      let p = AtNumber within hexadecimal value in
+      let s = standing p begun frames in
+      cond_both (is_digit hexadecimal c)
+      (number_next s within hexadecimal (value * base_of hexadecimal + digit_value c))
+      (if c == 59 then (if is_allowed value then Ok (referred_to s within value) else Err 12)
+      else Err 3) (λ r. Answer s c r)
+      (λ is. number_answers_next p hexadecimal value
+      (value * base_of hexadecimal + digit_value c) c sound sound.place.0 refl is refl
+      (λ n raw w. record { digits = w.0; are = w.2; number = w.3; wrote = w.4 }))
+      (λ other. cond_both (c == 59)
+      (if is_allowed value then Ok (referred_to s within value) else Err 12) (Err 3)
+      (λ r. Answer s c r) (λ is. number_ends hexadecimal value c (eqb-true c 59 is) sound)
+      (λ _. malformed s c))
+
+  reference_lives : Sound (standing (AtReference within) begun frames)
+      → Live (standing (AtReference within) begun frames)
+  reference_lives sound =
+      live_behind begun frames within behind (AtReference within) (or_zero (entity (codes "lt")))
+      (codes "lt") (plain_text (codes "lt") refl) sound.place refl
+      (λ n raw w. record {
+        reference = Named (codes "lt");
+        inside = [];
+        keeps = (less_than.part, λ _. less_than.known);
+        is = refl;
+        wrote = w;
+        means = refl;
+      })
+
+  entity_lives : (name : List ℕ) → Sound (standing (AtEntity within name) begun frames)
+      → Live (standing (AtEntity within name) begun frames)
+  entity_lives name sound =
+      let more = completes name sound.place.2 in
+      live_behind begun frames within behind (AtEntity within name)
+      (or_zero (entity (name ++ more.rest))) more.rest more.good sound.place.0 refl
+      (λ n raw w. record {
+        reference = Named (name ++ more.rest);
+        inside = name;
+        keeps = (more.is.part, λ _. more.is.known);
+        is = refl;
+        wrote = w.0;
+        means = refl;
+      })
+
+  nine : (p : Place) (hexadecimal : Bool) → brackets_at p ≡ 0 → SoundWithin within begun frames
+      → ((n : ℕ) (raw : List ℕ) → Wrote n (wanted frames) p raw → Digits n within hexadecimal 0 raw)
+      → Live (standing p begun frames)
+  nine p hexadecimal none inside wrote =
+      let one = nine_digits hexadecimal in
+      live_behind begun frames within behind p (number_on hexadecimal 0 (57 ∷ [])) (57 ∷ [])
+      (good_low 57 (omega arith) (omega arith), tt) inside none
+      (λ n raw w. let d = wrote n raw w in record {
+        reference = Numbered hexadecimal (d.digits ++ 57 ∷ []);
+        inside = 35 ∷ (base_mark hexadecimal ++ d.digits);
+        keeps = (
+          some_push d.digits 57,
+          all_push (is_digit hexadecimal) d.digits 57 d.are one.0.0,
+          λ _. ap is_allowed (number_push hexadecimal d.digits 0 57 d.number) ∙ one.1,
+        );
+        is = inside_more hexadecimal d.digits (57 ∷ []);
+        wrote = d.wrote;
+        means = number_push hexadecimal d.digits 0 57 d.number;
+      })
+
+  number_lives : (hexadecimal : Bool) (value : ℕ)
+      → Sound (standing (AtNumber within hexadecimal value) begun frames)
+      → Live (standing (AtNumber within hexadecimal value) begun frames)
+  number_lives hexadecimal value sound =
+      let more = grows hexadecimal value sound.place.1 in
+      live_behind begun frames within behind (AtNumber within hexadecimal value)
+      (number_on hexadecimal value more.more) more.more
+      (each-map (λ c. is_digit hexadecimal c ≡ true) Good (digit_good hexadecimal) more.more more.digits)
+      sound.place.0 refl
+      (λ n raw w. record {
+        reference = Numbered hexadecimal (w.0 ++ more.more);
+        inside = 35 ∷ (base_mark hexadecimal ++ w.0);
+        keeps = (
+          some_behind w.0 more.more w.1,
+          each-append (λ c. is_digit hexadecimal c ≡ true) w.0 more.more w.2 more.digits,
+          λ _. ap is_allowed (number_on-append hexadecimal 0 w.0 more.more
+          ∙ ap (λ m. number_on hexadecimal m more.more) w.3) ∙ more.allowed,
+        );
+        is = inside_more hexadecimal w.0 more.more;
+        wrote = w.4;
+        means =
+            number_on-append hexadecimal 0 w.0 more.more
+            ∙ ap (λ m. number_on hexadecimal m more.more) w.3;
+      })
+    where
+      digit_good : (h : Bool) (c : ℕ) → is_digit h c ≡ true → Good c
+      digit_good h c is = let plain = digit_plain h c is in good_low c plain.0 plain.1
+
+-- the same wherever something might come before
+module _ (ahead : Ahead) (begun : ℕ) (frames : List Frame) (within : Within)
+    (behind : (d : ℕ) → Live (standing (place_behind within d) begun frames)) where
+  pub reference_answers : (c : ℕ) → Sound (at ahead (AtReference within) begun frames) → Good c
+      → Answer (at ahead (AtReference within) begun frames) c
+          (reference_step (at ahead (AtReference within) begun frames) within c)
+  reference_answers c sound good =
+      only_standing (λ s. Answer s c (reference_step s within c)) ahead (AtReference within) begun
+      frames refl sound (reference_step_answers begun frames within behind c)
+
+  pub entity_answers : (name : List ℕ) (c : ℕ) → Sound (at ahead (AtEntity within name) begun frames)
+      → Good c
+      → Answer (at ahead (AtEntity within name) begun frames) c
+          (entity_step (at ahead (AtEntity within name) begun frames) within name c)
+  entity_answers name c sound good =
+      only_standing (λ s. Answer s c (entity_step s within name c)) ahead (AtEntity within name) begun
+      frames refl sound (entity_step_answers begun frames within behind name c)
+
+  pub hash_answers : (c : ℕ) → Sound (at ahead (AtHash within) begun frames) → Good c
+      → Answer (at ahead (AtHash within) begun frames) c
+          (hash_step (at ahead (AtHash within) begun frames) within c)
+  hash_answers c sound good =
+      only_standing (λ s. Answer s c (hash_step s within c)) ahead (AtHash within) begun frames refl
+      sound (hash_step_answers begun frames within behind c)
+
+  pub hexadecimal_answers : (c : ℕ) → Sound (at ahead (AtHexadecimal within) begun frames) → Good c
+      → Answer (at ahead (AtHexadecimal within) begun frames) c
+          (hexadecimal_step (at ahead (AtHexadecimal within) begun frames) within c)
+  hexadecimal_answers c sound good =
+      only_standing (λ s. Answer s c (hexadecimal_step s within c)) ahead (AtHexadecimal within) begun
+      frames refl sound (hexadecimal_step_answers begun frames within behind c)
+
+  pub number_answers : (hexadecimal : Bool) (value c : ℕ)
+      → Sound (at ahead (AtNumber within hexadecimal value) begun frames) → Good c
+      → Answer (at ahead (AtNumber within hexadecimal value) begun frames) c
+          (number_step (at ahead (AtNumber within hexadecimal value) begun frames) within hexadecimal
+          value c)
+  number_answers hexadecimal value c sound good =
+      only_standing (λ s. Answer s c (number_step s within hexadecimal value c)) ahead
+      (AtNumber within hexadecimal value) begun frames refl sound
+      (number_step_answers begun frames within behind hexadecimal value c)
+
+  pub reference_live : Sound (at ahead (AtReference within) begun frames)
+      → Live (at ahead (AtReference within) begun frames)
+  reference_live sound =
+      only_standing Live ahead (AtReference within) begun frames refl sound
+      (reference_lives begun frames within behind)
+
+  pub entity_live : (name : List ℕ) → Sound (at ahead (AtEntity within name) begun frames)
+      → Live (at ahead (AtEntity within name) begun frames)
+  entity_live name sound =
+      only_standing Live ahead (AtEntity within name) begun frames refl sound
+      (entity_lives begun frames within behind name)
+
+  pub hash_live : Sound (at ahead (AtHash within) begun frames)
+      → Live (at ahead (AtHash within) begun frames)
+  hash_live sound =
+      only_standing Live ahead (AtHash within) begun frames refl sound
+      (λ s. nine begun frames within behind (AtHash within) false refl s.place
+      (λ n raw w. record { digits = []; are = tt; number = refl; wrote = w }))
+
+  pub hexadecimal_live : Sound (at ahead (AtHexadecimal within) begun frames)
+      → Live (at ahead (AtHexadecimal within) begun frames)
+  hexadecimal_live sound =
+      only_standing Live ahead (AtHexadecimal within) begun frames refl sound
+      (λ s. nine begun frames within behind (AtHexadecimal within) true refl s.place
+      (λ n raw w. record { digits = []; are = tt; number = refl; wrote = w }))
+
+  pub number_live : (hexadecimal : Bool) (value : ℕ)
+      → Sound (at ahead (AtNumber within hexadecimal value) begun frames)
+      → Live (at ahead (AtNumber within hexadecimal value) begun frames)
+  number_live hexadecimal value sound =
+      only_standing Live ahead (AtNumber within hexadecimal value) begun frames refl sound
+      (number_lives begun frames within behind hexadecimal value)
+
+-- behind a reference in a content
+pub behind_in_content : (begun : ℕ) (frames : List Frame) → SoundFrames frames
+    → SoundRoots begun frames → (d : ℕ) → Live (standing (place_behind InContent d) begun frames)
+behind_in_content begun frames sound roots d =
+    let closing = close_all begun frames 0 sound roots in
+    record {
+      more = closing.0;
+      good = closing.1;
+      from = λ n. record {
+        whole = λ raw is. subst (λ l. Close n begun frames 0 (l ++ closing.0)) (sym is) (closing.2 n);
+      };
+    }

@@ -13,16 +13,9 @@ use Rattle.dfdl_markup.specs.Values.{entities, entity}
 use Rattle.dfdl_markup.specs.Rules.{IsPart}
 use Rattle.dfdl_markup.specs.Machine.{begins, begins_entity}
 use Rattle.dfdl_markup.proofs.Answers.{Good}
+use Rattle.dfdl_markup.proofs.Closing.{good_low}
 
-plain_allowed : (c : ℕ) → 32 ≤ c → c < 128 → is_allowed c ≡ true
-unfolding is_allowed char_rows
-plain_allowed c least less = grind (arith, nat_tests)
-
--- ASCII characters that are no controls are allowed
-pub plain_good : (c : ℕ) → 32 ≤ c → c < 128 → Good c
-plain_good c least less = (scalar_range c (omega arith), plain_allowed c least less)
-
--- a text of such characters
+-- a text of ASCII characters that are no controls
 abbrev pub is_plain : List ℕ → Bool
 is_plain text = list_all (λ c. nat_le 32 c && nat_le c 127) text
 
@@ -33,7 +26,7 @@ plain_text (c ∷ text) is =
     let ends = and_parts (nat_le 32 c) (nat_le c 127) both.0 in
     let least : 32 ≤ c = leb-true 32 c ends.0 in
     let most : c ≤ 127 = leb-true c 127 ends.1 in
-    (plain_good c least (omega arith), plain_text text both.1)
+    (good_low c least (omega arith), plain_text text both.1)
 
 -- what begins a word goes on to it
 pub begins_is : (text word : List ℕ) → begins text word ≡ true

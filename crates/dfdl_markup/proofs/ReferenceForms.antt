@@ -12,20 +12,17 @@ use Rattle.dfdl_markup.specs.Grammar.{Referring, Name, given_start, tag_characte
 use Rattle.dfdl_markup.specs.Values.{referred, items_read, ends_in_cr, letter_read}
 use Rattle.dfdl_markup.specs.Rules.{ReferenceKeeps, ItemKeeps}
 use Rattle.dfdl_markup.specs.Machine.{Within, InContent, InValue, OpenValue, Place, AtContent, AtValue}
-use Rattle.dfdl_markup.specs.Machine.{Ahead, NothingAhead, Frame, State, stand, with_text, fixed_value}
+use Rattle.dfdl_markup.specs.Machine.{NothingAhead, Frame, State, stand, with_text, fixed_value}
 use Rattle.dfdl_markup.specs.Machine.{referred_to, wanted}
 use Rattle.dfdl_markup.proofs.Rest.{ReadAs, WroteValue, WroteName, WroteWithin, WroteReference, Wrote}
 use Rattle.dfdl_markup.proofs.Rest.{Close, Whole, From, brackets_at}
 use Rattle.dfdl_markup.proofs.Sound.{IsInside, SoundWithin}
+use Rattle.dfdl_markup.proofs.Closing.{grow_reference}
+use Rattle.dfdl_markup.proofs.Moves.{at}
 
--- the state at a place
-abbrev pub placed : Ahead → Place → ℕ → List Frame → State
-placed ahead place begun frames =
-    record { ahead = ahead; place = place; begun = begun; frames = frames }
-
--- and behind all that may come before
+-- the state at a place behind all that may come before
 abbrev pub standing : Place → ℕ → List Frame → State
-standing place begun frames = placed NothingAhead place begun frames
+standing place begun frames = at NothingAhead place begun frames
 
 -- the place behind a reference to this character
 abbrev pub place_behind : Within → ℕ → Place
@@ -114,26 +111,9 @@ value_more n v front reference none keeps wrote = record {
   };
 }
 
--- a reference before what is inside of an element
-grow_reference : (n begun : ℕ) (frames : List Frame) (reference : Reference) (text : List ℕ)
-    → IsInside frames → ReferenceKeeps n reference → Close n begun frames 0 text
-    → Close n begun frames 0 (reference_characters reference ++ text)
-grow_reference n begun [] reference text inside keeps close = absurd inside
-grow_reference n begun (frame ∷ frames) reference text inside keeps close = record {
-  content = Referring reference close.content;
-  keeps = (keeps, λ _. zero-lt-suc (length frames), close.keeps);
-  name = close.name;
-  space = close.space;
-  rest = close.rest;
-  is =
-      ap (λ l. reference_characters reference ++ l) close.is
-      ∙ sym (append_assoc (reference_characters reference) (spelling close.content)
-      (60 ∷ 47 ∷ (name_characters close.name ++ (close.space ++ 62 ∷ close.rest))));
-  closed = close.closed;
-  white = close.white;
-  ends = close.ends;
-  after = close.after;
-}
+some_inside : (frames : List Frame) → IsInside frames → 0 < length frames
+some_inside [] inside = absurd inside
+some_inside (frame ∷ frames) inside = zero-lt-suc (length frames)
 
 -- what follows behind a reference follows behind its `&` with the reference before it
 pub reference_whole : (n begun : ℕ) (frames : List Frame) (within : Within) (reference : Reference)
@@ -143,7 +123,8 @@ pub reference_whole : (n begun : ℕ) (frames : List Frame) (within : Within) (r
     → Close n begun frames 0 (front ++ (reference_characters reference ++ text))
 reference_whole n begun frames InContent reference front text sound keeps wrote from =
     subst (λ l. Close n begun frames 0 (l ++ (reference_characters reference ++ text))) (sym wrote)
-    (grow_reference n begun frames reference text sound keeps (from.whole [] refl))
+    (grow_reference n begun frames 0 reference text keeps (λ _. some_inside frames sound)
+    (from.whole [] refl))
 reference_whole n begun frames (InValue v) reference front text sound keeps wrote from =
     subst (λ l. Close n begun frames 0 l) (append_assoc front (reference_characters reference) text)
     (from.whole (front ++ reference_characters reference)

@@ -22,27 +22,16 @@ use Rattle.dfdl_markup.proofs.Sound.{IsInside, KeepsFixed, SoundWithin, SoundAt,
 use Rattle.dfdl_markup.proofs.Sound.{in_declaration, before_declaration, Sound}
 use Rattle.dfdl_markup.proofs.Answers.{Good, Leads, Told, Live, Answer, live_by}
 use Rattle.dfdl_markup.proofs.ReferenceNumbers.{number_on-append, Grows, grows, digit_least, nine_allowed}
-use Rattle.dfdl_markup.proofs.ReferenceEntities.{plain_good, IsEntity, Completes, completes, less_than}
-use Rattle.dfdl_markup.proofs.ReferenceForms.{placed, standing, place_behind, behind_is, reference_more}
+use Rattle.dfdl_markup.proofs.Closing.{good_low}
+use Rattle.dfdl_markup.proofs.Moves.{at}
+use Rattle.dfdl_markup.proofs.ReferenceForms.{standing, place_behind, behind_is, reference_more}
 use Rattle.dfdl_markup.proofs.ReferenceForms.{reference_ends}
-
--- a step that only reads on
-pub moves : (ahead : Ahead) (begun : ℕ) (frames : List Frame) (p q : Place) (n c : ℕ) (text : List ℕ)
-    → brackets_at p ≡ brackets_at q
-    → ((raw : List ℕ) → Wrote n (wanted frames) p raw → Wrote n (wanted frames) q (raw ++ c ∷ []))
-    → From n (placed ahead q begun frames) text → From n (placed ahead p begun frames) (c ∷ text)
-moves ahead begun frames p q n c text same wrote from = record {
-  whole = λ raw w.
-      subst (λ l. Whole ahead n begun frames (brackets_at p) l) (append_assoc raw (c ∷ []) text)
-      (subst (λ b. Whole ahead n begun frames b ((raw ++ c ∷ []) ++ text)) (sym same)
-      (from.whole (raw ++ c ∷ []) (wrote raw w)));
-}
 
 -- where only nothing may come before any more
 pub only_standing : (P : State → Type 0) (ahead : Ahead) (place : Place) (begun : ℕ) (frames : List Frame)
-    → before_declaration place ≡ false → Sound (placed ahead place begun frames)
+    → before_declaration place ≡ false → Sound (at ahead place begun frames)
     → (Sound (standing place begun frames) → P (standing place begun frames))
-    → P (placed ahead place begun frames)
+    → P (at ahead place begun frames)
 only_standing P NothingAhead place begun frames late sound holds = holds sound
 only_standing P DeclarationAhead place begun frames late sound holds =
     let early = sound.ahead.0 in absurd (cc)
@@ -99,17 +88,6 @@ module _ (begun : ℕ) (frames : List Frame) (within : Within) where
         (subst (λ m. From n (standing (place_behind within m) begun frames) text) (sym e.means) from));
   }
 
-  -- a reading on within the reference
-  pub leads_on : (p q : Place) (c : ℕ) → Sound (standing p begun frames) → in_declaration q ≡ false
-      → SoundAt q begun frames → brackets_at p ≡ brackets_at q
-      → ((n : ℕ) (raw : List ℕ) → Wrote n (wanted frames) p raw
-      → Wrote n (wanted frames) q (raw ++ c ∷ []))
-      → Leads (standing p begun frames) c (standing q begun frames)
-  leads_on p q c sound late place same wrote = record {
-    sound = at_place p q sound late place;
-    back = λ n text from. moves NothingAhead begun frames p q n c text same (wrote n) from;
-  }
-
   -- the `;`
   pub leads_behind : (p : Place) (c d : ℕ) → c ≡ 59 → Sound (standing p begun frames)
       → SoundWithin within begun frames → brackets_at p ≡ 0
@@ -127,7 +105,7 @@ module _ (begun : ℕ) (frames : List Frame) (within : Within) where
 
   module _ (behind : (d : ℕ) → Live (standing (place_behind within d) begun frames)) where
     semicolon : Good 59
-    semicolon = plain_good 59 (omega arith) (omega arith)
+    semicolon = good_low 59 (omega arith) (omega arith)
 
     -- the rest of a reference ends the document
     pub live_behind : (p : Place) (d : ℕ) (more : List ℕ) → Each Good more

@@ -1,29 +1,29 @@
 -- References: what each step answers, and that some text ends the document from each place.
-use Rattle.std.proofs.Common.{◌≡◌, ℕ, ◌+◌, ◌*◌, ◌<◌, ◌≤◌, ◌==◌, Bool, true, false, List, [], ◌∷◌}
-use Rattle.std.proofs.Common.{◌++◌, length, Option, Some, None, Result, Ok, Err, refl, sym, ap, subst}
+use Rattle.std.proofs.Common.{◌≡◌, ℕ, ◌+◌, ◌*◌, ◌<◌, ◌==◌, Bool, true, false, List, [], ◌∷◌}
+use Rattle.std.proofs.Common.{◌++◌, length, Option, Some, None, Ok, Err, refl, sym, ap, subst}
 use Rattle.std.proofs.Common.{◌∙◌, arith, append_assoc, append-nil, nat_le, if◌then◌else◌, IsSome, codes}
 use Rattle.std.proofs.Common.{length-append}
 use Rattle.std.proofs.lemmas.Bool.{cond_both, eqb-true, leb-true}
 use Rattle.dfdl_layers.specs.Tellers.{Each}
 use Rattle.dfdl_layers.proofs.Runs.{each-append, each-map}
 use Rattle.dfdl_xml_chars.specs.Characters.{is_allowed, is_name_start, is_name_char}
-use Rattle.dfdl_markup.specs.Grammar.{Named, Numbered, base_mark, reference_inside}
+use Rattle.dfdl_markup.specs.Grammar.{Named, Numbered, base_mark}
 use Rattle.dfdl_markup.specs.Values.{is_digit, digit_value, base_of, number_on, entity, or_zero}
-use Rattle.dfdl_markup.specs.Rules.{IsPart, ReferenceKeeps}
+use Rattle.dfdl_markup.specs.Rules.{IsPart}
 use Rattle.dfdl_markup.specs.Machine.{Within, InContent, Place, AtReference, AtEntity, AtHash, AtHexadecimal}
-use Rattle.dfdl_markup.specs.Machine.{AtNumber, Ahead, NothingAhead, Frame, State, stand, referred_to, wanted}
+use Rattle.dfdl_markup.specs.Machine.{AtNumber, Ahead, NothingAhead, Frame, referred_to, wanted}
 use Rattle.dfdl_markup.specs.Machine.{begins_entity, entity_next, reference_step, entity_ended}
 use Rattle.dfdl_markup.specs.Machine.{entity_step, number_next, hash_step, hexadecimal_step, number_step}
 use Rattle.dfdl_markup.proofs.Rest.{WroteReference, Wrote, Close, brackets_at}
 use Rattle.dfdl_markup.proofs.Sound.{SoundWithin, SoundFrames, SoundRoots, Sound}
 use Rattle.dfdl_markup.proofs.Answers.{Good, Live, Answer}
-use Rattle.dfdl_markup.proofs.ReferenceNumbers.{number_on-append, grows, digit_least, digit_plain}
+use Rattle.dfdl_markup.proofs.ReferenceNumbers.{number_on-append, grows, digit_plain}
 use Rattle.dfdl_markup.proofs.ReferenceNumbers.{nine_digits}
 use Rattle.dfdl_markup.proofs.Closing.{good_low, close_all}
 use Rattle.dfdl_markup.proofs.Moves.{at, malformed, reads_on}
 use Rattle.dfdl_markup.proofs.ReferenceEntities.{plain_text, completes, less_than}
 use Rattle.dfdl_markup.proofs.ReferenceForms.{standing, place_behind, reference_more}
-use Rattle.dfdl_markup.proofs.ReferenceSteps.{only_standing, Ends, leads_behind}
+use Rattle.dfdl_markup.proofs.ReferenceSteps.{only_standing, leads_behind}
 use Rattle.dfdl_markup.proofs.ReferenceSteps.{live_behind, told_last, told_behind}
 
 all_push : (f : ℕ → Bool) (text : List ℕ) (c : ℕ) → Each (λ d. f d ≡ true) text → f c ≡ true
@@ -66,7 +66,7 @@ module _ (begun : ℕ) (frames : List Frame) (within : Within)
       → SoundWithin within begun frames → brackets_at p ≡ 0 → IsPart (name ++ c ∷ [])
       → ((n : ℕ) (raw : List ℕ) → Wrote n (wanted frames) p raw → WroteReference n within name raw)
       → Answer (standing p begun frames) c
-          (entity_next (standing p begun frames) within (name ++ c ∷ []))
+      (entity_next (standing p begun frames) within (name ++ c ∷ []))
   name_answers p name c sound inside none part wrote =
       cond_both (begins_entity (name ++ c ∷ []))
       (Ok (standing (AtEntity within (name ++ c ∷ [])) begun frames)) (Err 6)
@@ -74,33 +74,41 @@ module _ (begun : ℕ) (frames : List Frame) (within : Within)
       (λ some. reads_on NothingAhead p (AtEntity within (name ++ c ∷ [])) begun frames c sound none refl
       (inside, part, some)
       (λ n raw w. (reference_more n within name raw c (wrote n raw w), part)))
-      (λ other. (omega arith, omega arith, λ _.
-      told_last begun frames within behind p 6 c (or_zero (entity (name ++ c ∷ []))) inside none
-      (λ raw w. record {
-        reference = Named (name ++ c ∷ []);
-        inside = name;
-        keeps = (part, λ less. absurd (omega (arith, less)));
-        is = refl;
-        wrote = wrote 6 raw w;
-        means = refl;
-      })))
+      (λ other. (
+        omega arith,
+        omega arith,
+        λ _.
+            told_last begun frames within behind p 6 c (or_zero (entity (name ++ c ∷ []))) inside none
+            (λ raw w. record {
+              reference = Named (name ++ c ∷ []);
+              inside = name;
+              keeps = (part, λ less. absurd (omega (arith, less)));
+              is = refl;
+              wrote = wrote 6 raw w;
+              means = refl;
+            }),
+      ))
 
   -- a name that ends
   name_ends : (name : List ℕ) (o : Option ℕ) (c : ℕ) → entity name ≡ o → c ≡ 59
       → Sound (standing (AtEntity within name) begun frames)
       → Answer (standing (AtEntity within name) begun frames) c
-          (entity_ended (standing (AtEntity within name) begun frames) within o)
-  name_ends name None c known is sound = (omega arith, omega arith, λ _.
-      told_behind begun frames within behind (AtEntity within name) 6 c (or_zero (entity name)) is
-      sound.place.0 refl
-      (λ raw w. record {
-        reference = Named name;
-        inside = name;
-        keeps = (w.1, λ less. absurd (omega (arith, less)));
-        is = append-nil name;
-        wrote = w.0;
-        means = refl;
-      }))
+      (entity_ended (standing (AtEntity within name) begun frames) within o)
+  name_ends name None c known is sound = (
+    omega arith,
+    omega arith,
+    λ _.
+        told_behind begun frames within behind (AtEntity within name) 6 c (or_zero (entity name)) is
+        sound.place.0 refl
+        (λ raw w. record {
+          reference = Named name;
+          inside = name;
+          keeps = (w.1, λ less. absurd (omega (arith, less)));
+          is = append-nil name;
+          wrote = w.0;
+          means = refl;
+        }),
+  )
   name_ends name (Some d) c known is sound =
       leads_behind begun frames within (AtEntity within name) c d is sound sound.place.0 refl
       (λ n raw w. record {
@@ -119,7 +127,7 @@ module _ (begun : ℕ) (frames : List Frame) (within : Within)
       → ((n : ℕ) (raw : List ℕ) → Wrote n (wanted frames) p raw
       → Digits n within hexadecimal value raw)
       → Answer (standing p begun frames) c
-          (number_next (standing p begun frames) within hexadecimal next)
+      (number_next (standing p begun frames) within hexadecimal next)
   number_answers_next p hexadecimal value next c sound inside none is_one is wrote =
       cond_both (nat_le next 0x10FFFF)
       (Ok (standing (AtNumber within hexadecimal next) begun frames)) (Err 12)
@@ -132,27 +140,31 @@ module _ (begun : ℕ) (frames : List Frame) (within : Within)
         all_push (is_digit hexadecimal) d.digits c d.are is_one,
         number_push hexadecimal d.digits value c d.number ∙ is,
         subst (λ l. WroteReference n within l (raw ++ c ∷ []))
-        (inside_more hexadecimal d.digits (c ∷ []))
-        (reference_more n within (35 ∷ (base_mark hexadecimal ++ d.digits)) raw c d.wrote),
+            (inside_more hexadecimal d.digits (c ∷ []))
+            (reference_more n within (35 ∷ (base_mark hexadecimal ++ d.digits)) raw c d.wrote),
       )))
-      (λ more. (omega arith, omega arith, λ _.
-      told_last begun frames within behind p 12 c next inside none
-      (λ raw w. let d = wrote 12 raw w in record {
-        reference = Numbered hexadecimal (d.digits ++ c ∷ []);
-        inside = 35 ∷ (base_mark hexadecimal ++ d.digits);
-        keeps = (
-          some_push d.digits c,
-          all_push (is_digit hexadecimal) d.digits c d.are is_one,
-          λ less. absurd (omega (arith, less)),
-        );
-        is = inside_more hexadecimal d.digits (c ∷ []);
-        wrote = d.wrote;
-        means = number_push hexadecimal d.digits value c d.number ∙ is;
-      })))
+      (λ more. (
+        omega arith,
+        omega arith,
+        λ _.
+            told_last begun frames within behind p 12 c next inside none
+            (λ raw w. let d = wrote 12 raw w in record {
+              reference = Numbered hexadecimal (d.digits ++ c ∷ []);
+              inside = 35 ∷ (base_mark hexadecimal ++ d.digits);
+              keeps = (
+                some_push d.digits c,
+                all_push (is_digit hexadecimal) d.digits c d.are is_one,
+                λ less. absurd (omega (arith, less)),
+              );
+              is = inside_more hexadecimal d.digits (c ∷ []);
+              wrote = d.wrote;
+              means = number_push hexadecimal d.digits value c d.number ∙ is;
+            }),
+      ))
 
   reference_step_answers : (c : ℕ) → Sound (standing (AtReference within) begun frames)
       → Answer (standing (AtReference within) begun frames) c
-          (reference_step (standing (AtReference within) begun frames) within c)
+      (reference_step (standing (AtReference within) begun frames) within c)
   unfolding reference_step
   reference_step_answers c sound =
       let s = standing (AtReference within) begun frames in
@@ -170,7 +182,7 @@ module _ (begun : ℕ) (frames : List Frame) (within : Within)
 
   entity_step_answers : (name : List ℕ) (c : ℕ) → Sound (standing (AtEntity within name) begun frames)
       → Answer (standing (AtEntity within name) begun frames) c
-          (entity_step (standing (AtEntity within name) begun frames) within name c)
+      (entity_step (standing (AtEntity within name) begun frames) within name c)
   unfolding entity_step
   entity_step_answers name c sound =
       let s = standing (AtEntity within name) begun frames in
@@ -184,7 +196,7 @@ module _ (begun : ℕ) (frames : List Frame) (within : Within)
 
   hash_step_answers : (c : ℕ) → Sound (standing (AtHash within) begun frames)
       → Answer (standing (AtHash within) begun frames) c
-          (hash_step (standing (AtHash within) begun frames) within c)
+      (hash_step (standing (AtHash within) begun frames) within c)
   unfolding hash_step
   hash_step_answers c sound =
       let s = standing (AtHash within) begun frames in
@@ -203,7 +215,7 @@ module _ (begun : ℕ) (frames : List Frame) (within : Within)
 
   hexadecimal_step_answers : (c : ℕ) → Sound (standing (AtHexadecimal within) begun frames)
       → Answer (standing (AtHexadecimal within) begun frames) c
-          (hexadecimal_step (standing (AtHexadecimal within) begun frames) within c)
+      (hexadecimal_step (standing (AtHexadecimal within) begun frames) within c)
   unfolding hexadecimal_step
   hexadecimal_step_answers c sound =
       let s = standing (AtHexadecimal within) begun frames in
@@ -217,9 +229,9 @@ module _ (begun : ℕ) (frames : List Frame) (within : Within)
   number_ends : (hexadecimal : Bool) (value c : ℕ) → c ≡ 59
       → Sound (standing (AtNumber within hexadecimal value) begun frames)
       → Answer (standing (AtNumber within hexadecimal value) begun frames) c
-          (if is_allowed value
-          then Ok (referred_to (standing (AtNumber within hexadecimal value) begun frames) within value)
-          else Err 12)
+      (if is_allowed value
+      then Ok (referred_to (standing (AtNumber within hexadecimal value) begun frames) within value)
+      else Err 12)
   number_ends hexadecimal value c is sound =
       let p = AtNumber within hexadecimal value in
       cond_both (is_allowed value) (Ok (referred_to (standing p begun frames) within value)) (Err 12)
@@ -233,22 +245,26 @@ module _ (begun : ℕ) (frames : List Frame) (within : Within)
         wrote = w.4;
         means = w.3;
       }))
-      (λ other. (omega arith, omega arith, λ _.
-      told_behind begun frames within behind p 12 c value is sound.place.0 refl
-      (λ raw w. record {
-        reference = Numbered hexadecimal w.0;
-        inside = 35 ∷ (base_mark hexadecimal ++ w.0);
-        keeps = (w.1, w.2, λ less. absurd (omega (arith, less)));
-        is = append-nil (35 ∷ (base_mark hexadecimal ++ w.0));
-        wrote = w.4;
-        means = w.3;
-      })))
+      (λ other. (
+        omega arith,
+        omega arith,
+        λ _.
+            told_behind begun frames within behind p 12 c value is sound.place.0 refl
+            (λ raw w. record {
+              reference = Numbered hexadecimal w.0;
+              inside = 35 ∷ (base_mark hexadecimal ++ w.0);
+              keeps = (w.1, w.2, λ less. absurd (omega (arith, less)));
+              is = append-nil (35 ∷ (base_mark hexadecimal ++ w.0));
+              wrote = w.4;
+              means = w.3;
+            }),
+      ))
 
   number_step_answers : (hexadecimal : Bool) (value c : ℕ)
       → Sound (standing (AtNumber within hexadecimal value) begun frames)
       → Answer (standing (AtNumber within hexadecimal value) begun frames) c
-          (number_step (standing (AtNumber within hexadecimal value) begun frames) within hexadecimal
-          value c)
+      (number_step (standing (AtNumber within hexadecimal value) begun frames) within hexadecimal
+      value c)
   unfolding number_step
   number_step_answers hexadecimal value c sound =
       let p = AtNumber within hexadecimal value in
@@ -330,7 +346,7 @@ module _ (begun : ℕ) (frames : List Frame) (within : Within)
           some_behind w.0 more.more w.1,
           each-append (λ c. is_digit hexadecimal c ≡ true) w.0 more.more w.2 more.digits,
           λ _. ap is_allowed (number_on-append hexadecimal 0 w.0 more.more
-          ∙ ap (λ m. number_on hexadecimal m more.more) w.3) ∙ more.allowed,
+              ∙ ap (λ m. number_on hexadecimal m more.more) w.3) ∙ more.allowed,
         );
         is = inside_more hexadecimal w.0 more.more;
         wrote = w.4;
@@ -347,7 +363,7 @@ module _ (ahead : Ahead) (begun : ℕ) (frames : List Frame) (within : Within)
     (behind : (d : ℕ) → Live (standing (place_behind within d) begun frames)) where
   pub reference_answers : (c : ℕ) → Sound (at ahead (AtReference within) begun frames) → Good c
       → Answer (at ahead (AtReference within) begun frames) c
-          (reference_step (at ahead (AtReference within) begun frames) within c)
+      (reference_step (at ahead (AtReference within) begun frames) within c)
   reference_answers c sound good =
       only_standing (λ s. Answer s c (reference_step s within c)) ahead (AtReference within) begun
       frames refl sound (reference_step_answers begun frames within behind c)
@@ -355,21 +371,21 @@ module _ (ahead : Ahead) (begun : ℕ) (frames : List Frame) (within : Within)
   pub entity_answers : (name : List ℕ) (c : ℕ) → Sound (at ahead (AtEntity within name) begun frames)
       → Good c
       → Answer (at ahead (AtEntity within name) begun frames) c
-          (entity_step (at ahead (AtEntity within name) begun frames) within name c)
+      (entity_step (at ahead (AtEntity within name) begun frames) within name c)
   entity_answers name c sound good =
       only_standing (λ s. Answer s c (entity_step s within name c)) ahead (AtEntity within name) begun
       frames refl sound (entity_step_answers begun frames within behind name c)
 
   pub hash_answers : (c : ℕ) → Sound (at ahead (AtHash within) begun frames) → Good c
       → Answer (at ahead (AtHash within) begun frames) c
-          (hash_step (at ahead (AtHash within) begun frames) within c)
+      (hash_step (at ahead (AtHash within) begun frames) within c)
   hash_answers c sound good =
       only_standing (λ s. Answer s c (hash_step s within c)) ahead (AtHash within) begun frames refl
       sound (hash_step_answers begun frames within behind c)
 
   pub hexadecimal_answers : (c : ℕ) → Sound (at ahead (AtHexadecimal within) begun frames) → Good c
       → Answer (at ahead (AtHexadecimal within) begun frames) c
-          (hexadecimal_step (at ahead (AtHexadecimal within) begun frames) within c)
+      (hexadecimal_step (at ahead (AtHexadecimal within) begun frames) within c)
   hexadecimal_answers c sound good =
       only_standing (λ s. Answer s c (hexadecimal_step s within c)) ahead (AtHexadecimal within) begun
       frames refl sound (hexadecimal_step_answers begun frames within behind c)
@@ -377,8 +393,8 @@ module _ (ahead : Ahead) (begun : ℕ) (frames : List Frame) (within : Within)
   pub number_answers : (hexadecimal : Bool) (value c : ℕ)
       → Sound (at ahead (AtNumber within hexadecimal value) begun frames) → Good c
       → Answer (at ahead (AtNumber within hexadecimal value) begun frames) c
-          (number_step (at ahead (AtNumber within hexadecimal value) begun frames) within hexadecimal
-          value c)
+      (number_step (at ahead (AtNumber within hexadecimal value) begun frames) within hexadecimal
+      value c)
   number_answers hexadecimal value c sound good =
       only_standing (λ s. Answer s c (number_step s within hexadecimal value c)) ahead
       (AtNumber within hexadecimal value) begun frames refl sound

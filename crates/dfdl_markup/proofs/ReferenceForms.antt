@@ -1,21 +1,20 @@
 -- References as they are written: how one grows, and what may follow where it ends.
-use Rattle.std.proofs.Common.{◌≡◌, ℕ, suc, ◌+◌, ◌<◌, ◌≤◌, ◌==◌, Bool, true, false, List, [], ◌∷◌}
-use Rattle.std.proofs.Common.{◌++◌, length, Option, Some, None, refl, sym, ap, subst, ◌∙◌, arith}
+use Rattle.std.proofs.Common.{◌≡◌, ℕ, ◌<◌, ◌==◌, Bool, false, List, [], ◌∷◌}
+use Rattle.std.proofs.Common.{◌++◌, length, Option, Some, None, refl, sym, ap, subst, ◌∙◌}
 use Rattle.std.proofs.Common.{append_assoc, append-nil, zero-lt-suc}
 use Rattle.std.specs.List.{flat_map}
 use Rattle.std.proofs.lemmas.List.Concat.{flat_map-append}
-use Rattle.dfdl_layers.specs.Tellers.{Each}
 use Rattle.dfdl_layers.proofs.Runs.{each-append}
-use Rattle.dfdl_markup.specs.Grammar.{Reference, Item, Letter, Referred, item_characters, spelling}
-use Rattle.dfdl_markup.specs.Grammar.{reference_inside, reference_characters, name_characters}
-use Rattle.dfdl_markup.specs.Grammar.{Referring, Name, given_start, tag_characters}
+use Rattle.dfdl_markup.specs.Grammar.{Reference, Item, Letter, Referred, item_characters}
+use Rattle.dfdl_markup.specs.Grammar.{reference_inside, reference_characters}
+use Rattle.dfdl_markup.specs.Grammar.{given_start, tag_characters}
 use Rattle.dfdl_markup.specs.Values.{referred, items_read, ends_in_cr, letter_read}
 use Rattle.dfdl_markup.specs.Rules.{ReferenceKeeps, ItemKeeps}
 use Rattle.dfdl_markup.specs.Machine.{Within, InContent, InValue, OpenValue, Place, AtContent, AtValue}
-use Rattle.dfdl_markup.specs.Machine.{NothingAhead, Frame, State, stand, with_text, fixed_value}
-use Rattle.dfdl_markup.specs.Machine.{referred_to, wanted}
-use Rattle.dfdl_markup.proofs.Rest.{ReadAs, WroteValue, WroteName, WroteWithin, WroteReference, Wrote}
-use Rattle.dfdl_markup.proofs.Rest.{Close, Whole, From, brackets_at}
+use Rattle.dfdl_markup.specs.Machine.{NothingAhead, Frame, State, with_text, fixed_value}
+use Rattle.dfdl_markup.specs.Machine.{referred_to}
+use Rattle.dfdl_markup.proofs.Rest.{ReadAs, WroteValue, WroteWithin, WroteReference}
+use Rattle.dfdl_markup.proofs.Rest.{Close, From}
 use Rattle.dfdl_markup.proofs.Sound.{IsInside, SoundWithin}
 use Rattle.dfdl_markup.proofs.Closing.{grow_reference}
 use Rattle.dfdl_markup.proofs.Moves.{at}

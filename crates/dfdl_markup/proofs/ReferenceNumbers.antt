@@ -1,7 +1,7 @@
 -- The numbers of references: each that is a code point becomes an allowed character by digits behind
 -- it, none or few.
 use Rattle.std.proofs.Common.{◌≡◌, ℕ, ◌+◌, ◌*◌, ◌<◌, ◌≤◌, ◌⊎◌, Bool, true, false, List, [], ◌∷◌}
-use Rattle.std.proofs.Common.{◌++◌, length, nat_le, refl, sym, ap, ◌∙◌, inl, inr, arith}
+use Rattle.std.proofs.Common.{◌++◌, refl, ap, ◌∙◌, inl, inr, arith}
 use Rattle.std.proofs.lemmas.Bool.{cases_Bool, cases_lt}
 use Rattle.std.proofs.lemmas.Bool.Decides.{nat_tests}
 use Rattle.dfdl_layers.specs.Tellers.{Each}

@@ -1,30 +1,23 @@
 -- What a step within a reference leads to, and what may be said of one that is refused.
-use Rattle.std.proofs.Common.{◌≡◌, ℕ, ◌+◌, ◌*◌, ◌<◌, ◌≤◌, ◌==◌, Bool, true, false, List, [], ◌∷◌}
-use Rattle.std.proofs.Common.{◌++◌, length, Option, Some, None, Result, Ok, Err, refl, sym, ap, subst}
-use Rattle.std.proofs.Common.{◌∙◌, arith, append_assoc, append-nil, nat_le, if◌then◌else◌, IsSome, codes}
-use Rattle.std.proofs.Common.{length-append}
-use Rattle.std.proofs.lemmas.Bool.{cond_both, eqb-true, leb-true}
+use Rattle.std.proofs.Common.{◌≡◌, ℕ, false, List, [], ◌∷◌}
+use Rattle.std.proofs.Common.{◌++◌, refl, sym, subst}
+use Rattle.std.proofs.Common.{arith}
 use Rattle.dfdl_layers.specs.Tellers.{Each}
 use Rattle.dfdl_layers.proofs.Runs.{each-append}
-use Rattle.dfdl_xml_chars.specs.Characters.{is_allowed, is_name_start, is_name_char}
-use Rattle.dfdl_markup.specs.Grammar.{Reference, Named, Numbered, base_mark, reference_inside}
-use Rattle.dfdl_markup.specs.Values.{is_digit, digit_value, base_of, number_on, entity, referred}
-use Rattle.dfdl_markup.specs.Values.{or_zero}
-use Rattle.dfdl_markup.specs.Rules.{IsPart, ReferenceKeeps}
-use Rattle.dfdl_markup.specs.Machine.{Within, InContent, InValue, Place, AtContent, AtValue, AtReference}
-use Rattle.dfdl_markup.specs.Machine.{AtEntity, AtHash, AtHexadecimal, AtNumber, Ahead, NothingAhead}
-use Rattle.dfdl_markup.specs.Machine.{MarkAhead, DeclarationAhead, Frame, State, stand, with_text}
-use Rattle.dfdl_markup.specs.Machine.{fixed_value, referred_to, wanted, begins_entity, entity_next}
-use Rattle.dfdl_markup.specs.Machine.{reference_step, entity_ended, entity_step, number_next, hash_step}
-use Rattle.dfdl_markup.specs.Machine.{hexadecimal_step, number_step}
-use Rattle.dfdl_markup.proofs.Rest.{WroteReference, Wrote, Close, Whole, From, brackets_at}
-use Rattle.dfdl_markup.proofs.Sound.{IsInside, KeepsFixed, SoundWithin, SoundAt, SoundFrames, SoundRoots}
+use Rattle.dfdl_markup.specs.Grammar.{Reference, reference_inside}
+use Rattle.dfdl_markup.specs.Values.{referred}
+use Rattle.dfdl_markup.specs.Rules.{ReferenceKeeps}
+use Rattle.dfdl_markup.specs.Machine.{Within, InContent, InValue, Place}
+use Rattle.dfdl_markup.specs.Machine.{Ahead, NothingAhead}
+use Rattle.dfdl_markup.specs.Machine.{MarkAhead, DeclarationAhead, Frame, State}
+use Rattle.dfdl_markup.specs.Machine.{referred_to, wanted}
+use Rattle.dfdl_markup.proofs.Rest.{WroteReference, Wrote, Close, From, brackets_at}
+use Rattle.dfdl_markup.proofs.Sound.{KeepsFixed, SoundWithin, SoundAt}
 use Rattle.dfdl_markup.proofs.Sound.{in_declaration, before_declaration, Sound}
-use Rattle.dfdl_markup.proofs.Answers.{Good, Leads, Told, Live, Answer, live_by}
-use Rattle.dfdl_markup.proofs.ReferenceNumbers.{number_on-append, Grows, grows, digit_least, nine_allowed}
+use Rattle.dfdl_markup.proofs.Answers.{Good, Leads, Told, Live}
 use Rattle.dfdl_markup.proofs.Closing.{good_low}
 use Rattle.dfdl_markup.proofs.Moves.{at}
-use Rattle.dfdl_markup.proofs.ReferenceForms.{standing, place_behind, behind_is, reference_more}
+use Rattle.dfdl_markup.proofs.ReferenceForms.{standing, place_behind, behind_is}
 use Rattle.dfdl_markup.proofs.ReferenceForms.{reference_ends}
 
 -- where only nothing may come before any more
@@ -51,9 +44,14 @@ behind_within : (begun : ℕ) (frames : List Frame) (within : Within) (d : ℕ)
     → SoundWithin within begun frames → SoundAt (place_behind within d) begun frames
 behind_within begun [] InContent d sound = absurd sound
 behind_within begun (frame ∷ frames) InContent d sound = omega arith
-behind_within begun frames (InValue v) d sound =
-    ((sound.0.0, sound.0.1,
-    subst (λ o. KeepsFixed o (v.text ++ d ∷ [])) (sym sound.1) tt), sound.2)
+behind_within begun frames (InValue v) d sound = (
+  (
+    sound.0.0,
+    sound.0.1,
+    subst (λ o. KeepsFixed o (v.text ++ d ∷ [])) (sym sound.1) tt,
+  ),
+  sound.2,
+)
 
 no_declaration_behind : (within : Within) (d : ℕ) → in_declaration (place_behind within d) ≡ false
 no_declaration_behind InContent d = refl

@@ -12,3 +12,4 @@ pub mod ReferenceForms
 pub mod ReferenceEntities
 pub mod ReferenceSteps
 pub mod ReferenceAnswers
+pub mod ContentComments

@@ -13,3 +13,4 @@ pub mod ReferenceEntities
 pub mod ReferenceSteps
 pub mod ReferenceAnswers
 pub mod ContentComments
+pub mod ContentSections

@@ -14,3 +14,4 @@ pub mod ReferenceSteps
 pub mod ReferenceAnswers
 pub mod ContentComments
 pub mod ContentSections
+pub mod ContentInstructions

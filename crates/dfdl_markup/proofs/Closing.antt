@@ -97,7 +97,7 @@ Closing begun frames before =
 abbrev root_tag : Tag
 root_tag = record { name = Plain (97 ∷ []); attributes = []; space = [] }
 
-start_a : is_name_start 97 ≡ true
+pub start_a : is_name_start 97 ≡ true
 unfolding is_name_start low_start_rows
 start_a = refl
 

@@ -17,7 +17,7 @@ use Rattle.dfdl_markup.specs.Machine.{target_step, target_end_step, instruction_
 use Rattle.dfdl_markup.proofs.Rest.{mark_behind, WroteNone, Wrote, Close}
 use Rattle.dfdl_markup.proofs.Sound.{SoundAhead, Sound}
 use Rattle.dfdl_markup.proofs.Answers.{Good, Answer, Live, Leads}
-use Rattle.dfdl_markup.proofs.Closing.{close_all, grow_instruction, good_low, moves_on}
+use Rattle.dfdl_markup.proofs.Closing.{close_all, start_a, grow_instruction, good_low, moves_on}
 use Rattle.dfdl_markup.proofs.Moves.{at, malformed, reads_on, reads_ahead, reads_piece, live_piece}
 use Rattle.dfdl_markup.proofs.Moves.{answer_if}
 use Rattle.dfdl_markup.proofs.NamesRead.{part_on}
@@ -267,10 +267,6 @@ good_end = good_low 62 (omega arith) (omega arith)
 good_a : Good 97
 good_a = good_low 97 (omega arith) (omega arith)
 
-a_starts : is_name_start 97 ≡ true
-unfolding is_name_start low_start_rows
-a_starts = refl
-
 a_goes_on : is_name_char 97 ≡ true
 unfolding is_name_char low_name_rows low_start_rows
 a_goes_on = refl
@@ -290,7 +286,7 @@ question_live ahead begun frames sound =
     live_piece ahead AtQuestion begun frames (97 ∷ 63 ∷ 62 ∷ []) (good_a, (good_mark, (good_end, tt)))
     (close_all begun frames 0 sound.frames sound.roots)
     (λ n raw rest wrote close.
-    instruction_ends n begun frames raw (97 ∷ []) [] (97 ∷ 63 ∷ 62 ∷ []) rest (a_starts, tt)
+    instruction_ends n begun frames raw (97 ∷ []) [] (97 ∷ 63 ∷ 62 ∷ []) rest (start_a, tt)
     (not_xml []) tt (ap (λ l. l ++ 97 ∷ 63 ∷ 62 ∷ []) wrote) close)
 
 pub target_live : (ahead : Ahead) (target : List ℕ) (begun : ℕ) (frames : List Frame)

@@ -15,3 +15,4 @@ pub mod ReferenceAnswers
 pub mod ContentComments
 pub mod ContentSections
 pub mod ContentInstructions
+pub mod ContentEnds

@@ -56,7 +56,7 @@ reads_ahead ahead place next begun frames c sound same outside before is wrote =
   back = moves_on (at ahead place begun frames) next c same wrote;
 }
 
-content_at : (begun : ℕ) (frames : List Frame) → SoundAt (AtContent 0) begun frames
+pub content_at : (begun : ℕ) (frames : List Frame) → SoundAt (AtContent 0) begun frames
 content_at begun [] = refl
 content_at begun (frame ∷ frames) = omega arith
 

@@ -13,7 +13,7 @@ mod word;
 
 pub use dfdl_forms::{BitOrder, ByteOrder};
 pub use number::{nibble_at, number_at, number_at_64};
-pub use put::{put_nibble, put_number, put_number_64};
+pub use put::{put_nibble, put_number, put_number_64, put_pair};
 pub use steps::Steps;
 pub use window::{Seen, Window};
 

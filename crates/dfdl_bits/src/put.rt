@@ -1,5 +1,5 @@
 // The number of a range of bits, written by whole bytes.
-ghost use Rattle.std.specs.Prelude.{◌≡◌, ◌⊎◌, ℕ, ◌+◌, ◌*◌, ◌/◌, ◌%◌, ◌^◌, ◌<◌, ◌≤◌, length};
+ghost use Rattle.std.specs.Prelude.{◌≡◌, ◌⊎◌, ℕ, ◌+◌, ◌*◌, ◌/◌, ◌%◌, ◌^◌, ◌<◌, ◌≤◌, List, length};
 ghost use Rattle.dfdl_bits.specs.Bits.{number_of, patched, KeepsOutside, Puts};
 ghost use Rattle.dfdl_bits.specs.Words.{IsWord};
 ghost use Rattle.dfdl_forms.specs.declared.order.BitOrder.TheVariants.{MostFirst, LeastFirst};
@@ -93,6 +93,63 @@ pub fn put_nibble(bytes: &mut [u8], bit: u64, at: u32, nibble: u8, bits_by: BitO
         skip % 8,
         4,
         u128::from(nibble),
+        ByteOrder::Big,
+        bits_by,
+    )
+}
+
+/// Makes two nibbles the numbers of the first and the last four bits of byte `at` of those that begin at bit `bit`.
+pub fn put_pair(bytes: &mut [u8], bit: u64, at: u32, first: u8, last: u8, bits_by: BitOrder)
+    requires inside { bit + 8 * at + 8 ≤ 8 * length bytes.old }
+    requires first { first < 16 }
+    requires last { last < 16 }
+    ensures first { number_of bytes.new (bit + 8 * at) 4 Big bits_by ≡ first }
+    ensures last { number_of bytes.new (bit + 8 * at + 4) 4 Big bits_by ≡ last }
+    ensures kept { KeepsOutside bits_by bytes.old bytes.new (bit + 8 * at) 8 }
+    // So each range before it or behind it keeps its number.
+    ensures apart { (b n : ℕ) (by : ByteOrder) → (b + n ≤ bit + 8 * at) ⊎ (bit + 8 * at + 8 ≤ b)
+        → number_of bytes.new b n by bits_by ≡ number_of bytes.old b n by bits_by }
+{
+    let skip = (bit % 8) as u32;
+    let byte = joined(first, last, bits_by);
+    put_byte(
+        bytes,
+        (bit / 8) as usize + at as usize,
+        skip,
+        byte,
+        bits_by,
+    )
+}
+
+// The number of eight bits of which the first four and the last four have these numbers.
+fn joined(first: u8, last: u8, bits_by: BitOrder) -> u8
+    requires first { first < 16 }
+    requires last { last < 16 }
+    ensures { (bytes : List ℕ) (bit : ℕ) → number_of bytes bit 8 Big bits_by ≡ result
+        → (number_of bytes bit 4 Big bits_by ≡ first) × (number_of bytes (bit + 4) 4 Big bits_by ≡ last) }
+{
+    match bits_by {
+        BitOrder::MostFirst => 16 * first + last,
+        BitOrder::LeastFirst => first + 16 * last,
+    }
+}
+
+// Eight bits from bit `skip` of byte `first` on.
+fn put_byte(bytes: &mut [u8], first: usize, skip: u32, value: u8, bits_by: BitOrder)
+    requires skip { skip < 8 }
+    requires inside { 8 * first + skip + 8 ≤ 8 * length bytes.old }
+    ensures { Puts Big bits_by bytes.old bytes.new (8 * first + skip) 8 value }
+{
+    if skip == 0 {
+        put_word(bytes, first, 8, u64::from(value), ByteOrder::Big, bits_by);
+        return;
+    }
+    put_at(
+        bytes,
+        first,
+        skip,
+        8,
+        u128::from(value),
         ByteOrder::Big,
         bits_by,
     )

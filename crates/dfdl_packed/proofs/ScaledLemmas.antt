@@ -3,7 +3,7 @@ use Rattle.std.proofs.Common.{◌≡◌, ◌≢◌, ℕ, zero, suc, ◌+◌, ◌
 use Rattle.std.proofs.lemmas.Bool.{cases_lt, cases_eq, eq-eqb, ne_eqb, lt-ltb, le-ltb, le-leb}
 use Rattle.std.proofs.lemmas.Bool.Decides.{nat_tests}
 use Rattle.std.proofs.lemmas.Nat.{pow-add}
-use Rattle.std.proofs.Math.Nat.{mul-le-mul_right, le_trans, mul-lt-mul_of_pos_right, pow-le-pow_right, div-lt_iff_lt-mul, div-div-eq-div-mul, le-div_iff_mul-le}
+use Rattle.std.proofs.Math.Nat.{mul-le-mul_right, le_trans, mul-lt-mul_of_pos_right, pow-le-pow_right, div-lt_iff_lt-mul, div-div-eq-div-mul, div-eq_of_lt, le-div_iff_mul-le}
 use Rattle.dfdl_packed.specs.Packed.{is_negative}
 use Rattle.dfdl_packed.specs.Digits.{digit_count}
 use Rattle.dfdl_packed.specs.Written.{HasDigits}
@@ -59,16 +59,13 @@ digits_zeros n len k some has =
       above = λ more. rw (cut, pow-add 10 (len - 1) k) (mul-le-mul_right (10 ^ k) front);
     }
 
--- a number fits as many places as it has digits, and no fewer
-pub room_is : (n len places : ℕ) → n ≢ 0 → HasDigits n len → nat_le len places ≡ nat_lt n (10 ^ places)
-room_is n len places some has = elim (cases_lt places len) [
-  | inl few ↦
-      (let over : nat_le len places ≡ false = grind (arith, nat_tests) in over) ∙ sym (le-ltb n (10 ^ places) (elim (cases_lt 1 len) [
-        | inl more ↦ le_trans (pow-le-pow_right (omega arith) (omega arith)) (has.above more)
-        | inr one ↦ let none : places ≡ 0 = omega arith in rw none (omega arith)
-      ]))
-  | inr enough ↦
-      le-leb len places enough ∙ sym (lt-ltb n (10 ^ places) (le_trans has.below (pow-le-pow_right (omega arith) enough)))
+-- nothing is left of a number that has no more digits than are taken off
+pub none_left : (n k : ℕ) → nat_eq (n / 10 ^ k) 0 ≡ nat_lt n (10 ^ k)
+none_left n k = elim (cases_lt n (10 ^ k)) [
+  | inl low ↦ eq-eqb _ _ (div-eq_of_lt low) ∙ sym (lt-ltb _ _ low)
+  | inr high ↦
+      let some : 1 ≤ n / 10 ^ k = (le-div_iff_mul-le {x = 1} {y = n} (ten_pos k)).1 (omega arith) in
+      ne_eqb _ _ (λ zero. omega arith) ∙ sym (le-ltb _ _ high)
 ]
 
 pub digit_count_is : (most n len : ℕ) → HasDigits n len → len ≤ most + 1 → digit_count most n ≡ len

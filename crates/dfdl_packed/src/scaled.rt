@@ -81,8 +81,8 @@ impl Rest {
             self.zeros -= 1;
             return 0;
         }
-        let digit = (self.number % 10) as u8;
-        self.number /= 10;
+        let (rest, digit) = cut(self.number);
+        self.number = rest;
         digit
     }
 
@@ -104,6 +104,17 @@ impl Rest {
     }
 }
 
+// A number without its last digit, and that. What 64 bits hold is divided there.
+fn cut(number: u128) -> (u128, u8)
+    ensures rest { result.0 ≡ number / 10 }
+    ensures digit { result.1 ≡ number % 10 }
+{
+    match u64::try_from(number) {
+        Ok(short) => (u128::from(short / 10), (short % 10) as u8),
+        Err(_) => (number / 10, (number % 10) as u8),
+    }
+}
+
 fn digits_of(number: u128) -> u32
     ensures digits { HasDigits number result }
     ensures few { result ≤ 39 }
@@ -111,7 +122,7 @@ fn digits_of(number: u128) -> u32
     let mut rest = number;
     let mut len = 1;
     while rest >= 10 {
-        rest /= 10;
+        rest = cut(rest).0;
         len += 1;
     }
     len

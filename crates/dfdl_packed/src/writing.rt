@@ -32,13 +32,12 @@ fn packed(number: Scaled, form: &PackedForm) -> Option<[u8; MOST]>
         → ShowsNibbles result form.now.nibbles (nibbles_by Packed form.now z) }
     ensures fit { IfSome result (λ nibbles. (k : ℕ) → slice_index nibbles k < 16) }
 {
-    let digits = form.nibbles - 1;
-    if !has_room(&number.size, digits) {
+    let digits = (form.nibbles - 1) as usize;
+    let mut nibbles = places_of(0);
+    nibbles[digits] = code(form, number.negative, number.size.is_zero());
+    if !fill(&mut nibbles, 0, digits, number.size) {
         return None;
     }
-    let mut nibbles = places_of(0);
-    nibbles[digits as usize] = code(form, number.negative, number.size.is_zero());
-    fill(&mut nibbles, 0, digits as usize, number.size);
     Some(nibbles)
 }
 
@@ -48,11 +47,10 @@ fn bcd(number: Scaled, form: &PackedForm) -> Option<[u8; MOST]>
         → ShowsNibbles result form.now.nibbles (nibbles_by Bcd form.now z) }
     ensures fit { IfSome result (λ nibbles. (k : ℕ) → slice_index nibbles k < 16) }
 {
-    if number.negative || !has_room(&number.size, form.nibbles) {
+    let mut nibbles = places_of(0);
+    if number.negative || !fill(&mut nibbles, 0, form.nibbles as usize, number.size) {
         return None;
     }
-    let mut nibbles = places_of(0);
-    fill(&mut nibbles, 0, form.nibbles as usize, number.size);
     Some(nibbles)
 }
 
@@ -122,10 +120,11 @@ fn code(form: &PackedForm, negative: bool, is_zero: bool) -> u8
     }
 }
 
-// Puts the last digits of a number into the places from `from` up to `to`.
-fn fill(places: &mut [u8], from: usize, to: usize, number: Rest)
+// Puts the last digits of a number into the places from `from` up to `to`, and answers whether it has no others.
+fn fill(places: &mut [u8], from: usize, to: usize, number: Rest) -> bool
     requires order { from ≤ to }
     requires inside { to ≤ length places.old }
+    ensures all { result ≡ nat_lt number (10 ^ (to - from)) }
     ensures filled { places.new ≡ take from places.old ++ (padded_digits (to - from) number ++ drop to places.old) }
     ensures low { (k : ℕ) → slice_index places.old k < 16 → slice_index places.new k < 16 }
 {
@@ -133,11 +132,5 @@ fn fill(places: &mut [u8], from: usize, to: usize, number: Rest)
     for place in (from..to).rev() {
         places[place] = rest.pop();
     }
-}
-
-// Whether a number has at most `len` digits; 0 has none.
-fn has_room(number: &Rest, len: u32) -> bool
-    ensures { result ≡ nat_lt number.now (10 ^ len) }
-{
-    number.is_zero() || number.len() <= len
+    rest.is_zero()
 }

@@ -13,7 +13,7 @@ loop-rest-preserved c =
     let large : 10 ≤ n / 10 ^ k = omega (arith, c.loop-rest.invariant.rest) in
     let above : 10 ^ (k + 1) ≤ n = digits_above n k large in
     record {
-      rest = rw cut (ap (λ (x : ℕ). x / 10) c.loop-rest.invariant.rest ∙ next_quotient n k);
+      rest = rw cut (c.cut-rest.ensures.rest ∙ ap (λ (x : ℕ). x / 10) c.loop-rest.invariant.rest ∙ next_quotient n k);
       some = omega arith;
       above = λ more. rw cut above;
       few = elim (cases_lt c.loop-rest.len 39) [

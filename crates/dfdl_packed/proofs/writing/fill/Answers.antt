@@ -1,8 +1,8 @@
-use Rattle.std.proofs.Common.{◌≡◌, ℕ, ◌+◌, ◌-◌, ◌/◌, ◌%◌, ◌^◌, ◌<◌, List, ◌++◌, length, take, drop, set, refl, ap, sym, ◌∙◌, arith}
+use Rattle.std.proofs.Common.{◌≡◌, ℕ, ◌+◌, ◌-◌, ◌/◌, ◌%◌, ◌^◌, ◌<◌, List, ◌++◌, length, nat_eq, take, drop, set, refl, ap, sym, ◌∙◌, arith}
 use Rattle.std.proofs.lemmas.List.{take-append-drop}
 use Rattle.dfdl_packed.specs.Digits.{padded_digits}
 use Rattle.dfdl_packed.proofs.FillLemmas.{padded_none, padded_more, set_before, set_low}
-use Rattle.dfdl_packed.proofs.ScaledLemmas.{next_quotient}
+use Rattle.dfdl_packed.proofs.ScaledLemmas.{next_quotient, none_left}
 use Rattle.dfdl_packed.proofs.writing.fill.Goals as goal
 
 pub loop-place-init : goal.loop-place-init
@@ -36,6 +36,13 @@ loop-place-preserved c =
       begins = omega arith;
       low = λ k low. set_low c.loop-place.places place c.pop.result k (omega arith) (omega (arith, c.pop.ensures.digit)) (c.loop-place.invariant.low k low);
     }
+
+pub returns-clause-all : goal.returns-clause-all
+returns-clause-all c =
+    let over : c.loop-place.place ≡ c.args.from = omega (arith, c.loop-place.invariant.begins) in
+    c.is_zero.ensures
+    ∙ ap (λ (rest : ℕ). nat_eq rest 0) c.loop-place.invariant.rest
+    ∙ rw over (none_left c.args.number (c.args.to - c.args.from))
 
 pub returns-clause-filled : goal.returns-clause-filled
 returns-clause-filled c =

@@ -1,9 +1,9 @@
 -- Whole bytes are written over others.
-use Rattle.std.proofs.Common.{◌≡◌, ◌⊎◌, ℕ, zero, suc, ◌+◌, ◌-◌, ◌*◌, ◌/◌, ◌%◌, ◌^◌, ◌<◌, ◌≤◌, List, [], ◌∷◌, ◌++◌, length, take, drop, get_or, refl, ap, sym, ◌∙◌, inl, inr, arith, add-zero, length-take-le, length-append, append_assoc, mod-eq_of_lt}
-use Rattle.std.specs.Int.{bit_at, w16, w32, w64, to_be_bytes, to_le_bytes, bytes_high_first, bytes_low_first, byte_at}
+use Rattle.std.proofs.Common.{◌≡◌, ◌⊎◌, ℕ, zero, suc, ◌+◌, ◌-◌, ◌*◌, ◌/◌, ◌%◌, ◌^◌, ◌<◌, ◌≤◌, List, [], ◌∷◌, ◌++◌, length, take, drop, get_or, refl, ap, sym, ◌∙◌, inl, inr, arith, length-take-le, length-append}
+use Rattle.std.specs.Int.{bit_at, w16, w32, w64, to_be_bytes, to_le_bytes, bytes_low_first, byte_at}
 use Rattle.std.proofs.lemmas.List.{get_or-take, get_or-drop, get_or_append_left, get_or-append_right}
-use Rattle.std.proofs.lemmas.Nat.{mod_below, from_be_bytes-to_be_bytes_2, from_be_bytes-to_be_bytes_4, from_be_bytes-to_be_bytes_8, from_le_bytes-to_le_bytes_2, from_le_bytes-to_le_bytes_4, from_le_bytes-to_le_bytes_8}
-use Rattle.dfdl_bits.specs.Bits.{number_of, data_bit, place_of, KeepsOutside, Puts}
+use Rattle.std.proofs.lemmas.Nat.{from_be_bytes-to_be_bytes_2, from_be_bytes-to_be_bytes_4, from_be_bytes-to_be_bytes_8, from_le_bytes-to_le_bytes_2, from_le_bytes-to_le_bytes_4, from_le_bytes-to_le_bytes_8}
+use Rattle.dfdl_bits.specs.Bits.{number_of, data_bit, Puts}
 use Rattle.dfdl_bits.specs.Words.{IsWord}
 use Rattle.dfdl_forms.specs.declared.order.BitOrder.TheVariants.{MostFirst, LeastFirst}
 use Rattle.dfdl_forms.specs.declared.order.ByteOrder.{ByteOrder}

@@ -1,5 +1,5 @@
 -- The number of whole bytes, by its first byte.
-use Rattle.std.proofs.Common.{◌≡◌, ℕ, zero, suc, ◌+◌, ◌*◌, ◌%◌, ◌^◌, ◌<◌, List, get_or, refl, ◌∙◌, arith, add-one}
+use Rattle.std.proofs.Common.{◌≡◌, ℕ, ◌+◌, ◌*◌, ◌%◌, ◌^◌, ◌<◌, List, get_or, refl, ◌∙◌, arith}
 use Rattle.dfdl_lemmas.proofs.Powers.{eight_bits}
 use Rattle.dfdl_bits.specs.Bits.{number_of}
 use Rattle.dfdl_forms.specs.declared.order.BitOrder.TheVariants.{MostFirst}

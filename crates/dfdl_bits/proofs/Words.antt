@@ -1,5 +1,5 @@
 -- A range inside of a longer one.
-use Rattle.std.proofs.Common.{◌≡◌, ℕ, zero, suc, ◌+◌, ◌-◌, ◌*◌, ◌/◌, ◌%◌, ◌^◌, ◌<◌, ◌≤◌, List, [], ◌∷◌, get_or, refl, ap, sym, ◌∙◌, subst, arith, add-zero, zero-add, div-one, mod-eq_of_lt}
+use Rattle.std.proofs.Common.{◌≡◌, ℕ, zero, suc, ◌+◌, ◌-◌, ◌*◌, ◌/◌, ◌%◌, ◌^◌, ◌<◌, ◌≤◌, List, [], ◌∷◌, get_or, refl, ap, sym, ◌∙◌, arith, add-zero, zero-add, div-one, mod-eq_of_lt}
 use Rattle.std.proofs.lemmas.Nat.{shr_high, mod_low, shr_below, mod_below, shl_whole, pow_pos, from_be_bytes-to_be_bytes_8}
 use Rattle.dfdl_bits.specs.Bits.{number_of, data_bit}
 use Rattle.dfdl_forms.specs.declared.order.BitOrder.TheVariants.{MostFirst, LeastFirst}

@@ -64,15 +64,8 @@ pub fn put_number_64(
         return;
     }
     let skip = (bit % 8) as u32;
-    put_at(
-        bytes,
-        first,
-        skip,
-        len,
-        u128::from(value),
-        bytes_by,
-        bits_by,
-    )
+    let value = u128::from(value);
+    put_at(bytes, first, skip, len, value, bytes_by, bits_by)
 }
 
 /// Makes `nibble` the number of the four bits of nibble `at` of those that begin at bit `bit`.
@@ -87,15 +80,8 @@ pub fn put_nibble(bytes: &mut [u8], bit: u64, at: u32, nibble: u8, bits_by: BitO
 {
     let skip = (bit % 8) as u32 + at % 2 * 4;
     let first = (bit / 8) as usize + (at / 2 + skip / 8) as usize;
-    put_at(
-        bytes,
-        first,
-        skip % 8,
-        4,
-        u128::from(nibble),
-        ByteOrder::Big,
-        bits_by,
-    )
+    let value = u128::from(nibble);
+    put_at(bytes, first, skip % 8, 4, value, ByteOrder::Big, bits_by)
 }
 
 /// Makes two nibbles the numbers of the first and the last four bits of byte `at` of those that begin at bit `bit`.
@@ -110,15 +96,9 @@ pub fn put_pair(bytes: &mut [u8], bit: u64, at: u32, first: u8, last: u8, bits_b
     ensures apart { (b n : ℕ) (by : ByteOrder) → (b + n ≤ bit + 8 * at) ⊎ (bit + 8 * at + 8 ≤ b)
         → number_of bytes.new b n by bits_by ≡ number_of bytes.old b n by bits_by }
 {
-    let skip = (bit % 8) as u32;
+    let place = (bit / 8) as usize + at as usize;
     let byte = joined(first, last, bits_by);
-    put_byte(
-        bytes,
-        (bit / 8) as usize + at as usize,
-        skip,
-        byte,
-        bits_by,
-    )
+    put_byte(bytes, place, (bit % 8) as u32, byte, bits_by)
 }
 
 // The number of eight bits of which the first four and the last four have these numbers.
@@ -144,15 +124,8 @@ fn put_byte(bytes: &mut [u8], first: usize, skip: u32, value: u8, bits_by: BitOr
         put_word(bytes, first, 8, u64::from(value), ByteOrder::Big, bits_by);
         return;
     }
-    put_at(
-        bytes,
-        first,
-        skip,
-        8,
-        u128::from(value),
-        ByteOrder::Big,
-        bits_by,
-    )
+    let value = u128::from(value);
+    put_at(bytes, first, skip, 8, value, ByteOrder::Big, bits_by)
 }
 
 // A whole number of 8, 16, 32 or 64 bits from a byte on. Under the least significant bit first it is little endian.

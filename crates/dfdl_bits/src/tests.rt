@@ -181,6 +181,12 @@ fn three_bytes_are_two_numbers_of_twelve_bits(rt: HostRuntime) {
     assert_eq!(rt; nibble_at(&rising, 4, 2, LeastFirst), 0x4);
     put_nibble(&mut bytes, 4, 1, 0xA, MostFirst);
     assert!(rt; bytes == [0xF0, 0xA0, 0xFF]);
+    put_pair(&mut bytes, 4, 1, 0x1, 0x2, MostFirst);
+    assert!(rt; bytes == [0xF0, 0xA1, 0x2F]);
+    put_pair(&mut bytes, 0, 0, 0x3, 0x4, LeastFirst);
+    assert!(rt; bytes == [0x43, 0xA1, 0x2F]);
+    put_pair(&mut bytes, 2, 1, 0x1, 0x2, LeastFirst);
+    assert!(rt; bytes == [0x43, 0x85, 0x2C]);
 }
 
 #[test]

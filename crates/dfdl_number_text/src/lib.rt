@@ -30,6 +30,4 @@ mod read_tests;
 #[cfg(test)]
 mod test_forms;
 #[cfg(test)]
-mod vector_tests;
-#[cfg(test)]
 mod write_tests;

@@ -13,8 +13,6 @@ mod size;
 #[cfg(test)]
 mod tests;
 mod typed;
-#[cfg(test)]
-mod vector_tests;
 mod writing;
 mod zoned;
 mod zoned_reading;

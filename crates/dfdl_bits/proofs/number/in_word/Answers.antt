@@ -1,4 +1,4 @@
-use Rattle.std.proofs.Common.{◌+◌, ◌*◌, ◌∙◌}
+use Rattle.std.proofs.Common.{◌+◌, ◌*◌}
 use Rattle.dfdl_bits.proofs.Words.{big_in_word, least_in_word}
 use Rattle.dfdl_bits.proofs.number.in_word.Goals as goal
 

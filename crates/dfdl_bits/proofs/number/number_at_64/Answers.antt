@@ -1,4 +1,4 @@
-use Rattle.std.proofs.Common.{◌≡◌, ℕ, ◌+◌, ◌*◌, ◌/◌, ◌%◌, ◌^◌, ◌<◌, ◌≤◌, sym, ap, ◌∙◌, pow_mono, arith}
+use Rattle.std.proofs.Common.{◌≡◌, ℕ, ◌*◌, ◌/◌, ◌^◌, ◌≤◌, sym, ap, ◌∙◌, pow_mono, arith}
 use Rattle.dfdl_bits.specs.Bits.{number_of}
 use Rattle.dfdl_bits.proofs.Words.{whole_byte}
 use Rattle.dfdl_bits.proofs.number.number_at_64.Goals as goal

@@ -1,5 +1,4 @@
 use Rattle.std.proofs.Common.{◌≡◌, ℕ, ◌+◌, ◌*◌, ◌/◌, ◌%◌, arith}
-use Rattle.dfdl_bits.specs.Bits.{KeepsOutside}
 use Rattle.dfdl_bits.proofs.Putting.{range_stays}
 use Rattle.dfdl_bits.proofs.put.put_nibble.Goals as goal
 

@@ -1,4 +1,4 @@
-use Rattle.std.proofs.Common.{◌∙◌, sym, arith}
+use Rattle.std.proofs.Common.{arith}
 use Rattle.dfdl_bits.proofs.Loads.{big_2, little_2}
 use Rattle.dfdl_bits.proofs.word.load_16.Goals as goal
 

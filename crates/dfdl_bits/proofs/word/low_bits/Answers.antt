@@ -1,4 +1,4 @@
-use Rattle.std.proofs.Common.{◌<◌, arith}
+use Rattle.std.proofs.Common.{arith}
 use Rattle.dfdl_bits.proofs.Shifts.{and_low}
 use Rattle.dfdl_bits.proofs.word.low_bits.Goals as goal
 

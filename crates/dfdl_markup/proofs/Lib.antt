@@ -16,3 +16,4 @@ pub mod ContentComments
 pub mod ContentSections
 pub mod ContentInstructions
 pub mod ContentEnds
+pub mod ContentAnswers

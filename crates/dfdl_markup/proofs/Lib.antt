@@ -17,3 +17,5 @@ pub mod ContentSections
 pub mod ContentInstructions
 pub mod ContentEnds
 pub mod ContentAnswers
+pub mod DeclarationForms
+pub mod DeclarationValues

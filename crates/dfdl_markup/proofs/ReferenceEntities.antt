@@ -35,7 +35,7 @@ begins_is (c ∷ text) (d ∷ word) is =
     let more = begins_is text word both.1 in
     (more.0, ap₂ (λ (x : ℕ) (l : List ℕ). x ∷ l) (eqb-true c d both.0) more.1)
 
-each_behind : (text rest : List ℕ) → Each Good (text ++ rest) → Each Good rest
+pub each_behind : (text rest : List ℕ) → Each Good (text ++ rest) → Each Good rest
 each_behind [] rest each = each
 each_behind (c ∷ text) rest each = each_behind text rest each.1
 

@@ -3,7 +3,8 @@ use Rattle.std.proofs.Common.{◌≡◌, ℕ, ◌+◌, ◌<◌, ◌≤◌, ◌�
 use Rattle.std.proofs.Common.{length, Option, Some, None, map, refl, sym, ap, subst, ◌∙◌, arith}
 use Rattle.std.proofs.Common.{append_assoc, append-nil}
 use Rattle.dfdl_layers.specs.Tellers.{Each}
-use Rattle.dfdl_markup.specs.Grammar.{Said, Version, Encoding, Standalone, said_word, Saying}
+use Rattle.dfdl_markup.specs.Grammar.{is_quote, Said, Version, Encoding, Standalone, said_word}
+use Rattle.dfdl_markup.specs.Grammar.{Saying}
 use Rattle.dfdl_markup.specs.Grammar.{saying_characters, optional_characters, Declaration, xml_word}
 use Rattle.dfdl_markup.specs.Grammar.{declaration_inside, declaration_characters}
 use Rattle.dfdl_markup.specs.Rules.{AreWhite, SayingKeeps, EncodingKeeps, SaysEncoding, SaysStandalone}
@@ -197,3 +198,39 @@ quoted front word before after value quote =
     ∙ ap (λ l. word ++ l)
     (append_assoc before (61 ∷ (after ++ quote ∷ value)) (quote ∷ [])
     ∙ ap (λ l. before ++ 61 ∷ l) (append_assoc after (quote ∷ value) (quote ∷ []))))
+
+-- and behind more of a value
+pub valued : (word before after value more : List ℕ) (quote : ℕ)
+    → (word ++ (before ++ 61 ∷ (after ++ quote ∷ value))) ++ more
+    ≡ word ++ (before ++ 61 ∷ (after ++ quote ∷ (value ++ more)))
+valued word before after value more quote =
+    append_assoc word (before ++ 61 ∷ (after ++ quote ∷ value)) more
+    ∙ ap (λ l. word ++ l)
+    (append_assoc before (61 ∷ (after ++ quote ∷ value)) more
+    ∙ ap (λ l. before ++ 61 ∷ l) (append_assoc after (quote ∷ value) more))
+
+-- a value up to its closing quote
+pub saying_closed : (n : ℕ) (said : Said) (before after value raw : List ℕ) (quote : ℕ)
+    → AreWhite before → AreWhite after → is_quote quote ≡ true → SaidKeeps n said value
+    → WroteSaying n said (said_word said ++ (before ++ 61 ∷ (after ++ quote ∷ value))) raw
+    → WroteSaid n (raw ++ quote ∷ []) (Some said) []
+saying_closed n said before after value raw quote first second quotes keeps wrote =
+    said_closed n said wrote.last wrote.front wrote.space (raw ++ quote ∷ [])
+    (record { space = wrote.space; before = before; after = after; quote = quote; value = value })
+    refl wrote.wrote wrote.follows
+    (record {
+      some_space = wrote.some_space;
+      space = wrote.white;
+      before = first;
+      after = second;
+      quote = quotes;
+    }) keeps
+    (ap (λ l. l ++ quote ∷ []) wrote.is
+    ∙ quoted wrote.front (said_word said) before after value quote)
+
+-- what a declaration ends with
+pub ends_written : (raw inside : List ℕ) → raw ≡ 60 ∷ 63 ∷ (xml_word ++ inside)
+    → (raw ++ 63 ∷ []) ++ 62 ∷ [] ≡ 60 ∷ 63 ∷ (xml_word ++ (inside ++ 63 ∷ 62 ∷ []))
+ends_written raw inside is =
+    append_assoc raw (63 ∷ []) (62 ∷ [])
+    ∙ (ap (λ l. l ++ 63 ∷ 62 ∷ []) is ∙ behind_two (63 ∷ 62 ∷ []) xml_word inside)

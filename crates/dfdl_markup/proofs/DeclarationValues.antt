@@ -1,9 +1,9 @@
 -- What the XML declaration may say: how it begins and goes on, by its characters.
-use Rattle.std.proofs.Common.{◌≡◌, ℕ, ◌+◌, ◌<◌, ◌≤◌, ◌⊎◌, ◌||◌, Bool, true, false, List, [], ◌∷◌, ◌++◌}
+use Rattle.std.proofs.Common.{◌≡◌, ℕ, ◌+◌, ◌<◌, ◌≤◌, ◌⊎◌, ◌==◌, if◌then◌else◌, ◌||◌, Bool, true, false, List, [], ◌∷◌, ◌++◌}
 use Rattle.std.proofs.Common.{map, refl, sym, ap, ap₂, subst, ◌∙◌, arith, inl, inr, Option, Some, None}
 use Rattle.std.specs.List.{list_any}
 use Rattle.std.specs.Str.{bytes_eq}
-use Rattle.std.proofs.lemmas.Bool.{or_cases, both_ways, cases_Bool}
+use Rattle.std.proofs.lemmas.Bool.{or_cases, both_ways, cases_Bool, cond_both, eqb-true}
 use Rattle.std.proofs.lemmas.Bool.Decides.{nat_tests}
 use Rattle.std.proofs.lemmas.Slice.Eq.{bytes_eq-Decides}
 use Rattle.dfdl_layers.specs.Tellers.{Each}
@@ -169,11 +169,57 @@ said_keeps n Standalone value read same is =
     let as_read : value ≡ read = sym (map_same (said_character Standalone) value (λ c. refl)) ∙ same in
     elim is [ | inl yes_is ↦ inl (as_read ∙ yes_is) | inr no_is ↦ inr (as_read ∙ no_is) ]
 
--- the words
+-- the word that the character begins, where one may follow there
 pub record BeginsWord (last : Option Said) (c : ℕ) (said : Said) : Type 0 where
   pub word : c ∷ tail (said_word said) ≡ said_word said
   pub follows : Follows last said
 
-unfolding_version : 118 ∷ tail (said_word Version) ≡ said_word Version
+abbrev pub OnWord : Option Said → ℕ → Option Said → Type 0
+OnWord last c None = Unit {0}
+OnWord last c (Some said) = BeginsWord last c said
+
+first_of : Said → ℕ
+first_of Version = 118
+first_of Encoding = 101
+first_of Standalone = 115
+
+word_first : (said : Said) → first_of said ∷ tail (said_word said) ≡ said_word said
+unfolding said_word first_of
+word_first Version = refl
+word_first Encoding = refl
+word_first Standalone = refl
+
+begins_by : (last : Option Said) (c : ℕ) (said : Said) → (c == first_of said) ≡ true
+    → Follows last said → BeginsWord last c said
+begins_by last c said is follows = record {
+  word =
+      ap (λ d. d ∷ tail (said_word said)) (eqb-true c (first_of said) is) ∙ word_first said;
+  follows = follows;
+}
+
+pub word_begins : (last : Option Said) (c : ℕ) → OnWord last c (said_next last c)
+unfolding first_of
+word_begins None c =
+    cond_both (c == 118) (Some Version) None (λ o. OnWord None c o)
+    (λ is. begins_by None c Version is tt) (λ _. tt)
+word_begins (Some Version) c =
+    cond_both (c == 101) (Some Encoding) (if c == 115 then Some Standalone else None)
+    (λ o. OnWord (Some Version) c o) (λ is. begins_by (Some Version) c Encoding is tt)
+    (λ _. cond_both (c == 115) (Some Standalone) None (λ o. OnWord (Some Version) c o)
+    (λ is. begins_by (Some Version) c Standalone is tt) (λ _. tt))
+word_begins (Some Encoding) c =
+    cond_both (c == 115) (Some Standalone) None (λ o. OnWord (Some Encoding) c o)
+    (λ is. begins_by (Some Encoding) c Standalone is tt) (λ _. tt)
+word_begins (Some Standalone) c = tt
+
+words_plain : (said : Said) → is_plain (said_word said) ≡ true
 unfolding said_word
-unfolding_version = refl
+words_plain Version = refl
+words_plain Encoding = refl
+words_plain Standalone = refl
+
+-- what is left of a word is good
+pub left_good : (said : Said) (word left : List ℕ) → word ++ left ≡ said_word said → Each Good left
+left_good said word left is =
+    each_behind word left
+    (subst (λ l. Each Good l) (sym is) (plain_text (said_word said) (words_plain said)))

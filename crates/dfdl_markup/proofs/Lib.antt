@@ -19,3 +19,4 @@ pub mod ContentEnds
 pub mod ContentAnswers
 pub mod DeclarationForms
 pub mod DeclarationValues
+pub mod DeclarationSteps

@@ -16,7 +16,7 @@ use Rattle.dfdl_markup.proofs.Rest.{Follows, WroteSaid, WroteSaying, Wrote, Whol
 use Rattle.dfdl_markup.proofs.Sound.{SoundAt, SoundAhead, in_declaration, before_declaration, Sound}
 use Rattle.dfdl_markup.proofs.Answers.{Good, Leads}
 use Rattle.dfdl_markup.proofs.Closing.{whole_of_declaration, moves_on, each_append}
-use Rattle.dfdl_markup.proofs.Moves.{at}
+use Rattle.dfdl_markup.proofs.Moves.{at, content_at}
 use Rattle.dfdl_markup.proofs.DeclarationForms.{said_more, saying_more, declares_said, SaidKeeps}
 use Rattle.dfdl_markup.proofs.DeclarationForms.{valued, saying_closed, ends_written}
 use Rattle.dfdl_markup.proofs.DeclarationValues.{BeginsWord, IsSaid, said_keeps}
@@ -40,10 +40,6 @@ by_ahead : (ahead : Ahead) (p : Place) (begun : ℕ) (frames : List Frame)
 by_ahead MarkAhead p begun frames inside sound = refl
 by_ahead DeclarationAhead p begun frames inside sound = refl
 by_ahead NothingAhead p begun frames inside sound = absurd (cc)
-
-content_at : (begun : ℕ) (frames : List Frame) → SoundAt (AtContent 0) begun frames
-content_at begun [] = refl
-content_at begun (frame ∷ frames) = omega arith
 
 -- some characters that only read on
 pub reads_by : (ahead : Ahead) (begun : ℕ) (frames : List Frame) (p q : Place) (n : ℕ)

@@ -20,3 +20,4 @@ pub mod ContentAnswers
 pub mod DeclarationForms
 pub mod DeclarationValues
 pub mod DeclarationSteps
+pub mod DeclarationAnswers

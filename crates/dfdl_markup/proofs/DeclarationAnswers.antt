@@ -1,30 +1,29 @@
 -- XML declarations: what each step answers, and that some text ends the document from each place.
-use Rattle.std.proofs.Common.{◌≡◌, ℕ, ◌+◌, ◌<◌, ◌≤◌, ◌==◌, ◌||◌, Bool, true, false, List, [], ◌∷◌, ◌++◌}
-use Rattle.std.proofs.Common.{length, Option, Some, None, Ok, Err, map, refl, sym, ap, subst, ◌∙◌, arith}
+use Rattle.std.proofs.Common.{◌≡◌, ℕ, ◌<◌, ◌≤◌, ◌==◌, ◌||◌, Bool, true, false, List, [], ◌∷◌, ◌++◌}
+use Rattle.std.proofs.Common.{Option, Some, None, Ok, Err, map, refl, sym, ap, subst, ◌∙◌, arith}
 use Rattle.std.proofs.Common.{append_assoc, append-nil, if◌then◌else◌, inl, inr}
 use Rattle.std.specs.List.{list_any}
 use Rattle.std.specs.Str.{bytes_eq}
 use Rattle.std.proofs.lemmas.List.{map-append}
-use Rattle.std.proofs.lemmas.Bool.{cond_both, eqb-true, cases_Bool, or_cases, both_ways}
+use Rattle.std.proofs.lemmas.Bool.{cond_both, eqb-true, or_cases}
 use Rattle.std.proofs.lemmas.Bool.Decides.{nat_tests}
-use Rattle.dfdl_layers.specs.Tellers.{Each}
 use Rattle.dfdl_markup.specs.Grammar.{is_white, is_quote, Said, Version, Encoding, Standalone}
 use Rattle.dfdl_markup.specs.Grammar.{said_word}
-use Rattle.dfdl_markup.specs.Rules.{is_encoding_character, small}
+use Rattle.dfdl_markup.specs.Rules.{is_encoding_character}
 use Rattle.dfdl_markup.specs.Machine.{Place, AtContent, AtDeclaration, AtSaidWord, AtSaid, AtSaidEquals}
 use Rattle.dfdl_markup.specs.Machine.{AtSaidValue, AtDeclarationEnd, Ahead, MarkAhead, DeclarationAhead, NothingAhead, Frame}
 use Rattle.dfdl_markup.specs.Machine.{begins, said_character, said_values, tail, wanted, said_next}
 use Rattle.dfdl_markup.specs.Machine.{said_begun, declaration_ending, declaration_step, said_step}
 use Rattle.dfdl_markup.specs.Machine.{said_word_step, said_equals_step, said_fault, said_value_step}
 use Rattle.dfdl_markup.specs.Machine.{declaration_end_step}
-use Rattle.dfdl_markup.proofs.Rest.{WroteSaying, Wrote, Close, From, brackets_at}
-use Rattle.dfdl_markup.proofs.Sound.{SoundAt, SoundAhead, in_declaration, Sound}
+use Rattle.dfdl_markup.proofs.Rest.{WroteSaying, Wrote, From, brackets_at}
+use Rattle.dfdl_markup.proofs.Sound.{SoundAhead, in_declaration, Sound}
 use Rattle.dfdl_markup.proofs.Answers.{Good, Told, Live, Answer, live_by}
-use Rattle.dfdl_markup.proofs.Closing.{good_low, each_append, close_all}
+use Rattle.dfdl_markup.proofs.Closing.{good_low, each_append}
 use Rattle.dfdl_markup.proofs.Moves.{at, malformed}
 use Rattle.dfdl_markup.proofs.ReferenceAnswers.{behind_in_content}
 use Rattle.dfdl_markup.proofs.DeclarationForms.{SaidKeeps}
-use Rattle.dfdl_markup.proofs.DeclarationValues.{IsSaid, GoesOnSo, goes_on, is_said, encoding_so_far}
+use Rattle.dfdl_markup.proofs.DeclarationValues.{goes_on, is_said, encoding_so_far}
 use Rattle.dfdl_markup.proofs.DeclarationValues.{said_keeps, OnWord, BeginsWord, word_begins, left_good}
 use Rattle.dfdl_markup.proofs.DeclarationSteps.{reads_by, leads_white, leads_ending, leads_begun}
 use Rattle.dfdl_markup.proofs.DeclarationSteps.{leads_word, leads_said, leads_equals, leads_after}
@@ -37,6 +36,7 @@ good_quote quote is = good_low quote (least quote is) (less quote is)
   where
     least : (c : ℕ) → is_quote c ≡ true → 32 ≤ c
     least c is = grind (arith, nat_tests)
+
     less : (c : ℕ) → is_quote c ≡ true → c < 128
     less c is = grind (arith, nat_tests)
 
@@ -68,7 +68,7 @@ module _ (ahead : Ahead) (begun : ℕ) (frames : List Frame) where
   begun_answers : (last o : Option Said) (c : ℕ)
       → Sound (at ahead (AtDeclaration last true) begun frames) → OnWord last c o
       → Answer (at ahead (AtDeclaration last true) begun frames) c
-          (said_begun o (at ahead (AtDeclaration last true) begun frames))
+      (said_begun o (at ahead (AtDeclaration last true) begun frames))
   begun_answers last None c sound begins = malformed (at ahead (AtDeclaration last true) begun frames) c
   begun_answers last (Some said) c sound begins =
       leads_begun ahead begun frames last said c sound begins
@@ -76,7 +76,7 @@ module _ (ahead : Ahead) (begun : ℕ) (frames : List Frame) where
   ending_answers : (last : Option Said) (spaced : Bool) (c : ℕ)
       → Sound (at ahead (AtDeclaration last spaced) begun frames) → c ≡ 63
       → Answer (at ahead (AtDeclaration last spaced) begun frames) c
-          (declaration_ending last (at ahead (AtDeclaration last spaced) begun frames))
+      (declaration_ending last (at ahead (AtDeclaration last spaced) begun frames))
   ending_answers None spaced c sound is =
       malformed (at ahead (AtDeclaration None spaced) begun frames) c
   ending_answers (Some said) spaced c sound is =
@@ -85,8 +85,8 @@ module _ (ahead : Ahead) (begun : ℕ) (frames : List Frame) where
   spaced_answers : (last : Option Said) (spaced : Bool) (c : ℕ)
       → Sound (at ahead (AtDeclaration last spaced) begun frames)
       → Answer (at ahead (AtDeclaration last spaced) begun frames) c
-          (if spaced then said_begun (said_next last c)
-          (at ahead (AtDeclaration last spaced) begun frames) else Err 3)
+      (if spaced then said_begun (said_next last c)
+      (at ahead (AtDeclaration last spaced) begun frames) else Err 3)
   spaced_answers last true c sound =
       begun_answers last (said_next last c) c sound (word_begins last c)
   spaced_answers last false c sound = malformed (at ahead (AtDeclaration last false) begun frames) c
@@ -94,7 +94,7 @@ module _ (ahead : Ahead) (begun : ℕ) (frames : List Frame) where
   pub declaration_answers : (last : Option Said) (spaced : Bool) (c : ℕ)
       → Sound (at ahead (AtDeclaration last spaced) begun frames) → Good c
       → Answer (at ahead (AtDeclaration last spaced) begun frames) c
-          (declaration_step (at ahead (AtDeclaration last spaced) begun frames) last spaced c)
+      (declaration_step (at ahead (AtDeclaration last spaced) begun frames) last spaced c)
   unfolding declaration_step
   declaration_answers last spaced c sound good =
       let s = at ahead (AtDeclaration last spaced) begun frames in
@@ -128,7 +128,7 @@ module _ (ahead : Ahead) (begun : ℕ) (frames : List Frame) where
   pub said_word_answers : (said : Said) (left : List ℕ) (c : ℕ)
       → Sound (at ahead (AtSaidWord said left) begun frames) → Good c
       → Answer (at ahead (AtSaidWord said left) begun frames) c
-          (said_word_step (at ahead (AtSaidWord said left) begun frames) said left c)
+      (said_word_step (at ahead (AtSaidWord said left) begun frames) said left c)
   unfolding said_word_step
   said_word_answers said [] c sound good =
       behind_word (AtSaidWord said []) said c sound refl refl
@@ -142,13 +142,13 @@ module _ (ahead : Ahead) (begun : ℕ) (frames : List Frame) where
 
   pub said_answers : (said : Said) (c : ℕ) → Sound (at ahead (AtSaid said) begun frames) → Good c
       → Answer (at ahead (AtSaid said) begun frames) c
-          (said_step (at ahead (AtSaid said) begun frames) said c)
+      (said_step (at ahead (AtSaid said) begun frames) said c)
   said_answers said c sound good = behind_word (AtSaid said) said c sound refl refl (λ n raw w. w)
 
   pub said_equals_answers : (said : Said) (c : ℕ)
       → Sound (at ahead (AtSaidEquals said) begun frames) → Good c
       → Answer (at ahead (AtSaidEquals said) begun frames) c
-          (said_equals_step (at ahead (AtSaidEquals said) begun frames) said c)
+      (said_equals_step (at ahead (AtSaidEquals said) begun frames) said c)
   unfolding said_equals_step
   said_equals_answers said c sound good =
       let s = at ahead (AtSaidEquals said) begun frames in
@@ -161,7 +161,7 @@ module _ (ahead : Ahead) (begun : ℕ) (frames : List Frame) where
 
   pub declaration_end_answers : (c : ℕ) → Sound (at ahead AtDeclarationEnd begun frames) → Good c
       → Answer (at ahead AtDeclarationEnd begun frames) c
-          (declaration_end_step (at ahead AtDeclarationEnd begun frames) c)
+      (declaration_end_step (at ahead AtDeclarationEnd begun frames) c)
   unfolding declaration_end_step
   declaration_end_answers c sound good =
       let s = at ahead AtDeclarationEnd begun frames in
@@ -237,30 +237,30 @@ module _ (ahead : Ahead) (begun : ℕ) (frames : List Frame) where
       let live = said_live_behind Encoding false (sound_behind_value Encoding quote read sound) in
       elim (or_cases (is_encoding_character c) (c == quote) is) [
         | inl character ↦ record {
-            more = quote ∷ live.more;
-            good = (good_quote quote sound.place.1, live.good);
-            from =
-                value_from Encoding quote read 9 (c ∷ []) live.more
-                (λ value same. (
-                  each_append (λ d. is_encoding_character d ≡ true) value (c ∷ [])
-                  (encoding_so_far value read same so) (character, tt),
-                  λ less. absurd (omega (arith, less)),
-                )) (live.from 9);
-          }
+          more = quote ∷ live.more;
+          good = (good_quote quote sound.place.1, live.good);
+          from =
+              value_from Encoding quote read 9 (c ∷ []) live.more
+              (λ value same. (
+                each_append (λ d. is_encoding_character d ≡ true) value (c ∷ [])
+                    (encoding_so_far value read same so) (character, tt),
+                λ less. absurd (omega (arith, less)),
+              )) (live.from 9);
+        }
         | inr closes ↦ record {
-            more = live.more;
-            good = live.good;
-            from =
-                subst
-                (λ d. From 9 (at ahead (AtSaidValue Encoding quote read) begun frames)
-                (d ∷ live.more)) (sym (eqb-true c quote closes))
-                (value_from Encoding quote read 9 [] live.more
-                (λ value same. (
-                  each_append (λ d. is_encoding_character d ≡ true) value []
-                  (encoding_so_far value read same so) tt,
-                  λ less. absurd (omega (arith, less)),
-                )) (live.from 9));
-          }
+          more = live.more;
+          good = live.good;
+          from =
+              subst
+              (λ d. From 9 (at ahead (AtSaidValue Encoding quote read) begun frames)
+              (d ∷ live.more)) (sym (eqb-true c quote closes))
+              (value_from Encoding quote read 9 [] live.more
+              (λ value same. (
+                each_append (λ d. is_encoding_character d ≡ true) value []
+                    (encoding_so_far value read same so) tt,
+                λ less. absurd (omega (arith, less)),
+              )) (live.from 9));
+        }
       ]
 
   fault_answers : (said : Said) (quote : ℕ) (read : List ℕ) (c : ℕ)
@@ -279,7 +279,7 @@ module _ (ahead : Ahead) (begun : ℕ) (frames : List Frame) where
   pub said_value_answers : (said : Said) (quote : ℕ) (read : List ℕ) (c : ℕ)
       → Sound (at ahead (AtSaidValue said quote read) begun frames) → Good c
       → Answer (at ahead (AtSaidValue said quote read) begun frames) c
-          (said_value_step (at ahead (AtSaidValue said quote read) begun frames) said quote read c)
+      (said_value_step (at ahead (AtSaidValue said quote read) begun frames) said quote read c)
   unfolding said_value_step
   said_value_answers said quote read c sound good =
       let s = at ahead (AtSaidValue said quote read) begun frames in

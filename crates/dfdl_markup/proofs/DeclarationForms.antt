@@ -1,13 +1,12 @@
 -- The XML declaration as it is written: how it grows and ends.
-use Rattle.std.proofs.Common.{◌≡◌, ℕ, ◌+◌, ◌<◌, ◌≤◌, ◌⊎◌, ◌==◌, Bool, true, false, List, [], ◌∷◌, ◌++◌}
-use Rattle.std.proofs.Common.{length, Option, Some, None, map, refl, sym, ap, subst, ◌∙◌, arith}
+use Rattle.std.proofs.Common.{◌≡◌, ℕ, ◌⊎◌, true, List, [], ◌∷◌, ◌++◌}
+use Rattle.std.proofs.Common.{Option, Some, None, refl, sym, ap, ◌∙◌}
 use Rattle.std.proofs.Common.{append_assoc, append-nil}
-use Rattle.dfdl_layers.specs.Tellers.{Each}
 use Rattle.dfdl_markup.specs.Grammar.{is_quote, Said, Version, Encoding, Standalone, said_word}
 use Rattle.dfdl_markup.specs.Grammar.{Saying}
 use Rattle.dfdl_markup.specs.Grammar.{saying_characters, optional_characters, Declaration, xml_word}
-use Rattle.dfdl_markup.specs.Grammar.{declaration_inside, declaration_characters}
-use Rattle.dfdl_markup.specs.Rules.{AreWhite, SayingKeeps, EncodingKeeps, SaysEncoding, SaysStandalone}
+use Rattle.dfdl_markup.specs.Grammar.{declaration_inside}
+use Rattle.dfdl_markup.specs.Rules.{AreWhite, SayingKeeps, EncodingKeeps}
 use Rattle.dfdl_markup.specs.Rules.{DeclarationKeeps, version_value, yes_value, no_value}
 use Rattle.dfdl_markup.proofs.Rest.{WroteSaid, WroteNone, WroteVersion, WroteEncoding, WroteStandalone}
 use Rattle.dfdl_markup.proofs.Rest.{Follows, WroteSaying}
@@ -41,13 +40,13 @@ module _ (more : List ℕ) where
       WroteVersion version (space ++ more) keeps number
       (ap (λ l. l ++ more) is ∙ behind_three xml_word (saying_characters Version version) space)
   said_more n raw _ (Some Encoding)
-    (WroteEncoding version encoding space keeps number also value is) =
+      (WroteEncoding version encoding space keeps number also value is) =
       WroteEncoding version encoding (space ++ more) keeps number also value
       (ap (λ l. l ++ more) is
       ∙ behind_four xml_word (saying_characters Version version)
       (saying_characters Encoding encoding) space)
   said_more n raw _ (Some Standalone)
-    (WroteStandalone version standalone encoding space keeps number says alone is) =
+      (WroteStandalone version standalone encoding space keeps number says alone is) =
       WroteStandalone version standalone encoding (space ++ more) keeps number says alone
       (ap (λ l. l ++ more) is
       ∙ behind_five xml_word (saying_characters Version version)
@@ -79,30 +78,48 @@ pub declares_said : (n : ℕ) (raw space : List ℕ) (said : Said) → WroteSaid
 declares_said n raw _ Version (WroteVersion version space keeps number is) white = record {
   declaration = record { version = version; encoding = None; standalone = None; space = space };
   keeps = record {
-    version = keeps; number = number; encoding = tt; standalone = tt; space = white;
+    version = keeps;
+    number = number;
+    encoding = tt;
+    standalone = tt;
+    space = white;
   };
   is = is;
 }
 declares_said n raw _ Encoding
-  (WroteEncoding version encoding space keeps number also value is) white = record {
-  declaration = record {
-    version = version; encoding = Some encoding; standalone = None; space = space;
-  };
-  keeps = record {
-    version = keeps; number = number; encoding = (also, value); standalone = tt; space = white;
-  };
-  is = is;
-}
+    (WroteEncoding version encoding space keeps number also value is) white = record {
+      declaration = record {
+        version = version;
+        encoding = Some encoding;
+        standalone = None;
+        space = space;
+      };
+      keeps = record {
+        version = keeps;
+        number = number;
+        encoding = (also, value);
+        standalone = tt;
+        space = white;
+      };
+      is = is;
+    }
 declares_said n raw _ Standalone
-  (WroteStandalone version standalone encoding space keeps number says alone is) white = record {
-  declaration = record {
-    version = version; encoding = encoding; standalone = Some standalone; space = space;
-  };
-  keeps = record {
-    version = keeps; number = number; encoding = says; standalone = alone; space = white;
-  };
-  is = is;
-}
+    (WroteStandalone version standalone encoding space keeps number says alone is) white = record {
+      declaration = record {
+        version = version;
+        encoding = encoding;
+        standalone = Some standalone;
+        space = space;
+      };
+      keeps = record {
+        version = keeps;
+        number = number;
+        encoding = says;
+        standalone = alone;
+        space = white;
+      };
+      is = is;
+    }
 
 -- what may be said, by the rules below n
 abbrev pub SaidKeeps : ℕ → Said → List ℕ → Type 0
@@ -147,7 +164,7 @@ said_closed n Version None front _ raw saying same (WroteNone space is) follows 
     ∙ (spaced_two xml_word space (behind_space Version saying)
     ∙ ap (λ l. 60 ∷ 63 ∷ (xml_word ++ ((l ++ behind_space Version saying) ++ []))) (sym same))))
 said_closed n Encoding (Some Version) front _ raw saying same
-  (WroteVersion version space first number is) follows keeps value so =
+    (WroteVersion version space first number is) follows keeps value so =
     WroteEncoding version saying [] first number keeps value
     (so ∙ (ap (λ l. l ++ behind_space Encoding saying) is
     ∙ (spaced_three xml_word (saying_characters Version version) space
@@ -155,7 +172,7 @@ said_closed n Encoding (Some Version) front _ raw saying same
     ∙ ap (λ l. 60 ∷ 63 ∷ (xml_word ++ (saying_characters Version version
     ++ ((l ++ behind_space Encoding saying) ++ [])))) (sym same))))
 said_closed n Standalone (Some Version) front _ raw saying same
-  (WroteVersion version space first number is) follows keeps value so =
+    (WroteVersion version space first number is) follows keeps value so =
     WroteStandalone version saying None [] first number tt (keeps, value)
     (so ∙ (ap (λ l. l ++ behind_space Standalone saying) is
     ∙ (spaced_three xml_word (saying_characters Version version) space
@@ -163,7 +180,7 @@ said_closed n Standalone (Some Version) front _ raw saying same
     ∙ ap (λ l. 60 ∷ 63 ∷ (xml_word ++ (saying_characters Version version
     ++ ((l ++ behind_space Standalone saying) ++ [])))) (sym same))))
 said_closed n Standalone (Some Encoding) front _ raw saying same
-  (WroteEncoding version encoding space first number also name is) follows keeps value so =
+    (WroteEncoding version encoding space first number also name is) follows keeps value so =
     WroteStandalone version saying (Some encoding) [] first number (also, name) (keeps, value)
     (so ∙ (ap (λ l. l ++ behind_space Standalone saying) is
     ∙ (spaced_four xml_word (saying_characters Version version)

@@ -1,10 +1,9 @@
 -- What each step within an XML declaration leads to.
-use Rattle.std.proofs.Common.{◌≡◌, ℕ, ◌+◌, ◌<◌, ◌≤◌, ◌==◌, ◌||◌, Bool, true, false, List, [], ◌∷◌, ◌++◌}
-use Rattle.std.proofs.Common.{length, Option, Some, None, map, refl, sym, ap, subst, ◌∙◌, arith}
+use Rattle.std.proofs.Common.{◌≡◌, ℕ, ◌<◌, Bool, true, false, List, [], ◌∷◌, ◌++◌}
+use Rattle.std.proofs.Common.{length, Option, Some, map, refl, sym, ap, subst, ◌∙◌, arith}
 use Rattle.std.proofs.Common.{append_assoc, append-nil, length-append}
 use Rattle.std.specs.List.{list_any}
 use Rattle.std.proofs.lemmas.List.{map-append}
-use Rattle.dfdl_layers.specs.Tellers.{Each}
 use Rattle.dfdl_markup.specs.Grammar.{is_white, is_quote, Said, Version, Encoding, Standalone}
 use Rattle.dfdl_markup.specs.Grammar.{said_word, declaration_inside}
 use Rattle.dfdl_markup.specs.Rules.{AreWhite}
@@ -12,9 +11,9 @@ use Rattle.dfdl_markup.specs.Machine.{Place, AtContent, AtDeclaration, AtSaidWor
 use Rattle.dfdl_markup.specs.Machine.{AtSaidValue, AtDeclarationEnd, Ahead, MarkAhead, DeclarationAhead}
 use Rattle.dfdl_markup.specs.Machine.{NothingAhead, Frame, begins, said_character, said_values, tail}
 use Rattle.dfdl_markup.specs.Machine.{wanted, may_declare}
-use Rattle.dfdl_markup.proofs.Rest.{Follows, WroteSaid, WroteSaying, Wrote, Whole, From, brackets_at}
+use Rattle.dfdl_markup.proofs.Rest.{WroteSaid, WroteSaying, Wrote, Whole, From, brackets_at}
 use Rattle.dfdl_markup.proofs.Sound.{SoundAt, SoundAhead, in_declaration, before_declaration, Sound}
-use Rattle.dfdl_markup.proofs.Answers.{Good, Leads}
+use Rattle.dfdl_markup.proofs.Answers.{Leads}
 use Rattle.dfdl_markup.proofs.Closing.{whole_of_declaration, moves_on, each_append}
 use Rattle.dfdl_markup.proofs.Moves.{at, content_at}
 use Rattle.dfdl_markup.proofs.DeclarationForms.{said_more, saying_more, declares_said, SaidKeeps}
@@ -87,7 +86,7 @@ module _ (ahead : Ahead) (begun : ℕ) (frames : List Frame) where
   pub leads_white : (last : Option Said) (spaced : Bool) (c : ℕ)
       → Sound (at ahead (AtDeclaration last spaced) begun frames) → is_white c ≡ true
       → Leads (at ahead (AtDeclaration last spaced) begun frames) c
-          (at ahead (AtDeclaration last true) begun frames)
+      (at ahead (AtDeclaration last true) begun frames)
   leads_white last spaced c sound white =
       reads_within (AtDeclaration last spaced) (AtDeclaration last true) c sound refl refl refl tt
       (λ n raw w. (
@@ -100,20 +99,20 @@ module _ (ahead : Ahead) (begun : ℕ) (frames : List Frame) where
   pub leads_ending : (said : Said) (spaced : Bool) (c : ℕ)
       → Sound (at ahead (AtDeclaration (Some said) spaced) begun frames) → c ≡ 63
       → Leads (at ahead (AtDeclaration (Some said) spaced) begun frames) c
-          (at ahead AtDeclarationEnd begun frames)
+      (at ahead AtDeclarationEnd begun frames)
   leads_ending said spaced c sound is =
       reads_within (AtDeclaration (Some said) spaced) AtDeclarationEnd c sound refl refl refl tt
       (λ n raw w. let d = declares_said n raw w.0 said w.1 w.2 in (
         d.declaration,
         d.keeps,
         ap (λ x. (raw ++ x ∷ []) ++ 62 ∷ []) is
-        ∙ ends_written raw (declaration_inside d.declaration) d.is,
+            ∙ ends_written raw (declaration_inside d.declaration) d.is,
       ))
 
   pub leads_begun : (last : Option Said) (said : Said) (c : ℕ)
       → Sound (at ahead (AtDeclaration last true) begun frames) → BeginsWord last c said
       → Leads (at ahead (AtDeclaration last true) begun frames) c
-          (at ahead (AtSaidWord said (tail (said_word said))) begun frames)
+      (at ahead (AtSaidWord said (tail (said_word said))) begun frames)
   leads_begun last said c sound begins =
       reads_within (AtDeclaration last true) (AtSaidWord said (tail (said_word said))) c sound refl
       refl refl (c ∷ [], begins.word)
@@ -135,7 +134,7 @@ module _ (ahead : Ahead) (begun : ℕ) (frames : List Frame) where
   pub leads_word : (said : Said) (w : ℕ) (left : List ℕ) (c : ℕ)
       → Sound (at ahead (AtSaidWord said (w ∷ left)) begun frames) → c ≡ w
       → Leads (at ahead (AtSaidWord said (w ∷ left)) begun frames) c
-          (at ahead (AtSaidWord said left) begun frames)
+      (at ahead (AtSaidWord said left) begun frames)
   leads_word said w left c sound is =
       reads_within (AtSaidWord said (w ∷ left)) (AtSaidWord said left) c sound refl refl refl
       (sound.place.0 ++ c ∷ [], word_on sound.place.0 sound.place.1)
@@ -162,7 +161,7 @@ module _ (ahead : Ahead) (begun : ℕ) (frames : List Frame) where
         so.0 ++ c ∷ [],
         white_push so.0 c so.1 white,
         saying_on n said (said_word said ++ so.0) (said_word said ++ (so.0 ++ c ∷ [])) raw (c ∷ [])
-        (append_assoc (said_word said) so.0 (c ∷ [])) so.2,
+            (append_assoc (said_word said) so.0 (c ∷ [])) so.2,
       ))
 
   pub leads_equals : (p : Place) (said : Said) (c : ℕ) → Sound (at ahead p begun frames)
@@ -178,14 +177,14 @@ module _ (ahead : Ahead) (begun : ℕ) (frames : List Frame) where
         so.1,
         tt,
         saying_on n said (said_word said ++ so.0) (said_word said ++ (so.0 ++ 61 ∷ [])) raw (c ∷ [])
-        (append_assoc (said_word said) so.0 (c ∷ [])
-        ∙ ap (λ x. said_word said ++ (so.0 ++ x ∷ [])) is) so.2,
+            (append_assoc (said_word said) so.0 (c ∷ [])
+            ∙ ap (λ x. said_word said ++ (so.0 ++ x ∷ [])) is) so.2,
       ))
 
   pub leads_after : (said : Said) (c : ℕ) → Sound (at ahead (AtSaidEquals said) begun frames)
       → is_white c ≡ true
       → Leads (at ahead (AtSaidEquals said) begun frames) c
-          (at ahead (AtSaidEquals said) begun frames)
+      (at ahead (AtSaidEquals said) begun frames)
   leads_after said c sound white =
       reads_within (AtSaidEquals said) (AtSaidEquals said) c sound refl refl refl tt
       (λ n raw w. (
@@ -194,8 +193,8 @@ module _ (ahead : Ahead) (begun : ℕ) (frames : List Frame) where
         w.2,
         white_push w.1 c w.3 white,
         saying_on n said (said_word said ++ (w.0 ++ 61 ∷ w.1))
-        (said_word said ++ (w.0 ++ 61 ∷ (w.1 ++ c ∷ []))) raw (c ∷ [])
-        (equals_on said w.0 w.1 c) w.4,
+            (said_word said ++ (w.0 ++ 61 ∷ (w.1 ++ c ∷ []))) raw (c ∷ [])
+            (equals_on said w.0 w.1 c) w.4,
       ))
 
   begins_all : (said : Said) → list_any (begins []) (said_values said) ≡ true
@@ -206,7 +205,7 @@ module _ (ahead : Ahead) (begun : ℕ) (frames : List Frame) where
   pub leads_quote : (said : Said) (c : ℕ) → Sound (at ahead (AtSaidEquals said) begun frames)
       → is_quote c ≡ true
       → Leads (at ahead (AtSaidEquals said) begun frames) c
-          (at ahead (AtSaidValue said c []) begun frames)
+      (at ahead (AtSaidValue said c []) begun frames)
   leads_quote said c sound quote =
       reads_within (AtSaidEquals said) (AtSaidValue said c []) c sound refl refl refl
       (begins_all said, quote)
@@ -219,8 +218,8 @@ module _ (ahead : Ahead) (begun : ℕ) (frames : List Frame) where
         quote,
         refl,
         saying_on n said (said_word said ++ (w.0 ++ 61 ∷ w.1))
-        (said_word said ++ (w.0 ++ 61 ∷ (w.1 ++ c ∷ []))) raw (c ∷ [])
-        (equals_on said w.0 w.1 c) w.4,
+            (said_word said ++ (w.0 ++ 61 ∷ (w.1 ++ c ∷ []))) raw (c ∷ [])
+            (equals_on said w.0 w.1 c) w.4,
       ))
 
   -- in the value
@@ -228,7 +227,7 @@ module _ (ahead : Ahead) (begun : ℕ) (frames : List Frame) where
       → Sound (at ahead (AtSaidValue said quote read) begun frames)
       → list_any (begins (read ++ said_character said c ∷ [])) (said_values said) ≡ true
       → Leads (at ahead (AtSaidValue said quote read) begun frames) c
-          (at ahead (AtSaidValue said quote (read ++ said_character said c ∷ [])) begun frames)
+      (at ahead (AtSaidValue said quote (read ++ said_character said c ∷ [])) begun frames)
   leads_value said quote read c sound some =
       reads_within (AtSaidValue said quote read)
       (AtSaidValue said quote (read ++ said_character said c ∷ [])) c sound refl refl refl
@@ -241,10 +240,10 @@ module _ (ahead : Ahead) (begun : ℕ) (frames : List Frame) where
         w.4,
         w.5,
         map-append (said_character said) w.2 (c ∷ [])
-        ∙ ap (λ l. l ++ said_character said c ∷ []) w.6,
+            ∙ ap (λ l. l ++ said_character said c ∷ []) w.6,
         saying_on n said (said_word said ++ (w.0 ++ 61 ∷ (w.1 ++ quote ∷ w.2)))
-        (said_word said ++ (w.0 ++ 61 ∷ (w.1 ++ quote ∷ (w.2 ++ c ∷ [])))) raw (c ∷ [])
-        (valued (said_word said) w.0 w.1 w.2 (c ∷ []) quote) w.7,
+            (said_word said ++ (w.0 ++ 61 ∷ (w.1 ++ quote ∷ (w.2 ++ c ∷ [])))) raw (c ∷ [])
+            (valued (said_word said) w.0 w.1 w.2 (c ∷ []) quote) w.7,
       ))
 
   -- more of a value and its closing quote, by the rules below n
@@ -255,10 +254,10 @@ module _ (ahead : Ahead) (begun : ℕ) (frames : List Frame) where
   value_closed said quote read n raw more keeps w = (
     [],
     subst (λ l. WroteSaid n l (Some said) []) (append_assoc raw more (quote ∷ []))
-    (saying_closed n said w.0 w.1 (w.2 ++ more) (raw ++ more) quote w.3 w.4 w.5 (keeps w.2 w.6)
-    (saying_on n said (said_word said ++ (w.0 ++ 61 ∷ (w.1 ++ quote ∷ w.2)))
-    (said_word said ++ (w.0 ++ 61 ∷ (w.1 ++ quote ∷ (w.2 ++ more)))) raw more
-    (valued (said_word said) w.0 w.1 w.2 more quote) w.7)),
+        (saying_closed n said w.0 w.1 (w.2 ++ more) (raw ++ more) quote w.3 w.4 w.5 (keeps w.2 w.6)
+        (saying_on n said (said_word said ++ (w.0 ++ 61 ∷ (w.1 ++ quote ∷ w.2)))
+        (said_word said ++ (w.0 ++ 61 ∷ (w.1 ++ quote ∷ (w.2 ++ more)))) raw more
+        (valued (said_word said) w.0 w.1 w.2 more quote) w.7)),
     tt,
     λ spaced. absurd (cc),
   )
@@ -266,7 +265,7 @@ module _ (ahead : Ahead) (begun : ℕ) (frames : List Frame) where
   pub leads_closed : (said : Said) (quote : ℕ) (read : List ℕ) (c : ℕ)
       → Sound (at ahead (AtSaidValue said quote read) begun frames) → c ≡ quote → IsSaid said read
       → Leads (at ahead (AtSaidValue said quote read) begun frames) c
-          (at ahead (AtDeclaration (Some said) false) begun frames)
+      (at ahead (AtDeclaration (Some said) false) begun frames)
   leads_closed said quote read c sound is said_so =
       reads_within (AtSaidValue said quote read) (AtDeclaration (Some said) false) c sound refl refl
       refl tt
@@ -283,10 +282,13 @@ module _ (ahead : Ahead) (begun : ℕ) (frames : List Frame) where
   -- behind the declaration
   pub leads_content : (c : ℕ) → Sound (at ahead AtDeclarationEnd begun frames) → c ≡ 62
       → Leads (at ahead AtDeclarationEnd begun frames) c
-          (at NothingAhead (AtContent 0) begun frames)
+      (at NothingAhead (AtContent 0) begun frames)
   leads_content c sound is = record {
     sound = record {
-      frames = sound.frames; roots = sound.roots; ahead = refl; place = content_at begun frames;
+      frames = sound.frames;
+      roots = sound.roots;
+      ahead = refl;
+      place = content_at begun frames;
     };
     back = λ n text from. record {
       whole = λ raw w.

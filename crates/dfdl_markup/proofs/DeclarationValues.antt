@@ -1,5 +1,5 @@
 -- What the XML declaration may say: how it begins and goes on, by its characters.
-use Rattle.std.proofs.Common.{◌≡◌, ℕ, ◌+◌, ◌<◌, ◌≤◌, ◌⊎◌, ◌==◌, if◌then◌else◌, ◌||◌, Bool, true, false, List, [], ◌∷◌, ◌++◌}
+use Rattle.std.proofs.Common.{◌≡◌, ℕ, ◌⊎◌, ◌==◌, if◌then◌else◌, ◌||◌, Bool, true, false, List, [], ◌∷◌, ◌++◌}
 use Rattle.std.proofs.Common.{map, refl, sym, ap, ap₂, subst, ◌∙◌, arith, inl, inr, Option, Some, None}
 use Rattle.std.specs.List.{list_any}
 use Rattle.std.specs.Str.{bytes_eq}
@@ -7,13 +7,12 @@ use Rattle.std.proofs.lemmas.Bool.{or_cases, both_ways, cases_Bool, cond_both, e
 use Rattle.std.proofs.lemmas.Bool.Decides.{nat_tests}
 use Rattle.std.proofs.lemmas.Slice.Eq.{bytes_eq-Decides}
 use Rattle.dfdl_layers.specs.Tellers.{Each}
-use Rattle.dfdl_markup.specs.Grammar.{is_quote, Said, Version, Encoding, Standalone, said_word}
+use Rattle.dfdl_markup.specs.Grammar.{Said, Version, Encoding, Standalone, said_word}
 use Rattle.dfdl_markup.specs.Rules.{is_encoding_character, small, version_value, encoding_value}
 use Rattle.dfdl_markup.specs.Rules.{yes_value, no_value}
 use Rattle.dfdl_markup.specs.Machine.{begins, said_character, said_values, said_next, tail}
 use Rattle.dfdl_markup.proofs.Rest.{Follows}
 use Rattle.dfdl_markup.proofs.Answers.{Good}
-use Rattle.dfdl_markup.proofs.Closing.{good_low}
 use Rattle.dfdl_markup.proofs.ReferenceEntities.{is_plain, plain_text, begins_is, each_behind}
 use Rattle.dfdl_markup.proofs.DeclarationForms.{SaidKeeps}
 
@@ -162,12 +161,12 @@ said_keeps n Version value read same is =
     sym (map_same (said_character Version) value (λ c. refl)) ∙ (same ∙ is)
 said_keeps n Encoding value read same is = (
   each_small value read same
-  (subst (λ l. Each (λ c. is_encoding_character c ≡ true) l) (sym is) encoding_characters),
+      (subst (λ l. Each (λ c. is_encoding_character c ≡ true) l) (sym is) encoding_characters),
   λ _. same ∙ is,
 )
 said_keeps n Standalone value read same is =
     let as_read : value ≡ read = sym (map_same (said_character Standalone) value (λ c. refl)) ∙ same in
-    elim is [ | inl yes_is ↦ inl (as_read ∙ yes_is) | inr no_is ↦ inr (as_read ∙ no_is) ]
+    elim is [ inl yes_is ↦ inl (as_read ∙ yes_is) | inr no_is ↦ inr (as_read ∙ no_is) ]
 
 -- the word that the character begins, where one may follow there
 pub record BeginsWord (last : Option Said) (c : ℕ) (said : Said) : Type 0 where

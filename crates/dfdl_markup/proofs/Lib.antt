@@ -1,4 +1,5 @@
 pub mod Rest
+pub mod TagNamespaces
 pub mod Sound
 pub mod Answers
 pub mod Closing

@@ -1,5 +1,7 @@
 pub mod Rest
 pub mod TagNamespaces
+pub mod TagFixed
+pub mod TagValues
 pub mod Sound
 pub mod Answers
 pub mod Closing

@@ -2,6 +2,7 @@ pub mod Rest
 pub mod TagNamespaces
 pub mod TagFixed
 pub mod TagValues
+pub mod TagSound
 pub mod Sound
 pub mod Answers
 pub mod Closing

@@ -3,6 +3,8 @@ pub mod TagNamespaces
 pub mod TagFixed
 pub mod TagValues
 pub mod TagSound
+pub mod TagSteps
+pub mod TagEnds
 pub mod Sound
 pub mod Answers
 pub mod Closing

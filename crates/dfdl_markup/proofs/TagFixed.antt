@@ -8,10 +8,11 @@ use Rattle.std.proofs.lemmas.Bool.Decides.{nat_tests}
 use Rattle.std.specs.List.{list_all, filter_map, cons_option}
 use Rattle.std.specs.Str.{bytes_eq}
 use Rattle.dfdl_layers.specs.Tellers.{Each}
-use Rattle.dfdl_markup.specs.Grammar.{is_white, Name}
+use Rattle.dfdl_markup.specs.Grammar.{is_white, is_quote, Name}
 use Rattle.dfdl_markup.specs.Values.{xml_namespace, xmlns_namespace, xml_prefix, xmlns_prefix}
 use Rattle.dfdl_markup.specs.Values.{fixed_namespace, may_bind, Attribute, declares, Binding, bound_to}
 use Rattle.dfdl_markup.specs.Values.{bindings_of, binding_of}
+use Rattle.dfdl_markup.specs.Rules.{is_value_character}
 use Rattle.dfdl_markup.specs.Machine.{may_close, fixed_value, begins}
 use Rattle.dfdl_markup.proofs.Answers.{Good}
 use Rattle.dfdl_markup.proofs.Sound.{MayStand}
@@ -51,7 +52,8 @@ not_both same = let both : length xml_namespace ≡ length xmlns_namespace = ap 
 
 -- a character that may stand in a value as it is
 abbrev pub is_plain : ℕ → Bool
-is_plain c = (nat_le 33 c && nat_lt c 128) && (not (c == 60) && not (c == 38))
+is_plain c = (nat_le 33 c && nat_lt c 128)
+    && ((not (c == 60) && not (c == 38)) && (not (c == 34) && not (c == 39)))
 
 -- all are such
 abbrev pub ArePlain : List ℕ → Type 0
@@ -87,6 +89,11 @@ plain_good c plain = good_low c (grind (arith, nat_tests)) (grind (arith, nat_te
 pub plain_not_white : (c : ℕ) → is_plain c ≡ true → is_white c ≡ false
 unfolding is_white
 plain_not_white c plain = grind (arith, nat_tests)
+
+pub plain_value : (quote c : ℕ) → is_quote quote ≡ true → is_plain c ≡ true
+    → is_value_character quote c ≡ true
+unfolding is_quote is_value_character
+plain_value quote c quotes plain = grind (arith, nat_tests)
 
 -- what another prefix may stand for is neither of the two
 

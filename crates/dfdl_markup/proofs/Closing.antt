@@ -55,7 +55,7 @@ good_name c is = elim (cases_Bool (is_in low_name_rows c)) [
       (high_scalar c within, allowed_in high_name_rows c name_rows_allowed within))
 ]
 
-start_is_char : (c : ℕ) → is_name_start c ≡ true → is_name_char c ≡ true
+pub start_is_char : (c : ℕ) → is_name_start c ≡ true → is_name_char c ≡ true
 unfolding is_name_start is_name_char low_name_rows high_name_rows high_mark_rows
 start_is_char c is = grind (arith, nat_tests)
 

@@ -5,6 +5,7 @@ pub mod TagValues
 pub mod TagSound
 pub mod TagSteps
 pub mod TagEnds
+pub mod TagNames
 pub mod Sound
 pub mod Answers
 pub mod Closing

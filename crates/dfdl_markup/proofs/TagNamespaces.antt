@@ -162,7 +162,7 @@ found_new_step p u q v binding true o tested is new others same =
     some_is a b e = cc
 found_new_step p u q v binding false o tested is new others same = others is
 
-found_new : (p u q v : List ℕ) (bindings : List Binding) → found bindings q ≡ Some v
+pub found_new : (p u q v : List ℕ) (bindings : List Binding) → found bindings q ≡ Some v
     → Each (IsNewBinding p u) bindings → v ≡ u → q ≡ p
 found_new p u q v [] is new same = absurd (cc)
 found_new p u q v (binding ∷ bindings) is new same =

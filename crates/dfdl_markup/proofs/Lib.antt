@@ -6,6 +6,7 @@ pub mod TagSound
 pub mod TagSteps
 pub mod TagEnds
 pub mod TagNames
+pub mod TagLive
 pub mod Sound
 pub mod Answers
 pub mod Closing

@@ -1,23 +1,21 @@
 -- A value that is begun can be ended, so that its tag has the attribute and is sound.
-use Rattle.std.proofs.Common.{◌≡◌, ℕ, zero, suc, ◌+◌, ◌<◌, ◌≤◌, ◌==◌, ◌&&◌, ◌||◌, Bool, true, false, List, [], ◌∷◌, ◌++◌}
+use Rattle.std.proofs.Common.{◌≡◌, ℕ, zero, suc, ◌<◌, ◌≤◌, ◌==◌, Bool, true, false, List, [], ◌∷◌, ◌++◌}
 use Rattle.std.proofs.Common.{length, map, drop, Option, Some, None, refl, ap, sym, subst, ◌∙◌, arith}
 use Rattle.std.proofs.Common.{option_and_then}
 use Rattle.std.proofs.lemmas.Bool.{and_from, eq-eqb}
 use Rattle.std.proofs.lemmas.Bool.Decides.{nat_tests}
-use Rattle.std.proofs.lemmas.List.{append-nil, map-append, length-append}
-use Rattle.std.specs.List.{flat_map}
-use Rattle.std.specs.Str.{bytes_eq}
+use Rattle.std.proofs.lemmas.List.{map-append, length-append}
 use Rattle.dfdl_layers.specs.Tellers.{Each}
-use Rattle.dfdl_markup.specs.Grammar.{is_quote, Name, Item, Letter, item_characters}
-use Rattle.dfdl_markup.specs.Values.{items_read, ends_in_cr, declares, fixed_namespace, may_bind}
-use Rattle.dfdl_markup.specs.Values.{Attribute, bindings_of}
+use Rattle.dfdl_markup.specs.Grammar.{is_quote, Item, Letter}
+use Rattle.dfdl_markup.specs.Values.{items_read, ends_in_cr, declares, fixed_namespace}
+use Rattle.dfdl_markup.specs.Values.{bindings_of}
 use Rattle.dfdl_markup.specs.Rules.{ItemKeeps}
-use Rattle.dfdl_markup.specs.Machine.{StartTag, OpenValue, AtValue, AtTag, with_text, with_value, begins}
+use Rattle.dfdl_markup.specs.Machine.{OpenValue, AtValue, AtTag, with_text, begins}
 use Rattle.dfdl_markup.specs.Machine.{fixed_value, may_close}
-use Rattle.dfdl_markup.proofs.Rest.{ReadAs, WroteValue, Wrote}
-use Rattle.dfdl_markup.proofs.Sound.{MayStand, SoundTag, SoundName, KeepsFixed, SoundValue}
+use Rattle.dfdl_markup.proofs.Rest.{ReadAs, WroteValue}
+use Rattle.dfdl_markup.proofs.Sound.{MayStand, SoundTag, SoundName, KeepsFixed}
 use Rattle.dfdl_markup.proofs.Answers.{Good}
-use Rattle.dfdl_markup.proofs.Closing.{good_low, each_append}
+use Rattle.dfdl_markup.proofs.Closing.{good_low}
 use Rattle.dfdl_markup.proofs.TagNamespaces.{alike_of, IsNewBinding}
 use Rattle.dfdl_markup.proofs.TagFixed.{ArePlain, plain_fixed, plain_good, plain_value, fixed_new, reach}
 use Rattle.dfdl_markup.proofs.TagFixed.{reach_least, longer_new, may_bind_long, letters}

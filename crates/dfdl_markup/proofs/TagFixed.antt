@@ -1,19 +1,18 @@
 -- The namespaces of the prefixes `xml` and `xmlns`, and what no other prefix may stand for.
-use Rattle.std.proofs.Common.{◌≡◌, ℕ, zero, suc, ◌+◌, ◌<◌, ◌≤◌, ◌==◌, ◌&&◌, ◌||◌, ◌⊎◌, Bool, true, false, not, List, [], ◌∷◌, ◌++◌}
-use Rattle.std.proofs.Common.{length, map, Option, Some, None, refl, ap, sym, subst, ◌∙◌, arith, inl, inr}
+use Rattle.std.proofs.Common.{◌≡◌, ℕ, zero, suc, ◌+◌, ◌<◌, ◌≤◌, ◌==◌, ◌&&◌, Bool, true, false, not, List, [], ◌∷◌, ◌++◌}
+use Rattle.std.proofs.Common.{length, Option, Some, None, refl, ap, sym, subst, ◌∙◌, arith}
 use Rattle.std.proofs.Common.{if◌then◌else◌, nat_le, nat_lt, option_and_then, drop}
-use Rattle.std.proofs.lemmas.Bool.{cases_Bool, and_parts, and_from, eqb-true, leb-true, ltb-true, true≢false}
-use Rattle.std.proofs.lemmas.Bool.{false_from_ne_true, not_from_false}
+use Rattle.std.proofs.lemmas.Bool.{and_parts, and_from, eqb-true, true≢false}
 use Rattle.std.proofs.lemmas.Bool.Decides.{nat_tests}
-use Rattle.std.specs.List.{list_all, filter_map, cons_option}
+use Rattle.std.specs.List.{list_all, cons_option}
 use Rattle.std.specs.Str.{bytes_eq}
 use Rattle.dfdl_layers.specs.Tellers.{Each}
-use Rattle.dfdl_markup.specs.Grammar.{is_white, is_quote, Name}
+use Rattle.dfdl_markup.specs.Grammar.{is_white, is_quote}
 use Rattle.dfdl_markup.specs.Values.{xml_namespace, xmlns_namespace, xml_prefix, xmlns_prefix}
 use Rattle.dfdl_markup.specs.Values.{fixed_namespace, may_bind, Attribute, declares, Binding, bound_to}
-use Rattle.dfdl_markup.specs.Values.{bindings_of, binding_of}
+use Rattle.dfdl_markup.specs.Values.{bindings_of}
 use Rattle.dfdl_markup.specs.Rules.{is_value_character}
-use Rattle.dfdl_markup.specs.Machine.{may_close, fixed_value, begins}
+use Rattle.dfdl_markup.specs.Machine.{may_close, begins}
 use Rattle.dfdl_markup.proofs.Answers.{Good}
 use Rattle.dfdl_markup.proofs.Sound.{MayStand}
 use Rattle.dfdl_markup.proofs.Closing.{good_low}

@@ -1,22 +1,20 @@
 -- A start tag can be completed from any place in it: with a declaration for each prefix that it does
 -- not declare, and then `/>`.
-use Rattle.std.proofs.Common.{◌≡◌, ℕ, zero, suc, ◌+◌, ◌<◌, ◌≤◌, ◌⊎◌, ◌==◌, Bool, true, false, List, [], ◌∷◌, ◌++◌}
-use Rattle.std.proofs.Common.{length, Option, Some, None, refl, ap, sym, subst, ◌∙◌, arith, inl, inr}
-use Rattle.std.proofs.Common.{append_assoc, if◌then◌else◌}
+use Rattle.std.proofs.Common.{◌≡◌, ℕ, suc, ◌<◌, ◌≤◌, ◌⊎◌, ◌==◌, Bool, true, false, List, [], ◌∷◌, ◌++◌}
+use Rattle.std.proofs.Common.{Option, Some, None, refl, ap, sym, subst, ◌∙◌, arith, inl, inr}
+use Rattle.std.proofs.Common.{append_assoc}
 use Rattle.std.proofs.lemmas.Bool.{cases_Bool, cond_both, eqb-true}
 use Rattle.std.specs.List.{cons_option}
 use Rattle.dfdl_layers.specs.Tellers.{Each}
 use Rattle.dfdl_markup.specs.Grammar.{is_white, is_quote, Name, Plain, Prefixed, name_characters, Tag}
-use Rattle.dfdl_markup.specs.Grammar.{tag_characters}
-use Rattle.dfdl_markup.specs.Values.{Attribute, declares, Binding, bound_to, bindings_of, found, is_found}
-use Rattle.dfdl_markup.specs.Values.{is_some_text, xmlns_prefix, same_name, same_expanded, have_same}
+use Rattle.dfdl_markup.specs.Values.{Binding, bound_to, bindings_of, found, is_found}
+use Rattle.dfdl_markup.specs.Values.{is_some_text, xmlns_prefix, same_name, same_expanded}
 use Rattle.dfdl_markup.specs.Values.{names_of, scope_in}
-use Rattle.dfdl_markup.specs.Rules.{IsPart, IsName, AreDifferent, AreDeclared, TagKeeps, attributes_of}
-use Rattle.dfdl_markup.specs.Rules.{deepest}
+use Rattle.dfdl_markup.specs.Rules.{IsPart, IsName, AreDifferent, AreDeclared, TagKeeps}
 use Rattle.dfdl_markup.specs.Machine.{StartTag, OpenValue, Place, AtTag, AtEquals, AtValue, Frame, Ahead}
 use Rattle.dfdl_markup.specs.Machine.{scope_of, wanted, begun_by, value_begun, fixed_value}
-use Rattle.dfdl_markup.proofs.Rest.{WroteTag, WroteName, Wrote, Close, From, brackets_at}
-use Rattle.dfdl_markup.proofs.Sound.{SoundFrames, SoundRoots, MayStand, SoundTag, MayBegin, SoundName}
+use Rattle.dfdl_markup.proofs.Rest.{WroteTag, Close, From, brackets_at}
+use Rattle.dfdl_markup.proofs.Sound.{SoundFrames, SoundRoots, SoundTag, MayBegin}
 use Rattle.dfdl_markup.proofs.Sound.{KeepsFixed, SoundValue, Sound}
 use Rattle.dfdl_markup.proofs.Answers.{Good, Live}
 use Rattle.dfdl_markup.proofs.Closing.{good_low, each_append, good_of_name, Closing, close_all, may_deep}

@@ -1,15 +1,15 @@
 -- Which names declare a prefix, and that a prefix is not declared yet.
-use Rattle.std.proofs.Common.{◌≡◌, ℕ, zero, suc, ◌+◌, ◌<◌, ◌≤◌, ◌==◌, ◌&&◌, ◌||◌, Bool, true, false, List, [], ◌∷◌, ◌++◌}
-use Rattle.std.proofs.Common.{length, map, Option, Some, None, refl, ap, sym, subst, ◌∙◌, arith, if◌then◌else◌}
+use Rattle.std.proofs.Common.{◌≡◌, ℕ, Bool, true, false, List, [], ◌∷◌, ◌++◌}
+use Rattle.std.proofs.Common.{Option, Some, None, refl, ap, sym, subst, ◌∙◌, if◌then◌else◌}
 use Rattle.std.proofs.Common.{option_and_then}
 use Rattle.std.proofs.lemmas.Bool.{and_parts, or_from, or_parts, false_from_ne_true, true≢false}
 use Rattle.std.specs.List.{list_any, cons_option}
 use Rattle.std.specs.Str.{bytes_eq}
 use Rattle.dfdl_layers.specs.Tellers.{Each}
-use Rattle.dfdl_xml_chars.specs.Characters.{is_name_start, is_name_char, is_in, low_name_rows}
+use Rattle.dfdl_xml_chars.specs.Characters.{is_name_start, is_name_char, low_name_rows}
 use Rattle.dfdl_xml_chars.specs.Characters.{low_start_rows, high_name_rows, high_start_rows, high_mark_rows}
 use Rattle.dfdl_markup.specs.Grammar.{Name, Plain, Prefixed, name_characters}
-use Rattle.dfdl_markup.specs.Values.{xml_namespace, xmlns_namespace, xml_prefix, xmlns_prefix, Attribute, declares}
+use Rattle.dfdl_markup.specs.Values.{xmlns_namespace, xml_prefix, xmlns_prefix, Attribute, declares}
 use Rattle.dfdl_markup.specs.Values.{Binding, bound_to, bindings_of, found, same_found, same_expanded}
 use Rattle.dfdl_markup.specs.Values.{same_name, names_of, is_some_text, fixed_namespace}
 use Rattle.dfdl_markup.specs.Rules.{IsPart, IsName}
@@ -78,7 +78,7 @@ declares_by : (x : Name) (p : List ℕ) → IsName x → name_characters x ≡ x
 declares_by (Plain part) p named is = absurd (part_without xmlns_prefix p part is named)
 declares_by (Prefixed q a) p named is =
     let same = cut_once q xmlns_prefix a p (characters_of q named.0)
-        (characters_of xmlns_prefix xmlns_part) is in
+    (characters_of xmlns_prefix xmlns_part) is in
     ap (λ l. declares (Prefixed l a)) same.0 ∙ (xmlns_declares a ∙ ap Some same.1)
 
 -- a prefix that is not found is declared by no attribute

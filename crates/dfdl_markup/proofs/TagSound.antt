@@ -1,7 +1,7 @@
 -- A start tag with one attribute more is sound, where its name is new and what it declares is.
-use Rattle.std.proofs.Common.{◌≡◌, ℕ, zero, suc, ◌+◌, ◌<◌, ◌≤◌, ◌&&◌, ◌||◌, Bool, true, false, List, [], ◌∷◌, ◌++◌}
-use Rattle.std.proofs.Common.{length, map, Option, Some, None, refl, ap, sym, subst, ◌∙◌, arith, inl, inr}
-use Rattle.std.proofs.lemmas.Bool.{cases_Bool, and_parts, and_from, or_parts, or_from}
+use Rattle.std.proofs.Common.{◌≡◌, ℕ, false, List, [], ◌∷◌, ◌++◌}
+use Rattle.std.proofs.Common.{Option, Some, None, refl, ap, sym, subst, ◌∙◌}
+use Rattle.std.proofs.lemmas.Bool.{or_parts}
 use Rattle.std.proofs.lemmas.List.{append-nil, map-append}
 use Rattle.std.proofs.lemmas.List.Elements.{filter_map-append}
 use Rattle.std.specs.List.{list_any, cons_option}
@@ -10,7 +10,7 @@ use Rattle.dfdl_markup.specs.Grammar.{Name}
 use Rattle.dfdl_markup.specs.Values.{Attribute, declares, same_name, Binding, bound_to, bindings_of}
 use Rattle.dfdl_markup.specs.Values.{binding_of, same_expanded, have_same, names_of}
 use Rattle.dfdl_markup.specs.Rules.{IsName}
-use Rattle.dfdl_markup.specs.Machine.{StartTag, OpenValue, is_given, with_value, has_sure_clash}
+use Rattle.dfdl_markup.specs.Machine.{StartTag, OpenValue, with_value, has_sure_clash}
 use Rattle.dfdl_markup.proofs.Sound.{MayStand, SoundTag, SoundName}
 use Rattle.dfdl_markup.proofs.TagNamespaces.{have_same_push, none_like_last, none_same}
 use Rattle.dfdl_markup.proofs.TagNamespaces.{IsNewBinding, new_pair}

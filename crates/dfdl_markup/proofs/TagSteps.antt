@@ -1,22 +1,19 @@
 -- What was written of a start tag, with a character or a few more.
-use Rattle.std.proofs.Common.{◌≡◌, ℕ, zero, suc, ◌+◌, ◌<◌, ◌≤◌, ◌==◌, ◌&&◌, ◌||◌, Bool, true, false, List, [], ◌∷◌, ◌++◌}
-use Rattle.std.proofs.Common.{length, map, Option, Some, None, refl, ap, sym, subst, ◌∙◌, arith, inl, inr}
-use Rattle.std.proofs.Common.{append_assoc, if◌then◌else◌}
-use Rattle.std.proofs.lemmas.Bool.{cases_Bool, cond_both, eqb-true}
+use Rattle.std.proofs.Common.{◌≡◌, ℕ, ◌<◌, Bool, true, false, List, [], ◌∷◌, ◌++◌}
+use Rattle.std.proofs.Common.{length, Option, Some, None, refl, ap, sym, subst, ◌∙◌, arith}
+use Rattle.std.proofs.Common.{append_assoc}
 use Rattle.std.proofs.lemmas.List.{append-nil, length_push}
 use Rattle.std.specs.List.{flat_map}
-use Rattle.dfdl_layers.specs.Tellers.{Each}
-use Rattle.dfdl_xml_chars.specs.Characters.{is_name_start, is_name_char}
-use Rattle.dfdl_markup.specs.Grammar.{is_white, is_quote, Name, Plain, Prefixed, name_characters}
-use Rattle.dfdl_markup.specs.Grammar.{Given, given_characters, given_start, Tag, tag_characters, Letter}
-use Rattle.dfdl_markup.specs.Rules.{IsPart, IsName, AreWhite, GivenKeeps}
-use Rattle.dfdl_markup.specs.Machine.{Reading, First, Colon, Second, name_next, whole_name, StartTag}
+use Rattle.dfdl_xml_chars.specs.Characters.{is_name_start}
+use Rattle.dfdl_markup.specs.Grammar.{is_white, is_quote, Name, name_characters}
+use Rattle.dfdl_markup.specs.Grammar.{given_characters, given_start, tag_characters}
+use Rattle.dfdl_markup.specs.Machine.{Reading, First, name_next, whole_name, StartTag}
 use Rattle.dfdl_markup.specs.Machine.{OpenValue, Place, AtTagName, AtTag, AtAttributeName, AtNamed}
 use Rattle.dfdl_markup.specs.Machine.{AtEquals, AtValue, AtSlash, tag_of, value_begun, with_value}
 use Rattle.dfdl_markup.specs.Machine.{fixed_value, may_close}
 use Rattle.dfdl_markup.specs.Values.{declares}
-use Rattle.dfdl_markup.proofs.Rest.{reading_characters, IsReading, WroteTag, WroteName, ReadAs}
-use Rattle.dfdl_markup.proofs.Rest.{WroteValue, Wrote}
+use Rattle.dfdl_markup.proofs.Rest.{reading_characters, WroteName, ReadAs}
+use Rattle.dfdl_markup.proofs.Rest.{Wrote}
 use Rattle.dfdl_markup.proofs.NamesRead.{next_name, read_name}
 use Rattle.dfdl_markup.proofs.TagValues.{each_push, value_quoted}
 
@@ -41,12 +38,11 @@ pub tag_named : (reading : Reading) (name : Name) → whole_name reading ≡ Som
     → (n : ℕ) (want raw : List ℕ) → Wrote n want (AtTagName reading) raw
     → Wrote n want (AtTag (tag_of name) false) raw
 tag_named reading name ends n want raw wrote =
-    let whole = read_name reading name ends in
-    (
-    record { name = name; attributes = []; space = [] },
-    record { name = refl; attributes = refl; named = whole.is wrote.1; given = tt; space = tt },
-    wrote.0 ∙ ap (λ l. 60 ∷ l) (sym whole.characters ∙ sym (append-nil (name_characters name))),
-    λ spaced. absurd (cc),
+    let whole = read_name reading name ends in (
+      record { name = name; attributes = []; space = [] },
+      record { name = refl; attributes = refl; named = whole.is wrote.1; given = tt; space = tt },
+      wrote.0 ∙ ap (λ l. 60 ∷ l) (sym whole.characters ∙ sym (append-nil (name_characters name))),
+      λ spaced. absurd (cc),
     )
 
 -- behind it
@@ -105,27 +101,36 @@ pub attribute_name_reaches : (tag : StartTag) (reading next : Reading) (c : ℕ)
     → name_next reading c ≡ Some next
     → Reaches (AtAttributeName tag reading) (AtAttributeName tag next) (c ∷ [])
 attribute_name_reaches tag reading next c goes n want raw wrote =
-    let on = next_name reading c next goes in
-    (wrote_as n tag (reading_characters reading) (reading_characters next) raw (c ∷ []) (sym on.characters) wrote.0,
-    on.is wrote.1)
+    let on = next_name reading c next goes in (
+      wrote_as n tag (reading_characters reading) (reading_characters next) raw (c ∷ []) (sym on.characters) wrote.0,
+      on.is wrote.1,
+    )
 
 pub attribute_white : (tag : StartTag) (reading : Reading) (name : Name) (c : ℕ)
     → whole_name reading ≡ Some name → is_white c ≡ true
     → Reaches (AtAttributeName tag reading) (AtNamed tag name) (c ∷ [])
 attribute_white tag reading name c ends white n want raw wrote =
-    let whole = read_name reading name ends in
-    (c ∷ [], (white, tt), whole.is wrote.1,
-    wrote_as n tag (reading_characters reading) (name_characters name ++ c ∷ []) raw (c ∷ [])
-    (ap (λ l. l ++ c ∷ []) (sym whole.characters)) wrote.0)
+    let whole = read_name reading name ends in (
+      c ∷ [],
+      (white, tt),
+      whole.is wrote.1,
+      wrote_as n tag (reading_characters reading) (name_characters name ++ c ∷ []) raw (c ∷ [])
+          (ap (λ l. l ++ c ∷ []) (sym whole.characters)) wrote.0,
+    )
 
 pub attribute_equals : (tag : StartTag) (reading : Reading) (name : Name)
     → whole_name reading ≡ Some name
     → Reaches (AtAttributeName tag reading) (AtEquals tag name) (61 ∷ [])
 attribute_equals tag reading name ends n want raw wrote =
-    let whole = read_name reading name ends in
-    ([], [], tt, tt, whole.is wrote.1,
-    wrote_as n tag (reading_characters reading) (name_characters name ++ 61 ∷ []) raw (61 ∷ [])
-    (ap (λ l. l ++ 61 ∷ []) (sym whole.characters)) wrote.0)
+    let whole = read_name reading name ends in (
+      [],
+      [],
+      tt,
+      tt,
+      whole.is wrote.1,
+      wrote_as n tag (reading_characters reading) (name_characters name ++ 61 ∷ []) raw (61 ∷ [])
+          (ap (λ l. l ++ 61 ∷ []) (sym whole.characters)) wrote.0,
+    )
 
 pub named_white : (tag : StartTag) (name : Name) (c : ℕ) → is_white c ≡ true
     → Reaches (AtNamed tag name) (AtNamed tag name) (c ∷ [])

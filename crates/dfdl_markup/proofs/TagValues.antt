@@ -1,22 +1,21 @@
 -- The value of an attribute as it is written, with more of it, and with its closing quote.
-use Rattle.std.proofs.Common.{◌≡◌, ℕ, zero, suc, ◌+◌, ◌<◌, ◌==◌, ◌&&◌, ◌||◌, Bool, true, false, not, List, [], ◌∷◌, ◌++◌}
-use Rattle.std.proofs.Common.{length, map, Option, Some, None, refl, ap, sym, subst, ◌∙◌, arith, inl, inr}
+use Rattle.std.proofs.Common.{◌≡◌, ℕ, ◌==◌, ◌||◌, Bool, true, false, List, [], ◌∷◌, ◌++◌}
+use Rattle.std.proofs.Common.{map, Option, Some, None, refl, ap, sym, subst, ◌∙◌}
 use Rattle.std.proofs.Common.{append_assoc, if◌then◌else◌, option_and_then}
-use Rattle.std.proofs.lemmas.Bool.{cases_Bool, and_parts, and_from, or_parts, cond_both}
+use Rattle.std.proofs.lemmas.Bool.{or_parts}
 use Rattle.std.proofs.lemmas.List.{append-nil, map-append}
 use Rattle.std.proofs.lemmas.List.Concat.{flat_map-append}
-use Rattle.std.specs.List.{flat_map, list_all}
-use Rattle.std.specs.Str.{bytes_eq}
+use Rattle.std.specs.List.{flat_map}
 use Rattle.dfdl_layers.specs.Tellers.{Each}
-use Rattle.dfdl_markup.specs.Grammar.{is_white, is_quote, Name, name_characters, Item, Letter, Referred}
+use Rattle.dfdl_markup.specs.Grammar.{is_white, Name, name_characters, Item, Letter, Referred}
 use Rattle.dfdl_markup.specs.Grammar.{item_characters, Given, given_characters, given_start, Tag}
 use Rattle.dfdl_markup.specs.Grammar.{tag_characters}
-use Rattle.dfdl_markup.specs.Values.{letter_read, items_read, value_of, ends_in_cr, Attribute}
+use Rattle.dfdl_markup.specs.Values.{letter_read, items_read, value_of, ends_in_cr}
 use Rattle.dfdl_markup.specs.Values.{attribute_of, declares, fixed_namespace, may_bind}
-use Rattle.dfdl_markup.specs.Rules.{ItemKeeps, MayDeclare, BindsWell, GivenKeeps, attributes_of}
-use Rattle.dfdl_markup.specs.Machine.{StartTag, OpenValue, AtValue, AtTag, with_text, with_value}
+use Rattle.dfdl_markup.specs.Rules.{ItemKeeps, MayDeclare, BindsWell, GivenKeeps}
+use Rattle.dfdl_markup.specs.Machine.{StartTag, OpenValue, with_text, with_value}
 use Rattle.dfdl_markup.specs.Machine.{fixed_value, may_close}
-use Rattle.dfdl_markup.proofs.Rest.{WroteTag, WroteName, ReadAs, WroteValue, Wrote}
+use Rattle.dfdl_markup.proofs.Rest.{WroteTag, ReadAs, WroteValue}
 use Rattle.dfdl_markup.proofs.TagNamespaces.{alike}
 use Rattle.dfdl_markup.proofs.TagFixed.{ArePlain, plain_fixed, plain_not_white}
 

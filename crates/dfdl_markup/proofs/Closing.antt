@@ -1,9 +1,11 @@
 -- How a document ends from any place in it, and what a piece of markup in front of the rest makes of
 -- the rest.
-use Rattle.std.proofs.Common.{◌≡◌, ℕ, zero, suc, ◌+◌, ◌<◌, ◌≤◌, ◌||◌, ◌≢◌, nat_lt, true, false, List, [], ◌∷◌, ◌++◌}
+use Rattle.std.proofs.Common.{◌≡◌, ℕ, zero, suc, ◌+◌, ◌<◌, ◌≤◌, ◌||◌, ◌&&◌, ◌≢◌, true, false}
+use Rattle.std.proofs.Common.{nat_le, nat_lt, List, [], ◌∷◌, ◌++◌}
+use Rattle.std.specs.List.{list_all}
 use Rattle.std.proofs.Common.{length, Option, Some, None, refl, ap, sym, subst, ◌∙◌, arith, inl, inr}
 use Rattle.std.proofs.Common.{append_assoc}
-use Rattle.std.proofs.lemmas.Bool.{cases_Bool, cond_both, ltb-true}
+use Rattle.std.proofs.lemmas.Bool.{cases_Bool, cond_both, ltb-true, and_parts}
 use Rattle.std.proofs.lemmas.Bool.Decides.{nat_tests}
 use Rattle.std.proofs.lemmas.Slice.Eq.{bytes_eq-Decides}
 use Rattle.std.specs.Char.{IsScalar}
@@ -25,7 +27,7 @@ use Rattle.dfdl_markup.specs.Rules.{HasNoEnd}
 use Rattle.dfdl_markup.specs.Machine.{StartTag, Ahead, MarkAhead, DeclarationAhead, NothingAhead}
 use Rattle.dfdl_markup.specs.Machine.{Frame, State, Place, stand, go, scope_of, wanted}
 use Rattle.dfdl_markup.specs.Machine.{begun_by, frame_of, may_declare}
-use Rattle.dfdl_markup.proofs.Rest.{Wrote, Close, Whole, brackets_at}
+use Rattle.dfdl_markup.proofs.Rest.{Wrote, Inner, Close, Whole, brackets_at}
 use Rattle.dfdl_markup.proofs.Rest.{From}
 use Rattle.dfdl_markup.proofs.Sound.{SoundFrames, SoundRoots, MayBegin}
 use Rattle.dfdl_markup.proofs.Answers.{Good}
@@ -64,6 +66,17 @@ pub good_low : (c : ℕ) → 32 ≤ c → c < 128 → Good c
 unfolding is_allowed char_rows
 good_low c least less = (grind (arith, nat_tests), grind (arith, nat_tests))
 
+pub good_text : (text : List ℕ) → list_all (λ c. nat_le 32 c && nat_lt c 128) text ≡ true
+    → Each Good text
+good_text [] all = tt
+good_text (c ∷ text) all =
+    let both = and_parts (nat_le 32 c && nat_lt c 128)
+    (list_all (λ d. nat_le 32 d && nat_lt d 128) text) all in
+    (good_between c both.0, good_text text both.1)
+  where
+    good_between : (d : ℕ) → (nat_le 32 d && nat_lt d 128) ≡ true → Good d
+    good_between d is = good_low d (grind (arith, nat_tests)) (grind (arith, nat_tests))
+
 pub good_each : (text : List ℕ) → Each (λ c. is_name_char c ≡ true) text → Each Good text
 good_each [] each = tt
 good_each (c ∷ text) each = (good_name c each.0, good_each text each.1)
@@ -93,6 +106,52 @@ abbrev pub Closing : ℕ → List Frame → ℕ → Type 0
 Closing begun frames before =
     (more : List ℕ) × Each Good more × ((n : ℕ) → Close n begun frames before more)
 
+-- by some of the rules
+abbrev ClosingBy : (ℕ → Type 0) → ℕ → List Frame → ℕ → Type 0
+ClosingBy Rules begun frames before =
+    (more : List ℕ) × Each Good more × ((n : ℕ) → Rules n → Close n begun frames before more)
+
+-- by the rules below 10
+abbrev pub ClosingFew : ℕ → List Frame → ℕ → Type 0
+ClosingFew begun frames before =
+    (more : List ℕ) × Each Good more × ((n : ℕ) → n ≤ 10 → Close n begun frames before more)
+
+-- the end tag of an element, in front of what closes the others
+close_one : (Rules : ℕ → Type 0) (begun before : ℕ) (frame : Frame) (frames : List Frame)
+    → IsName frame.name → ClosingBy Rules begun frames 0
+    → ClosingBy Rules begun (frame ∷ frames) before
+close_one Rules begun before frame frames named others = (
+  60 ∷ 47 ∷ (name_characters frame.name ++ 62 ∷ others.0),
+  each_append Good (60 ∷ 47 ∷ name_characters frame.name) (62 ∷ others.0) good_start
+      (good_low 62 (omega arith) (omega arith), others.1),
+  λ n keeps. record {
+    content = Nothing;
+    keeps = tt;
+    name = frame.name;
+    space = [];
+    rest = others.0;
+    is = refl;
+    closed = named;
+    white = tt;
+    ends = λ less. same_self frame.name;
+    after = others.2 n keeps;
+  },
+)
+  where
+    good_start : Each Good (60 ∷ 47 ∷ name_characters frame.name)
+    good_start =
+        each_append Good (60 ∷ 47 ∷ []) (name_characters frame.name)
+        (good_text (60 ∷ 47 ∷ []) refl) (good_of_name frame.name named)
+
+-- all end tags, in front of what ends the document
+close_frames : (Rules : ℕ → Type 0) (begun : ℕ) (frames : List Frame) (before : ℕ)
+    → SoundFrames frames → ((b : ℕ) → ClosingBy Rules begun [] b)
+    → ClosingBy Rules begun frames before
+close_frames Rules begun [] before sound top = top before
+close_frames Rules begun (frame ∷ frames) before sound top =
+    close_one Rules begun before frame frames sound.0.0
+    (close_frames Rules begun frames 0 (sound.0.1, omega (arith, sound.1)) top)
+
 -- the element `a`
 abbrev root_tag : Tag
 root_tag = record { name = Plain (97 ∷ []); attributes = []; space = [] }
@@ -114,11 +173,12 @@ root_deep : 0 < deepest
 unfolding deepest
 root_deep = omega arith
 
-close_top : (begun before : ℕ) → begun ≤ 1 → Closing begun [] before
+-- the root, if it was not read
+close_top : (begun before : ℕ) → begun ≤ 1 → ClosingBy (λ n. Unit {0}) begun [] before
 close_top zero before most = (
   60 ∷ 97 ∷ 47 ∷ 62 ∷ [],
-  (good_low 60 (omega arith) (omega arith), (good_low 97 (omega arith) (omega arith), (good_low 47 (omega arith) (omega arith), (good_low 62 (omega arith) (omega arith), tt)))),
-  λ n. record {
+  good_text (60 ∷ 97 ∷ 47 ∷ 62 ∷ []) refl,
+  λ n keeps. record {
     content = Single root_tag Nothing;
     is = refl;
     keeps = (root_keeps n, λ less. root_deep, tt);
@@ -128,88 +188,37 @@ close_top zero before most = (
 close_top (suc zero) before most = (
   [],
   tt,
-  λ n. record { content = Nothing; is = refl; keeps = tt; one_root = λ less. refl },
+  λ n keeps. record { content = Nothing; is = refl; keeps = tt; one_root = λ less. refl },
 )
 close_top (suc (suc begun)) before most = absurd (omega arith)
 
--- the end tag of an element, in front of what closes the others
-close_one : (begun before : ℕ) (frame : Frame) (frames : List Frame) → IsName frame.name
-    → Closing begun frames 0 → Closing begun (frame ∷ frames) before
-close_one begun before frame frames named others = (
-  60 ∷ 47 ∷ (name_characters frame.name ++ 62 ∷ others.0),
-  (good_low 60 (omega arith) (omega arith), (good_low 47 (omega arith) (omega arith), each_append Good (name_characters frame.name) (62 ∷ others.0) (good_of_name frame.name named) (good_low 62 (omega arith) (omega arith), others.1))),
-  λ n. record {
-    content = Nothing;
-    keeps = tt;
-    name = frame.name;
-    space = [];
-    rest = others.0;
-    is = refl;
-    closed = named;
-    white = tt;
-    ends = λ less. same_self frame.name;
-    after = others.2 n;
-  },
-)
-
-roots_outside : (begun : ℕ) (frame : Frame) (frames : List Frame)
-    → SoundRoots begun (frame ∷ frames) → SoundRoots begun frames
-roots_outside begun frame [] is = omega arith
-roots_outside begun frame (other ∷ frames) is = is
-
-frames_outside : (frame : Frame) (frames : List Frame) → SoundFrames (frame ∷ frames)
-    → SoundFrames frames
-frames_outside frame frames sound = (sound.0.1, omega (arith, sound.1))
+few_roots : (begun : ℕ) (frames : List Frame) → SoundRoots begun frames → begun ≤ 1
+few_roots begun [] roots = roots
+few_roots begun (frame ∷ frames) roots = omega arith
 
 -- what closes all that is open, by all rules
 pub close_all : (begun : ℕ) (frames : List Frame) (before : ℕ) → SoundFrames frames
     → SoundRoots begun frames → Closing begun frames before
-close_all begun [] before sound roots = close_top begun before roots
-close_all begun (frame ∷ frames) before sound roots =
-    close_one begun before frame frames sound.0.0
-    (close_all begun frames 0 (frames_outside frame frames sound)
-    (roots_outside begun frame frames roots))
+close_all begun frames before sound roots =
+    let closing = close_frames (λ n. Unit {0}) begun frames before sound
+    (λ b. close_top begun b (few_roots begun frames roots)) in
+    (closing.0, closing.1, λ n. closing.2 n tt)
 
 -- what closes it by the rules below 10, however many roots there are
-abbrev pub ClosingFew : ℕ → List Frame → ℕ → Type 0
-ClosingFew begun frames before =
-    (more : List ℕ) × Each Good more
-    × ((n : ℕ) → n ≤ 10 → Close n begun frames before more)
-
-few_one : (begun before : ℕ) (frame : Frame) (frames : List Frame) → IsName frame.name
-    → ClosingFew begun frames 0 → ClosingFew begun (frame ∷ frames) before
-few_one begun before frame frames named others = (
-  60 ∷ 47 ∷ (name_characters frame.name ++ 62 ∷ others.0),
-  (good_low 60 (omega arith) (omega arith), (good_low 47 (omega arith) (omega arith), each_append Good (name_characters frame.name) (62 ∷ others.0) (good_of_name frame.name named) (good_low 62 (omega arith) (omega arith), others.1))),
-  λ n few. record {
-    content = Nothing;
-    keeps = tt;
-    name = frame.name;
-    space = [];
-    rest = others.0;
-    is = refl;
-    closed = named;
-    white = tt;
-    ends = λ less. same_self frame.name;
-    after = others.2 n few;
-  },
-)
-
 pub close_few : (begun : ℕ) (frames : List Frame) (before : ℕ) → SoundFrames frames
     → ClosingFew begun frames before
-close_few begun [] before sound = (
-  [],
-  tt,
-  λ n few. record {
-    content = Nothing;
-    is = refl;
-    keeps = tt;
-    one_root = λ less. absurd (omega arith);
-  },
-)
-close_few begun (frame ∷ frames) before sound =
-    few_one begun before frame frames sound.0.0
-    (close_few begun frames 0 (frames_outside frame frames sound))
+close_few begun frames before sound =
+    close_frames (λ n. n ≤ 10) begun frames before sound
+    (λ b. (
+      [],
+      tt,
+      λ n few. record {
+        content = Nothing;
+        is = refl;
+        keeps = tt;
+        one_root = λ less. absurd (omega arith);
+      },
+    ))
 
 -- what may come before all else need not
 
@@ -281,13 +290,38 @@ moves_on s place c same wrote n text from = record {
 
 -- a piece of markup in front of a content
 
+-- inside of the root
+grow_inner : (n : ℕ) (before after depth : ℕ) (frame : Frame) (After : List ℕ → Type 0)
+    (with_piece : Content → Content) (piece rest : List ℕ)
+    → ((content : Content) → spelling (with_piece content) ≡ piece ++ spelling content)
+    → ((content : Content) → ContentKeeps n depth frame.scope after content
+    → ContentKeeps n depth frame.scope before (with_piece content))
+    → Inner n after depth frame After rest → Inner n before depth frame After (piece ++ rest)
+grow_inner n before after depth frame After with_piece piece rest spelled kept close = record {
+  content = with_piece close.content;
+  keeps = kept close.content close.keeps;
+  name = close.name;
+  space = close.space;
+  rest = close.rest;
+  is =
+      ap (λ l. piece ++ l) close.is
+      ∙ (sym (append_assoc piece (spelling close.content) behind)
+      ∙ ap (λ l. l ++ behind) (sym (spelled close.content)));
+  closed = close.closed;
+  white = close.white;
+  ends = close.ends;
+  after = close.after;
+}
+  where
+    behind : List ℕ
+    behind = 60 ∷ 47 ∷ (name_characters close.name ++ (close.space ++ 62 ∷ close.rest))
+
 -- one that is no element
 pub grow : (n begun : ℕ) (frames : List Frame) (before after : ℕ) (with_piece : Content → Content)
     (piece rest : List ℕ)
     → ((content : Content) → spelling (with_piece content) ≡ piece ++ spelling content)
     → ((content : Content) → roots (with_piece content) ≡ roots content)
-    → ((content : Content)
-    → ContentKeeps n (length frames) (scope_of frames) after content
+    → ((content : Content) → ContentKeeps n (length frames) (scope_of frames) after content
     → ContentKeeps n (length frames) (scope_of frames) before (with_piece content))
     → Close n begun frames after rest → Close n begun frames before (piece ++ rest)
 grow n begun [] before after with_piece piece rest spelled counted kept close = record {
@@ -296,52 +330,27 @@ grow n begun [] before after with_piece piece rest spelled counted kept close = 
   keeps = kept close.content close.keeps;
   one_root = λ less. ap (λ m. begun + m) (counted close.content) ∙ close.one_root less;
 }
-grow n begun (frame ∷ frames) before after with_piece piece rest spelled counted kept close = record {
-  content = with_piece close.content;
-  keeps = kept close.content close.keeps;
-  name = close.name;
-  space = close.space;
-  rest = close.rest;
-  is =
-      ap (λ l. piece ++ l) close.is
-      ∙ (sym (append_assoc piece (spelling close.content) (60 ∷ 47 ∷ (name_characters close.name ++ (close.space ++ 62 ∷ close.rest))))
-      ∙ ap (λ l. l ++ 60 ∷ 47 ∷ (name_characters close.name ++ (close.space ++ 62 ∷ close.rest))) (sym (spelled close.content)));
-  closed = close.closed;
-  white = close.white;
-  ends = close.ends;
-  after = close.after;
-}
+grow n begun (frame ∷ frames) before after with_piece piece rest spelled counted kept close =
+    grow_inner n before after (suc (length frames)) frame (Close n begun frames 0) with_piece piece
+    rest spelled kept close
 
 -- an element
-pub grow_element : (n begun : ℕ) (frames : List Frame) (before after : ℕ)
-    (with_piece : Content → Content) (piece rest : List ℕ)
+grow_element : (n begun : ℕ) (frames : List Frame) (before : ℕ) (with_piece : Content → Content)
+    (piece rest : List ℕ)
     → ((content : Content) → spelling (with_piece content) ≡ piece ++ spelling content)
     → ((content : Content) → roots (with_piece content) ≡ suc (roots content))
-    → ((content : Content)
-    → ContentKeeps n (length frames) (scope_of frames) after content
+    → ((content : Content) → ContentKeeps n (length frames) (scope_of frames) 0 content
     → ContentKeeps n (length frames) (scope_of frames) before (with_piece content))
-    → Close n (begun_by begun frames) frames after rest → Close n begun frames before (piece ++ rest)
-grow_element n begun [] before after with_piece piece rest spelled counted kept close = record {
+    → Close n (begun_by begun frames) frames 0 rest → Close n begun frames before (piece ++ rest)
+grow_element n begun [] before with_piece piece rest spelled counted kept close = record {
   content = with_piece close.content;
   is = ap (λ l. piece ++ l) close.is ∙ sym (spelled close.content);
   keeps = kept close.content close.keeps;
   one_root = λ less. omega (arith, counted close.content, close.one_root less);
 }
-grow_element n begun (frame ∷ frames) before after with_piece piece rest spelled counted kept close = record {
-  content = with_piece close.content;
-  keeps = kept close.content close.keeps;
-  name = close.name;
-  space = close.space;
-  rest = close.rest;
-  is =
-      ap (λ l. piece ++ l) close.is
-      ∙ (sym (append_assoc piece (spelling close.content) (60 ∷ 47 ∷ (name_characters close.name ++ (close.space ++ 62 ∷ close.rest))))
-      ∙ ap (λ l. l ++ 60 ∷ 47 ∷ (name_characters close.name ++ (close.space ++ 62 ∷ close.rest))) (sym (spelled close.content)));
-  closed = close.closed;
-  white = close.white;
-  ends = close.ends;
-  after = close.after;
-}
+grow_element n begun (frame ∷ frames) before with_piece piece rest spelled counted kept close =
+    grow_inner n before 0 (suc (length frames)) frame (Close n begun frames 0) with_piece piece rest
+    spelled kept close
 
 pub grow_character : (n begun : ℕ) (frames : List Frame) (before c : ℕ) (rest : List ℕ)
     → is_text c ≡ true → (before ≡ 2 → c ≢ 62)
@@ -421,7 +430,7 @@ pub grow_single : (n begun : ℕ) (frames : List Frame) (before : ℕ) (tag : Ta
 grow_single n begun frames before tag rest keeps deep close =
     subst (λ l. Close n begun frames before (60 ∷ l))
     (append_assoc (tag_characters tag) (47 ∷ 62 ∷ []) rest)
-    (grow_element n begun frames before 0 (Single tag)
+    (grow_element n begun frames before (Single tag)
     (60 ∷ (tag_characters tag ++ 47 ∷ 62 ∷ [])) rest
     (λ content. ap (λ l. 60 ∷ l)
     (sym (append_assoc (tag_characters tag) (47 ∷ 62 ∷ []) (spelling content))))
@@ -435,7 +444,7 @@ pub grow_nested : (n begun : ℕ) (frames : List Frame) (before : ℕ) (tag : St
 grow_nested n begun frames before tag t rest named has keeps deep close =
     subst (Close n begun frames before)
     (regrouped close.rest ∙ ap (λ l. 60 ∷ (tag_characters t ++ 62 ∷ l)) (sym close.is))
-    (grow_element n begun frames before 0 (Nested t close.content close.name close.space)
+    (grow_element n begun frames before (Nested t close.content close.name close.space)
     (60 ∷ (tag_characters t ++ 62 ∷ (spelling close.content
     ++ 60 ∷ 47 ∷ (name_characters close.name ++ (close.space ++ 62 ∷ []))))) close.rest
     (λ content. sym (regrouped (spelling content))) (λ content. refl)

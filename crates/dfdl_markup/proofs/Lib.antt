@@ -29,3 +29,6 @@ pub mod DeclarationForms
 pub mod DeclarationValues
 pub mod DeclarationSteps
 pub mod DeclarationAnswers
+pub mod RunSteps
+pub mod RunNames
+pub mod RunPieces

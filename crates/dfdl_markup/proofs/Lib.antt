@@ -32,3 +32,4 @@ pub mod DeclarationAnswers
 pub mod RunSteps
 pub mod RunNames
 pub mod RunPieces
+pub mod RunReferences

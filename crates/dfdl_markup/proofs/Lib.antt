@@ -33,3 +33,4 @@ pub mod RunSteps
 pub mod RunNames
 pub mod RunPieces
 pub mod RunReferences
+pub mod RunScopes

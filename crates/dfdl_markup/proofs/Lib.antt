@@ -34,3 +34,4 @@ pub mod RunNames
 pub mod RunPieces
 pub mod RunReferences
 pub mod RunScopes
+pub mod RunValues

@@ -35,3 +35,4 @@ pub mod RunPieces
 pub mod RunReferences
 pub mod RunScopes
 pub mod RunValues
+pub mod RunTags

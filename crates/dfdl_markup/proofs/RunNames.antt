@@ -79,10 +79,10 @@ unfolding is_name_char low_start_rows low_name_rows high_start_rows high_name_ro
 colon_no_char = refl
 
 -- what is read of a name goes on by these characters to this
-abbrev pub Follows : Reading → List ℕ → Reading → Type 0
-Follows reading [] last = reading ≡ last
-Follows reading (c ∷ more) last =
-    (next : Reading) × (name_next reading c ≡ Some next) × Follows next more last
+abbrev pub ReadsOn : Reading → List ℕ → Reading → Type 0
+ReadsOn reading [] last = reading ≡ last
+ReadsOn reading (c ∷ more) last =
+    (next : Reading) × (name_next reading c ≡ Some next) × ReadsOn next more last
 
 -- a name as it is read
 pub record NameRead (name : Name) : Type 0 where
@@ -91,7 +91,7 @@ pub record NameRead (name : Name) : Type 0 where
   pub last : Reading
   pub is : name_characters name ≡ first ∷ more
   pub starts : is_name_start first ≡ true
-  pub follows : Follows (First (first ∷ [])) more last
+  pub follows : ReadsOn (First (first ∷ [])) more last
   pub whole : whole_name last ≡ Some name
 
 next_first : (part : List ℕ) (c : ℕ) → is_name_char c ≡ true
@@ -115,22 +115,22 @@ next_second prefix part c e = if_true (is_name_char c) _ _ e
 
 -- a part grows by its characters
 first_follows : (front part more : List ℕ) (last : Reading)
-    → Each (λ d. is_name_char d ≡ true) part → Follows (First (front ++ part)) more last
-    → Follows (First front) (part ++ more) last
+    → Each (λ d. is_name_char d ≡ true) part → ReadsOn (First (front ++ part)) more last
+    → ReadsOn (First front) (part ++ more) last
 first_follows front [] more last are follows =
-    subst (λ w. Follows (First w) more last) (append-nil front) follows
+    subst (λ w. ReadsOn (First w) more last) (append-nil front) follows
 first_follows front (c ∷ part) more last are follows =
     (First (front ++ c ∷ []), next_first front c are.0,
     first_follows (front ++ c ∷ []) part more last are.1
-    (subst (λ w. Follows (First w) more last) (sym (append_assoc front (c ∷ []) part)) follows))
+    (subst (λ w. ReadsOn (First w) more last) (sym (append_assoc front (c ∷ []) part)) follows))
 
 second_follows : (prefix front part : List ℕ)
     → Each (λ d. is_name_char d ≡ true) part
-    → Follows (Second prefix front) part (Second prefix (front ++ part))
+    → ReadsOn (Second prefix front) part (Second prefix (front ++ part))
 second_follows prefix front [] are = ap (λ w. Second prefix w) (sym (append-nil front))
 second_follows prefix front (c ∷ part) are =
     (Second prefix (front ++ c ∷ []), next_second prefix front c are.0,
-    subst (λ w. Follows (Second prefix (front ++ c ∷ [])) part (Second prefix w))
+    subst (λ w. ReadsOn (Second prefix (front ++ c ∷ [])) part (Second prefix w))
     (append_assoc front (c ∷ []) part) (second_follows prefix (front ++ c ∷ []) part are.1))
 
 pub name_read : (name : Name) → IsName name → NameRead name
@@ -141,7 +141,7 @@ name_read (Plain (c ∷ part)) is = record {
   last = First (c ∷ part);
   is = refl;
   starts = is.0;
-  follows = subst (λ w. Follows (First (c ∷ [])) w (First (c ∷ part))) (append-nil part)
+  follows = subst (λ w. ReadsOn (First (c ∷ [])) w (First (c ∷ part))) (append-nil part)
       (first_follows (c ∷ []) part [] (First (c ∷ part)) is.1 refl);
   whole = refl;
 }

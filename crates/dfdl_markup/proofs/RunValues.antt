@@ -21,7 +21,8 @@ use Rattle.dfdl_markup.specs.Machine.{value_goes_on, value_step, value_ended}
 use Rattle.dfdl_markup.proofs.RunReferences.{begins_front, reference_runs}
 use Rattle.dfdl_markup.proofs.RunSteps.{Ends, After, state, RunsFrom, goes, if_true, if_false}
 
-quote_is : (P : ℕ → Type 0) (q : ℕ) → P 34 → P 39 → is_quote q ≡ true → P q
+-- what holds of both quotation marks holds of one
+pub quote_is : (P : ℕ → Type 0) (q : ℕ) → P 34 → P 39 → is_quote q ≡ true → P q
 unfolding is_quote
 quote_is P q double single is =
     elim (or_cases _ _ is) [

@@ -36,3 +36,5 @@ pub mod RunReferences
 pub mod RunScopes
 pub mod RunValues
 pub mod RunTags
+pub mod RunEnds
+pub mod RunContent

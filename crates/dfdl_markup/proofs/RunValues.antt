@@ -81,7 +81,8 @@ fixed_items (Some prefix) fixed items is binds =
     let same : items ≡ map Letter fixed = subst (λ f. MayDeclare prefix f items) is binds in
     (same, ap value_of same ∙ fixed_read prefix fixed is)
 
-reference_text : (reference : Reference) (rest : List ℕ)
+-- a reference, and what follows it
+pub reference_text : (reference : Reference) (rest : List ℕ)
     → reference_characters reference ++ rest ≡ 38 ∷ (reference_inside reference ++ 59 ∷ rest)
 reference_text reference rest = ap (λ l. 38 ∷ l) (append_assoc (reference_inside reference) (59 ∷ []) rest)
 

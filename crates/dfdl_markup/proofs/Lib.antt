@@ -38,3 +38,6 @@ pub mod RunValues
 pub mod RunTags
 pub mod RunEnds
 pub mod RunContent
+pub mod RunSaid
+pub mod RunDeclaration
+pub mod Runs

@@ -47,7 +47,7 @@ starts_no_white c starts = one (cases_Bool (is_white c))
     one (inl white) = absurd (both_ways _ (white_ends c white).no_start starts)
     one (inr apart) = apart
 
-quote_no_white : (q : ℕ) → is_quote q ≡ true → is_white q ≡ false
+pub quote_no_white : (q : ℕ) → is_quote q ≡ true → is_white q ≡ false
 unfolding is_white
 quote_no_white q is = quote_is (λ p. is_white p ≡ false) q refl refl is
 

@@ -40,4 +40,5 @@ pub mod RunEnds
 pub mod RunContent
 pub mod RunSaid
 pub mod RunDeclaration
+pub mod RunRules
 pub mod Runs

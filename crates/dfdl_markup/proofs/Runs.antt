@@ -1,8 +1,8 @@
 -- The machine runs over every document, by the rules that it keeps.
 use Rattle.std.proofs.Common.{◌≡◌, ℕ, ◌+◌, ◌==◌, ◌<◌, ◌≤◌, Bool, true, false, List, [], ◌∷◌, ◌++◌}
-use Rattle.std.proofs.Common.{Option, Some, None, Result, Ok, Err, refl, sym, ◌∙◌, subst, arith}
+use Rattle.std.proofs.Common.{Option, Some, None, Result, Ok, Err, refl, sym, ◌∙◌, subst, inl, inr, arith}
 use Rattle.std.proofs.lemmas.List.{append-nil}
-use Rattle.std.proofs.lemmas.Bool.{eq-eqb, and_from}
+use Rattle.std.proofs.lemmas.Bool.{eq-eqb, cases_lt}
 use Rattle.dfdl_layers.specs.Tellers.{Keeps, run}
 use Rattle.dfdl_markup.specs.Grammar.{is_white, Content, spelling, Declaration, declaration_characters}
 use Rattle.dfdl_markup.specs.Grammar.{mark_characters}
@@ -12,6 +12,7 @@ use Rattle.dfdl_markup.specs.Machine.{Frame, State, start, step, accepts, conten
 use Rattle.dfdl_markup.proofs.Rest.{Last, Declared, Marked, Whole, From, Rest}
 use Rattle.dfdl_markup.proofs.RunContent.{content_runs}
 use Rattle.dfdl_markup.proofs.RunDeclaration.{declaration_runs}
+use Rattle.dfdl_markup.proofs.RunRules.{TellsRule, run_tells}
 use Rattle.dfdl_markup.proofs.RunSteps.{Ends, state}
 
 module _ (n : ℕ) where
@@ -54,15 +55,34 @@ module _ (n : ℕ) where
       subst (λ l. Ends n (run step (state MarkAhead (AtContent 0) 0 []) l)) (sym whole.is)
       (marked_ends whole.mark whole.rest whole.declared)
 
--- no rule below n is told of a text that may follow by the rules below n
+whole_of : (n : ℕ) (text : List ℕ) → From n start text → Whole MarkAhead n 0 [] 0 text
+unfolding start
+whole_of n text from = from.whole [] refl
+
 keeps_of_ends : (n : ℕ) (answer : Result State ℕ) → Ends n answer → Keeps n answer
 keeps_of_ends n (Ok t) ends = tt
 keeps_of_ends n (Err m) ends = ends
 
-whole_of_from : (n : ℕ) (text : List ℕ) → From n start text → Whole MarkAhead n 0 [] 0 text
-unfolding start
-whole_of_from n text from = from.whole [] refl
+keeps_of_tells : (n : ℕ) (answer : Result State ℕ) → n ≤ 3 → TellsRule answer → Keeps n answer
+keeps_of_tells n (Ok t) few tells = tt
+keeps_of_tells n (Err m) few tells = omega (arith, tells.0)
 
-few : (n : ℕ) (answer : Result State ℕ) → n ≤ 3 → ((m : ℕ) → answer ≡ Err m → 3 ≤ m) → Keeps n answer
-few n (Ok t) most tells = tt
-few n (Err m) most tells = omega (arith, tells m refl)
+-- of a text that keeps the rules below n no rule below n is told
+pub document_keeps : (n : ℕ) (text : List ℕ) → Rest n start text → Keeps n (run step start text)
+document_keeps n text rest =
+    elim (cases_lt 3 n) [
+      | inl less ↦ keeps_of_ends n (run step start text) (whole_ends n text (whole_of n text (rest less)))
+      | inr few ↦ keeps_of_tells n (run step start text) few (run_tells text start)
+    ]
+
+full_of_ends : (answer : Result State ℕ) → Ends 13 answer → TellsRule answer
+    → (t : State) × (answer ≡ Ok t) × (accepts t ≡ true)
+full_of_ends (Ok t) ends tells = (t, refl, ends (omega arith))
+full_of_ends (Err m) ends tells = absurd (omega (arith, tells.1))
+
+-- and one that keeps all rules is run through and accepted
+pub document_full : (text : List ℕ) → Rest 13 start text
+    → (t : State) × (run step start text ≡ Ok t) × (accepts t ≡ true)
+document_full text rest =
+    full_of_ends (run step start text) (whole_ends 13 text (whole_of 13 text (rest (omega arith))))
+    (run_tells text start)

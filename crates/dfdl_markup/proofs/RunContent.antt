@@ -1,23 +1,21 @@
 -- The machine runs over contents.
-use Rattle.std.proofs.Common.{◌≡◌, ◌≢◌, ℕ, zero, suc, ◌+◌, ◌==◌, ◌<◌, ◌≤◌, ◌&&◌, ◌||◌, ◌⊎◌, Bool, true, false}
-use Rattle.std.proofs.Common.{if◌then◌else◌, List, [], ◌∷◌, ◌++◌, length, Option, Some, None, Result, Ok}
-use Rattle.std.proofs.Common.{Err, not, map, refl, sym, ap, ◌∙◌, subst, inl, inr, arith, append_assoc}
+use Rattle.std.proofs.Common.{◌≡◌, ◌≢◌, ℕ, suc, ◌+◌, ◌==◌, ◌<◌, ◌&&◌, ◌⊎◌, true, false}
+use Rattle.std.proofs.Common.{if◌then◌else◌, List, [], ◌∷◌, ◌++◌, length, Some, None, Ok}
+use Rattle.std.proofs.Common.{Err, not, refl, sym, ◌∙◌, subst, inl, inr, arith, append_assoc}
 use Rattle.std.proofs.Common.{nat_lt}
-use Rattle.std.proofs.lemmas.Bool.{cases_Bool, eqb-true, eqb-false, eq-eqb, ne_eqb, and_parts, and_left}
-use Rattle.std.proofs.lemmas.Bool.{and_right, both_ways, not-true, lt-ltb, ltb-false}
-use Rattle.dfdl_layers.specs.Tellers.{Each, run}
+use Rattle.std.proofs.lemmas.Bool.{cases_Bool, eqb-true, eqb-false, ne_eqb, and_parts, and_left}
+use Rattle.std.proofs.lemmas.Bool.{and_right, both_ways, not-true, lt-ltb}
+use Rattle.dfdl_layers.specs.Tellers.{run}
 use Rattle.dfdl_xml_chars.specs.Characters.{is_name_start, low_start_rows, high_start_rows}
-use Rattle.dfdl_markup.specs.Grammar.{is_white, Name, name_characters, Reference, reference_inside}
+use Rattle.dfdl_markup.specs.Grammar.{is_white, Name, name_characters, Reference}
 use Rattle.dfdl_markup.specs.Grammar.{reference_characters, Tag, tag_characters, Content, Nothing}
 use Rattle.dfdl_markup.specs.Grammar.{Character, Referring, Comment, Instruction, Section, Single}
 use Rattle.dfdl_markup.specs.Grammar.{Nested, section_word, spelling}
-use Rattle.dfdl_markup.specs.Values.{scope_in}
-use Rattle.dfdl_markup.specs.Rules.{IsName, AreWhite, is_text, brackets, deepest, attributes_of}
-use Rattle.dfdl_markup.specs.Rules.{ContentKeeps, roots, IsCommentText, HasNoEnd, ReferenceKeeps}
-use Rattle.dfdl_markup.specs.Rules.{TagKeeps}
-use Rattle.dfdl_markup.specs.Machine.{StartTag, InContent, Place, AtContent, AtOpened, AtBang}
-use Rattle.dfdl_markup.specs.Machine.{AtQuestion, AtSectionWord, AtReference, Ahead, MarkAhead}
-use Rattle.dfdl_markup.specs.Machine.{DeclarationAhead, NothingAhead, Frame, State, stand, step, marked}
+use Rattle.dfdl_markup.specs.Rules.{is_text, brackets, deepest, attributes_of}
+use Rattle.dfdl_markup.specs.Rules.{ContentKeeps, roots, ReferenceKeeps}
+use Rattle.dfdl_markup.specs.Machine.{StartTag, InContent, AtContent, AtOpened, AtBang}
+use Rattle.dfdl_markup.specs.Machine.{AtQuestion, AtSectionWord, Ahead, MarkAhead}
+use Rattle.dfdl_markup.specs.Machine.{DeclarationAhead, NothingAhead, Frame, step, marked}
 use Rattle.dfdl_markup.specs.Machine.{content_step, scope_of, may_begin, opened_step, bang_step}
 use Rattle.dfdl_markup.specs.Machine.{begun_by, frame_of}
 use Rattle.dfdl_markup.proofs.RunEnds.{closing_runs}

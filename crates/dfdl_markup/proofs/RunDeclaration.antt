@@ -1,25 +1,25 @@
 -- The machine runs over XML declarations.
-use Rattle.std.proofs.Common.{◌≡◌, ℕ, ◌+◌, ◌==◌, ◌<◌, ◌≤◌, ◌&&◌, ◌||◌, ◌⊎◌, Bool, true, false}
-use Rattle.std.proofs.Common.{if◌then◌else◌, List, [], ◌∷◌, ◌++◌, length, map, Option, Some, None, Result}
-use Rattle.std.proofs.Common.{Ok, Err, refl, sym, ap, ◌∙◌, subst, inl, inr, arith, append_assoc, nat_le}
+use Rattle.std.proofs.Common.{◌≡◌, ℕ, ◌==◌, ◌<◌, ◌&&◌, ◌⊎◌, Bool, true, false}
+use Rattle.std.proofs.Common.{if◌then◌else◌, List, [], ◌∷◌, ◌++◌, length, Option, Some, None}
+use Rattle.std.proofs.Common.{Ok, Err, refl, sym, ap, ◌∙◌, subst, inl, inr, arith, append_assoc}
 use Rattle.std.specs.List.{list_any}
 use Rattle.std.specs.Str.{bytes_eq}
 use Rattle.dfdl_layers.specs.Tellers.{Each, run}
 use Rattle.dfdl_xml_chars.specs.Characters.{is_name_start, is_name_char, low_start_rows}
-use Rattle.dfdl_xml_chars.specs.Characters.{low_name_rows, high_start_rows}
+use Rattle.dfdl_xml_chars.specs.Characters.{low_name_rows}
 use Rattle.dfdl_markup.specs.Grammar.{is_white, is_quote, Said, Version, Encoding, Standalone}
 use Rattle.dfdl_markup.specs.Grammar.{said_word, Saying, saying_characters, optional_characters}
-use Rattle.dfdl_markup.specs.Grammar.{Declaration, declaration_characters, declaration_inside, xml_word}
+use Rattle.dfdl_markup.specs.Grammar.{Declaration, declaration_characters, xml_word}
 use Rattle.dfdl_markup.specs.Rules.{AreWhite, is_xml, version_value}
 use Rattle.dfdl_markup.specs.Rules.{SayingKeeps, yes_value, no_value}
 use Rattle.dfdl_markup.specs.Rules.{SaysEncoding, SaysStandalone, DeclarationKeeps}
-use Rattle.dfdl_markup.specs.Machine.{Place, AtContent, AtOpened, AtQuestion, AtTarget, AtDeclaration}
-use Rattle.dfdl_markup.specs.Machine.{AtSaidWord, AtSaid, AtSaidEquals, AtSaidValue, AtDeclarationEnd}
-use Rattle.dfdl_markup.specs.Machine.{Ahead, MarkAhead, DeclarationAhead, NothingAhead, State, step}
+use Rattle.dfdl_markup.specs.Machine.{Place, AtContent, AtTarget, AtDeclaration}
+use Rattle.dfdl_markup.specs.Machine.{AtSaidWord, AtSaid, AtSaidEquals, AtSaidValue}
+use Rattle.dfdl_markup.specs.Machine.{Ahead, State, step}
 use Rattle.dfdl_markup.specs.Machine.{content_step, opened_step, question_step, target_step}
 use Rattle.dfdl_markup.specs.Machine.{may_declare, begins, declaration_step, said_step}
 use Rattle.dfdl_markup.specs.Machine.{said_word_step, said_equals_step, said_values, said_character}
-use Rattle.dfdl_markup.specs.Machine.{said_fault, said_value_step, declaration_end_step}
+use Rattle.dfdl_markup.specs.Machine.{said_value_step, declaration_end_step}
 use Rattle.dfdl_markup.proofs.Rest.{Follows}
 use Rattle.dfdl_markup.proofs.RunNames.{white_ends, question_ends}
 use Rattle.dfdl_markup.proofs.RunPieces.{target_runs}
@@ -179,6 +179,7 @@ module _ (n : ℕ) (ahead : Ahead) where
     where
       valued : List ℕ
       valued = said_word said ++ (saying.before ++ 61 ∷ (saying.after ++ saying.quote ∷ (saying.value ++ saying.quote ∷ tail)))
+
       by : (space : List ℕ) → 0 < length space → AreWhite space → RunsAt place (space ++ valued)
       by [] some are = absurd (omega arith)
       by (w ∷ space) some are =
@@ -219,6 +220,7 @@ module _ (n : ℕ) (ahead : Ahead) where
       may : (saying.value ≡ yes_value) ⊎ (saying.value ≡ no_value) → SaidOr n Standalone saying.quote [] saying.value
       may (inl is) = subst (λ v. SaidOr n Standalone saying.quote [] v) (sym is) (inl yes_said)
       may (inr is) = subst (λ v. SaidOr n Standalone saying.quote [] v) (sym is) (inl no_said)
+
       apart : (saying.value ≡ yes_value) ⊎ (saying.value ≡ no_value) → Each (λ c. (c == saying.quote) ≡ false) saying.value
       apart (inl is) = subst (λ v. Each (λ c. (c == saying.quote) ≡ false) v) (sym is) (yes_apart saying.quote says.0.quote)
       apart (inr is) = subst (λ v. Each (λ c. (c == saying.quote) ≡ false) v) (sym is) (no_apart saying.quote says.0.quote)

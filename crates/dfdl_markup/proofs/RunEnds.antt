@@ -1,36 +1,27 @@
 -- The machine runs over end tags.
-use Rattle.std.proofs.Common.{◌≡◌, ◌≢◌, ℕ, zero, suc, ◌+◌, ◌==◌, ◌<◌, ◌≤◌, ◌&&◌, ◌||◌, ◌⊎◌, Bool, true, false}
-use Rattle.std.proofs.Common.{if◌then◌else◌, List, [], ◌∷◌, ◌++◌, length, Option, Some, None, Result, Ok}
-use Rattle.std.proofs.Common.{Err, not, map, refl, sym, ap, ◌∙◌, subst, inl, inr, arith, append_assoc}
-use Rattle.std.proofs.Common.{nat_lt}
-use Rattle.std.specs.Str.{bytes_eq}
+use Rattle.std.proofs.Common.{◌≡◌, ℕ, ◌==◌, ◌<◌, ◌||◌, true}
+use Rattle.std.proofs.Common.{List, [], ◌∷◌, ◌++◌, Some, None, Ok}
+use Rattle.std.proofs.Common.{refl, sym, ap, ◌∙◌, subst}
 use Rattle.std.proofs.lemmas.Slice.Eq.{bytes_eq-Decides}
-use Rattle.std.proofs.lemmas.Bool.{cases_Bool, eqb-true, eqb-false, eq-eqb, ne_eqb, and_parts, and_left}
-use Rattle.std.proofs.lemmas.Bool.{and_right, both_ways, not-true, lt-ltb, or_left, or_right}
-use Rattle.dfdl_layers.specs.Tellers.{Each, run}
+use Rattle.std.proofs.lemmas.Bool.{eqb-false}
+use Rattle.std.proofs.lemmas.Bool.{or_left}
+use Rattle.dfdl_layers.specs.Tellers.{run}
 use Rattle.dfdl_xml_chars.specs.Characters.{is_name_start}
-use Rattle.dfdl_markup.specs.Grammar.{is_white, Name, name_characters, Reference, reference_inside}
-use Rattle.dfdl_markup.specs.Grammar.{reference_characters, Tag, tag_characters, Content, Nothing}
-use Rattle.dfdl_markup.specs.Grammar.{Character, Referring, Comment, Instruction, Section, Single}
-use Rattle.dfdl_markup.specs.Grammar.{Nested, section_word, spelling}
+use Rattle.dfdl_markup.specs.Grammar.{is_white, Name, name_characters}
 use Rattle.dfdl_markup.specs.Values.{same_name}
-use Rattle.dfdl_markup.specs.Rules.{IsName, AreWhite, is_text, brackets, deepest, attributes_of}
-use Rattle.dfdl_markup.specs.Rules.{ContentKeeps, roots, IsCommentText, HasNoEnd}
-use Rattle.dfdl_markup.specs.Machine.{Reading, First, whole_name, InContent, Place, AtContent, AtOpened}
-use Rattle.dfdl_markup.specs.Machine.{AtBang, AtQuestion, AtSectionWord, AtEndTag, AtEndName}
-use Rattle.dfdl_markup.specs.Machine.{AtEndSpace, AtReference, Ahead, MarkAhead, DeclarationAhead}
-use Rattle.dfdl_markup.specs.Machine.{NothingAhead, Frame, State, stand, step, marked, content_step}
-use Rattle.dfdl_markup.specs.Machine.{scope_of, may_begin, opened_step, bang_step, begun_by, frame_of}
-use Rattle.dfdl_markup.specs.Machine.{end_next, wanted, end_tag_step, end_space_step, end_ended}
+use Rattle.dfdl_markup.specs.Rules.{IsName, AreWhite}
+use Rattle.dfdl_markup.specs.Machine.{Reading, First, whole_name, Place, AtContent, AtOpened}
+use Rattle.dfdl_markup.specs.Machine.{AtEndTag, AtEndName}
+use Rattle.dfdl_markup.specs.Machine.{AtEndSpace, Ahead}
+use Rattle.dfdl_markup.specs.Machine.{NothingAhead, Frame, State, stand, step, content_step}
+use Rattle.dfdl_markup.specs.Machine.{opened_step}
+use Rattle.dfdl_markup.specs.Machine.{end_next, end_tag_step, end_space_step, end_ended}
 use Rattle.dfdl_markup.specs.Machine.{end_name_or, end_name_step}
-use Rattle.dfdl_markup.proofs.RunNames.{EndsName, ReadsOn, name_read, next_none, white_ends, white_is}
+use Rattle.dfdl_markup.proofs.RunNames.{EndsName, ReadsOn, name_read, next_none, white_ends}
 use Rattle.dfdl_markup.proofs.RunNames.{greater_ends, slash_ends}
-use Rattle.dfdl_markup.proofs.RunPieces.{comment_runs, section_runs, instruction_runs}
-use Rattle.dfdl_markup.proofs.RunReferences.{reference_runs}
 use Rattle.dfdl_markup.proofs.RunSteps.{Ends, After, state, RunsFrom, goes, not_under, if_true}
 use Rattle.dfdl_markup.proofs.RunSteps.{if_false, at_test}
-use Rattle.dfdl_markup.proofs.RunTags.{Allows, whites_stay, entered_runs, passed_runs}
-use Rattle.dfdl_markup.proofs.RunValues.{reference_text}
+use Rattle.dfdl_markup.proofs.RunTags.{whites_stay}
 
 no_cons : (c : ℕ) (text : List ℕ) → c ∷ text ≡ [] → ⊥
 no_cons c text e = absurd (cc)
@@ -54,6 +45,7 @@ module _ (n begun : ℕ) (frame : Frame) (frames : List Frame) where
     where
       tails : c ∷ more ≡ w ∷ left → more ≡ left
       tails e = cc
+
       heads : c ∷ more ≡ w ∷ left → c ≡ w
       heads e = cc
 
@@ -120,7 +112,7 @@ module _ (n begun : ℕ) (frame : Frame) (frames : List Frame) where
       let read = name_read name is in
       let rest = read.more ++ (space ++ 62 ∷ tail) in
       let equal : 4 < n → read.first ∷ read.more ≡ name_characters frame.name =
-          λ less. sym read.is ∙ (bytes_eq-Decides (name_characters name) (name_characters frame.name)).0 (same less)
+      λ less. sym read.is ∙ (bytes_eq-Decides (name_characters name) (name_characters frame.name)).0 (same less)
       in
       subst (λ l. RunsFrom n begun (frame ∷ frames) AtEndTag (l ++ (space ++ 62 ∷ tail))) (sym read.is)
       (subst (λ a. After n a rest) (sym (if_true (is_name_start read.first) _ _ read.starts))

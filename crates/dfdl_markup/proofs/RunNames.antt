@@ -1,6 +1,6 @@
 -- What ends a name, and the steps by which a name is read.
-use Rattle.std.proofs.Common.{◌≡◌, ◌≢◌, ℕ, ◌==◌, ◌||◌, ◌⊎◌, Bool, true, false, List, [], ◌∷◌, ◌++◌}
-use Rattle.std.proofs.Common.{if◌then◌else◌, Option, Some, None, refl, sym, ap, ◌∙◌, subst, inl, inr}
+use Rattle.std.proofs.Common.{◌≡◌, ℕ, ◌==◌, true, false, List, [], ◌∷◌, ◌++◌}
+use Rattle.std.proofs.Common.{Some, None, refl, sym, ap, ◌∙◌, subst, inl, inr}
 use Rattle.std.proofs.Common.{append_assoc}
 use Rattle.std.proofs.lemmas.List.{append-nil}
 use Rattle.std.proofs.lemmas.Bool.{eqb-true, or_cases}
@@ -8,8 +8,8 @@ use Rattle.dfdl_layers.specs.Tellers.{Each}
 use Rattle.dfdl_xml_chars.specs.Characters.{is_name_start, is_name_char, low_start_rows}
 use Rattle.dfdl_xml_chars.specs.Characters.{low_name_rows, high_start_rows, high_name_rows}
 use Rattle.dfdl_xml_chars.specs.Characters.{high_mark_rows}
-use Rattle.dfdl_markup.specs.Grammar.{is_white, is_quote, Name, Plain, Prefixed, name_characters}
-use Rattle.dfdl_markup.specs.Rules.{IsPart, IsName}
+use Rattle.dfdl_markup.specs.Grammar.{is_white, Name, Plain, Prefixed, name_characters}
+use Rattle.dfdl_markup.specs.Rules.{IsName}
 use Rattle.dfdl_markup.specs.Machine.{Reading, First, Colon, Second, name_next, whole_name}
 use Rattle.dfdl_markup.proofs.RunSteps.{if_true, if_false}
 
@@ -18,7 +18,6 @@ pub record EndsName (c : ℕ) : Type 0 where
   pub no_start : is_name_start c ≡ false
   pub no_char : is_name_char c ≡ false
   pub no_colon : (c == 58) ≡ false
-
 
 pub white_is : (P : ℕ → Type 0) (c : ℕ) → P 32 → P 9 → P 10 → P 13 → is_white c ≡ true → P c
 unfolding is_white
@@ -119,19 +118,23 @@ first_follows : (front part more : List ℕ) (last : Reading)
     → ReadsOn (First front) (part ++ more) last
 first_follows front [] more last are follows =
     subst (λ w. ReadsOn (First w) more last) (append-nil front) follows
-first_follows front (c ∷ part) more last are follows =
-    (First (front ++ c ∷ []), next_first front c are.0,
-    first_follows (front ++ c ∷ []) part more last are.1
-    (subst (λ w. ReadsOn (First w) more last) (sym (append_assoc front (c ∷ []) part)) follows))
+first_follows front (c ∷ part) more last are follows = (
+  First (front ++ c ∷ []),
+  next_first front c are.0,
+  first_follows (front ++ c ∷ []) part more last are.1
+      (subst (λ w. ReadsOn (First w) more last) (sym (append_assoc front (c ∷ []) part)) follows),
+)
 
 second_follows : (prefix front part : List ℕ)
     → Each (λ d. is_name_char d ≡ true) part
     → ReadsOn (Second prefix front) part (Second prefix (front ++ part))
 second_follows prefix front [] are = ap (λ w. Second prefix w) (sym (append-nil front))
-second_follows prefix front (c ∷ part) are =
-    (Second prefix (front ++ c ∷ []), next_second prefix front c are.0,
-    subst (λ w. ReadsOn (Second prefix (front ++ c ∷ [])) part (Second prefix w))
-    (append_assoc front (c ∷ []) part) (second_follows prefix (front ++ c ∷ []) part are.1))
+second_follows prefix front (c ∷ part) are = (
+  Second prefix (front ++ c ∷ []),
+  next_second prefix front c are.0,
+  subst (λ w. ReadsOn (Second prefix (front ++ c ∷ [])) part (Second prefix w))
+      (append_assoc front (c ∷ []) part) (second_follows prefix (front ++ c ∷ []) part are.1),
+)
 
 pub name_read : (name : Name) → IsName name → NameRead name
 name_read (Plain []) is = absurd is
@@ -153,10 +156,15 @@ name_read (Prefixed (c ∷ prefix) (d ∷ part)) is = record {
   last = Second (c ∷ prefix) (d ∷ part);
   is = refl;
   starts = is.0.0;
-  follows = first_follows (c ∷ []) prefix (58 ∷ d ∷ part) (Second (c ∷ prefix) (d ∷ part)) is.0.1
-      (Colon (c ∷ prefix), next_colon (c ∷ prefix),
-      (Second (c ∷ prefix) (d ∷ []), next_behind (c ∷ prefix) d is.1.0,
-      second_follows (c ∷ prefix) (d ∷ []) part is.1.1));
+  follows = first_follows (c ∷ []) prefix (58 ∷ d ∷ part) (Second (c ∷ prefix) (d ∷ part)) is.0.1 (
+    Colon (c ∷ prefix),
+    next_colon (c ∷ prefix),
+    (
+      Second (c ∷ prefix) (d ∷ []),
+      next_behind (c ∷ prefix) d is.1.0,
+      second_follows (c ∷ prefix) (d ∷ []) part is.1.1,
+    ),
+  );
   whole = refl;
 }
 

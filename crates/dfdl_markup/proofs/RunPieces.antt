@@ -1,17 +1,17 @@
 -- The machine runs over comments, sections and processing instructions.
-use Rattle.std.proofs.Common.{◌≡◌, ◌≢◌, ℕ, zero, suc, ◌+◌, ◌==◌, ◌<◌, ◌≤◌, ◌&&◌, Bool, true, false}
-use Rattle.std.proofs.Common.{if◌then◌else◌, ◌⊎◌, List, [], ◌∷◌, ◌++◌, Result, Ok, Err, refl, sym, ap, ◌∙◌}
+use Rattle.std.proofs.Common.{◌≡◌, ◌≢◌, ℕ, ◌==◌, ◌&&◌, Bool, true, false}
+use Rattle.std.proofs.Common.{if◌then◌else◌, ◌⊎◌, List, [], ◌∷◌, ◌++◌, Result, Ok, refl, sym, ◌∙◌}
 use Rattle.std.proofs.Common.{subst, inl, inr, arith, append_assoc}
 use Rattle.std.proofs.lemmas.List.{append-nil}
-use Rattle.std.proofs.lemmas.Bool.{cases_Bool, eqb-true, eq-eqb, ne_eqb, and_left, and_right}
+use Rattle.std.proofs.lemmas.Bool.{cases_Bool, eqb-true, ne_eqb, and_left, and_right}
 use Rattle.dfdl_layers.specs.Tellers.{Each, run}
 use Rattle.dfdl_xml_chars.specs.Characters.{is_name_start, is_name_char}
 use Rattle.dfdl_markup.specs.Grammar.{is_white, section_word}
 use Rattle.dfdl_markup.specs.Rules.{IsCommentText, HasNoEnd, HasNoMark, IsInstructionText, is_xml}
 use Rattle.dfdl_markup.specs.Rules.{IsTarget, brackets}
-use Rattle.dfdl_markup.specs.Machine.{Place, AtContent, AtOpened, AtBang, AtDash, AtComment}
+use Rattle.dfdl_markup.specs.Machine.{Place, AtContent, AtBang, AtComment}
 use Rattle.dfdl_markup.specs.Machine.{AtSectionWord, AtSection, Ahead, NothingAhead, Frame, State}
-use Rattle.dfdl_markup.specs.Machine.{step, opened_step, bang_step, dash_step, comment_step}
+use Rattle.dfdl_markup.specs.Machine.{step, bang_step, dash_step, comment_step}
 use Rattle.dfdl_markup.specs.Machine.{section_word_step, section_step, AtQuestion, AtTarget}
 use Rattle.dfdl_markup.specs.Machine.{AtTargetEnd, AtInstruction, question_step, target_step}
 use Rattle.dfdl_markup.specs.Machine.{target_end_step, instruction_step}

@@ -1,18 +1,18 @@
 -- The machine runs over references, in a content and in a value.
-use Rattle.std.proofs.Common.{◌≡◌, ℕ, zero, suc, ◌+◌, ◌*◌, ◌==◌, ◌<◌, ◌≤◌, ◌&&◌, ◌||◌, Bool, true, false}
-use Rattle.std.proofs.Common.{if◌then◌else◌, ◌⊎◌, List, [], ◌∷◌, ◌++◌, length, Option, Some, None, Result}
-use Rattle.std.proofs.Common.{Ok, Err, refl, sym, ap, ◌∙◌, subst, inl, inr, arith, append_assoc, IsSome}
+use Rattle.std.proofs.Common.{◌≡◌, ℕ, ◌+◌, ◌*◌, ◌==◌, ◌<◌, ◌≤◌, ◌&&◌, Bool, true, false}
+use Rattle.std.proofs.Common.{◌⊎◌, List, [], ◌∷◌, ◌++◌, length, Option, Some, None}
+use Rattle.std.proofs.Common.{Ok, refl, sym, subst, inl, inr, arith, append_assoc, IsSome}
 use Rattle.std.proofs.Common.{nat_le}
 use Rattle.std.specs.List.{list_any}
 use Rattle.std.specs.Str.{bytes_eq}
 use Rattle.std.proofs.lemmas.List.{append-nil}
 use Rattle.std.proofs.lemmas.Slice.Eq.{bytes_eq-Decides}
-use Rattle.std.proofs.lemmas.Bool.{cases_Bool, eqb-true, eq-eqb, ne_eqb, and_left, and_right, and_from}
+use Rattle.std.proofs.lemmas.Bool.{cases_Bool, and_from}
 use Rattle.std.proofs.lemmas.Bool.{both_ways, false≢true, or_left, or_right, or_cases, and_parts, leb-true, leb-false}
 use Rattle.dfdl_layers.specs.Tellers.{Each, run}
 use Rattle.dfdl_xml_chars.specs.Characters.{is_name_start, is_name_char, is_allowed, char_rows, is_in}
 use Rattle.dfdl_xml_chars.specs.Characters.{Row, low_start_rows, high_start_rows}
-use Rattle.dfdl_markup.specs.Grammar.{base_mark, Reference, Named, Numbered, reference_inside}
+use Rattle.dfdl_markup.specs.Grammar.{Reference, Named, Numbered, reference_inside}
 use Rattle.dfdl_markup.specs.Values.{is_digit, digit_value, base_of, number_on, entities}
 use Rattle.dfdl_markup.specs.Values.{entity_among, entity, or_zero, referred}
 use Rattle.dfdl_markup.specs.Rules.{ReferenceKeeps}
@@ -22,7 +22,7 @@ use Rattle.dfdl_markup.specs.Machine.{NothingAhead, Frame, State, stand, step, w
 use Rattle.dfdl_markup.specs.Machine.{begins, begins_entity, entity_next, reference_step}
 use Rattle.dfdl_markup.specs.Machine.{entity_ended, entity_step, number_next, hash_step}
 use Rattle.dfdl_markup.specs.Machine.{hexadecimal_step, number_step}
-use Rattle.dfdl_markup.proofs.RunNames.{EndsName, semicolon_ends}
+use Rattle.dfdl_markup.proofs.RunNames.{semicolon_ends}
 use Rattle.dfdl_markup.proofs.RunSteps.{Ends, After, state, RunsFrom, goes, not_under, if_true}
 use Rattle.dfdl_markup.proofs.RunSteps.{if_false, at_test, same_is}
 
@@ -155,8 +155,12 @@ module _ (n begun : ℕ) (frames : List Frame) where
       at_test n text (nat_le value 0x10FFFF) _ _
       (λ e. subst (λ t. Ends n (run step t text)) (sym is) ends)
       (λ e. not_under n 12 (λ less.
-      omega (arith, leb-false value 0x10FFFF e, number_grows hexadecimal digits value,
-      allowed_most (number_on hexadecimal value digits) (allowed less))))
+      omega (
+        arith,
+        leb-false value 0x10FFFF e,
+        number_grows hexadecimal digits value,
+        allowed_most (number_on hexadecimal value digits) (allowed less),
+      )))
 
   number_digits : (within : Within) (hexadecimal : Bool) (value : ℕ) (digits tail : List ℕ)
       → Each (λ c. is_digit hexadecimal c ≡ true) digits

@@ -1,5 +1,5 @@
 -- The machine tells rules from 3 to 12 alone.
-use Rattle.std.proofs.Common.{◌≡◌, ℕ, zero, suc, ◌+◌, ◌*◌, ◌==◌, ◌<◌, ◌≤◌, ◌&&◌, ◌||◌, Bool, true, false}
+use Rattle.std.proofs.Common.{ℕ, suc, ◌+◌, ◌*◌, ◌==◌, ◌<◌, ◌≤◌, ◌&&◌, ◌||◌, Bool, true, false}
 use Rattle.std.proofs.Common.{if◌then◌else◌, List, [], ◌∷◌, ◌++◌, length, Option, Some, None, Result, Ok}
 use Rattle.std.proofs.Common.{Err, nat_le, nat_lt, arith}
 use Rattle.std.specs.List.{list_any}
@@ -7,8 +7,8 @@ use Rattle.std.specs.Str.{bytes_eq}
 use Rattle.dfdl_layers.specs.Tellers.{go_on, run}
 use Rattle.dfdl_xml_chars.specs.Characters.{is_allowed, is_name_start, is_name_char}
 use Rattle.dfdl_markup.specs.Grammar.{is_white, is_quote, Name, section_word, Said, Version, Encoding}
-use Rattle.dfdl_markup.specs.Grammar.{Standalone, xml_word, said_word}
-use Rattle.dfdl_markup.specs.Values.{is_digit, digit_value, base_of, entity, letter_read, declares}
+use Rattle.dfdl_markup.specs.Grammar.{Standalone, xml_word}
+use Rattle.dfdl_markup.specs.Values.{is_digit, digit_value, base_of, entity, declares}
 use Rattle.dfdl_markup.specs.Rules.{is_xml, is_encoding_character, deepest}
 use Rattle.dfdl_markup.specs.Machine.{Reading, First, name_next, whole_name, StartTag, OpenValue}
 use Rattle.dfdl_markup.specs.Machine.{Within, Place, AtContent, AtOpened, AtBang, AtDash, AtComment}

@@ -1,35 +1,23 @@
 -- What the XML declaration may say, as the machine tests it.
-use Rattle.std.proofs.Common.{◌≡◌, ℕ, ◌+◌, ◌==◌, ◌<◌, ◌≤◌, ◌&&◌, ◌||◌, ◌⊎◌, Bool, true, false}
-use Rattle.std.proofs.Common.{if◌then◌else◌, List, [], ◌∷◌, ◌++◌, length, map, Option, Some, None, Result}
-use Rattle.std.proofs.Common.{Ok, Err, refl, sym, ap, ◌∙◌, subst, inl, inr, arith, append_assoc, nat_le}
+use Rattle.std.proofs.Common.{◌≡◌, ℕ, ◌==◌, ◌<◌, ◌≤◌, ◌||◌, ◌⊎◌, true, false}
+use Rattle.std.proofs.Common.{List, [], ◌∷◌, ◌++◌, map}
+use Rattle.std.proofs.Common.{refl, sym, subst, inl, inr, append_assoc}
 use Rattle.std.specs.List.{list_any}
 use Rattle.std.specs.Str.{bytes_eq}
 use Rattle.std.proofs.lemmas.List.{append-nil}
 use Rattle.std.proofs.lemmas.Slice.Eq.{bytes_eq-Decides}
 use Rattle.std.proofs.lemmas.Bool.{cases_Bool, cases_lt, eqb-true, both_ways, or_cases, or_left}
 use Rattle.std.proofs.lemmas.Bool.{or_right}
-use Rattle.dfdl_layers.specs.Tellers.{Each, run}
-use Rattle.dfdl_xml_chars.specs.Characters.{is_name_start, is_name_char, low_start_rows}
-use Rattle.dfdl_xml_chars.specs.Characters.{low_name_rows, high_start_rows}
-use Rattle.dfdl_markup.specs.Grammar.{is_white, is_quote, Said, Version, Encoding, Standalone}
-use Rattle.dfdl_markup.specs.Grammar.{said_word, Saying, saying_characters, optional_characters}
-use Rattle.dfdl_markup.specs.Grammar.{Declaration, declaration_characters, declaration_inside, xml_word}
-use Rattle.dfdl_markup.specs.Rules.{AreWhite, is_xml, is_encoding_character, small, version_value}
-use Rattle.dfdl_markup.specs.Rules.{encoding_value, yes_value, no_value, SayingKeeps, EncodingKeeps}
-use Rattle.dfdl_markup.specs.Rules.{SaysEncoding, SaysStandalone, DeclarationKeeps}
-use Rattle.dfdl_markup.specs.Machine.{Place, AtContent, AtOpened, AtQuestion, AtTarget, AtDeclaration}
-use Rattle.dfdl_markup.specs.Machine.{AtSaidWord, AtSaid, AtSaidEquals, AtSaidValue, AtDeclarationEnd}
-use Rattle.dfdl_markup.specs.Machine.{Ahead, MarkAhead, DeclarationAhead, NothingAhead, State, step}
-use Rattle.dfdl_markup.specs.Machine.{content_step, opened_step, question_step, target_step}
-use Rattle.dfdl_markup.specs.Machine.{may_declare, begins, tail, declaration_step, said_step}
-use Rattle.dfdl_markup.specs.Machine.{said_word_step, said_equals_step, said_values, said_character}
-use Rattle.dfdl_markup.specs.Machine.{said_fault, said_value_step, declaration_end_step}
-use Rattle.dfdl_markup.proofs.Rest.{Follows}
-use Rattle.dfdl_markup.proofs.RunNames.{white_ends, white_is}
+use Rattle.dfdl_layers.specs.Tellers.{Each}
+use Rattle.dfdl_markup.specs.Grammar.{is_quote, Said, Version, Encoding, Standalone}
+use Rattle.dfdl_markup.specs.Rules.{is_encoding_character, small, version_value}
+use Rattle.dfdl_markup.specs.Rules.{encoding_value, yes_value, no_value, EncodingKeeps}
+use Rattle.dfdl_markup.specs.Machine.{begins}
+use Rattle.dfdl_markup.specs.Machine.{said_values, said_character}
+use Rattle.dfdl_markup.specs.Machine.{said_fault}
 use Rattle.dfdl_markup.proofs.RunReferences.{begins_front}
-use Rattle.dfdl_markup.proofs.RunSteps.{Ends, After, state, RunsFrom, goes, if_true, if_false}
-use Rattle.dfdl_markup.proofs.RunSteps.{at_test, same_is}
-use Rattle.dfdl_markup.proofs.RunTags.{quote_no_white}
+use Rattle.dfdl_markup.proofs.RunSteps.{if_true}
+use Rattle.dfdl_markup.proofs.RunSteps.{same_is}
 use Rattle.dfdl_markup.proofs.RunValues.{quote_is}
 
 -- the fronts of one of the words begin one of them
@@ -131,10 +119,11 @@ encodings_apart quote (c ∷ value) is are =
 encoding_faults : (n quote : ℕ) (value : List ℕ) → n ≤ 9 → Each (λ c. is_encoding_character c ≡ true) value
     → Each (λ c. n ≤ said_fault Encoding quote c) value
 encoding_faults n quote [] less are = tt
-encoding_faults n quote (c ∷ value) less are =
-    (subst (λ m. n ≤ m) (sym (if_true (is_encoding_character c || c == quote) 9 3
-    (or_left (is_encoding_character c) (c == quote) are.0))) less,
-    encoding_faults n quote value less are.1)
+encoding_faults n quote (c ∷ value) less are = (
+  subst (λ m. n ≤ m) (sym (if_true (is_encoding_character c || c == quote) 9 3
+      (or_left (is_encoding_character c) (c == quote) are.0))) less,
+  encoding_faults n quote value less are.1,
+)
 
 pub encoding_or : (n quote : ℕ) (value : List ℕ) → EncodingKeeps n value → SaidOr n Encoding quote [] value
 encoding_or n quote value keeps = by (cases_lt 9 n)
@@ -144,6 +133,8 @@ encoding_or n quote value keeps = by (cases_lt 9 n)
         inl (or_left (bytes_eq (map small value) encoding_value) false
         ((bytes_eq-Decides (map small value) encoding_value).1 (keeps.1 less)))
     by (inr most) =
-        inr (encoding_faults n quote value most keeps.0,
-        subst (λ m. n ≤ m) (sym (if_true (is_encoding_character quote || quote == quote) 9 3
-        (or_right (is_encoding_character quote) (quote == quote) (same_is quote)))) most)
+        inr (
+          encoding_faults n quote value most keeps.0,
+          subst (λ m. n ≤ m) (sym (if_true (is_encoding_character quote || quote == quote) 9 3
+              (or_right (is_encoding_character quote) (quote == quote) (same_is quote)))) most,
+        )

@@ -1,11 +1,10 @@
 -- Where the attributes of a whole tag differ, those before one of them differ from it.
-use Rattle.std.proofs.Common.{◌≡◌, ℕ, ◌==◌, ◌<◌, ◌&&◌, ◌||◌, Bool, true, false, if◌then◌else◌, List, []}
-use Rattle.std.proofs.Common.{◌∷◌, ◌++◌, Option, Some, None, map, refl, sym, ap, ◌∙◌, subst, inl, inr}
+use Rattle.std.proofs.Common.{◌≡◌, ℕ, Bool, true, false, if◌then◌else◌, List, []}
+use Rattle.std.proofs.Common.{◌∷◌, ◌++◌, Option, Some, None, refl, ap, ◌∙◌, subst, inl, inr}
 use Rattle.std.proofs.Common.{append_assoc}
 use Rattle.std.specs.List.{list_any, cons_option}
 use Rattle.std.specs.Str.{bytes_eq}
 use Rattle.std.proofs.lemmas.Bool.{cases_Bool, both_ways, and_parts, and_from, or_parts, or_from}
-use Rattle.dfdl_layers.specs.Tellers.{Each}
 use Rattle.dfdl_markup.specs.Grammar.{Name, Plain, Prefixed}
 use Rattle.dfdl_markup.specs.Values.{Attribute, same_name, Binding, binding_of, bindings_of, found}
 use Rattle.dfdl_markup.specs.Values.{same_found, same_expanded, have_same, names_of, scope_in}

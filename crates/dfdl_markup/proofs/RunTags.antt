@@ -1,19 +1,18 @@
 -- The machine runs over start tags.
-use Rattle.std.proofs.Common.{◌≡◌, ℕ, ◌+◌, ◌==◌, ◌<◌, ◌≤◌, ◌&&◌, ◌||◌, ◌⊎◌, Bool, true, false}
-use Rattle.std.proofs.Common.{if◌then◌else◌, List, [], ◌∷◌, ◌++◌, length, Option, Some, None, Result, Ok}
+use Rattle.std.proofs.Common.{◌≡◌, ℕ, ◌==◌, ◌<◌, ◌≤◌, ◌⊎◌, Bool, true, false}
+use Rattle.std.proofs.Common.{if◌then◌else◌, List, [], ◌∷◌, ◌++◌, length, Option, Some, None, Ok}
 use Rattle.std.proofs.Common.{Err, map, refl, sym, ap, ◌∙◌, subst, inl, inr, arith, append_assoc}
 use Rattle.std.specs.List.{flat_map, list_all}
 use Rattle.std.proofs.lemmas.List.{append-nil}
-use Rattle.std.proofs.lemmas.Bool.{cases_Bool, eqb-true, and_from, both_ways, or_cases, and_left}
-use Rattle.std.proofs.lemmas.Bool.{and_right}
+use Rattle.std.proofs.lemmas.Bool.{cases_Bool, eqb-true, and_from, both_ways}
 use Rattle.dfdl_layers.specs.Tellers.{Each, run}
-use Rattle.dfdl_xml_chars.specs.Characters.{is_name_start, is_name_char}
-use Rattle.dfdl_markup.specs.Grammar.{is_white, is_quote, Name, name_characters, Item}
+use Rattle.dfdl_xml_chars.specs.Characters.{is_name_start}
+use Rattle.dfdl_markup.specs.Grammar.{is_white, is_quote, Name, name_characters}
 use Rattle.dfdl_markup.specs.Grammar.{item_characters, Given, given_characters, Tag, tag_characters}
 use Rattle.dfdl_markup.specs.Values.{value_of, Attribute, attribute_of, declares, Binding, names_of}
 use Rattle.dfdl_markup.specs.Values.{is_found, scope_in, bindings_of, have_same, same_expanded}
-use Rattle.dfdl_markup.specs.Rules.{IsName, AreWhite, GivenKeeps, attributes_of, AreDifferent}
-use Rattle.dfdl_markup.specs.Rules.{AreDeclared, TagKeeps}
+use Rattle.dfdl_markup.specs.Rules.{AreWhite, GivenKeeps, attributes_of, AreDifferent}
+use Rattle.dfdl_markup.specs.Rules.{TagKeeps}
 use Rattle.dfdl_markup.specs.Machine.{Reading, First, whole_name, StartTag, OpenValue, Place}
 use Rattle.dfdl_markup.specs.Machine.{AtOpened, AtTagName, AtTag, AtAttributeName, AtNamed, AtEquals}
 use Rattle.dfdl_markup.specs.Machine.{AtValue, AtSlash, Ahead, NothingAhead, Frame, State, step}
@@ -22,9 +21,9 @@ use Rattle.dfdl_markup.specs.Machine.{all_found, if_ends, entered, passed, tag_s
 use Rattle.dfdl_markup.specs.Machine.{tag_name_or, tag_name_step, is_given, attribute_named}
 use Rattle.dfdl_markup.specs.Machine.{behind_name, attribute_name_or, attribute_name_step, named_step}
 use Rattle.dfdl_markup.specs.Machine.{value_begun, equals_step, fixed_value, may_close}
-use Rattle.dfdl_markup.specs.Machine.{has_sure_clash, value_ended, value_step, with_value, slash_step}
+use Rattle.dfdl_markup.specs.Machine.{has_sure_clash, value_step, with_value, slash_step}
 use Rattle.dfdl_markup.proofs.RunNames.{EndsName, ReadsOn, name_read, next_none, white_ends}
-use Rattle.dfdl_markup.proofs.RunNames.{slash_ends, equals_ends, greater_ends, white_is}
+use Rattle.dfdl_markup.proofs.RunNames.{slash_ends, equals_ends, greater_ends}
 use Rattle.dfdl_markup.proofs.RunScopes.{name_is_new, none_sure}
 use Rattle.dfdl_markup.proofs.RunSteps.{Ends, After, state, RunsFrom, goes, not_under, if_true}
 use Rattle.dfdl_markup.proofs.RunSteps.{if_false, at_test, same_is}
@@ -242,8 +241,8 @@ module _ (n begun : ℕ) (frames : List Frame) where
       let closing = items ++ given.quote ∷ tail in
       let opening = given.after ++ given.quote ∷ closing in
       let text : given_characters given ++ tail ≡ given.space ++ (read.first ∷ (read.more ++ (given.before ++ 61 ∷ opening))) =
-          given_text given.space (name_characters name) given.before given.after items tail given.quote
-          ∙ ap (λ l. given.space ++ (l ++ (given.before ++ 61 ∷ opening))) read.is
+      given_text given.space (name_characters name) given.before given.after items tail given.quote
+      ∙ ap (λ l. given.space ++ (l ++ (given.before ++ 61 ∷ opening))) read.is
       in
       subst (λ l. RunsFrom n begun frames (AtTag tag spaced) l) (sym text)
       (tag_space tag spaced given.space (read.first ∷ (read.more ++ (given.before ++ 61 ∷ opening))) keeps.some_space keeps.space
@@ -275,7 +274,7 @@ module _ (n begun : ℕ) (frames : List Frame) where
   givens_run scope tag spaced (given ∷ givens) tail keep differ ends =
       let a = attribute_of given in
       let joined : (tag.attributes ++ a ∷ []) ++ map attribute_of givens ≡ tag.attributes ++ a ∷ map attribute_of givens =
-          append_assoc tag.attributes (a ∷ []) (map attribute_of givens) in
+      append_assoc tag.attributes (a ∷ []) (map attribute_of givens) in
       subst (λ l. RunsFrom n begun frames (AtTag tag spaced) l)
       (sym (append_assoc (given_characters given) (flat_map given_characters givens) tail))
       (given_runs scope tag spaced given (map attribute_of givens) (flat_map given_characters givens ++ tail) keep.0 differ
@@ -329,7 +328,7 @@ module _ (n begun : ℕ) (frames : List Frame) where
       let rest = givens ++ (tag.space ++ e ∷ tail) in
       let s = state ahead AtOpened begun frames in
       let text : tag_characters tag ++ e ∷ tail ≡ read.first ∷ (read.more ++ rest) =
-          tag_text (name_characters tag.name) givens tag.space (e ∷ tail) ∙ ap (λ l. l ++ rest) read.is
+      tag_text (name_characters tag.name) givens tag.space (e ∷ tail) ∙ ap (λ l. l ++ rest) read.is
       in
       subst (λ l. Ends n (run step s l)) (sym text)
       (subst (λ a. After n a (read.more ++ rest)) (sym (if_true (is_name_start read.first) _ _ read.starts))

@@ -1,25 +1,25 @@
 -- The machine runs over the values of attributes.
-use Rattle.std.proofs.Common.{◌≡◌, ℕ, ◌+◌, ◌==◌, ◌<◌, ◌≤◌, ◌&&◌, ◌||◌, Bool, true, false, not}
+use Rattle.std.proofs.Common.{◌≡◌, ℕ, ◌==◌, ◌&&◌, Bool, true, false, not}
 use Rattle.std.proofs.Common.{if◌then◌else◌, List, [], ◌∷◌, ◌++◌, Option, Some, None, option_and_then}
-use Rattle.std.proofs.Common.{Result, Ok, Err, map, refl, sym, ap, ◌∙◌, subst, inl, inr, arith}
+use Rattle.std.proofs.Common.{Ok, map, refl, sym, ap, ◌∙◌, subst, inl, inr}
 use Rattle.std.proofs.Common.{append_assoc}
 use Rattle.std.specs.List.{flat_map}
 use Rattle.std.specs.Str.{bytes_eq}
 use Rattle.std.proofs.lemmas.List.{append-nil}
 use Rattle.std.proofs.lemmas.Slice.Eq.{bytes_eq-Decides}
-use Rattle.std.proofs.lemmas.Bool.{cases_Bool, eqb-true, and_parts, not-true, or_cases, both_ways}
-use Rattle.dfdl_layers.specs.Tellers.{Each, run}
+use Rattle.std.proofs.lemmas.Bool.{eqb-true, and_parts, not-true, or_cases}
+use Rattle.dfdl_layers.specs.Tellers.{Each}
 use Rattle.dfdl_markup.specs.Grammar.{is_white, is_quote, Name, Reference, reference_inside}
 use Rattle.dfdl_markup.specs.Grammar.{reference_characters, Item, Letter, Referred, item_characters}
 use Rattle.dfdl_markup.specs.Values.{letter_read, items_read, value_of, referred, declares}
 use Rattle.dfdl_markup.specs.Values.{xml_namespace, xmlns_namespace, xml_prefix, xmlns_prefix}
-use Rattle.dfdl_markup.specs.Values.{fixed_namespace, may_bind}
+use Rattle.dfdl_markup.specs.Values.{fixed_namespace}
 use Rattle.dfdl_markup.specs.Rules.{is_value_character, ItemKeeps, MayDeclare, BindsWell}
 use Rattle.dfdl_markup.specs.Machine.{StartTag, OpenValue, InValue, Place, AtValue, AtReference}
 use Rattle.dfdl_markup.specs.Machine.{NothingAhead, Frame, State, step, begins, fixed_value, may_close}
-use Rattle.dfdl_markup.specs.Machine.{value_goes_on, value_step, value_ended}
+use Rattle.dfdl_markup.specs.Machine.{value_goes_on, value_step}
 use Rattle.dfdl_markup.proofs.RunReferences.{begins_front, reference_runs}
-use Rattle.dfdl_markup.proofs.RunSteps.{Ends, After, state, RunsFrom, goes, if_true, if_false}
+use Rattle.dfdl_markup.proofs.RunSteps.{state, RunsFrom, goes, if_true, if_false}
 
 -- what holds of both quotation marks holds of one
 pub quote_is : (P : ℕ → Type 0) (q : ℕ) → P 34 → P 39 → is_quote q ≡ true → P q

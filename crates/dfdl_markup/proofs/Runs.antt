@@ -1,15 +1,15 @@
 -- The machine runs over every document, by the rules that it keeps.
-use Rattle.std.proofs.Common.{◌≡◌, ℕ, ◌+◌, ◌==◌, ◌<◌, ◌≤◌, Bool, true, false, List, [], ◌∷◌, ◌++◌}
+use Rattle.std.proofs.Common.{◌≡◌, ℕ, ◌+◌, ◌<◌, ◌≤◌, Bool, true, false, List, [], ◌++◌}
 use Rattle.std.proofs.Common.{Option, Some, None, Result, Ok, Err, refl, sym, ◌∙◌, subst, inl, inr, arith}
 use Rattle.std.proofs.lemmas.List.{append-nil}
 use Rattle.std.proofs.lemmas.Bool.{eq-eqb, cases_lt}
 use Rattle.dfdl_layers.specs.Tellers.{Keeps, run}
-use Rattle.dfdl_markup.specs.Grammar.{is_white, Content, spelling, Declaration, declaration_characters}
+use Rattle.dfdl_markup.specs.Grammar.{is_white, spelling, Declaration, declaration_characters}
 use Rattle.dfdl_markup.specs.Grammar.{mark_characters}
 use Rattle.dfdl_markup.specs.Rules.{roots, MayDeclareItself}
 use Rattle.dfdl_markup.specs.Machine.{AtContent, Ahead, MarkAhead, DeclarationAhead, NothingAhead}
-use Rattle.dfdl_markup.specs.Machine.{Frame, State, start, step, accepts, content_step, may_declare}
-use Rattle.dfdl_markup.proofs.Rest.{Last, Declared, Marked, Whole, From, Rest}
+use Rattle.dfdl_markup.specs.Machine.{State, start, step, accepts, content_step, may_declare}
+use Rattle.dfdl_markup.proofs.Rest.{Last, Declared, Whole, From, Rest}
 use Rattle.dfdl_markup.proofs.RunContent.{content_runs}
 use Rattle.dfdl_markup.proofs.RunDeclaration.{declaration_runs}
 use Rattle.dfdl_markup.proofs.RunRules.{TellsRule, run_tells}

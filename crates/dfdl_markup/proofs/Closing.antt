@@ -1,34 +1,31 @@
--- How a document ends from any place in it, and what a piece of markup in front of the rest makes of
--- the rest.
+-- How a document ends from any place in it, and what a piece of markup makes of the rest.
 use Rattle.std.proofs.Common.{◌≡◌, ℕ, zero, suc, ◌+◌, ◌<◌, ◌≤◌, ◌||◌, ◌&&◌, ◌≢◌, true, false}
-use Rattle.std.proofs.Common.{nat_le, nat_lt, List, [], ◌∷◌, ◌++◌}
+use Rattle.std.proofs.Common.{nat_le, nat_lt, List, [], ◌∷◌, ◌++◌, length, Option, Some, None, refl}
+use Rattle.std.proofs.Common.{ap, sym, subst, ◌∙◌, arith, inl, inr, append_assoc}
 use Rattle.std.specs.List.{list_all}
-use Rattle.std.proofs.Common.{length, Option, Some, None, refl, ap, sym, subst, ◌∙◌, arith, inl, inr}
-use Rattle.std.proofs.Common.{append_assoc}
 use Rattle.std.proofs.lemmas.Bool.{cases_Bool, cond_both, ltb-true, and_parts}
 use Rattle.std.proofs.lemmas.Bool.Decides.{nat_tests}
 use Rattle.std.proofs.lemmas.Slice.Eq.{bytes_eq-Decides}
 use Rattle.std.specs.Char.{IsScalar}
 use Rattle.dfdl_layers.specs.Tellers.{Each}
-use Rattle.dfdl_xml_chars.specs.Characters.{is_in, is_allowed, is_name_start, is_name_char, char_rows}
-use Rattle.dfdl_xml_chars.specs.Characters.{low_name_rows, low_start_rows, high_name_rows}
-use Rattle.dfdl_xml_chars.specs.Characters.{high_start_rows, high_mark_rows}
+use Rattle.dfdl_xml_chars.specs.Characters.{is_in, is_allowed, is_name_start, is_name_char}
+use Rattle.dfdl_xml_chars.specs.Characters.{char_rows, low_name_rows, low_start_rows}
+use Rattle.dfdl_xml_chars.specs.Characters.{high_name_rows, high_start_rows, high_mark_rows}
 use Rattle.dfdl_xml_chars.proofs.Tables.{allowed_in, name_rows_allowed, in_others}
 use Rattle.dfdl_markup.specs.Grammar.{is_white, Name, Plain, Prefixed, name_characters, Tag}
-use Rattle.dfdl_markup.specs.Grammar.{tag_characters, Content, Nothing, Character}
-use Rattle.dfdl_markup.specs.Grammar.{Referring, Comment, Instruction, Section, Single, Nested}
-use Rattle.dfdl_markup.specs.Grammar.{spelling, Reference, reference_characters, section_word}
-use Rattle.dfdl_markup.specs.Grammar.{Declaration, declaration_characters}
+use Rattle.dfdl_markup.specs.Grammar.{tag_characters, Content, Nothing, Character, Referring}
+use Rattle.dfdl_markup.specs.Grammar.{Comment, Instruction, Section, Single, Nested, spelling}
+use Rattle.dfdl_markup.specs.Grammar.{Reference, reference_characters, section_word, Declaration}
+use Rattle.dfdl_markup.specs.Grammar.{declaration_characters}
 use Rattle.dfdl_markup.specs.Values.{outer_scope, same_name, scope_in}
 use Rattle.dfdl_markup.specs.Rules.{IsPart, IsName, AreWhite, TagKeeps, attributes_of, ContentKeeps}
 use Rattle.dfdl_markup.specs.Rules.{roots, brackets, is_text, deepest, MayDeclareItself}
 use Rattle.dfdl_markup.specs.Rules.{ReferenceKeeps, IsCommentText, IsTarget, IsInstructionText}
 use Rattle.dfdl_markup.specs.Rules.{HasNoEnd}
 use Rattle.dfdl_markup.specs.Machine.{StartTag, Ahead, MarkAhead, DeclarationAhead, NothingAhead}
-use Rattle.dfdl_markup.specs.Machine.{Frame, State, Place, stand, go, scope_of, wanted}
-use Rattle.dfdl_markup.specs.Machine.{begun_by, frame_of, may_declare}
-use Rattle.dfdl_markup.proofs.Rest.{Wrote, Inner, Close, Whole, brackets_at}
-use Rattle.dfdl_markup.proofs.Rest.{From}
+use Rattle.dfdl_markup.specs.Machine.{Frame, State, Place, stand, go, scope_of, wanted, begun_by}
+use Rattle.dfdl_markup.specs.Machine.{frame_of, may_declare}
+use Rattle.dfdl_markup.proofs.Rest.{Wrote, Inner, Close, Whole, brackets_at, From}
 use Rattle.dfdl_markup.proofs.Sound.{SoundFrames, SoundRoots, MayBegin}
 use Rattle.dfdl_markup.proofs.Answers.{Good}
 
@@ -284,7 +281,8 @@ pub moves_on : (s : State) (place : Place) (c : ℕ) → brackets_at s.place ≡
 moves_on s place c same wrote n text from = record {
   whole = λ raw w.
       subst (Whole s.ahead n s.begun s.frames (brackets_at s.place)) (shifted raw c text)
-      (subst (λ before. Whole s.ahead n s.begun s.frames before ((raw ++ c ∷ []) ++ text)) (sym same)
+      (subst (λ before. Whole s.ahead n s.begun s.frames before ((raw ++ c ∷ []) ++ text))
+      (sym same)
       (from.whole (raw ++ c ∷ []) (wrote n raw w)));
 }
 
@@ -451,10 +449,12 @@ grow_nested n begun frames before tag t rest named has keeps deep close =
     (λ content kept. (keeps, deep, inner_keeps, close.closed, close.white, same_end, kept))
     close.after)
   where
-    inner_keeps : ContentKeeps n (suc (length frames)) (scope_in (attributes_of t) (scope_of frames)) 0 close.content
+    inner_keeps : ContentKeeps n (suc (length frames))
+        (scope_in (attributes_of t) (scope_of frames)) 0 close.content
     inner_keeps =
         subst
-        (λ attributes. ContentKeeps n (suc (length frames)) (scope_in attributes (scope_of frames)) 0 close.content)
+        (λ attributes. ContentKeeps n (suc (length frames))
+        (scope_in attributes (scope_of frames)) 0 close.content)
         (sym has) close.keeps
 
     same_end : 4 < n → same_name close.name t.name ≡ true
@@ -470,7 +470,8 @@ grow_nested n begun frames before tag t rest named has keeps deep close =
         (append_assoc (tag_characters t) (62 ∷ (spelling close.content
         ++ 60 ∷ 47 ∷ (name_characters close.name ++ (close.space ++ 62 ∷ [])))) more
         ∙ ap (λ l. tag_characters t ++ 62 ∷ l)
-        (append_assoc (spelling close.content) (60 ∷ 47 ∷ (name_characters close.name ++ (close.space ++ 62 ∷ []))) more
+        (append_assoc (spelling close.content) (60 ∷ 47
+        ∷ (name_characters close.name ++ (close.space ++ 62 ∷ []))) more
         ∙ ap (λ l. spelling close.content ++ 60 ∷ 47 ∷ l)
         (append_assoc (name_characters close.name) (close.space ++ 62 ∷ []) more
         ∙ ap (λ l. name_characters close.name ++ l) (append_assoc close.space (62 ∷ []) more))))

@@ -1,27 +1,29 @@
 -- What is owed between pieces of markup, and behind `<`.
-use Rattle.std.proofs.Common.{◌≡◌, ◌≢◌, ℕ, zero, suc, ◌==◌, ◌&&◌, ◌≤◌, true, false}
-use Rattle.std.proofs.Common.{if◌then◌else◌, List, [], ◌∷◌, ◌++◌, length, Option, Some, None, refl}
-use Rattle.std.proofs.Common.{ap, sym, subst, ◌∙◌, arith, inl, inr, nat_lt}
+use Rattle.std.proofs.Common.{◌≡◌, ◌≢◌, ℕ, zero, suc, ◌==◌, ◌&&◌, ◌≤◌, true, false, if◌then◌else◌}
+use Rattle.std.proofs.Common.{List, [], ◌∷◌, ◌++◌, length, Option, Some, None, refl, ap, sym, subst}
+use Rattle.std.proofs.Common.{◌∙◌, arith, inl, inr, nat_lt}
 use Rattle.std.proofs.lemmas.Bool.{eqb-true, cond_both, cases_eq}
 use Rattle.std.proofs.lemmas.Bool.Decides.{nat_tests}
 use Rattle.dfdl_layers.specs.Tellers.{Each}
-use Rattle.dfdl_xml_chars.specs.Characters.{is_name_start, low_start_rows}
-use Rattle.dfdl_xml_chars.specs.Characters.{is_name_char, low_name_rows}
-use Rattle.dfdl_markup.specs.Grammar.{is_white, Plain, Named, Tag}
-use Rattle.dfdl_markup.specs.Grammar.{name_characters, Content, Nothing, Character}
-use Rattle.dfdl_markup.specs.Grammar.{Referring, Comment, Instruction, Section, Single, Nested, spelling}
+use Rattle.dfdl_xml_chars.specs.Characters.{is_name_start, low_start_rows, is_name_char}
+use Rattle.dfdl_xml_chars.specs.Characters.{low_name_rows}
+use Rattle.dfdl_markup.specs.Grammar.{is_white, Plain, Named, Tag, name_characters, Content}
+use Rattle.dfdl_markup.specs.Grammar.{Nothing, Character, Referring, Comment, Instruction, Section}
+use Rattle.dfdl_markup.specs.Grammar.{Single, Nested, spelling}
 use Rattle.dfdl_markup.specs.Values.{Binding, entities}
-use Rattle.dfdl_markup.specs.Rules.{is_text, brackets, deepest, ReferenceKeeps, TagKeeps, ContentKeeps}
+use Rattle.dfdl_markup.specs.Rules.{is_text, brackets, deepest, ReferenceKeeps, TagKeeps}
+use Rattle.dfdl_markup.specs.Rules.{ContentKeeps}
 use Rattle.dfdl_markup.specs.Machine.{Ahead, MarkAhead, DeclarationAhead, NothingAhead, InContent}
-use Rattle.dfdl_markup.specs.Machine.{Place, AtContent, AtOpened, AtBang, AtQuestion, AtTagName, AtEndTag}
-use Rattle.dfdl_markup.specs.Machine.{AtReference, First, Frame, State, wanted, scope_of, may_begin}
-use Rattle.dfdl_markup.specs.Machine.{begun_by, begin_by, inside, marked, top_step, inner_step}
-use Rattle.dfdl_markup.specs.Machine.{content_step, opened_step, accepts, is_between, is_outside}
+use Rattle.dfdl_markup.specs.Machine.{Place, AtContent, AtOpened, AtBang, AtQuestion, AtTagName}
+use Rattle.dfdl_markup.specs.Machine.{AtEndTag, AtReference, First, Frame, State, wanted, scope_of}
+use Rattle.dfdl_markup.specs.Machine.{may_begin, begun_by, begin_by, inside, marked, top_step}
+use Rattle.dfdl_markup.specs.Machine.{inner_step, content_step, opened_step, accepts, is_between}
+use Rattle.dfdl_markup.specs.Machine.{is_outside}
 use Rattle.dfdl_markup.proofs.Rest.{Wrote, Close, From, Rest, brackets_at}
 use Rattle.dfdl_markup.proofs.Sound.{SoundAt, Sound, MayBegin, in_declaration}
 use Rattle.dfdl_markup.proofs.Answers.{Good, Answer, Live, Leads, Told}
-use Rattle.dfdl_markup.proofs.Closing.{close_all, close_few, grow_character, grow_reference}
-use Rattle.dfdl_markup.proofs.Closing.{grow_single, good_low, whole_of_close}
+use Rattle.dfdl_markup.proofs.Closing.{each_append, close_all, close_few, grow_character}
+use Rattle.dfdl_markup.proofs.Closing.{grow_reference, grow_single, good_text, whole_of_close}
 use Rattle.dfdl_markup.proofs.Moves.{at, malformed, reads_on, reads_ahead, reads_piece, answer_if}
 use Rattle.dfdl_markup.proofs.ContentSections.{brackets_most}
 
@@ -40,16 +42,14 @@ short_keeps n c scope start = record {
   declared = λ less. (refl, tt);
 }
 
-good_slash : Each Good (47 ∷ 62 ∷ [])
-good_slash = (good_low 47 (omega arith) (omega arith), (good_low 62 (omega arith) (omega arith), tt))
-
 -- an element that only a rule on its place forbids
 told_short : (n : ℕ) (ahead : Ahead) (begun : ℕ) (frames : List Frame) (c : ℕ) (rest : List ℕ)
-    → is_name_start c ≡ true → n ≤ 11 → Each Good rest → Close n (begun_by begun frames) frames 0 rest
+    → is_name_start c ≡ true → n ≤ 11 → Each Good rest → Close n
+    (begun_by begun frames) frames 0 rest
     → Told n (at ahead AtOpened begun frames) c
 told_short n ahead begun frames c rest start few good close = record {
   more = 47 ∷ 62 ∷ rest;
-  good = (good_slash.0, (good_slash.1.0, good));
+  good = each_append Good (47 ∷ 62 ∷ []) rest (good_text (47 ∷ 62 ∷ []) refl) good;
   from = record {
     whole = λ raw wrote.
         whole_of_close ahead n begun frames 0 (raw ++ c ∷ 47 ∷ 62 ∷ rest)
@@ -80,7 +80,8 @@ begin_answers ahead begun frames c sound start = by_frames frames sound
         told_short 10 ahead begun [] c closing.0 start (omega arith) closing.1
         (closing.2 10 (omega arith))
 
-    deeper : (frame : Frame) (frames : List Frame) → Sound (at ahead AtOpened begun (frame ∷ frames))
+    deeper : (frame : Frame) (frames : List Frame) → Sound
+        (at ahead AtOpened begun (frame ∷ frames))
         → Told 11 (at ahead AtOpened begun (frame ∷ frames)) c
     deeper frame frames sound =
         let closing = close_all begun (frame ∷ frames) 0 sound.frames sound.roots in
@@ -92,12 +93,14 @@ begin_answers ahead begun frames c sound start = by_frames frames sound
         (begin_by (may_begin begun frames) (at ahead AtOpened begun frames) c)
     by_frames [] sound =
         cond_both (begun == 0) None (Some 10)
-        (λ (o : Option ℕ). Answer (at ahead AtOpened begun []) c (begin_by o (at ahead AtOpened begun []) c))
+        (λ (o : Option ℕ). Answer (at ahead AtOpened begun []) c
+        (begin_by o (at ahead AtOpened begun []) c))
         (λ is. begins [] sound (ap (λ b. if b then None else Some 10) is))
         (λ not. (omega arith, omega arith, λ less. second sound))
     by_frames (frame ∷ frames) sound =
         cond_both (nat_lt (suc (length frames)) deepest) None (Some 11)
-        (λ (o : Option ℕ). Answer (at ahead AtOpened begun (frame ∷ frames)) c (begin_by o (at ahead AtOpened begun (frame ∷ frames)) c))
+        (λ (o : Option ℕ). Answer (at ahead AtOpened begun (frame ∷ frames)) c
+        (begin_by o (at ahead AtOpened begun (frame ∷ frames)) c))
         (λ is. begins (frame ∷ frames) sound (ap (λ b. if b then None else Some 11) is))
         (λ not. (omega arith, omega arith, λ less. deeper frame frames sound))
 
@@ -159,7 +162,8 @@ told_top ahead begun c sound opens = elim (cases_eq c 38) [
         let closing = close_few begun [] 0 sound.frames in
         record {
           more = 108 ∷ 116 ∷ 59 ∷ closing.0;
-          good = (good_low 108 (omega arith) (omega arith), (good_low 116 (omega arith) (omega arith), (good_low 59 (omega arith) (omega arith), closing.1)));
+          good = each_append Good (108 ∷ 116 ∷ 59 ∷ []) closing.0
+              (good_text (108 ∷ 116 ∷ 59 ∷ []) refl) closing.1;
           from = record {
             whole = λ raw wrote.
                 whole_of_close ahead 10 begun [] 0 (raw ++ c ∷ 108 ∷ 116 ∷ 59 ∷ closing.0)
@@ -249,10 +253,12 @@ unbracketed n depth scope before after c text rest (Character d next) marks is k
     clash e stands = cc
 unbracketed n depth scope before after c text rest (Referring reference next) marks is keeps = keeps
 unbracketed n depth scope before after c text rest (Comment inner next) marks is keeps = keeps
-unbracketed n depth scope before after c text rest (Instruction target inner next) marks is keeps = keeps
+unbracketed n depth scope before after c text rest
+    (Instruction target inner next) marks is keeps = keeps
 unbracketed n depth scope before after c text rest (Section inner next) marks is keeps = keeps
 unbracketed n depth scope before after c text rest (Single tag next) marks is keeps = keeps
-unbracketed n depth scope before after c text rest (Nested tag inner end space next) marks is keeps = keeps
+unbracketed n depth scope before after c text rest
+    (Nested tag inner end space next) marks is keeps = keeps
 
 unbracketed_close : (n begun : ℕ) (frame : Frame) (frames : List Frame) (before after c : ℕ)
     (text : List ℕ) → is_text c ≡ false → Close n begun (frame ∷ frames) after (c ∷ text)
@@ -260,7 +266,8 @@ unbracketed_close : (n begun : ℕ) (frame : Frame) (frames : List Frame) (befor
 unbracketed_close n begun frame frames before after c text marks close = record {
   content = close.content;
   keeps = unbracketed n (suc (length frames)) frame.scope before after c text
-      (60 ∷ 47 ∷ (name_characters close.name ++ (close.space ++ 62 ∷ close.rest))) close.content marks
+      (60 ∷ 47 ∷ (name_characters close.name ++ (close.space ++ 62 ∷ close.rest))) close.content
+      marks
       close.is close.keeps;
   name = close.name;
   space = close.space;
@@ -310,12 +317,14 @@ inner_answers : (ahead : Ahead) (before begun : ℕ) (frame : Frame) (frames : L
 inner_answers ahead before begun frame frames c sound =
     answer_if (at ahead (AtContent before) begun (frame ∷ frames)) c (c == 60) _ _
     (λ is. marks_answers ahead before begun frame frames c AtOpened sound
-    (ap is_text (eqb-true c 60 is) ∙ lt_marks) refl refl tt (λ n. ap (λ d. d ∷ []) (eqb-true c 60 is)))
+    (ap is_text (eqb-true c 60 is) ∙ lt_marks) refl refl tt
+    (λ n. ap (λ d. d ∷ []) (eqb-true c 60 is)))
     (λ opens. answer_if (at ahead (AtContent before) begun (frame ∷ frames)) c (c == 38) _ _
     (λ is. marks_answers ahead before begun frame frames c (AtReference InContent) sound
     (ap is_text (eqb-true c 38 is) ∙ amp_marks) refl refl tt
     (λ n. ([], refl, ap (λ d. d ∷ []) (eqb-true c 38 is))))
-    (λ refers. answer_if (at ahead (AtContent before) begun (frame ∷ frames)) c (before == 2 && c == 62) _ _
+    (λ refers. answer_if (at ahead (AtContent before) begun (frame ∷ frames)) c
+    (before == 2 && c == 62) _ _
     (λ is. malformed _ c) (λ not. stands (inner_text c opens refers) not)))
   where
     no_end : (before == 2 && c == 62) ≡ false → before ≡ 2 → c ≢ 62
@@ -361,7 +370,8 @@ content_live ahead before begun frames sound =
       from = λ n. record {
         whole = λ raw wrote.
             whole_of_close ahead n begun frames before (raw ++ closing.0)
-            (subst (Close n begun frames before) (sym (ap (λ l. l ++ closing.0) wrote)) (closing.2 n));
+            (subst (Close n begun frames before) (sym (ap (λ l. l ++ closing.0) wrote))
+            (closing.2 n));
       };
     }
 

@@ -1,7 +1,6 @@
 -- What is owed in end tags.
-use Rattle.std.proofs.Common.{◌≡◌, ℕ, ◌==◌, ◌||◌, true, false, List, []}
-use Rattle.std.proofs.Common.{◌∷◌, ◌++◌, Option, Some, None, refl, ap, sym}
-use Rattle.std.proofs.Common.{subst, ◌∙◌, arith, append_assoc, inl, inr}
+use Rattle.std.proofs.Common.{◌≡◌, ℕ, ◌==◌, ◌||◌, true, false, List, [], ◌∷◌, ◌++◌, Option, Some}
+use Rattle.std.proofs.Common.{None, refl, ap, sym, subst, ◌∙◌, arith, append_assoc, inl, inr}
 use Rattle.std.proofs.lemmas.Bool.{eqb-true, cases_Bool}
 use Rattle.std.proofs.lemmas.List.{append-nil}
 use Rattle.std.proofs.lemmas.Slice.Eq.{bytes_eq-Decides}
@@ -9,15 +8,15 @@ use Rattle.dfdl_layers.specs.Tellers.{Each}
 use Rattle.dfdl_xml_chars.specs.Characters.{is_name_start}
 use Rattle.dfdl_markup.specs.Grammar.{is_white, Name, Plain, Prefixed, name_characters}
 use Rattle.dfdl_markup.specs.Rules.{IsName, AreWhite}
-use Rattle.dfdl_markup.specs.Machine.{Ahead, NothingAhead, AtContent, AtEndTag, AtEndName, AtEndSpace}
-use Rattle.dfdl_markup.specs.Machine.{Reading, First, Colon, Second, name_next, whole_name, Frame}
-use Rattle.dfdl_markup.specs.Machine.{Place, wanted, end_next, end_tag_step, end_space_step}
-use Rattle.dfdl_markup.specs.Machine.{end_ended, end_name_or, end_name_step}
+use Rattle.dfdl_markup.specs.Machine.{Ahead, NothingAhead, AtContent, AtEndTag, AtEndName}
+use Rattle.dfdl_markup.specs.Machine.{AtEndSpace, Reading, First, Colon, Second, name_next}
+use Rattle.dfdl_markup.specs.Machine.{whole_name, Frame, Place, wanted, end_next, end_tag_step}
+use Rattle.dfdl_markup.specs.Machine.{end_space_step, end_ended, end_name_or, end_name_step}
 use Rattle.dfdl_markup.proofs.Rest.{reading_characters, IsReading, Wrote, Close, brackets_at}
 use Rattle.dfdl_markup.proofs.Sound.{SoundFrames, SoundRoots, Sound}
 use Rattle.dfdl_markup.proofs.Answers.{Good, Answer, Live, Leads, Told}
-use Rattle.dfdl_markup.proofs.Closing.{Closing, close_all, grow_end, good_low, each_append, good_of_name}
-use Rattle.dfdl_markup.proofs.Closing.{whole_of_close, start_a}
+use Rattle.dfdl_markup.proofs.Closing.{Closing, close_all, grow_end, good_low, good_text}
+use Rattle.dfdl_markup.proofs.Closing.{each_append, good_of_name, whole_of_close, start_a}
 use Rattle.dfdl_markup.proofs.Moves.{at, malformed, reads_on, answer_if, content_at}
 use Rattle.dfdl_markup.proofs.ContentSections.{each_behind}
 use Rattle.dfdl_markup.proofs.NamesRead.{next_name, read_name, EndsAs}
@@ -25,15 +24,17 @@ use Rattle.dfdl_markup.proofs.NamesRead.{next_name, read_name, EndsAs}
 good_end : Good 62
 good_end = good_low 62 (omega arith) (omega arith)
 
+roots_outside : (begun : ℕ) (frame : Frame) (frames : List Frame)
+    → SoundRoots begun (frame ∷ frames) → SoundRoots begun frames
+roots_outside begun frame [] is = omega arith
+roots_outside begun frame (other ∷ frames) is = is
+
 -- what closes the elements around the one that ends
 outside : (begun : ℕ) (frame : Frame) (frames : List Frame) → SoundFrames (frame ∷ frames)
     → SoundRoots begun (frame ∷ frames) → Closing begun frames 0
 outside begun frame frames sound roots =
-    close_all begun frames 0 (sound.0.1, omega (arith, sound.1)) (roots_outside frames roots)
-  where
-    roots_outside : (others : List Frame) → SoundRoots begun (frame ∷ others) → SoundRoots begun others
-    roots_outside [] is = omega arith
-    roots_outside (other ∷ others) is = is
+    close_all begun frames 0 (sound.0.1, omega (arith, sound.1))
+    (roots_outside begun frame frames roots)
 
 -- an end tag with another name, which only rule 4 forbids
 unlike : (ahead : Ahead) (place : Place) (begun : ℕ) (frame : Frame) (frames : List Frame) (c : ℕ)
@@ -49,8 +50,10 @@ unlike ahead place begun frame frames c name space ending sound named white good
       good = each_append Good ending closing.0 good closing.1;
       from = record {
         whole = λ raw wrote.
-            whole_of_close ahead 4 begun (frame ∷ frames) (brackets_at place) (raw ++ c ∷ (ending ++ closing.0))
-            (subst (Close 4 begun (frame ∷ frames) (brackets_at place)) (sym (same raw wrote closing.0))
+            whole_of_close ahead 4 begun (frame ∷ frames) (brackets_at place)
+            (raw ++ c ∷ (ending ++ closing.0))
+            (subst (Close 4 begun (frame ∷ frames) (brackets_at place))
+            (sym (same raw wrote closing.0))
             (grow_end 4 begun frame frames (brackets_at place) name space closing.0 named white
             (λ less. absurd (omega arith)) (closing.2 4)));
       };
@@ -86,7 +89,7 @@ made_whole (Colon prefix) = record {
   name = Prefixed prefix (97 ∷ []);
   more = 97 ∷ [];
   is = λ reading. (reading, (start_a, tt));
-  good = (good_low 97 (omega arith) (omega arith), tt);
+  good = good_text (97 ∷ []) refl;
   characters = sym (append_assoc prefix (58 ∷ []) (97 ∷ []));
 }
 made_whole (Second prefix part) = record {
@@ -108,7 +111,8 @@ next_answers : (ahead : Ahead) (place : Place) (begun : ℕ) (frame : Frame) (fr
     → raw ≡ 60 ∷ 47 ∷ front)
     → Answer (at ahead place begun (frame ∷ frames)) c
     (end_next (at ahead place begun (frame ∷ frames)) next left c)
-next_answers ahead place begun frame frames front next left c sound before reading is want wrote = by_left left want
+next_answers ahead place begun frame frames front next left c sound before reading is want wrote =
+    by_left left want
   where
     whole : MadeWhole next
     whole = made_whole next
@@ -136,7 +140,8 @@ next_answers ahead place begun frame frames front next left c sound before readi
     by_left [] want = (omega arith, omega arith, λ less. told)
     by_left (w ∷ left) want =
         answer_if (at ahead place begun (frame ∷ frames)) c (c == w) _ _
-        (λ same. reads_on ahead place (AtEndName next left) begun (frame ∷ frames) c sound before refl (
+        (λ same. reads_on ahead place (AtEndName next left) begun
+        (frame ∷ frames) c sound before refl (
           tt,
           reading,
           ap (λ l. l ++ left) is
@@ -172,7 +177,7 @@ leaves : (ahead : Ahead) (place : Place) (begun : ℕ) (frame : Frame) (frames :
 leaves ahead place begun frame frames c sound before is wrote = record {
   sound = record {
     frames = (sound.frames.0.1, omega (arith, sound.frames.1));
-    roots = roots_outside frames sound.roots;
+    roots = roots_outside begun frame frames sound.roots;
     ahead = refl;
     place = content_at begun frames;
   };
@@ -183,10 +188,6 @@ leaves ahead place begun frame frames c sound before is wrote = record {
   };
 }
   where
-    roots_outside : (others : List Frame) → SoundRoots begun (frame ∷ others) → SoundRoots begun others
-    roots_outside [] is = omega arith
-    roots_outside (other ∷ others) is = is
-
     grown : (n : ℕ) (raw text : List ℕ) → Wrote n (wanted (frame ∷ frames)) AtEndSpace raw
         → Close n begun frames 0 text
         → Close n begun (frame ∷ frames) (brackets_at place) (raw ++ c ∷ text)
@@ -197,8 +198,10 @@ leaves ahead place begun frame frames c sound before is wrote = record {
         ∙ ap (λ l. 60 ∷ 47 ∷ l)
         (append_assoc (name_characters written.0) written.1 (c ∷ text)
         ∙ ap (λ d. name_characters written.0 ++ (written.1 ++ d ∷ text)) is)))
-        (grow_end n begun frame frames (brackets_at place) written.0 written.1 text written.2 written.3
-        (λ less. (bytes_eq-Decides (name_characters written.0) (name_characters frame.name)).1 written.4)
+        (grow_end n begun frame frames (brackets_at place) written.0 written.1 text written.2
+        written.3
+        (λ less. (bytes_eq-Decides (name_characters written.0) (name_characters frame.name)).1
+        written.4)
         close)
 
 space_answers : (ahead : Ahead) (place : Place) (begun : ℕ) (frame : Frame) (frames : List Frame)
@@ -267,7 +270,8 @@ ended_answers ahead reading (w ∷ left) begun frame frames name c sound ends =
     told : (is_white c || c == 62) ≡ true
         → Told 4 (at ahead (AtEndName reading (w ∷ left)) begun (frame ∷ frames)) c
     told either = elim (cases_Bool (is_white c)) [
-      | inl white ↦ unlike ahead (AtEndName reading (w ∷ left)) begun frame frames c name (c ∷ []) (62 ∷ []) sound
+      | inl white ↦ unlike ahead (AtEndName reading (w ∷ left)) begun frame frames c name (c ∷ [])
+          (62 ∷ []) sound
           (ends.is sound.place.1) (white, tt) (good_end, tt)
           (λ raw wrote. all raw (c ∷ []) (62 ∷ []) wrote.0 refl) refl
       | inr not ↦ unlike ahead (AtEndName reading (w ∷ left)) begun frame frames c name [] [] sound
@@ -293,10 +297,12 @@ end_name_answers ahead reading left begun (frame ∷ frames) c sound good =
         (end_name_or next whole (at ahead (AtEndName reading left) begun (frame ∷ frames)) left c)
     by_next (Some next) whole is ends =
         let by = next_name reading c next is in
-        next_answers ahead (AtEndName reading left) begun frame frames (reading_characters reading) next
+        next_answers ahead (AtEndName reading left) begun frame frames
+        (reading_characters reading) next
         left c sound refl (by.is sound.place.1) by.characters sound.place.2 (λ n raw wrote. wrote.0)
     by_next None (Some name) is ends =
-        ended_answers ahead reading left begun frame frames name c sound (read_name reading name ends)
+        ended_answers ahead reading left begun frame frames name c sound
+        (read_name reading name ends)
     by_next None None is ends = malformed _ c
 
 -- what goes on from there
@@ -317,7 +323,8 @@ end_live ahead place begun frame frames left sound before good wrote =
       good = each_append Good left (62 ∷ closing.0) good (good_end, closing.1);
       from = λ n. record {
         whole = λ raw written.
-            whole_of_close ahead n begun (frame ∷ frames) (brackets_at place) (raw ++ (left ++ 62 ∷ closing.0))
+            whole_of_close ahead n begun (frame ∷ frames) (brackets_at place)
+            (raw ++ (left ++ 62 ∷ closing.0))
             (grown n raw closing.0 (wrote n raw written) (closing.2 n));
       };
     }
@@ -334,8 +341,10 @@ end_live ahead place begun frame frames left sound before good wrote =
         (sym (append_assoc raw left (62 ∷ text))
         ∙ (ap (λ l. l ++ 62 ∷ text) written.5
         ∙ ap (λ l. 60 ∷ 47 ∷ l) (append_assoc (name_characters written.0) written.1 (62 ∷ text)))))
-        (grow_end n begun frame frames (brackets_at place) written.0 written.1 text written.2 written.3
-        (λ less. (bytes_eq-Decides (name_characters written.0) (name_characters frame.name)).1 written.4)
+        (grow_end n begun frame frames (brackets_at place) written.0 written.1 text written.2
+        written.3
+        (λ less. (bytes_eq-Decides (name_characters written.0) (name_characters frame.name)).1
+        written.4)
         close)
 
 pub end_tag_live : (ahead : Ahead) (begun : ℕ) (frames : List Frame)

@@ -1,7 +1,6 @@
 -- What is owed in processing instructions.
-use Rattle.std.proofs.Common.{◌≡◌, ◌≢◌, ℕ, ◌==◌, ◌&&◌, Bool, true, false, List, []}
-use Rattle.std.proofs.Common.{◌∷◌, ◌++◌, None, refl, ap, sym, subst, ◌∙◌, arith}
-use Rattle.std.proofs.Common.{append_assoc, inl, inr}
+use Rattle.std.proofs.Common.{◌≡◌, ◌≢◌, ℕ, ◌==◌, ◌&&◌, Bool, true, false, List, [], ◌∷◌, ◌++◌, None}
+use Rattle.std.proofs.Common.{refl, ap, sym, subst, ◌∙◌, arith, append_assoc, inl, inr}
 use Rattle.std.proofs.lemmas.Bool.{eqb-true, cases_eq, and_parts}
 use Rattle.std.proofs.lemmas.Bool.Decides.{nat_tests}
 use Rattle.std.proofs.lemmas.Slice.Eq.{bytes_eq-Decides}
@@ -10,14 +9,14 @@ use Rattle.dfdl_xml_chars.specs.Characters.{is_name_start, is_name_char, low_sta
 use Rattle.dfdl_xml_chars.specs.Characters.{low_name_rows}
 use Rattle.dfdl_markup.specs.Grammar.{is_white, xml_word}
 use Rattle.dfdl_markup.specs.Rules.{IsPart, IsInstructionText, HasNoMark, is_xml}
-use Rattle.dfdl_markup.specs.Machine.{Ahead, MarkAhead, DeclarationAhead, NothingAhead}
-use Rattle.dfdl_markup.specs.Machine.{AtQuestion, AtTarget, AtTargetEnd, AtInstruction, AtDeclaration}
-use Rattle.dfdl_markup.specs.Machine.{Frame, wanted, may_declare, target_ended, question_step}
-use Rattle.dfdl_markup.specs.Machine.{target_step, target_end_step, instruction_step}
+use Rattle.dfdl_markup.specs.Machine.{Ahead, MarkAhead, DeclarationAhead, NothingAhead, AtQuestion}
+use Rattle.dfdl_markup.specs.Machine.{AtTarget, AtTargetEnd, AtInstruction, AtDeclaration, Frame}
+use Rattle.dfdl_markup.specs.Machine.{wanted, may_declare, target_ended, question_step, target_step}
+use Rattle.dfdl_markup.specs.Machine.{target_end_step, instruction_step}
 use Rattle.dfdl_markup.proofs.Rest.{mark_behind, WroteNone, Wrote, Close}
 use Rattle.dfdl_markup.proofs.Sound.{SoundAhead, Sound}
 use Rattle.dfdl_markup.proofs.Answers.{Good, Answer, Live, Leads}
-use Rattle.dfdl_markup.proofs.Closing.{close_all, start_a, grow_instruction, good_low, moves_on}
+use Rattle.dfdl_markup.proofs.Closing.{close_all, start_a, grow_instruction, good_text, moves_on}
 use Rattle.dfdl_markup.proofs.Moves.{at, malformed, reads_on, reads_ahead, reads_piece, live_piece}
 use Rattle.dfdl_markup.proofs.Moves.{answer_if}
 use Rattle.dfdl_markup.proofs.NamesRead.{part_on}
@@ -104,7 +103,8 @@ pub question_answers : (ahead : Ahead) (begun : ℕ) (frames : List Frame) (c : 
 unfolding question_step
 question_answers ahead begun frames c sound good =
     answer_if (at ahead AtQuestion begun frames) c (is_name_start c) _ _
-    (λ is. reads_ahead ahead AtQuestion (AtTarget (c ∷ [])) begun frames c sound refl refl refl (is, tt)
+    (λ is. reads_ahead ahead AtQuestion (AtTarget (c ∷ [])) begun frames c sound refl refl refl
+    (is, tt)
     (λ n raw wrote. (ap (λ l. l ++ c ∷ []) wrote, (is, tt)))) (λ not. malformed _ c)
 
 -- in a target
@@ -123,7 +123,12 @@ declares_itself ahead target begun frames c sound may is white = record {
     place = tt;
   };
   back = moves_on (at ahead (AtTarget target) begun frames) (AtDeclaration None true) c refl
-      (λ n raw wrote. (c ∷ [], WroteNone (c ∷ []) (same raw wrote.0), (white, tt), λ spaced. omega arith));
+      (λ n raw wrote. (
+        c ∷ [],
+        WroteNone (c ∷ []) (same raw wrote.0),
+        (white, tt),
+        λ spaced. omega arith,
+      ));
 }
   where
     same : (raw : List ℕ) → raw ≡ 60 ∷ 63 ∷ target
@@ -149,7 +154,8 @@ ended_answers ahead target begun frames c sound white =
     (λ both. let parts = and_parts (may_declare ahead) (bytes_eq target xml_word) both in
     declares_itself ahead target begun frames c sound parts.0
     ((bytes_eq-Decides target xml_word).0 parts.1) white) (λ not. malformed _ c))
-    (λ other. reads_on ahead (AtTarget target) (AtInstruction false) begun frames c sound refl refl tt
+    (λ other. reads_on ahead (AtTarget target) (AtInstruction false) begun frames c sound refl refl
+    tt
     (λ n raw wrote. (
       target,
       c ∷ [],
@@ -166,7 +172,8 @@ pub target_answers : (ahead : Ahead) (target : List ℕ) (begun : ℕ) (frames :
 unfolding target_step
 target_answers ahead target begun frames c sound good =
     answer_if (at ahead (AtTarget target) begun frames) c (is_name_char c) _ _
-    (λ is. reads_ahead ahead (AtTarget target) (AtTarget (target ++ c ∷ [])) begun frames c sound refl refl refl
+    (λ is. reads_ahead ahead (AtTarget target) (AtTarget (target ++ c ∷ [])) begun frames c sound
+    refl refl refl
     (part_on target c sound.place is)
     (λ n raw wrote. (ap (λ l. l ++ c ∷ []) wrote.0, part_on target c wrote.1 is)))
     (λ no_char. answer_if (at ahead (AtTarget target) begun frames) c (is_white c) _ _
@@ -202,7 +209,8 @@ unfolding target_end_step
 target_end_answers ahead begun frames c sound good =
     answer_if (at ahead AtTargetEnd begun frames) c (c == 62) _ _
     (λ is. reads_piece ahead AtTargetEnd begun frames c sound
-    (λ n raw rest wrote close. target_ends n begun frames raw rest c (eqb-true c 62 is) wrote close))
+    (λ n raw rest wrote close. target_ends n begun frames raw rest c
+    (eqb-true c 62 is) wrote close))
     (λ not. malformed _ c)
 
 -- in the text
@@ -236,7 +244,8 @@ instruction_answers ahead mark begun frames c sound good =
     (λ n raw rest wrote close.
     text_ends n begun frames raw rest c (eqb-true c 62 parts.1)
     (subst (λ m. Wrote n (wanted frames) (AtInstruction m) raw) parts.0 wrote) close))
-    (λ not. reads_on ahead (AtInstruction mark) (AtInstruction (c == 63)) begun frames c sound refl refl tt
+    (λ not. reads_on ahead (AtInstruction mark) (AtInstruction (c == 63)) begun frames c sound refl
+    refl tt
     (λ n raw wrote. (
       wrote.0,
       wrote.1 ++ c ∷ [],
@@ -258,15 +267,6 @@ instruction_answers ahead mark begun frames c sound good =
 
 -- what goes on from there
 
-good_mark : Good 63
-good_mark = good_low 63 (omega arith) (omega arith)
-
-good_end : Good 62
-good_end = good_low 62 (omega arith) (omega arith)
-
-good_a : Good 97
-good_a = good_low 97 (omega arith) (omega arith)
-
 a_goes_on : is_name_char 97 ≡ true
 unfolding is_name_char low_name_rows low_start_rows
 a_goes_on = refl
@@ -283,7 +283,8 @@ not_xml (x ∷ m ∷ l ∷ d ∷ target) = refl
 pub question_live : (ahead : Ahead) (begun : ℕ) (frames : List Frame)
     → Sound (at ahead AtQuestion begun frames) → Live (at ahead AtQuestion begun frames)
 question_live ahead begun frames sound =
-    live_piece ahead AtQuestion begun frames (97 ∷ 63 ∷ 62 ∷ []) (good_a, (good_mark, (good_end, tt)))
+    live_piece ahead AtQuestion begun frames (97 ∷ 63 ∷ 62 ∷ [])
+    (good_text (97 ∷ 63 ∷ 62 ∷ []) refl)
     (close_all begun frames 0 sound.frames sound.roots)
     (λ n raw rest wrote close.
     instruction_ends n begun frames raw (97 ∷ []) [] (97 ∷ 63 ∷ 62 ∷ []) rest (start_a, tt)
@@ -293,7 +294,8 @@ pub target_live : (ahead : Ahead) (target : List ℕ) (begun : ℕ) (frames : Li
     → Sound (at ahead (AtTarget target) begun frames)
     → Live (at ahead (AtTarget target) begun frames)
 target_live ahead target begun frames sound =
-    live_piece ahead (AtTarget target) begun frames (97 ∷ 63 ∷ 62 ∷ []) (good_a, (good_mark, (good_end, tt)))
+    live_piece ahead (AtTarget target) begun frames (97 ∷ 63 ∷ 62 ∷ [])
+    (good_text (97 ∷ 63 ∷ 62 ∷ []) refl)
     (close_all begun frames 0 sound.frames sound.roots)
     (λ n raw rest wrote close.
     instruction_ends n begun frames raw (target ++ 97 ∷ []) [] (97 ∷ 63 ∷ 62 ∷ []) rest
@@ -304,7 +306,7 @@ target_live ahead target begun frames sound =
 pub target_end_live : (ahead : Ahead) (begun : ℕ) (frames : List Frame)
     → Sound (at ahead AtTargetEnd begun frames) → Live (at ahead AtTargetEnd begun frames)
 target_end_live ahead begun frames sound =
-    live_piece ahead AtTargetEnd begun frames (62 ∷ []) (good_end, tt)
+    live_piece ahead AtTargetEnd begun frames (62 ∷ []) (good_text (62 ∷ []) refl)
     (close_all begun frames 0 sound.frames sound.roots)
     (λ n raw rest wrote close. target_ends n begun frames raw rest 62 refl wrote close)
 
@@ -312,7 +314,8 @@ pub instruction_live : (ahead : Ahead) (mark : Bool) (begun : ℕ) (frames : Lis
     → Sound (at ahead (AtInstruction mark) begun frames)
     → Live (at ahead (AtInstruction mark) begun frames)
 instruction_live ahead mark begun frames sound =
-    live_piece ahead (AtInstruction mark) begun frames (63 ∷ 62 ∷ []) (good_mark, (good_end, tt))
+    live_piece ahead (AtInstruction mark) begun frames (63 ∷ 62 ∷ [])
+    (good_text (63 ∷ 62 ∷ []) refl)
     (close_all begun frames 0 sound.frames sound.roots)
     (λ n raw rest wrote close.
     instruction_ends n begun frames raw wrote.0 wrote.1 (63 ∷ 62 ∷ []) rest wrote.2 wrote.3

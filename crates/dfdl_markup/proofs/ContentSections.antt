@@ -1,6 +1,7 @@
 -- What is owed in CDATA sections.
 use Rattle.std.proofs.Common.{◌≡◌, ◌≢◌, ℕ, zero, suc, ◌==◌, ◌&&◌, ◌<◌, ◌≤◌, true, false, List, []}
-use Rattle.std.proofs.Common.{if◌then◌else◌, ◌∷◌, ◌++◌, length, refl, ap, sym, subst, ◌∙◌, arith, append_assoc, inl, inr}
+use Rattle.std.proofs.Common.{if◌then◌else◌, ◌∷◌, ◌++◌, length, refl, ap, sym, subst, ◌∙◌, arith}
+use Rattle.std.proofs.Common.{append_assoc, inl, inr}
 use Rattle.std.proofs.lemmas.Bool.{eqb-true, cases_eq, and_parts}
 use Rattle.std.proofs.lemmas.Bool.Decides.{nat_tests}
 use Rattle.std.proofs.lemmas.List.{append-nil}
@@ -12,7 +13,7 @@ use Rattle.dfdl_markup.specs.Machine.{section_word_step, section_step, section_l
 use Rattle.dfdl_markup.proofs.Rest.{brackets_behind, Wrote, Close}
 use Rattle.dfdl_markup.proofs.Sound.{Sound, IsInside}
 use Rattle.dfdl_markup.proofs.Answers.{Good, Answer, Live, Leads}
-use Rattle.dfdl_markup.proofs.Closing.{close_all, grow_section, good_low, each_append}
+use Rattle.dfdl_markup.proofs.Closing.{close_all, grow_section, good_text, each_append}
 use Rattle.dfdl_markup.proofs.Moves.{at, malformed, reads_on, reads_piece, live_piece, answer_if}
 
 -- the text of a section
@@ -58,7 +59,8 @@ two_ended : (before : ℕ) (text : List ℕ) → before ≤ 2 → brackets_behin
 two_ended before [] most two =
     record { front = []; is = ap (λ n. brackets_of n ++ []) two }
 two_ended before (c ∷ text) most two = elim (cases_eq c 93) [
-  | inl is ↦ closing before most is (two_ended (brackets before c) text (brackets_most before c) two)
+  | inl is ↦ closing before most is (two_ended (brackets before c) text
+      (brackets_most before c) two)
   | inr not ↦ other (brackets_else before c not)
       (two_ended (brackets before c) text (brackets_most before c) two)
 ]
@@ -131,8 +133,16 @@ word_answers ahead w [] begun frames c sound is =
           (ap (λ d. wrote.0 ++ d ∷ []) is ∙ (wrote.1 ∙ sym (append-nil section_word))),
     ))
 word_answers ahead w (v ∷ left) begun frames c sound is =
-    reads_on ahead (AtSectionWord (w ∷ v ∷ left)) (AtSectionWord (v ∷ left)) begun frames c sound refl refl
-    (sound.place.0, (sound.place.1.0 ++ w ∷ [], append_assoc sound.place.1.0 (w ∷ []) (v ∷ left) ∙ sound.place.1.1), omega arith)
+    reads_on ahead (AtSectionWord (w ∷ v ∷ left)) (AtSectionWord (v ∷ left)) begun frames c sound
+    refl refl (
+      sound.place.0,
+      (
+        sound.place.1.0 ++ w ∷ [],
+        append_assoc sound.place.1.0 (w ∷ []) (v ∷ left)
+            ∙ sound.place.1.1,
+      ),
+      omega arith,
+    )
     (λ n raw wrote. (
       wrote.0 ++ w ∷ [],
       append_assoc wrote.0 (w ∷ []) (v ∷ left) ∙ wrote.1,
@@ -161,7 +171,8 @@ section_answers ahead before begun frames c sound good =
     answer_if (at ahead (AtSection before) begun frames) c (before == 2 && c == 62) _ _
     (λ is. reads_piece ahead (AtSection before) begun frames c sound
     (λ n raw rest wrote close. ended n raw rest (and_parts (before == 2) (c == 62) is) wrote close))
-    (λ not. reads_on ahead (AtSection before) (AtSection (brackets before c)) begun frames c sound refl refl
+    (λ not. reads_on ahead (AtSection before) (AtSection (brackets before c)) begun frames c sound
+    refl refl
     (sound.place.0, brackets_most before c)
     (λ n raw wrote. (
       wrote.0 ++ c ∷ [],
@@ -198,14 +209,14 @@ section_answers ahead before begun frames c sound good =
 
 good_word : Each Good section_word
 unfolding section_word
-good_word = (good_low 67 (omega arith) (omega arith), (good_low 68 (omega arith) (omega arith), (good_low 65 (omega arith) (omega arith), (good_low 84 (omega arith) (omega arith), (good_low 65 (omega arith) (omega arith), (good_low 91 (omega arith) (omega arith), tt))))))
+good_word = good_text section_word refl
 
 pub each_behind : (P : ℕ → Type 0) (front rest : List ℕ) → Each P (front ++ rest) → Each P rest
 each_behind P [] rest each = each
 each_behind P (c ∷ front) rest each = each_behind P front rest each.1
 
 good_brackets : Each Good (93 ∷ 93 ∷ 62 ∷ [])
-good_brackets = (good_low 93 (omega arith) (omega arith), (good_low 93 (omega arith) (omega arith), (good_low 62 (omega arith) (omega arith), tt)))
+good_brackets = good_text (93 ∷ 93 ∷ 62 ∷ []) refl
 
 pub section_live : (ahead : Ahead) (before begun : ℕ) (frames : List Frame)
     → Sound (at ahead (AtSection before) begun frames)
@@ -223,7 +234,8 @@ pub section_word_live : (ahead : Ahead) (left : List ℕ) (begun : ℕ) (frames 
     → Live (at ahead (AtSectionWord left) begun frames)
 section_word_live ahead left begun frames sound =
     live_piece ahead (AtSectionWord left) begun frames (left ++ 93 ∷ 93 ∷ 62 ∷ [])
-    (each_append Good left (93 ∷ 93 ∷ 62 ∷ []) (each_behind Good sound.place.1.0 left (subst (Each Good) (sym sound.place.1.1) good_word)) good_brackets)
+    (each_append Good left (93 ∷ 93 ∷ 62 ∷ []) (each_behind Good sound.place.1.0 left
+    (subst (Each Good) (sym sound.place.1.1) good_word)) good_brackets)
     (close_all begun frames 0 sound.frames sound.roots)
     (λ n raw rest wrote close.
     section_ends n begun frames raw [] (left ++ 93 ∷ 93 ∷ 62 ∷ []) rest sound.place.0 tt

@@ -1,13 +1,12 @@
 -- Answers of steps that read on in a piece of markup, refuse for its form, or are behind it.
-use Rattle.std.proofs.Common.{◌≡◌, ℕ, Bool, true, false, List, [], ◌∷◌, ◌++◌}
-use Rattle.std.proofs.Common.{if◌then◌else◌, Result, Err, refl, arith}
+use Rattle.std.proofs.Common.{◌≡◌, ℕ, Bool, true, false, List, [], ◌∷◌, ◌++◌, if◌then◌else◌, Result}
+use Rattle.std.proofs.Common.{Err, refl, arith}
 use Rattle.std.proofs.lemmas.Bool.{cond_both}
 use Rattle.dfdl_layers.specs.Tellers.{Each}
 use Rattle.dfdl_markup.specs.Machine.{Ahead, MarkAhead, DeclarationAhead, NothingAhead, Place}
 use Rattle.dfdl_markup.specs.Machine.{AtContent, Frame, State, wanted}
 use Rattle.dfdl_markup.proofs.Rest.{Wrote, Close, brackets_at}
-use Rattle.dfdl_markup.proofs.Sound.{SoundAt, SoundAhead, Sound}
-use Rattle.dfdl_markup.proofs.Sound.{in_declaration, before_declaration}
+use Rattle.dfdl_markup.proofs.Sound.{SoundAt, SoundAhead, Sound, in_declaration, before_declaration}
 use Rattle.dfdl_markup.proofs.Answers.{Good, Leads, Live, Answer}
 use Rattle.dfdl_markup.proofs.Closing.{Closing, whole_of_close, moves, moves_on, each_append}
 

@@ -9,6 +9,9 @@ use Rattle.dfdl_markup.specs.Machine.{Reading, First, Colon, Second, name_next, 
 use Rattle.dfdl_markup.proofs.Rest.{reading_characters, IsReading}
 use Rattle.dfdl_markup.proofs.Closing.{each_append}
 
+some_is : {A : Type 0} (a b : A) → Some a ≡ Some b → a ≡ b
+some_is a b e = cc
+
 -- one more character of a part
 pub part_on : (part : List ℕ) (c : ℕ) → IsPart part → is_name_char c ≡ true
     → IsPart (part ++ c ∷ [])
@@ -28,40 +31,35 @@ next_name (First part) c next =
     cond_both (is_name_char c) (Some (First (part ++ c ∷ [])))
     (if c == 58 then Some (Colon part) else None)
     (λ (o : Option Reading). o ≡ Some next → GoesOnBy (First part) c next)
-    (λ char is. subst (GoesOnBy (First part) c) (some_is is)
+    (λ char is. subst (GoesOnBy (First part) c) (some_is _ _ is)
     (record { characters = refl; is = λ reading. part_on part c reading char }))
     (λ char. cond_both (c == 58) (Some (Colon part)) None
     (λ (o : Option Reading). o ≡ Some next → GoesOnBy (First part) c next)
-    (λ colon is. subst (GoesOnBy (First part) c) (some_is is)
-    (record { characters = ap (λ d. part ++ d ∷ []) (sym (eqb-true c 58 colon)); is = λ reading. reading }))
+    (λ colon is. subst (GoesOnBy (First part) c) (some_is _ _ is)
+    (record {
+      characters = ap (λ d. part ++ d ∷ [])
+          (sym (eqb-true c 58 colon));
+      is = λ reading. reading;
+    }))
     (λ colon is. absurd (cc)))
-  where
-    some_is : {a : Reading} → Some a ≡ Some next → a ≡ next
-    some_is e = cc
 next_name (Colon prefix) c next =
     cond_both (is_name_start c) (Some (Second prefix (c ∷ []))) None
     (λ (o : Option Reading). o ≡ Some next → GoesOnBy (Colon prefix) c next)
-    (λ start is. subst (GoesOnBy (Colon prefix) c) (some_is is)
+    (λ start is. subst (GoesOnBy (Colon prefix) c) (some_is _ _ is)
     (record {
       characters = sym (append_assoc prefix (58 ∷ []) (c ∷ []));
       is = λ reading. (reading, (start, tt));
     }))
     (λ start is. absurd (cc))
-  where
-    some_is : {a : Reading} → Some a ≡ Some next → a ≡ next
-    some_is e = cc
 next_name (Second prefix part) c next =
     cond_both (is_name_char c) (Some (Second prefix (part ++ c ∷ []))) None
     (λ (o : Option Reading). o ≡ Some next → GoesOnBy (Second prefix part) c next)
-    (λ char is. subst (GoesOnBy (Second prefix part) c) (some_is is)
+    (λ char is. subst (GoesOnBy (Second prefix part) c) (some_is _ _ is)
     (record {
       characters = sym (append_assoc prefix (58 ∷ part) (c ∷ []));
       is = λ reading. (reading.0, part_on part c reading.1 char);
     }))
     (λ char is. absurd (cc))
-  where
-    some_is : {a : Reading} → Some a ≡ Some next → a ≡ next
-    some_is e = cc
 
 -- the name that was read whole
 pub record EndsAs (reading : Reading) (name : Name) : Type 0 where
@@ -71,14 +69,9 @@ pub record EndsAs (reading : Reading) (name : Name) : Type 0 where
 pub read_name : (reading : Reading) (name : Name) → whole_name reading ≡ Some name
     → EndsAs reading name
 read_name (First part) name is =
-    subst (EndsAs (First part)) (some_is is) (record { characters = refl; is = λ reading. reading })
-  where
-    some_is : {a : Name} → Some a ≡ Some name → a ≡ name
-    some_is e = cc
+    subst (EndsAs (First part)) (some_is _ _ is) (record
+    { characters = refl; is = λ reading. reading })
 read_name (Colon prefix) name is = absurd (cc)
 read_name (Second prefix part) name is =
-    subst (EndsAs (Second prefix part)) (some_is is)
+    subst (EndsAs (Second prefix part)) (some_is _ _ is)
     (record { characters = refl; is = λ reading. reading })
-  where
-    some_is : {a : Name} → Some a ≡ Some name → a ≡ name
-    some_is e = cc

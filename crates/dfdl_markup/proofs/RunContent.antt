@@ -73,12 +73,15 @@ allows_inner : (n begun : ℕ) (frame : Frame) (frames : List Frame)
     → (11 < n → suc (length frames) < deepest) → Allows n (may_begin begun (frame ∷ frames))
 allows_inner n begun frame frames shallow = by (cases_Bool (nat_lt (suc (length frames)) deepest))
   where
-    by : (nat_lt (suc (length frames)) deepest ≡ true) ⊎ (nat_lt (suc (length frames)) deepest ≡ false)
+    by : (nat_lt (suc (length frames)) deepest ≡ true)
+        ⊎ (nat_lt (suc (length frames)) deepest ≡ false)
         → Allows n (may_begin begun (frame ∷ frames))
-    by (inl e) = subst (Allows n) (sym (if_true (nat_lt (suc (length frames)) deepest) None (Some 11) e)) tt
+    by (inl e) = subst (Allows n)
+        (sym (if_true (nat_lt (suc (length frames)) deepest) None (Some 11) e)) tt
     by (inr e) =
         subst (Allows n) (sym (if_false (nat_lt (suc (length frames)) deepest) None (Some 11) e))
-        (not_under n 11 (λ less. both_ways _ e (lt-ltb (suc (length frames)) deepest (shallow less))))
+        (not_under n 11 (λ less. both_ways _ e
+        (lt-ltb (suc (length frames)) deepest (shallow less))))
 
 -- what an element in a content owes: it may begin, and the rest has its root
 record Begins (n : ℕ) (frames : List Frame) (begun : ℕ) (all next : Content) : Type 0 where
@@ -144,10 +147,13 @@ nested_text tag inner end space next tail = simp append_assoc
 module _ (n : ℕ) where
   -- with another count of roots that is the same
   carried : (frames : List Frame) (tail : List ℕ) {m k : ℕ} → m ≡ k
-      → ((ahead : Ahead) (before : ℕ) → Ends n (run step (state ahead (AtContent before) k frames) tail))
-      → (ahead : Ahead) (before : ℕ) → Ends n (run step (state ahead (AtContent before) m frames) tail)
+      → ((ahead : Ahead) (before : ℕ)
+      → Ends n (run step (state ahead (AtContent before) k frames) tail))
+      → (ahead : Ahead) (before : ℕ)
+      → Ends n (run step (state ahead (AtContent before) m frames) tail)
   carried frames tail same ends ahead before =
-      subst (λ r. Ends n (run step (state ahead (AtContent before) r frames) tail)) (sym same) (ends ahead before)
+      subst (λ r. Ends n (run step (state ahead (AtContent before) r frames) tail)) (sym same)
+      (ends ahead before)
 
   -- `<`
   less_runs : (ahead : Ahead) (begun : ℕ) (frames : List Frame) (before : ℕ) (text : List ℕ)
@@ -162,7 +168,8 @@ module _ (n : ℕ) where
       → is_white c ≡ false
       → ((ahead : Ahead) → brackets before c ≡ 0
       → Ends n (run step (state ahead (AtContent 0) begun []) text))
-      → After n (if c == 0xFEFF then marked (state ahead (AtContent before) begun []) ahead else Err 10) text
+      → After n (if c == 0xFEFF then marked
+      (state ahead (AtContent before) begun []) ahead else Err 10) text
   top_other ahead begun before c text white no_white ends =
       at_test n text (c == 0xFEFF) _ _
       (λ e. by ahead (subst (λ d. brackets before d ≡ 0) (sym (eqb-true c 0xFEFF e)) refl))
@@ -204,7 +211,8 @@ module _ (n : ℕ) where
   referring_runs : (ahead : Ahead) (begun : ℕ) (frames : List Frame) (before : ℕ)
       (reference : Reference) (tail : List ℕ) → ReferenceKeeps n reference
       → (10 < n → 0 < length frames) → RunsFrom n begun frames (AtContent 0) tail
-      → Ends n (run step (state ahead (AtContent before) begun frames) (reference_characters reference ++ tail))
+      → Ends n (run step (state ahead (AtContent before) begun frames)
+      (reference_characters reference ++ tail))
   unfolding step content_step is_white
   referring_runs ahead begun [] before reference tail keeps inside ends =
       not_under n 10 (λ less. absurd (omega (arith, inside less)))
@@ -235,14 +243,16 @@ module _ (n : ℕ) where
   bang_section begun (frame ∷ frames) text inside ends = ends
 
   -- a content, and what follows it
-  pub content_runs : (content : Content) (ahead : Ahead) (begun : ℕ) (frames : List Frame) (before : ℕ)
+  pub content_runs : (content : Content) (ahead : Ahead) (begun : ℕ) (frames : List Frame)
+      (before : ℕ)
       (tail : List ℕ) → ContentKeeps n (length frames) (scope_of frames) before content
       → HasRoot n frames begun content
       → ((ahead : Ahead) (before : ℕ)
       → Ends n (run step (state ahead (AtContent before) (total frames begun content) frames) tail))
       → Ends n (run step (state ahead (AtContent before) begun frames) (spelling content ++ tail))
   content_runs Nothing ahead begun frames before tail keeps root ends =
-      subst (λ m. Ends n (run step (state ahead (AtContent before) m frames) tail)) (none_more frames begun)
+      subst (λ m. Ends n (run step (state ahead (AtContent before) m frames) tail))
+      (none_more frames begun)
       (ends ahead before)
   content_runs (Character c next) ahead begun [] before tail keeps root ends =
       top_runs ahead begun before c (spelling next ++ tail) keeps.0 (λ less. keeps.2 less refl)
@@ -250,57 +260,71 @@ module _ (n : ℕ) where
       (subst (λ b. ContentKeeps n 0 (scope_of []) b next) none keeps.3) root ends)
   content_runs (Character c next) ahead begun (frame ∷ frames) before tail keeps root ends =
       goes n (state ahead (AtContent before) begun (frame ∷ frames))
-      (state NothingAhead (AtContent (brackets before c)) begun (frame ∷ frames)) c (spelling next ++ tail)
+      (state NothingAhead (AtContent (brackets before c)) begun (frame ∷ frames)) c
+      (spelling next ++ tail)
       (inner_runs ahead begun frame frames before c keeps.0 keeps.1)
-      (content_runs next NothingAhead begun (frame ∷ frames) (brackets before c) tail keeps.3 tt ends)
+      (content_runs next NothingAhead begun (frame ∷ frames)
+      (brackets before c) tail keeps.3 tt ends)
   content_runs (Referring reference next) ahead begun frames before tail keeps root ends =
       let rest = carries n frames begun (Referring reference next) next refl root in
       subst (λ l. Ends n (run step (state ahead (AtContent before) begun frames) l))
       (sym (append_assoc (reference_characters reference) (spelling next) tail))
       (referring_runs ahead begun frames before reference (spelling next ++ tail) keeps.0 keeps.1
-      (content_runs next NothingAhead begun frames 0 tail keeps.2 rest.root (carried frames tail rest.same ends)))
+      (content_runs next NothingAhead begun frames 0 tail keeps.2 rest.root
+      (carried frames tail rest.same ends)))
   content_runs (Comment text next) ahead begun frames before tail keeps root ends =
       let rest = carries n frames begun (Comment text next) next refl root in
       let behind = text ++ 45 ∷ 45 ∷ 62 ∷ (spelling next ++ tail) in
-      subst (λ l. Ends n (run step (state ahead (AtContent before) begun frames) (60 ∷ 33 ∷ 45 ∷ 45 ∷ l)))
+      subst (λ l. Ends n (run step (state ahead (AtContent before) begun frames)
+      (60 ∷ 33 ∷ 45 ∷ 45 ∷ l)))
       (sym (append_assoc text (45 ∷ 45 ∷ 62 ∷ spelling next) tail))
       (less_runs ahead begun frames before (33 ∷ 45 ∷ 45 ∷ behind)
       (λ a. opened_bang a begun frames (45 ∷ 45 ∷ behind)
       (comment_runs n begun frames text (spelling next ++ tail) keeps.0
-      (content_runs next NothingAhead begun frames 0 tail keeps.1 rest.root (carried frames tail rest.same ends)))))
+      (content_runs next NothingAhead begun frames 0 tail keeps.1 rest.root
+      (carried frames tail rest.same ends)))))
   content_runs (Instruction target text next) ahead begun frames before tail keeps root ends =
       let rest = carries n frames begun (Instruction target text next) next refl root in
       subst (λ l. Ends n (run step (state ahead (AtContent before) begun frames) (60 ∷ 63 ∷ l)))
       (sym (instruction_text target text (63 ∷ 62 ∷ spelling next) tail))
-      (less_runs ahead begun frames before (63 ∷ (target ++ (text ++ 63 ∷ 62 ∷ (spelling next ++ tail))))
+      (less_runs ahead begun frames before
+      (63 ∷ (target ++ (text ++ 63 ∷ 62 ∷ (spelling next ++ tail))))
       (λ a. opened_question a begun frames (target ++ (text ++ 63 ∷ 62 ∷ (spelling next ++ tail)))
       (instruction_runs n begun frames a target text (spelling next ++ tail) keeps.0 keeps.1
-      (content_runs next NothingAhead begun frames 0 tail keeps.2 rest.root (carried frames tail rest.same ends)))))
+      (content_runs next NothingAhead begun frames 0 tail keeps.2 rest.root
+      (carried frames tail rest.same ends)))))
   content_runs (Section text next) ahead begun frames before tail keeps root ends =
       let rest = carries n frames begun (Section text next) next refl root in
       let behind = section_word ++ (text ++ 93 ∷ 93 ∷ 62 ∷ (spelling next ++ tail)) in
-      subst (λ l. Ends n (run step (state ahead (AtContent before) begun frames) (60 ∷ 33 ∷ 91 ∷ l)))
+      subst (λ l. Ends n (run step (state ahead (AtContent before) begun frames)
+      (60 ∷ 33 ∷ 91 ∷ l)))
       (sym (instruction_text section_word text (93 ∷ 93 ∷ 62 ∷ spelling next) tail))
       (less_runs ahead begun frames before (33 ∷ 91 ∷ behind)
       (λ a. opened_bang a begun frames (91 ∷ behind) (bang_section begun frames behind keeps.0
       (section_runs n begun frames text (spelling next ++ tail) keeps.1
-      (content_runs next NothingAhead begun frames 0 tail keeps.2 rest.root (carried frames tail rest.same ends))))))
+      (content_runs next NothingAhead begun frames 0 tail keeps.2 rest.root
+      (carried frames tail rest.same ends))))))
   content_runs (Single tag next) ahead begun frames before tail keeps root ends =
       let rest = begins_single n frames begun tag next root keeps.1 in
       subst (λ l. Ends n (run step (state ahead (AtContent before) begun frames) (60 ∷ l)))
       (sym (append_assoc (tag_characters tag) (47 ∷ 62 ∷ spelling next) tail))
       (less_runs ahead begun frames before (tag_characters tag ++ 47 ∷ 62 ∷ (spelling next ++ tail))
       (λ a. passed_runs n begun frames a tag (spelling next ++ tail) keeps.0 rest.allows
-      (content_runs next NothingAhead (begun_by begun frames) frames 0 tail keeps.2 rest.root (carried frames tail rest.same ends))))
+      (content_runs next NothingAhead (begun_by begun frames) frames 0 tail keeps.2 rest.root
+      (carried frames tail rest.same ends))))
   content_runs (Nested tag inner end space next) ahead begun frames before tail keeps root ends =
       let rest = begins_nested n frames begun tag inner end space next root keeps.1 in
       let start : StartTag = record { name = tag.name; attributes = attributes_of tag } in
       let last = spelling next ++ tail in
       let ending = 60 ∷ 47 ∷ (name_characters end ++ (space ++ 62 ∷ last)) in
       subst (λ l. Ends n (run step (state ahead (AtContent before) begun frames) (60 ∷ l)))
-      (sym (nested_text (tag_characters tag) (spelling inner) (name_characters end) space (spelling next) tail))
+      (sym (nested_text (tag_characters tag) (spelling inner) (name_characters end) space
+      (spelling next) tail))
       (less_runs ahead begun frames before (tag_characters tag ++ 62 ∷ (spelling inner ++ ending))
       (λ a. entered_runs n begun frames a tag (spelling inner ++ ending) keeps.0 rest.allows
-      (content_runs inner NothingAhead (begun_by begun frames) (frame_of frames start ∷ frames) 0 ending keeps.2 tt
-      (λ b at_end. closing_runs n (begun_by begun frames) (frame_of frames start) frames b at_end end space last keeps.3 keeps.4 keeps.5
-      (content_runs next NothingAhead (begun_by begun frames) frames 0 tail keeps.6 rest.root (carried frames tail rest.same ends))))))
+      (content_runs inner NothingAhead (begun_by begun frames)
+      (frame_of frames start ∷ frames) 0 ending keeps.2 tt
+      (λ b at_end. closing_runs n (begun_by begun frames)
+      (frame_of frames start) frames b at_end end space last keeps.3 keeps.4 keeps.5
+      (content_runs next NothingAhead (begun_by begun frames) frames 0 tail keeps.6 rest.root
+      (carried frames tail rest.same ends))))))

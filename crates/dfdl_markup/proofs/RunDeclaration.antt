@@ -21,12 +21,13 @@ use Rattle.dfdl_markup.specs.Machine.{may_declare, begins, declaration_step, sai
 use Rattle.dfdl_markup.specs.Machine.{said_word_step, said_equals_step, said_values, said_character}
 use Rattle.dfdl_markup.specs.Machine.{said_value_step, declaration_end_step}
 use Rattle.dfdl_markup.proofs.Rest.{Follows}
-use Rattle.dfdl_markup.proofs.RunNames.{white_ends, question_ends}
+use Rattle.dfdl_markup.proofs.RunNames.{white_ends, end_marks}
 use Rattle.dfdl_markup.proofs.RunPieces.{target_runs}
 use Rattle.dfdl_markup.proofs.RunSaid.{SaidOr, said_more, said_begins, said_whole, version_apart}
 use Rattle.dfdl_markup.proofs.RunSaid.{yes_apart, no_apart, version_said, yes_said, no_said}
 use Rattle.dfdl_markup.proofs.RunSaid.{encodings_apart, encoding_or}
-use Rattle.dfdl_markup.proofs.RunSteps.{Ends, After, state, RunsFrom, goes, if_true, if_false}
+use Rattle.dfdl_markup.proofs.RunSteps.{whites_stay, Ends, After, state, RunsFrom, goes, if_true}
+use Rattle.dfdl_markup.proofs.RunSteps.{if_false}
 use Rattle.dfdl_markup.proofs.RunSteps.{at_test, same_is}
 use Rattle.dfdl_markup.proofs.RunTags.{quote_no_white}
 
@@ -56,15 +57,6 @@ module _ (n : ℕ) (ahead : Ahead) where
   abbrev RunsAt : Place → List ℕ → Type 0
   RunsAt place text = Ends n (run step (there place) text)
 
-  -- white space that leaves the place
-  whites_stay : (place : Place)
-      → ((w : ℕ) → is_white w ≡ true → step (there place) w ≡ Ok (there place))
-      → (space tail : List ℕ) → AreWhite space → RunsAt place tail → RunsAt place (space ++ tail)
-  whites_stay place stays [] tail are ends = ends
-  whites_stay place stays (w ∷ space) tail are ends =
-      goes n (there place) (there place) w (space ++ tail) (stays w are.0)
-      (whites_stay place stays space tail are.1 ends)
-
   declaration_white : (last : Option Said) (spaced : Bool) (w : ℕ) → is_white w ≡ true
       → step (there (AtDeclaration last spaced)) w ≡ Ok (there (AtDeclaration last true))
   unfolding step declaration_step
@@ -84,7 +76,8 @@ module _ (n : ℕ) (ahead : Ahead) where
       let next = read ++ said_character said c ∷ [] in
       subst (λ a. After n a (value ++ quote ∷ tail)) (sym (if_false (c == quote) _ _ apart.0))
       (at_test n (value ++ quote ∷ tail) (list_any (begins next) (said_values said)) _ _
-      (λ e. value_runs said quote next value tail (said_more n said quote read c value may) apart.1 ends)
+      (λ e. value_runs said quote next value tail
+      (said_more n said quote read c value may) apart.1 ends)
       (λ e. said_begins n said quote read c value may e))
 
   equals_white : (said : Said) (w : ℕ) → is_white w ≡ true
@@ -96,12 +89,15 @@ module _ (n : ℕ) (ahead : Ahead) where
       → SaidOr n said saying.quote [] saying.value
       → Each (λ c. (c == saying.quote) ≡ false) saying.value
       → RunsAt (AtDeclaration (Some said) false) tail
-      → RunsAt (AtSaidEquals said) (saying.after ++ saying.quote ∷ (saying.value ++ saying.quote ∷ tail))
+      → RunsAt (AtSaidEquals said)
+      (saying.after ++ saying.quote ∷ (saying.value ++ saying.quote ∷ tail))
   unfolding step said_equals_step
   equals_runs said saying tail keeps may apart ends =
       let closing = saying.value ++ saying.quote ∷ tail in
-      whites_stay (AtSaidEquals said) (equals_white said) saying.after (saying.quote ∷ closing) keeps.after
-      (goes n (there (AtSaidEquals said)) (there (AtSaidValue said saying.quote [])) saying.quote closing
+      whites_stay n (there (AtSaidEquals said)) (equals_white said) saying.after
+      (saying.quote ∷ closing) keeps.after
+      (goes n (there (AtSaidEquals said))
+      (there (AtSaidValue said saying.quote [])) saying.quote closing
       (if_false (is_white saying.quote) _ _ (quote_no_white saying.quote keeps.quote)
       ∙ if_true (is_quote saying.quote) _ _ keeps.quote)
       (value_runs said saying.quote [] saying.value tail may apart ends))
@@ -112,14 +108,15 @@ module _ (n : ℕ) (ahead : Ahead) where
   said_white said w e = if_true (is_white w) _ _ e
 
   -- white space and `=` behind a word
-  before_runs : (said : Said) (before tail : List ℕ) → AreWhite before → RunsAt (AtSaidEquals said) tail
+  before_runs : (said : Said) (before tail : List ℕ) → AreWhite before
+      → RunsAt (AtSaidEquals said) tail
       → RunsAt (AtSaidWord said []) (before ++ 61 ∷ tail)
   unfolding step said_word_step said_step is_white
   before_runs said [] tail are ends = ends
   before_runs said (w ∷ before) tail are ends =
       goes n (there (AtSaidWord said [])) (there (AtSaid said)) w (before ++ 61 ∷ tail)
       (if_true (is_white w) _ _ are.0)
-      (whites_stay (AtSaid said) (said_white said) before (61 ∷ tail) are.1 ends)
+      (whites_stay n (there (AtSaid said)) (said_white said) before (61 ∷ tail) are.1 ends)
 
   word_runs : (said : Said) (left tail : List ℕ) → RunsAt (AtSaidWord said []) tail
       → RunsAt (AtSaidWord said left) (left ++ tail)
@@ -155,11 +152,12 @@ module _ (n : ℕ) (ahead : Ahead) where
       → SaidOr n said saying.quote [] saying.value
       → Each (λ c. (c == saying.quote) ≡ false) saying.value
       → RunsAt (AtDeclaration (Some said) false) tail
-      → RunsAt (AtDeclaration last true) (space ++ (said_word said ++ (saying.before ++ 61 ∷ (saying.after
+      → RunsAt (AtDeclaration last true)
+      (space ++ (said_word said ++ (saying.before ++ 61 ∷ (saying.after
       ++ saying.quote ∷ (saying.value ++ saying.quote ∷ tail)))))
   said_runs last said saying space tail follows keeps are may apart ends =
       let valued = saying.after ++ saying.quote ∷ (saying.value ++ saying.quote ∷ tail) in
-      whites_stay (AtDeclaration last true) (declaration_white last true) space
+      whites_stay n (there (AtDeclaration last true)) (declaration_white last true) space
       (said_word said ++ (saying.before ++ 61 ∷ valued)) are
       (next_word last said (saying.before ++ 61 ∷ valued) follows
       (before_runs said saying.before valued keeps.before
@@ -174,11 +172,14 @@ module _ (n : ℕ) (ahead : Ahead) where
       → RunsAt place (saying_characters said saying ++ tail)
   saying_runs place last said saying tail white follows keeps may apart ends =
       subst (λ l. RunsAt place l)
-      (sym (saying_text saying.space (said_word said) saying.before saying.after saying.value tail saying.quote))
+      (sym (saying_text saying.space
+      (said_word said) saying.before saying.after saying.value tail saying.quote))
       (by saying.space keeps.some_space keeps.space)
     where
       valued : List ℕ
-      valued = said_word said ++ (saying.before ++ 61 ∷ (saying.after ++ saying.quote ∷ (saying.value ++ saying.quote ∷ tail)))
+      valued = said_word said ++
+          (saying.before ++ 61 ∷
+          (saying.after ++ saying.quote ∷ (saying.value ++ saying.quote ∷ tail)))
 
       by : (space : List ℕ) → 0 < length space → AreWhite space → RunsAt place (space ++ valued)
       by [] some are = absurd (omega arith)
@@ -194,7 +195,8 @@ module _ (n : ℕ) (ahead : Ahead) where
   version_runs place saying tail white keeps is ends =
       saying_runs place None Version saying tail white tt keeps
       (subst (λ v. SaidOr n Version saying.quote [] v) (sym is) (inl version_said))
-      (subst (λ v. Each (λ c. (c == saying.quote) ≡ false) v) (sym is) (version_apart saying.quote keeps.quote))
+      (subst (λ v. Each (λ c. (c == saying.quote) ≡ false) v) (sym is)
+      (version_apart saying.quote keeps.quote))
       ends
 
   encoding_runs : (encoding : Option Saying) (tail : List ℕ) → SaysEncoding n encoding
@@ -211,19 +213,25 @@ module _ (n : ℕ) (ahead : Ahead) where
   standalone_runs : (last : Said) (spaced : Bool) (standalone : Option Saying) (tail : List ℕ)
       → Follows (Some last) Standalone → SaysStandalone standalone
       → ((said : Said) (spaced : Bool) → RunsAt (AtDeclaration (Some said) spaced) tail)
-      → RunsAt (AtDeclaration (Some last) spaced) (optional_characters Standalone standalone ++ tail)
+      → RunsAt (AtDeclaration (Some last) spaced)
+      (optional_characters Standalone standalone ++ tail)
   standalone_runs last spaced None tail follows says ends = ends last spaced
   standalone_runs last spaced (Some saying) tail follows says ends =
       saying_runs (AtDeclaration (Some last) spaced) (Some last) Standalone saying tail
-      (declaration_white (Some last) spaced) follows says.0 (may says.1) (apart says.1) (ends Standalone false)
+      (declaration_white (Some last) spaced) follows says.0 (may says.1) (apart says.1)
+      (ends Standalone false)
     where
-      may : (saying.value ≡ yes_value) ⊎ (saying.value ≡ no_value) → SaidOr n Standalone saying.quote [] saying.value
+      may : (saying.value ≡ yes_value) ⊎ (saying.value ≡ no_value)
+          → SaidOr n Standalone saying.quote [] saying.value
       may (inl is) = subst (λ v. SaidOr n Standalone saying.quote [] v) (sym is) (inl yes_said)
       may (inr is) = subst (λ v. SaidOr n Standalone saying.quote [] v) (sym is) (inl no_said)
 
-      apart : (saying.value ≡ yes_value) ⊎ (saying.value ≡ no_value) → Each (λ c. (c == saying.quote) ≡ false) saying.value
-      apart (inl is) = subst (λ v. Each (λ c. (c == saying.quote) ≡ false) v) (sym is) (yes_apart saying.quote says.0.quote)
-      apart (inr is) = subst (λ v. Each (λ c. (c == saying.quote) ≡ false) v) (sym is) (no_apart saying.quote says.0.quote)
+      apart : (saying.value ≡ yes_value) ⊎ (saying.value ≡ no_value)
+          → Each (λ c. (c == saying.quote) ≡ false) saying.value
+      apart (inl is) = subst (λ v. Each (λ c. (c == saying.quote) ≡ false) v) (sym is)
+          (yes_apart saying.quote says.0.quote)
+      apart (inr is) = subst (λ v. Each (λ c. (c == saying.quote) ≡ false) v) (sym is)
+          (no_apart saying.quote says.0.quote)
 
   -- `?>`
   end_closes : (last : Said) (spaced : Bool) (tail : List ℕ) → RunsFrom n 0 [] (AtContent 0) tail
@@ -238,7 +246,8 @@ module _ (n : ℕ) (ahead : Ahead) where
   end_runs last spaced (w ∷ space) tail are ends =
       goes n (there (AtDeclaration (Some last) spaced)) (there (AtDeclaration (Some last) true)) w
       (space ++ 63 ∷ 62 ∷ tail) (declaration_white (Some last) spaced w are.0)
-      (whites_stay (AtDeclaration (Some last) true) (declaration_white (Some last) true) space
+      (whites_stay n (there (AtDeclaration (Some last) true))
+      (declaration_white (Some last) true) space
       (63 ∷ 62 ∷ tail) are.1 (end_closes last true tail ends))
 
   -- the word `xml`
@@ -247,13 +256,15 @@ module _ (n : ℕ) (ahead : Ahead) where
   unfolding step target_step xml_word is_xml
   xml_white may w e =
       if_false (is_name_char w) _ _ (white_ends w e).no_char
-      ∙ (if_true (is_white w) _ _ e ∙ ap (λ b. if b && true then Ok (there (AtDeclaration None true)) else Err 3) may)
+      ∙ (if_true (is_white w) _ _ e
+      ∙ ap (λ b. if b && true then Ok (there (AtDeclaration None true)) else Err 3) may)
 
   inside_text : (declaration : Declaration) (tail : List ℕ)
       → declaration_characters (Some declaration) ++ tail
       ≡ 60 ∷ 63 ∷ 120 ∷ 109 ∷ 108 ∷ (saying_characters Version declaration.version
       ++ (optional_characters Encoding declaration.encoding
-      ++ (optional_characters Standalone declaration.standalone ++ (declaration.space ++ 63 ∷ 62 ∷ tail))))
+      ++ (optional_characters Standalone declaration.standalone ++
+      (declaration.space ++ 63 ∷ 62 ∷ tail))))
   unfolding xml_word
   inside_text declaration tail =
       ap (λ l. 60 ∷ 63 ∷ 120 ∷ 109 ∷ 108 ∷ l)
@@ -272,10 +283,13 @@ module _ (n : ℕ) (ahead : Ahead) where
       let encoding = optional_characters Encoding declaration.encoding ++ standalone in
       subst (λ l. RunsAt (AtContent 0) l) (sym (inside_text declaration tail))
       (subst (λ a. After n a (120 ∷ 109 ∷ 108 ∷ (version ++ encoding)))
-      (sym (if_false (is_name_start 63) _ _ question_ends.no_start))
-      (subst (λ a. After n a (109 ∷ 108 ∷ (version ++ encoding))) (sym (if_true (is_name_start 120) _ _ x_starts))
+      (sym (if_false (is_name_start 63) _ _ end_marks.question.no_start))
+      (subst (λ a. After n a (109 ∷ 108 ∷ (version ++ encoding)))
+      (sym (if_true (is_name_start 120) _ _ x_starts))
       (target_runs n 0 [] ahead (120 ∷ []) (109 ∷ 108 ∷ []) (version ++ encoding) m_and_l
-      (version_runs (AtTarget xml_word) declaration.version encoding (xml_white may) keeps.version keeps.number
+      (version_runs (AtTarget xml_word) declaration.version encoding
+      (xml_white may) keeps.version keeps.number
       (encoding_runs declaration.encoding standalone keeps.encoding
-      (λ said spaced follows. standalone_runs said spaced declaration.standalone last follows keeps.standalone
+      (λ said spaced follows. standalone_runs said spaced declaration.standalone last follows
+      keeps.standalone
       (λ said spaced. end_runs said spaced declaration.space tail keeps.space ends)))))))

@@ -18,10 +18,10 @@ use Rattle.dfdl_markup.specs.Machine.{opened_step}
 use Rattle.dfdl_markup.specs.Machine.{end_next, end_tag_step, end_space_step, end_ended}
 use Rattle.dfdl_markup.specs.Machine.{end_name_or, end_name_step}
 use Rattle.dfdl_markup.proofs.RunNames.{EndsName, ReadsOn, name_read, next_none, white_ends}
-use Rattle.dfdl_markup.proofs.RunNames.{greater_ends, slash_ends}
-use Rattle.dfdl_markup.proofs.RunSteps.{Ends, After, state, RunsFrom, goes, not_under, if_true}
+use Rattle.dfdl_markup.proofs.RunNames.{end_marks}
+use Rattle.dfdl_markup.proofs.RunSteps.{whites_stay, Ends, After, state, RunsFrom, goes, not_under}
+use Rattle.dfdl_markup.proofs.RunSteps.{if_true}
 use Rattle.dfdl_markup.proofs.RunSteps.{if_false, at_test}
-use Rattle.dfdl_markup.proofs.RunTags.{whites_stay}
 
 no_cons : (c : ℕ) (text : List ℕ) → c ∷ text ≡ [] → ⊥
 no_cons c text e = absurd (cc)
@@ -68,19 +68,20 @@ module _ (n begun : ℕ) (frame : Frame) (frames : List Frame) where
       ap (λ o. end_name_or o (whole_name last) s left c) (next_none last name c whole ending)
       ∙ ap (λ o. end_name_or None o s left c) whole
 
-  end_behind : (last : Reading) (name : Name) (left space tail : List ℕ) → whole_name last ≡ Some name
+  end_behind : (last : Reading) (name : Name) (left space tail : List ℕ) → whole_name last
+      ≡ Some name
       → (4 < n → [] ≡ left) → AreWhite space → RunsFrom n begun frames (AtContent 0) tail
       → RunsFrom n begun (frame ∷ frames) (AtEndName last left) (space ++ 62 ∷ tail)
   unfolding end_space_step is_white
   end_behind last name [] [] tail whole same are ends =
-      subst (λ a. After n a tail) (sym (name_ended last name [] 62 whole greater_ends)) ends
+      subst (λ a. After n a tail) (sym (name_ended last name [] 62 whole end_marks.greater)) ends
   end_behind last name [] (w ∷ space) tail whole same are ends =
       subst (λ a. After n a (space ++ 62 ∷ tail))
       (sym (name_ended last name [] w whole (white_ends w are.0) ∙ if_true (is_white w) _ _ are.0))
-      (whites_stay n begun (frame ∷ frames) AtEndSpace end_white space (62 ∷ tail) are.1
+      (whites_stay n (inner AtEndSpace) end_white space (62 ∷ tail) are.1
       (end_closed tail ends))
   end_behind last name (v ∷ left) [] tail whole same are ends =
-      subst (λ a. After n a tail) (sym (name_ended last name (v ∷ left) 62 whole greater_ends))
+      subst (λ a. After n a tail) (sym (name_ended last name (v ∷ left) 62 whole end_marks.greater))
       (not_under n 4 (λ less. no_cons v left (sym (same less))))
   end_behind last name (v ∷ left) (w ∷ space) tail whole same are ends =
       subst (λ a. After n a (space ++ 62 ∷ tail))
@@ -94,14 +95,17 @@ module _ (n begun : ℕ) (frame : Frame) (frames : List Frame) where
       → RunsFrom n begun (frame ∷ frames) (AtEndName reading left) (more ++ (space ++ 62 ∷ tail))
   unfolding step end_name_step
   end_more reading last name [] left space tail reads whole same are ends =
-      subst (λ r. RunsFrom n begun (frame ∷ frames) (AtEndName r left) (space ++ 62 ∷ tail)) (sym reads)
+      subst (λ r. RunsFrom n begun (frame ∷ frames) (AtEndName r left) (space ++ 62 ∷ tail))
+      (sym reads)
       (end_behind last name left space tail whole same are ends)
   end_more reading last name (c ∷ more) left space tail reads whole same are ends =
       let s = inner (AtEndName reading left) in
       let rest = more ++ (space ++ 62 ∷ tail) in
-      subst (λ a. After n a rest) (sym (ap (λ o. end_name_or o (whole_name reading) s left c) reads.1))
+      subst (λ a. After n a rest)
+      (sym (ap (λ o. end_name_or o (whole_name reading) s left c) reads.1))
       (end_goes s reads.0 c more left rest same
-      (λ behind equal. end_more reads.0 last name more behind space tail reads.2 whole equal are ends))
+      (λ behind equal. end_more reads.0 last name more behind space tail reads.2 whole equal are
+      ends))
 
   -- an end tag behind its `</`
   end_runs : (name : Name) (space tail : List ℕ) → IsName name → AreWhite space
@@ -112,12 +116,17 @@ module _ (n begun : ℕ) (frame : Frame) (frames : List Frame) where
       let read = name_read name is in
       let rest = read.more ++ (space ++ 62 ∷ tail) in
       let equal : 4 < n → read.first ∷ read.more ≡ name_characters frame.name =
-      λ less. sym read.is ∙ (bytes_eq-Decides (name_characters name) (name_characters frame.name)).0 (same less)
+      λ less. sym read.is ∙ (bytes_eq-Decides (name_characters name) (name_characters frame.name)).0
+      (same less)
       in
-      subst (λ l. RunsFrom n begun (frame ∷ frames) AtEndTag (l ++ (space ++ 62 ∷ tail))) (sym read.is)
+      subst (λ l. RunsFrom n begun (frame ∷ frames) AtEndTag (l ++ (space ++ 62 ∷ tail)))
+      (sym read.is)
       (subst (λ a. After n a rest) (sym (if_true (is_name_start read.first) _ _ read.starts))
-      (end_goes (inner AtEndTag) (First (read.first ∷ [])) read.first read.more (name_characters frame.name) rest equal
-      (λ left behind. end_more (First (read.first ∷ [])) read.last name read.more left space tail read.follows read.whole behind are ends)))
+      (end_goes (inner AtEndTag) (First (read.first ∷ [])) read.first read.more
+      (name_characters frame.name) rest equal
+      (λ left behind. end_more
+      (First (read.first ∷ [])) read.last name read.more left space tail read.follows read.whole
+      behind are ends)))
 
   pub closing_runs : (ahead : Ahead) (before : ℕ) (name : Name) (space tail : List ℕ) → IsName name
       → AreWhite space → (4 < n → same_name name frame.name ≡ true)
@@ -129,4 +138,5 @@ module _ (n begun : ℕ) (frame : Frame) (frames : List Frame) where
       goes n (state ahead (AtContent before) begun (frame ∷ frames)) (inner AtOpened) 60
       (47 ∷ (name_characters name ++ (space ++ 62 ∷ tail))) refl
       (goes n (inner AtOpened) (inner AtEndTag) 47 (name_characters name ++ (space ++ 62 ∷ tail))
-      (if_false (is_name_start 47) _ _ slash_ends.no_start) (end_runs name space tail is are same ends))
+      (if_false (is_name_start 47) _ _ end_marks.slash.no_start)
+      (end_runs name space tail is are same ends))

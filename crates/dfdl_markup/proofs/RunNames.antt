@@ -33,45 +33,36 @@ white_is P c space tab feed return is =
       | inr e ↦ subst P (sym (eqb-true _ _ e)) return
     ]
 
-ends_32 : EndsName 32
-unfolding is_name_start is_name_char low_start_rows low_name_rows high_start_rows high_name_rows high_mark_rows
-ends_32 = record { no_start = refl; no_char = refl; no_colon = refl }
-
-ends_9 : EndsName 9
-unfolding is_name_start is_name_char low_start_rows low_name_rows high_start_rows high_name_rows high_mark_rows
-ends_9 = record { no_start = refl; no_char = refl; no_colon = refl }
-
-ends_10 : EndsName 10
-unfolding is_name_start is_name_char low_start_rows low_name_rows high_start_rows high_name_rows high_mark_rows
-ends_10 = record { no_start = refl; no_char = refl; no_colon = refl }
-
-ends_13 : EndsName 13
-unfolding is_name_start is_name_char low_start_rows low_name_rows high_start_rows high_name_rows high_mark_rows
-ends_13 = record { no_start = refl; no_char = refl; no_colon = refl }
-
 -- white space, and the marks that stand behind names
+pub record EndMarks : Type 0 where
+  pub space : EndsName 32
+  pub tab : EndsName 9
+  pub feed : EndsName 10
+  pub return : EndsName 13
+  pub slash : EndsName 47
+  pub semicolon : EndsName 59
+  pub equals : EndsName 61
+  pub greater : EndsName 62
+  pub question : EndsName 63
+
+pub end_marks : EndMarks
+unfolding is_name_start is_name_char low_start_rows low_name_rows high_start_rows
+    high_name_rows high_mark_rows
+end_marks = record {
+  space = record { no_start = refl; no_char = refl; no_colon = refl };
+  tab = record { no_start = refl; no_char = refl; no_colon = refl };
+  feed = record { no_start = refl; no_char = refl; no_colon = refl };
+  return = record { no_start = refl; no_char = refl; no_colon = refl };
+  slash = record { no_start = refl; no_char = refl; no_colon = refl };
+  semicolon = record { no_start = refl; no_char = refl; no_colon = refl };
+  equals = record { no_start = refl; no_char = refl; no_colon = refl };
+  greater = record { no_start = refl; no_char = refl; no_colon = refl };
+  question = record { no_start = refl; no_char = refl; no_colon = refl };
+}
+
 pub white_ends : (c : ℕ) → is_white c ≡ true → EndsName c
-white_ends c is = white_is EndsName c ends_32 ends_9 ends_10 ends_13 is
-
-pub slash_ends : EndsName 47
-unfolding is_name_start is_name_char low_start_rows low_name_rows high_start_rows high_name_rows high_mark_rows
-slash_ends = record { no_start = refl; no_char = refl; no_colon = refl }
-
-pub semicolon_ends : EndsName 59
-unfolding is_name_start is_name_char low_start_rows low_name_rows high_start_rows high_name_rows high_mark_rows
-semicolon_ends = record { no_start = refl; no_char = refl; no_colon = refl }
-
-pub equals_ends : EndsName 61
-unfolding is_name_start is_name_char low_start_rows low_name_rows high_start_rows high_name_rows high_mark_rows
-equals_ends = record { no_start = refl; no_char = refl; no_colon = refl }
-
-pub greater_ends : EndsName 62
-unfolding is_name_start is_name_char low_start_rows low_name_rows high_start_rows high_name_rows high_mark_rows
-greater_ends = record { no_start = refl; no_char = refl; no_colon = refl }
-
-pub question_ends : EndsName 63
-unfolding is_name_start is_name_char low_start_rows low_name_rows high_start_rows high_name_rows high_mark_rows
-question_ends = record { no_start = refl; no_char = refl; no_colon = refl }
+white_ends c is =
+    white_is EndsName c end_marks.space end_marks.tab end_marks.feed end_marks.return is
 
 pub colon_no_char : is_name_char 58 ≡ false
 unfolding is_name_char low_start_rows low_name_rows high_start_rows high_name_rows high_mark_rows

@@ -15,7 +15,7 @@ use Rattle.dfdl_markup.specs.Machine.{step, bang_step, dash_step, comment_step}
 use Rattle.dfdl_markup.specs.Machine.{section_word_step, section_step, AtQuestion, AtTarget}
 use Rattle.dfdl_markup.specs.Machine.{AtTargetEnd, AtInstruction, question_step, target_step}
 use Rattle.dfdl_markup.specs.Machine.{target_end_step, instruction_step}
-use Rattle.dfdl_markup.proofs.RunNames.{white_ends, question_ends}
+use Rattle.dfdl_markup.proofs.RunNames.{white_ends, end_marks}
 use Rattle.dfdl_markup.proofs.RunSteps.{Ends, state, RunsFrom, goes, if_true, if_false, same_is}
 
 -- how many `-` stand right before
@@ -30,7 +30,8 @@ module _ (n begun : ℕ) (frames : List Frame) where
   abbrev to : Place → Result State ℕ
   to place = Ok (here place)
 
-  counted : (b : Bool) → (if b then to (AtComment 1) else to (AtComment 0)) ≡ to (AtComment (dashes b))
+  counted : (b : Bool) → (if b then to (AtComment 1) else to (AtComment 0))
+      ≡ to (AtComment (dashes b))
   counted true = refl
   counted false = refl
 
@@ -60,9 +61,11 @@ module _ (n begun : ℕ) (frames : List Frame) where
       → RunsFrom n begun frames (AtSectionWord (w ∷ left)) (w ∷ left ++ tail)
   unfolding step section_word_step
   section_word_runs w [] tail ends =
-      goes n (here (AtSectionWord (w ∷ []))) (here (AtSection 0)) w tail (if_true (w == w) _ _ (same_is w)) ends
+      goes n (here (AtSectionWord (w ∷ []))) (here (AtSection 0)) w tail
+      (if_true (w == w) _ _ (same_is w)) ends
   section_word_runs w (v ∷ left) tail ends =
-      goes n (here (AtSectionWord (w ∷ v ∷ left))) (here (AtSectionWord (v ∷ left))) w (v ∷ left ++ tail)
+      goes n (here (AtSectionWord (w ∷ v ∷ left))) (here (AtSectionWord (v ∷ left))) w
+      (v ∷ left ++ tail)
       (if_true (w == w) _ _ (same_is w)) (section_word_runs v left tail ends)
 
   -- its text
@@ -93,10 +96,12 @@ module _ (n begun : ℕ) (frames : List Frame) where
       → RunsFrom n begun frames (AtSection before) (text ++ 93 ∷ 93 ∷ 62 ∷ tail)
   section_text before [] tail is ends = section_end before tail ends
   section_text before (c ∷ text) tail is ends =
-      goes n (here (AtSection before)) (here (AtSection (brackets before c))) c (text ++ 93 ∷ 93 ∷ 62 ∷ tail)
+      goes n (here (AtSection before)) (here (AtSection (brackets before c))) c
+      (text ++ 93 ∷ 93 ∷ 62 ∷ tail)
       (section_more before c is.0) (section_text (brackets before c) text tail is.1 ends)
 
-  pub section_runs : (text tail : List ℕ) → HasNoEnd 0 text → RunsFrom n begun frames (AtContent 0) tail
+  pub section_runs : (text tail : List ℕ) → HasNoEnd 0 text
+      → RunsFrom n begun frames (AtContent 0) tail
       → RunsFrom n begun frames (AtSectionWord section_word)
       (section_word ++ (text ++ 93 ∷ 93 ∷ 62 ∷ tail))
   unfolding section_word
@@ -134,7 +139,8 @@ module _ (n begun : ℕ) (frames : List Frame) where
       → Ends n (run step (state ahead (AtTarget (target ++ more)) begun frames) tail)
       → Ends n (run step (state ahead (AtTarget target) begun frames) (more ++ tail))
   target_runs ahead target [] tail are ends =
-      subst (λ w. Ends n (run step (state ahead (AtTarget w) begun frames) tail)) (append-nil target) ends
+      subst (λ w. Ends n (run step (state ahead (AtTarget w) begun frames) tail))
+      (append-nil target) ends
   target_runs ahead target (c ∷ more) tail are ends =
       goes n (state ahead (AtTarget target) begun frames)
       (state ahead (AtTarget (target ++ c ∷ [])) begun frames) c (more ++ tail)
@@ -150,9 +156,12 @@ module _ (n begun : ℕ) (frames : List Frame) where
   unfolding step target_step target_end_step is_white
   target_text ahead target [] tail no_xml is ends =
       goes n (state ahead (AtTarget target) begun frames) (here AtTargetEnd) 63 (62 ∷ tail)
-      (if_false (is_name_char 63) _ _ question_ends.no_char ∙ if_false (is_xml target) _ _ no_xml) ends
+      (if_false (is_name_char 63) _ _ end_marks.question.no_char
+      ∙ if_false (is_xml target) _ _ no_xml)
+      ends
   target_text ahead target (w ∷ text) tail no_xml is ends =
-      goes n (state ahead (AtTarget target) begun frames) (here (AtInstruction false)) w (text ++ 63 ∷ 62 ∷ tail)
+      goes n (state ahead (AtTarget target) begun frames) (here (AtInstruction false)) w
+      (text ++ 63 ∷ 62 ∷ tail)
       (if_false (is_name_char w) _ _ (white_ends w is.0).no_char
       ∙ if_true (is_white w) _ _ is.0 ∙ if_false (is_xml target) _ _ no_xml)
       (instruction_text false text tail is.1 ends)

@@ -8,9 +8,11 @@ use Rattle.std.specs.Str.{bytes_eq}
 use Rattle.std.proofs.lemmas.List.{append-nil}
 use Rattle.std.proofs.lemmas.Slice.Eq.{bytes_eq-Decides}
 use Rattle.std.proofs.lemmas.Bool.{cases_Bool, and_from}
-use Rattle.std.proofs.lemmas.Bool.{both_ways, false≢true, or_left, or_right, or_cases, and_parts, leb-true, leb-false}
+use Rattle.std.proofs.lemmas.Bool.{both_ways, false≢true, or_left, or_right, or_cases, and_parts}
+use Rattle.std.proofs.lemmas.Bool.{leb-true, leb-false}
 use Rattle.dfdl_layers.specs.Tellers.{Each, run}
-use Rattle.dfdl_xml_chars.specs.Characters.{is_name_start, is_name_char, is_allowed, char_rows, is_in}
+use Rattle.dfdl_xml_chars.specs.Characters.{is_name_start, is_name_char, is_allowed, char_rows}
+use Rattle.dfdl_xml_chars.specs.Characters.{is_in}
 use Rattle.dfdl_xml_chars.specs.Characters.{Row, low_start_rows, high_start_rows}
 use Rattle.dfdl_markup.specs.Grammar.{Reference, Named, Numbered, reference_inside}
 use Rattle.dfdl_markup.specs.Values.{is_digit, digit_value, base_of, number_on, entities}
@@ -18,11 +20,12 @@ use Rattle.dfdl_markup.specs.Values.{entity_among, entity, or_zero, referred}
 use Rattle.dfdl_markup.specs.Rules.{ReferenceKeeps}
 use Rattle.dfdl_markup.specs.Machine.{Within, InContent, InValue, Place, AtContent, AtValue}
 use Rattle.dfdl_markup.specs.Machine.{AtReference, AtEntity, AtHash, AtHexadecimal, AtNumber}
-use Rattle.dfdl_markup.specs.Machine.{NothingAhead, Frame, State, stand, step, with_text, referred_to}
+use Rattle.dfdl_markup.specs.Machine.{NothingAhead, Frame, State, stand, step, with_text}
+use Rattle.dfdl_markup.specs.Machine.{referred_to}
 use Rattle.dfdl_markup.specs.Machine.{begins, begins_entity, entity_next, reference_step}
 use Rattle.dfdl_markup.specs.Machine.{entity_ended, entity_step, number_next, hash_step}
 use Rattle.dfdl_markup.specs.Machine.{hexadecimal_step, number_step}
-use Rattle.dfdl_markup.proofs.RunNames.{semicolon_ends}
+use Rattle.dfdl_markup.proofs.RunNames.{end_marks}
 use Rattle.dfdl_markup.proofs.RunSteps.{Ends, After, state, RunsFrom, goes, not_under, if_true}
 use Rattle.dfdl_markup.proofs.RunSteps.{if_false, at_test, same_is}
 
@@ -31,7 +34,8 @@ abbrev pub behind : Within → ℕ → Place
 behind InContent d = AtContent 0
 behind (InValue v) d = AtValue (with_text v (d ∷ []) false)
 
-behind_is : (s : State) (within : Within) (d : ℕ) → referred_to s within d ≡ stand s (behind within d)
+behind_is : (s : State) (within : Within) (d : ℕ) → referred_to s within d
+    ≡ stand s (behind within d)
 behind_is s InContent d = refl
 behind_is s (InValue v) d = refl
 
@@ -49,7 +53,8 @@ front_among (e ∷ among) front more is =
     first_or (cases_Bool (bytes_eq e.0 (front ++ more))) (front_among among front more)
   where
     first_or : ((bytes_eq e.0 (front ++ more) ≡ true) ⊎ (bytes_eq e.0 (front ++ more) ≡ false))
-        → (IsSome (entity_among among (front ++ more)) → list_any (λ o. begins front o.0) among ≡ true)
+        → (IsSome (entity_among among (front ++ more)) → list_any (λ o. begins front o.0) among
+        ≡ true)
         → list_any (λ o. begins front o.0) (e ∷ among) ≡ true
     first_or (inl t) others =
         or_left _ _ (subst (λ w. begins front w ≡ true)
@@ -58,7 +63,8 @@ front_among (e ∷ among) front more is =
         or_right _ _ (others (subst (λ o. IsSome o) (if_false _ _ _ f) is))
 
 -- what is in rows up to a number is at most that
-in_rows : (most c : ℕ) (rows : List Row) → Each (λ row. row.1 ≤ most) rows → is_in rows c ≡ true → c ≤ most
+in_rows : (most c : ℕ) (rows : List Row) → Each (λ row. row.1 ≤ most) rows → is_in rows c ≡ true
+    → c ≤ most
 in_rows most c [] are is = absurd (cc)
 in_rows most c (row ∷ rows) are is =
     one (or_cases _ _ is) (in_rows most c rows are.1)
@@ -132,9 +138,11 @@ module _ (n begun : ℕ) (frames : List Frame) where
       → RunsFrom n begun frames (AtEntity within front) (more ++ 59 ∷ tail)
   unfolding step entity_step
   entity_name within front [] tail are known ends =
-      subst (λ a. After n a tail) (sym (if_false (is_name_char 59) _ _ semicolon_ends.no_char))
-      (entity_end within (entity front) tail (subst (λ w. 6 < n → IsSome (entity w)) (append-nil front) known)
-      (subst (λ w. RunsFrom n begun frames (behind within (or_zero (entity w))) tail) (append-nil front) ends)
+      subst (λ a. After n a tail) (sym (if_false (is_name_char 59) _ _ end_marks.semicolon.no_char))
+      (entity_end within (entity front) tail
+      (subst (λ w. 6 < n → IsSome (entity w)) (append-nil front) known)
+      (subst (λ w. RunsFrom n begun frames (behind within (or_zero (entity w))) tail)
+      (append-nil front) ends)
       (here (AtEntity within front)) refl)
   entity_name within front (c ∷ more) tail are known ends =
       subst (λ a. After n a (more ++ 59 ∷ tail)) (sym (if_true (is_name_char c) _ _ are.0))
@@ -142,14 +150,16 @@ module _ (n begun : ℕ) (frames : List Frame) where
       (subst (λ w. 6 < n → IsSome (entity w)) (sym (append_assoc front (c ∷ []) more)) known)
       (entity_name within (front ++ c ∷ []) more tail are.1
       (subst (λ w. 6 < n → IsSome (entity w)) (sym (append_assoc front (c ∷ []) more)) known)
-      (subst (λ w. RunsFrom n begun frames (behind within (or_zero (entity w))) tail) (sym (append_assoc front (c ∷ []) more)) ends))
+      (subst (λ w. RunsFrom n begun frames (behind within (or_zero (entity w))) tail)
+      (sym (append_assoc front (c ∷ []) more)) ends))
       (here (AtEntity within front)) refl)
 
   -- a number with one digit more
   number_front : (within : Within) (hexadecimal : Bool) (value : ℕ) (digits text : List ℕ)
       → (12 < n → is_allowed (number_on hexadecimal value digits) ≡ true)
       → RunsFrom n begun frames (AtNumber within hexadecimal value) text
-      → (s : State) → stand s (AtNumber within hexadecimal value) ≡ here (AtNumber within hexadecimal value)
+      → (s : State) → stand s (AtNumber within hexadecimal value)
+      ≡ here (AtNumber within hexadecimal value)
       → After n (number_next s within hexadecimal value) text
   number_front within hexadecimal value digits text allowed ends s is =
       at_test n text (nat_le value 0x10FFFF) _ _
@@ -169,18 +179,23 @@ module _ (n begun : ℕ) (frames : List Frame) where
       → RunsFrom n begun frames (AtNumber within hexadecimal value) (digits ++ 59 ∷ tail)
   unfolding step number_step
   number_digits within hexadecimal value [] tail are allowed ends =
-      subst (λ a. After n a tail) (sym (if_false (is_digit hexadecimal 59) _ _ (semicolon_no_digit hexadecimal)))
+      subst (λ a. After n a tail)
+      (sym (if_false (is_digit hexadecimal 59) _ _ (semicolon_no_digit hexadecimal)))
       (at_test n tail (is_allowed value) _ _
       (λ e. behind_reference (here (AtNumber within hexadecimal value)) within value tail ends)
       (λ e. not_under n 12 (λ less. both_ways _ e (allowed less))))
   number_digits within hexadecimal value (c ∷ digits) tail are allowed ends =
-      subst (λ a. After n a (digits ++ 59 ∷ tail)) (sym (if_true (is_digit hexadecimal c) _ _ are.0))
-      (number_front within hexadecimal (value * base_of hexadecimal + digit_value c) digits (digits ++ 59 ∷ tail) allowed
-      (number_digits within hexadecimal (value * base_of hexadecimal + digit_value c) digits tail are.1 allowed ends)
+      subst (λ a. After n a (digits ++ 59 ∷ tail))
+      (sym (if_true (is_digit hexadecimal c) _ _ are.0))
+      (number_front within hexadecimal (value * base_of hexadecimal + digit_value c) digits
+      (digits ++ 59 ∷ tail) allowed
+      (number_digits within hexadecimal
+      (value * base_of hexadecimal + digit_value c) digits tail are.1 allowed ends)
       (here (AtNumber within hexadecimal value)) refl)
 
   -- the first digit
-  first_digit : (hexadecimal : Bool) (c : ℕ) → 0 * base_of hexadecimal + digit_value c ≡ digit_value c
+  first_digit : (hexadecimal : Bool) (c : ℕ) → 0 * base_of hexadecimal + digit_value c
+      ≡ digit_value c
   first_digit true c = omega arith
   first_digit false c = omega arith
 
@@ -194,7 +209,8 @@ module _ (n begun : ℕ) (frames : List Frame) where
   decimal_runs within (c ∷ digits) tail some are allowed ends =
       let first = first_digit false c in
       let good = subst (λ v. 12 < n → is_allowed (number_on false v digits) ≡ true) first allowed in
-      let after = subst (λ v. RunsFrom n begun frames (behind within (number_on false v digits)) tail) first ends in
+      let after = subst (λ v. RunsFrom n begun frames
+      (behind within (number_on false v digits)) tail) first ends in
       subst (λ a. After n a (digits ++ 59 ∷ tail)) (sym (if_true (is_digit false c) _ _ are.0))
       (number_front within false (digit_value c) digits (digits ++ 59 ∷ tail) good
       (number_digits within false (digit_value c) digits tail are.1 good after)
@@ -210,7 +226,8 @@ module _ (n begun : ℕ) (frames : List Frame) where
   hexadecimal_runs within (c ∷ digits) tail some are allowed ends =
       let first = first_digit true c in
       let good = subst (λ v. 12 < n → is_allowed (number_on true v digits) ≡ true) first allowed in
-      let after = subst (λ v. RunsFrom n begun frames (behind within (number_on true v digits)) tail) first ends in
+      let after = subst (λ v. RunsFrom n begun frames
+      (behind within (number_on true v digits)) tail) first ends in
       subst (λ a. After n a (digits ++ 59 ∷ tail)) (sym (if_true (is_digit true c) _ _ are.0))
       (number_front within true (digit_value c) digits (digits ++ 59 ∷ tail) good
       (number_digits within true (digit_value c) digits tail are.1 good after)

@@ -27,12 +27,14 @@ front_of_any front more [] is = absurd (cc)
 front_of_any front more (word ∷ words) is =
     one (or_cases _ _ is) (front_of_any front more words)
   where
-    one : (bytes_eq (front ++ more) word ≡ true) ⊎ (list_any (bytes_eq (front ++ more)) words ≡ true)
+    one : (bytes_eq (front ++ more) word ≡ true)
+        ⊎ (list_any (bytes_eq (front ++ more)) words ≡ true)
         → (list_any (bytes_eq (front ++ more)) words ≡ true → list_any (begins front) words ≡ true)
         → list_any (begins front) (word ∷ words) ≡ true
     one (inl e) rest =
         or_left (begins front word) (list_any (begins front) words)
-        (subst (λ w. begins front w ≡ true) ((bytes_eq-Decides (front ++ more) word).0 e) (begins_front front more))
+        (subst (λ w. begins front w ≡ true) ((bytes_eq-Decides (front ++ more) word).0 e)
+        (begins_front front more))
     one (inr e) rest = or_right (begins front word) (list_any (begins front) words) (rest e)
 
 -- a value may be said, or each of its characters that leaves what may be said breaks a rule that
@@ -56,7 +58,8 @@ pub said_begins : (n : ℕ) (said : Said) (quote : ℕ) (read : List ℕ) (c : �
     → n ≤ said_fault said quote c
 said_begins n said quote read c value (inl is) fails =
     absurd (both_ways _ fails
-    (front_of_any (read ++ said_character said c ∷ []) (map (said_character said) value) (said_values said)
+    (front_of_any (read ++ said_character said c ∷ []) (map (said_character said) value)
+    (said_values said)
     (subst (λ w. list_any (bytes_eq w) (said_values said) ≡ true)
     (sym (append_assoc read (said_character said c ∷ []) (map (said_character said) value))) is)))
 said_begins n said quote read c value (inr faults) fails = faults.0.0
@@ -69,30 +72,37 @@ said_whole n said quote read (inl is) fails =
 said_whole n said quote read (inr faults) fails = faults.1
 
 -- the values of the version and of standing alone
-pub version_apart : (quote : ℕ) → is_quote quote ≡ true → Each (λ c. (c == quote) ≡ false) version_value
+pub version_apart : (quote : ℕ) → is_quote quote ≡ true
+    → Each (λ c. (c == quote) ≡ false) version_value
 unfolding version_value
 version_apart quote is =
-    quote_is (λ q. Each (λ c. (c == q) ≡ false) version_value) quote (refl, (refl, (refl, tt))) (refl, (refl, (refl, tt))) is
+    quote_is (λ q. Each (λ c. (c == q) ≡ false) version_value) quote (refl, (refl, (refl, tt)))
+    (refl, (refl, (refl, tt))) is
 
 pub yes_apart : (quote : ℕ) → is_quote quote ≡ true → Each (λ c. (c == quote) ≡ false) yes_value
 unfolding yes_value
 yes_apart quote is =
-    quote_is (λ q. Each (λ c. (c == q) ≡ false) yes_value) quote (refl, (refl, (refl, tt))) (refl, (refl, (refl, tt))) is
+    quote_is (λ q. Each (λ c. (c == q) ≡ false) yes_value) quote (refl, (refl, (refl, tt)))
+    (refl, (refl, (refl, tt))) is
 
 pub no_apart : (quote : ℕ) → is_quote quote ≡ true → Each (λ c. (c == quote) ≡ false) no_value
 unfolding no_value
 no_apart quote is =
-    quote_is (λ q. Each (λ c. (c == q) ≡ false) no_value) quote (refl, (refl, tt)) (refl, (refl, tt)) is
+    quote_is (λ q. Each (λ c. (c == q) ≡ false) no_value) quote (refl, (refl, tt))
+    (refl, (refl, tt)) is
 
-pub version_said : list_any (bytes_eq (map (said_character Version) version_value)) (said_values Version) ≡ true
+pub version_said : list_any (bytes_eq (map (said_character Version) version_value))
+    (said_values Version) ≡ true
 unfolding version_value
 version_said = refl
 
-pub yes_said : list_any (bytes_eq (map (said_character Standalone) yes_value)) (said_values Standalone) ≡ true
+pub yes_said : list_any (bytes_eq (map (said_character Standalone) yes_value))
+    (said_values Standalone) ≡ true
 unfolding yes_value no_value
 yes_said = refl
 
-pub no_said : list_any (bytes_eq (map (said_character Standalone) no_value)) (said_values Standalone) ≡ true
+pub no_said : list_any (bytes_eq (map (said_character Standalone) no_value))
+    (said_values Standalone) ≡ true
 unfolding yes_value no_value
 no_said = refl
 
@@ -101,7 +111,8 @@ unfolding is_encoding_character
 quote_no_encoding quote is = quote_is (λ q. is_encoding_character q ≡ false) quote refl refl is
 
 -- the value of an encoding
-encoding_apart : (quote c : ℕ) → is_quote quote ≡ true → is_encoding_character c ≡ true → (c == quote) ≡ false
+encoding_apart : (quote c : ℕ) → is_quote quote ≡ true → is_encoding_character c ≡ true
+    → (c == quote) ≡ false
 encoding_apart quote c is good = by (cases_Bool (c == quote))
   where
     by : ((c == quote) ≡ true) ⊎ ((c == quote) ≡ false) → (c == quote) ≡ false
@@ -116,7 +127,8 @@ encodings_apart quote [] is are = tt
 encodings_apart quote (c ∷ value) is are =
     (encoding_apart quote c is are.0, encodings_apart quote value is are.1)
 
-encoding_faults : (n quote : ℕ) (value : List ℕ) → n ≤ 9 → Each (λ c. is_encoding_character c ≡ true) value
+encoding_faults : (n quote : ℕ) (value : List ℕ) → n ≤ 9
+    → Each (λ c. is_encoding_character c ≡ true) value
     → Each (λ c. n ≤ said_fault Encoding quote c) value
 encoding_faults n quote [] less are = tt
 encoding_faults n quote (c ∷ value) less are = (
@@ -125,7 +137,8 @@ encoding_faults n quote (c ∷ value) less are = (
   encoding_faults n quote value less are.1,
 )
 
-pub encoding_or : (n quote : ℕ) (value : List ℕ) → EncodingKeeps n value → SaidOr n Encoding quote [] value
+pub encoding_or : (n quote : ℕ) (value : List ℕ) → EncodingKeeps n value
+    → SaidOr n Encoding quote [] value
 encoding_or n quote value keeps = by (cases_lt 9 n)
   where
     by : (9 < n) ⊎ (n ≤ 9) → SaidOr n Encoding quote [] value

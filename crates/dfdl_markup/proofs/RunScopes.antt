@@ -12,7 +12,8 @@ use Rattle.dfdl_markup.specs.Rules.{AreDifferent}
 use Rattle.dfdl_markup.specs.Machine.{StartTag, is_given}
 
 -- what is found is found in more
-found_more : (xs ys : List Binding) (p v : List ℕ) → found xs p ≡ Some v → found (xs ++ ys) p ≡ Some v
+found_more : (xs ys : List Binding) (p v : List ℕ) → found xs p ≡ Some v → found (xs ++ ys) p
+    ≡ Some v
 found_more [] ys p v is = absurd (cc)
 found_more (b ∷ xs) ys p v is = one (bytes_eq b.prefix p) is (found_more xs ys p v)
   where
@@ -96,7 +97,8 @@ names-append : (xs ys : List Attribute) → names_of (xs ++ ys) ≡ names_of xs 
 names-append [] ys = refl
 names-append (x ∷ xs) ys = ap (λ l. x.name ∷ l) (names-append xs ys)
 
-bindings-append : (xs ys : List Attribute) → bindings_of (xs ++ ys) ≡ bindings_of xs ++ bindings_of ys
+bindings-append : (xs ys : List Attribute) → bindings_of (xs ++ ys)
+    ≡ bindings_of xs ++ bindings_of ys
 bindings-append [] ys = refl
 bindings-append (x ∷ xs) ys = one (binding_of x) (bindings-append xs ys)
   where
@@ -107,7 +109,8 @@ bindings-append (x ∷ xs) ys = one (binding_of x) (bindings-append xs ys)
 
 -- by the bindings of those before alone
 by_front : (scope : List Binding) (before behind : List Attribute)
-    → have_same (same_expanded (scope_in (before ++ behind) scope)) (names_of (before ++ behind)) ≡ false
+    → have_same (same_expanded (scope_in (before ++ behind) scope)) (names_of (before ++ behind))
+    ≡ false
     → have_same (same_expanded (bindings_of before)) (names_of before ++ names_of behind) ≡ false
 by_front scope before behind none =
     have_of_fewer (same_expanded (bindings_of before))

@@ -1,9 +1,11 @@
 -- How a run over what is written ends, by the rules below n, and the steps that it takes.
 use Rattle.std.proofs.Common.{◌≡◌, ℕ, ◌==◌, ◌<◌, ◌≤◌, Bool, true, false}
-use Rattle.std.proofs.Common.{if◌then◌else◌, List, ◌∷◌, Result, Ok, Err, refl, sym, ap}
+use Rattle.std.proofs.Common.{if◌then◌else◌, List, [], ◌∷◌, ◌++◌, Result, Ok, Err, refl, sym, ap}
 use Rattle.std.proofs.Common.{subst, inl, inr}
 use Rattle.std.proofs.lemmas.Bool.{cases_lt, eq-eqb}
 use Rattle.dfdl_layers.specs.Tellers.{go_on, run}
+use Rattle.dfdl_markup.specs.Grammar.{is_white}
+use Rattle.dfdl_markup.specs.Rules.{AreWhite}
 use Rattle.dfdl_markup.specs.Machine.{Place, Ahead, NothingAhead, Frame, State, step, accepts}
 
 -- by all rules it is accepted, and no rule below n is told
@@ -28,6 +30,14 @@ RunsFrom n begun frames place text =
 pub goes : (n : ℕ) (s t : State) (c : ℕ) (text : List ℕ) → step s c ≡ Ok t
     → Ends n (run step t text) → Ends n (run step s (c ∷ text))
 goes n s t c text is ends = subst (λ a. After n a text) (sym is) ends
+
+-- white space that leaves the state
+pub whites_stay : (n : ℕ) (s : State) → ((w : ℕ) → is_white w ≡ true → step s w ≡ Ok s)
+    → (space text : List ℕ) → AreWhite space → Ends n (run step s text)
+    → Ends n (run step s (space ++ text))
+whites_stay n s stays [] text are ends = ends
+whites_stay n s stays (w ∷ space) text are ends =
+    goes n s s w (space ++ text) (stays w are.0) (whites_stay n s stays space text are.1 ends)
 
 -- a rule that is kept only below n isn't told
 pub not_under : (n m : ℕ) → (m < n → ⊥) → n ≤ m

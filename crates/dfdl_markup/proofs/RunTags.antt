@@ -14,19 +14,21 @@ use Rattle.dfdl_markup.specs.Values.{is_found, scope_in, bindings_of, have_same,
 use Rattle.dfdl_markup.specs.Rules.{AreWhite, GivenKeeps, attributes_of, AreDifferent}
 use Rattle.dfdl_markup.specs.Rules.{TagKeeps}
 use Rattle.dfdl_markup.specs.Machine.{Reading, First, whole_name, StartTag, OpenValue, Place}
-use Rattle.dfdl_markup.specs.Machine.{AtOpened, AtTagName, AtTag, AtAttributeName, AtNamed, AtEquals}
+use Rattle.dfdl_markup.specs.Machine.{AtOpened, AtTagName, AtTag, AtAttributeName, AtNamed}
+use Rattle.dfdl_markup.specs.Machine.{AtEquals}
 use Rattle.dfdl_markup.specs.Machine.{AtValue, AtSlash, Ahead, NothingAhead, Frame, State, step}
 use Rattle.dfdl_markup.specs.Machine.{scope_of, may_begin, begin_by, opened_step, have_clash}
 use Rattle.dfdl_markup.specs.Machine.{all_found, if_ends, entered, passed, tag_step, tag_of}
 use Rattle.dfdl_markup.specs.Machine.{tag_name_or, tag_name_step, is_given, attribute_named}
-use Rattle.dfdl_markup.specs.Machine.{behind_name, attribute_name_or, attribute_name_step, named_step}
+use Rattle.dfdl_markup.specs.Machine.{behind_name, attribute_name_or, attribute_name_step}
+use Rattle.dfdl_markup.specs.Machine.{named_step}
 use Rattle.dfdl_markup.specs.Machine.{value_begun, equals_step, fixed_value, may_close}
 use Rattle.dfdl_markup.specs.Machine.{has_sure_clash, value_step, with_value, slash_step}
 use Rattle.dfdl_markup.proofs.RunNames.{EndsName, ReadsOn, name_read, next_none, white_ends}
-use Rattle.dfdl_markup.proofs.RunNames.{slash_ends, equals_ends, greater_ends}
+use Rattle.dfdl_markup.proofs.RunNames.{end_marks}
 use Rattle.dfdl_markup.proofs.RunScopes.{name_is_new, none_sure}
 use Rattle.dfdl_markup.proofs.RunSteps.{Ends, After, state, RunsFrom, goes, not_under, if_true}
-use Rattle.dfdl_markup.proofs.RunSteps.{if_false, at_test, same_is}
+use Rattle.dfdl_markup.proofs.RunSteps.{if_false, whites_stay, at_test, same_is}
 use Rattle.dfdl_markup.proofs.RunValues.{closes, value, value_runs, quote_is}
 
 -- no character that a name begins with ends names
@@ -55,7 +57,8 @@ abbrev pub EndsFirst : List ℕ → Type 0
 EndsFirst [] = ⊥
 EndsFirst (c ∷ text) = EndsName c
 
-given_ends : (space a b c : List ℕ) → AreWhite space → 0 < length space → EndsFirst (((space ++ a) ++ b) ++ c)
+given_ends : (space a b c : List ℕ) → AreWhite space → 0 < length space
+    → EndsFirst (((space ++ a) ++ b) ++ c)
 given_ends [] a b c are some = absurd (omega arith)
 given_ends (w ∷ space) a b c are some = white_ends w are.0
 
@@ -70,7 +73,8 @@ behind_ends : (n : ℕ) (givens : List Given) (space : List ℕ) (e : ℕ) (text
     → EndsFirst (flat_map given_characters givens ++ (space ++ e ∷ text))
 behind_ends n [] space e text keep are ends = space_ends space e text are ends
 behind_ends n (given ∷ givens) space e text keep are ends =
-    given_ends given.space _ (flat_map given_characters givens) (space ++ e ∷ text) keep.0.space keep.0.some_space
+    given_ends given.space _ (flat_map given_characters givens)
+    (space ++ e ∷ text) keep.0.space keep.0.some_space
 
 all_of_each : (p : Name → Bool) (names : List Name) → Each (λ x. p x ≡ true) names
     → list_all p names ≡ true
@@ -82,7 +86,8 @@ given_text : (space name before after items tail : List ℕ) (quote : ℕ)
     ≡ space ++ (name ++ (before ++ 61 ∷ (after ++ quote ∷ (items ++ quote ∷ tail))))
 given_text space name before after items tail quote = simp append_assoc
 
-tag_text : (name givens space tail : List ℕ) → (name ++ (givens ++ space)) ++ tail ≡ name ++ (givens ++ (space ++ tail))
+tag_text : (name givens space tail : List ℕ) → (name ++ (givens ++ space)) ++ tail
+    ≡ name ++ (givens ++ (space ++ tail))
 tag_text name givens space tail = simp append_assoc
 
 -- an element may begin, or the rule that forbids it isn't below n
@@ -98,16 +103,6 @@ module _ (n begun : ℕ) (frames : List Frame) where
   abbrev here : Place → State
   here place = state NothingAhead place begun frames
 
-  -- white space that leaves the place
-  pub whites_stay : (place : Place)
-      → ((w : ℕ) → is_white w ≡ true → step (here place) w ≡ Ok (here place))
-      → (space tail : List ℕ) → AreWhite space → RunsFrom n begun frames place tail
-      → RunsFrom n begun frames place (space ++ tail)
-  whites_stay place stays [] tail are ends = ends
-  whites_stay place stays (w ∷ space) tail are ends =
-      goes n (here place) (here place) w (space ++ tail) (stays w are.0)
-      (whites_stay place stays space tail are.1 ends)
-
   tag_white : (tag : StartTag) (spaced : Bool) (w : ℕ) → is_white w ≡ true
       → step (here (AtTag tag spaced)) w ≡ Ok (here (AtTag tag true))
   unfolding step tag_step
@@ -121,7 +116,7 @@ module _ (n begun : ℕ) (frames : List Frame) where
   tag_space tag spaced (w ∷ space) tail some are ends =
       goes n (here (AtTag tag spaced)) (here (AtTag tag true)) w (space ++ tail)
       (tag_white tag spaced w are.0)
-      (whites_stay (AtTag tag true) (tag_white tag true) space tail are.1 ends)
+      (whites_stay n (here (AtTag tag true)) (tag_white tag true) space tail are.1 ends)
 
   -- any white space before the end of a tag
   tag_last : (tag : StartTag) (spaced : Bool) (space tail : List ℕ) → AreWhite space
@@ -131,7 +126,7 @@ module _ (n begun : ℕ) (frames : List Frame) where
   tag_last tag spaced (w ∷ space) tail are ends =
       goes n (here (AtTag tag spaced)) (here (AtTag tag true)) w (space ++ tail)
       (tag_white tag spaced w are.0)
-      (whites_stay (AtTag tag true) (tag_white tag true) space tail are.1 (ends true))
+      (whites_stay n (here (AtTag tag true)) (tag_white tag true) space tail are.1 (ends true))
 
   -- the name of an attribute
   attribute_begun : (tag : StartTag) (c : ℕ) → is_name_start c ≡ true
@@ -139,8 +134,8 @@ module _ (n begun : ℕ) (frames : List Frame) where
   unfolding step tag_step
   attribute_begun tag c starts =
       if_false (is_white c) _ _ (starts_no_white c starts)
-      ∙ (if_false (c == 62) _ _ (starts_apart c 62 starts greater_ends)
-      ∙ (if_false (c == 47) _ _ (starts_apart c 47 starts slash_ends)
+      ∙ (if_false (c == 62) _ _ (starts_apart c 62 starts end_marks.greater)
+      ∙ (if_false (c == 47) _ _ (starts_apart c 47 starts end_marks.slash)
       ∙ if_true (is_name_start c) _ _ starts))
 
   attribute_more : (tag : StartTag) (reading last : Reading) (more tail : List ℕ)
@@ -168,7 +163,8 @@ module _ (n begun : ℕ) (frames : List Frame) where
   -- what a name that ends there is followed by
   name_end : (tag : StartTag) (last : Reading) (name : Name) (c : ℕ) → whole_name last ≡ Some name
       → EndsName c
-      → step (here (AtAttributeName tag last)) c ≡ behind_name (here (AtAttributeName tag last)) tag name c
+      → step (here (AtAttributeName tag last)) c
+      ≡ behind_name (here (AtAttributeName tag last)) tag name c
   unfolding step attribute_name_step
   name_end tag last name c whole ends =
       let s = here (AtAttributeName tag last) in
@@ -189,14 +185,15 @@ module _ (n begun : ℕ) (frames : List Frame) where
       → RunsFrom n begun frames (AtAttributeName tag last) (before ++ 61 ∷ tail)
   unfolding behind_name is_white
   equals_runs tag last name [] tail whole new are ends =
-      subst (λ a. After n a tail) (sym (name_end tag last name 61 whole equals_ends))
+      subst (λ a. After n a tail) (sym (name_end tag last name 61 whole end_marks.equals))
       (is_new tag last name (AtEquals tag name) tail new ends)
   equals_runs tag last name (w ∷ before) tail whole new are ends =
       subst (λ a. After n a (before ++ 61 ∷ tail))
       (sym (name_end tag last name w whole (white_ends w are.0) ∙ if_true (is_white w) _ _ are.0))
       (is_new tag last name (AtNamed tag name) (before ++ 61 ∷ tail) new
-      (whites_stay (AtNamed tag name) (named_white tag name) before (61 ∷ tail) are.1
-      (goes n (here (AtNamed tag name)) (here (AtEquals tag name)) 61 tail (named_equals tag name) ends)))
+      (whites_stay n (here (AtNamed tag name)) (named_white tag name) before (61 ∷ tail) are.1
+      (goes n (here (AtNamed tag name)) (here (AtEquals tag name)) 61 tail
+      (named_equals tag name) ends)))
 
   equals_white : (tag : StartTag) (name : Name) (w : ℕ) → is_white w ≡ true
       → step (here (AtEquals tag name)) w ≡ Ok (here (AtEquals tag name))
@@ -240,47 +237,62 @@ module _ (n begun : ℕ) (frames : List Frame) where
       let read = name_read name keeps.name in
       let closing = items ++ given.quote ∷ tail in
       let opening = given.after ++ given.quote ∷ closing in
-      let text : given_characters given ++ tail ≡ given.space ++ (read.first ∷ (read.more ++ (given.before ++ 61 ∷ opening))) =
+      let text : given_characters given ++ tail
+      ≡ given.space ++ (read.first ∷ (read.more ++ (given.before ++ 61 ∷ opening))) =
       given_text given.space (name_characters name) given.before given.after items tail given.quote
       ∙ ap (λ l. given.space ++ (l ++ (given.before ++ 61 ∷ opening))) read.is
       in
       subst (λ l. RunsFrom n begun frames (AtTag tag spaced) l) (sym text)
-      (tag_space tag spaced given.space (read.first ∷ (read.more ++ (given.before ++ 61 ∷ opening))) keeps.some_space keeps.space
-      (goes n (here (AtTag tag true)) (here (AtAttributeName tag (First (read.first ∷ [])))) read.first
+      (tag_space tag spaced given.space
+      (read.first ∷ (read.more ++ (given.before ++ 61 ∷ opening))) keeps.some_space keeps.space
+      (goes n (here (AtTag tag true))
+      (here (AtAttributeName tag (First (read.first ∷ [])))) read.first
       (read.more ++ (given.before ++ 61 ∷ opening)) (attribute_begun tag read.first read.starts)
-      (attribute_more tag (First (read.first ∷ [])) read.last read.more (given.before ++ 61 ∷ opening) read.follows
+      (attribute_more tag (First (read.first ∷ [])) read.last read.more
+      (given.before ++ 61 ∷ opening) read.follows
       (equals_runs tag read.last name given.before opening read.whole
       (λ less. name_is_new scope tag (attribute_of given) behind (differ less)) keeps.before
-      (whites_stay (AtEquals tag name) (equals_white tag name) given.after (given.quote ∷ closing) keeps.after
-      (goes n (here (AtEquals tag name)) (here (AtValue (value_begun tag name given.quote))) given.quote closing
+      (whites_stay n (here (AtEquals tag name)) (equals_white tag name) given.after
+      (given.quote ∷ closing) keeps.after
+      (goes n (here (AtEquals tag name))
+      (here (AtValue (value_begun tag name given.quote))) given.quote closing
       (equals_quote tag name given.quote keeps.quote)
-      (value_runs n begun frames tag name given.quote given.value (given.quote ∷ tail) keeps.quote keeps.value keeps.binds
-      (λ last. value_end (value n begun frames tag name given.quote (value_of given.value) last) tail
+      (value_runs n begun frames tag name given.quote given.value
+      (given.quote ∷ tail) keeps.quote keeps.value keeps.binds
+      (λ last. value_end (value n begun frames tag name given.quote (value_of given.value) last)
+      tail
       (closes (declares name) given.value keeps.binds)
       (λ less. sure (declares name) (tag.attributes ++ attribute_of given ∷ [])
       (none_sure scope (tag.attributes ++ attribute_of given ∷ []) behind
-      (subst (AreDifferent scope) (sym (append_assoc tag.attributes (attribute_of given ∷ []) behind)) (differ less)))) ends))))))))
+      (subst (AreDifferent scope)
+      (sym (append_assoc tag.attributes (attribute_of given ∷ []) behind)) (differ less))))
+      ends))))))))
 
   -- the attributes of a tag
   givens_run : (scope : List Binding) (tag : StartTag) (spaced : Bool) (givens : List Given)
       (tail : List ℕ) → Each (GivenKeeps n) givens
       → (5 < n → AreDifferent scope (tag.attributes ++ map attribute_of givens))
       → ((last : Bool) → RunsFrom n begun frames
-      (AtTag (record { name = tag.name; attributes = tag.attributes ++ map attribute_of givens }) last) tail)
+      (AtTag (record { name = tag.name; attributes = tag.attributes ++ map attribute_of givens })
+      last) tail)
       → RunsFrom n begun frames (AtTag tag spaced) (flat_map given_characters givens ++ tail)
   givens_run scope tag spaced [] tail keep differ ends =
-      subst (λ l. RunsFrom n begun frames (AtTag (record { name = tag.name; attributes = l }) spaced) tail)
+      subst (λ l. RunsFrom n begun frames
+      (AtTag (record { name = tag.name; attributes = l }) spaced) tail)
       (append-nil tag.attributes) (ends spaced)
   givens_run scope tag spaced (given ∷ givens) tail keep differ ends =
       let a = attribute_of given in
-      let joined : (tag.attributes ++ a ∷ []) ++ map attribute_of givens ≡ tag.attributes ++ a ∷ map attribute_of givens =
+      let joined : (tag.attributes ++ a ∷ []) ++ map attribute_of givens
+      ≡ tag.attributes ++ a ∷ map attribute_of givens =
       append_assoc tag.attributes (a ∷ []) (map attribute_of givens) in
       subst (λ l. RunsFrom n begun frames (AtTag tag spaced) l)
       (sym (append_assoc (given_characters given) (flat_map given_characters givens) tail))
-      (given_runs scope tag spaced given (map attribute_of givens) (flat_map given_characters givens ++ tail) keep.0 differ
+      (given_runs scope tag spaced given (map attribute_of givens)
+      (flat_map given_characters givens ++ tail) keep.0 differ
       (givens_run scope (with tag a) false givens tail keep.1
       (λ less. subst (AreDifferent scope) (sym joined) (differ less))
-      (λ last. subst (λ l. RunsFrom n begun frames (AtTag (record { name = tag.name; attributes = l }) last) tail)
+      (λ last. subst (λ l. RunsFrom n begun frames
+      (AtTag (record { name = tag.name; attributes = l }) last) tail)
       (sym joined) (ends last))))
 
   -- the name of a tag
@@ -310,7 +322,13 @@ module _ (n begun : ℕ) (frames : List Frame) where
 
   -- an element may begin
   begins : (o : Option ℕ) (s : State) (c : ℕ) (text : List ℕ) → Allows n o
-      → Ends n (run step (record { ahead = NothingAhead; place = AtTagName (First (c ∷ [])); begun = s.begun; frames = s.frames }) text)
+      → Ends n (run step (record {
+        ahead = NothingAhead;
+        place = AtTagName
+            (First (c ∷ []));
+        begun = s.begun;
+        frames = s.frames;
+      }) text)
       → After n (begin_by o s c) text
   begins None s c text allows ends = ends
   begins (Some rule) s c text allows ends = allows
@@ -331,13 +349,16 @@ module _ (n begun : ℕ) (frames : List Frame) where
       tag_text (name_characters tag.name) givens tag.space (e ∷ tail) ∙ ap (λ l. l ++ rest) read.is
       in
       subst (λ l. Ends n (run step s l)) (sym text)
-      (subst (λ a. After n a (read.more ++ rest)) (sym (if_true (is_name_start read.first) _ _ read.starts))
+      (subst (λ a. After n a (read.more ++ rest))
+      (sym (if_true (is_name_start read.first) _ _ read.starts))
       (begins (may_begin begun frames) s read.first (read.more ++ rest) allows
       (tag_more (First (read.first ∷ [])) read.last read.more rest read.follows
       (tag_named read.last tag.name rest read.whole
       (behind_ends n tag.attributes tag.space e tail keeps.given keeps.space ending)
-      (givens_run (scope_of frames) (tag_of tag.name) false tag.attributes (tag.space ++ e ∷ tail) keeps.given keeps.differ
-      (λ last. tag_last (record { name = tag.name; attributes = attributes_of tag }) last tag.space (e ∷ tail) keeps.space ends))))))
+      (givens_run (scope_of frames) (tag_of tag.name) false tag.attributes
+      (tag.space ++ e ∷ tail) keeps.given keeps.differ
+      (λ last. tag_last (record { name = tag.name; attributes = attributes_of tag }) last tag.space
+      (e ∷ tail) keeps.space ends))))))
 
   -- the tag may end
   tag_ends : (s : State) (tag : Tag) (next : State) (tail : List ℕ) → s.frames ≡ frames
@@ -357,13 +378,15 @@ module _ (n begun : ℕ) (frames : List Frame) where
   -- behind a start tag
   pub entered_runs : (ahead : Ahead) (tag : Tag) (tail : List ℕ) → TagKeeps n (scope_of frames) tag
       → Allows n (may_begin begun frames)
-      → Ends n (run step (entered (here AtOpened) (record { name = tag.name; attributes = attributes_of tag })) tail)
+      → Ends n (run step (entered (here AtOpened)
+      (record { name = tag.name; attributes = attributes_of tag })) tail)
       → Ends n (run step (state ahead AtOpened begun frames) (tag_characters tag ++ 62 ∷ tail))
   unfolding step tag_step is_white
   entered_runs ahead tag tail keeps allows ends =
       let start : StartTag = record { name = tag.name; attributes = attributes_of tag } in
-      tag_runs ahead tag 62 tail keeps allows greater_ends
-      (λ last. tag_ends (here (AtTag start last)) tag (entered (here AtOpened) start) tail refl keeps ends)
+      tag_runs ahead tag 62 tail keeps allows end_marks.greater
+      (λ last. tag_ends (here (AtTag start last)) tag
+      (entered (here AtOpened) start) tail refl keeps ends)
 
   -- behind one that closes itself
   pub passed_runs : (ahead : Ahead) (tag : Tag) (tail : List ℕ) → TagKeeps n (scope_of frames) tag
@@ -372,5 +395,6 @@ module _ (n begun : ℕ) (frames : List Frame) where
   unfolding step tag_step slash_step is_white
   passed_runs ahead tag tail keeps allows ends =
       let start : StartTag = record { name = tag.name; attributes = attributes_of tag } in
-      tag_runs ahead tag 47 (62 ∷ tail) keeps allows slash_ends
-      (λ last. tag_ends (here (AtTag start last)) tag (here (AtSlash start)) (62 ∷ tail) refl keeps ends)
+      tag_runs ahead tag 47 (62 ∷ tail) keeps allows end_marks.slash
+      (λ last. tag_ends (here (AtTag start last)) tag (here (AtSlash start))
+      (62 ∷ tail) refl keeps ends)

@@ -1,6 +1,7 @@
 -- The machine runs over the values of attributes.
 use Rattle.std.proofs.Common.{◌≡◌, ℕ, ◌==◌, ◌&&◌, Bool, true, false, not}
-use Rattle.std.proofs.Common.{if◌then◌else◌, List, [], ◌∷◌, ◌++◌, Option, Some, None, option_and_then}
+use Rattle.std.proofs.Common.{if◌then◌else◌, List, [], ◌∷◌, ◌++◌, Option, Some, None}
+use Rattle.std.proofs.Common.{option_and_then}
 use Rattle.std.proofs.Common.{Ok, map, refl, sym, ap, ◌∙◌, subst, inl, inr}
 use Rattle.std.proofs.Common.{append_assoc}
 use Rattle.std.specs.List.{flat_map}
@@ -16,7 +17,8 @@ use Rattle.dfdl_markup.specs.Values.{xml_namespace, xmlns_namespace, xml_prefix,
 use Rattle.dfdl_markup.specs.Values.{fixed_namespace}
 use Rattle.dfdl_markup.specs.Rules.{is_value_character, ItemKeeps, MayDeclare, BindsWell}
 use Rattle.dfdl_markup.specs.Machine.{StartTag, OpenValue, InValue, Place, AtValue, AtReference}
-use Rattle.dfdl_markup.specs.Machine.{NothingAhead, Frame, State, step, begins, fixed_value, may_close}
+use Rattle.dfdl_markup.specs.Machine.{NothingAhead, Frame, State, step, begins, fixed_value}
+use Rattle.dfdl_markup.specs.Machine.{may_close}
 use Rattle.dfdl_markup.specs.Machine.{value_goes_on, value_step}
 use Rattle.dfdl_markup.proofs.RunReferences.{begins_front, reference_runs}
 use Rattle.dfdl_markup.proofs.RunSteps.{state, RunsFrom, goes, if_true, if_false}
@@ -51,14 +53,18 @@ letter_is quote c is =
     }
 
 -- the namespaces of the prefixes `xml` and `xmlns` are read as they are written
-fixed_read : (prefix fixed : List ℕ) → fixed_namespace prefix ≡ Some fixed → value_of (map Letter fixed) ≡ fixed
+fixed_read : (prefix fixed : List ℕ) → fixed_namespace prefix ≡ Some fixed
+    → value_of (map Letter fixed) ≡ fixed
 unfolding xml_namespace xmlns_namespace is_white
 fixed_read prefix fixed is = one (bytes_eq prefix xml_prefix) (bytes_eq prefix xmlns_prefix) is
   where
-    one : (a b : Bool) → (if a then Some xml_namespace else (if b then Some xmlns_namespace else None)) ≡ Some fixed
+    one : (a b : Bool) →
+        (if a then Some xml_namespace else (if b then Some xmlns_namespace else None)) ≡ Some fixed
         → value_of (map Letter fixed) ≡ fixed
-    one true b e = let same : xml_namespace ≡ fixed = cc in subst (λ f. value_of (map Letter f) ≡ f) same refl
-    one false true e = let same : xmlns_namespace ≡ fixed = cc in subst (λ f. value_of (map Letter f) ≡ f) same refl
+    one true b e = let same : xml_namespace
+        ≡ fixed = cc in subst (λ f. value_of (map Letter f) ≡ f) same refl
+    one false true e = let same : xmlns_namespace
+        ≡ fixed = cc in subst (λ f. value_of (map Letter f) ≡ f) same refl
     one false false e = absurd (cc)
 
 -- what may be declared may be closed
@@ -84,7 +90,8 @@ fixed_items (Some prefix) fixed items is binds =
 -- a reference, and what follows it
 pub reference_text : (reference : Reference) (rest : List ℕ)
     → reference_characters reference ++ rest ≡ 38 ∷ (reference_inside reference ++ 59 ∷ rest)
-reference_text reference rest = ap (λ l. 38 ∷ l) (append_assoc (reference_inside reference) (59 ∷ []) rest)
+reference_text reference rest = ap (λ l. 38 ∷ l)
+    (append_assoc (reference_inside reference) (59 ∷ []) rest)
 
 module _ (n begun : ℕ) (frames : List Frame) (tag : StartTag) (name : Name) (quote : ℕ) where
   abbrev here : Place → State
@@ -123,7 +130,8 @@ module _ (n begun : ℕ) (frames : List Frame) (tag : StartTag) (name : Name) (q
   -- the items of a value that isn't fixed
   items_runs : (text : List ℕ) (cr : Bool) (items : List Item) (tail : List ℕ)
       → fixed_value name ≡ None → is_quote quote ≡ true → Each (ItemKeeps n quote) items
-      → ((last : Bool) → RunsFrom n begun frames (AtValue (value (text ++ items_read cr items) last)) tail)
+      → ((last : Bool) → RunsFrom n begun frames
+      (AtValue (value (text ++ items_read cr items) last)) tail)
       → RunsFrom n begun frames (AtValue (value text cr)) (flat_map item_characters items ++ tail)
   items_runs text cr [] tail free is keep ends =
       subst (λ w. RunsFrom n begun frames (AtValue (value w cr)) tail) (append-nil text) (ends cr)
@@ -149,12 +157,15 @@ module _ (n begun : ℕ) (frames : List Frame) (tag : StartTag) (name : Name) (q
       (sym (append_assoc text (referred reference ∷ []) (items_read false items))) (ends last)))))
 
   -- the letters of one that is fixed
-  letters_run : (text left fixed : List ℕ) (cr : Bool) (tail : List ℕ) → fixed_value name ≡ Some fixed
+  letters_run : (text left fixed : List ℕ) (cr : Bool) (tail : List ℕ) → fixed_value name
+      ≡ Some fixed
       → text ++ left ≡ fixed → Each (ItemKeeps n quote) (map Letter left)
       → ((last : Bool) → RunsFrom n begun frames (AtValue (value fixed last)) tail)
-      → RunsFrom n begun frames (AtValue (value text cr)) (flat_map item_characters (map Letter left) ++ tail)
+      → RunsFrom n begun frames (AtValue (value text cr))
+      (flat_map item_characters (map Letter left) ++ tail)
   letters_run text [] fixed cr tail is whole keep ends =
-      subst (λ w. RunsFrom n begun frames (AtValue (value w cr)) tail) (sym whole ∙ append-nil text) (ends cr)
+      subst (λ w. RunsFrom n begun frames (AtValue (value w cr)) tail) (sym whole ∙ append-nil text)
+      (ends cr)
   letters_run text (c ∷ left) fixed cr tail is whole keep ends =
       let joined : (text ++ c ∷ []) ++ left ≡ fixed = append_assoc text (c ∷ []) left ∙ whole in
       goes n (here (AtValue (value text cr))) (here (AtValue (value (text ++ c ∷ []) false))) c
@@ -172,9 +183,12 @@ module _ (n begun : ℕ) (frames : List Frame) (tag : StartTag) (name : Name) (q
       items_runs [] false items tail is quoted keep ends
   value_by (Some fixed) items tail is quoted keep binds ends =
       let known = fixed_items (declares name) fixed items is binds in
-      subst (λ l. RunsFrom n begun frames (AtValue (value [] false)) (flat_map item_characters l ++ tail)) (sym known.0)
-      (letters_run [] fixed fixed false tail is refl (subst (λ l. Each (ItemKeeps n quote) l) known.0 keep)
-      (λ last. subst (λ w. RunsFrom n begun frames (AtValue (value w last)) tail) known.1 (ends last)))
+      subst (λ l. RunsFrom n begun frames (AtValue (value [] false))
+      (flat_map item_characters l ++ tail)) (sym known.0)
+      (letters_run [] fixed fixed false tail is refl
+      (subst (λ l. Each (ItemKeeps n quote) l) known.0 keep)
+      (λ last. subst (λ w. RunsFrom n begun frames (AtValue (value w last)) tail) known.1
+      (ends last)))
 
   pub value_runs : (items : List Item) (tail : List ℕ)
       → is_quote quote ≡ true → Each (ItemKeeps n quote) items → BindsWell (declares name) items

@@ -1,6 +1,7 @@
 -- The machine runs over every document, by the rules that it keeps.
 use Rattle.std.proofs.Common.{◌≡◌, ℕ, ◌+◌, ◌<◌, ◌≤◌, Bool, true, false, List, [], ◌++◌}
-use Rattle.std.proofs.Common.{Option, Some, None, Result, Ok, Err, refl, sym, ◌∙◌, subst, inl, inr, arith}
+use Rattle.std.proofs.Common.{Option, Some, None, Result, Ok, Err, refl, sym, ◌∙◌, subst, inl, inr}
+use Rattle.std.proofs.Common.{arith}
 use Rattle.std.proofs.lemmas.List.{append-nil}
 use Rattle.std.proofs.lemmas.Bool.{eq-eqb, cases_lt}
 use Rattle.dfdl_layers.specs.Tellers.{Keeps, run}
@@ -30,14 +31,16 @@ module _ (n : ℕ) where
       (content_runs n last.content ahead 0 [] before [] last.keeps last.one_root
       (λ a b. accepted a b (0 + roots last.content) last.one_root))
 
-  declared_ends : (ahead : Ahead) (text : List ℕ) → may_declare ahead ≡ true → Declared n 0 0 [] text
+  declared_ends : (ahead : Ahead) (text : List ℕ) → may_declare ahead ≡ true
+      → Declared n 0 0 [] text
       → Ends n (run step (state ahead (AtContent 0) 0 []) text)
   declared_ends ahead text may declared =
       subst (λ l. Ends n (run step (state ahead (AtContent 0) 0 []) l)) (sym declared.is)
       (by declared.declaration declared.keeps)
     where
       by : (declaration : Option Declaration) → MayDeclareItself n declaration
-          → Ends n (run step (state ahead (AtContent 0) 0 []) (declaration_characters declaration ++ declared.rest))
+          → Ends n (run step (state ahead (AtContent 0) 0 [])
+          (declaration_characters declaration ++ declared.rest))
       by None keeps = last_ends ahead 0 declared.rest declared.close
       by (Some declaration) keeps =
           declaration_runs n ahead declaration declared.rest may keeps
@@ -71,7 +74,8 @@ keeps_of_tells n (Err m) few tells = omega (arith, tells.0)
 pub document_keeps : (n : ℕ) (text : List ℕ) → Rest n start text → Keeps n (run step start text)
 document_keeps n text rest =
     elim (cases_lt 3 n) [
-      | inl less ↦ keeps_of_ends n (run step start text) (whole_ends n text (whole_of n text (rest less)))
+      | inl less ↦ keeps_of_ends n (run step start text)
+          (whole_ends n text (whole_of n text (rest less)))
       | inr few ↦ keeps_of_tells n (run step start text) few (run_tells text start)
     ]
 

@@ -42,3 +42,4 @@ pub mod RunSaid
 pub mod RunDeclaration
 pub mod RunRules
 pub mod Runs
+pub mod ForesightForms

@@ -38,7 +38,7 @@ plain_no : is_plain no_value ≡ true
 unfolding no_value
 plain_no = refl
 
-said_plain : (said : Said) (value : List ℕ) → IsSaid said value → is_plain value ≡ true
+pub said_plain : (said : Said) (value : List ℕ) → IsSaid said value → is_plain value ≡ true
 said_plain Version value is = ap is_plain is ∙ plain_version
 said_plain Encoding value is = ap is_plain is ∙ plain_encoding
 said_plain Standalone value is = elim is [
@@ -211,7 +211,7 @@ word_begins (Some Encoding) c =
     (λ is. begins_by (Some Encoding) c Standalone is tt) (λ _. tt)
 word_begins (Some Standalone) c = tt
 
-words_plain : (said : Said) → is_plain (said_word said) ≡ true
+pub words_plain : (said : Said) → is_plain (said_word said) ≡ true
 unfolding said_word
 words_plain Version = refl
 words_plain Encoding = refl

@@ -43,3 +43,4 @@ pub mod RunDeclaration
 pub mod RunRules
 pub mod Runs
 pub mod ForesightForms
+pub mod ForesightPieces

@@ -45,7 +45,7 @@ pub record IsEntity (name : List ℕ) : Type 0 where
   pub known : IsSome (entity name)
   pub plain : is_plain name ≡ true
 
-all_entities : Each (λ e. IsEntity e.0) entities
+pub all_entities : Each (λ e. IsEntity e.0) entities
 unfolding entities is_name_start is_name_char low_start_rows low_name_rows
 all_entities = (
   record { part = (refl, (refl, (refl, tt))); known = refl; plain = refl },

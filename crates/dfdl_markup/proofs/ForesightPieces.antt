@@ -37,7 +37,7 @@ no_entity : (name : List ℕ) (c : ℕ) → 128 ≤ c → begins_entity (name ++
 no_entity name c high = none_in entities name c high all_entities
 
 -- what is left of an ASCII word has no such character
-plain_first : (word left : List ℕ) (w : ℕ) → is_plain (word ++ w ∷ left) ≡ true → w < 128
+pub plain_first : (word left : List ℕ) (w : ℕ) → is_plain (word ++ w ∷ left) ≡ true → w < 128
 plain_first [] left w plain =
     let parts = and_parts (nat_le 32 w && nat_le w 127) (is_plain left) plain in
     let ends = and_parts (nat_le 32 w) (nat_le w 127) parts.0 in

@@ -44,3 +44,4 @@ pub mod RunRules
 pub mod Runs
 pub mod ForesightForms
 pub mod ForesightPieces
+pub mod ForesightContent

@@ -45,3 +45,5 @@ pub mod Runs
 pub mod ForesightForms
 pub mod ForesightPieces
 pub mod ForesightContent
+pub mod ForesightTags
+pub mod ForesightEnds

@@ -47,3 +47,4 @@ pub mod ForesightPieces
 pub mod ForesightContent
 pub mod ForesightTags
 pub mod ForesightEnds
+pub mod Foresight

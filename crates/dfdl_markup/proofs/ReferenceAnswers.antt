@@ -20,6 +20,7 @@ use Rattle.dfdl_markup.proofs.Answers.{Good, Live, Answer}
 use Rattle.dfdl_markup.proofs.ReferenceNumbers.{number_on-append, grows, digit_plain}
 use Rattle.dfdl_markup.proofs.ReferenceNumbers.{nine_digits}
 use Rattle.dfdl_markup.proofs.Closing.{good_low, close_all}
+use Rattle.dfdl_markup.proofs.NamesRead.{part_on}
 use Rattle.dfdl_markup.proofs.Moves.{at, malformed, reads_on}
 use Rattle.dfdl_markup.proofs.ReferenceEntities.{plain_text, completes, less_than}
 use Rattle.dfdl_markup.proofs.ReferenceForms.{standing, place_behind, reference_more}
@@ -29,10 +30,6 @@ use Rattle.dfdl_markup.proofs.ReferenceSteps.{live_behind, told_last, told_behin
 all_push : (f : ℕ → Bool) (text : List ℕ) (c : ℕ) → Each (λ d. f d ≡ true) text → f c ≡ true
     → Each (λ d. f d ≡ true) (text ++ c ∷ [])
 all_push f text c each is = each-append (λ d. f d ≡ true) text (c ∷ []) each (is, tt)
-
-part_push : (part : List ℕ) (c : ℕ) → IsPart part → is_name_char c ≡ true → IsPart (part ++ c ∷ [])
-part_push [] c is more = absurd is
-part_push (d ∷ part) c is more = (is.0, all_push is_name_char part c is.1 more)
 
 -- digits as they are written, and their number
 record Digits (n : ℕ) (within : Within) (hexadecimal : Bool) (value : ℕ) (raw : List ℕ) : Type 0 where
@@ -189,7 +186,7 @@ module _ (begun : ℕ) (frames : List Frame) (within : Within)
       cond_both (is_name_char c) (entity_next s within (name ++ c ∷ []))
       (if c == 59 then entity_ended s within (entity name) else Err 3) (λ r. Answer s c r)
       (λ more. name_answers (AtEntity within name) name c sound sound.place.0 refl
-      (part_push name c sound.place.1 more) (λ n raw w. w.0))
+      (part_on name c sound.place.1 more) (λ n raw w. w.0))
       (λ other. cond_both (c == 59) (entity_ended s within (entity name)) (Err 3)
       (λ r. Answer s c r) (λ is. name_ends name (entity name) c refl (eqb-true c 59 is) sound)
       (λ _. malformed s c))

@@ -1,10 +1,10 @@
 -- What each place does with a character past ASCII is what is said of it.
-use Rattle.std.proofs.Common.{◌≡◌, ℕ, suc, ◌<◌, ◌≤◌, ◌==◌, Bool, true, false, List, [], ◌∷◌}
-use Rattle.std.proofs.Common.{Option, Some, None, if◌then◌else◌, refl, arith, nat_lt, length}
+use Rattle.std.proofs.Common.{◌≡◌, ℕ, suc, ◌≤◌, ◌==◌, Bool, true, false, List, [], ◌∷◌}
+use Rattle.std.proofs.Common.{Option, Some, None, refl, arith, nat_lt, length}
 use Rattle.std.proofs.lemmas.Bool.{cond_both}
 use Rattle.std.specs.Char.{IsScalar}
-use Rattle.dfdl_xml_chars.specs.Characters.{is_allowed, char_rows, high_start_rows, high_name_rows}
-use Rattle.dfdl_xml_chars.specs.Beyond.{Beyond, All, Never, Does, FitsBehind}
+use Rattle.dfdl_xml_chars.specs.Characters.{is_allowed, char_rows}
+use Rattle.dfdl_xml_chars.specs.Beyond.{Beyond, All, Does, FitsBehind}
 use Rattle.dfdl_xml_chars.proofs.Tables.{start_rows_allowed, name_rows_allowed, no_rows_allowed}
 use Rattle.dfdl_markup.specs.Rules.{deepest}
 use Rattle.dfdl_markup.specs.Machine.{Reading, First, Colon, Second, Place, AtContent, AtOpened, AtBang}
@@ -15,7 +15,7 @@ use Rattle.dfdl_markup.specs.Machine.{AtEndSpace, AtReference, AtEntity, AtHash,
 use Rattle.dfdl_markup.specs.Machine.{AtNumber, AtDeclaration, AtSaidWord, AtSaid, AtSaidEquals}
 use Rattle.dfdl_markup.specs.Machine.{AtSaidValue, AtDeclarationEnd, Ahead, MarkAhead}
 use Rattle.dfdl_markup.specs.Machine.{DeclarationAhead, NothingAhead, Frame, State, may_begin}
-use Rattle.dfdl_markup.specs.Machine.{fixed_value, step_at, step, refuses, rows_in, beyond_top}
+use Rattle.dfdl_markup.specs.Machine.{fixed_value, step_at, step, refuses, rows_in}
 use Rattle.dfdl_markup.specs.Machine.{beyond_content, beyond_opened, beyond_comment, beyond_tag}
 use Rattle.dfdl_markup.specs.Machine.{beyond_value, beyond_at, beyond}
 use Rattle.dfdl_markup.proofs.Sound.{Sound}
@@ -37,7 +37,7 @@ use Rattle.dfdl_markup.proofs.ForesightEnds.{end_name_does}
 does_at : (place : Place) (ahead : Ahead) (begun : ℕ) (frames : List Frame) (c : ℕ)
     → Sound (at ahead place begun frames) → 128 ≤ c
     → Does (beyond_at place (at ahead place begun frames)) c
-        (step_at place (at ahead place begun frames) c)
+    (step_at place (at ahead place begun frames) c)
 does_at (AtContent before) ahead begun frames c sound high =
     content_does (at ahead (AtContent before) begun frames) c high before
 does_at AtOpened ahead begun frames c sound high =

@@ -1,7 +1,7 @@
 -- What a character past ASCII does in a content, and in pieces of markup that have no attributes.
-use Rattle.std.proofs.Common.{◌≡◌, ℕ, suc, ◌+◌, ◌<◌, ◌≤◌, ◌==◌, ◌&&◌, Bool, true, false, List, [], ◌∷◌, ◌++◌}
+use Rattle.std.proofs.Common.{◌≡◌, ℕ, suc, ◌≤◌, ◌==◌, ◌&&◌, Bool, true, false, List, [], ◌∷◌, ◌++◌}
 use Rattle.std.proofs.Common.{Option, Some, None, Result, Ok, Err, if◌then◌else◌, refl, sym, ap, subst}
-use Rattle.std.proofs.Common.{◌∙◌, arith, eq-eqb, ne_eqb, length}
+use Rattle.std.proofs.Common.{◌∙◌, arith, eq-eqb, ne_eqb}
 use Rattle.std.proofs.lemmas.Bool.{cond_both, cond-true, cond-false, and_right}
 use Rattle.dfdl_xml_chars.specs.Characters.{is_name_start, is_name_char, high_start_rows}
 use Rattle.dfdl_xml_chars.specs.Characters.{high_name_rows}
@@ -10,12 +10,12 @@ use Rattle.dfdl_xml_chars.proofs.Tables.{high_start, high_char}
 use Rattle.dfdl_markup.specs.Grammar.{is_white, section_word}
 use Rattle.dfdl_markup.specs.Rules.{brackets, is_xml}
 use Rattle.dfdl_markup.specs.Machine.{State, Frame, Ahead, MarkAhead, DeclarationAhead, NothingAhead}
-use Rattle.dfdl_markup.specs.Machine.{Place, AtContent, AtOpened, AtBang, AtDash, AtComment, AtSection}
+use Rattle.dfdl_markup.specs.Machine.{AtContent, AtBang, AtComment, AtSection}
 use Rattle.dfdl_markup.specs.Machine.{AtQuestion, AtTarget, AtTargetEnd, AtInstruction, AtTagName}
-use Rattle.dfdl_markup.specs.Machine.{AtEndTag, AtReference, InContent, First, AtSectionWord}
-use Rattle.dfdl_markup.specs.Machine.{go, stand, marked, top_step, inner_step, content_by, content_step}
+use Rattle.dfdl_markup.specs.Machine.{AtEndTag, First}
+use Rattle.dfdl_markup.specs.Machine.{go, stand, marked, top_step, content_by, content_step}
 use Rattle.dfdl_markup.specs.Machine.{may_begin, begin_by, inside, opened_step, bang_step, dash_step}
-use Rattle.dfdl_markup.specs.Machine.{comment_step, section_left, section_word_step, section_step}
+use Rattle.dfdl_markup.specs.Machine.{comment_step, section_word_step, section_step}
 use Rattle.dfdl_markup.specs.Machine.{question_step, target_ended, target_step, target_end_step}
 use Rattle.dfdl_markup.specs.Machine.{instruction_step, refuses, beyond_top, beyond_content}
 use Rattle.dfdl_markup.specs.Machine.{beyond_opened, beyond_comment}
@@ -31,9 +31,15 @@ module _ (s : State) (c : ℕ) (high : 128 ≤ c) where
   top_rest : (ahead : Ahead)
       → Does (beyond_top ahead) c (if c == 0xFEFF then marked s ahead else Err 10)
   top_rest MarkAhead = (
-    λ is. (record {
-      ahead = DeclarationAhead; place = AtContent 0; begun = s.begun; frames = s.frames;
-    }, cond-true (c == 0xFEFF) _ _ (eq-eqb c 0xFEFF is)),
+    λ is. (
+      record {
+        ahead = DeclarationAhead;
+        place = AtContent 0;
+        begun = s.begun;
+        frames = s.frames;
+      },
+      cond-true (c == 0xFEFF) _ _ (eq-eqb c 0xFEFF is),
+    ),
     λ other. cond-false (c == 0xFEFF) _ _ (ne_eqb c 0xFEFF other),
   )
   top_rest DeclarationAhead =
@@ -57,8 +63,8 @@ module _ (s : State) (c : ℕ) (high : 128 ≤ c) where
   by_frames (frame ∷ frames) before = (
     stand s (AtContent (brackets before c)),
     cond-false (c == 60) _ _ (apart c 60 high (omega arith))
-    ∙ (cond-false (c == 38) _ _ (apart c 38 high (omega arith))
-    ∙ cond-false (before == 2 && c == 62) _ _ (not_end before)),
+        ∙ (cond-false (c == 38) _ _ (apart c 38 high (omega arith))
+        ∙ cond-false (before == 2 && c == 62) _ _ (not_end before)),
   )
 
   pub content_does : (before : ℕ) → Does (beyond_content s.frames s.ahead) c (content_step s before c)
@@ -75,10 +81,10 @@ module _ (s : State) (c : ℕ) (high : 128 ≤ c) where
 
   opened_by : (o : Option ℕ)
       → Does (beyond_opened o) c
-          (if is_name_start c then begin_by o s c
-          else (if c == 47 then inside s.frames s AtEndTag
-          else (if c == 33 then Ok (stand s AtBang)
-          else (if c == 63 then Ok (go s AtQuestion) else Err 3))))
+      (if is_name_start c then begin_by o s c
+      else (if c == 47 then inside s.frames s AtEndTag
+      else (if c == 33 then Ok (stand s AtBang)
+      else (if c == 63 then Ok (go s AtQuestion) else Err 3))))
   opened_by None =
       does_only high_start_rows 3 c
       (if is_name_start c then begin_by None s c
@@ -112,9 +118,9 @@ module _ (s : State) (c : ℕ) (high : 128 ≤ c) where
 
   comment_by : (test : Bool) (dashes : ℕ)
       → Does (if test then refuses else All) c
-          (if test then (if c == 62 then Ok (stand s (AtContent 0)) else Err 3)
-          else (if c == 45 then Ok (stand s (AtComment (suc dashes)))
-          else Ok (stand s (AtComment 0))))
+      (if test then (if c == 62 then Ok (stand s (AtContent 0)) else Err 3)
+      else (if c == 45 then Ok (stand s (AtComment (suc dashes)))
+      else Ok (stand s (AtComment 0))))
   comment_by true dashes = cond-false (c == 62) _ _ (apart c 62 high (omega arith))
   comment_by false dashes =
       (stand s (AtComment 0), cond-false (c == 45) _ _ (apart c 45 high (omega arith)))

@@ -1,6 +1,6 @@
 -- What a character past ASCII does in an end tag, which must have the name of its start tag.
-use Rattle.std.proofs.Common.{◌≡◌, ℕ, ◌+◌, ◌<◌, ◌≤◌, ◌⊎◌, ◌==◌, ◌||◌, Bool, true, false, List, [], ◌∷◌, ◌++◌}
-use Rattle.std.proofs.Common.{Option, Some, None, Result, Ok, Err, if◌then◌else◌, refl, sym, ap, subst}
+use Rattle.std.proofs.Common.{◌≡◌, ℕ, ◌≤◌, ◌⊎◌, ◌==◌, ◌||◌, Bool, true, false, List, [], ◌∷◌, ◌++◌}
+use Rattle.std.proofs.Common.{Option, Some, None, Result, Err, if◌then◌else◌, refl, sym, ap, subst}
 use Rattle.std.proofs.Common.{◌∙◌, arith, eq-eqb, ne_eqb, nat_lt, append_assoc, inl, inr, ltb-true}
 use Rattle.std.proofs.Common.{ltb-false}
 use Rattle.std.proofs.lemmas.Bool.{cond_both, cond-true, cond-false, both_ways, or_from}
@@ -16,10 +16,10 @@ use Rattle.dfdl_markup.specs.Grammar.{is_white, Name, Plain, Prefixed, name_char
 use Rattle.dfdl_markup.specs.Rules.{IsPart, IsName}
 use Rattle.dfdl_markup.specs.Machine.{State, Frame, Reading, First, Colon, Second, name_next}
 use Rattle.dfdl_markup.specs.Machine.{whole_name, AtEndName, stand, end_next, wanted, end_tag_step}
-use Rattle.dfdl_markup.specs.Machine.{left_behind, end_space_step, end_ended, end_name_or, end_name_step}
+use Rattle.dfdl_markup.specs.Machine.{end_space_step, end_ended, end_name_or, end_name_step}
 use Rattle.dfdl_markup.specs.Machine.{beyond_end, beyond_end_tag, tail}
 use Rattle.dfdl_markup.proofs.Rest.{reading_characters, IsReading}
-use Rattle.dfdl_markup.proofs.Sound.{IsInside, SoundFrames, SoundEnd}
+use Rattle.dfdl_markup.proofs.Sound.{SoundFrames, SoundEnd}
 use Rattle.dfdl_markup.proofs.Closing.{good_name, start_is_char}
 use Rattle.dfdl_markup.proofs.ForesightForms.{apart, not_white, does_never, does_one}
 
@@ -216,7 +216,7 @@ module _ (s : State) (c : ℕ) (high : 128 ≤ c) where
       (λ is. (
         stand s (AtEndName next left),
         on (subst (λ d. test d ≡ true) (sym is) (pass (ltb-false w 128 past)))
-        ∙ cond-true (c == w) _ _ (eq-eqb c w is),
+            ∙ cond-true (c == w) _ _ (eq-eqb c w is),
       ))
       (λ other is. on is ∙ cond-false (c == w) _ _ (ne_eqb c w other)) (λ other is. off is))
 

@@ -1,16 +1,14 @@
 -- Characters past ASCII in the tests of the machine, and what a place does with them.
-use Rattle.std.proofs.Common.{◌≡◌, ◌≢◌, ℕ, ◌+◌, ◌<◌, ◌≤◌, ◌==◌, ◌&&◌, Bool, true, false, List, [], ◌∷◌}
-use Rattle.std.proofs.Common.{◌++◌, Result, Ok, Err, nat_le, refl, sym, ap, subst, ◌∙◌, arith, inl, inr}
-use Rattle.std.specs.List.{list_any}
+use Rattle.std.proofs.Common.{◌≡◌, ◌≢◌, ℕ, ◌<◌, ◌≤◌, ◌==◌, ◌&&◌, Bool, true, false, List, [], ◌∷◌}
+use Rattle.std.proofs.Common.{◌++◌, Result, Err, nat_le, refl, sym, subst, ◌∙◌, arith, inl, inr}
 use Rattle.std.proofs.lemmas.Bool.{cases_Bool, and_parts, and_left, and_right, leb-true}
 use Rattle.std.proofs.lemmas.Bool.Decides.{nat_tests}
-use Rattle.dfdl_layers.specs.Tellers.{Each}
 use Rattle.dfdl_xml_chars.specs.Characters.{Row, is_in}
-use Rattle.dfdl_xml_chars.specs.Beyond.{Beyond, All, Only, One, Never, by_test, GoesOn, Does}
+use Rattle.dfdl_xml_chars.specs.Beyond.{Only, One, Never, by_test, GoesOn, Does}
 use Rattle.dfdl_markup.specs.Grammar.{is_white, is_quote}
-use Rattle.dfdl_markup.specs.Values.{is_digit, entities}
+use Rattle.dfdl_markup.specs.Values.{is_digit}
 use Rattle.dfdl_markup.specs.Rules.{is_encoding_character, small}
-use Rattle.dfdl_markup.specs.Machine.{begins, begins_entity}
+use Rattle.dfdl_markup.specs.Machine.{begins}
 use Rattle.dfdl_markup.proofs.ReferenceEntities.{is_plain}
 
 -- it is no ASCII character

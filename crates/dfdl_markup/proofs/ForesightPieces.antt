@@ -1,17 +1,17 @@
 -- What a character past ASCII does in references and in an XML declaration.
-use Rattle.std.proofs.Common.{◌≡◌, ℕ, ◌+◌, ◌*◌, ◌<◌, ◌≤◌, ◌==◌, ◌||◌, Bool, true, false, List, [], ◌∷◌}
-use Rattle.std.proofs.Common.{◌++◌, Option, Some, None, Ok, Err, if◌then◌else◌, refl, sym, ap, ap₂}
-use Rattle.std.proofs.Common.{◌∙◌, arith, subst, nat_le, ◌&&◌, inl, inr}
+use Rattle.std.proofs.Common.{◌≡◌, ℕ, ◌<◌, ◌≤◌, ◌==◌, ◌||◌, Bool, true, false, List, [], ◌∷◌}
+use Rattle.std.proofs.Common.{◌++◌, Option, Some, None, Ok, Err, if◌then◌else◌, refl, ap}
+use Rattle.std.proofs.Common.{◌∙◌, arith, nat_le, ◌&&◌, inl, inr}
 use Rattle.std.specs.List.{list_any}
 use Rattle.std.proofs.lemmas.Bool.{cond-true, cond-false, or_from, and_parts, leb-true}
 use Rattle.dfdl_layers.specs.Tellers.{Each}
 use Rattle.dfdl_xml_chars.specs.Characters.{is_name_start, is_name_char, high_start_rows}
-use Rattle.dfdl_xml_chars.specs.Characters.{high_name_rows, is_allowed}
+use Rattle.dfdl_xml_chars.specs.Characters.{high_name_rows}
 use Rattle.dfdl_xml_chars.specs.Beyond.{Never, Does}
 use Rattle.dfdl_xml_chars.proofs.Tables.{high_start, high_char}
 use Rattle.dfdl_markup.specs.Grammar.{is_white, is_quote, Said, Version, Encoding, Standalone}
 use Rattle.dfdl_markup.specs.Grammar.{said_word}
-use Rattle.dfdl_markup.specs.Values.{is_digit, digit_value, base_of, entities, entity}
+use Rattle.dfdl_markup.specs.Values.{is_digit, entities, entity}
 use Rattle.dfdl_markup.specs.Rules.{is_encoding_character, small, version_value, encoding_value}
 use Rattle.dfdl_markup.specs.Rules.{yes_value, no_value}
 use Rattle.dfdl_markup.specs.Machine.{State, Within, AtHash, stand, begins, begins_entity, entity_next, entity_ended}
@@ -19,9 +19,8 @@ use Rattle.dfdl_markup.specs.Machine.{reference_step, entity_step, hash_step, he
 use Rattle.dfdl_markup.specs.Machine.{number_step, said_next, said_begun, declaration_step, said_step}
 use Rattle.dfdl_markup.specs.Machine.{said_word_step, said_equals_step, said_values, said_character}
 use Rattle.dfdl_markup.specs.Machine.{said_fault, said_value_step, declaration_end_step}
-use Rattle.dfdl_markup.proofs.Answers.{Good}
 use Rattle.dfdl_markup.proofs.ReferenceEntities.{is_plain, IsEntity, all_entities}
-use Rattle.dfdl_markup.proofs.DeclarationValues.{IsSaid, said_plain, words_plain}
+use Rattle.dfdl_markup.proofs.DeclarationValues.{said_plain, words_plain}
 use Rattle.dfdl_markup.proofs.ForesightForms.{apart, not_white, not_quote, not_closing, not_digit}
 use Rattle.dfdl_markup.proofs.ForesightForms.{not_encoding, small_high, begins_high, does_never}
 

@@ -1,5 +1,5 @@
 -- What a character past ASCII does in a start tag.
-use Rattle.std.proofs.Common.{◌≡◌, ℕ, ◌+◌, ◌<◌, ◌≤◌, ◌==◌, ◌&&◌, Bool, true, false, List, [], ◌∷◌, ◌++◌}
+use Rattle.std.proofs.Common.{◌≡◌, ℕ, ◌≤◌, ◌==◌, Bool, true, false, List, [], ◌∷◌, ◌++◌}
 use Rattle.std.proofs.Common.{Option, Some, None, Result, Ok, Err, if◌then◌else◌, refl, sym, ap, subst}
 use Rattle.std.proofs.Common.{◌∙◌, arith, option_and_then, bytes_eq}
 use Rattle.std.proofs.lemmas.Bool.{cond_both, cond-true, cond-false}
@@ -7,16 +7,16 @@ use Rattle.dfdl_xml_chars.specs.Characters.{is_name_start, is_name_char, high_st
 use Rattle.dfdl_xml_chars.specs.Characters.{high_name_rows}
 use Rattle.dfdl_xml_chars.specs.Beyond.{Does, GoesOn}
 use Rattle.dfdl_xml_chars.proofs.Tables.{high_start, high_char}
-use Rattle.dfdl_markup.specs.Grammar.{is_white, is_quote, Name, Plain, Prefixed}
+use Rattle.dfdl_markup.specs.Grammar.{is_white, is_quote, Name}
 use Rattle.dfdl_markup.specs.Values.{letter_read, declares, fixed_namespace, xml_namespace}
 use Rattle.dfdl_markup.specs.Values.{xmlns_namespace, xml_prefix, xmlns_prefix}
 use Rattle.dfdl_markup.specs.Machine.{State, Reading, First, Colon, Second, name_next, whole_name}
-use Rattle.dfdl_markup.specs.Machine.{StartTag, OpenValue, AtTagName, AtTag, AtAttributeName, AtNamed}
-use Rattle.dfdl_markup.specs.Machine.{AtEquals, AtValue, AtSlash, AtReference, InValue, stand, begins}
-use Rattle.dfdl_markup.specs.Machine.{entered, passed, if_ends, tag_step, tag_of, tag_name_or}
-use Rattle.dfdl_markup.specs.Machine.{tag_name_step, attribute_named, behind_name, attribute_name_or}
-use Rattle.dfdl_markup.specs.Machine.{attribute_name_step, named_step, value_begun, equals_step}
-use Rattle.dfdl_markup.specs.Machine.{with_text, fixed_value, value_ended, value_goes_on, value_step}
+use Rattle.dfdl_markup.specs.Machine.{StartTag, OpenValue, AtTagName, AtTag, AtAttributeName}
+use Rattle.dfdl_markup.specs.Machine.{AtValue, AtSlash, stand, begins}
+use Rattle.dfdl_markup.specs.Machine.{entered, if_ends, tag_step, tag_of, tag_name_or}
+use Rattle.dfdl_markup.specs.Machine.{tag_name_step, behind_name, attribute_name_or}
+use Rattle.dfdl_markup.specs.Machine.{attribute_name_step, named_step, equals_step}
+use Rattle.dfdl_markup.specs.Machine.{with_text, fixed_value, value_goes_on, value_step}
 use Rattle.dfdl_markup.specs.Machine.{slash_step, rows_in, beyond_tag, beyond_value}
 use Rattle.dfdl_markup.proofs.ReferenceEntities.{is_plain}
 use Rattle.dfdl_markup.proofs.ForesightForms.{apart, not_white, not_quote, not_closing, begins_high}
@@ -86,8 +86,10 @@ module _ (s : State) (c : ℕ) (high : 128 ≤ c) where
       else (if c == 47 then if_ends s tag (stand s (AtSlash tag))
       else (if is_name_start c then Ok (stand s (AtAttributeName tag (First (c ∷ [])))) else Err 3))))
       (is_name_start c) (high_start c high)
-      (λ is. (stand s (AtAttributeName tag (First (c ∷ []))),
-      no_end ∙ cond-true (is_name_start c) _ _ is))
+      (λ is. (
+        stand s (AtAttributeName tag (First (c ∷ []))),
+        no_end ∙ cond-true (is_name_start c) _ _ is,
+      ))
       (λ is. no_end ∙ cond-false (is_name_start c) _ _ is)
     where
       no_end : {r : Result State ℕ}
@@ -152,7 +154,7 @@ module _ (s : State) (c : ℕ) (high : 128 ≤ c) where
   value_by v None is = (
     stand s (AtValue (with_text v (letter_read v.behind_cr c) (c == 13))),
     cond-false (c == 60) _ _ (apart c 60 high (omega arith))
-    ∙ cond-false (c == 38) _ _ (apart c 38 high (omega arith)),
+        ∙ cond-false (c == 38) _ _ (apart c 38 high (omega arith)),
   )
 
   pub value_does : (v : OpenValue) → is_quote v.quote ≡ true

@@ -7,6 +7,8 @@ pub mod TagSteps
 pub mod TagEnds
 pub mod TagNames
 pub mod TagLive
+pub mod TagNew
+pub mod TagPlaces
 pub mod Sound
 pub mod Answers
 pub mod Closing

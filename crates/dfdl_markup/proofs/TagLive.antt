@@ -198,7 +198,7 @@ space_white : is_white 32 ≡ true
 unfolding is_white
 space_white = refl
 
-double_quotes : is_quote 34 ≡ true
+pub double_quotes : is_quote 34 ≡ true
 unfolding is_quote
 double_quotes = refl
 

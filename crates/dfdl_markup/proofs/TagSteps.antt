@@ -92,7 +92,7 @@ wrote_more n tag front raw piece wrote = record {
       ∙ ap (λ l. 60 ∷ l) (append_assoc (tag_characters wrote.t) front piece);
 }
 
-wrote_as : (n : ℕ) (tag : StartTag) (front other raw piece : List ℕ) → front ++ piece ≡ other
+pub wrote_as : (n : ℕ) (tag : StartTag) (front other raw piece : List ℕ) → front ++ piece ≡ other
     → WroteName n tag front raw → WroteName n tag other (raw ++ piece)
 wrote_as n tag front other raw piece is wrote =
     subst (λ l. WroteName n tag l (raw ++ piece)) is (wrote_more n tag front raw piece wrote)

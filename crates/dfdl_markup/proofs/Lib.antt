@@ -9,6 +9,7 @@ pub mod TagNames
 pub mod TagLive
 pub mod TagNew
 pub mod TagPlaces
+pub mod TagAnswers
 pub mod Sound
 pub mod Answers
 pub mod Closing

@@ -74,7 +74,7 @@ own_declared frames tag own =
     (λ name is. is_found_kept (bindings_of tag.attributes) (scope_of frames) name is)
     (tag.name ∷ names_of tag.attributes) own
 
-roots_behind : (begun : ℕ) (frames : List Frame) → SoundRoots begun frames → MayBegin begun frames
+pub roots_behind : (begun : ℕ) (frames : List Frame) → SoundRoots begun frames → MayBegin begun frames
     → SoundRoots (begun_by begun frames) frames
 roots_behind begun [] roots may =
     cond_both (begun == 0) None (Some 10) (λ (o : Option ℕ). o ≡ None → suc begun ≤ 1)

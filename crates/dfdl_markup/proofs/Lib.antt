@@ -10,6 +10,7 @@ pub mod TagLive
 pub mod TagNew
 pub mod TagPlaces
 pub mod TagAnswers
+pub mod TagAttributes
 pub mod Sound
 pub mod Answers
 pub mod Closing

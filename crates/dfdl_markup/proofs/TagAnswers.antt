@@ -165,7 +165,7 @@ module _ (begun : ℕ) (frames : List Frame) where
         (sound, may, apart, found) (λ n raw wrote. tag_slash tag spaced n (wanted frames) raw wrote))
 
 -- `c` is the character that was tested
-answer_at : (s : State) (c d : ℕ) (r : Result State ℕ) → (c == d) ≡ true → Answer s d r → Answer s c r
+pub answer_at : (s : State) (c d : ℕ) (r : Result State ℕ) → (c == d) ≡ true → Answer s d r → Answer s c r
 answer_at s c d r is answer = subst (λ e. Answer s e r) (sym (eqb-true c d is)) answer
 
 begins_attribute : (tag : StartTag) (spaced : Bool) (c : ℕ) → spaced ≡ true → is_name_start c ≡ true

@@ -11,6 +11,7 @@ pub mod TagNew
 pub mod TagPlaces
 pub mod TagAnswers
 pub mod TagAttributes
+pub mod TagValueAnswers
 pub mod Sound
 pub mod Answers
 pub mod Closing

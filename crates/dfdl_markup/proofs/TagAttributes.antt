@@ -184,3 +184,30 @@ module _ (begun : ℕ) (frames : List Frame) where
     where
       s : State
       s = standing (AtEquals tag name) begun frames
+
+-- from any of the states there
+module _ (ahead : Ahead) (begun : ℕ) (frames : List Frame) where
+  pub attribute_name_answers : (tag : StartTag) (reading : Reading) (c : ℕ)
+      → Sound (at ahead (AtAttributeName tag reading) begun frames)
+      → Answer (at ahead (AtAttributeName tag reading) begun frames) c
+      (attribute_name_step (at ahead (AtAttributeName tag reading) begun frames) tag reading c)
+  attribute_name_answers tag reading c sound =
+      only_standing (λ s. Answer s c (attribute_name_step s tag reading c)) ahead
+      (AtAttributeName tag reading) begun frames refl sound
+      (attribute_name_at begun frames tag reading c)
+
+  pub named_answers : (tag : StartTag) (name : Name) (c : ℕ)
+      → Sound (at ahead (AtNamed tag name) begun frames)
+      → Answer (at ahead (AtNamed tag name) begun frames) c
+      (named_step (at ahead (AtNamed tag name) begun frames) tag name c)
+  named_answers tag name c sound =
+      only_standing (λ s. Answer s c (named_step s tag name c)) ahead (AtNamed tag name) begun frames refl
+      sound (named_at begun frames tag name c)
+
+  pub equals_answers : (tag : StartTag) (name : Name) (c : ℕ)
+      → Sound (at ahead (AtEquals tag name) begun frames)
+      → Answer (at ahead (AtEquals tag name) begun frames) c
+      (equals_step (at ahead (AtEquals tag name) begun frames) tag name c)
+  equals_answers tag name c sound =
+      only_standing (λ s. Answer s c (equals_step s tag name c)) ahead (AtEquals tag name) begun frames refl
+      sound (equals_at begun frames tag name c)

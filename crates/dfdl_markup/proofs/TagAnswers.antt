@@ -1,6 +1,6 @@
 -- Answers of the steps behind a start tag's name or an attribute, within its name, and behind `/`.
-use Rattle.std.proofs.Common.{◌≡◌, ℕ, zero, suc, ◌+◌, ◌<◌, ◌≤◌, ◌==◌, ◌&&◌, Bool, true, false, List, [], ◌∷◌, ◌++◌}
-use Rattle.std.proofs.Common.{length, Option, Some, None, Result, Ok, Err, refl, ap, sym, subst, ◌∙◌, arith}
+use Rattle.std.proofs.Common.{◌≡◌, ℕ, suc, ◌<◌, ◌==◌, ◌&&◌, Bool, true, false, List, [], ◌∷◌, ◌++◌}
+use Rattle.std.proofs.Common.{Option, Some, None, Result, Ok, Err, refl, ap, sym, subst, ◌∙◌, arith}
 use Rattle.std.proofs.Common.{append_assoc, if◌then◌else◌}
 use Rattle.std.proofs.lemmas.Bool.{cond_both, eqb-true, and_parts}
 use Rattle.std.specs.List.{list_all}
@@ -8,23 +8,23 @@ use Rattle.dfdl_layers.specs.Tellers.{Each}
 use Rattle.dfdl_xml_chars.specs.Characters.{is_name_start}
 use Rattle.dfdl_markup.specs.Grammar.{is_white, Name, tag_characters}
 use Rattle.dfdl_markup.specs.Values.{names_of, is_found, scope_in}
-use Rattle.dfdl_markup.specs.Rules.{IsName, AreDifferent, AreDeclared, deepest}
+use Rattle.dfdl_markup.specs.Rules.{AreDifferent, AreDeclared}
 use Rattle.dfdl_markup.specs.Machine.{Reading, First, name_next, whole_name, StartTag, Place}
-use Rattle.dfdl_markup.specs.Machine.{AtContent, AtTagName, AtTag, AtAttributeName, AtSlash, Ahead, NothingAhead, Frame}
+use Rattle.dfdl_markup.specs.Machine.{AtTagName, AtTag, AtAttributeName, AtSlash, Ahead, NothingAhead, Frame}
 use Rattle.dfdl_markup.specs.Machine.{State, stand, scope_of, wanted, have_clash, all_found, if_ends}
 use Rattle.dfdl_markup.specs.Machine.{begun_by, frame_of, entered, passed, tag_step, tag_of, tag_name_or}
 use Rattle.dfdl_markup.specs.Machine.{tag_name_step, slash_step}
 use Rattle.dfdl_markup.proofs.Rest.{Wrote, Close, From, brackets_at}
 use Rattle.dfdl_markup.proofs.Sound.{SoundFrames, SoundRoots, SoundTag, MayBegin, Sound}
-use Rattle.dfdl_markup.proofs.Answers.{Good, Leads, Told, Live, Answer}
-use Rattle.dfdl_markup.proofs.Closing.{good_low, Closing, close_all, may_deep, grow_single, grow_nested}
+use Rattle.dfdl_markup.proofs.Answers.{Leads, Told, Live, Answer}
+use Rattle.dfdl_markup.proofs.Closing.{good_low, close_all, may_deep, grow_single, grow_nested}
 use Rattle.dfdl_markup.proofs.Moves.{at, malformed, reads_on, content_at, answer_if}
 use Rattle.dfdl_markup.proofs.ReferenceForms.{standing}
 use Rattle.dfdl_markup.proofs.ReferenceSteps.{only_standing}
 use Rattle.dfdl_markup.proofs.NamesRead.{next_name, read_name}
 use Rattle.dfdl_markup.proofs.TagSteps.{Reaches, tag_named, tag_white, tag_slash, tag_attribute, tag_name_reaches}
 use Rattle.dfdl_markup.proofs.TagLive.{tag_keeps, roots_behind, behind_tag, slash_from}
-use Rattle.dfdl_markup.proofs.TagPlaces.{sound_bare, name_ended}
+use Rattle.dfdl_markup.proofs.TagPlaces.{sound_bare}
 
 -- a state from which one can go on as from another answers as that one does
 pub answer_by : (s t : State) (c : ℕ) (r : Result State ℕ)
@@ -112,12 +112,18 @@ module _ (begun : ℕ) (frames : List Frame) where
         answer_if (standing (AtTag tag spaced) begun frames) c
         (have_clash (scope_of frames) tag.attributes) (Err 5)
         (if all_found (scope_of frames) tag then Ok next else Err 7)
-        (λ clash. (omega arith, omega arith,
-        λ less. told 5 (λ none. absurd (omega arith)) (λ none. absurd (omega arith))))
+        (λ clash. (
+          omega arith,
+          omega arith,
+          λ less. told 5 (λ none. absurd (omega arith)) (λ none. absurd (omega arith)),
+        ))
         (λ apart. answer_if (standing (AtTag tag spaced) begun frames) c
         (all_found (scope_of frames) tag) (Ok next) (Err 7) (λ found. leads apart found)
-        (λ unfound. (omega arith, omega arith,
-        λ less. told 7 (λ some. tag_differs tag sound apart) (λ none. absurd (omega arith)))))
+        (λ unfound. (
+          omega arith,
+          omega arith,
+          λ less. told 7 (λ some. tag_differs tag sound apart) (λ none. absurd (omega arith)),
+        )))
 
     greater_answers : (tag : StartTag) (spaced : Bool) → SoundTag tag
         → Answer (standing (AtTag tag spaced) begun frames) 62

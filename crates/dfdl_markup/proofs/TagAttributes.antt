@@ -1,34 +1,26 @@
 -- Answers of the steps in an attribute of a start tag: in its name, behind it, and in its value.
-use Rattle.std.proofs.Common.{◌≡◌, ℕ, zero, suc, ◌+◌, ◌<◌, ◌≤◌, ◌==◌, ◌&&◌, Bool, true, false, not, List, [], ◌∷◌, ◌++◌}
-use Rattle.std.proofs.Common.{length, drop, map, Option, Some, None, Result, Ok, Err, refl, ap, sym, subst, ◌∙◌, arith}
-use Rattle.std.proofs.Common.{append_assoc, if◌then◌else◌, option_and_then}
-use Rattle.std.proofs.lemmas.Bool.{cond_both, eqb-true, and_parts, and_from}
-use Rattle.std.proofs.lemmas.List.{append-nil, map-append}
+use Rattle.std.proofs.Common.{◌≡◌, ℕ, ◌==◌, true, false, List, [], ◌∷◌, ◌++◌}
+use Rattle.std.proofs.Common.{Option, Some, None, Ok, Err, refl, arith}
+use Rattle.std.proofs.Common.{if◌then◌else◌}
 use Rattle.dfdl_layers.specs.Tellers.{Each}
-use Rattle.dfdl_markup.specs.Grammar.{is_white, is_quote, Name, Item, Letter, item_characters}
-use Rattle.dfdl_markup.specs.Values.{letter_read, items_read, ends_in_cr, declares, fixed_namespace}
-use Rattle.dfdl_markup.specs.Values.{names_of, Attribute}
-use Rattle.dfdl_markup.specs.Rules.{IsName, is_value_character}
-use Rattle.dfdl_markup.specs.Machine.{Reading, name_next, whole_name, StartTag, OpenValue, InValue, Place}
-use Rattle.dfdl_markup.specs.Machine.{AtTag, AtAttributeName, AtNamed, AtEquals, AtValue, AtReference}
-use Rattle.dfdl_markup.specs.Machine.{Ahead, NothingAhead, Frame, State, stand, wanted, begun_by, is_given}
+use Rattle.dfdl_markup.specs.Grammar.{is_white, is_quote, Name}
+use Rattle.dfdl_markup.specs.Machine.{Reading, name_next, whole_name, StartTag, Place}
+use Rattle.dfdl_markup.specs.Machine.{AtTag, AtAttributeName, AtNamed, AtEquals, AtValue}
+use Rattle.dfdl_markup.specs.Machine.{Ahead, NothingAhead, Frame, State, wanted, begun_by, is_given}
 use Rattle.dfdl_markup.specs.Machine.{attribute_named, behind_name, attribute_name_or}
 use Rattle.dfdl_markup.specs.Machine.{attribute_name_step, named_step, value_begun, equals_step}
-use Rattle.dfdl_markup.specs.Machine.{with_text, begins, fixed_value, with_value, may_close}
-use Rattle.dfdl_markup.specs.Machine.{has_sure_clash, value_ended, value_goes_on, value_step}
-use Rattle.dfdl_markup.proofs.Rest.{ReadAs, WroteValue, Wrote, From, brackets_at}
-use Rattle.dfdl_markup.proofs.Sound.{MayStand, SoundTag, MayBegin, SoundName, KeepsFixed, SoundValue, Sound}
-use Rattle.dfdl_markup.proofs.Answers.{Good, Leads, Told, Live, Answer}
+use Rattle.dfdl_markup.specs.Machine.{fixed_value}
+use Rattle.dfdl_markup.proofs.Rest.{From, brackets_at}
+use Rattle.dfdl_markup.proofs.Sound.{SoundTag, MayBegin, Sound}
+use Rattle.dfdl_markup.proofs.Answers.{Good, Leads, Told, Answer}
 use Rattle.dfdl_markup.proofs.Closing.{good_low, each_append, Closing}
 use Rattle.dfdl_markup.proofs.Moves.{at, malformed, reads_on, answer_if}
 use Rattle.dfdl_markup.proofs.ReferenceForms.{standing}
 use Rattle.dfdl_markup.proofs.ReferenceSteps.{only_standing}
 use Rattle.dfdl_markup.proofs.NamesRead.{next_name, read_name}
-use Rattle.dfdl_markup.proofs.TagFixed.{ArePlain, is_plain, plain_fixed, plain_value, begun_rest, plain_part}
-use Rattle.dfdl_markup.proofs.TagValues.{read_on, ends_on, value_grows, with_attribute}
-use Rattle.dfdl_markup.proofs.TagSound.{sound_quoted}
+use Rattle.dfdl_markup.proofs.TagValues.{with_attribute}
 use Rattle.dfdl_markup.proofs.TagSteps.{Reaches, reaches_on, attribute_name_reaches, attribute_white, attribute_equals}
-use Rattle.dfdl_markup.proofs.TagSteps.{named_white, named_equals, equals_white, equals_quote, value_closed}
+use Rattle.dfdl_markup.proofs.TagSteps.{named_white, named_equals, equals_white, equals_quote}
 use Rattle.dfdl_markup.proofs.TagEnds.{ValueEnd, value_ends, value_reaches}
 use Rattle.dfdl_markup.proofs.TagLive.{behind_tag, from_over, slash_from, keeps_nothing, double_quotes}
 use Rattle.dfdl_markup.proofs.TagAnswers.{answer_at}
@@ -52,10 +44,12 @@ module _ (begun : ℕ) (frames : List Frame) where
       let e : ValueEnd (value_begun tag name 34) =
       value_ends (value_begun tag name 34) sound.binds (keeps_nothing (fixed_value name)) in (
         34 ∷ ((e.more ++ 34 ∷ []) ++ 47 ∷ 62 ∷ closing.0),
-        (good_low 34 (omega arith) (omega arith),
-        each_append Good (e.more ++ 34 ∷ []) (47 ∷ 62 ∷ closing.0)
-        (each_append Good e.more (34 ∷ []) e.good (good_low 34 (omega arith) (omega arith), tt))
-        (good_low 47 (omega arith) (omega arith), (good_low 62 (omega arith) (omega arith), closing.1))),
+        (
+          good_low 34 (omega arith) (omega arith),
+          each_append Good (e.more ++ 34 ∷ []) (47 ∷ 62 ∷ closing.0)
+              (each_append Good e.more (34 ∷ []) e.good (good_low 34 (omega arith) (omega arith), tt))
+              (good_low 47 (omega arith) (omega arith), (good_low 62 (omega arith) (omega arith), closing.1)),
+        ),
         from_over begun frames 5 (AtEquals tag name) (AtValue (value_begun tag name 34)) (34 ∷ [])
             ((e.more ++ 34 ∷ []) ++ 47 ∷ 62 ∷ closing.0) refl (equals_quote tag name 34 double_quotes)
             (from_over begun frames 5 (AtValue (value_begun tag name 34))

@@ -1,12 +1,12 @@
 -- A name that is begun can be made one that no attribute of the tag has, by letters behind it.
-use Rattle.std.proofs.Common.{◌≡◌, ℕ, zero, suc, ◌+◌, ◌<◌, ◌≤◌, Bool, true, false, List, [], ◌∷◌, ◌++◌}
-use Rattle.std.proofs.Common.{length, refl, ap, sym, subst, ◌∙◌, arith, append_assoc}
+use Rattle.std.proofs.Common.{◌≡◌, ℕ, zero, suc, ◌+◌, ◌<◌, ◌≤◌, true, false, List, [], ◌∷◌, ◌++◌}
+use Rattle.std.proofs.Common.{length, refl, arith, append_assoc}
 use Rattle.std.proofs.lemmas.Bool.{or_from, and_left}
 use Rattle.std.proofs.lemmas.List.{length-append}
 use Rattle.std.specs.List.{list_any}
 use Rattle.std.specs.Str.{bytes_eq}
 use Rattle.dfdl_layers.specs.Tellers.{Each}
-use Rattle.dfdl_xml_chars.specs.Characters.{is_name_start, is_name_char, is_in}
+use Rattle.dfdl_xml_chars.specs.Characters.{is_name_start, is_name_char}
 use Rattle.dfdl_xml_chars.specs.Characters.{low_name_rows, low_start_rows}
 use Rattle.dfdl_markup.specs.Grammar.{Name, Plain, Prefixed, name_characters}
 use Rattle.dfdl_markup.specs.Values.{Binding, bindings_of, found, same_found, same_expanded, same_name}

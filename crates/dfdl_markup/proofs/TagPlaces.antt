@@ -1,15 +1,13 @@
 -- From each place in a start tag the document can be ended.
-use Rattle.std.proofs.Common.{◌≡◌, ℕ, zero, suc, ◌+◌, ◌<◌, ◌≤◌, Bool, true, false, List, [], ◌∷◌, ◌++◌}
-use Rattle.std.proofs.Common.{length, Option, Some, None, refl, ap, sym, subst, ◌∙◌, arith, append_assoc}
+use Rattle.std.proofs.Common.{◌≡◌, ℕ, false, List, [], ◌∷◌, ◌++◌}
+use Rattle.std.proofs.Common.{Some, refl, ap, sym, subst, ◌∙◌, arith, append_assoc}
 use Rattle.std.proofs.lemmas.List.{append-nil}
-use Rattle.dfdl_layers.specs.Tellers.{Each}
-use Rattle.dfdl_markup.specs.Grammar.{Name, Plain, Prefixed, name_characters, tag_characters}
+use Rattle.dfdl_markup.specs.Grammar.{Name, Plain, Prefixed, name_characters}
 use Rattle.dfdl_markup.specs.Values.{names_of}
-use Rattle.dfdl_markup.specs.Rules.{IsPart, IsName}
-use Rattle.dfdl_markup.specs.Machine.{Reading, First, Colon, Second, whole_name, StartTag, Place}
+use Rattle.dfdl_markup.specs.Rules.{IsName}
+use Rattle.dfdl_markup.specs.Machine.{Reading, First, Colon, Second, whole_name, StartTag}
 use Rattle.dfdl_markup.specs.Machine.{AtTagName, AtTag, AtAttributeName, AtNamed, AtEquals, AtValue}
-use Rattle.dfdl_markup.specs.Machine.{AtSlash, Ahead, Frame, State, tag_of, value_begun, fixed_value}
-use Rattle.dfdl_markup.specs.Machine.{is_given}
+use Rattle.dfdl_markup.specs.Machine.{Ahead, Frame, tag_of, value_begun, fixed_value}
 use Rattle.dfdl_markup.proofs.Rest.{reading_characters, IsReading, Wrote}
 use Rattle.dfdl_markup.proofs.Sound.{SoundFrames, SoundRoots, SoundTag, MayBegin, SoundName, Sound}
 use Rattle.dfdl_markup.proofs.Answers.{Good, Live}
@@ -18,7 +16,7 @@ use Rattle.dfdl_markup.proofs.Moves.{at}
 use Rattle.dfdl_markup.proofs.ReferenceForms.{standing}
 use Rattle.dfdl_markup.proofs.ReferenceSteps.{only_standing}
 use Rattle.dfdl_markup.proofs.TagFixed.{letters, letters_plain}
-use Rattle.dfdl_markup.proofs.TagSteps.{Reaches, reaches_on, tag_named, named_equals}
+use Rattle.dfdl_markup.proofs.TagSteps.{Reaches, tag_named, named_equals}
 use Rattle.dfdl_markup.proofs.TagSteps.{equals_quote, wrote_as}
 use Rattle.dfdl_markup.proofs.TagEnds.{good_plain}
 use Rattle.dfdl_markup.proofs.TagLive.{live_over, tag_lives, value_lives, keeps_nothing, double_quotes}
@@ -39,9 +37,10 @@ name_ended reading name ends n want raw wrote =
 name_lettered : (prefix : List ℕ)
     → Reaches (AtTagName (Colon prefix)) (AtTag (tag_of (Prefixed prefix (97 ∷ []))) false) (97 ∷ [])
 name_lettered prefix n want raw wrote =
-    tag_named (Second prefix (97 ∷ [])) (Prefixed prefix (97 ∷ [])) refl n want (raw ++ 97 ∷ [])
-    (ap (λ l. l ++ 97 ∷ []) wrote.0 ∙ ap (λ l. 60 ∷ l) (append_assoc prefix (58 ∷ []) (97 ∷ [])),
-    (wrote.1, (letter_starts, tt)))
+    tag_named (Second prefix (97 ∷ [])) (Prefixed prefix (97 ∷ [])) refl n want (raw ++ 97 ∷ []) (
+      ap (λ l. l ++ 97 ∷ []) wrote.0 ∙ ap (λ l. 60 ∷ l) (append_assoc prefix (58 ∷ []) (97 ∷ [])),
+      (wrote.1, (letter_starts, tt)),
+    )
 
 lengthened : (tag : StartTag) (reading : Reading) (k : ℕ) (l : Lengthened reading k)
     → Reaches (AtAttributeName tag reading) (AtEquals tag l.name) (letters k ++ 61 ∷ [])

@@ -1,20 +1,20 @@
 -- Answers of the steps in an attribute's value.
-use Rattle.std.proofs.Common.{◌≡◌, ℕ, zero, suc, ◌+◌, ◌<◌, ◌≤◌, ◌==◌, ◌&&◌, Bool, true, false, not, List, [], ◌∷◌, ◌++◌}
-use Rattle.std.proofs.Common.{length, drop, map, Option, Some, None, Result, Ok, Err, refl, ap, sym, subst, ◌∙◌, arith}
-use Rattle.std.proofs.Common.{append_assoc, if◌then◌else◌, option_and_then}
+use Rattle.std.proofs.Common.{◌≡◌, ℕ, ◌==◌, ◌&&◌, true, false, not, List, [], ◌∷◌, ◌++◌}
+use Rattle.std.proofs.Common.{length, drop, Option, Some, None, Ok, Err, refl, ap, sym, subst, ◌∙◌, arith}
+use Rattle.std.proofs.Common.{if◌then◌else◌, option_and_then}
 use Rattle.std.proofs.lemmas.Bool.{and_from}
 use Rattle.std.proofs.lemmas.List.{append-nil, map-append}
 use Rattle.dfdl_layers.specs.Tellers.{Each}
-use Rattle.dfdl_markup.specs.Grammar.{is_quote, Name, Item, Letter, item_characters}
+use Rattle.dfdl_markup.specs.Grammar.{is_quote, Name, Item, Letter}
 use Rattle.dfdl_markup.specs.Values.{letter_read, items_read, ends_in_cr, declares, fixed_namespace}
 use Rattle.dfdl_markup.specs.Rules.{is_value_character}
 use Rattle.dfdl_markup.specs.Machine.{OpenValue, InValue, AtTag, AtValue, AtReference, Ahead, NothingAhead}
-use Rattle.dfdl_markup.specs.Machine.{Frame, State, wanted, begun_by, with_text, begins, fixed_value}
+use Rattle.dfdl_markup.specs.Machine.{Frame, wanted, with_text, begins, fixed_value}
 use Rattle.dfdl_markup.specs.Machine.{with_value, may_close, has_sure_clash, value_ended, value_goes_on}
 use Rattle.dfdl_markup.specs.Machine.{value_step}
-use Rattle.dfdl_markup.proofs.Rest.{ReadAs, WroteValue, Wrote, From}
-use Rattle.dfdl_markup.proofs.Sound.{SoundTag, MayBegin, SoundName, KeepsFixed, SoundValue, Sound}
-use Rattle.dfdl_markup.proofs.Answers.{Good, Leads, Told, Live, Answer}
+use Rattle.dfdl_markup.proofs.Rest.{ReadAs}
+use Rattle.dfdl_markup.proofs.Sound.{KeepsFixed, Sound}
+use Rattle.dfdl_markup.proofs.Answers.{Told, Answer}
 use Rattle.dfdl_markup.proofs.Closing.{good_low}
 use Rattle.dfdl_markup.proofs.Moves.{at, malformed, reads_on, answer_if}
 use Rattle.dfdl_markup.proofs.ReferenceForms.{standing}
@@ -63,9 +63,11 @@ pub fixed_reaches : (v : OpenValue) (fixed : List ℕ) (c : ℕ) → fixed_value
     → is_quote v.quote ≡ true → begins (v.text ++ c ∷ []) fixed ≡ true
     → Reaches (AtValue v) (AtValue (with_text v (c ∷ []) false)) (c ∷ [])
 fixed_reaches v fixed c is quotes begun n want raw wrote =
-    value_grows n v raw wrote (Letter c ∷ []) (c ∷ []) false
-    (plain_value v.quote c quotes (fixed_character v.text fixed c
-    (fixed_plain v.name (declares v.name) fixed refl is) begun), tt)
+    value_grows n v raw wrote (Letter c ∷ []) (c ∷ []) false (
+      plain_value v.quote c quotes (fixed_character v.text fixed c
+          (fixed_plain v.name (declares v.name) fixed refl is) begun),
+      tt,
+    )
     (read_fixed (fixed_value v.name) fixed v wrote.items c is begun wrote.read)
 
 -- and of any other
@@ -144,9 +146,10 @@ module _ (begun : ℕ) (frames : List Frame) (v : OpenValue)
       answer_if (standing (AtValue v) begun frames) c (begins (v.text ++ c ∷ []) fixed)
       (Ok (standing (AtValue (with_text v (c ∷ []) false)) begun frames)) (Err 3)
       (λ begun_so. reads_on NothingAhead (AtValue v) (AtValue (with_text v (c ∷ []) false)) begun frames c
-      sound refl refl
-      ((sound.place.0.0, sound.place.0.1, subst (λ o. KeepsFixed o (v.text ++ c ∷ [])) (sym is) begun_so),
-      sound.place.1)
+      sound refl refl (
+        (sound.place.0.0, sound.place.0.1, subst (λ o. KeepsFixed o (v.text ++ c ∷ [])) (sym is) begun_so),
+        sound.place.1,
+      )
       (λ n raw wrote. fixed_reaches v fixed c is sound.place.0.1 begun_so n (wanted frames) raw wrote))
       (λ begun_not. malformed (standing (AtValue v) begun frames) c)
 
@@ -167,9 +170,14 @@ module _ (begun : ℕ) (frames : List Frame) (v : OpenValue)
       (sound.place.0, is, sound.place.1)
       (λ n raw wrote. reference_begun v is n (wanted frames) raw wrote)))
       (λ not_ampersand. reads_on NothingAhead (AtValue v)
-      (AtValue (with_text v (letter_read v.behind_cr c) (c == 13))) begun frames c sound refl refl
-      ((sound.place.0.0, sound.place.0.1,
-      keeps_free v.name (v.text ++ letter_read v.behind_cr c) is), sound.place.1)
+      (AtValue (with_text v (letter_read v.behind_cr c) (c == 13))) begun frames c sound refl refl (
+        (
+          sound.place.0.0,
+          sound.place.0.1,
+          keeps_free v.name (v.text ++ letter_read v.behind_cr c) is,
+        ),
+        sound.place.1,
+      )
       (λ n raw wrote. free_reaches v c is (value_character v.quote c not_less not_ampersand other) n
       (wanted frames) raw wrote)))
 

@@ -1,12 +1,18 @@
 -- Digits as characters, one of which carries the sign.
-use Rattle.std.proofs.Common.{◌≡◌, ℕ, suc, ◌-◌, ◌<◌, ◌≤◌, List, [], ◌∷◌, ◌++◌, length, take, drop, set, get_or, map, Bool, true, false, cond, length-set, refl, ap, sym, ◌∙◌, arith, ℤ, unsigned_abs, Option, Some, None}
+use Rattle.std.proofs.Common.{◌≡◌, ℕ, suc, ◌-◌, ◌<◌, ◌≤◌, List, [], ◌∷◌, ◌++◌, length, take, drop, set, get_or, map, Bool, true, false, cond, length-set, refl, ap, sym, ◌∙◌, arith, ℤ, unsigned_abs, Option, Some, None, Result}
 use Rattle.std.proofs.lemmas.List.{set_split, get_or-map, length-map, take-map, drop_all, get_or_append_left, set-append_left, take_at}
 use Rattle.dfdl_forms.specs.declared.simple.Form.{Form}
 use Rattle.dfdl_forms.specs.declared.packed.ZonedForm.{ZonedForm}
 use Rattle.dfdl_packed.specs.declared.scaled.Scaled.{Scaled}
 use Rattle.dfdl_packed.specs.Packed.{is_negative}
 use Rattle.dfdl_packed.specs.Written.{ShowsInteger}
-use Rattle.dfdl_packed.specs.Zoned.{plain_char, char_in, signed_chars, chars_if}
+use Rattle.dfdl_forms.specs.Types.{form_of}
+use Rattle.dfdl_value.specs.declared.value.Value.{Value}
+use Rattle.dfdl_packed.specs.declared.fault.PackedFault.{PackedFault}
+use Rattle.dfdl_packed.specs.declared.size.SignedSize.{SignedSize}
+use Rattle.dfdl_packed.specs.Sizes.{Shows, ShowsSigned}
+use Rattle.dfdl_packed.specs.Typed.{value_in}
+use Rattle.dfdl_packed.specs.Zoned.{plain_char, char_in, signed_chars, chars_if, zoned_value_if}
 
 pub signed_is : (kind : Form) (form : ZonedForm) (negative : Bool) (digits : List ℕ) (place : ℕ) → 1 ≤ length digits
     → place ≡ cond form.first 0 (length digits - 1)
@@ -48,3 +54,10 @@ pub chars_as : (form : ZonedForm) (chars : List ℕ) (scaled : Scaled) (z : Opti
     → chars_if form z ≡ Some chars
 chars_as form chars scaled None shows is = absurd shows
 chars_as form chars scaled (Some y) shows is = is y shows.0 shows.1
+
+-- and the value of characters is that of their number
+pub value_as : (form : ZonedForm) (size : SignedSize) (number : Option (Bool × ℕ)) (got : Result Value PackedFault) → ShowsSigned (Some size) number
+    → ((n : ℕ) → Shows size.size n → got ≡ value_in (form_of form.kind) form.point size.negative n) → got ≡ zoned_value_if form number
+value_as form size None got shows is = absurd shows
+value_as form size (Some number) got shows is =
+    is number.1 shows.1 ∙ ap (λ (negative : Bool). value_in (form_of form.kind) form.point negative number.1) shows.0

@@ -1,10 +1,10 @@
 -- What is written is read again.
-use Rattle.std.proofs.Common.{◌≡◌, ◌≢◌, ℕ, zero, suc, ◌+◌, ◌-◌, ◌*◌, ◌/◌, ◌%◌, ◌^◌, ◌<◌, ◌≤◌, ℤ, pos, negsuc, ◌*ℤ◌, unsigned_abs, int_div, Bool, true, false, cond, nat_lt, nat_le, nat_eq, Option, Some, None, refl, ap, sym, ◌∙◌, add-zero, add-one, add-suc, arith}
+use Rattle.std.proofs.Common.{◌≡◌, ◌≢◌, ℕ, suc, ◌+◌, ◌-◌, ◌^◌, ◌<◌, ◌≤◌, ℤ, pos, negsuc, ◌*ℤ◌, unsigned_abs, Bool, true, false, cond, nat_lt, nat_le, nat_eq, Option, Some, None, refl, ap, sym, ◌∙◌, arith}
 use Rattle.std.specs.Option.{option_map}
 use Rattle.std.proofs.lemmas.Bool.{eq-eqb, ne_eqb, lt-ltb}
 use Rattle.std.proofs.lemmas.Bool.Decides.{nat_tests}
-use Rattle.std.proofs.lemmas.Int.{unsigned_abs-mul}
 use Rattle.dfdl_decimal.specs.Decimal.{DecimalNumber, IsFixed, shortest_from, fixed_of}
+use Rattle.dfdl_decimal.proofs.FixedLemmas.{shortest_from-shift, shortest_from-fixed}
 use Rattle.dfdl_value.specs.Types.{HasForm}
 use Rattle.dfdl_forms.specs.declared.simple.Form.{Form}
 use Rattle.dfdl_forms.specs.declared.simple.Form.TheVariants.{Signed, Unsigned, Fixed, Characters, Truths, Octets}
@@ -16,7 +16,6 @@ use Rattle.dfdl_int_binary.specs.Integers.{scaled_of, pattern_if, value_in, numb
 use Rattle.dfdl_forms.specs.declared.binary.BitTruthForm.{BitTruthForm}
 use Rattle.dfdl_int_binary.specs.Truths.{DiffersInNumber, truth_reading, truth_writing, true_number, held_in, inverted_in}
 use Rattle.dfdl_int_binary.proofs.Powers.{halves}
-use Rattle.dfdl_int_binary.proofs.Scaled.{zeros_more}
 
 -- a choice that gives a number
 pub chosen : (b : Bool) (x n : ℕ) → cond b (Some x) None ≡ Some n → (b ≡ true) × (x ≡ n)
@@ -37,43 +36,19 @@ pattern_back bits (negsuc m) n some e =
     rw (← held.1, high, again) refl
 
 -- ---- decimals
-tenth_back : (z : ℤ) → int_div (z *ℤ pos 10) (pos 10) ≡ z
-tenth_back (pos n) = ap pos (omega arith)
-tenth_back (negsuc n) =
-    let more : suc n * 10 ≡ suc (n * 10 + 9) = omega arith in
-    let back : suc (n * 10 + 9) / 10 ≡ suc n = omega arith in
-    rw (more, back) refl
-
-one_zero : (s : ℕ) (z : ℤ) → shortest_from (suc s) (z *ℤ pos 10) ≡ shortest_from s z
-one_zero s z =
-    let even : nat_eq (unsigned_abs (z *ℤ pos 10) % 10) 0 ≡ true = rw unsigned_abs-mul (eq-eqb _ _ (omega arith)) in
-    rw (even, tenth_back z) refl
-
-times_one : (z : ℤ) → z *ℤ pos (10 ^ 0) ≡ z
-times_one (pos n) = ap pos (omega arith)
-times_one (negsuc n) = let same : suc n * 1 ≡ suc n = omega arith in rw same refl
-
 -- zeros behind the point are cut off
-pub zeros_cut : (k s : ℕ) (z : ℤ) → shortest_from (s + k) (z *ℤ pos (10 ^ k)) ≡ shortest_from s z
-zeros_cut zero s z = rw add-zero (ap (shortest_from s) (times_one z))
-zeros_cut (suc k) s z =
-    let more : z *ℤ pos (10 ^ suc k) ≡ (z *ℤ pos (10 ^ k)) *ℤ pos 10 = sym (zeros_more z k ∙ ap (λ (e : ℕ). z *ℤ pos (10 ^ e)) (add-one k)) in
-    rw (add-suc, more) (one_zero (s + k) (z *ℤ pos (10 ^ k)) ∙ zeros_cut k s z)
+zeros_cut : (k s : ℕ) (z : ℤ) → shortest_from (s + k) (z *ℤ pos (10 ^ k)) ≡ shortest_from s z
+zeros_cut k s (pos n) = shortest_from-shift k s false n
+zeros_cut k s (negsuc n) = shortest_from-shift k s true (suc n)
 
-pub shortest_stays : (z : ℤ) (s : ℕ) → (0 < s → unsigned_abs z % 10 ≢ 0) → shortest_from s z ≡ record { mantissa = z; scale = s }
-shortest_stays z zero shortest = refl
-shortest_stays z (suc s) shortest =
-    let odd : nat_eq (unsigned_abs z % 10) 0 ≡ false = ne_eqb _ _ (shortest (omega arith)) in
-    rw odd refl
-
-pub fixed_of-fixed : (d : DecimalNumber) (point : ℕ) → IsFixed d → d.scale ≤ point
+fixed_of-fixed : (d : DecimalNumber) (point : ℕ) → IsFixed d → d.scale ≤ point
     → fixed_of (record { mantissa = d.mantissa *ℤ pos (10 ^ (point - d.scale)); scale = point }) ≡ Some d
 fixed_of-fixed d point is inside =
     let cut : point ≡ d.scale + (point - d.scale) = omega arith in
     let short : shortest_from point (d.mantissa *ℤ pos (10 ^ (point - d.scale))) ≡ d =
     ap (λ (s : ℕ). shortest_from s (d.mantissa *ℤ pos (10 ^ (point - d.scale)))) cut
     ∙ zeros_cut (point - d.scale) d.scale d.mantissa
-    ∙ shortest_stays d.mantissa d.scale is.shortest in
+    ∙ shortest_from-fixed d.mantissa d.scale is.shortest in
     let digits : nat_lt (unsigned_abs d.mantissa) (10 ^ 38) ≡ true = lt-ltb _ _ is.digits in
     let places : nat_lt d.scale 256 ≡ true = lt-ltb _ _ is.places in
     rw (short, digits, places) refl

@@ -1,5 +1,5 @@
 -- Binary integers and binary decimals. 'Simple Types' (binary number representation, binaryDecimalVirtualPoint).
-use Rattle.std.specs.Prelude.{ℕ, ◌-◌, ◌^◌, ◌≤◌, ℤ, pos, ◌*ℤ◌, nat_lt, nat_le, List, Option, Some, None, if◌then◌else◌}
+use Rattle.std.specs.Prelude.{ℕ, ◌-◌, ◌^◌, ℤ, pos, ◌*ℤ◌, nat_lt, nat_le, List, Option, Some, None, if◌then◌else◌}
 use Rattle.std.specs.Option.{option_map}
 use Rattle.dfdl_bits.specs.Bits.{number_of}
 use Rattle.dfdl_decimal.specs.Decimal.{DecimalNumber, fixed_of}

@@ -1,5 +1,5 @@
 -- Binary booleans. 'Simple Types' (binaryBooleanTrueRep, binaryBooleanFalseRep).
-use Rattle.std.specs.Prelude.{◌≢◌, ℕ, ◌-◌, ◌^◌, ◌≤◌, Bool, true, false, ◌==◌, nat_lt, List, Option, Some, None, if◌then◌else◌}
+use Rattle.std.specs.Prelude.{◌≢◌, ℕ, ◌-◌, ◌^◌, Bool, true, false, ◌==◌, nat_lt, List, Option, Some, None, if◌then◌else◌}
 use Rattle.dfdl_bits.specs.Bits.{number_of}
 use Rattle.dfdl_forms.specs.declared.binary.BitTruthForm.{BitTruthForm}
 

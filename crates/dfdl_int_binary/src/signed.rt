@@ -39,8 +39,8 @@ pub fn pattern(integer: i128, bits: u32) -> Option<u128>
     })
 }
 
-// The number with `bits` bits that are all set.
-fn greatest(bits: u32) -> u128
+/// The number with `bits` bits that are all set.
+pub fn greatest(bits: u32) -> u128
     requires some { 1 ≤ bits }
     requires few { bits ≤ 128 }
     ensures { result ≡ 2 ^ bits - 1 }

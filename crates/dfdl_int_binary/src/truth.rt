@@ -5,6 +5,7 @@ ghost use Rattle.std.specs.Result.{result_ok};
 ghost use Rattle.dfdl_bits.specs.Bits.{KeepsOutside};
 ghost use Rattle.dfdl_int_binary.specs.Truths.{truth_field_of, truth_reading, truth_writing, held_in, inverted_in};
 
+use crate::signed::greatest;
 use dfdl_bits::{number_at, put_number};
 use dfdl_forms::{BitTruthForm, NoFit, NoTruth};
 
@@ -75,7 +76,7 @@ fn held(number: u32, bits: u32) -> Option<u32>
     ensures held { result ≡ held_in bits number }
     ensures fits { IfSome result (λ number. number < 2 ^ bits) }
 {
-    (number <= greatest(bits)).then_some(number)
+    (u128::from(number) <= greatest(bits)).then_some(number)
 }
 
 // The number with its bits inverted, if it has at most `bits` bits.
@@ -85,19 +86,11 @@ fn inverted(number: u32, bits: u32) -> Option<u32>
     ensures inverted { result ≡ inverted_in bits number }
     ensures fits { IfSome result (λ number. number < 2 ^ bits) }
 {
+    let number = u128::from(number);
     let greatest = greatest(bits);
     if number <= greatest {
-        Some(greatest - number)
+        Some((greatest - number) as u32)
     } else {
         None
     }
-}
-
-// The number with `bits` bits that are all set.
-fn greatest(bits: u32) -> u32
-    requires some { 1 ≤ bits }
-    requires few { bits ≤ 32 }
-    ensures { result + 1 ≡ 2 ^ bits }
-{
-    u32::MAX >> (32 - bits)
 }

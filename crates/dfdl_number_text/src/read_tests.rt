@@ -7,7 +7,7 @@ use std::alloc::Global;
 use std::test::Fail;
 
 /// The text of the value that a text is read as, or the fault's name.
-pub(crate) fn said(
+fn said(
     alloc: Global,
     form: &NumberForm,
     kind: Simple,

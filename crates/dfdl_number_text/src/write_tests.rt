@@ -76,7 +76,7 @@ const BASES: [(u8, u128, &str); 8] = [
     (2, 0, "0"),
 ];
 
-pub(crate) fn decimal(digits: i128, scale: u32) -> Value {
+fn decimal(digits: i128, scale: u32) -> Value {
     match shortest(digits < 0, digits.unsigned_abs(), scale) {
         Some(number) => Value::Dec(number),
         None => Value::Truth(false),
@@ -105,7 +105,7 @@ fn put(
     }
 }
 
-pub(crate) fn text_of(
+fn text_of(
     alloc: Global,
     form: &NumberForm,
     value: &Value,

@@ -1,7 +1,8 @@
 -- The value of an integer that a value is written as.
-use Rattle.std.proofs.Common.{◌≡◌, ℕ, ◌+◌, ◌-◌, ◌*◌, ◌^◌, ◌≤◌, ℤ, pos, negsuc, ◌*ℤ◌, unsigned_abs, Bool, true, false, cond, ◌&&◌, nat_le, int_le, int_lt, Some, None, Ok, Err, refl, ap, sym, ◌∙◌, zero-add, arith}
+use Rattle.std.proofs.Common.{◌≡◌, ℕ, ◌+◌, ◌-◌, ◌*◌, ◌^◌, ◌≤◌, ℤ, pos, negsuc, ◌*ℤ◌, unsigned_abs, Bool, true, false, cond, ◌&&◌, nat_le, int_le, int_lt, Some, None, Ok, refl, ap, sym, ◌∙◌, zero-add, arith}
 use Rattle.std.proofs.lemmas.Bool.{lt-ltb, le-leb}
 use Rattle.std.proofs.lemmas.Bool.Decides.{nat_tests}
+use Rattle.std.proofs.lemmas.Int.{unsigned_abs-mul}
 use Rattle.std.proofs.Math.Dec.{T}
 use Rattle.dfdl_decimal.specs.Decimal.{with_sign, shortest_from}
 use Rattle.dfdl_value.specs.Types.{HasForm, least_signed, greatest_signed}
@@ -9,7 +10,8 @@ use Rattle.dfdl_forms.specs.declared.simple.Form.{Form}
 use Rattle.dfdl_forms.specs.declared.simple.Form.TheVariants.{Signed, Unsigned, Fixed, Characters, Truths, Octets}
 use Rattle.dfdl_value.specs.declared.value.Value.{Value}
 use Rattle.dfdl_value.specs.declared.value.Value.TheVariants.{Int, Uns, Dec}
-use Rattle.dfdl_int_binary.proofs.Back.{zeros_cut, fixed_of-fixed}
+use Rattle.dfdl_decimal.proofs.FixedLemmas.{shortest_from-shift, shortest_from-fixed, is_small-fixed}
+use Rattle.dfdl_packed.proofs.ScaledLemmas.{negative_product}
 use Rattle.dfdl_packed.specs.Packed.{is_negative}
 use Rattle.dfdl_packed.specs.Typed.{value_in, integer_in}
 
@@ -18,13 +20,13 @@ pub with_sign_is : (z : ℤ) → with_sign (is_negative z) (unsigned_abs z) ≡ 
 with_sign_is (pos n) = refl
 with_sign_is (negsuc n) = refl
 
--- an integer with so many zeros behind it, in front of as many places
-whole_again : (y z : ℤ) (point : ℕ) → y *ℤ pos (10 ^ point) ≡ z
-    → shortest_from point (with_sign (is_negative z) (unsigned_abs z)) ≡ record { mantissa = y; scale = 0 }
-whole_again y z point same =
-    ap (shortest_from point) (with_sign_is z ∙ sym same)
-    ∙ ap (λ (s : ℕ). shortest_from s (y *ℤ pos (10 ^ point))) (sym (zero-add point))
-    ∙ zeros_cut point 0 y
+-- a number with zeros behind it, in front of as many places more
+zeros_back : (y z : ℤ) (k s point : ℕ) → y *ℤ pos (10 ^ k) ≡ z → point ≡ s + k
+    → shortest_from point (with_sign (is_negative z) (unsigned_abs z)) ≡ shortest_from s y
+zeros_back y z k s point same place =
+    let negative : is_negative z ≡ is_negative y = ap is_negative (sym same) ∙ negative_product y k in
+    let size : unsigned_abs z ≡ unsigned_abs y * 10 ^ k = ap unsigned_abs (sym same) ∙ unsigned_abs-mul y (pos (10 ^ k)) in
+    rw (negative, size, place) (shortest_from-shift k s (is_negative y) (unsigned_abs y) ∙ ap (shortest_from s) (with_sign_is y))
 
 both_pass : (a b : Bool) → T a → T b → (a && b) ≡ true
 both_pass true true p q = refl
@@ -45,10 +47,10 @@ pub value_back : (form : Form) (point : ℕ) (value : Value) (z : ℤ) → HasFo
     → value_in form point (is_negative z) (unsigned_abs z) ≡ Ok value
 value_back (Signed bits) point (Int y) z is e =
     let same : y *ℤ pos (10 ^ point) ≡ z = cc in
-    rw (whole_again y z point same, signed_range bits y is) refl
+    rw (zeros_back y z point 0 point same (sym (zero-add point)), signed_range bits y is) refl
 value_back (Unsigned bits) point (Uns n) z is e =
     let same : pos n *ℤ pos (10 ^ point) ≡ z = cc in
-    rw (whole_again (pos n) z point same, unsigned_range bits n is) refl
+    rw (zeros_back (pos n) z point 0 point same (sym (zero-add point)), unsigned_range bits n is) refl
 value_back Fixed point (Dec d) z is e = by_place (nat_le d.scale point) refl e
   where
     by_place : (b : Bool) → nat_le d.scale point ≡ b → cond b (Some (d.mantissa *ℤ pos (10 ^ (point - d.scale)))) None ≡ Some z
@@ -57,7 +59,10 @@ value_back Fixed point (Dec d) z is e = by_place (nat_le d.scale point) refl e
     by_place true place h =
         let inside : d.scale ≤ point = grind (arith, nat_tests) in
         let same : d.mantissa *ℤ pos (10 ^ (point - d.scale)) ≡ z = cc in
-        rw (with_sign_is z, ← same, fixed_of-fixed d point is inside) refl
+        let cut : point ≡ d.scale + (point - d.scale) = omega arith in
+        let short : shortest_from point (with_sign (is_negative z) (unsigned_abs z)) ≡ d =
+        zeros_back d.mantissa z (point - d.scale) d.scale point same cut ∙ shortest_from-fixed d.mantissa d.scale is.shortest in
+        rw (short, is_small-fixed d is) refl
 value_back Characters point value z is e = absurd (cc)
 value_back Truths point value z is e = absurd (cc)
 value_back Octets point value z is e = absurd (cc)

@@ -5,7 +5,7 @@ use Rattle.std.proofs.lemmas.Bool.{cases_eq, ne_eqb}
 use Rattle.std.proofs.lemmas.Bool.Decides.{nat_tests}
 use Rattle.std.proofs.Math.Bool.{or-false}
 use Rattle.dfdl_forms.specs.Packed.{is_positive_code, are_allowed}
-use Rattle.std.proofs.lemmas.Bool.{cases_eq, eq-eqb, ne_eqb, and_parts}
+use Rattle.std.proofs.lemmas.Bool.{cases_eq, ne_eqb, and_parts}
 
 -- what codes a form may have
 abbrev pub IsPlus : ℕ → Type 0

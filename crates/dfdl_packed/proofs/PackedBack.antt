@@ -1,7 +1,7 @@
 -- The nibbles of a number are read as that number.
-use Rattle.std.proofs.Common.{◌≡◌, ℕ, zero, suc, ◌+◌, ◌-◌, ◌/◌, ◌%◌, ◌^◌, ◌<◌, ◌≤◌, ◌&&◌, ◌||◌, ℤ, pos, negsuc, unsigned_abs, Bool, true, false, cond, nat_lt, nat_le, nat_eq, List, [], ◌∷◌, ◌++◌, length, take, slice_index, replicate, Option, Some, None, ◌⊎◌, inl, inr, refl, length-append, append_assoc, arith}
-use Rattle.std.proofs.lemmas.Bool.{cases_eq, eq-eqb, ne_eqb, and_parts}
-use Rattle.std.proofs.Math.Bool.{or-false, or-true}
+use Rattle.std.proofs.Common.{◌≡◌, ℕ, zero, suc, ◌+◌, ◌-◌, ◌/◌, ◌%◌, ◌^◌, ◌<◌, ◌≤◌, ◌&&◌, ℤ, pos, negsuc, unsigned_abs, Bool, true, false, cond, nat_lt, nat_le, nat_eq, List, [], ◌∷◌, ◌++◌, length, take, slice_index, replicate, Option, Some, None, inl, inr, refl, length-append, append_assoc, arith}
+use Rattle.std.proofs.lemmas.Bool.{eq-eqb, ne_eqb}
+use Rattle.std.proofs.Math.Bool.{or-true}
 use Rattle.std.proofs.lemmas.Bool.Decides.{nat_tests}
 use Rattle.std.proofs.lemmas.List.{take_at, get_or_at}
 use Rattle.dfdl_forms.specs.Types.{form_of}
@@ -11,7 +11,7 @@ use Rattle.dfdl_value.specs.declared.value.Value.{Value}
 use Rattle.dfdl_value.specs.declared.value.Value.TheVariants.{Int, Uns, Dec}
 use Rattle.dfdl_forms.specs.declared.packed.PackedForm.{PackedForm}
 use Rattle.dfdl_packed.specs.Digits.{padded_digits, digit_count}
-use Rattle.dfdl_forms.specs.Packed.{is_positive_code, are_allowed}
+use Rattle.dfdl_forms.specs.Packed.{are_allowed}
 use Rattle.dfdl_packed.specs.Packed.{strict_sign, lax_sign, signed_digits, some_digits, packed_number, ibm_number, is_negative, code_in, digits_in, with_code, bcd_nibbles, ibm_nibbles, ibm_filled}
 use Rattle.dfdl_packed.specs.Typed.{integer_in}
 use Rattle.dfdl_packed.proofs.CodeLemmas.{IsPlus, IsMinus, Allowed, allowed_is}

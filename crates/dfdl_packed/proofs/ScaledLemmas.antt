@@ -1,9 +1,8 @@
 -- Numbers with zeros behind them, and how many digits numbers have.
-use Rattle.std.proofs.Common.{◌≡◌, ◌≢◌, ℕ, zero, suc, ◌+◌, ◌-◌, ◌*◌, ◌/◌, ◌^◌, ◌<◌, ◌≤◌, ℤ, pos, negsuc, neg_ℤ, ◌*ℤ◌, true, false, nat_lt, nat_le, nat_eq, inl, inr, refl, ap, sym, ◌∙◌, zero-mul, arith}
-use Rattle.std.proofs.lemmas.Bool.{cases_lt, cases_eq, eq-eqb, ne_eqb, lt-ltb, le-ltb, le-leb}
-use Rattle.std.proofs.lemmas.Bool.Decides.{nat_tests}
+use Rattle.std.proofs.Common.{◌≡◌, ◌≢◌, ℕ, zero, suc, ◌+◌, ◌-◌, ◌*◌, ◌/◌, ◌^◌, ◌<◌, ◌≤◌, ℤ, pos, negsuc, neg_ℤ, ◌*ℤ◌, true, nat_lt, nat_eq, inl, inr, refl, ap, sym, ◌∙◌, zero-mul, arith}
+use Rattle.std.proofs.lemmas.Bool.{cases_lt, cases_eq, eq-eqb, ne_eqb, lt-ltb, le-ltb}
 use Rattle.std.proofs.lemmas.Nat.{pow-add}
-use Rattle.std.proofs.Math.Nat.{mul-le-mul_right, le_trans, mul-lt-mul_of_pos_right, pow-le-pow_right, div-lt_iff_lt-mul, div-div-eq-div-mul, div-eq_of_lt, le-div_iff_mul-le}
+use Rattle.std.proofs.Math.Nat.{mul-le-mul_right, mul-lt-mul_of_pos_right, pow-le-pow_right, div-lt_iff_lt-mul, div-div-eq-div-mul, div-eq_of_lt, le-div_iff_mul-le}
 use Rattle.dfdl_packed.specs.Packed.{is_negative}
 use Rattle.dfdl_packed.specs.Digits.{digit_count}
 use Rattle.dfdl_packed.specs.Written.{HasDigits}

@@ -1,11 +1,10 @@
 -- A number without its trailing zeros, divided by a power of ten.
-use Rattle.std.proofs.Common.{◌≡◌, ◌≢◌, ℕ, ◌+◌, ◌-◌, ◌*◌, ◌%◌, ◌^◌, ◌<◌, ◌≤◌, pos, ◌*ℤ◌, Bool, true, false, Option, Some, None, inl, inr, refl, ap, sym, ◌∙◌, zero-add, mul-one, mul_assoc, arith}
+use Rattle.std.proofs.Common.{◌≡◌, ◌≢◌, ℕ, ◌+◌, ◌-◌, ◌*◌, ◌%◌, ◌^◌, ◌<◌, ◌≤◌, Bool, Option, Some, None, inl, inr, refl, ap, sym, ◌∙◌, zero-add, mul-one, mul_assoc, arith}
 use Rattle.std.proofs.lemmas.Bool.{cases_lt}
 use Rattle.std.proofs.lemmas.Nat.{pow-add}
 use Rattle.dfdl_decimal.specs.Decimal.{shortest_from, with_sign}
 use Rattle.dfdl_forms.specs.declared.simple.Form.{Form}
-use Rattle.dfdl_int_binary.proofs.Back.{zeros_cut}
-use Rattle.dfdl_int_binary.proofs.Scaled.{neg-times}
+use Rattle.dfdl_decimal.proofs.FixedLemmas.{shortest_from-shift}
 use Rattle.dfdl_value.proofs.NumberLemmas.{number_reading-same}
 use Rattle.dfdl_value.specs.Numbers.{number_reading}
 use Rattle.dfdl_value.specs.ReadValues.{Reading}
@@ -18,15 +17,7 @@ zeros_divided m z point enough =
     let cut : z ≡ z - point + point = omega arith in
     ap (λ (e : ℕ). m * 10 ^ e) cut ∙ ap (λ (p : ℕ). m * p) (pow-add 10 (z - point) point) ∙ sym (mul_assoc m (10 ^ (z - point)) (10 ^ point))
 
-zeros_with_sign : (negative : Bool) (n k : ℕ) → with_sign negative (n * 10 ^ k) ≡ with_sign negative n *ℤ pos (10 ^ k)
-zeros_with_sign false n k = refl
-zeros_with_sign true n k = sym (neg-times n (10 ^ k))
-
--- zeros behind the point are cut off
-zeros_off : (negative : Bool) (x k s : ℕ) → shortest_from (s + k) (with_sign negative (x * 10 ^ k)) ≡ shortest_from s (with_sign negative x)
-zeros_off negative x k s = ap (shortest_from (s + k)) (zeros_with_sign negative x k) ∙ zeros_cut k s (with_sign negative x)
-
--- and those in front of it stay
+-- zeros behind the point are cut off, and those in front of it stay
 same_number : (negative : Bool) (m z point : ℕ)
     → shortest_from point (with_sign negative (m * 10 ^ z)) ≡ shortest_from (point - z) (with_sign negative (m * 10 ^ (z - point)))
 same_number negative m z point = elim (cases_lt z point) [
@@ -34,14 +25,14 @@ same_number negative m z point = elim (cases_lt z point) [
       let cut : point ≡ point - z + z = omega arith in
       let none : z - point ≡ 0 = omega arith in
       ap (λ (s : ℕ). shortest_from s (with_sign negative (m * 10 ^ z))) cut
-      ∙ zeros_off negative m z (point - z)
+      ∙ shortest_from-shift z (point - z) negative m
       ∙ ap (λ (x : ℕ). shortest_from (point - z) (with_sign negative x)) (sym (ap (λ (k : ℕ). m * 10 ^ k) none ∙ mul-one m))
   | inr enough ↦
       let none : 0 ≡ point - z = omega arith in
       let x : ℕ = m * 10 ^ (z - point) in
       ap (λ (n : ℕ). shortest_from point (with_sign negative n)) (zeros_divided m z point enough)
       ∙ ap (λ (s : ℕ). shortest_from s (with_sign negative (x * 10 ^ point))) (sym (zero-add point))
-      ∙ zeros_off negative x point 0
+      ∙ shortest_from-shift point 0 negative x
       ∙ ap (λ (s : ℕ). shortest_from s (with_sign negative x)) none
 ]
 
@@ -50,7 +41,7 @@ pub reading_is : (form : Form) (negative : Bool) (n : ℕ) (size : Size) (point 
     → Shows size n → ((m : ℕ) → IsHeld size.mantissa m → IsHeld held (m * 10 ^ (size.zeros - point))) → scale ≡ point - size.zeros
     → ((v : ℕ) → held ≡ Some v → got ≡ number_reading form (record { mantissa = with_sign negative v; scale = scale }))
     → (held ≡ None → (v : ℕ) → 2 ^ 128 ≤ v → (0 < scale → v % 10 ≢ 0)
-        → got ≡ number_reading form (record { mantissa = with_sign negative v; scale = scale }))
+    → got ≡ number_reading form (record { mantissa = with_sign negative v; scale = scale }))
     → got ≡ number_reading form (record { mantissa = with_sign negative n; scale = point })
 reading_is form negative n size point held scale got shows kept behind at_some at_none =
     by held refl (kept shows.0 shows.3) ∙ sym (number_reading-same form _ _ same)

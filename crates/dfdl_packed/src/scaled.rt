@@ -37,16 +37,16 @@ pub fn integer_of(value: &Value, kind: Simple, point: u8) -> Option<Scaled>
     ensures small { IfSome result (λ number. number.size < 10 ^ (39 + point)) }
 {
     match (kind.form(), value) {
-        (Form::Signed { .. }, Value::Int(integer)) => Some(with_zeros(*integer, point)),
-        (Form::Unsigned { .. }, Value::Uns(number)) => Some(without_sign(*number, point)),
+        (Form::Signed { .. }, Value::Int(integer)) => Some(signed(*integer, point)),
+        (Form::Unsigned { .. }, Value::Uns(number)) => Some(unsigned(*number, point)),
         (Form::Fixed, Value::Dec(decimal)) if decimal.scale() <= point => {
-            Some(with_zeros(decimal.mantissa(), point - decimal.scale()))
+            Some(signed(decimal.mantissa(), point - decimal.scale()))
         }
         _ => None,
     }
 }
 
-fn with_zeros(integer: i128, zeros: u8) -> Scaled
+fn signed(integer: i128, zeros: u8) -> Scaled
     ensures negative { result.negative ≡ is_negative (integer *ℤ pos (10 ^ zeros)) }
     ensures size { result.size ≡ unsigned_abs (integer *ℤ pos (10 ^ zeros)) }
     ensures small { result.size < 10 ^ (39 + zeros) }
@@ -60,7 +60,7 @@ fn with_zeros(integer: i128, zeros: u8) -> Scaled
     }
 }
 
-fn without_sign(number: u128, zeros: u8) -> Scaled
+fn unsigned(number: u128, zeros: u8) -> Scaled
     ensures negative { result.negative ≡ false }
     ensures size { result.size ≡ number * 10 ^ zeros }
     ensures small { result.size < 10 ^ (39 + zeros) }

@@ -1,4 +1,4 @@
-use Rattle.std.proofs.Common.{◌+◌, ◌*◌, ◌^◌, ◌≤◌, length, arith}
+use Rattle.std.proofs.Common.{length, arith}
 use Rattle.dfdl_packed.proofs.SizeLemmas.{digit_fits, few_fit}
 use Rattle.dfdl_packed.proofs.size.short_number.Goals as goal
 

@@ -5,7 +5,7 @@ use Rattle.std.specs.Int.{w128}
 use Rattle.std.proofs.lemmas.Int.{to_z-of_z}
 use Rattle.dfdl_packed.specs.Packed.{is_negative}
 use Rattle.dfdl_packed.proofs.ScaledLemmas.{negative_product, small_product}
-use Rattle.dfdl_packed.proofs.scaled.with_zeros.Goals as goal
+use Rattle.dfdl_packed.proofs.scaled.signed.Goals as goal
 
 below_zero : (z : ℤ) → int_lt z (pos 0) ≡ is_negative z
 below_zero (pos n) = le-ltb n 0 (omega arith)

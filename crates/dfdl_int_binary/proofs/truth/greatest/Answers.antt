@@ -1,9 +1,0 @@
-use Rattle.std.proofs.Common.{◌≡◌, ℕ, ◌-◌, ◌^◌, ap, arith}
-use Rattle.std.proofs.lemmas.Nat.{pow_pos}
-use Rattle.std.proofs.lemmas.Nat.Bits.{ones_shr}
-use Rattle.dfdl_int_binary.proofs.truth.greatest.Goals as goal
-
-pub returns : goal.returns
-returns c =
-    let size : 32 - (32 - c.args.bits) ≡ c.args.bits = omega arith in
-    omega (arith, ones_shr 32 (32 - c.args.bits) (omega arith), ap (λ (e : ℕ). 2 ^ e) size, pow_pos c.args.bits)

@@ -10,9 +10,12 @@ use Rattle.dfdl_markup.specs.Grammar.{is_white, Name, tag_characters}
 use Rattle.dfdl_markup.specs.Values.{names_of, is_found, scope_in}
 use Rattle.dfdl_markup.specs.Rules.{AreDifferent, AreDeclared}
 use Rattle.dfdl_markup.specs.Machine.{Reading, First, name_next, whole_name, StartTag, Place}
-use Rattle.dfdl_markup.specs.Machine.{AtTagName, AtTag, AtAttributeName, AtSlash, Ahead, NothingAhead, Frame}
-use Rattle.dfdl_markup.specs.Machine.{State, stand, scope_of, wanted, have_clash, all_found, if_ends}
-use Rattle.dfdl_markup.specs.Machine.{begun_by, frame_of, entered, passed, tag_step, tag_of, tag_name_or}
+use Rattle.dfdl_markup.specs.Machine.{AtTagName, AtTag, AtAttributeName, AtSlash, Ahead}
+use Rattle.dfdl_markup.specs.Machine.{NothingAhead, Frame}
+use Rattle.dfdl_markup.specs.Machine.{State, stand, scope_of, wanted, have_clash, all_found}
+use Rattle.dfdl_markup.specs.Machine.{if_ends}
+use Rattle.dfdl_markup.specs.Machine.{begun_by, frame_of, entered, passed, tag_step, tag_of}
+use Rattle.dfdl_markup.specs.Machine.{tag_name_or}
 use Rattle.dfdl_markup.specs.Machine.{tag_name_step, slash_step}
 use Rattle.dfdl_markup.proofs.Rest.{Wrote, Close, From, brackets_at}
 use Rattle.dfdl_markup.proofs.Sound.{SoundFrames, SoundRoots, SoundTag, MayBegin, Sound}
@@ -22,7 +25,8 @@ use Rattle.dfdl_markup.proofs.Moves.{at, malformed, reads_on, content_at, answer
 use Rattle.dfdl_markup.proofs.ReferenceForms.{standing}
 use Rattle.dfdl_markup.proofs.ReferenceSteps.{only_standing}
 use Rattle.dfdl_markup.proofs.NamesRead.{next_name, read_name}
-use Rattle.dfdl_markup.proofs.TagSteps.{Reaches, tag_named, tag_white, tag_slash, tag_attribute, tag_name_reaches}
+use Rattle.dfdl_markup.proofs.TagSteps.{Reaches, tag_named, tag_white, tag_slash, tag_attribute}
+use Rattle.dfdl_markup.proofs.TagSteps.{tag_name_reaches}
 use Rattle.dfdl_markup.proofs.TagLive.{tag_keeps, roots_behind, behind_tag, slash_from}
 use Rattle.dfdl_markup.proofs.TagPlaces.{sound_bare}
 
@@ -167,11 +171,14 @@ module _ (begun : ℕ) (frames : List Frame) where
         }))
         (λ apart found.
         reads_on NothingAhead (AtTag tag spaced) (AtSlash tag) begun frames 47
-        (record { frames = sound_frames; roots = roots; ahead = refl; place = (sound, may) }) refl refl
-        (sound, may, apart, found) (λ n raw wrote. tag_slash tag spaced n (wanted frames) raw wrote))
+        (record { frames = sound_frames; roots = roots; ahead = refl; place = (sound, may) }) refl
+        refl
+        (sound, may, apart, found)
+        (λ n raw wrote. tag_slash tag spaced n (wanted frames) raw wrote))
 
 -- `c` is the character that was tested
-pub answer_at : (s : State) (c d : ℕ) (r : Result State ℕ) → (c == d) ≡ true → Answer s d r → Answer s c r
+pub answer_at : (s : State) (c d : ℕ) (r : Result State ℕ) → (c == d) ≡ true → Answer s d r
+    → Answer s c r
 answer_at s c d r is answer = subst (λ e. Answer s e r) (sym (eqb-true c d is)) answer
 
 begins_attribute : (tag : StartTag) (spaced : Bool) (c : ℕ) → spaced ≡ true → is_name_start c ≡ true
@@ -189,18 +196,22 @@ tag_answers_at begun frames tag spaced c sound =
     answer_if s c (is_white c) (Ok (standing (AtTag tag true) begun frames))
     (if c == 62 then if_ends s tag (entered s tag)
     else (if c == 47 then if_ends s tag (standing (AtSlash tag) begun frames)
-    else (if spaced && is_name_start c then Ok (standing (AtAttributeName tag (First (c ∷ []))) begun frames)
+    else (if spaced && is_name_start c then Ok
+    (standing (AtAttributeName tag (First (c ∷ []))) begun frames)
     else Err 3)))
-    (λ white. reads_on NothingAhead (AtTag tag spaced) (AtTag tag true) begun frames c sound refl refl
+    (λ white. reads_on NothingAhead (AtTag tag spaced) (AtTag tag true) begun frames c sound refl
+    refl
     sound.place (λ n raw wrote. tag_white tag spaced c white n (wanted frames) raw wrote))
     (λ not_white. answer_if s c (c == 62) (if_ends s tag (entered s tag))
     (if c == 47 then if_ends s tag (standing (AtSlash tag) begun frames)
-    else (if spaced && is_name_start c then Ok (standing (AtAttributeName tag (First (c ∷ []))) begun frames)
+    else (if spaced && is_name_start c then Ok
+    (standing (AtAttributeName tag (First (c ∷ []))) begun frames)
     else Err 3))
     (λ is. answer_at s c 62 (if_ends s tag (entered s tag)) is
     (greater_answers begun frames sound.frames sound.roots sound.place.1 tag spaced sound.place.0))
     (λ is_not. answer_if s c (c == 47) (if_ends s tag (standing (AtSlash tag) begun frames))
-    (if spaced && is_name_start c then Ok (standing (AtAttributeName tag (First (c ∷ []))) begun frames)
+    (if spaced && is_name_start c then Ok
+    (standing (AtAttributeName tag (First (c ∷ []))) begun frames)
     else Err 3)
     (λ is. answer_at s c 47 (if_ends s tag (standing (AtSlash tag) begun frames)) is
     (slash_answers_at begun frames sound.frames sound.roots sound.place.1 tag spaced sound.place.0))
@@ -208,7 +219,8 @@ tag_answers_at begun frames tag spaced c sound =
     (Ok (standing (AtAttributeName tag (First (c ∷ []))) begun frames)) (Err 3)
     (λ begins. (
     let parts = and_parts spaced (is_name_start c) begins in
-    reads_on NothingAhead (AtTag tag spaced) (AtAttributeName tag (First (c ∷ []))) begun frames c sound
+    reads_on NothingAhead (AtTag tag spaced) (AtAttributeName tag (First (c ∷ []))) begun frames c
+    sound
     refl refl (sound.place.0, (parts.1, tt), sound.place.1)
     (λ n raw wrote. begins_attribute tag spaced c parts.0 parts.1 n (wanted frames) raw wrote)))
     (λ malformed_there. malformed s c))))
@@ -216,8 +228,10 @@ tag_answers_at begun frames tag spaced c sound =
     s : State
     s = standing (AtTag tag spaced) begun frames
 
-same_tag_step : (p q : Place) (begun : ℕ) (frames : List Frame) (tag : StartTag) (spaced : Bool) (c : ℕ)
-    → tag_step (standing p begun frames) tag spaced c ≡ tag_step (standing q begun frames) tag spaced c
+same_tag_step : (p q : Place) (begun : ℕ) (frames : List Frame) (tag : StartTag) (spaced : Bool)
+    (c : ℕ)
+    → tag_step (standing p begun frames) tag spaced c ≡ tag_step (standing q begun frames) tag
+    spaced c
 unfolding tag_step
 same_tag_step p q begun frames tag spaced c = refl
 
@@ -238,8 +252,10 @@ tag_name_by begun frames reading c (Some next) w goes ends sound =
     (λ n raw wrote. tag_name_reaches reading next c goes n (wanted frames) raw wrote)
 tag_name_by begun frames reading c None (Some name) goes ends sound =
     subst (Answer (standing (AtTagName reading) begun frames) c)
-    (same_tag_step (AtTag (tag_of name) false) (AtTagName reading) begun frames (tag_of name) false c)
-    (answer_by (standing (AtTagName reading) begun frames) (standing (AtTag (tag_of name) false) begun frames) c
+    (same_tag_step (AtTag (tag_of name) false) (AtTagName reading) begun frames (tag_of name) false
+    c)
+    (answer_by (standing (AtTagName reading) begun frames)
+    (standing (AtTag (tag_of name) false) begun frames) c
     (tag_step (standing (AtTag (tag_of name) false) begun frames) (tag_of name) false c)
     (standing_over begun frames (AtTagName reading) (AtTag (tag_of name) false) refl
     (tag_named reading name ends))
@@ -269,14 +285,16 @@ slash_passes begun frames tag n text sound close = record {
       ∙ ap (λ l. 60 ∷ l) (append_assoc (tag_characters wrote.0) (47 ∷ []) (62 ∷ text))))
       (grow_single n begun frames 0 wrote.0 text
       (tag_keeps n frames tag wrote.0 wrote.1
-      (λ less. tag_differs begun frames sound.frames sound.roots sound.place.1 tag sound.place.0 sound.place.2)
+      (λ less. tag_differs begun frames sound.frames sound.roots sound.place.1 tag sound.place.0
+      sound.place.2)
       (λ less. tag_declared begun frames sound.frames sound.roots sound.place.1 tag sound.place.3))
       (λ less. may_deep begun frames sound.place.1) close);
 }
 
 slash_answers_there : (begun : ℕ) (frames : List Frame) (tag : StartTag) (c : ℕ)
     → Sound (standing (AtSlash tag) begun frames)
-    → Answer (standing (AtSlash tag) begun frames) c (slash_step (standing (AtSlash tag) begun frames) c)
+    → Answer (standing (AtSlash tag) begun frames) c
+    (slash_step (standing (AtSlash tag) begun frames) c)
 unfolding slash_step
 slash_answers_there begun frames tag c sound =
     answer_if (standing (AtSlash tag) begun frames) c (c == 62)
@@ -311,14 +329,17 @@ module _ (ahead : Ahead) (begun : ℕ) (frames : List Frame) where
       → Answer (at ahead (AtTag tag spaced) begun frames) c
       (tag_step (at ahead (AtTag tag spaced) begun frames) tag spaced c)
   tag_answers tag spaced c sound =
-      only_standing (λ s. Answer s c (tag_step s tag spaced c)) ahead (AtTag tag spaced) begun frames refl
+      only_standing (λ s. Answer s c (tag_step s tag spaced c)) ahead (AtTag tag spaced) begun
+      frames refl
       sound (tag_answers_at begun frames tag spaced c)
 
-  pub tag_name_answers : (reading : Reading) (c : ℕ) → Sound (at ahead (AtTagName reading) begun frames)
+  pub tag_name_answers : (reading : Reading) (c : ℕ)
+      → Sound (at ahead (AtTagName reading) begun frames)
       → Answer (at ahead (AtTagName reading) begun frames) c
       (tag_name_step (at ahead (AtTagName reading) begun frames) reading c)
   tag_name_answers reading c sound =
-      only_standing (λ s. Answer s c (tag_name_step s reading c)) ahead (AtTagName reading) begun frames refl
+      only_standing (λ s. Answer s c (tag_name_step s reading c)) ahead (AtTagName reading) begun
+      frames refl
       sound (tag_name_answers_at begun frames reading c)
 
   pub slash_answers : (tag : StartTag) (c : ℕ) → Sound (at ahead (AtSlash tag) begun frames)

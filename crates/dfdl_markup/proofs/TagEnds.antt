@@ -1,6 +1,8 @@
 -- A value that is begun can be ended, so that its tag has the attribute and is sound.
-use Rattle.std.proofs.Common.{◌≡◌, ℕ, zero, suc, ◌<◌, ◌≤◌, ◌==◌, Bool, true, false, List, [], ◌∷◌, ◌++◌}
-use Rattle.std.proofs.Common.{length, map, drop, Option, Some, None, refl, ap, sym, subst, ◌∙◌, arith}
+use Rattle.std.proofs.Common.{◌≡◌, ℕ, zero, suc, ◌<◌, ◌≤◌, ◌==◌, Bool, true, false, List, [], ◌∷◌}
+use Rattle.std.proofs.Common.{◌++◌}
+use Rattle.std.proofs.Common.{length, map, drop, Option, Some, None, refl, ap, sym, subst, ◌∙◌}
+use Rattle.std.proofs.Common.{arith}
 use Rattle.std.proofs.Common.{option_and_then}
 use Rattle.std.proofs.lemmas.Bool.{and_from, eq-eqb}
 use Rattle.std.proofs.lemmas.Bool.Decides.{nat_tests}
@@ -17,7 +19,9 @@ use Rattle.dfdl_markup.proofs.Sound.{MayStand, SoundTag, SoundName, KeepsFixed}
 use Rattle.dfdl_markup.proofs.Answers.{Good}
 use Rattle.dfdl_markup.proofs.Closing.{good_low}
 use Rattle.dfdl_markup.proofs.TagNamespaces.{alike_of, IsNewBinding}
-use Rattle.dfdl_markup.proofs.TagFixed.{ArePlain, plain_fixed, plain_good, plain_value, fixed_new, reach}
+use Rattle.dfdl_markup.proofs.TagNamespaces.{some_is}
+use Rattle.dfdl_markup.proofs.TagFixed.{ArePlain, plain_fixed, plain_good, plain_value, fixed_new}
+use Rattle.dfdl_markup.proofs.TagFixed.{reach}
 use Rattle.dfdl_markup.proofs.TagFixed.{reach_least, longer_new, may_bind_long, letters}
 use Rattle.dfdl_markup.proofs.TagFixed.{letters_length, letters_plain, begun_rest, plain_part}
 use Rattle.dfdl_markup.proofs.TagValues.{read_on, ends_on, letters_read, letters_written, not_white}
@@ -54,7 +58,8 @@ plain_grows : (n : ℕ) (v : OpenValue) (raw more : List ℕ) (w : WroteValue n 
     → WroteValue n (with_text v more false) (raw ++ more)
 plain_grows n v raw more w plain read =
     subst (λ l. WroteValue n (with_text v more false) (raw ++ l)) (letters_written more)
-    (value_grows n v raw w (map Letter more) more false (items_keep n v.quote more w.quote plain) read)
+    (value_grows n v raw w (map Letter more) more false (items_keep n v.quote more w.quote plain)
+    read)
 
 read_letters : (o : Option (List ℕ)) (v : OpenValue) (items : List Item) (k : ℕ) → 0 < k → o ≡ None
     → ReadAs o v items → ReadAs o (with_text v (letters k) false) (items ++ map Letter (letters k))
@@ -76,9 +81,6 @@ read_fixed (Some g) f v items more is some read = (
   ap (λ l. l ++ map Letter more) read.0 ∙ sym (map-append Letter v.text more),
   ap (begins (v.text ++ more)) (some_is g f some ∙ sym is) ∙ begins_self (v.text ++ more),
 )
-  where
-    some_is : (a b : List ℕ) → Some a ≡ Some b → a ≡ b
-    some_is a b e = cc
 
 -- characters behind which a value may be closed
 pub record ValueEnd (v : OpenValue) : Type 0 where
@@ -121,7 +123,8 @@ module _ (v : OpenValue) (binds : Each MayStand v.tag.attributes) where
         (letters_plain (reach (bindings_of v.tag.attributes)))
         (read_letters (fixed_value v.name) v w.items (reach (bindings_of v.tag.attributes))
         (omega (arith, reach_least (bindings_of v.tag.attributes))) none w.read);
-    may = ap (λ o. may_close (declares v.name) o (v.text ++ letters (reach (bindings_of v.tag.attributes)))) none
+    may = ap (λ o. may_close (declares v.name) o
+        (v.text ++ letters (reach (bindings_of v.tag.attributes)))) none
         ∙ free_may (declares v.name);
     new = free_new (declares v.name);
   }
@@ -130,14 +133,16 @@ module _ (v : OpenValue) (binds : Each MayStand v.tag.attributes) where
   fixed_may None f text is = refl
   fixed_may (Some prefix) f text is = alike_of text f is
 
-  fixed_is_new : (o : Option (List ℕ)) (f text : List ℕ) → option_and_then fixed_namespace o ≡ Some f
+  fixed_is_new : (o : Option (List ℕ)) (f text : List ℕ) → option_and_then fixed_namespace o ≡ Some
+      f
       → text ≡ f → IsNewOf o text (bindings_of v.tag.attributes)
   fixed_is_new None f text is same = tt
   fixed_is_new (Some prefix) f text is same =
       subst (λ u. Each (IsNewBinding prefix u) (bindings_of v.tag.attributes)) (sym same)
       (fixed_new prefix f v.tag.attributes is binds)
 
-  fixed_plain : (o : Option (List ℕ)) (f : List ℕ) → option_and_then fixed_namespace o ≡ Some f → ArePlain f
+  fixed_plain : (o : Option (List ℕ)) (f : List ℕ) → option_and_then fixed_namespace o ≡ Some f
+      → ArePlain f
   fixed_plain None f is = absurd (cc)
   fixed_plain (Some prefix) f is = plain_fixed prefix f is
 

@@ -1,5 +1,6 @@
 -- The namespaces of the prefixes `xml` and `xmlns`, and what no other prefix may stand for.
-use Rattle.std.proofs.Common.{◌≡◌, ℕ, zero, suc, ◌+◌, ◌<◌, ◌≤◌, ◌==◌, ◌&&◌, Bool, true, false, not, List, [], ◌∷◌, ◌++◌}
+use Rattle.std.proofs.Common.{◌≡◌, ℕ, zero, suc, ◌+◌, ◌<◌, ◌≤◌, ◌==◌, ◌&&◌, Bool, true, false, not}
+use Rattle.std.proofs.Common.{List, [], ◌∷◌, ◌++◌}
 use Rattle.std.proofs.Common.{length, Option, Some, None, refl, ap, sym, subst, ◌∙◌, arith}
 use Rattle.std.proofs.Common.{if◌then◌else◌, nat_le, nat_lt, option_and_then, drop}
 use Rattle.std.proofs.lemmas.Bool.{and_parts, and_from, eqb-true, true≢false}
@@ -9,7 +10,8 @@ use Rattle.std.specs.Str.{bytes_eq}
 use Rattle.dfdl_layers.specs.Tellers.{Each}
 use Rattle.dfdl_markup.specs.Grammar.{is_white, is_quote}
 use Rattle.dfdl_markup.specs.Values.{xml_namespace, xmlns_namespace, xml_prefix, xmlns_prefix}
-use Rattle.dfdl_markup.specs.Values.{fixed_namespace, may_bind, Attribute, declares, Binding, bound_to}
+use Rattle.dfdl_markup.specs.Values.{fixed_namespace, may_bind, Attribute, declares, Binding}
+use Rattle.dfdl_markup.specs.Values.{bound_to}
 use Rattle.dfdl_markup.specs.Values.{bindings_of}
 use Rattle.dfdl_markup.specs.Rules.{is_value_character}
 use Rattle.dfdl_markup.specs.Machine.{may_close, begins}
@@ -17,6 +19,7 @@ use Rattle.dfdl_markup.proofs.Answers.{Good}
 use Rattle.dfdl_markup.proofs.Sound.{MayStand}
 use Rattle.dfdl_markup.proofs.Closing.{good_low}
 use Rattle.dfdl_markup.proofs.TagNamespaces.{alike, alike_of, unlike, IsNewBinding}
+use Rattle.dfdl_markup.proofs.TagNamespaces.{some_is}
 
 -- how a fixed prefix is one
 pub data FixedAs (prefix : List ℕ) (o : Option (List ℕ)) : Type 0 where
@@ -32,10 +35,8 @@ fixed_by prefix false true first second = AsXmlns (alike prefix xmlns_prefix sec
 fixed_by prefix false false first second = AsOther refl
 
 pub fixed_as : (prefix : List ℕ) → FixedAs prefix (fixed_namespace prefix)
-fixed_as prefix = fixed_by prefix (bytes_eq prefix xml_prefix) (bytes_eq prefix xmlns_prefix) refl refl
-
-some_is : (a b : List ℕ) → Some a ≡ Some b → a ≡ b
-some_is a b e = cc
+fixed_as prefix = fixed_by prefix (bytes_eq prefix xml_prefix) (bytes_eq prefix xmlns_prefix) refl
+    refl
 
 no_text : (a : List ℕ) → None ≡ Some a → ⊥
 no_text a e = cc
@@ -79,7 +80,8 @@ plain_fixed prefix fixed is = plain_by prefix fixed (fixed_namespace prefix) (fi
     plain_by p f o (AsXml a b) e =
         subst ArePlain (some_is xml_namespace f (sym b ∙ e)) (plain_each xml_namespace xml_plain)
     plain_by p f o (AsXmlns a b) e =
-        subst ArePlain (some_is xmlns_namespace f (sym b ∙ e)) (plain_each xmlns_namespace xmlns_plain)
+        subst ArePlain (some_is xmlns_namespace f (sym b ∙ e))
+        (plain_each xmlns_namespace xmlns_plain)
     plain_by p f o (AsOther b) e = absurd (no_text f (sym b ∙ e))
 
 pub plain_good : (c : ℕ) → is_plain c ≡ true → Good c
@@ -113,7 +115,8 @@ other_of : (namespace : List ℕ)
     → (not (bytes_eq namespace xml_namespace) && not (bytes_eq namespace xmlns_namespace)) ≡ true
     → IsOther namespace
 other_of namespace is =
-    let parts = not_true (bytes_eq namespace xml_namespace) (bytes_eq namespace xmlns_namespace) is in
+    let parts = not_true (bytes_eq namespace xml_namespace) (bytes_eq namespace xmlns_namespace) is
+    in
     record {
       first = differs namespace xml_namespace parts.0;
       second = differs namespace xmlns_namespace parts.1;
@@ -142,7 +145,8 @@ fixed_once p q u o r (AsXmlns a b) (AsOther c) first second = absurd (no_text u 
 
 fixed_unbound : (p u : List ℕ) (o : Option (List ℕ)) → FixedAs p o → o ≡ Some u → IsOther u → ⊥
 fixed_unbound p u o (AsXml a b) is other = other.first (sym (some_is xml_namespace u (sym b ∙ is)))
-fixed_unbound p u o (AsXmlns a b) is other = other.second (sym (some_is xmlns_namespace u (sym b ∙ is)))
+fixed_unbound p u o (AsXmlns a b) is other = other.second
+    (sym (some_is xmlns_namespace u (sym b ∙ is)))
 fixed_unbound p u o (AsOther a) is other = no_text u (sym a ∙ is)
 
 fixed_alone : (p q u value : List ℕ) (r : Option (List ℕ)) → fixed_namespace p ≡ Some u
@@ -156,7 +160,8 @@ fixed_alone p q u value None is of may same =
 
 -- what the attributes declare, each by what holds of it
 pub bindings_each : (P : Binding → Type 0) (Q : Attribute → Type 0)
-    → ((attribute : Attribute) (prefix : List ℕ) → Q attribute → declares attribute.name ≡ Some prefix
+    → ((attribute : Attribute) (prefix : List ℕ) → Q attribute → declares attribute.name ≡ Some
+    prefix
     → P (record { prefix = prefix; namespace = attribute.value }))
     → (attributes : List Attribute) → Each Q attributes → Each P (bindings_of attributes)
 bindings_each P Q follows [] each = tt
@@ -209,7 +214,8 @@ may_bind_both namespace long =
     omega (arith, e, lengths, long)))))
 
 -- any prefix may be bound to a long one
-pub may_bind_long : (prefix namespace : List ℕ) → 36 < length namespace → may_bind prefix namespace ≡ true
+pub may_bind_long : (prefix namespace : List ℕ) → 36 < length namespace → may_bind prefix namespace
+    ≡ true
 may_bind_long [] namespace long = may_bind_both namespace long
 may_bind_long (c ∷ prefix) [] long = absurd (omega arith)
 may_bind_long (c ∷ prefix) (d ∷ namespace) long = may_bind_both (d ∷ namespace) long
@@ -228,13 +234,15 @@ letters_plain zero = tt
 letters_plain (suc n) = (refl, letters_plain n)
 
 -- what is left of a word behind what was read of it
-pub begun_rest : (text word : List ℕ) → begins text word ≡ true → text ++ drop (length text) word ≡ word
+pub begun_rest : (text word : List ℕ) → begins text word ≡ true → text ++ drop (length text) word
+    ≡ word
 begun_rest [] word is = refl
 begun_rest (c ∷ text) [] is = absurd (cc)
 begun_rest (c ∷ text) (d ∷ word) is =
     let parts = and_parts (c == d) (begins text word) is in
     let same : c ≡ d = eqb-true c d parts.0 in
-    ap (λ l. l ∷ (text ++ drop (length text) word)) same ∙ ap (λ l. d ∷ l) (begun_rest text word parts.1)
+    ap (λ l. l ∷ (text ++ drop (length text) word)) same ∙ ap (λ l. d ∷ l)
+    (begun_rest text word parts.1)
 
 pub plain_part : (P : ℕ → Type 0) (a b : List ℕ) → Each P (a ++ b) → Each P b
 plain_part P [] b each = each

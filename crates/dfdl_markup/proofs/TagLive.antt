@@ -1,28 +1,33 @@
 -- A start tag can be completed from any place in it: with a declaration for each prefix that it does
 -- not declare, and then `/>`.
-use Rattle.std.proofs.Common.{◌≡◌, ℕ, suc, ◌<◌, ◌≤◌, ◌⊎◌, ◌==◌, Bool, true, false, List, [], ◌∷◌, ◌++◌}
+use Rattle.std.proofs.Common.{◌≡◌, ℕ, suc, ◌<◌, ◌≤◌, ◌⊎◌, ◌==◌, Bool, true, false, List, [], ◌∷◌}
+use Rattle.std.proofs.Common.{◌++◌}
 use Rattle.std.proofs.Common.{Option, Some, None, refl, ap, sym, subst, ◌∙◌, arith, inl, inr}
 use Rattle.std.proofs.Common.{append_assoc}
 use Rattle.std.proofs.lemmas.Bool.{cases_Bool, cond_both, eqb-true}
 use Rattle.std.specs.List.{cons_option}
 use Rattle.dfdl_layers.specs.Tellers.{Each}
-use Rattle.dfdl_markup.specs.Grammar.{is_white, is_quote, Name, Plain, Prefixed, name_characters, Tag}
+use Rattle.dfdl_markup.specs.Grammar.{is_white, is_quote, Name, Plain, Prefixed, name_characters}
+use Rattle.dfdl_markup.specs.Grammar.{Tag}
 use Rattle.dfdl_markup.specs.Values.{Binding, bound_to, bindings_of, found, is_found}
 use Rattle.dfdl_markup.specs.Values.{is_some_text, xmlns_prefix, same_name, same_expanded}
 use Rattle.dfdl_markup.specs.Values.{names_of, scope_in}
 use Rattle.dfdl_markup.specs.Rules.{IsPart, IsName, AreDifferent, AreDeclared, TagKeeps}
-use Rattle.dfdl_markup.specs.Machine.{StartTag, OpenValue, Place, AtTag, AtEquals, AtValue, Frame, Ahead}
+use Rattle.dfdl_markup.specs.Machine.{StartTag, OpenValue, Place, AtTag, AtEquals, AtValue, Frame}
+use Rattle.dfdl_markup.specs.Machine.{Ahead}
 use Rattle.dfdl_markup.specs.Machine.{scope_of, wanted, begun_by, value_begun, fixed_value}
 use Rattle.dfdl_markup.proofs.Rest.{WroteTag, Close, From, brackets_at}
 use Rattle.dfdl_markup.proofs.Sound.{SoundFrames, SoundRoots, SoundTag, MayBegin}
 use Rattle.dfdl_markup.proofs.Sound.{KeepsFixed, SoundValue, Sound}
 use Rattle.dfdl_markup.proofs.Answers.{Good, Live}
-use Rattle.dfdl_markup.proofs.Closing.{good_low, each_append, good_of_name, Closing, close_all, may_deep}
+use Rattle.dfdl_markup.proofs.Closing.{good_low, each_append, good_of_name, Closing, close_all}
+use Rattle.dfdl_markup.proofs.Closing.{may_deep}
 use Rattle.dfdl_markup.proofs.Closing.{grow_single}
 use Rattle.dfdl_markup.proofs.Moves.{at}
 use Rattle.dfdl_markup.proofs.ReferenceForms.{standing}
 use Rattle.dfdl_markup.proofs.ReferenceSteps.{only_standing}
-use Rattle.dfdl_markup.proofs.TagNamespaces.{none_same, wider_pair, is_found_kept, found_kept, found_added}
+use Rattle.dfdl_markup.proofs.TagNamespaces.{none_same, wider_pair, is_found_kept, found_kept}
+use Rattle.dfdl_markup.proofs.TagNamespaces.{found_added}
 use Rattle.dfdl_markup.proofs.TagValues.{each_push, with_attribute}
 use Rattle.dfdl_markup.proofs.TagSound.{names_push, bindings_push}
 use Rattle.dfdl_markup.proofs.TagSteps.{Reaches, reaches_on, tag_white, equals_quote}
@@ -47,7 +52,8 @@ tag_keeps n frames tag t wrote differ declared = record {
   differ = λ less. subst (AreDifferent (scope_of frames)) (sym wrote.attributes) (differ less);
   declared = λ less.
       subst (AreDeclared (scope_of frames) t.name) (sym wrote.attributes)
-      (subst (λ name. AreDeclared (scope_of frames) name tag.attributes) (sym wrote.name) (declared less));
+      (subst (λ name. AreDeclared (scope_of frames) name tag.attributes) (sym wrote.name)
+      (declared less));
 }
 
 -- one that declares all of its own prefixes keeps the rules in any scope
@@ -74,7 +80,8 @@ own_declared frames tag own =
     (λ name is. is_found_kept (bindings_of tag.attributes) (scope_of frames) name is)
     (tag.name ∷ names_of tag.attributes) own
 
-pub roots_behind : (begun : ℕ) (frames : List Frame) → SoundRoots begun frames → MayBegin begun frames
+pub roots_behind : (begun : ℕ) (frames : List Frame) → SoundRoots begun frames → MayBegin begun
+    frames
     → SoundRoots (begun_by begun frames) frames
 roots_behind begun [] roots may =
     cond_both (begun == 0) None (Some 10) (λ (o : Option ℕ). o ≡ None → suc begun ≤ 1)
@@ -149,30 +156,38 @@ module _ (tag : StartTag) (p : List ℕ) (prefixes : List (List ℕ)) (value : L
       ∙ ap (λ o. bindings_of tag.attributes ++ cons_option (bound_to value o) []) (xmlns_declares p)
 
   name_more : (name : Name) → Covered (bindings_of tag.attributes) (p ∷ prefixes) name
-      → Covered (bindings_of (with_attribute tag (Prefixed xmlns_prefix p) value).attributes) prefixes name
+      → Covered (bindings_of (with_attribute tag (Prefixed xmlns_prefix p) value).attributes)
+      prefixes name
   name_more name covered =
       subst (λ bindings. Covered bindings prefixes name) (sym bindings_more)
       (covered_skip (bindings_of tag.attributes ++ record { prefix = p; namespace = value } ∷ []) p
-      prefixes (found_added (bindings_of tag.attributes) (record { prefix = p; namespace = value })) name
+      prefixes (found_added (bindings_of tag.attributes) (record { prefix = p; namespace = value }))
+      name
       (covered_kept (bindings_of tag.attributes) (record { prefix = p; namespace = value } ∷ [])
       (p ∷ prefixes) name covered))
 
   xmlns_more : Covered (bindings_of tag.attributes) (p ∷ prefixes) (Prefixed xmlns_prefix [])
-      → Covered (bindings_of (with_attribute tag (Prefixed xmlns_prefix p) value).attributes) prefixes
+      → Covered (bindings_of (with_attribute tag (Prefixed xmlns_prefix p) value).attributes)
+      prefixes
       (Prefixed xmlns_prefix [])
   xmlns_more covered = name_more (Prefixed xmlns_prefix []) covered
 
   covered_more : Covered (bindings_of tag.attributes) (p ∷ prefixes) (Prefixed xmlns_prefix [])
-      → Each (Covered (bindings_of tag.attributes) (p ∷ prefixes)) (tag.name ∷ names_of tag.attributes)
-      → Each (Covered (bindings_of (with_attribute tag (Prefixed xmlns_prefix p) value).attributes) prefixes)
+      → Each (Covered (bindings_of tag.attributes) (p ∷ prefixes))
+      (tag.name ∷ names_of tag.attributes)
+      → Each (Covered (bindings_of (with_attribute tag (Prefixed xmlns_prefix p) value).attributes)
+      prefixes)
       (tag.name ∷ names_of (with_attribute tag (Prefixed xmlns_prefix p) value).attributes)
   covered_more xmlns covered =
-      subst (λ names. Each (Covered (bindings_of (with_attribute tag (Prefixed xmlns_prefix p) value).attributes) prefixes)
+      subst (λ names. Each (Covered
+      (bindings_of (with_attribute tag (Prefixed xmlns_prefix p) value).attributes) prefixes)
       (tag.name ∷ names)) (sym (names_push tag (Prefixed xmlns_prefix p) value))
-      (each_push (Covered (bindings_of (with_attribute tag (Prefixed xmlns_prefix p) value).attributes) prefixes)
+      (each_push (Covered (bindings_of
+      (with_attribute tag (Prefixed xmlns_prefix p) value).attributes) prefixes)
       (tag.name ∷ names_of tag.attributes) (Prefixed xmlns_prefix p)
       (each_by (Covered (bindings_of tag.attributes) (p ∷ prefixes))
-      (Covered (bindings_of (with_attribute tag (Prefixed xmlns_prefix p) value).attributes) prefixes)
+      (Covered (bindings_of (with_attribute tag (Prefixed xmlns_prefix p) value).attributes)
+      prefixes)
       name_more (tag.name ∷ names_of tag.attributes) covered)
       (xmlns_more xmlns))
 
@@ -206,8 +221,10 @@ declaration_reaches : (tag : StartTag) (spaced : Bool) (p : List ℕ) → IsPart
     → Reaches (AtTag tag spaced) (AtValue (value_begun tag (Prefixed xmlns_prefix p) 34))
     (32 ∷ (name_characters (Prefixed xmlns_prefix p) ++ 61 ∷ 34 ∷ []))
 declaration_reaches tag spaced p part =
-    reaches_on (AtTag tag spaced) (AtTag tag true) (AtValue (value_begun tag (Prefixed xmlns_prefix p) 34))
-    (32 ∷ []) (name_characters (Prefixed xmlns_prefix p) ++ 61 ∷ 34 ∷ []) (tag_white tag spaced 32 space_white)
+    reaches_on (AtTag tag spaced) (AtTag tag true)
+    (AtValue (value_begun tag (Prefixed xmlns_prefix p) 34))
+    (32 ∷ []) (name_characters (Prefixed xmlns_prefix p) ++ 61 ∷ 34 ∷ [])
+    (tag_white tag spaced 32 space_white)
     (subst (Reaches (AtTag tag true) (AtValue (value_begun tag (Prefixed xmlns_prefix p) 34)))
     (append_assoc (name_characters (Prefixed xmlns_prefix p)) (61 ∷ []) (34 ∷ []))
     (reaches_on (AtTag tag true) (AtEquals tag (Prefixed xmlns_prefix p))
@@ -266,7 +283,10 @@ module _ (begun : ℕ) (frames : List Frame) where
         let closing = behind_tag begun frames sound_frames roots may in
         record {
           more = 47 ∷ 62 ∷ closing.0;
-          good = (good_low 47 (omega arith) (omega arith), (good_low 62 (omega arith) (omega arith), closing.1));
+          good = (
+            good_low 47 (omega arith) (omega arith),
+            (good_low 62 (omega arith) (omega arith), closing.1),
+          );
           from = λ n. slash_from n tag spaced closing.0 may
               (λ less. own_different frames tag sound own.1)
               (λ less. own_declared frames tag own) (closing.2 n);
@@ -276,16 +296,23 @@ module _ (begun : ℕ) (frames : List Frame) where
     declared_live : (tag : StartTag) (spaced : Bool) (p : List ℕ) → SoundTag tag → IsPart p
         → is_some_text (found (bindings_of tag.attributes) p) ≡ false
         → ((value : List ℕ) → SoundTag (with_attribute tag (Prefixed xmlns_prefix p) value)
-        → Live (standing (AtTag (with_attribute tag (Prefixed xmlns_prefix p) value) false) begun frames))
+        → Live (standing (AtTag (with_attribute tag (Prefixed xmlns_prefix p) value) false) begun
+        frames))
         → Live (standing (AtTag tag spaced) begun frames)
     declared_live tag spaced p sound part none others =
-        live_over (AtTag tag spaced) (AtValue v) (32 ∷ (name_characters name ++ 61 ∷ 34 ∷ [])) refl
-        (good_low 32 (omega arith) (omega arith), each_append Good (name_characters name) (61 ∷ 34 ∷ []) (good_of_name name (xmlns_part, part)) (good_low 61 (omega arith) (omega arith), (good_low 34 (omega arith) (omega arith), tt)))
+        live_over (AtTag tag spaced) (AtValue v) (32 ∷ (name_characters name ++ 61 ∷ 34 ∷ [])) refl (
+          good_low 32 (omega arith) (omega arith),
+          each_append Good (name_characters name)
+              (61 ∷ 34 ∷ []) (good_of_name name (xmlns_part, part))
+              (good_low 61 (omega arith) (omega arith), (good_low 34 (omega arith) (omega arith), tt)),
+        )
         (declaration_reaches tag spaced p part)
-        (live_over (AtValue v) (AtTag (with_attribute tag name e.more) false) (e.more ++ 34 ∷ []) refl
+        (live_over (AtValue v) (AtTag (with_attribute tag name e.more) false) (e.more ++ 34 ∷ [])
+        refl
         (each_append Good e.more (34 ∷ []) e.good (good_low 34 (omega arith) (omega arith), tt))
         (value_reaches v e)
-        (others e.more (value_sound v (sound, (xmlns_part, part), declaration_new tag p sound none) e)))
+        (others e.more (value_sound v (sound, (xmlns_part, part), declaration_new tag p sound none)
+        e)))
       where
         name : Name
         name = Prefixed xmlns_prefix p
@@ -313,7 +340,8 @@ module _ (begun : ℕ) (frames : List Frame) where
         elim (cases_Bool (is_some_text (found (bindings_of tag.attributes) p))) [
           | inl some ↦
               complete prefixes tag spaced sound parts.1
-              (covered_skip (bindings_of tag.attributes) p prefixes some (Prefixed xmlns_prefix []) xmlns)
+              (covered_skip (bindings_of tag.attributes) p prefixes some (Prefixed xmlns_prefix [])
+              xmlns)
               (each_by (Covered (bindings_of tag.attributes) (p ∷ prefixes))
               (Covered (bindings_of tag.attributes) prefixes)
               (λ name is. covered_skip (bindings_of tag.attributes) p prefixes some name is)
@@ -321,7 +349,8 @@ module _ (begun : ℕ) (frames : List Frame) where
           | inr none ↦
               declared_live tag spaced p sound parts.0 none
               (λ value sound_more.
-              complete prefixes (with_attribute tag (Prefixed xmlns_prefix p) value) false sound_more
+              complete prefixes (with_attribute tag (Prefixed xmlns_prefix p) value) false
+              sound_more
               parts.1 (xmlns_more tag p prefixes value xmlns)
               (covered_more tag p prefixes value xmlns covered))
         ]

@@ -7,16 +7,19 @@ use Rattle.std.specs.List.{list_any, cons_option}
 use Rattle.std.specs.Str.{bytes_eq}
 use Rattle.dfdl_layers.specs.Tellers.{Each}
 use Rattle.dfdl_xml_chars.specs.Characters.{is_name_start, is_name_char, low_name_rows}
-use Rattle.dfdl_xml_chars.specs.Characters.{low_start_rows, high_name_rows, high_start_rows, high_mark_rows}
+use Rattle.dfdl_xml_chars.specs.Characters.{low_start_rows, high_name_rows, high_start_rows}
+use Rattle.dfdl_xml_chars.specs.Characters.{high_mark_rows}
 use Rattle.dfdl_markup.specs.Grammar.{Name, Plain, Prefixed, name_characters}
 use Rattle.dfdl_markup.specs.Values.{xmlns_namespace, xml_prefix, xmlns_prefix, Attribute, declares}
-use Rattle.dfdl_markup.specs.Values.{Binding, bound_to, bindings_of, found, same_found, same_expanded}
+use Rattle.dfdl_markup.specs.Values.{Binding, bound_to, bindings_of, found, same_found}
+use Rattle.dfdl_markup.specs.Values.{same_expanded}
 use Rattle.dfdl_markup.specs.Values.{same_name, names_of, is_some_text, fixed_namespace}
 use Rattle.dfdl_markup.specs.Rules.{IsPart, IsName}
 use Rattle.dfdl_markup.specs.Machine.{StartTag, is_given, may_close}
 use Rattle.dfdl_markup.proofs.Sound.{MayStand, SoundTag}
 use Rattle.dfdl_markup.proofs.Closing.{start_is_char}
 use Rattle.dfdl_markup.proofs.TagNamespaces.{alike, alike_of, found_new}
+use Rattle.dfdl_markup.proofs.TagNamespaces.{some_is}
 use Rattle.dfdl_markup.proofs.TagFixed.{bindings_each, fixed_new}
 
 -- a part of a name has no colon
@@ -101,9 +104,6 @@ head_found p value None rest is = absurd (cc)
 head_found p value (Some q) rest is =
     ap (λ (b : Bool). is_some_text (if b then Some value else found rest p))
     (alike_of q p (some_is q p is))
-  where
-    some_is : (a b : List ℕ) → Some a ≡ Some b → a ≡ b
-    some_is a b e = cc
 
 undeclared : (p : List ℕ) (attributes : List Attribute) → Each IsName (names_of attributes)
     → is_some_text (found (bindings_of attributes) p) ≡ false
@@ -130,9 +130,6 @@ found_holds_step : (q v u : List ℕ) (binding : Binding) (rest : Option (List �
     → (binding.prefix ≡ q → binding.namespace ≡ u) → (rest ≡ Some v → v ≡ u) → v ≡ u
 found_holds_step q v u binding rest true tested is holds others =
     sym (some_is binding.namespace v is) ∙ holds (alike binding.prefix q tested)
-  where
-    some_is : (a b : List ℕ) → Some a ≡ Some b → a ≡ b
-    some_is a b e = cc
 found_holds_step q v u binding rest false tested is holds others = others is
 
 found_holds : (q v u : List ℕ) (bindings : List Binding) → found bindings q ≡ Some v
@@ -165,11 +162,13 @@ expanded_apart : (p : List ℕ) (attributes : List Attribute) → Each MayStand 
     → same_expanded (bindings_of attributes) x (Prefixed xmlns_prefix p) ≡ false
 expanded_apart p attributes stand (Plain a) written = refl
 expanded_apart p attributes stand (Prefixed q a) written =
-    false_from_ne_true (same_expanded (bindings_of attributes) (Prefixed q a) (Prefixed xmlns_prefix p))
+    false_from_ne_true (same_expanded (bindings_of attributes) (Prefixed q a)
+    (Prefixed xmlns_prefix p))
     (λ is. (
     let parts =
     and_parts (bytes_eq a p)
-    (same_found (found (bindings_of attributes) q) (found (bindings_of attributes) xmlns_prefix)) is in
+    (same_found (found (bindings_of attributes) q) (found (bindings_of attributes) xmlns_prefix)) is
+    in
     apart (found (bindings_of attributes) q) (found (bindings_of attributes) xmlns_prefix) refl refl
     parts.0 parts.1))
   where
@@ -192,8 +191,10 @@ expanded_apart p attributes stand (Prefixed q a) written =
     apart None None first second local same = absurd (cc)
 
 none_expanded : (p : List ℕ) (attributes : List Attribute) → Each MayStand attributes
-    → (names : List Name) → list_any (λ other. same_name other (Prefixed xmlns_prefix p)) names ≡ false
-    → list_any (λ other. same_expanded (bindings_of attributes) other (Prefixed xmlns_prefix p)) names
+    → (names : List Name) → list_any (λ other. same_name other (Prefixed xmlns_prefix p)) names
+    ≡ false
+    → list_any (λ other. same_expanded (bindings_of attributes) other (Prefixed xmlns_prefix p))
+    names
     ≡ false
 none_expanded p attributes stand [] written = refl
 none_expanded p attributes stand (x ∷ names) written =
@@ -201,7 +202,8 @@ none_expanded p attributes stand (x ∷ names) written =
     or_parts (same_name x (Prefixed xmlns_prefix p))
     (list_any (λ other. same_name other (Prefixed xmlns_prefix p)) names) written in
     or_from (same_expanded (bindings_of attributes) x (Prefixed xmlns_prefix p))
-    (list_any (λ other. same_expanded (bindings_of attributes) other (Prefixed xmlns_prefix p)) names)
+    (list_any (λ other. same_expanded (bindings_of attributes) other (Prefixed xmlns_prefix p))
+    names)
     (expanded_apart p attributes stand x parts.0)
     (none_expanded p attributes stand names parts.1)
 
@@ -211,7 +213,9 @@ pub declaration_new : (tag : StartTag) (p : List ℕ) → SoundTag tag
     → is_given tag (Prefixed xmlns_prefix p) ≡ false
 declaration_new tag p sound none =
     let written = undeclared p tag.attributes sound.names none in
-    or_from (list_any (λ other. same_name other (Prefixed xmlns_prefix p)) (names_of tag.attributes))
-    (list_any (λ other. same_expanded (bindings_of tag.attributes) other (Prefixed xmlns_prefix p)) (names_of tag.attributes))
+    or_from (list_any (λ other. same_name other (Prefixed xmlns_prefix p))
+    (names_of tag.attributes))
+    (list_any (λ other. same_expanded (bindings_of tag.attributes) other (Prefixed xmlns_prefix p))
+    (names_of tag.attributes))
     written
     (none_expanded p tag.attributes sound.binds (names_of tag.attributes) written)

@@ -8,8 +8,13 @@ use Rattle.std.specs.List.{list_any}
 use Rattle.std.specs.Str.{bytes_eq}
 use Rattle.dfdl_layers.specs.Tellers.{Each}
 use Rattle.dfdl_markup.specs.Grammar.{Name, Plain, Prefixed}
-use Rattle.dfdl_markup.specs.Values.{same_name, Binding, found, same_found, same_expanded, have_same}
+use Rattle.dfdl_markup.specs.Values.{same_name, Binding, found, same_found, same_expanded}
+use Rattle.dfdl_markup.specs.Values.{have_same}
 use Rattle.dfdl_markup.specs.Values.{is_some_text, is_found}
+
+-- a text that is there is one alone
+pub some_is : (a b : List ℕ) → Some a ≡ Some b → a ≡ b
+some_is a b e = cc
 
 -- two texts are alike where they are one
 
@@ -23,7 +28,8 @@ pub unlike : (a b : List ℕ) → (a ≡ b → ⊥) → bytes_eq a b ≡ false
 unlike a b apart = false_from_ne_true (bytes_eq a b) (λ is. apart (alike a b is))
 
 pub unlike_longer : (a b : List ℕ) → length a < length b → bytes_eq a b ≡ false
-unlike_longer a b less = unlike a b (λ is. absurd (let same : length a ≡ length b = ap length is in omega (arith, same, less)))
+unlike_longer a b less = unlike a b
+    (λ is. absurd (let same : length a ≡ length b = ap length is in omega (arith, same, less)))
 
 -- no two are alike, where another name comes to the names
 
@@ -87,7 +93,8 @@ abbrev pub or_found : Option (List ℕ) → Option (List ℕ) → Option (List �
 or_found (Some text) other = Some text
 or_found None other = other
 
-found_step : (test : Bool) (text : List ℕ) (o rest whole : Option (List ℕ)) → whole ≡ or_found o rest
+found_step : (test : Bool) (text : List ℕ) (o rest whole : Option (List ℕ)) → whole ≡ or_found o
+    rest
     → (if test then Some text else whole) ≡ or_found (if test then Some text else o) rest
 found_step true text o rest whole is = refl
 found_step false text o rest whole is = is
@@ -99,11 +106,13 @@ found_append (binding ∷ bindings) more prefix =
     found_step (bytes_eq binding.prefix prefix) binding.namespace (found bindings prefix)
     (found more prefix) (found (bindings ++ more) prefix) (found_append bindings more prefix)
 
-some_kept : (o rest : Option (List ℕ)) → is_some_text o ≡ true → is_some_text (or_found o rest) ≡ true
+some_kept : (o rest : Option (List ℕ)) → is_some_text o ≡ true → is_some_text (or_found o rest)
+    ≡ true
 some_kept (Some text) rest is = refl
 some_kept None rest is = absurd (cc)
 
-some_added : (o rest : Option (List ℕ)) → is_some_text rest ≡ true → is_some_text (or_found o rest) ≡ true
+some_added : (o rest : Option (List ℕ)) → is_some_text rest ≡ true → is_some_text (or_found o rest)
+    ≡ true
 some_added (Some text) rest is = refl
 some_added None rest is = is
 
@@ -156,9 +165,6 @@ found_new_step : (p u q v : List ℕ) (binding : Binding) (test : Bool) (o : Opt
     → IsNewBinding p u binding → (o ≡ Some v → q ≡ p) → v ≡ u → q ≡ p
 found_new_step p u q v binding true o tested is new others same =
     sym (alike binding.prefix q tested) ∙ new (some_is binding.namespace v is ∙ same)
-  where
-    some_is : (a b : List ℕ) → Some a ≡ Some b → a ≡ b
-    some_is a b e = cc
 found_new_step p u q v binding false o tested is new others same = others is
 
 pub found_new : (p u q v : List ℕ) (bindings : List Binding) → found bindings q ≡ Some v
@@ -187,7 +193,8 @@ module _ (p u : List ℕ) (bindings : List Binding) (new : Each (IsNewBinding p 
   flipped : (a b : List ℕ) → bytes_eq a b ≡ true → bytes_eq b a ≡ true
   flipped a b is = alike_of b a (sym (alike a b is))
 
-  flip_found : (w : List ℕ) (o : Option (List ℕ)) → same_found o (Some w) ≡ true → same_found (Some w) o ≡ true
+  flip_found : (w : List ℕ) (o : Option (List ℕ)) → same_found o (Some w) ≡ true → same_found
+      (Some w) o ≡ true
   flip_found w (Some v) is = flipped v w is
   flip_found w None is = absurd (cc)
 

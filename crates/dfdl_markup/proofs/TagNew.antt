@@ -9,7 +9,8 @@ use Rattle.dfdl_layers.specs.Tellers.{Each}
 use Rattle.dfdl_xml_chars.specs.Characters.{is_name_start, is_name_char}
 use Rattle.dfdl_xml_chars.specs.Characters.{low_name_rows, low_start_rows}
 use Rattle.dfdl_markup.specs.Grammar.{Name, Plain, Prefixed, name_characters}
-use Rattle.dfdl_markup.specs.Values.{Binding, bindings_of, found, same_found, same_expanded, same_name}
+use Rattle.dfdl_markup.specs.Values.{Binding, bindings_of, found, same_found, same_expanded}
+use Rattle.dfdl_markup.specs.Values.{same_name}
 use Rattle.dfdl_markup.specs.Values.{names_of}
 use Rattle.dfdl_markup.specs.Rules.{IsPart, IsName}
 use Rattle.dfdl_markup.specs.Machine.{Reading, First, Colon, Second, StartTag, is_given}
@@ -99,7 +100,8 @@ pub long_new : (tag : StartTag) (name : Name)
     → longest (names_of tag.attributes) ≤ length (last_part name) → is_given tag name ≡ false
 long_new tag name long =
     or_from (list_any (λ other. same_name other name) (names_of tag.attributes))
-    (list_any (λ other. same_expanded (bindings_of tag.attributes) other name) (names_of tag.attributes))
+    (list_any (λ other. same_expanded (bindings_of tag.attributes) other name)
+    (names_of tag.attributes))
     (none_written (longest (names_of tag.attributes)) (names_of tag.attributes) name long
     (shorter_all (longest (names_of tag.attributes)) (names_of tag.attributes) (omega arith)))
     (none_expanded (bindings_of tag.attributes) (longest (names_of tag.attributes))

@@ -19,7 +19,8 @@ use Rattle.dfdl_markup.proofs.TagFixed.{letters, letters_plain}
 use Rattle.dfdl_markup.proofs.TagSteps.{Reaches, tag_named, named_equals}
 use Rattle.dfdl_markup.proofs.TagSteps.{equals_quote, wrote_as}
 use Rattle.dfdl_markup.proofs.TagEnds.{good_plain}
-use Rattle.dfdl_markup.proofs.TagLive.{live_over, tag_lives, value_lives, keeps_nothing, double_quotes}
+use Rattle.dfdl_markup.proofs.TagLive.{live_over, tag_lives, value_lives, keeps_nothing}
+use Rattle.dfdl_markup.proofs.TagLive.{double_quotes}
 use Rattle.dfdl_markup.proofs.TagNew.{letter_starts, longest, longest_some, long_new, Lengthened}
 use Rattle.dfdl_markup.proofs.TagNew.{lengthen}
 
@@ -35,7 +36,8 @@ name_ended reading name ends n want raw wrote =
     (tag_named reading name ends n want raw wrote)
 
 name_lettered : (prefix : List ℕ)
-    → Reaches (AtTagName (Colon prefix)) (AtTag (tag_of (Prefixed prefix (97 ∷ []))) false) (97 ∷ [])
+    → Reaches (AtTagName (Colon prefix)) (AtTag (tag_of (Prefixed prefix (97 ∷ []))) false)
+    (97 ∷ [])
 name_lettered prefix n want raw wrote =
     tag_named (Second prefix (97 ∷ [])) (Prefixed prefix (97 ∷ [])) refl n want (raw ++ 97 ∷ []) (
       ap (λ l. l ++ 97 ∷ []) wrote.0 ∙ ap (λ l. 60 ∷ l) (append_assoc prefix (58 ∷ []) (97 ∷ [])),
@@ -124,7 +126,8 @@ module _ (ahead : Ahead) (begun : ℕ) (frames : List Frame) where
       → Live (at ahead (AtAttributeName tag reading) begun frames)
   attribute_name_live tag reading sound =
       only_standing Live ahead (AtAttributeName tag reading) begun frames refl sound
-      (λ s. attribute_name_lives begun frames s.frames s.roots s.place.2 tag reading s.place.0 s.place.1)
+      (λ s. attribute_name_lives begun frames s.frames s.roots s.place.2 tag reading s.place.0
+      s.place.1)
 
   pub named_live : (tag : StartTag) (name : Name) → Sound (at ahead (AtNamed tag name) begun frames)
       → Live (at ahead (AtNamed tag name) begun frames)
@@ -132,7 +135,8 @@ module _ (ahead : Ahead) (begun : ℕ) (frames : List Frame) where
       only_standing Live ahead (AtNamed tag name) begun frames refl sound
       (λ s. named_lives begun frames s.frames s.roots s.place.1 tag name s.place.0)
 
-  pub equals_live : (tag : StartTag) (name : Name) → Sound (at ahead (AtEquals tag name) begun frames)
+  pub equals_live : (tag : StartTag) (name : Name)
+      → Sound (at ahead (AtEquals tag name) begun frames)
       → Live (at ahead (AtEquals tag name) begun frames)
   equals_live tag name sound =
       only_standing Live ahead (AtEquals tag name) begun frames refl sound

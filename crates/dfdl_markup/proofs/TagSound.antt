@@ -22,24 +22,29 @@ IsNewOf None value bindings = Unit {0}
 IsNewOf (Some prefix) value bindings = Each (IsNewBinding prefix value) bindings
 
 module _ (tag : StartTag) (name : Name) (value : List ℕ) where
-  pub names_push : names_of (with_attribute tag name value).attributes ≡ names_of tag.attributes ++ name ∷ []
-  names_push = map-append (λ (a : Attribute). a.name) tag.attributes (record { name = name; value = value } ∷ [])
+  pub names_push : names_of (with_attribute tag name value).attributes ≡ names_of tag.attributes ++
+      name ∷ []
+  names_push = map-append (λ (a : Attribute). a.name) tag.attributes
+      (record { name = name; value = value } ∷ [])
 
   pub bindings_push : bindings_of (with_attribute tag name value).attributes
       ≡ bindings_of tag.attributes ++ cons_option (bound_to value (declares name)) []
-  bindings_push = filter_map-append binding_of tag.attributes (record { name = name; value = value } ∷ [])
+  bindings_push = filter_map-append binding_of tag.attributes
+      (record { name = name; value = value } ∷ [])
 
   any_name : (names : List Name) → Each (λ (other : Name). Unit {0}) names
   any_name [] = tt
   any_name (other ∷ names) = (tt, any_name names)
 
-  expanded_by : (o : Option (List ℕ)) → SoundName tag name → IsNewOf o value (bindings_of tag.attributes)
+  expanded_by : (o : Option (List ℕ)) → SoundName tag name → IsNewOf o value
+      (bindings_of tag.attributes)
       → have_same (same_expanded (bindings_of tag.attributes ++ cons_option (bound_to value o) []))
       (names_of tag.attributes ++ name ∷ []) ≡ false
   expanded_by None sound new =
       let parts =
       or_parts (list_any (λ other. same_name other name) (names_of tag.attributes))
-      (list_any (λ other. same_expanded (bindings_of tag.attributes) other name) (names_of tag.attributes))
+      (list_any (λ other. same_expanded (bindings_of tag.attributes) other name)
+      (names_of tag.attributes))
       sound.2 in
       ap (λ scope. have_same (same_expanded scope) (names_of tag.attributes ++ name ∷ []))
       (append-nil (bindings_of tag.attributes))
@@ -48,7 +53,8 @@ module _ (tag : StartTag) (name : Name) (value : List ℕ) where
   expanded_by (Some p) sound new =
       let parts =
       or_parts (list_any (λ other. same_name other name) (names_of tag.attributes))
-      (list_any (λ other. same_expanded (bindings_of tag.attributes) other name) (names_of tag.attributes))
+      (list_any (λ other. same_expanded (bindings_of tag.attributes) other name)
+      (names_of tag.attributes))
       sound.2 in
       have_same_push
       (same_expanded (bindings_of tag.attributes ++ record { prefix = p; namespace = value } ∷ []))
@@ -56,8 +62,10 @@ module _ (tag : StartTag) (name : Name) (value : List ℕ) where
       (none_same (λ (other : Name). Unit {0}) (same_expanded (bindings_of tag.attributes)) same_name
       (same_expanded (bindings_of tag.attributes ++ record { prefix = p; namespace = value } ∷ []))
       (λ x y px py e w. new_pair p value (bindings_of tag.attributes) new x y e w)
-      (names_of tag.attributes) (any_name (names_of tag.attributes)) sound.0.expanded sound.0.written)
-      (none_like_last (λ (other : Name). Unit {0}) (same_expanded (bindings_of tag.attributes)) same_name
+      (names_of tag.attributes) (any_name (names_of tag.attributes)) sound.0.expanded
+      sound.0.written)
+      (none_like_last (λ (other : Name). Unit {0}) (same_expanded (bindings_of tag.attributes))
+      same_name
       (same_expanded (bindings_of tag.attributes ++ record { prefix = p; namespace = value } ∷ []))
       (λ x y px py e w. new_pair p value (bindings_of tag.attributes) new x y e w)
       (names_of tag.attributes) name (any_name (names_of tag.attributes)) tt parts.1 parts.0)
@@ -70,7 +78,8 @@ module _ (tag : StartTag) (name : Name) (value : List ℕ) where
   sound_with_expanded sound may expanded =
       let parts =
       or_parts (list_any (λ other. same_name other name) (names_of tag.attributes))
-      (list_any (λ other. same_expanded (bindings_of tag.attributes) other name) (names_of tag.attributes))
+      (list_any (λ other. same_expanded (bindings_of tag.attributes) other name)
+      (names_of tag.attributes))
       sound.2 in
       record {
         name = sound.0.name;
@@ -79,7 +88,8 @@ module _ (tag : StartTag) (name : Name) (value : List ℕ) where
         written = ap (have_same same_name) names_push
             ∙ have_same_push same_name (names_of tag.attributes) name sound.0.written parts.0;
         expanded = expanded;
-        binds = each_push MayStand tag.attributes (record { name = name; value = value }) sound.0.binds may;
+        binds = each_push MayStand tag.attributes (record { name = name; value = value })
+            sound.0.binds may;
       }
 
   pub sound_with : SoundName tag name → MayStand (record { name = name; value = value })
@@ -87,8 +97,10 @@ module _ (tag : StartTag) (name : Name) (value : List ℕ) where
       → SoundTag (with_attribute tag name value)
   sound_with sound may new =
       sound_with_expanded sound may
-      (ap (λ scope. have_same (same_expanded scope) (names_of (with_attribute tag name value).attributes)) bindings_push
-      ∙ ap (have_same (same_expanded (bindings_of tag.attributes ++ cons_option (bound_to value (declares name)) []))) names_push
+      (ap (λ scope. have_same (same_expanded scope)
+      (names_of (with_attribute tag name value).attributes)) bindings_push
+      ∙ ap (have_same (same_expanded
+      (bindings_of tag.attributes ++ cons_option (bound_to value (declares name)) []))) names_push
       ∙ expanded_by (declares name) sound new)
 
 -- behind a closing quote

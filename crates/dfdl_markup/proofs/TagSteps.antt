@@ -24,7 +24,8 @@ Reaches p q piece = (n : ℕ) (want raw : List ℕ) → Wrote n want p raw → W
 pub reaches_on : (p q r : Place) (first second : List ℕ) → Reaches p q first → Reaches q r second
     → Reaches p r (first ++ second)
 reaches_on p q r first second one two n want raw wrote =
-    subst (Wrote n want r) (append_assoc raw first second) (two n want (raw ++ first) (one n want raw wrote))
+    subst (Wrote n want r) (append_assoc raw first second)
+    (two n want (raw ++ first) (one n want raw wrote))
 
 -- in a tag's name
 
@@ -63,14 +64,16 @@ tag_white tag spaced c white n want raw (t, wrote, is, some) = (
   },
   ap (λ l. l ++ c ∷ []) is
       ∙ ap (λ l. 60 ∷ l)
-      (regrouped (name_characters t.name) (flat_map given_characters t.attributes) t.space (c ∷ [])),
+      (regrouped (name_characters t.name) (flat_map given_characters t.attributes) t.space
+      (c ∷ [])),
   λ spaced_now. spaced_more t.space c,
 )
   where
     regrouped : (a b s q : List ℕ) → (a ++ (b ++ s)) ++ q ≡ a ++ (b ++ (s ++ q))
     regrouped a b s q = append_assoc a (b ++ s) q ∙ ap (λ l. a ++ l) (append_assoc b s q)
 
-pub tag_slash : (tag : StartTag) (spaced : Bool) → Reaches (AtTag tag spaced) (AtSlash tag) (47 ∷ [])
+pub tag_slash : (tag : StartTag) (spaced : Bool) → Reaches (AtTag tag spaced) (AtSlash tag)
+    (47 ∷ [])
 tag_slash tag spaced n want raw (t, wrote, is, some) = (t, wrote, ap (λ l. l ++ 47 ∷ []) is)
 
 pub tag_attribute : (tag : StartTag) (c : ℕ) → is_name_start c ≡ true
@@ -102,7 +105,8 @@ pub attribute_name_reaches : (tag : StartTag) (reading next : Reading) (c : ℕ)
     → Reaches (AtAttributeName tag reading) (AtAttributeName tag next) (c ∷ [])
 attribute_name_reaches tag reading next c goes n want raw wrote =
     let on = next_name reading c next goes in (
-      wrote_as n tag (reading_characters reading) (reading_characters next) raw (c ∷ []) (sym on.characters) wrote.0,
+      wrote_as n tag (reading_characters reading) (reading_characters next) raw (c ∷ [])
+          (sym on.characters) wrote.0,
       on.is wrote.1,
     )
 
@@ -142,7 +146,8 @@ named_white tag name c white n want raw (before, white_before, named, wrote) = (
       (c ∷ []) (append_assoc (name_characters name) before (c ∷ [])) wrote,
 )
 
-pub named_equals : (tag : StartTag) (name : Name) → Reaches (AtNamed tag name) (AtEquals tag name) (61 ∷ [])
+pub named_equals : (tag : StartTag) (name : Name) → Reaches (AtNamed tag name) (AtEquals tag name)
+    (61 ∷ [])
 named_equals tag name n want raw (before, white_before, named, wrote) = (
   before,
   [],
@@ -181,21 +186,22 @@ read_nothing tag name quote (Some fixed) = (refl, refl)
 
 pub equals_quote : (tag : StartTag) (name : Name) (quote : ℕ) → is_quote quote ≡ true
     → Reaches (AtEquals tag name) (AtValue (value_begun tag name quote)) (quote ∷ [])
-equals_quote tag name quote quotes n want raw (before, after, white_before, white_after, named, wrote) = record {
-  before = before;
-  after = after;
-  items = [];
-  named = named;
-  quote = quotes;
-  white_before = white_before;
-  white_after = white_after;
-  read = read_nothing tag name quote (fixed_value name);
-  keep = tt;
-  wrote = wrote_as n tag (name_characters name ++ (before ++ 61 ∷ after))
-      (given_start name before after quote ++ []) raw (quote ∷ [])
-      (started (name_characters name) before after (quote ∷ [])
-      ∙ sym (append-nil (given_start name before after quote))) wrote;
-}
+equals_quote tag name quote quotes n want raw
+    (before, after, white_before, white_after, named, wrote) = record {
+      before = before;
+      after = after;
+      items = [];
+      named = named;
+      quote = quotes;
+      white_before = white_before;
+      white_after = white_after;
+      read = read_nothing tag name quote (fixed_value name);
+      keep = tt;
+      wrote = wrote_as n tag (name_characters name ++ (before ++ 61 ∷ after))
+          (given_start name before after quote ++ []) raw (quote ∷ [])
+          (started (name_characters name) before after (quote ∷ [])
+          ∙ sym (append-nil (given_start name before after quote))) wrote;
+    }
 
 -- behind the closing quote
 pub value_closed : (v : OpenValue) → may_close (declares v.name) (fixed_value v.name) v.text ≡ true

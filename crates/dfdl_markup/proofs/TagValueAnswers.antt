@@ -1,6 +1,7 @@
 -- Answers of the steps in an attribute's value.
 use Rattle.std.proofs.Common.{◌≡◌, ℕ, ◌==◌, ◌&&◌, true, false, not, List, [], ◌∷◌, ◌++◌}
-use Rattle.std.proofs.Common.{length, drop, Option, Some, None, Ok, Err, refl, ap, sym, subst, ◌∙◌, arith}
+use Rattle.std.proofs.Common.{length, drop, Option, Some, None, Ok, Err, refl, ap, sym, subst, ◌∙◌}
+use Rattle.std.proofs.Common.{arith}
 use Rattle.std.proofs.Common.{if◌then◌else◌, option_and_then}
 use Rattle.std.proofs.lemmas.Bool.{and_from}
 use Rattle.std.proofs.lemmas.List.{append-nil, map-append}
@@ -8,9 +9,11 @@ use Rattle.dfdl_layers.specs.Tellers.{Each}
 use Rattle.dfdl_markup.specs.Grammar.{is_quote, Name, Item, Letter}
 use Rattle.dfdl_markup.specs.Values.{letter_read, items_read, ends_in_cr, declares, fixed_namespace}
 use Rattle.dfdl_markup.specs.Rules.{is_value_character}
-use Rattle.dfdl_markup.specs.Machine.{OpenValue, InValue, AtTag, AtValue, AtReference, Ahead, NothingAhead}
+use Rattle.dfdl_markup.specs.Machine.{OpenValue, InValue, AtTag, AtValue, AtReference, Ahead}
+use Rattle.dfdl_markup.specs.Machine.{NothingAhead}
 use Rattle.dfdl_markup.specs.Machine.{Frame, wanted, with_text, begins, fixed_value}
-use Rattle.dfdl_markup.specs.Machine.{with_value, may_close, has_sure_clash, value_ended, value_goes_on}
+use Rattle.dfdl_markup.specs.Machine.{with_value, may_close, has_sure_clash, value_ended}
+use Rattle.dfdl_markup.specs.Machine.{value_goes_on}
 use Rattle.dfdl_markup.specs.Machine.{value_step}
 use Rattle.dfdl_markup.proofs.Rest.{ReadAs}
 use Rattle.dfdl_markup.proofs.Sound.{KeepsFixed, Sound}
@@ -19,7 +22,9 @@ use Rattle.dfdl_markup.proofs.Closing.{good_low}
 use Rattle.dfdl_markup.proofs.Moves.{at, malformed, reads_on, answer_if}
 use Rattle.dfdl_markup.proofs.ReferenceForms.{standing}
 use Rattle.dfdl_markup.proofs.ReferenceSteps.{only_standing}
-use Rattle.dfdl_markup.proofs.TagFixed.{ArePlain, is_plain, plain_fixed, plain_value, begun_rest, plain_part}
+use Rattle.dfdl_markup.proofs.TagNamespaces.{some_is}
+use Rattle.dfdl_markup.proofs.TagFixed.{ArePlain, is_plain, plain_fixed, plain_value, begun_rest}
+use Rattle.dfdl_markup.proofs.TagFixed.{plain_part}
 use Rattle.dfdl_markup.proofs.TagValues.{read_on, ends_on, value_grows}
 use Rattle.dfdl_markup.proofs.TagSound.{sound_quoted}
 use Rattle.dfdl_markup.proofs.TagSteps.{Reaches, value_closed}
@@ -38,7 +43,8 @@ fixed_plain : (name : Name) (o : Option (List ℕ)) (fixed : List ℕ) → decla
 fixed_plain name None fixed declared is = absurd (cc)
 fixed_plain name (Some prefix) fixed declared is = plain_fixed prefix fixed is
 
-fixed_character : (text fixed : List ℕ) (c : ℕ) → ArePlain fixed → begins (text ++ c ∷ []) fixed ≡ true
+fixed_character : (text fixed : List ℕ) (c : ℕ) → ArePlain fixed → begins (text ++ c ∷ []) fixed
+    ≡ true
     → is_plain c ≡ true
 fixed_character text fixed c plain begun =
     let is = begun_rest (text ++ c ∷ []) fixed begun in
@@ -55,9 +61,6 @@ read_fixed (Some other) fixed v items c is begun read = (
   ap (λ l. l ++ Letter c ∷ []) read.0 ∙ sym (map-append Letter v.text (c ∷ [])),
   ap (begins (v.text ++ c ∷ [])) (some_is other fixed is) ∙ begun,
 )
-  where
-    some_is : (a b : List ℕ) → Some a ≡ Some b → a ≡ b
-    some_is a b e = cc
 
 pub fixed_reaches : (v : OpenValue) (fixed : List ℕ) (c : ℕ) → fixed_value v.name ≡ Some fixed
     → is_quote v.quote ≡ true → begins (v.text ++ c ∷ []) fixed ≡ true
@@ -103,7 +106,8 @@ pub reference_begun : (v : OpenValue) → fixed_value v.name ≡ None
 reference_begun v is n want raw wrote = (raw, (wrote, is), refl)
 
 -- a value that is not fixed may be any text
-keeps_free : (name : Name) (text : List ℕ) → fixed_value name ≡ None → KeepsFixed (fixed_value name) text
+keeps_free : (name : Name) (text : List ℕ) → fixed_value name ≡ None → KeepsFixed (fixed_value name)
+    text
 keeps_free name text is = subst (λ o. KeepsFixed o text) (sym is) tt
 
 module _ (begun : ℕ) (frames : List Frame) (v : OpenValue)
@@ -114,9 +118,12 @@ module _ (begun : ℕ) (frames : List Frame) (v : OpenValue)
       → Told 5 (standing (AtValue v) begun frames) v.quote
   clash_told may =
       let closing = behind_tag begun frames sound.frames sound.roots sound.place.1 in
-      told_over 5 begun frames (AtValue v) (AtTag (with_value v) false) v.quote [] (47 ∷ 62 ∷ closing.0)
-      refl tt
-      (good_low 47 (omega arith) (omega arith), (good_low 62 (omega arith) (omega arith), closing.1))
+      told_over 5 begun frames (AtValue v) (AtTag (with_value v) false) v.quote []
+      (47 ∷ 62 ∷ closing.0)
+      refl tt (
+        good_low 47 (omega arith) (omega arith),
+        (good_low 62 (omega arith) (omega arith), closing.1),
+      )
       (value_closed v may)
       (slash_from begun frames 5 (with_value v) false closing.0 sound.place.1
       (λ less. absurd (omega arith)) (λ less. absurd (omega arith)) (closing.2 5))
@@ -132,7 +139,8 @@ module _ (begun : ℕ) (frames : List Frame) (v : OpenValue)
       (has_sure_clash (declares v.name) (with_value v).attributes) (Err 5)
       (Ok (standing (AtTag (with_value v) false) begun frames))
       (λ clash. (omega arith, omega arith, λ less. clash_told may))
-      (λ apart. reads_on NothingAhead (AtValue v) (AtTag (with_value v) false) begun frames v.quote sound
+      (λ apart. reads_on NothingAhead (AtValue v) (AtTag (with_value v) false) begun frames v.quote
+      sound
       refl refl (sound_quoted v sound.place.0.0 may apart, sound.place.1)
       (λ n raw wrote. value_closed v may n (wanted frames) raw wrote)))
       (λ may_not. malformed (standing (AtValue v) begun frames) v.quote)
@@ -145,12 +153,19 @@ module _ (begun : ℕ) (frames : List Frame) (v : OpenValue)
   goes_on_fixed fixed c is =
       answer_if (standing (AtValue v) begun frames) c (begins (v.text ++ c ∷ []) fixed)
       (Ok (standing (AtValue (with_text v (c ∷ []) false)) begun frames)) (Err 3)
-      (λ begun_so. reads_on NothingAhead (AtValue v) (AtValue (with_text v (c ∷ []) false)) begun frames c
+      (λ begun_so. reads_on NothingAhead (AtValue v) (AtValue (with_text v (c ∷ []) false)) begun
+      frames c
       sound refl refl (
-        (sound.place.0.0, sound.place.0.1, subst (λ o. KeepsFixed o (v.text ++ c ∷ [])) (sym is) begun_so),
+        (
+          sound.place.0.0,
+          sound.place.0.1,
+          subst (λ o. KeepsFixed o (v.text ++ c ∷ [])) (sym is)
+              begun_so,
+        ),
         sound.place.1,
       )
-      (λ n raw wrote. fixed_reaches v fixed c is sound.place.0.1 begun_so n (wanted frames) raw wrote))
+      (λ n raw wrote. fixed_reaches v fixed c is sound.place.0.1 begun_so n (wanted frames) raw
+      wrote))
       (λ begun_not. malformed (standing (AtValue v) begun frames) c)
 
   goes_on_free : (c : ℕ) → fixed_value v.name ≡ None → (c == v.quote) ≡ false

@@ -75,7 +75,8 @@ not_white [] plain = tt
 not_white (c ∷ text) plain = (plain_not_white c plain.0, not_white text plain.1)
 
 -- a value with more items
-pub value_grows : (n : ℕ) (v : OpenValue) (raw : List ℕ) (w : WroteValue n v raw) (items : List Item)
+pub value_grows : (n : ℕ) (v : OpenValue) (raw : List ℕ) (w : WroteValue n v raw)
+    (items : List Item)
     (more : List ℕ) (behind_cr : Bool) → Each (ItemKeeps n v.quote) items
     → ReadAs (fixed_value v.name) (with_text v more behind_cr) (w.items ++ items)
     → WroteValue n (with_text v more behind_cr) (raw ++ flat_map item_characters items)
@@ -134,7 +135,11 @@ closing_reads (Some prefix) None is v items read may = read.0
 -- the start tag with one attribute more
 abbrev pub with_attribute : StartTag → Name → List ℕ → StartTag
 with_attribute tag name value =
-    record { name = tag.name; attributes = tag.attributes ++ record { name = name; value = value } ∷ [] }
+    record {
+      name = tag.name;
+      attributes = tag.attributes ++ record { name = name; value = value } ∷
+          [];
+    }
 
 -- a value is an attribute behind its closing quote
 pub value_quoted : (n : ℕ) (v : OpenValue) (raw : List ℕ) → WroteValue n v raw
@@ -154,7 +159,8 @@ value_quoted n v raw w may = (
   ap (λ l. l ++ v.quote ∷ []) w.wrote.is
       ∙ ap (λ l. 60 ∷ l)
       (regrouped (name_characters t.name) (flat_map given_characters t.attributes) t.space
-      (given_start v.name w.before w.after v.quote) (flat_map item_characters w.items) (v.quote ∷ [])
+      (given_start v.name w.before w.after v.quote) (flat_map item_characters w.items)
+      (v.quote ∷ [])
       ∙ ap (λ l. name_characters t.name ++ (l ++ []))
       (sym (flat_map-append given_characters t.attributes (given ∷ [])))),
 )
@@ -187,5 +193,6 @@ value_quoted n v raw w may = (
       binds = closing_binds (declares v.name) (fixed_value v.name) refl v w.items w.read may;
     }
 
-    regrouped : (a b s g i q : List ℕ) → ((a ++ (b ++ s)) ++ (g ++ i)) ++ q ≡ a ++ ((b ++ ((s ++ (g ++ (i ++ q))) ++ [])) ++ [])
+    regrouped : (a b s g i q : List ℕ) → ((a ++ (b ++ s)) ++ (g ++ i)) ++ q ≡ a ++
+        ((b ++ ((s ++ (g ++ (i ++ q))) ++ [])) ++ [])
     regrouped a b s g i q = simp (append_assoc, append-nil)

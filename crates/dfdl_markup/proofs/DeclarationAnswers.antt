@@ -10,10 +10,11 @@ use Rattle.std.proofs.lemmas.Bool.Decides.{nat_tests}
 use Rattle.dfdl_markup.specs.Grammar.{is_white, is_quote, Said, Version, Encoding, Standalone}
 use Rattle.dfdl_markup.specs.Grammar.{said_word}
 use Rattle.dfdl_markup.specs.Rules.{is_encoding_character}
-use Rattle.dfdl_markup.specs.Machine.{Place, AtContent, AtDeclaration, AtSaidWord, AtSaid, AtSaidEquals}
-use Rattle.dfdl_markup.specs.Machine.{AtSaidValue, AtDeclarationEnd, Ahead, MarkAhead, DeclarationAhead, NothingAhead, Frame}
-use Rattle.dfdl_markup.specs.Machine.{begins, said_character, said_values, tail, wanted, said_next}
-use Rattle.dfdl_markup.specs.Machine.{said_begun, declaration_ending, declaration_step, said_step}
+use Rattle.dfdl_markup.specs.Machine.{Place, AtContent, AtDeclaration, AtSaidWord, AtSaid}
+use Rattle.dfdl_markup.specs.Machine.{AtSaidEquals, AtSaidValue, AtDeclarationEnd, Ahead, MarkAhead}
+use Rattle.dfdl_markup.specs.Machine.{DeclarationAhead, NothingAhead, Frame, begins, said_character}
+use Rattle.dfdl_markup.specs.Machine.{said_values, tail, wanted, said_next, said_begun}
+use Rattle.dfdl_markup.specs.Machine.{declaration_ending, declaration_step, said_step}
 use Rattle.dfdl_markup.specs.Machine.{said_word_step, said_equals_step, said_fault, said_value_step}
 use Rattle.dfdl_markup.specs.Machine.{declaration_end_step}
 use Rattle.dfdl_markup.proofs.Rest.{WroteSaying, Wrote, From, brackets_at}
@@ -23,12 +24,12 @@ use Rattle.dfdl_markup.proofs.Closing.{good_low, each_append}
 use Rattle.dfdl_markup.proofs.Moves.{at, malformed}
 use Rattle.dfdl_markup.proofs.ReferenceAnswers.{behind_in_content}
 use Rattle.dfdl_markup.proofs.DeclarationForms.{SaidKeeps}
-use Rattle.dfdl_markup.proofs.DeclarationValues.{goes_on, is_said, encoding_so_far}
-use Rattle.dfdl_markup.proofs.DeclarationValues.{said_keeps, OnWord, BeginsWord, word_begins, left_good}
+use Rattle.dfdl_markup.proofs.DeclarationValues.{goes_on, is_said, encoding_so_far, said_keeps}
+use Rattle.dfdl_markup.proofs.DeclarationValues.{OnWord, BeginsWord, word_begins, left_good}
 use Rattle.dfdl_markup.proofs.DeclarationSteps.{reads_by, leads_white, leads_ending, leads_begun}
 use Rattle.dfdl_markup.proofs.DeclarationSteps.{leads_word, leads_said, leads_equals, leads_after}
-use Rattle.dfdl_markup.proofs.DeclarationSteps.{leads_quote, leads_value, value_closed, leads_closed}
-use Rattle.dfdl_markup.proofs.DeclarationSteps.{leads_content}
+use Rattle.dfdl_markup.proofs.DeclarationSteps.{leads_quote, leads_value, value_closed}
+use Rattle.dfdl_markup.proofs.DeclarationSteps.{leads_closed, leads_content}
 
 good_quote : (quote : ℕ) → is_quote quote ≡ true → Good quote
 unfolding is_quote
@@ -69,7 +70,8 @@ module _ (ahead : Ahead) (begun : ℕ) (frames : List Frame) where
       → Sound (at ahead (AtDeclaration last true) begun frames) → OnWord last c o
       → Answer (at ahead (AtDeclaration last true) begun frames) c
       (said_begun o (at ahead (AtDeclaration last true) begun frames))
-  begun_answers last None c sound begins = malformed (at ahead (AtDeclaration last true) begun frames) c
+  begun_answers last None c sound begins = malformed
+      (at ahead (AtDeclaration last true) begun frames) c
   begun_answers last (Some said) c sound begins =
       leads_begun ahead begun frames last said c sound begins
 
@@ -173,7 +175,8 @@ module _ (ahead : Ahead) (begun : ℕ) (frames : List Frame) where
   pub declaration_end_live : Sound (at ahead AtDeclarationEnd begun frames)
       → Live (at ahead AtDeclarationEnd begun frames)
   declaration_end_live sound =
-      live_by (at ahead AtDeclarationEnd begun frames) (at NothingAhead (AtContent 0) begun frames) 62
+      live_by (at ahead AtDeclarationEnd begun frames)
+      (at NothingAhead (AtContent 0) begun frames) 62
       (good_low 62 (omega arith) (omega arith))
       (leads_content ahead begun frames 62 sound refl)
       (behind_in_content begun frames sound.frames sound.roots 0)
@@ -189,7 +192,8 @@ module _ (ahead : Ahead) (begun : ℕ) (frames : List Frame) where
 
   -- some more of a value, and its quote
   value_from : (said : Said) (quote : ℕ) (read : List ℕ) (n : ℕ) (more text : List ℕ)
-      → ((value : List ℕ) → map (said_character said) value ≡ read → SaidKeeps n said (value ++ more))
+      → ((value : List ℕ) → map (said_character said) value ≡ read → SaidKeeps n said
+      (value ++ more))
       → From n (at ahead (AtDeclaration (Some said) false) begun frames) text
       → From n (at ahead (AtSaidValue said quote read) begun frames) (more ++ quote ∷ text)
   value_from said quote read n more text keeps from =
@@ -265,7 +269,8 @@ module _ (ahead : Ahead) (begun : ℕ) (frames : List Frame) where
 
   fault_answers : (said : Said) (quote : ℕ) (read : List ℕ) (c : ℕ)
       → Sound (at ahead (AtSaidValue said quote read) begun frames)
-      → Answer (at ahead (AtSaidValue said quote read) begun frames) c (Err (said_fault said quote c))
+      → Answer (at ahead (AtSaidValue said quote read) begun frames) c
+      (Err (said_fault said quote c))
   fault_answers Version quote read c sound =
       malformed (at ahead (AtSaidValue Version quote read) begun frames) c
   fault_answers Standalone quote read c sound =

@@ -1,15 +1,13 @@
 -- The XML declaration as it is written: how it grows and ends.
-use Rattle.std.proofs.Common.{◌≡◌, ℕ, ◌⊎◌, true, List, [], ◌∷◌, ◌++◌}
-use Rattle.std.proofs.Common.{Option, Some, None, refl, sym, ap, ◌∙◌}
-use Rattle.std.proofs.Common.{append_assoc, append-nil}
+use Rattle.std.proofs.Common.{◌≡◌, ℕ, ◌⊎◌, true, List, [], ◌∷◌, ◌++◌, Option, Some, None, refl, sym}
+use Rattle.std.proofs.Common.{ap, ◌∙◌, append_assoc, append-nil}
 use Rattle.dfdl_markup.specs.Grammar.{is_quote, Said, Version, Encoding, Standalone, said_word}
-use Rattle.dfdl_markup.specs.Grammar.{Saying}
-use Rattle.dfdl_markup.specs.Grammar.{saying_characters, optional_characters, Declaration, xml_word}
-use Rattle.dfdl_markup.specs.Grammar.{declaration_inside}
-use Rattle.dfdl_markup.specs.Rules.{AreWhite, SayingKeeps, EncodingKeeps}
-use Rattle.dfdl_markup.specs.Rules.{DeclarationKeeps, version_value, yes_value, no_value}
-use Rattle.dfdl_markup.proofs.Rest.{WroteSaid, WroteNone, WroteVersion, WroteEncoding, WroteStandalone}
-use Rattle.dfdl_markup.proofs.Rest.{Follows, WroteSaying}
+use Rattle.dfdl_markup.specs.Grammar.{Saying, saying_characters, optional_characters, Declaration}
+use Rattle.dfdl_markup.specs.Grammar.{xml_word, declaration_inside}
+use Rattle.dfdl_markup.specs.Rules.{AreWhite, SayingKeeps, EncodingKeeps, DeclarationKeeps}
+use Rattle.dfdl_markup.specs.Rules.{version_value, yes_value, no_value}
+use Rattle.dfdl_markup.proofs.Rest.{WroteSaid, WroteNone, WroteVersion, WroteEncoding}
+use Rattle.dfdl_markup.proofs.Rest.{WroteStandalone, Follows, WroteSaying}
 
 module _ (more : List ℕ) where
   behind_two : (a b : List ℕ) → (60 ∷ 63 ∷ (a ++ b)) ++ more ≡ 60 ∷ 63 ∷ (a ++ (b ++ more))
@@ -29,7 +27,8 @@ module _ (more : List ℕ) where
       → (60 ∷ 63 ∷ (a ++ (b ++ (c ++ (d ++ e))))) ++ more
       ≡ 60 ∷ 63 ∷ (a ++ (b ++ (c ++ (d ++ (e ++ more)))))
   behind_five a b c d e =
-      behind_four a b c (d ++ e) ∙ ap (λ l. 60 ∷ 63 ∷ (a ++ (b ++ (c ++ l)))) (append_assoc d e more)
+      behind_four a b c (d ++ e) ∙ ap (λ l. 60 ∷ 63 ∷ (a ++ (b ++ (c ++ l))))
+      (append_assoc d e more)
 
   -- more white space behind what was said
   pub said_more : (n : ℕ) (raw space : List ℕ) (last : Option Said) → WroteSaid n raw last space
@@ -202,7 +201,8 @@ said_closed n Encoding (Some Standalone) front space raw saying same wrote follo
     absurd follows
 said_closed n Standalone None front space raw saying same wrote follows keeps value so =
     absurd follows
-said_closed n Standalone (Some Standalone) front space raw saying same wrote follows keeps value so =
+said_closed n Standalone
+    (Some Standalone) front space raw saying same wrote follows keeps value so =
     absurd follows
 
 quoted : (front word before after value : List ℕ) (quote : ℕ)

@@ -1,16 +1,16 @@
 -- What each step within an XML declaration leads to.
-use Rattle.std.proofs.Common.{◌≡◌, ℕ, ◌<◌, Bool, true, false, List, [], ◌∷◌, ◌++◌}
-use Rattle.std.proofs.Common.{length, Option, Some, map, refl, sym, ap, subst, ◌∙◌, arith}
-use Rattle.std.proofs.Common.{append_assoc, append-nil, length-append}
+use Rattle.std.proofs.Common.{◌≡◌, ℕ, ◌<◌, Bool, true, false, List, [], ◌∷◌, ◌++◌, length, Option}
+use Rattle.std.proofs.Common.{Some, map, refl, sym, ap, subst, ◌∙◌, arith, append_assoc, append-nil}
+use Rattle.std.proofs.Common.{length-append}
 use Rattle.std.specs.List.{list_any}
 use Rattle.std.proofs.lemmas.List.{map-append}
 use Rattle.dfdl_markup.specs.Grammar.{is_white, is_quote, Said, Version, Encoding, Standalone}
 use Rattle.dfdl_markup.specs.Grammar.{said_word, declaration_inside}
 use Rattle.dfdl_markup.specs.Rules.{AreWhite}
-use Rattle.dfdl_markup.specs.Machine.{Place, AtContent, AtDeclaration, AtSaidWord, AtSaid, AtSaidEquals}
-use Rattle.dfdl_markup.specs.Machine.{AtSaidValue, AtDeclarationEnd, Ahead, MarkAhead, DeclarationAhead}
-use Rattle.dfdl_markup.specs.Machine.{NothingAhead, Frame, begins, said_character, said_values, tail}
-use Rattle.dfdl_markup.specs.Machine.{wanted, may_declare}
+use Rattle.dfdl_markup.specs.Machine.{Place, AtContent, AtDeclaration, AtSaidWord, AtSaid}
+use Rattle.dfdl_markup.specs.Machine.{AtSaidEquals, AtSaidValue, AtDeclarationEnd, Ahead, MarkAhead}
+use Rattle.dfdl_markup.specs.Machine.{DeclarationAhead, NothingAhead, Frame, begins, said_character}
+use Rattle.dfdl_markup.specs.Machine.{said_values, tail, wanted, may_declare}
 use Rattle.dfdl_markup.proofs.Rest.{WroteSaid, WroteSaying, Wrote, Whole, From, brackets_at}
 use Rattle.dfdl_markup.proofs.Sound.{SoundAt, SoundAhead, in_declaration, before_declaration, Sound}
 use Rattle.dfdl_markup.proofs.Answers.{Leads}
@@ -248,7 +248,8 @@ module _ (ahead : Ahead) (begun : ℕ) (frames : List Frame) where
 
   -- more of a value and its closing quote, by the rules below n
   pub value_closed : (said : Said) (quote : ℕ) (read : List ℕ) (n : ℕ) (raw more : List ℕ)
-      → ((value : List ℕ) → map (said_character said) value ≡ read → SaidKeeps n said (value ++ more))
+      → ((value : List ℕ) → map (said_character said) value ≡ read → SaidKeeps n said
+      (value ++ more))
       → Wrote n (wanted frames) (AtSaidValue said quote read) raw
       → Wrote n (wanted frames) (AtDeclaration (Some said) false) (raw ++ (more ++ quote ∷ []))
   value_closed said quote read n raw more keeps w = (

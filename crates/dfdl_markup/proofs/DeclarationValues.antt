@@ -1,6 +1,7 @@
 -- What the XML declaration may say: how it begins and goes on, by its characters.
-use Rattle.std.proofs.Common.{◌≡◌, ℕ, ◌⊎◌, ◌==◌, if◌then◌else◌, ◌||◌, Bool, true, false, List, [], ◌∷◌, ◌++◌}
-use Rattle.std.proofs.Common.{map, refl, sym, ap, ap₂, subst, ◌∙◌, arith, inl, inr, Option, Some, None}
+use Rattle.std.proofs.Common.{◌≡◌, ℕ, ◌⊎◌, ◌==◌, if◌then◌else◌, ◌||◌, Bool, true, false, List, []}
+use Rattle.std.proofs.Common.{◌∷◌, ◌++◌, map, refl, sym, ap, ap₂, subst, ◌∙◌, arith, inl, inr}
+use Rattle.std.proofs.Common.{Option, Some, None}
 use Rattle.std.specs.List.{list_any}
 use Rattle.std.specs.Str.{bytes_eq}
 use Rattle.std.proofs.lemmas.Bool.{or_cases, both_ways, cases_Bool, cond_both, eqb-true}
@@ -165,7 +166,8 @@ said_keeps n Encoding value read same is = (
   λ _. same ∙ is,
 )
 said_keeps n Standalone value read same is =
-    let as_read : value ≡ read = sym (map_same (said_character Standalone) value (λ c. refl)) ∙ same in
+    let as_read : value ≡ read = sym (map_same (said_character Standalone) value (λ c. refl))
+    ∙ same in
     elim is [ inl yes_is ↦ inl (as_read ∙ yes_is) | inr no_is ↦ inr (as_read ∙ no_is) ]
 
 -- the word that the character begins, where one may follow there

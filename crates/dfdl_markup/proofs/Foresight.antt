@@ -1,37 +1,37 @@
 -- What each place does with a character past ASCII is what is said of it.
-use Rattle.std.proofs.Common.{◌≡◌, ℕ, suc, ◌≤◌, ◌==◌, Bool, true, false, List, [], ◌∷◌}
-use Rattle.std.proofs.Common.{Option, Some, None, refl, arith, nat_lt, length}
+use Rattle.std.proofs.Common.{◌≡◌, ℕ, suc, ◌≤◌, ◌==◌, Bool, true, false, List, [], ◌∷◌, Option}
+use Rattle.std.proofs.Common.{Some, None, refl, arith, nat_lt, length}
 use Rattle.std.proofs.lemmas.Bool.{cond_both}
 use Rattle.std.specs.Char.{IsScalar}
 use Rattle.dfdl_xml_chars.specs.Characters.{is_allowed, char_rows}
 use Rattle.dfdl_xml_chars.specs.Beyond.{Beyond, All, Does, FitsBehind}
 use Rattle.dfdl_xml_chars.proofs.Tables.{start_rows_allowed, name_rows_allowed, no_rows_allowed}
 use Rattle.dfdl_markup.specs.Rules.{deepest}
-use Rattle.dfdl_markup.specs.Machine.{Reading, First, Colon, Second, Place, AtContent, AtOpened, AtBang}
-use Rattle.dfdl_markup.specs.Machine.{AtDash, AtComment, AtSectionWord, AtSection, AtQuestion, AtTarget}
-use Rattle.dfdl_markup.specs.Machine.{AtTargetEnd, AtInstruction, AtTagName, AtTag, AtAttributeName}
-use Rattle.dfdl_markup.specs.Machine.{AtNamed, AtEquals, AtValue, AtSlash, AtEndTag, AtEndName}
-use Rattle.dfdl_markup.specs.Machine.{AtEndSpace, AtReference, AtEntity, AtHash, AtHexadecimal}
-use Rattle.dfdl_markup.specs.Machine.{AtNumber, AtDeclaration, AtSaidWord, AtSaid, AtSaidEquals}
-use Rattle.dfdl_markup.specs.Machine.{AtSaidValue, AtDeclarationEnd, Ahead, MarkAhead}
-use Rattle.dfdl_markup.specs.Machine.{DeclarationAhead, NothingAhead, Frame, State, may_begin}
-use Rattle.dfdl_markup.specs.Machine.{fixed_value, step_at, step, refuses, rows_in}
+use Rattle.dfdl_markup.specs.Machine.{Reading, First, Colon, Second, Place, AtContent, AtOpened}
+use Rattle.dfdl_markup.specs.Machine.{AtBang, AtDash, AtComment, AtSectionWord, AtSection}
+use Rattle.dfdl_markup.specs.Machine.{AtQuestion, AtTarget, AtTargetEnd, AtInstruction, AtTagName}
+use Rattle.dfdl_markup.specs.Machine.{AtTag, AtAttributeName, AtNamed, AtEquals, AtValue, AtSlash}
+use Rattle.dfdl_markup.specs.Machine.{AtEndTag, AtEndName, AtEndSpace, AtReference, AtEntity}
+use Rattle.dfdl_markup.specs.Machine.{AtHash, AtHexadecimal, AtNumber, AtDeclaration, AtSaidWord}
+use Rattle.dfdl_markup.specs.Machine.{AtSaid, AtSaidEquals, AtSaidValue, AtDeclarationEnd, Ahead}
+use Rattle.dfdl_markup.specs.Machine.{MarkAhead, DeclarationAhead, NothingAhead, Frame, State}
+use Rattle.dfdl_markup.specs.Machine.{may_begin, fixed_value, step_at, step, refuses, rows_in}
 use Rattle.dfdl_markup.specs.Machine.{beyond_content, beyond_opened, beyond_comment, beyond_tag}
 use Rattle.dfdl_markup.specs.Machine.{beyond_value, beyond_at, beyond}
 use Rattle.dfdl_markup.proofs.Sound.{Sound}
 use Rattle.dfdl_markup.proofs.Moves.{at}
 use Rattle.dfdl_markup.proofs.ForesightPieces.{reference_does, entity_does, hash_does}
-use Rattle.dfdl_markup.proofs.ForesightPieces.{hexadecimal_does, number_does, declaration_does, said_does}
-use Rattle.dfdl_markup.proofs.ForesightPieces.{said_word_does, said_equals_does, said_value_does}
-use Rattle.dfdl_markup.proofs.ForesightPieces.{declaration_end_does}
+use Rattle.dfdl_markup.proofs.ForesightPieces.{hexadecimal_does, number_does, declaration_does}
+use Rattle.dfdl_markup.proofs.ForesightPieces.{said_does, said_word_does, said_equals_does}
+use Rattle.dfdl_markup.proofs.ForesightPieces.{said_value_does, declaration_end_does}
 use Rattle.dfdl_markup.proofs.ForesightContent.{content_does, opened_does, bang_does, dash_does}
 use Rattle.dfdl_markup.proofs.ForesightContent.{comment_does, section_word_does, section_does}
 use Rattle.dfdl_markup.proofs.ForesightContent.{question_does, target_does, target_end_does}
 use Rattle.dfdl_markup.proofs.ForesightContent.{instruction_does}
-use Rattle.dfdl_markup.proofs.ForesightTags.{tag_name_does, tag_does, attribute_name_does, named_does}
-use Rattle.dfdl_markup.proofs.ForesightTags.{equals_does, value_does, slash_does}
-use Rattle.dfdl_markup.proofs.ForesightEnds.{end_name_fits, end_tag_fits, end_tag_does, end_space_does}
-use Rattle.dfdl_markup.proofs.ForesightEnds.{end_name_does}
+use Rattle.dfdl_markup.proofs.ForesightTags.{tag_name_does, tag_does, attribute_name_does}
+use Rattle.dfdl_markup.proofs.ForesightTags.{named_does, equals_does, value_does, slash_does}
+use Rattle.dfdl_markup.proofs.ForesightEnds.{end_name_fits, end_tag_fits, end_tag_does}
+use Rattle.dfdl_markup.proofs.ForesightEnds.{end_space_does, end_name_does}
 
 -- what it does, place by place
 does_at : (place : Place) (ahead : Ahead) (begun : ℕ) (frames : List Frame) (c : ℕ)
@@ -88,7 +88,8 @@ does_at (AtHash within) ahead begun frames c sound high =
 does_at (AtHexadecimal within) ahead begun frames c sound high =
     hexadecimal_does (at ahead (AtHexadecimal within) begun frames) c high within
 does_at (AtNumber within hexadecimal value) ahead begun frames c sound high =
-    number_does (at ahead (AtNumber within hexadecimal value) begun frames) c high within hexadecimal
+    number_does (at ahead
+    (AtNumber within hexadecimal value) begun frames) c high within hexadecimal
     value
 does_at (AtDeclaration last spaced) ahead begun frames c sound high =
     declaration_does (at ahead (AtDeclaration last spaced) begun frames) c high last spaced
@@ -128,7 +129,8 @@ content_fits (frame ∷ frames) ahead = tt
 opened_by : (rule : ℕ) → 3 ≤ rule → FitsBehind 2 (beyond_opened (Some rule))
 opened_by rule least = (start_rows_allowed, omega arith, least)
 
-opened_fits : (begun : ℕ) (frames : List Frame) → FitsBehind 2 (beyond_opened (may_begin begun frames))
+opened_fits : (begun : ℕ) (frames : List Frame) → FitsBehind 2
+    (beyond_opened (may_begin begun frames))
 opened_fits begun [] =
     cond_both (begun == 0) None (Some 10) (λ (o : Option ℕ). FitsBehind 2 (beyond_opened o))
     (λ _. (start_rows_allowed, omega arith)) (λ _. opened_by 10 (omega arith))
@@ -139,7 +141,8 @@ opened_fits begun (frame ∷ frames) =
 
 comment_fits : (dashes : ℕ) → FitsBehind 2 (beyond_comment dashes)
 comment_fits dashes =
-    cond_both (dashes == 2) refuses All (λ (b : Beyond). FitsBehind 2 b) (λ _. refuses_fits) (λ _. tt)
+    cond_both (dashes == 2) refuses All (λ (b : Beyond). FitsBehind 2 b) (λ _. refuses_fits)
+    (λ _. tt)
 
 rows_fit : (reading : Reading) → FitsBehind 2 (rows_in reading)
 rows_fit (First part) = (name_rows_allowed, omega arith)
@@ -179,7 +182,8 @@ fits_at AtEndTag ahead begun frames sound = end_tag_fits frames sound.frames
 fits_at (AtEndName reading left) ahead begun frames sound =
     end_name_fits frames reading left sound.frames sound.place
 fits_at AtEndSpace ahead begun frames sound = refuses_fits
-fits_at (AtReference within) ahead begun frames sound = (start_rows_allowed, omega arith, omega arith)
+fits_at (AtReference within) ahead begun frames sound =
+    (start_rows_allowed, omega arith, omega arith)
 fits_at (AtEntity within name) ahead begun frames sound =
     (name_rows_allowed, omega arith, omega arith)
 fits_at (AtHash within) ahead begun frames sound = refuses_fits

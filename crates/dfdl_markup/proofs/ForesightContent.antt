@@ -1,7 +1,7 @@
 -- What a character past ASCII does in a content, and in pieces of markup that have no attributes.
 use Rattle.std.proofs.Common.{◌≡◌, ℕ, suc, ◌≤◌, ◌==◌, ◌&&◌, Bool, true, false, List, [], ◌∷◌, ◌++◌}
-use Rattle.std.proofs.Common.{Option, Some, None, Result, Ok, Err, if◌then◌else◌, refl, sym, ap, subst}
-use Rattle.std.proofs.Common.{◌∙◌, arith, eq-eqb, ne_eqb}
+use Rattle.std.proofs.Common.{Option, Some, None, Result, Ok, Err, if◌then◌else◌, refl, sym, ap}
+use Rattle.std.proofs.Common.{subst, ◌∙◌, arith, eq-eqb, ne_eqb}
 use Rattle.std.proofs.lemmas.Bool.{cond_both, cond-true, cond-false, and_right}
 use Rattle.dfdl_xml_chars.specs.Characters.{is_name_start, is_name_char, high_start_rows}
 use Rattle.dfdl_xml_chars.specs.Characters.{high_name_rows}
@@ -9,16 +9,15 @@ use Rattle.dfdl_xml_chars.specs.Beyond.{All, Only, Does, GoesOn}
 use Rattle.dfdl_xml_chars.proofs.Tables.{high_start, high_char}
 use Rattle.dfdl_markup.specs.Grammar.{is_white, section_word}
 use Rattle.dfdl_markup.specs.Rules.{brackets, is_xml}
-use Rattle.dfdl_markup.specs.Machine.{State, Frame, Ahead, MarkAhead, DeclarationAhead, NothingAhead}
-use Rattle.dfdl_markup.specs.Machine.{AtContent, AtBang, AtComment, AtSection}
+use Rattle.dfdl_markup.specs.Machine.{State, Frame, Ahead, MarkAhead, DeclarationAhead}
+use Rattle.dfdl_markup.specs.Machine.{NothingAhead, AtContent, AtBang, AtComment, AtSection}
 use Rattle.dfdl_markup.specs.Machine.{AtQuestion, AtTarget, AtTargetEnd, AtInstruction, AtTagName}
-use Rattle.dfdl_markup.specs.Machine.{AtEndTag, First}
-use Rattle.dfdl_markup.specs.Machine.{go, stand, marked, top_step, content_by, content_step}
-use Rattle.dfdl_markup.specs.Machine.{may_begin, begin_by, inside, opened_step, bang_step, dash_step}
-use Rattle.dfdl_markup.specs.Machine.{comment_step, section_word_step, section_step}
-use Rattle.dfdl_markup.specs.Machine.{question_step, target_ended, target_step, target_end_step}
-use Rattle.dfdl_markup.specs.Machine.{instruction_step, refuses, beyond_top, beyond_content}
-use Rattle.dfdl_markup.specs.Machine.{beyond_opened, beyond_comment}
+use Rattle.dfdl_markup.specs.Machine.{AtEndTag, First, go, stand, marked, top_step, content_by}
+use Rattle.dfdl_markup.specs.Machine.{content_step, may_begin, begin_by, inside, opened_step}
+use Rattle.dfdl_markup.specs.Machine.{bang_step, dash_step, comment_step, section_word_step}
+use Rattle.dfdl_markup.specs.Machine.{section_step, question_step, target_ended, target_step}
+use Rattle.dfdl_markup.specs.Machine.{target_end_step, instruction_step, refuses, beyond_top}
+use Rattle.dfdl_markup.specs.Machine.{beyond_content, beyond_opened, beyond_comment}
 use Rattle.dfdl_markup.proofs.ReferenceEntities.{is_plain}
 use Rattle.dfdl_markup.proofs.ForesightForms.{apart, not_white, does_only, does_never}
 use Rattle.dfdl_markup.proofs.ForesightPieces.{plain_first}
@@ -67,12 +66,14 @@ module _ (s : State) (c : ℕ) (high : 128 ≤ c) where
         ∙ cond-false (before == 2 && c == 62) _ _ (not_end before)),
   )
 
-  pub content_does : (before : ℕ) → Does (beyond_content s.frames s.ahead) c (content_step s before c)
+  pub content_does : (before : ℕ) → Does (beyond_content s.frames s.ahead) c
+      (content_step s before c)
   unfolding content_step
   content_does before = by_frames s.frames before
 
   no_markup : (if c == 47 then inside s.frames s AtEndTag
-      else (if c == 33 then Ok (stand s AtBang) else (if c == 63 then Ok (go s AtQuestion) else Err 3)))
+      else (if c == 33 then Ok (stand s AtBang) else
+      (if c == 63 then Ok (go s AtQuestion) else Err 3)))
       ≡ Err 3
   no_markup =
       cond-false (c == 47) _ _ (apart c 47 high (omega arith))
@@ -90,7 +91,8 @@ module _ (s : State) (c : ℕ) (high : 128 ≤ c) where
       (if is_name_start c then begin_by None s c
       else (if c == 47 then inside s.frames s AtEndTag
       else (if c == 33 then Ok (stand s AtBang)
-      else (if c == 63 then Ok (go s AtQuestion) else Err 3)))) (is_name_start c) (high_start c high)
+      else (if c == 63 then Ok (go s AtQuestion) else Err 3)))) (is_name_start c)
+      (high_start c high)
       (λ is. (stand s (AtTagName (First (c ∷ []))), cond-true (is_name_start c) _ _ is))
       (λ is. cond-false (is_name_start c) _ _ is ∙ no_markup)
   opened_by (Some rule) =
@@ -98,7 +100,8 @@ module _ (s : State) (c : ℕ) (high : 128 ≤ c) where
       (if is_name_start c then begin_by (Some rule) s c
       else (if c == 47 then inside s.frames s AtEndTag
       else (if c == 33 then Ok (stand s AtBang)
-      else (if c == 63 then Ok (go s AtQuestion) else Err 3)))) (is_name_start c) (high_start c high)
+      else (if c == 63 then Ok (go s AtQuestion) else Err 3)))) (is_name_start c)
+      (high_start c high)
       (λ is. cond-true (is_name_start c) _ _ is)
       (λ is. cond-false (is_name_start c) _ _ is ∙ no_markup)
 
@@ -140,7 +143,8 @@ module _ (s : State) (c : ℕ) (high : 128 ≤ c) where
   pub section_does : (before : ℕ) → GoesOn (section_step s before c)
   unfolding section_step
   section_does before =
-      (stand s (AtSection (brackets before c)), cond-false (before == 2 && c == 62) _ _ (not_end before))
+      (stand s (AtSection (brackets before c)), cond-false (before == 2 && c == 62) _ _
+      (not_end before))
 
   pub question_does : Does (Only high_start_rows 3) c (question_step s c)
   unfolding question_step
@@ -156,7 +160,8 @@ module _ (s : State) (c : ℕ) (high : 128 ≤ c) where
       does_only high_name_rows 3 c
       (if is_name_char c then Ok (go s (AtTarget (target ++ c ∷ [])))
       else (if is_white c then target_ended s target
-      else (if c == 63 then (if is_xml target then Err 3 else Ok (stand s AtTargetEnd)) else Err 3)))
+      else (if c == 63 then
+      (if is_xml target then Err 3 else Ok (stand s AtTargetEnd)) else Err 3)))
       (is_name_char c) (high_char c high)
       (λ is. (go s (AtTarget (target ++ c ∷ [])), cond-true (is_name_char c) _ _ is))
       (λ is. cond-false (is_name_char c) _ _ is

@@ -100,7 +100,8 @@ no_colon : is_name_char 58 ≡ false
 unfolding low_name_rows low_start_rows
 no_colon = low_char 58 (omega arith)
 
-each_at : (P : ℕ → Type 0) (front : List ℕ) (w : ℕ) (left : List ℕ) → Each P (front ++ w ∷ left) → P w
+each_at : (P : ℕ → Type 0) (front : List ℕ) (w : ℕ) (left : List ℕ) → Each P (front ++ w ∷ left)
+    → P w
 each_at P [] w left each = each.0
 each_at P (c ∷ front) w left each = each_at P front w left each.1
 
@@ -224,7 +225,8 @@ module _ (s : State) (c : ℕ) (high : 128 ≤ c) where
       → Does (beyond_end_tag (wanted s.frames)) c (end_tag_step s c)
   unfolding end_tag_step
   end_tag_does sound =
-      subst (λ (b : Beyond). Does b c (end_tag_step s c)) (sym (left_is (Colon []) (wanted s.frames)))
+      subst (λ (b : Beyond). Does b c (end_tag_step s c))
+      (sym (left_is (Colon []) (wanted s.frames)))
       (left_does high_start_rows is_name_start (wanted s.frames) (First (c ∷ []))
       (if is_name_start c then end_next s (First (c ∷ [])) (wanted s.frames) c else Err 3)
       (high_start c high) (passes_tag s.frames sound)

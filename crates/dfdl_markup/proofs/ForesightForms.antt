@@ -75,5 +75,6 @@ pub does_one : {S : Type 0} (w : ℕ) (rows : List Row) (unlike other c : ℕ) (
     → Does (One w rows unlike other) c r
 does_one w rows unlike other c r test same goes first second = (
   goes,
-  λ else_. does_never rows unlike other c r test same (λ is. first else_ is) (λ is. second else_ is),
+  λ else_. does_never rows unlike other c r test same (λ is. first else_ is)
+      (λ is. second else_ is),
 )

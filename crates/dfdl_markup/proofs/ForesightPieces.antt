@@ -1,7 +1,7 @@
 -- What a character past ASCII does in references and in an XML declaration.
-use Rattle.std.proofs.Common.{◌≡◌, ℕ, ◌<◌, ◌≤◌, ◌==◌, ◌||◌, Bool, true, false, List, [], ◌∷◌}
-use Rattle.std.proofs.Common.{◌++◌, Option, Some, None, Ok, Err, if◌then◌else◌, refl, ap}
-use Rattle.std.proofs.Common.{◌∙◌, arith, nat_le, ◌&&◌, inl, inr}
+use Rattle.std.proofs.Common.{◌≡◌, ℕ, ◌<◌, ◌≤◌, ◌==◌, ◌||◌, Bool, true, false, List, [], ◌∷◌, ◌++◌}
+use Rattle.std.proofs.Common.{Option, Some, None, Ok, Err, if◌then◌else◌, refl, ap, ◌∙◌, arith}
+use Rattle.std.proofs.Common.{nat_le, ◌&&◌, inl, inr}
 use Rattle.std.specs.List.{list_any}
 use Rattle.std.proofs.lemmas.Bool.{cond-true, cond-false, or_from, and_parts, leb-true}
 use Rattle.dfdl_layers.specs.Tellers.{Each}
@@ -14,11 +14,12 @@ use Rattle.dfdl_markup.specs.Grammar.{said_word}
 use Rattle.dfdl_markup.specs.Values.{is_digit, entities, entity}
 use Rattle.dfdl_markup.specs.Rules.{is_encoding_character, small, version_value, encoding_value}
 use Rattle.dfdl_markup.specs.Rules.{yes_value, no_value}
-use Rattle.dfdl_markup.specs.Machine.{State, Within, AtHash, stand, begins, begins_entity, entity_next, entity_ended}
-use Rattle.dfdl_markup.specs.Machine.{reference_step, entity_step, hash_step, hexadecimal_step}
-use Rattle.dfdl_markup.specs.Machine.{number_step, said_next, said_begun, declaration_step, said_step}
-use Rattle.dfdl_markup.specs.Machine.{said_word_step, said_equals_step, said_values, said_character}
-use Rattle.dfdl_markup.specs.Machine.{said_fault, said_value_step, declaration_end_step}
+use Rattle.dfdl_markup.specs.Machine.{State, Within, AtHash, stand, begins, begins_entity}
+use Rattle.dfdl_markup.specs.Machine.{entity_next, entity_ended, reference_step, entity_step}
+use Rattle.dfdl_markup.specs.Machine.{hash_step, hexadecimal_step, number_step, said_next}
+use Rattle.dfdl_markup.specs.Machine.{said_begun, declaration_step, said_step, said_word_step}
+use Rattle.dfdl_markup.specs.Machine.{said_equals_step, said_values, said_character, said_fault}
+use Rattle.dfdl_markup.specs.Machine.{said_value_step, declaration_end_step}
 use Rattle.dfdl_markup.proofs.ReferenceEntities.{is_plain, IsEntity, all_entities}
 use Rattle.dfdl_markup.proofs.DeclarationValues.{said_plain, words_plain}
 use Rattle.dfdl_markup.proofs.ForesightForms.{apart, not_white, not_quote, not_closing, not_digit}
@@ -71,7 +72,8 @@ no_other_fault Encoding quote c is high =
     (not_closing quote c is high))
 
 module _ (s : State) (c : ℕ) (high : 128 ≤ c) where
-  pub reference_does : (within : Within) → Does (Never high_start_rows 6 3) c (reference_step s within c)
+  pub reference_does : (within : Within) → Does (Never high_start_rows 6 3) c
+      (reference_step s within c)
   unfolding reference_step
   reference_does within =
       does_never high_start_rows 6 3 c

@@ -1,7 +1,7 @@
 -- What a character past ASCII does in a start tag.
-use Rattle.std.proofs.Common.{◌≡◌, ℕ, ◌≤◌, ◌==◌, Bool, true, false, List, [], ◌∷◌, ◌++◌}
-use Rattle.std.proofs.Common.{Option, Some, None, Result, Ok, Err, if◌then◌else◌, refl, sym, ap, subst}
-use Rattle.std.proofs.Common.{◌∙◌, arith, option_and_then, bytes_eq}
+use Rattle.std.proofs.Common.{◌≡◌, ℕ, ◌≤◌, ◌==◌, Bool, true, false, List, [], ◌∷◌, ◌++◌, Option}
+use Rattle.std.proofs.Common.{Some, None, Result, Ok, Err, if◌then◌else◌, refl, sym, ap, subst, ◌∙◌}
+use Rattle.std.proofs.Common.{arith, option_and_then, bytes_eq}
 use Rattle.std.proofs.lemmas.Bool.{cond_both, cond-true, cond-false}
 use Rattle.dfdl_xml_chars.specs.Characters.{is_name_start, is_name_char, high_start_rows}
 use Rattle.dfdl_xml_chars.specs.Characters.{high_name_rows}
@@ -12,12 +12,11 @@ use Rattle.dfdl_markup.specs.Values.{letter_read, declares, fixed_namespace, xml
 use Rattle.dfdl_markup.specs.Values.{xmlns_namespace, xml_prefix, xmlns_prefix}
 use Rattle.dfdl_markup.specs.Machine.{State, Reading, First, Colon, Second, name_next, whole_name}
 use Rattle.dfdl_markup.specs.Machine.{StartTag, OpenValue, AtTagName, AtTag, AtAttributeName}
-use Rattle.dfdl_markup.specs.Machine.{AtValue, AtSlash, stand, begins}
-use Rattle.dfdl_markup.specs.Machine.{entered, if_ends, tag_step, tag_of, tag_name_or}
-use Rattle.dfdl_markup.specs.Machine.{tag_name_step, behind_name, attribute_name_or}
-use Rattle.dfdl_markup.specs.Machine.{attribute_name_step, named_step, equals_step}
-use Rattle.dfdl_markup.specs.Machine.{with_text, fixed_value, value_goes_on, value_step}
-use Rattle.dfdl_markup.specs.Machine.{slash_step, rows_in, beyond_tag, beyond_value}
+use Rattle.dfdl_markup.specs.Machine.{AtValue, AtSlash, stand, begins, entered, if_ends, tag_step}
+use Rattle.dfdl_markup.specs.Machine.{tag_of, tag_name_or, tag_name_step, behind_name}
+use Rattle.dfdl_markup.specs.Machine.{attribute_name_or, attribute_name_step, named_step}
+use Rattle.dfdl_markup.specs.Machine.{equals_step, with_text, fixed_value, value_goes_on}
+use Rattle.dfdl_markup.specs.Machine.{value_step, slash_step, rows_in, beyond_tag, beyond_value}
 use Rattle.dfdl_markup.proofs.ReferenceEntities.{is_plain}
 use Rattle.dfdl_markup.proofs.ForesightForms.{apart, not_white, not_quote, not_closing, begins_high}
 use Rattle.dfdl_markup.proofs.ForesightForms.{does_only}
@@ -43,7 +42,8 @@ of_prefix prefix fixed =
     some_is : {a : List ℕ} → Some a ≡ Some fixed → a ≡ fixed
     some_is e = cc
 
-of_declared : (o : Option (List ℕ)) (fixed : List ℕ) → option_and_then fixed_namespace o ≡ Some fixed
+of_declared : (o : Option (List ℕ)) (fixed : List ℕ) → option_and_then fixed_namespace o
+    ≡ Some fixed
     → is_plain fixed ≡ true
 of_declared None fixed is = absurd (cc)
 of_declared (Some prefix) fixed is = of_prefix prefix fixed is
@@ -77,14 +77,16 @@ reading_does c high (Second prefix part) f goes fails =
     (λ is. ap f (cond-false (is_name_char c) _ _ is) ∙ fails)
 
 module _ (s : State) (c : ℕ) (high : 128 ≤ c) where
-  pub tag_does : (tag : StartTag) (spaced : Bool) → Does (beyond_tag spaced) c (tag_step s tag spaced c)
+  pub tag_does : (tag : StartTag) (spaced : Bool) → Does (beyond_tag spaced) c
+      (tag_step s tag spaced c)
   unfolding tag_step
   tag_does tag true =
       does_only high_start_rows 3 c
       (if is_white c then Ok (stand s (AtTag tag true))
       else (if c == 62 then if_ends s tag (entered s tag)
       else (if c == 47 then if_ends s tag (stand s (AtSlash tag))
-      else (if is_name_start c then Ok (stand s (AtAttributeName tag (First (c ∷ [])))) else Err 3))))
+      else (if is_name_start c then Ok
+      (stand s (AtAttributeName tag (First (c ∷ [])))) else Err 3))))
       (is_name_start c) (high_start c high)
       (λ is. (
         stand s (AtAttributeName tag (First (c ∷ []))),

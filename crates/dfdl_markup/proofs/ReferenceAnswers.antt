@@ -1,7 +1,7 @@
 -- References: what each step answers, and that some text ends the document from each place.
-use Rattle.std.proofs.Common.{◌≡◌, ℕ, ◌+◌, ◌*◌, ◌<◌, ◌==◌, Bool, true, false, List, [], ◌∷◌}
-use Rattle.std.proofs.Common.{◌++◌, length, Option, Some, None, Ok, Err, refl, sym, ap, subst}
-use Rattle.std.proofs.Common.{◌∙◌, arith, append_assoc, append-nil, nat_le, if◌then◌else◌, IsSome, codes}
+use Rattle.std.proofs.Common.{◌≡◌, ℕ, ◌+◌, ◌*◌, ◌<◌, ◌==◌, Bool, true, false, List, [], ◌∷◌, ◌++◌}
+use Rattle.std.proofs.Common.{length, Option, Some, None, Ok, Err, refl, sym, ap, subst, ◌∙◌, arith}
+use Rattle.std.proofs.Common.{append_assoc, append-nil, nat_le, if◌then◌else◌, IsSome, codes}
 use Rattle.std.proofs.Common.{length-append}
 use Rattle.std.proofs.lemmas.Bool.{cond_both, eqb-true, leb-true}
 use Rattle.dfdl_layers.specs.Tellers.{Each}
@@ -10,29 +10,30 @@ use Rattle.dfdl_xml_chars.specs.Characters.{is_allowed, is_name_start, is_name_c
 use Rattle.dfdl_markup.specs.Grammar.{Named, Numbered, base_mark}
 use Rattle.dfdl_markup.specs.Values.{is_digit, digit_value, base_of, number_on, entity, or_zero}
 use Rattle.dfdl_markup.specs.Rules.{IsPart}
-use Rattle.dfdl_markup.specs.Machine.{Within, InContent, Place, AtReference, AtEntity, AtHash, AtHexadecimal}
-use Rattle.dfdl_markup.specs.Machine.{AtNumber, Ahead, NothingAhead, Frame, referred_to, wanted}
-use Rattle.dfdl_markup.specs.Machine.{begins_entity, entity_next, reference_step, entity_ended}
-use Rattle.dfdl_markup.specs.Machine.{entity_step, number_next, hash_step, hexadecimal_step, number_step}
+use Rattle.dfdl_markup.specs.Machine.{Within, InContent, Place, AtReference, AtEntity, AtHash}
+use Rattle.dfdl_markup.specs.Machine.{AtHexadecimal, AtNumber, Ahead, NothingAhead, Frame}
+use Rattle.dfdl_markup.specs.Machine.{referred_to, wanted, begins_entity, entity_next}
+use Rattle.dfdl_markup.specs.Machine.{reference_step, entity_ended, entity_step, number_next}
+use Rattle.dfdl_markup.specs.Machine.{hash_step, hexadecimal_step, number_step}
 use Rattle.dfdl_markup.proofs.Rest.{WroteReference, Wrote, Close, brackets_at}
 use Rattle.dfdl_markup.proofs.Sound.{SoundWithin, SoundFrames, SoundRoots, Sound}
 use Rattle.dfdl_markup.proofs.Answers.{Good, Live, Answer}
-use Rattle.dfdl_markup.proofs.ReferenceNumbers.{number_on-append, grows, digit_plain}
-use Rattle.dfdl_markup.proofs.ReferenceNumbers.{nine_digits}
+use Rattle.dfdl_markup.proofs.ReferenceNumbers.{number_on-append, grows, digit_plain, nine_digits}
 use Rattle.dfdl_markup.proofs.Closing.{good_low, close_all}
 use Rattle.dfdl_markup.proofs.NamesRead.{part_on}
 use Rattle.dfdl_markup.proofs.Moves.{at, malformed, reads_on}
 use Rattle.dfdl_markup.proofs.ReferenceEntities.{plain_text, completes, less_than}
 use Rattle.dfdl_markup.proofs.ReferenceForms.{standing, place_behind, reference_more}
-use Rattle.dfdl_markup.proofs.ReferenceSteps.{only_standing, leads_behind}
-use Rattle.dfdl_markup.proofs.ReferenceSteps.{live_behind, told_last, told_behind}
+use Rattle.dfdl_markup.proofs.ReferenceSteps.{only_standing, leads_behind, live_behind, told_last}
+use Rattle.dfdl_markup.proofs.ReferenceSteps.{told_behind}
 
 all_push : (f : ℕ → Bool) (text : List ℕ) (c : ℕ) → Each (λ d. f d ≡ true) text → f c ≡ true
     → Each (λ d. f d ≡ true) (text ++ c ∷ [])
 all_push f text c each is = each-append (λ d. f d ≡ true) text (c ∷ []) each (is, tt)
 
 -- digits as they are written, and their number
-record Digits (n : ℕ) (within : Within) (hexadecimal : Bool) (value : ℕ) (raw : List ℕ) : Type 0 where
+record Digits (n : ℕ) (within : Within) (hexadecimal : Bool) (value : ℕ)
+    (raw : List ℕ) : Type 0 where
   digits : List ℕ
   are : Each (λ c. is_digit hexadecimal c ≡ true) digits
   number : number_on hexadecimal 0 digits ≡ value
@@ -48,7 +49,8 @@ number_push hexadecimal digits value c is =
 inside_more : (hexadecimal : Bool) (digits more : List ℕ)
     → (35 ∷ (base_mark hexadecimal ++ digits)) ++ more
     ≡ 35 ∷ (base_mark hexadecimal ++ (digits ++ more))
-inside_more hexadecimal digits more = ap (λ l. 35 ∷ l) (append_assoc (base_mark hexadecimal) digits more)
+inside_more hexadecimal digits more = ap (λ l. 35 ∷ l)
+    (append_assoc (base_mark hexadecimal) digits more)
 
 some_behind : (digits more : List ℕ) → 0 < length digits → 0 < length (digits ++ more)
 some_behind digits more some = let long = length-append digits more in omega arith
@@ -68,14 +70,16 @@ module _ (begun : ℕ) (frames : List Frame) (within : Within)
       cond_both (begins_entity (name ++ c ∷ []))
       (Ok (standing (AtEntity within (name ++ c ∷ [])) begun frames)) (Err 6)
       (λ r. Answer (standing p begun frames) c r)
-      (λ some. reads_on NothingAhead p (AtEntity within (name ++ c ∷ [])) begun frames c sound none refl
+      (λ some. reads_on NothingAhead p
+      (AtEntity within (name ++ c ∷ [])) begun frames c sound none refl
       (inside, part, some)
       (λ n raw w. (reference_more n within name raw c (wrote n raw w), part)))
       (λ other. (
         omega arith,
         omega arith,
         λ _.
-            told_last begun frames within behind p 6 c (or_zero (entity (name ++ c ∷ []))) inside none
+            told_last begun frames within behind p 6 c
+            (or_zero (entity (name ++ c ∷ []))) inside none
             (λ raw w. record {
               reference = Named (name ++ c ∷ []);
               inside = name;
@@ -129,7 +133,8 @@ module _ (begun : ℕ) (frames : List Frame) (within : Within)
       cond_both (nat_le next 0x10FFFF)
       (Ok (standing (AtNumber within hexadecimal next) begun frames)) (Err 12)
       (λ r. Answer (standing p begun frames) c r)
-      (λ less. reads_on NothingAhead p (AtNumber within hexadecimal next) begun frames c sound none refl
+      (λ less. reads_on NothingAhead p
+      (AtNumber within hexadecimal next) begun frames c sound none refl
       (inside, leb-true next 0x10FFFF less)
       (λ n raw w. let d = wrote n raw w in (
         d.digits ++ c ∷ [],
@@ -171,13 +176,15 @@ module _ (begun : ℕ) (frames : List Frame) (within : Within)
       (λ n raw w. w))
       (λ other. cond_both (c == 35) (Ok (standing (AtHash within) begun frames)) (Err 3)
       (λ r. Answer s c r)
-      (λ is. reads_on NothingAhead (AtReference within) (AtHash within) begun frames c sound refl refl
+      (λ is. reads_on NothingAhead (AtReference within)
+      (AtHash within) begun frames c sound refl refl
       sound.place
       (λ n raw w. subst (λ d. WroteReference n within (d ∷ []) (raw ++ c ∷ [])) (eqb-true c 35 is)
       (reference_more n within [] raw c w)))
       (λ _. malformed s c))
 
-  entity_step_answers : (name : List ℕ) (c : ℕ) → Sound (standing (AtEntity within name) begun frames)
+  entity_step_answers : (name : List ℕ) (c : ℕ) → Sound
+      (standing (AtEntity within name) begun frames)
       → Answer (standing (AtEntity within name) begun frames) c
       (entity_step (standing (AtEntity within name) begun frames) within name c)
   unfolding entity_step
@@ -204,7 +211,8 @@ module _ (begun : ℕ) (frames : List Frame) (within : Within)
       (omega arith) (λ n raw w. record { digits = []; are = tt; number = refl; wrote = w }))
       (λ other. cond_both (c == 120) (Ok (standing (AtHexadecimal within) begun frames)) (Err 3)
       (λ r. Answer s c r)
-      (λ is. reads_on NothingAhead (AtHash within) (AtHexadecimal within) begun frames c sound refl refl
+      (λ is. reads_on NothingAhead (AtHash within)
+      (AtHexadecimal within) begun frames c sound refl refl
       sound.place
       (λ n raw w. subst (λ d. WroteReference n within (35 ∷ d ∷ []) (raw ++ c ∷ []))
       (eqb-true c 120 is) (reference_more n within (35 ∷ []) raw c w)))
@@ -218,7 +226,8 @@ module _ (begun : ℕ) (frames : List Frame) (within : Within)
       let s = standing (AtHexadecimal within) begun frames in
       cond_both (is_digit true c) (number_next s within true (digit_value c)) (Err 3)
       (λ r. Answer s c r)
-      (λ is. number_answers_next (AtHexadecimal within) true 0 (digit_value c) c sound sound.place refl
+      (λ is. number_answers_next (AtHexadecimal within) true 0
+      (digit_value c) c sound sound.place refl
       is (omega arith) (λ n raw w. record { digits = []; are = tt; number = refl; wrote = w }))
       (λ _. malformed s c)
 
@@ -231,7 +240,8 @@ module _ (begun : ℕ) (frames : List Frame) (within : Within)
       else Err 12)
   number_ends hexadecimal value c is sound =
       let p = AtNumber within hexadecimal value in
-      cond_both (is_allowed value) (Ok (referred_to (standing p begun frames) within value)) (Err 12)
+      cond_both (is_allowed value) (Ok (referred_to (standing p begun frames) within value))
+      (Err 12)
       (λ r. Answer (standing p begun frames) c r)
       (λ allowed. leads_behind begun frames within p c value is sound sound.place.0 refl
       (λ n raw w. record {
@@ -334,7 +344,8 @@ module _ (begun : ℕ) (frames : List Frame) (within : Within)
       let more = grows hexadecimal value sound.place.1 in
       live_behind begun frames within behind (AtNumber within hexadecimal value)
       (number_on hexadecimal value more.more) more.more
-      (each-map (λ c. is_digit hexadecimal c ≡ true) Good (digit_good hexadecimal) more.more more.digits)
+      (each-map (λ c. is_digit hexadecimal c ≡ true) Good
+      (digit_good hexadecimal) more.more more.digits)
       sound.place.0 refl
       (λ n raw w. record {
         reference = Numbered hexadecimal (w.0 ++ more.more);
@@ -365,12 +376,14 @@ module _ (ahead : Ahead) (begun : ℕ) (frames : List Frame) (within : Within)
       only_standing (λ s. Answer s c (reference_step s within c)) ahead (AtReference within) begun
       frames refl sound (reference_step_answers begun frames within behind c)
 
-  pub entity_answers : (name : List ℕ) (c : ℕ) → Sound (at ahead (AtEntity within name) begun frames)
+  pub entity_answers : (name : List ℕ) (c : ℕ) → Sound
+      (at ahead (AtEntity within name) begun frames)
       → Good c
       → Answer (at ahead (AtEntity within name) begun frames) c
       (entity_step (at ahead (AtEntity within name) begun frames) within name c)
   entity_answers name c sound good =
-      only_standing (λ s. Answer s c (entity_step s within name c)) ahead (AtEntity within name) begun
+      only_standing (λ s. Answer s c (entity_step s within name c)) ahead
+      (AtEntity within name) begun
       frames refl sound (entity_step_answers begun frames within behind name c)
 
   pub hash_answers : (c : ℕ) → Sound (at ahead (AtHash within) begun frames) → Good c
@@ -384,7 +397,8 @@ module _ (ahead : Ahead) (begun : ℕ) (frames : List Frame) (within : Within)
       → Answer (at ahead (AtHexadecimal within) begun frames) c
       (hexadecimal_step (at ahead (AtHexadecimal within) begun frames) within c)
   hexadecimal_answers c sound good =
-      only_standing (λ s. Answer s c (hexadecimal_step s within c)) ahead (AtHexadecimal within) begun
+      only_standing (λ s. Answer s c (hexadecimal_step s within c)) ahead
+      (AtHexadecimal within) begun
       frames refl sound (hexadecimal_step_answers begun frames within behind c)
 
   pub number_answers : (hexadecimal : Bool) (value c : ℕ)
@@ -439,6 +453,7 @@ behind_in_content begun frames sound roots d =
       more = closing.0;
       good = closing.1;
       from = λ n. record {
-        whole = λ raw is. subst (λ l. Close n begun frames 0 (l ++ closing.0)) (sym is) (closing.2 n);
+        whole = λ raw is. subst (λ l. Close n begun frames 0 (l ++ closing.0)) (sym is)
+        (closing.2 n);
       };
     }

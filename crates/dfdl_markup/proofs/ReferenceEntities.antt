@@ -1,11 +1,12 @@
 -- The entities by their names: what begins one goes on to it.
-use Rattle.std.proofs.Common.{◌≡◌, ℕ, ◌≤◌, ◌&&◌, ◌||◌, ◌==◌, Bool, true, List, [], ◌∷◌}
-use Rattle.std.proofs.Common.{◌++◌, nat_le, refl, sym, ap, ap₂, subst, ◌∙◌, inl, inr, arith, codes, IsSome}
+use Rattle.std.proofs.Common.{◌≡◌, ℕ, ◌≤◌, ◌&&◌, ◌||◌, ◌==◌, Bool, true, List, [], ◌∷◌, ◌++◌}
+use Rattle.std.proofs.Common.{nat_le, refl, sym, ap, ap₂, subst, ◌∙◌, inl, inr, arith, codes}
+use Rattle.std.proofs.Common.{IsSome}
 use Rattle.std.specs.List.{list_any, list_all}
 use Rattle.std.proofs.lemmas.Bool.{cases_Bool, and_parts, eqb-true, leb-true}
 use Rattle.dfdl_layers.specs.Tellers.{Each}
-use Rattle.dfdl_xml_chars.specs.Characters.{is_name_start, is_name_char}
-use Rattle.dfdl_xml_chars.specs.Characters.{low_start_rows, low_name_rows}
+use Rattle.dfdl_xml_chars.specs.Characters.{is_name_start, is_name_char, low_start_rows}
+use Rattle.dfdl_xml_chars.specs.Characters.{low_name_rows}
 use Rattle.dfdl_markup.specs.Values.{entities, entity}
 use Rattle.dfdl_markup.specs.Rules.{IsPart}
 use Rattle.dfdl_markup.specs.Machine.{begins, begins_entity}

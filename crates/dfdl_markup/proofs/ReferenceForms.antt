@@ -1,20 +1,19 @@
 -- References as they are written: how one grows, and what may follow where it ends.
-use Rattle.std.proofs.Common.{◌≡◌, ℕ, ◌<◌, ◌==◌, Bool, false, List, [], ◌∷◌}
-use Rattle.std.proofs.Common.{◌++◌, length, Option, Some, None, refl, sym, ap, subst, ◌∙◌}
-use Rattle.std.proofs.Common.{append_assoc, append-nil, zero-lt-suc}
+use Rattle.std.proofs.Common.{◌≡◌, ℕ, ◌<◌, ◌==◌, Bool, false, List, [], ◌∷◌, ◌++◌, length, Option}
+use Rattle.std.proofs.Common.{Some, None, refl, sym, ap, subst, ◌∙◌, append_assoc, append-nil}
+use Rattle.std.proofs.Common.{zero-lt-suc}
 use Rattle.std.specs.List.{flat_map}
 use Rattle.std.proofs.lemmas.List.Concat.{flat_map-append}
 use Rattle.dfdl_layers.proofs.Runs.{each-append}
 use Rattle.dfdl_markup.specs.Grammar.{Reference, Item, Letter, Referred, item_characters}
-use Rattle.dfdl_markup.specs.Grammar.{reference_inside, reference_characters}
-use Rattle.dfdl_markup.specs.Grammar.{given_start, tag_characters}
+use Rattle.dfdl_markup.specs.Grammar.{reference_inside, reference_characters, given_start}
+use Rattle.dfdl_markup.specs.Grammar.{tag_characters}
 use Rattle.dfdl_markup.specs.Values.{referred, items_read, ends_in_cr, letter_read}
 use Rattle.dfdl_markup.specs.Rules.{ReferenceKeeps, ItemKeeps}
-use Rattle.dfdl_markup.specs.Machine.{Within, InContent, InValue, OpenValue, Place, AtContent, AtValue}
-use Rattle.dfdl_markup.specs.Machine.{NothingAhead, Frame, State, with_text, fixed_value}
+use Rattle.dfdl_markup.specs.Machine.{Within, InContent, InValue, OpenValue, Place, AtContent}
+use Rattle.dfdl_markup.specs.Machine.{AtValue, NothingAhead, Frame, State, with_text, fixed_value}
 use Rattle.dfdl_markup.specs.Machine.{referred_to}
-use Rattle.dfdl_markup.proofs.Rest.{ReadAs, WroteValue, WroteWithin, WroteReference}
-use Rattle.dfdl_markup.proofs.Rest.{Close, From}
+use Rattle.dfdl_markup.proofs.Rest.{ReadAs, WroteValue, WroteWithin, WroteReference, Close, From}
 use Rattle.dfdl_markup.proofs.Sound.{IsInside, SoundWithin}
 use Rattle.dfdl_markup.proofs.Closing.{grow_reference}
 use Rattle.dfdl_markup.proofs.Moves.{at}
@@ -35,7 +34,8 @@ behind_is s (InValue v) d = refl
 
 -- a reference that goes on by a character
 pub reference_more : (n : ℕ) (within : Within) (inside raw : List ℕ) (c : ℕ)
-    → WroteReference n within inside raw → WroteReference n within (inside ++ c ∷ []) (raw ++ c ∷ [])
+    → WroteReference n within inside raw → WroteReference n within (inside ++ c ∷ [])
+    (raw ++ c ∷ [])
 reference_more n within inside raw c wrote = (
   wrote.0,
   wrote.1,
@@ -48,7 +48,8 @@ items_read-push : (behind_cr : Bool) (items : List Item) (reference : Reference)
 items_read-push behind_cr [] reference = refl
 items_read-push behind_cr (Letter c ∷ items) reference =
     ap (λ l. letter_read behind_cr c ++ l) (items_read-push (c == 13) items reference)
-    ∙ sym (append_assoc (letter_read behind_cr c) (items_read (c == 13) items) (referred reference ∷ []))
+    ∙ sym (append_assoc (letter_read behind_cr c) (items_read (c == 13) items)
+    (referred reference ∷ []))
 items_read-push behind_cr (Referred r ∷ items) reference =
     ap (λ l. referred r ∷ l) (items_read-push false items reference)
 
@@ -59,7 +60,8 @@ ends_in_cr-push behind_cr (Letter c ∷ items) reference = ends_in_cr-push (c ==
 ends_in_cr-push behind_cr (Referred r ∷ items) reference = ends_in_cr-push false items reference
 
 -- the items of a value with a reference behind them
-read_more : (o : Option (List ℕ)) (v : OpenValue) (items : List Item) (reference : Reference) → o ≡ None
+read_more : (o : Option (List ℕ)) (v : OpenValue) (items : List Item) (reference : Reference) → o
+    ≡ None
     → ReadAs o v items
     → ReadAs o (with_text v (referred reference ∷ []) false) (items ++ Referred reference ∷ [])
 read_more (Some fixed) v items reference none read = absurd (cc)
@@ -85,7 +87,8 @@ items_more items reference =
 -- a value with a reference behind it
 value_more : (n : ℕ) (v : OpenValue) (front : List ℕ) (reference : Reference)
     → fixed_value v.name ≡ None → ReferenceKeeps n reference → WroteValue n v front
-    → WroteValue n (with_text v (referred reference ∷ []) false) (front ++ reference_characters reference)
+    → WroteValue n (with_text v (referred reference ∷ []) false)
+    (front ++ reference_characters reference)
 value_more n v front reference none keeps wrote = record {
   before = wrote.before;
   after = wrote.after;
@@ -95,7 +98,8 @@ value_more n v front reference none keeps wrote = record {
   white_before = wrote.white_before;
   white_after = wrote.white_after;
   read = read_more (fixed_value v.name) v wrote.items reference none wrote.read;
-  keep = each-append (ItemKeeps n v.quote) wrote.items (Referred reference ∷ []) wrote.keep (keeps, tt);
+  keep = each-append (ItemKeeps n v.quote) wrote.items (Referred reference ∷ []) wrote.keep
+      (keeps, tt);
   wrote = record {
     t = wrote.wrote.t;
     wrote = wrote.wrote.wrote;

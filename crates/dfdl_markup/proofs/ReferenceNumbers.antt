@@ -1,5 +1,5 @@
--- The numbers of references: each that is a code point becomes an allowed character by digits behind
--- it, none or few.
+-- The numbers of references: each that is a code point becomes an allowed character by digits
+-- behind it, none or few.
 use Rattle.std.proofs.Common.{◌≡◌, ℕ, ◌+◌, ◌*◌, ◌<◌, ◌≤◌, ◌⊎◌, Bool, true, false, List, [], ◌∷◌}
 use Rattle.std.proofs.Common.{◌++◌, refl, ap, ◌∙◌, inl, inr, arith}
 use Rattle.std.proofs.lemmas.Bool.{cases_Bool, cases_lt}
@@ -136,7 +136,8 @@ digit_least true c is = grind (arith, nat_tests)
 digit_least false c is = grind (arith, nat_tests)
 
 -- and are letters and figures
-pub digit_plain : (hexadecimal : Bool) (c : ℕ) → is_digit hexadecimal c ≡ true → (32 ≤ c) × (c < 128)
+pub digit_plain : (hexadecimal : Bool) (c : ℕ) → is_digit hexadecimal c ≡ true → (32 ≤ c) ×
+    (c < 128)
 unfolding is_digit
 digit_plain true c is = (grind (arith, nat_tests), grind (arith, nat_tests))
 digit_plain false c is = (grind (arith, nat_tests), grind (arith, nat_tests))

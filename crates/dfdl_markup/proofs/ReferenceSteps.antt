@@ -1,27 +1,24 @@
 -- What a step within a reference leads to, and what may be said of one that is refused.
-use Rattle.std.proofs.Common.{◌≡◌, ℕ, false, List, [], ◌∷◌}
-use Rattle.std.proofs.Common.{◌++◌, refl, sym, subst}
-use Rattle.std.proofs.Common.{arith}
+use Rattle.std.proofs.Common.{◌≡◌, ℕ, false, List, [], ◌∷◌, ◌++◌, refl, sym, subst, arith}
 use Rattle.dfdl_layers.specs.Tellers.{Each}
 use Rattle.dfdl_layers.proofs.Runs.{each-append}
 use Rattle.dfdl_markup.specs.Grammar.{Reference, reference_inside}
 use Rattle.dfdl_markup.specs.Values.{referred}
 use Rattle.dfdl_markup.specs.Rules.{ReferenceKeeps}
-use Rattle.dfdl_markup.specs.Machine.{Within, InContent, InValue, Place}
-use Rattle.dfdl_markup.specs.Machine.{Ahead, NothingAhead}
-use Rattle.dfdl_markup.specs.Machine.{MarkAhead, DeclarationAhead, Frame, State}
-use Rattle.dfdl_markup.specs.Machine.{referred_to, wanted}
+use Rattle.dfdl_markup.specs.Machine.{Within, InContent, InValue, Place, Ahead, NothingAhead}
+use Rattle.dfdl_markup.specs.Machine.{MarkAhead, DeclarationAhead, Frame, State, referred_to}
+use Rattle.dfdl_markup.specs.Machine.{wanted}
 use Rattle.dfdl_markup.proofs.Rest.{WroteReference, Wrote, Close, From, brackets_at}
-use Rattle.dfdl_markup.proofs.Sound.{KeepsFixed, SoundWithin, SoundAt}
-use Rattle.dfdl_markup.proofs.Sound.{in_declaration, before_declaration, Sound}
+use Rattle.dfdl_markup.proofs.Sound.{KeepsFixed, SoundWithin, SoundAt, in_declaration}
+use Rattle.dfdl_markup.proofs.Sound.{before_declaration, Sound}
 use Rattle.dfdl_markup.proofs.Answers.{Good, Leads, Told, Live}
 use Rattle.dfdl_markup.proofs.Closing.{good_low}
 use Rattle.dfdl_markup.proofs.Moves.{at}
-use Rattle.dfdl_markup.proofs.ReferenceForms.{standing, place_behind, behind_is}
-use Rattle.dfdl_markup.proofs.ReferenceForms.{reference_ends}
+use Rattle.dfdl_markup.proofs.ReferenceForms.{standing, place_behind, behind_is, reference_ends}
 
 -- where only nothing may come before any more
-pub only_standing : (P : State → Type 0) (ahead : Ahead) (place : Place) (begun : ℕ) (frames : List Frame)
+pub only_standing : (P : State → Type 0) (ahead : Ahead) (place : Place) (begun : ℕ)
+    (frames : List Frame)
     → before_declaration place ≡ false → Sound (at ahead place begun frames)
     → (Sound (standing place begun frames) → P (standing place begun frames))
     → P (at ahead place begun frames)
@@ -83,7 +80,8 @@ module _ (begun : ℕ) (frames : List Frame) (within : Within) where
         subst (λ b. Close n begun frames b (raw ++ (more ++ 59 ∷ text))) (sym none)
         (reference_ends n begun frames within e.reference e.inside more raw text inside e.keeps e.is
         e.wrote
-        (subst (λ m. From n (standing (place_behind within m) begun frames) text) (sym e.means) from));
+        (subst (λ m. From n (standing (place_behind within m) begun frames) text)
+        (sym e.means) from));
   }
 
   -- the `;`

@@ -142,9 +142,11 @@ module _ (s : State) (c : ℕ) (high : 128 ≤ c) where
 
   pub section_does : (before : ℕ) → GoesOn (section_step s before c)
   unfolding section_step
-  section_does before =
-      (stand s (AtSection (brackets before c)), cond-false (before == 2 && c == 62) _ _
-      (not_end before))
+  section_does before = (
+    stand s (AtSection (brackets before c)),
+    cond-false (before == 2 && c == 62) _ _
+        (not_end before),
+  )
 
   pub question_does : Does (Only high_start_rows 3) c (question_step s c)
   unfolding question_step

@@ -454,6 +454,6 @@ behind_in_content begun frames sound roots d =
       good = closing.1;
       from = λ n. record {
         whole = λ raw is. subst (λ l. Close n begun frames 0 (l ++ closing.0)) (sym is)
-        (closing.2 n);
+            (closing.2 n);
       };
     }

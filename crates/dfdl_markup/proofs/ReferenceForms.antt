@@ -1,15 +1,12 @@
 -- References as they are written: how one grows, and what may follow where it ends.
-use Rattle.std.proofs.Common.{◌≡◌, ℕ, ◌<◌, ◌==◌, Bool, false, List, [], ◌∷◌, ◌++◌, length, Option}
+use Rattle.std.proofs.Common.{◌≡◌, ℕ, ◌<◌, false, List, [], ◌∷◌, ◌++◌, length, Option}
 use Rattle.std.proofs.Common.{Some, None, refl, sym, ap, subst, ◌∙◌, append_assoc, append-nil}
 use Rattle.std.proofs.Common.{zero-lt-suc}
-use Rattle.std.specs.List.{flat_map}
-use Rattle.std.proofs.lemmas.List.Concat.{flat_map-append}
-use Rattle.dfdl_layers.proofs.Runs.{each-append}
-use Rattle.dfdl_markup.specs.Grammar.{Reference, Item, Letter, Referred, item_characters}
+use Rattle.dfdl_markup.specs.Grammar.{Reference, Item, Referred}
 use Rattle.dfdl_markup.specs.Grammar.{reference_inside, reference_characters, given_start}
 use Rattle.dfdl_markup.specs.Grammar.{tag_characters}
-use Rattle.dfdl_markup.specs.Values.{referred, items_read, ends_in_cr, letter_read}
-use Rattle.dfdl_markup.specs.Rules.{ReferenceKeeps, ItemKeeps}
+use Rattle.dfdl_markup.specs.Values.{referred}
+use Rattle.dfdl_markup.specs.Rules.{ReferenceKeeps}
 use Rattle.dfdl_markup.specs.Machine.{Within, InContent, InValue, OpenValue, Place, AtContent}
 use Rattle.dfdl_markup.specs.Machine.{AtValue, NothingAhead, Frame, State, with_text, fixed_value}
 use Rattle.dfdl_markup.specs.Machine.{referred_to}
@@ -17,6 +14,7 @@ use Rattle.dfdl_markup.proofs.Rest.{ReadAs, WroteValue, WroteWithin, WroteRefere
 use Rattle.dfdl_markup.proofs.Sound.{IsInside, SoundWithin}
 use Rattle.dfdl_markup.proofs.Closing.{grow_reference}
 use Rattle.dfdl_markup.proofs.Moves.{at}
+use Rattle.dfdl_markup.proofs.TagValues.{read_on, ends_on, value_grows}
 
 -- the state at a place behind all that may come before
 abbrev pub standing : Place → ℕ → List Frame → State
@@ -42,77 +40,26 @@ reference_more n within inside raw c wrote = (
   ap (λ l. l ++ c ∷ []) wrote.2 ∙ append_assoc wrote.0 (38 ∷ inside) (c ∷ []),
 )
 
-items_read-push : (behind_cr : Bool) (items : List Item) (reference : Reference)
-    → items_read behind_cr (items ++ Referred reference ∷ [])
-    ≡ items_read behind_cr items ++ referred reference ∷ []
-items_read-push behind_cr [] reference = refl
-items_read-push behind_cr (Letter c ∷ items) reference =
-    ap (λ l. letter_read behind_cr c ++ l) (items_read-push (c == 13) items reference)
-    ∙ sym (append_assoc (letter_read behind_cr c) (items_read (c == 13) items)
-    (referred reference ∷ []))
-items_read-push behind_cr (Referred r ∷ items) reference =
-    ap (λ l. referred r ∷ l) (items_read-push false items reference)
-
-ends_in_cr-push : (behind_cr : Bool) (items : List Item) (reference : Reference)
-    → ends_in_cr behind_cr (items ++ Referred reference ∷ []) ≡ false
-ends_in_cr-push behind_cr [] reference = refl
-ends_in_cr-push behind_cr (Letter c ∷ items) reference = ends_in_cr-push (c == 13) items reference
-ends_in_cr-push behind_cr (Referred r ∷ items) reference = ends_in_cr-push false items reference
-
 -- the items of a value with a reference behind them
-read_more : (o : Option (List ℕ)) (v : OpenValue) (items : List Item) (reference : Reference) → o
-    ≡ None
-    → ReadAs o v items
+read_more : (o : Option (List ℕ)) (v : OpenValue) (items : List Item) (reference : Reference)
+    → o ≡ None → ReadAs o v items
     → ReadAs o (with_text v (referred reference ∷ []) false) (items ++ Referred reference ∷ [])
 read_more (Some fixed) v items reference none read = absurd (cc)
 read_more None v items reference none read = (
-  items_read-push false items reference ∙ ap (λ l. l ++ referred reference ∷ []) read.0,
-  ends_in_cr-push false items reference,
+  read_on false items (Referred reference ∷ []) ∙ ap (λ l. l ++ referred reference ∷ []) read.0,
+  ends_on false items (Referred reference ∷ []),
 )
-
-written_more : (front more tag start items : List ℕ) → front ≡ 60 ∷ (tag ++ (start ++ items))
-    → front ++ more ≡ 60 ∷ (tag ++ (start ++ (items ++ more)))
-written_more front more tag start items is =
-    ap (λ l. l ++ more) is
-    ∙ ap (λ l. 60 ∷ l)
-    (append_assoc tag (start ++ items) more ∙ ap (λ l. tag ++ l) (append_assoc start items more))
-
-items_more : (items : List Item) (reference : Reference)
-    → flat_map item_characters (items ++ Referred reference ∷ [])
-    ≡ flat_map item_characters items ++ reference_characters reference
-items_more items reference =
-    flat_map-append item_characters items (Referred reference ∷ [])
-    ∙ ap (λ l. flat_map item_characters items ++ l) (append-nil (reference_characters reference))
 
 -- a value with a reference behind it
 value_more : (n : ℕ) (v : OpenValue) (front : List ℕ) (reference : Reference)
     → fixed_value v.name ≡ None → ReferenceKeeps n reference → WroteValue n v front
     → WroteValue n (with_text v (referred reference ∷ []) false)
     (front ++ reference_characters reference)
-value_more n v front reference none keeps wrote = record {
-  before = wrote.before;
-  after = wrote.after;
-  items = wrote.items ++ Referred reference ∷ [];
-  named = wrote.named;
-  quote = wrote.quote;
-  white_before = wrote.white_before;
-  white_after = wrote.white_after;
-  read = read_more (fixed_value v.name) v wrote.items reference none wrote.read;
-  keep = each-append (ItemKeeps n v.quote) wrote.items (Referred reference ∷ []) wrote.keep
-      (keeps, tt);
-  wrote = record {
-    t = wrote.wrote.t;
-    wrote = wrote.wrote.wrote;
-    some_space = wrote.wrote.some_space;
-    is =
-        written_more front (reference_characters reference) (tag_characters wrote.wrote.t)
-        (given_start v.name wrote.before wrote.after v.quote) (flat_map item_characters wrote.items)
-        wrote.wrote.is
-        ∙ ap (λ l. 60 ∷ (tag_characters wrote.wrote.t
-        ++ (given_start v.name wrote.before wrote.after v.quote ++ l)))
-        (sym (items_more wrote.items reference));
-  };
-}
+value_more n v front reference none keeps wrote =
+    subst (λ l. WroteValue n (with_text v (referred reference ∷ []) false) (front ++ l))
+    (append-nil (reference_characters reference))
+    (value_grows n v front wrote (Referred reference ∷ []) (referred reference ∷ []) false
+    (keeps, tt) (read_more (fixed_value v.name) v wrote.items reference none wrote.read))
 
 some_inside : (frames : List Frame) → IsInside frames → 0 < length frames
 some_inside [] inside = absurd inside

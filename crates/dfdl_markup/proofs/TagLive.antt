@@ -7,6 +7,7 @@ use Rattle.std.proofs.Common.{append_assoc}
 use Rattle.std.proofs.lemmas.Bool.{cases_Bool, cond_both, eqb-true}
 use Rattle.std.specs.List.{cons_option}
 use Rattle.dfdl_layers.specs.Tellers.{Each}
+use Rattle.dfdl_layers.proofs.Runs.{each-map}
 use Rattle.dfdl_markup.specs.Grammar.{is_white, is_quote, Name, Plain, Prefixed, name_characters}
 use Rattle.dfdl_markup.specs.Grammar.{Tag}
 use Rattle.dfdl_markup.specs.Values.{Binding, bound_to, bindings_of, found, is_found}
@@ -33,12 +34,6 @@ use Rattle.dfdl_markup.proofs.TagSound.{names_push, bindings_push}
 use Rattle.dfdl_markup.proofs.TagSteps.{Reaches, reaches_on, tag_white, equals_quote}
 use Rattle.dfdl_markup.proofs.TagEnds.{ValueEnd, value_ends, value_reaches, value_sound, good_quote}
 use Rattle.dfdl_markup.proofs.TagNames.{xmlns_declares, xmlns_part, declaration_new}
-
--- what holds of each of the one holds of each by the other
-pub each_by : {A : Type 0} (P Q : A → Type 0) → ((a : A) → P a → Q a) → (items : List A)
-    → Each P items → Each Q items
-each_by P Q follows [] each = tt
-each_by P Q follows (a ∷ items) each = (follows a each.0, each_by P Q follows items each.1)
 
 -- a tag that was written so keeps the rules below n
 pub tag_keeps : (n : ℕ) (frames : List Frame) (tag : StartTag) (t : Tag) → WroteTag n tag t
@@ -75,7 +70,7 @@ pub own_declared : (frames : List Frame) (tag : StartTag)
     (tag.name ∷ names_of tag.attributes)
     → AreDeclared (scope_of frames) tag.name tag.attributes
 own_declared frames tag own =
-    each_by (λ name. is_found (bindings_of tag.attributes) name ≡ true)
+    each-map (λ name. is_found (bindings_of tag.attributes) name ≡ true)
     (λ name. is_found (scope_in tag.attributes (scope_of frames)) name ≡ true)
     (λ name is. is_found_kept (bindings_of tag.attributes) (scope_of frames) name is)
     (tag.name ∷ names_of tag.attributes) own
@@ -185,7 +180,7 @@ module _ (tag : StartTag) (p : List ℕ) (prefixes : List (List ℕ)) (value : L
       (each_push (Covered (bindings_of
       (with_attribute tag (Prefixed xmlns_prefix p) value).attributes) prefixes)
       (tag.name ∷ names_of tag.attributes) (Prefixed xmlns_prefix p)
-      (each_by (Covered (bindings_of tag.attributes) (p ∷ prefixes))
+      (each-map (Covered (bindings_of tag.attributes) (p ∷ prefixes))
       (Covered (bindings_of (with_attribute tag (Prefixed xmlns_prefix p) value).attributes)
       prefixes)
       name_more (tag.name ∷ names_of tag.attributes) covered)
@@ -300,11 +295,14 @@ module _ (begun : ℕ) (frames : List Frame) where
         frames))
         → Live (standing (AtTag tag spaced) begun frames)
     declared_live tag spaced p sound part none others =
-        live_over (AtTag tag spaced) (AtValue v) (32 ∷ (name_characters name ++ 61 ∷ 34 ∷ [])) refl (
+        live_over (AtTag tag spaced) (AtValue v)
+        (32 ∷ (name_characters name ++ 61 ∷ 34 ∷ [])) refl (
           good_low 32 (omega arith) (omega arith),
           each_append Good (name_characters name)
-              (61 ∷ 34 ∷ []) (good_of_name name (xmlns_part, part))
-              (good_low 61 (omega arith) (omega arith), (good_low 34 (omega arith) (omega arith), tt)),
+              (61 ∷ 34 ∷ []) (good_of_name name (xmlns_part, part)) (
+                good_low 61 (omega arith) (omega arith),
+                (good_low 34 (omega arith) (omega arith), tt),
+              ),
         )
         (declaration_reaches tag spaced p part)
         (live_over (AtValue v) (AtTag (with_attribute tag name e.more) false) (e.more ++ 34 ∷ [])
@@ -332,7 +330,7 @@ module _ (begun : ℕ) (frames : List Frame) where
         → Live (standing (AtTag tag spaced) begun frames)
     complete [] tag spaced sound parts xmlns covered =
         live_declared tag spaced sound
-        (each_by (Covered (bindings_of tag.attributes) [])
+        (each-map (Covered (bindings_of tag.attributes) [])
         (λ name. is_found (bindings_of tag.attributes) name ≡ true)
         (λ name is. covered_none (bindings_of tag.attributes) name is)
         (tag.name ∷ names_of tag.attributes) covered)
@@ -342,7 +340,7 @@ module _ (begun : ℕ) (frames : List Frame) where
               complete prefixes tag spaced sound parts.1
               (covered_skip (bindings_of tag.attributes) p prefixes some (Prefixed xmlns_prefix [])
               xmlns)
-              (each_by (Covered (bindings_of tag.attributes) (p ∷ prefixes))
+              (each-map (Covered (bindings_of tag.attributes) (p ∷ prefixes))
               (Covered (bindings_of tag.attributes) prefixes)
               (λ name is. covered_skip (bindings_of tag.attributes) p prefixes some name is)
               (tag.name ∷ names_of tag.attributes) covered)

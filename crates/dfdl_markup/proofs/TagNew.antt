@@ -6,6 +6,7 @@ use Rattle.std.proofs.lemmas.List.{length-append}
 use Rattle.std.specs.List.{list_any}
 use Rattle.std.specs.Str.{bytes_eq}
 use Rattle.dfdl_layers.specs.Tellers.{Each}
+use Rattle.dfdl_layers.proofs.Runs.{each-append}
 use Rattle.dfdl_xml_chars.specs.Characters.{is_name_start, is_name_char}
 use Rattle.dfdl_xml_chars.specs.Characters.{low_name_rows, low_start_rows}
 use Rattle.dfdl_markup.specs.Grammar.{Name, Plain, Prefixed, name_characters}
@@ -17,7 +18,6 @@ use Rattle.dfdl_markup.specs.Machine.{Reading, First, Colon, Second, StartTag, i
 use Rattle.dfdl_markup.proofs.Rest.{reading_characters, IsReading}
 use Rattle.dfdl_markup.proofs.TagNamespaces.{unlike_longer}
 use Rattle.dfdl_markup.proofs.TagFixed.{letters, letters_length}
-use Rattle.dfdl_markup.proofs.TagValues.{each_both}
 
 pub letter_starts : is_name_start 97 ≡ true
 unfolding is_name_start low_start_rows
@@ -34,7 +34,7 @@ letters_go_on (suc n) = (letter_goes_on, letters_go_on n)
 part_with : (part : List ℕ) (n : ℕ) → IsPart part → IsPart (part ++ letters n)
 part_with [] n is = absurd is
 part_with (c ∷ part) n is =
-    (is.0, each_both (λ d. is_name_char d ≡ true) part (letters n) is.1 (letters_go_on n))
+    (is.0, each-append (λ d. is_name_char d ≡ true) part (letters n) is.1 (letters_go_on n))
 
 letters_part : (n : ℕ) → 0 < n → IsPart (letters n)
 letters_part zero some = absurd (omega arith)

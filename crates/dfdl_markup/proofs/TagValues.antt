@@ -7,6 +7,7 @@ use Rattle.std.proofs.lemmas.List.{append-nil, map-append}
 use Rattle.std.proofs.lemmas.List.Concat.{flat_map-append}
 use Rattle.std.specs.List.{flat_map}
 use Rattle.dfdl_layers.specs.Tellers.{Each}
+use Rattle.dfdl_layers.proofs.Runs.{each-append}
 use Rattle.dfdl_markup.specs.Grammar.{is_white, Name, name_characters, Item, Letter, Referred}
 use Rattle.dfdl_markup.specs.Grammar.{item_characters, Given, given_characters, given_start, Tag}
 use Rattle.dfdl_markup.specs.Grammar.{tag_characters}
@@ -21,13 +22,7 @@ use Rattle.dfdl_markup.proofs.TagFixed.{ArePlain, plain_fixed, plain_not_white}
 
 pub each_push : {A : Type 0} (P : A → Type 0) (items : List A) (item : A) → Each P items → P item
     → Each P (items ++ item ∷ [])
-each_push P [] item each last = (last, tt)
-each_push P (a ∷ items) item each last = (each.0, each_push P items item each.1 last)
-
-pub each_both : {A : Type 0} (P : A → Type 0) (items more : List A) → Each P items → Each P more
-    → Each P (items ++ more)
-each_both P [] more each others = others
-each_both P (a ∷ items) more each others = (each.0, each_both P items more each.1 others)
+each_push P items item each last = each-append P items (item ∷ []) each (last, tt)
 
 -- what items are read as, with more of them
 
@@ -89,7 +84,7 @@ value_grows n v raw w items more behind_cr keep read = record {
   white_before = w.white_before;
   white_after = w.white_after;
   read = read;
-  keep = each_both (ItemKeeps n v.quote) w.items items w.keep keep;
+  keep = each-append (ItemKeeps n v.quote) w.items items w.keep keep;
   wrote = record {
     t = w.wrote.t;
     wrote = w.wrote.wrote;

@@ -22,6 +22,7 @@ use Rattle.dfdl_markup.proofs.Sound.{SoundAhead, in_declaration, Sound}
 use Rattle.dfdl_markup.proofs.Answers.{Good, Told, Live, Answer, live_by}
 use Rattle.dfdl_markup.proofs.Closing.{good_low, each_append}
 use Rattle.dfdl_markup.proofs.Moves.{at, malformed}
+use Rattle.dfdl_markup.proofs.TagEnds.{good_quote}
 use Rattle.dfdl_markup.proofs.ReferenceAnswers.{behind_in_content}
 use Rattle.dfdl_markup.proofs.DeclarationForms.{SaidKeeps}
 use Rattle.dfdl_markup.proofs.DeclarationValues.{goes_on, is_said, encoding_so_far, said_keeps}
@@ -30,16 +31,6 @@ use Rattle.dfdl_markup.proofs.DeclarationSteps.{reads_by, leads_white, leads_end
 use Rattle.dfdl_markup.proofs.DeclarationSteps.{leads_word, leads_said, leads_equals, leads_after}
 use Rattle.dfdl_markup.proofs.DeclarationSteps.{leads_quote, leads_value, value_closed}
 use Rattle.dfdl_markup.proofs.DeclarationSteps.{leads_closed, leads_content}
-
-good_quote : (quote : ℕ) → is_quote quote ≡ true → Good quote
-unfolding is_quote
-good_quote quote is = good_low quote (least quote is) (less quote is)
-  where
-    least : (c : ℕ) → is_quote c ≡ true → 32 ≤ c
-    least c is = grind (arith, nat_tests)
-
-    less : (c : ℕ) → is_quote c ≡ true → c < 128
-    less c is = grind (arith, nat_tests)
 
 quote_is : is_quote 34 ≡ true
 unfolding is_quote

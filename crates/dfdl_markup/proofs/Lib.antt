@@ -53,3 +53,4 @@ pub mod ForesightContent
 pub mod ForesightTags
 pub mod ForesightEnds
 pub mod Foresight
+pub mod ReferencePlaces

@@ -164,7 +164,7 @@ module _ (begun : ℕ) (frames : List Frame) (within : Within)
             }),
       ))
 
-  reference_step_answers : (c : ℕ) → Sound (standing (AtReference within) begun frames)
+  pub reference_step_answers : (c : ℕ) → Sound (standing (AtReference within) begun frames)
       → Answer (standing (AtReference within) begun frames) c
       (reference_step (standing (AtReference within) begun frames) within c)
   unfolding reference_step
@@ -183,7 +183,7 @@ module _ (begun : ℕ) (frames : List Frame) (within : Within)
       (reference_more n within [] raw c w)))
       (λ _. malformed s c))
 
-  entity_step_answers : (name : List ℕ) (c : ℕ) → Sound
+  pub entity_step_answers : (name : List ℕ) (c : ℕ) → Sound
       (standing (AtEntity within name) begun frames)
       → Answer (standing (AtEntity within name) begun frames) c
       (entity_step (standing (AtEntity within name) begun frames) within name c)
@@ -198,7 +198,7 @@ module _ (begun : ℕ) (frames : List Frame) (within : Within)
       (λ r. Answer s c r) (λ is. name_ends name (entity name) c refl (eqb-true c 59 is) sound)
       (λ _. malformed s c))
 
-  hash_step_answers : (c : ℕ) → Sound (standing (AtHash within) begun frames)
+  pub hash_step_answers : (c : ℕ) → Sound (standing (AtHash within) begun frames)
       → Answer (standing (AtHash within) begun frames) c
       (hash_step (standing (AtHash within) begun frames) within c)
   unfolding hash_step
@@ -218,7 +218,7 @@ module _ (begun : ℕ) (frames : List Frame) (within : Within)
       (eqb-true c 120 is) (reference_more n within (35 ∷ []) raw c w)))
       (λ _. malformed s c))
 
-  hexadecimal_step_answers : (c : ℕ) → Sound (standing (AtHexadecimal within) begun frames)
+  pub hexadecimal_step_answers : (c : ℕ) → Sound (standing (AtHexadecimal within) begun frames)
       → Answer (standing (AtHexadecimal within) begun frames) c
       (hexadecimal_step (standing (AtHexadecimal within) begun frames) within c)
   unfolding hexadecimal_step
@@ -267,7 +267,7 @@ module _ (begun : ℕ) (frames : List Frame) (within : Within)
             }),
       ))
 
-  number_step_answers : (hexadecimal : Bool) (value c : ℕ)
+  pub number_step_answers : (hexadecimal : Bool) (value c : ℕ)
       → Sound (standing (AtNumber within hexadecimal value) begun frames)
       → Answer (standing (AtNumber within hexadecimal value) begun frames) c
       (number_step (standing (AtNumber within hexadecimal value) begun frames) within hexadecimal
@@ -288,7 +288,7 @@ module _ (begun : ℕ) (frames : List Frame) (within : Within)
       (λ r. Answer s c r) (λ is. number_ends hexadecimal value c (eqb-true c 59 is) sound)
       (λ _. malformed s c))
 
-  reference_lives : Sound (standing (AtReference within) begun frames)
+  pub reference_lives : Sound (standing (AtReference within) begun frames)
       → Live (standing (AtReference within) begun frames)
   reference_lives sound =
       live_behind begun frames within behind (AtReference within) (or_zero (entity (codes "lt")))
@@ -302,7 +302,7 @@ module _ (begun : ℕ) (frames : List Frame) (within : Within)
         means = refl;
       })
 
-  entity_lives : (name : List ℕ) → Sound (standing (AtEntity within name) begun frames)
+  pub entity_lives : (name : List ℕ) → Sound (standing (AtEntity within name) begun frames)
       → Live (standing (AtEntity within name) begun frames)
   entity_lives name sound =
       let more = completes name sound.place.2 in
@@ -337,7 +337,7 @@ module _ (begun : ℕ) (frames : List Frame) (within : Within)
         means = number_push hexadecimal d.digits 0 57 d.number;
       })
 
-  number_lives : (hexadecimal : Bool) (value : ℕ)
+  pub number_lives : (hexadecimal : Bool) (value : ℕ)
       → Sound (standing (AtNumber within hexadecimal value) begun frames)
       → Live (standing (AtNumber within hexadecimal value) begun frames)
   number_lives hexadecimal value sound =
@@ -366,83 +366,17 @@ module _ (begun : ℕ) (frames : List Frame) (within : Within)
       digit_good : (h : Bool) (c : ℕ) → is_digit h c ≡ true → Good c
       digit_good h c is = let plain = digit_plain h c is in good_low c plain.0 plain.1
 
--- the same wherever something might come before
-module _ (ahead : Ahead) (begun : ℕ) (frames : List Frame) (within : Within)
-    (behind : (d : ℕ) → Live (standing (place_behind within d) begun frames)) where
-  pub reference_answers : (c : ℕ) → Sound (at ahead (AtReference within) begun frames) → Good c
-      → Answer (at ahead (AtReference within) begun frames) c
-      (reference_step (at ahead (AtReference within) begun frames) within c)
-  reference_answers c sound good =
-      only_standing (λ s. Answer s c (reference_step s within c)) ahead (AtReference within) begun
-      frames refl sound (reference_step_answers begun frames within behind c)
+  pub hash_lives : Sound (standing (AtHash within) begun frames)
+      → Live (standing (AtHash within) begun frames)
+  hash_lives sound =
+      nine (AtHash within) false refl sound.place
+      (λ n raw w. record { digits = []; are = tt; number = refl; wrote = w })
 
-  pub entity_answers : (name : List ℕ) (c : ℕ) → Sound
-      (at ahead (AtEntity within name) begun frames)
-      → Good c
-      → Answer (at ahead (AtEntity within name) begun frames) c
-      (entity_step (at ahead (AtEntity within name) begun frames) within name c)
-  entity_answers name c sound good =
-      only_standing (λ s. Answer s c (entity_step s within name c)) ahead
-      (AtEntity within name) begun
-      frames refl sound (entity_step_answers begun frames within behind name c)
-
-  pub hash_answers : (c : ℕ) → Sound (at ahead (AtHash within) begun frames) → Good c
-      → Answer (at ahead (AtHash within) begun frames) c
-      (hash_step (at ahead (AtHash within) begun frames) within c)
-  hash_answers c sound good =
-      only_standing (λ s. Answer s c (hash_step s within c)) ahead (AtHash within) begun frames refl
-      sound (hash_step_answers begun frames within behind c)
-
-  pub hexadecimal_answers : (c : ℕ) → Sound (at ahead (AtHexadecimal within) begun frames) → Good c
-      → Answer (at ahead (AtHexadecimal within) begun frames) c
-      (hexadecimal_step (at ahead (AtHexadecimal within) begun frames) within c)
-  hexadecimal_answers c sound good =
-      only_standing (λ s. Answer s c (hexadecimal_step s within c)) ahead
-      (AtHexadecimal within) begun
-      frames refl sound (hexadecimal_step_answers begun frames within behind c)
-
-  pub number_answers : (hexadecimal : Bool) (value c : ℕ)
-      → Sound (at ahead (AtNumber within hexadecimal value) begun frames) → Good c
-      → Answer (at ahead (AtNumber within hexadecimal value) begun frames) c
-      (number_step (at ahead (AtNumber within hexadecimal value) begun frames) within hexadecimal
-      value c)
-  number_answers hexadecimal value c sound good =
-      only_standing (λ s. Answer s c (number_step s within hexadecimal value c)) ahead
-      (AtNumber within hexadecimal value) begun frames refl sound
-      (number_step_answers begun frames within behind hexadecimal value c)
-
-  pub reference_live : Sound (at ahead (AtReference within) begun frames)
-      → Live (at ahead (AtReference within) begun frames)
-  reference_live sound =
-      only_standing Live ahead (AtReference within) begun frames refl sound
-      (reference_lives begun frames within behind)
-
-  pub entity_live : (name : List ℕ) → Sound (at ahead (AtEntity within name) begun frames)
-      → Live (at ahead (AtEntity within name) begun frames)
-  entity_live name sound =
-      only_standing Live ahead (AtEntity within name) begun frames refl sound
-      (entity_lives begun frames within behind name)
-
-  pub hash_live : Sound (at ahead (AtHash within) begun frames)
-      → Live (at ahead (AtHash within) begun frames)
-  hash_live sound =
-      only_standing Live ahead (AtHash within) begun frames refl sound
-      (λ s. nine begun frames within behind (AtHash within) false refl s.place
-      (λ n raw w. record { digits = []; are = tt; number = refl; wrote = w }))
-
-  pub hexadecimal_live : Sound (at ahead (AtHexadecimal within) begun frames)
-      → Live (at ahead (AtHexadecimal within) begun frames)
-  hexadecimal_live sound =
-      only_standing Live ahead (AtHexadecimal within) begun frames refl sound
-      (λ s. nine begun frames within behind (AtHexadecimal within) true refl s.place
-      (λ n raw w. record { digits = []; are = tt; number = refl; wrote = w }))
-
-  pub number_live : (hexadecimal : Bool) (value : ℕ)
-      → Sound (at ahead (AtNumber within hexadecimal value) begun frames)
-      → Live (at ahead (AtNumber within hexadecimal value) begun frames)
-  number_live hexadecimal value sound =
-      only_standing Live ahead (AtNumber within hexadecimal value) begun frames refl sound
-      (number_lives begun frames within behind hexadecimal value)
+  pub hexadecimal_lives : Sound (standing (AtHexadecimal within) begun frames)
+      → Live (standing (AtHexadecimal within) begun frames)
+  hexadecimal_lives sound =
+      nine (AtHexadecimal within) true refl sound.place
+      (λ n raw w. record { digits = []; are = tt; number = refl; wrote = w })
 
 -- behind a reference in a content
 pub behind_in_content : (begun : ℕ) (frames : List Frame) → SoundFrames frames

@@ -37,7 +37,7 @@ pub record Ends (n : ℕ) (within : Within) (raw more : List ℕ) (d : ℕ) : Ty
   pub wrote : WroteReference n within inside raw
   pub means : referred reference ≡ d
 
-behind_within : (begun : ℕ) (frames : List Frame) (within : Within) (d : ℕ)
+pub behind_within : (begun : ℕ) (frames : List Frame) (within : Within) (d : ℕ)
     → SoundWithin within begun frames → SoundAt (place_behind within d) begun frames
 behind_within begun [] InContent d sound = absurd sound
 behind_within begun (frame ∷ frames) InContent d sound = omega arith

@@ -11,7 +11,7 @@ use Rattle.dfdl_markup.specs.Grammar.{Named, Numbered, base_mark}
 use Rattle.dfdl_markup.specs.Values.{is_digit, digit_value, base_of, number_on, entity, or_zero}
 use Rattle.dfdl_markup.specs.Rules.{IsPart}
 use Rattle.dfdl_markup.specs.Machine.{Within, InContent, Place, AtReference, AtEntity, AtHash}
-use Rattle.dfdl_markup.specs.Machine.{AtHexadecimal, AtNumber, Ahead, NothingAhead, Frame}
+use Rattle.dfdl_markup.specs.Machine.{AtHexadecimal, AtNumber, NothingAhead, Frame}
 use Rattle.dfdl_markup.specs.Machine.{referred_to, wanted, begins_entity, entity_next}
 use Rattle.dfdl_markup.specs.Machine.{reference_step, entity_ended, entity_step, number_next}
 use Rattle.dfdl_markup.specs.Machine.{hash_step, hexadecimal_step, number_step}
@@ -21,10 +21,10 @@ use Rattle.dfdl_markup.proofs.Answers.{Good, Live, Answer}
 use Rattle.dfdl_markup.proofs.ReferenceNumbers.{number_on-append, grows, digit_plain, nine_digits}
 use Rattle.dfdl_markup.proofs.Closing.{good_low, close_all}
 use Rattle.dfdl_markup.proofs.NamesRead.{part_on}
-use Rattle.dfdl_markup.proofs.Moves.{at, malformed, reads_on}
+use Rattle.dfdl_markup.proofs.Moves.{malformed, reads_on}
 use Rattle.dfdl_markup.proofs.ReferenceEntities.{plain_text, completes, less_than}
 use Rattle.dfdl_markup.proofs.ReferenceForms.{standing, place_behind, reference_more}
-use Rattle.dfdl_markup.proofs.ReferenceSteps.{only_standing, leads_behind, live_behind, told_last}
+use Rattle.dfdl_markup.proofs.ReferenceSteps.{leads_behind, live_behind, told_last}
 use Rattle.dfdl_markup.proofs.ReferenceSteps.{told_behind}
 
 all_push : (f : ℕ → Bool) (text : List ℕ) (c : ℕ) → Each (λ d. f d ≡ true) text → f c ≡ true

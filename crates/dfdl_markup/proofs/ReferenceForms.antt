@@ -3,8 +3,7 @@ use Rattle.std.proofs.Common.{◌≡◌, ℕ, ◌<◌, false, List, [], ◌∷�
 use Rattle.std.proofs.Common.{Some, None, refl, sym, ap, subst, ◌∙◌, append_assoc, append-nil}
 use Rattle.std.proofs.Common.{zero-lt-suc}
 use Rattle.dfdl_markup.specs.Grammar.{Reference, Item, Referred}
-use Rattle.dfdl_markup.specs.Grammar.{reference_inside, reference_characters, given_start}
-use Rattle.dfdl_markup.specs.Grammar.{tag_characters}
+use Rattle.dfdl_markup.specs.Grammar.{reference_inside, reference_characters}
 use Rattle.dfdl_markup.specs.Values.{referred}
 use Rattle.dfdl_markup.specs.Rules.{ReferenceKeeps}
 use Rattle.dfdl_markup.specs.Machine.{Within, InContent, InValue, OpenValue, Place, AtContent}

@@ -1,0 +1,4 @@
+mod Texts
+mod Kept
+mod Opened
+mod Lists

@@ -1,0 +1,4 @@
+pub mod Shown
+pub mod Kept
+pub mod Opened
+pub mod Scoped

@@ -1,0 +1,17 @@
+//! Names, start tags and scopes of XML documents, as a reader keeps them.
+//!
+//! What they mean is told by the specs of dfdl_markup, over characters: 'Namespaces in XML 1.0'
+//! (third edition). `specs/Shown.antt` says which characters a text has.
+#![tactic(auto)]
+
+mod attributes;
+mod bindings;
+mod element;
+mod frames;
+mod name;
+mod scope;
+mod tag;
+
+pub use frames::Frames;
+pub use name::{Attribute, Name};
+pub use tag::StartTag;

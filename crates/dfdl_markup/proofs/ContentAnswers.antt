@@ -114,10 +114,10 @@ end_answers ahead begun (frame ∷ frames) c sound is =
     (λ n raw wrote. ap (λ l. l ++ c ∷ []) wrote ∙ ap (λ d. 60 ∷ d ∷ []) is)
 
 pub opened_answers : (ahead : Ahead) (begun : ℕ) (frames : List Frame) (c : ℕ)
-    → Sound (at ahead AtOpened begun frames) → Good c
+    → Sound (at ahead AtOpened begun frames)
     → Answer (at ahead AtOpened begun frames) c (opened_step (at ahead AtOpened begun frames) c)
 unfolding opened_step
-opened_answers ahead begun frames c sound good =
+opened_answers ahead begun frames c sound =
     answer_if (at ahead AtOpened begun frames) c (is_name_start c) _ _
     (λ start. begin_answers ahead begun frames c sound start)
     (λ no_name. answer_if (at ahead AtOpened begun frames) c (c == 47) _ _
@@ -350,13 +350,13 @@ inner_answers ahead before begun frame frames c sound =
     }
 
 pub content_answers : (ahead : Ahead) (before begun : ℕ) (frames : List Frame) (c : ℕ)
-    → Sound (at ahead (AtContent before) begun frames) → Good c
+    → Sound (at ahead (AtContent before) begun frames)
     → Answer (at ahead (AtContent before) begun frames) c
     (content_step (at ahead (AtContent before) begun frames) before c)
 unfolding content_step
-content_answers ahead zero begun [] c sound good = top_answers ahead begun c sound
-content_answers ahead (suc before) begun [] c sound good = absurd (omega (arith, sound.place))
-content_answers ahead before begun (frame ∷ frames) c sound good =
+content_answers ahead zero begun [] c sound = top_answers ahead begun c sound
+content_answers ahead (suc before) begun [] c sound = absurd (omega (arith, sound.place))
+content_answers ahead before begun (frame ∷ frames) c sound =
     inner_answers ahead before begun frame frames c sound
 
 pub content_live : (ahead : Ahead) (before begun : ℕ) (frames : List Frame)

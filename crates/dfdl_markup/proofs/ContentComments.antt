@@ -36,10 +36,10 @@ section_long = omega arith
 -- behind `<!`
 
 pub bang_answers : (ahead : Ahead) (begun : ℕ) (frames : List Frame) (c : ℕ)
-    → Sound (at ahead AtBang begun frames) → Good c
+    → Sound (at ahead AtBang begun frames)
     → Answer (at ahead AtBang begun frames) c (bang_step (at ahead AtBang begun frames) c)
 unfolding bang_step
-bang_answers ahead begun frames c sound good =
+bang_answers ahead begun frames c sound =
     answer_if (at ahead AtBang begun frames) c (c == 45) _ _
     (λ is. reads_on ahead AtBang AtDash begun frames c sound refl refl tt
     (λ n raw wrote. ap (λ l. l ++ c ∷ []) wrote ∙ ap (λ d. 60 ∷ 33 ∷ d ∷ []) (eqb-true c 45 is)))
@@ -56,10 +56,10 @@ bang_answers ahead begun frames c sound good =
         (λ n raw wrote. ([], refl, ap (λ l. l ++ c ∷ []) wrote ∙ ap (λ d. 60 ∷ 33 ∷ d ∷ []) is))
 
 pub dash_answers : (ahead : Ahead) (begun : ℕ) (frames : List Frame) (c : ℕ)
-    → Sound (at ahead AtDash begun frames) → Good c
+    → Sound (at ahead AtDash begun frames)
     → Answer (at ahead AtDash begun frames) c (dash_step (at ahead AtDash begun frames) c)
 unfolding dash_step
-dash_answers ahead begun frames c sound good =
+dash_answers ahead begun frames c sound =
     answer_if (at ahead AtDash begun frames) c (c == 45) _ _
     (λ is. reads_on ahead AtDash (AtComment 0) begun frames c sound refl refl (omega arith)
     (λ n raw wrote. (
@@ -90,11 +90,11 @@ comment_ends n begun frames raw rest dashes ending is wrote close =
         (sym (append_assoc (dashes_of dashes) ending rest) ∙ ap (λ l. l ++ rest) is))
 
 pub comment_answers : (ahead : Ahead) (dashes begun : ℕ) (frames : List Frame) (c : ℕ)
-    → Sound (at ahead (AtComment dashes) begun frames) → Good c
+    → Sound (at ahead (AtComment dashes) begun frames)
     → Answer (at ahead (AtComment dashes) begun frames) c
     (comment_step (at ahead (AtComment dashes) begun frames) dashes c)
 unfolding comment_step
-comment_answers ahead dashes begun frames c sound good =
+comment_answers ahead dashes begun frames c sound =
     answer_if (at ahead (AtComment dashes) begun frames) c (dashes == 2) _ _
     (λ two. answer_if (at ahead (AtComment dashes) begun frames) c (c == 62) _ _
     (λ is. reads_piece ahead (AtComment dashes) begun frames c sound

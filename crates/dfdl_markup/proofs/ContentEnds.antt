@@ -155,12 +155,12 @@ next_answers ahead place begun frame frames front next left c sound before readi
         (λ not. (omega arith, omega arith, λ less. told))
 
 pub end_tag_answers : (ahead : Ahead) (begun : ℕ) (frames : List Frame) (c : ℕ)
-    → Sound (at ahead AtEndTag begun frames) → Good c
+    → Sound (at ahead AtEndTag begun frames)
     → Answer (at ahead AtEndTag begun frames) c
     (end_tag_step (at ahead AtEndTag begun frames) c)
 unfolding end_tag_step
-end_tag_answers ahead begun [] c sound good = absurd sound.place
-end_tag_answers ahead begun (frame ∷ frames) c sound good =
+end_tag_answers ahead begun [] c sound = absurd sound.place
+end_tag_answers ahead begun (frame ∷ frames) c sound =
     answer_if (at ahead AtEndTag begun (frame ∷ frames)) c (is_name_start c) _ _
     (λ is. next_answers ahead AtEndTag begun frame frames [] (First (c ∷ []))
     (wanted (frame ∷ frames)) c sound refl (is, tt) refl refl (λ n raw wrote. wrote))
@@ -232,11 +232,11 @@ space_answers ahead place begun frame frames c sound before wrote =
     )
 
 pub end_space_answers : (ahead : Ahead) (begun : ℕ) (frames : List Frame) (c : ℕ)
-    → Sound (at ahead AtEndSpace begun frames) → Good c
+    → Sound (at ahead AtEndSpace begun frames)
     → Answer (at ahead AtEndSpace begun frames) c
     (end_space_step (at ahead AtEndSpace begun frames) c)
-end_space_answers ahead begun [] c sound good = absurd sound.place
-end_space_answers ahead begun (frame ∷ frames) c sound good =
+end_space_answers ahead begun [] c sound = absurd sound.place
+end_space_answers ahead begun (frame ∷ frames) c sound =
     space_answers ahead AtEndSpace begun frame frames c sound refl (λ n raw wrote. wrote)
 
 -- the name that was read ends
@@ -283,12 +283,12 @@ ended_answers ahead reading (w ∷ left) begun frame frames name c sound ends =
         end not either = eqb-true c 62 (sym (ap (λ b. b || c == 62) not) ∙ either)
 
 pub end_name_answers : (ahead : Ahead) (reading : Reading) (left : List ℕ) (begun : ℕ)
-    (frames : List Frame) (c : ℕ) → Sound (at ahead (AtEndName reading left) begun frames) → Good c
+    (frames : List Frame) (c : ℕ) → Sound (at ahead (AtEndName reading left) begun frames)
     → Answer (at ahead (AtEndName reading left) begun frames) c
     (end_name_step (at ahead (AtEndName reading left) begun frames) reading left c)
 unfolding end_name_step
-end_name_answers ahead reading left begun [] c sound good = absurd sound.place.0
-end_name_answers ahead reading left begun (frame ∷ frames) c sound good =
+end_name_answers ahead reading left begun [] c sound = absurd sound.place.0
+end_name_answers ahead reading left begun (frame ∷ frames) c sound =
     by_next (name_next reading c) (whole_name reading) refl refl
   where
     by_next : (next : Option Reading) (whole : Option Name) → name_next reading c ≡ next

@@ -97,11 +97,11 @@ instruction_ends n begun frames raw target text ending rest part other is all cl
 -- behind `<?`
 
 pub question_answers : (ahead : Ahead) (begun : ℕ) (frames : List Frame) (c : ℕ)
-    → Sound (at ahead AtQuestion begun frames) → Good c
+    → Sound (at ahead AtQuestion begun frames)
     → Answer (at ahead AtQuestion begun frames) c
     (question_step (at ahead AtQuestion begun frames) c)
 unfolding question_step
-question_answers ahead begun frames c sound good =
+question_answers ahead begun frames c sound =
     answer_if (at ahead AtQuestion begun frames) c (is_name_start c) _ _
     (λ is. reads_ahead ahead AtQuestion (AtTarget (c ∷ [])) begun frames c sound refl refl refl
     (is, tt)
@@ -166,11 +166,11 @@ ended_answers ahead target begun frames c sound white =
     )))
 
 pub target_answers : (ahead : Ahead) (target : List ℕ) (begun : ℕ) (frames : List Frame) (c : ℕ)
-    → Sound (at ahead (AtTarget target) begun frames) → Good c
+    → Sound (at ahead (AtTarget target) begun frames)
     → Answer (at ahead (AtTarget target) begun frames) c
     (target_step (at ahead (AtTarget target) begun frames) target c)
 unfolding target_step
-target_answers ahead target begun frames c sound good =
+target_answers ahead target begun frames c sound =
     answer_if (at ahead (AtTarget target) begun frames) c (is_name_char c) _ _
     (λ is. reads_ahead ahead (AtTarget target) (AtTarget (target ++ c ∷ [])) begun frames c sound
     refl refl refl
@@ -202,11 +202,11 @@ target_ends n begun frames raw rest c is wrote close =
     (append_assoc wrote.0 (63 ∷ []) (c ∷ []) ∙ ap (λ d. wrote.0 ++ 63 ∷ d ∷ []) is)) close
 
 pub target_end_answers : (ahead : Ahead) (begun : ℕ) (frames : List Frame) (c : ℕ)
-    → Sound (at ahead AtTargetEnd begun frames) → Good c
+    → Sound (at ahead AtTargetEnd begun frames)
     → Answer (at ahead AtTargetEnd begun frames) c
     (target_end_step (at ahead AtTargetEnd begun frames) c)
 unfolding target_end_step
-target_end_answers ahead begun frames c sound good =
+target_end_answers ahead begun frames c sound =
     answer_if (at ahead AtTargetEnd begun frames) c (c == 62) _ _
     (λ is. reads_piece ahead AtTargetEnd begun frames c sound
     (λ n raw rest wrote close. target_ends n begun frames raw rest c
@@ -233,11 +233,11 @@ text_ends n begun frames raw rest c is wrote close =
     (append_assoc ends.front (63 ∷ []) (c ∷ []) ∙ ap (λ d. ends.front ++ 63 ∷ d ∷ []) is)))) close
 
 pub instruction_answers : (ahead : Ahead) (mark : Bool) (begun : ℕ) (frames : List Frame) (c : ℕ)
-    → Sound (at ahead (AtInstruction mark) begun frames) → Good c
+    → Sound (at ahead (AtInstruction mark) begun frames)
     → Answer (at ahead (AtInstruction mark) begun frames) c
     (instruction_step (at ahead (AtInstruction mark) begun frames) mark c)
 unfolding instruction_step
-instruction_answers ahead mark begun frames c sound good =
+instruction_answers ahead mark begun frames c sound =
     answer_if (at ahead (AtInstruction mark) begun frames) c (mark && c == 62) _ _
     (λ is. let parts = and_parts mark (c == 62) is in
     reads_piece ahead (AtInstruction mark) begun frames c sound

@@ -151,23 +151,23 @@ word_answers ahead w (v ∷ left) begun frames c sound is =
     ))
 
 pub section_word_answers : (ahead : Ahead) (left : List ℕ) (begun : ℕ) (frames : List Frame) (c : ℕ)
-    → Sound (at ahead (AtSectionWord left) begun frames) → Good c
+    → Sound (at ahead (AtSectionWord left) begun frames)
     → Answer (at ahead (AtSectionWord left) begun frames) c
     (section_word_step (at ahead (AtSectionWord left) begun frames) left c)
 unfolding section_word_step
-section_word_answers ahead [] begun frames c sound good = malformed _ c
-section_word_answers ahead (w ∷ left) begun frames c sound good =
+section_word_answers ahead [] begun frames c sound = malformed _ c
+section_word_answers ahead (w ∷ left) begun frames c sound =
     answer_if (at ahead (AtSectionWord (w ∷ left)) begun frames) c (c == w) _ _
     (λ is. word_answers ahead w left begun frames c sound (eqb-true c w is)) (λ not. malformed _ c)
 
 -- in the text
 
 pub section_answers : (ahead : Ahead) (before begun : ℕ) (frames : List Frame) (c : ℕ)
-    → Sound (at ahead (AtSection before) begun frames) → Good c
+    → Sound (at ahead (AtSection before) begun frames)
     → Answer (at ahead (AtSection before) begun frames) c
     (section_step (at ahead (AtSection before) begun frames) before c)
 unfolding section_step
-section_answers ahead before begun frames c sound good =
+section_answers ahead before begun frames c sound =
     answer_if (at ahead (AtSection before) begun frames) c (before == 2 && c == 62) _ _
     (λ is. reads_piece ahead (AtSection before) begun frames c sound
     (λ n raw rest wrote close. ended n raw rest (and_parts (before == 2) (c == 62) is) wrote close))

@@ -84,11 +84,11 @@ module _ (ahead : Ahead) (begun : ℕ) (frames : List Frame) where
   spaced_answers last false c sound = malformed (at ahead (AtDeclaration last false) begun frames) c
 
   pub declaration_answers : (last : Option Said) (spaced : Bool) (c : ℕ)
-      → Sound (at ahead (AtDeclaration last spaced) begun frames) → Good c
+      → Sound (at ahead (AtDeclaration last spaced) begun frames)
       → Answer (at ahead (AtDeclaration last spaced) begun frames) c
       (declaration_step (at ahead (AtDeclaration last spaced) begun frames) last spaced c)
   unfolding declaration_step
-  declaration_answers last spaced c sound good =
+  declaration_answers last spaced c sound =
       let s = at ahead (AtDeclaration last spaced) begun frames in
       cond_both (is_white c) (Ok (at ahead (AtDeclaration last true) begun frames))
       (if c == 63 then declaration_ending last s
@@ -118,31 +118,31 @@ module _ (ahead : Ahead) (begun : ℕ) (frames : List Frame) where
       (λ _. malformed s c))
 
   pub said_word_answers : (said : Said) (left : List ℕ) (c : ℕ)
-      → Sound (at ahead (AtSaidWord said left) begun frames) → Good c
+      → Sound (at ahead (AtSaidWord said left) begun frames)
       → Answer (at ahead (AtSaidWord said left) begun frames) c
       (said_word_step (at ahead (AtSaidWord said left) begun frames) said left c)
   unfolding said_word_step
-  said_word_answers said [] c sound good =
+  said_word_answers said [] c sound =
       behind_word (AtSaidWord said []) said c sound refl refl
       (λ n raw w. ([], tt, word_said n said w.0 raw w.1 w.2))
-  said_word_answers said (w ∷ left) c sound good =
+  said_word_answers said (w ∷ left) c sound =
       let s = at ahead (AtSaidWord said (w ∷ left)) begun frames in
       cond_both (c == w) (Ok (at ahead (AtSaidWord said left) begun frames)) (Err 3)
       (λ r. Answer s c r)
       (λ is. leads_word ahead begun frames said w left c sound (eqb-true c w is))
       (λ _. malformed s c)
 
-  pub said_answers : (said : Said) (c : ℕ) → Sound (at ahead (AtSaid said) begun frames) → Good c
+  pub said_answers : (said : Said) (c : ℕ) → Sound (at ahead (AtSaid said) begun frames)
       → Answer (at ahead (AtSaid said) begun frames) c
       (said_step (at ahead (AtSaid said) begun frames) said c)
-  said_answers said c sound good = behind_word (AtSaid said) said c sound refl refl (λ n raw w. w)
+  said_answers said c sound = behind_word (AtSaid said) said c sound refl refl (λ n raw w. w)
 
   pub said_equals_answers : (said : Said) (c : ℕ)
-      → Sound (at ahead (AtSaidEquals said) begun frames) → Good c
+      → Sound (at ahead (AtSaidEquals said) begun frames)
       → Answer (at ahead (AtSaidEquals said) begun frames) c
       (said_equals_step (at ahead (AtSaidEquals said) begun frames) said c)
   unfolding said_equals_step
-  said_equals_answers said c sound good =
+  said_equals_answers said c sound =
       let s = at ahead (AtSaidEquals said) begun frames in
       cond_both (is_white c) (Ok s)
       (if is_quote c then Ok (at ahead (AtSaidValue said c []) begun frames) else Err 3)
@@ -151,11 +151,11 @@ module _ (ahead : Ahead) (begun : ℕ) (frames : List Frame) where
       (λ r. Answer s c r) (λ quote. leads_quote ahead begun frames said c sound quote)
       (λ _. malformed s c))
 
-  pub declaration_end_answers : (c : ℕ) → Sound (at ahead AtDeclarationEnd begun frames) → Good c
+  pub declaration_end_answers : (c : ℕ) → Sound (at ahead AtDeclarationEnd begun frames)
       → Answer (at ahead AtDeclarationEnd begun frames) c
       (declaration_end_step (at ahead AtDeclarationEnd begun frames) c)
   unfolding declaration_end_step
-  declaration_end_answers c sound good =
+  declaration_end_answers c sound =
       let s = at ahead AtDeclarationEnd begun frames in
       cond_both (c == 62) (Ok (at NothingAhead (AtContent 0) begun frames)) (Err 3)
       (λ r. Answer s c r)
@@ -272,11 +272,11 @@ module _ (ahead : Ahead) (begun : ℕ) (frames : List Frame) where
       (λ _. malformed s c)
 
   pub said_value_answers : (said : Said) (quote : ℕ) (read : List ℕ) (c : ℕ)
-      → Sound (at ahead (AtSaidValue said quote read) begun frames) → Good c
+      → Sound (at ahead (AtSaidValue said quote read) begun frames)
       → Answer (at ahead (AtSaidValue said quote read) begun frames) c
       (said_value_step (at ahead (AtSaidValue said quote read) begun frames) said quote read c)
   unfolding said_value_step
-  said_value_answers said quote read c sound good =
+  said_value_answers said quote read c sound =
       let s = at ahead (AtSaidValue said quote read) begun frames in
       let next = read ++ said_character said c ∷ [] in
       cond_both (c == quote)

@@ -54,3 +54,4 @@ pub mod ForesightTags
 pub mod ForesightEnds
 pub mod Foresight
 pub mod ReferencePlaces
+pub mod Assembled

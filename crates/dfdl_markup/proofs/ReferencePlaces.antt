@@ -28,48 +28,47 @@ behind begun frames (InValue v) sound roots inside d =
 
 -- the answers, and that the document can be ended, from any of the states there
 module _ (ahead : Ahead) (begun : ℕ) (frames : List Frame) (within : Within) where
-  pub reference_answers : (c : ℕ) → Sound (at ahead (AtReference within) begun frames) → Good c
+  pub reference_answers : (c : ℕ) → Sound (at ahead (AtReference within) begun frames)
       → Answer (at ahead (AtReference within) begun frames) c
       (reference_step (at ahead (AtReference within) begun frames) within c)
-  reference_answers c sound good =
+  reference_answers c sound =
       only_standing (λ s. Answer s c (reference_step s within c)) ahead (AtReference within) begun
       frames refl sound (λ s. reference_step_answers begun frames within
       (behind begun frames within s.frames s.roots s.place) c s)
 
   pub entity_answers : (name : List ℕ) (c : ℕ) → Sound
       (at ahead (AtEntity within name) begun frames)
-      → Good c
       → Answer (at ahead (AtEntity within name) begun frames) c
       (entity_step (at ahead (AtEntity within name) begun frames) within name c)
-  entity_answers name c sound good =
+  entity_answers name c sound =
       only_standing (λ s. Answer s c (entity_step s within name c)) ahead
       (AtEntity within name) begun
       frames refl sound (λ s. entity_step_answers begun frames within
       (behind begun frames within s.frames s.roots s.place.0) name c s)
 
-  pub hash_answers : (c : ℕ) → Sound (at ahead (AtHash within) begun frames) → Good c
+  pub hash_answers : (c : ℕ) → Sound (at ahead (AtHash within) begun frames)
       → Answer (at ahead (AtHash within) begun frames) c
       (hash_step (at ahead (AtHash within) begun frames) within c)
-  hash_answers c sound good =
+  hash_answers c sound =
       only_standing (λ s. Answer s c (hash_step s within c)) ahead (AtHash within) begun frames refl
       sound (λ s. hash_step_answers begun frames within
       (behind begun frames within s.frames s.roots s.place) c s)
 
-  pub hexadecimal_answers : (c : ℕ) → Sound (at ahead (AtHexadecimal within) begun frames) → Good c
+  pub hexadecimal_answers : (c : ℕ) → Sound (at ahead (AtHexadecimal within) begun frames)
       → Answer (at ahead (AtHexadecimal within) begun frames) c
       (hexadecimal_step (at ahead (AtHexadecimal within) begun frames) within c)
-  hexadecimal_answers c sound good =
+  hexadecimal_answers c sound =
       only_standing (λ s. Answer s c (hexadecimal_step s within c)) ahead
       (AtHexadecimal within) begun
       frames refl sound (λ s. hexadecimal_step_answers begun frames within
       (behind begun frames within s.frames s.roots s.place) c s)
 
   pub number_answers : (hexadecimal : Bool) (value c : ℕ)
-      → Sound (at ahead (AtNumber within hexadecimal value) begun frames) → Good c
+      → Sound (at ahead (AtNumber within hexadecimal value) begun frames)
       → Answer (at ahead (AtNumber within hexadecimal value) begun frames) c
       (number_step (at ahead (AtNumber within hexadecimal value) begun frames) within hexadecimal
       value c)
-  number_answers hexadecimal value c sound good =
+  number_answers hexadecimal value c sound =
       only_standing (λ s. Answer s c (number_step s within hexadecimal value c)) ahead
       (AtNumber within hexadecimal value) begun frames refl sound
       (λ s. number_step_answers begun frames within

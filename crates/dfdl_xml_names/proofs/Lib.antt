@@ -1,4 +1,4 @@
-mod Texts
+pub mod Texts
 mod Kept
 mod Opened
 mod Lists

@@ -13,5 +13,5 @@ mod scope;
 mod tag;
 
 pub use frames::Frames;
-pub use name::{Attribute, Name};
+pub use name::{Attribute, Name, fixed_namespace};
 pub use tag::StartTag;

@@ -24,10 +24,3 @@ pub use dfdl_forms::NoFit;
 pub use fault::NumberFault;
 pub use reading::read;
 pub use write_value::write;
-
-#[cfg(test)]
-mod read_tests;
-#[cfg(test)]
-mod test_forms;
-#[cfg(test)]
-mod write_tests;

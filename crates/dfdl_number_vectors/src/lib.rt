@@ -1,5 +1,5 @@
-//! Random numbers of another program, and slow bodies that go digit by digit: the calls of dfdl_packed and
-//! dfdl_number_text say the same of them.
+//! Tests of dfdl_packed and dfdl_number_text over numbers of other programs: tables of texts, and random numbers of which
+//! slow bodies, digit by digit, say the same as the calls.
 //!
 //! There are tests alone here, and no crate stands on this one. They serve 'Simple Types' and 'The DFDL Number Pattern'.
 #![tactic(auto)]
@@ -7,8 +7,14 @@
 #[cfg(test)]
 mod packed_tests;
 #[cfg(test)]
+mod read_tests;
+#[cfg(test)]
 mod slow_digits;
 #[cfg(test)]
+mod test_forms;
+#[cfg(test)]
 mod text_tests;
+#[cfg(test)]
+mod write_tests;
 #[cfg(test)]
 mod zoned_tests;

@@ -1,12 +1,14 @@
 // Random text numbers: a slow writing and reading, digit by digit, says the same as the calls of dfdl_number_text.
 // The numbers are of Python's `random.Random(20261127)`, the texts and what they are of its decimal module: `quantize` by
 // the mode, and `format` with the separators added.
+use crate::read_tests::{named, said};
 use crate::slow_digits::{digit, digit_char};
+use crate::test_forms::patterned;
+use crate::write_tests::{decimal, text_of};
 use Rounding::{Ceiling, Down, Floor, HalfDown, HalfEven, HalfUp, Up};
-use dfdl_decimal::{Fixed, shortest};
+use dfdl_decimal::shortest;
 use dfdl_forms::{NumberForm, Rounding, Simple};
-use dfdl_number_pattern::read_pattern;
-use dfdl_number_text::{MOST_BYTES, NumberFault, read, read_bytes, write};
+use dfdl_number_text::{MOST_BYTES, read_bytes};
 use dfdl_value::{TextValue, Value};
 use std::alloc::{AllocError, AllocGlobal, Global};
 use std::process::Abort;
@@ -304,60 +306,27 @@ fn slow_texts_are_those_of_the_vectors(rt: HostRuntime) -> Result<(), Fail> {
 
 // ---- the calls
 
-fn form_of(alloc: Global, shape: Shape, mode: Rounding) -> Result<NumberForm, Fail> {
-    let pattern = read_pattern(alloc, shape.0)?;
-    Ok(NumberForm::new(10, Some(pattern), '.', ',', mode).ok_or("no form")?)
-}
-
-// What a number is written as, and nothing where it isn't.
-fn text_of(alloc: Global, form: &NumberForm, number: Fixed) -> Result<String, AllocError> {
-    let mut room = vec![in alloc; '~'; 256]?;
-    let mut text = String::new(alloc);
-    if form.room() > room.len() {
-        return Ok(text);
-    }
-    if let Ok(count) = write(form, &Value::Dec(number), &mut room) {
-        for c in &room[..count] {
-            text.push(*c)?;
-        }
-    }
-    Ok(text)
-}
-
-// The text of what is read, or the fault's name.
-fn said(alloc: Global, read: Result<Value, NumberFault>) -> Result<TextValue, Fail> {
-    match read {
-        Ok(value) => Ok(value.text(alloc)?),
-        Err(fault) => Ok(TextValue::from_string(format!(in alloc; "{fault}")?)),
-    }
-}
-
-fn of_chars(alloc: Global, form: &NumberForm, text: &str) -> Result<TextValue, Fail> {
-    let chars: Vec<char> = text.chars().collect(alloc)?;
-    said(alloc, read(form, Simple::Decimal, &chars))
-}
-
 fn of_bytes(alloc: Global, form: &NumberForm, text: &str) -> Result<TextValue, Fail> {
     let bytes = text.as_bytes();
     if bytes.len() > MOST_BYTES {
         return Ok(TextValue::from_string(String::new(alloc)));
     }
-    said(alloc, read_bytes(form, Simple::Decimal, bytes))
+    named(alloc, read_bytes(form, Simple::Decimal, bytes))
 }
 
 fn calls_are<R: Abort + AllocGlobal>(rt: &R, number: Number, text: &str) -> Result<(), Fail> {
     let (shape, mode, digits, scale) = number;
-    let form = form_of(rt.alloc(), shape, mode)?;
+    let form = patterned(rt.alloc(), shape.0, mode)?;
     let negative = digits < 0;
     let size = slow_size(mode, negative, digits.unsigned_abs(), scale, shape.3);
     let slow = slow_text(rt.alloc(), shape, negative, size)?;
-    let fixed = shortest(negative, digits.unsigned_abs(), scale).ok_or("no number")?;
-    let written = text_of(rt.alloc(), &form, fixed)?;
+    let written = text_of(rt.alloc(), &form, &decimal(digits, scale))?;
     assert_eq!(rt; written.as_str(), slow.as_str());
     let (below, same, places) = slow_number(text.as_bytes());
     let value = Value::Dec(shortest(below, same, places).ok_or("no number")?);
     let plain = value.text(rt.alloc())?;
-    assert_eq!(rt; of_chars(rt.alloc(), &form, text)?.as_str(), plain.as_str());
+    let read = said(rt.alloc(), &form, Simple::Decimal, text)?;
+    assert_eq!(rt; read.as_str(), plain.as_str());
     assert_eq!(rt; of_bytes(rt.alloc(), &form, text)?.as_str(), plain.as_str());
     Ok(())
 }

@@ -1,8 +1,8 @@
 // Texts of the standard's number patterns, and the roundings that Java's documents list.
 use crate::test_forms::{based, patterned};
-use crate::write;
 use dfdl_decimal::shortest;
 use dfdl_forms::{NumberForm, Rounding};
+use dfdl_number_text::write;
 use dfdl_value::Value;
 use std::alloc::{AllocError, Global};
 use std::test::Fail;
@@ -76,7 +76,7 @@ const BASES: [(u8, u128, &str); 8] = [
     (2, 0, "0"),
 ];
 
-fn decimal(digits: i128, scale: u32) -> Value {
+pub(crate) fn decimal(digits: i128, scale: u32) -> Value {
     match shortest(digits < 0, digits.unsigned_abs(), scale) {
         Some(number) => Value::Dec(number),
         None => Value::Truth(false),
@@ -105,7 +105,7 @@ fn put(
     }
 }
 
-fn text_of(
+pub(crate) fn text_of(
     alloc: Global,
     form: &NumberForm,
     value: &Value,

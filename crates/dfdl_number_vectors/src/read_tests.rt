@@ -1,23 +1,28 @@
 // What texts are read as: the values follow from the standard's rules.
-use crate::read;
 use crate::test_forms::{based, patterned};
 use dfdl_forms::{NumberForm, Rounding};
-use dfdl_value::{Simple, TextValue};
+use dfdl_number_text::{NumberFault, read};
+use dfdl_value::{Simple, TextValue, Value};
 use std::alloc::Global;
 use std::test::Fail;
 
-/// The text of the value that a text is read as, or the fault's name.
-fn said(
+/// The text of the value that is read, or the fault's name.
+pub(crate) fn named(alloc: Global, read: Result<Value, NumberFault>) -> Result<TextValue, Fail> {
+    match read {
+        Ok(value) => Ok(value.text(alloc)?),
+        Err(fault) => Ok(TextValue::from_string(format!(in alloc; "{fault}")?)),
+    }
+}
+
+/// The same of a text.
+pub(crate) fn said(
     alloc: Global,
     form: &NumberForm,
     kind: Simple,
     text: &str,
 ) -> Result<TextValue, Fail> {
     let chars: Vec<char> = text.chars().collect(alloc)?;
-    match read(form, kind, &chars) {
-        Ok(value) => Ok(value.text(alloc)?),
-        Err(fault) => Ok(TextValue::from_string(format!(in alloc; "{fault}")?)),
-    }
+    named(alloc, read(form, kind, &chars))
 }
 
 const NONE: &str = "not a number of the pattern";

@@ -177,3 +177,8 @@ pub built_runs : (characters : List ℕ) (r : Reader) → run build_step build_s
     → run step start characters ≡ Ok r.state
 built_runs characters r is =
     subst (λ a. IsBuiltOf a (run step start characters)) is (built_answers characters)
+
+pub built_tells : (characters : List ℕ) (rule : ℕ)
+    → run build_step build_start characters ≡ Err rule → run step start characters ≡ Err rule
+built_tells characters rule is =
+    subst (λ a. IsBuiltOf a (run step start characters)) is (built_answers characters)

@@ -72,3 +72,4 @@ pub mod BuiltInner
 pub mod BuiltSayings
 pub mod BuiltDeclarations
 pub mod BuiltDocuments
+pub mod Fewer

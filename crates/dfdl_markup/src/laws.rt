@@ -8,7 +8,7 @@ ghost use Rattle.dfdl_layers.specs.Bytes.{Inside};
 ghost use Rattle.dfdl_layers.specs.Tellers.{run};
 ghost use Rattle.dfdl_markup.specs.Building.{Reader, build_start, build_step};
 ghost use Rattle.dfdl_markup.specs.Building.{read_accepts, read_start, read_step};
-ghost use Rattle.dfdl_markup.specs.Documents.{IsTreeOf, KeepsRules};
+ghost use Rattle.dfdl_markup.specs.Documents.{IsRefusedBy, IsTreeOf, KeepsRules};
 ghost use Rattle.dfdl_markup.specs.Grammar.{Document};
 ghost use Rattle.dfdl_markup.specs.Machine.{start, step};
 ghost use Rattle.dfdl_markup.specs.Rules.{IsDocument};
@@ -45,4 +45,12 @@ pub fn built_runs()
     ensures tells { (characters : List ℕ) (rule : ℕ)
         → run build_step build_start characters ≡ Err rule
         → run step start characters ≡ Err rule }
+{}
+
+/// A refusal has one place and one cause, and what is refused has no tree.
+pub fn refusals_are_one()
+    ensures one { (bytes : List ℕ) (a b n m : ℕ) → IsRefusedBy bytes a n → IsRefusedBy bytes b m
+        → (a ≡ b) × (n ≡ m) }
+    ensures no_tree { (bytes : List ℕ) (at n : ℕ) (nodes : List Node) → IsRefusedBy bytes at n
+        → IsTreeOf bytes nodes → ⊥ }
 {}

@@ -192,7 +192,11 @@ reached_run (b ∷ rest) bytes i j reached is =
 
 reached_start : Reached [] read_start
 reached_start = record {
-  characters = []; are_scalar = tt; allowed = tt; runs = refl; split = refl;
+  characters = [];
+  are_scalar = tt;
+  allowed = tt;
+  runs = refl;
+  split = refl;
 }
 
 -- nothing is open where the bytes may end
@@ -203,10 +207,10 @@ whole_end accepted (b ∷ read) is = absurd cc
 
 module _ (reads : ReadsCharacters step start accepts 13 Sound Rest beyond)
     (built_runs : (characters : List ℕ) (r : Reader) → run build_step build_start characters ≡ Ok r
-        → run step start characters ≡ Ok r.state)
+    → run step start characters ≡ Ok r.state)
     (tree_is_built : (document : Document) (characters : List ℕ) → IsDocument 13 document characters
-        → (r : Reader) → run build_step build_start characters ≡ Ok r
-        → r.built.nodes ≡ document_nodes document) where
+    → (r : Reader) → run build_step build_start characters ≡ Ok r
+    → r.built.nodes ≡ document_nodes document) where
   -- the reader stops at a byte
   pub stopped : (bytes : List ℕ) (at : ℕ) (i : Inside Reader) (rule : ℕ) → at < length bytes
       → run read_step read_start (take at bytes) ≡ Ok i → read_step i (get_or bytes at 0) ≡ Err rule
@@ -233,11 +237,10 @@ module _ (reads : ReadsCharacters step start accepts 13 Sound Rest beyond)
       let ended = whole_end (accepts i.state.state) i.read takes in
       let same : flat_map encode_utf8 reached.characters ≡ bytes =
       sym (reached.split ∙ ap (λ l. flat_map encode_utf8 reached.characters ++ l) ended.0
-      ∙ append-nil (flat_map encode_utf8 reached.characters)) in
-      (
-      subst (λ l. IsTreeOf l i.state.built.nodes) same
-      (tree_read reads built_runs tree_is_built reached.characters reached.are_scalar reached.allowed
-      i.state reached.runs ended.1),
-      λ nodes tree. only_tree reads built_runs tree_is_built reached.characters reached.are_scalar
-      i.state reached.runs nodes (subst (λ l. IsTreeOf l nodes) (sym same) tree),
+      ∙ append-nil (flat_map encode_utf8 reached.characters)) in (
+        subst (λ l. IsTreeOf l i.state.built.nodes) same
+            (tree_read reads built_runs tree_is_built reached.characters reached.are_scalar reached.allowed
+            i.state reached.runs ended.1),
+        λ nodes tree. only_tree reads built_runs tree_is_built reached.characters reached.are_scalar
+            i.state reached.runs nodes (subst (λ l. IsTreeOf l nodes) (sym same) tree),
       )

@@ -62,22 +62,31 @@ module _ (n m : ℕ) (less : n ≤ m) where
   content_fewer depth scope before Nothing keeps = tt
   content_fewer depth scope before (Character c next) keeps =
       (keeps.0, keeps.1, λ past. keeps.2 (omega (arith, less, past)), content_fewer depth scope _ next keeps.3)
-  content_fewer depth scope before (Referring reference next) keeps =
-      (reference_fewer reference keeps.0, λ past. keeps.1 (omega (arith, less, past)),
-      content_fewer depth scope 0 next keeps.2)
+  content_fewer depth scope before (Referring reference next) keeps = (
+    reference_fewer reference keeps.0,
+    λ past. keeps.1 (omega (arith, less, past)),
+    content_fewer depth scope 0 next keeps.2,
+  )
   content_fewer depth scope before (Comment text next) keeps =
       (keeps.0, content_fewer depth scope 0 next keeps.1)
   content_fewer depth scope before (Instruction target text next) keeps =
       (keeps.0, keeps.1, content_fewer depth scope 0 next keeps.2)
   content_fewer depth scope before (Section text next) keeps =
       (keeps.0, keeps.1, content_fewer depth scope 0 next keeps.2)
-  content_fewer depth scope before (Single tag next) keeps =
-      (tag_fewer scope tag keeps.0, λ past. keeps.1 (omega (arith, less, past)),
-      content_fewer depth scope 0 next keeps.2)
-  content_fewer depth scope before (Nested tag inner end space next) keeps =
-      (tag_fewer scope tag keeps.0, λ past. keeps.1 (omega (arith, less, past)),
-      content_fewer (suc depth) _ 0 inner keeps.2, keeps.3, keeps.4,
-      λ past. keeps.5 (omega (arith, less, past)), content_fewer depth scope 0 next keeps.6)
+  content_fewer depth scope before (Single tag next) keeps = (
+    tag_fewer scope tag keeps.0,
+    λ past. keeps.1 (omega (arith, less, past)),
+    content_fewer depth scope 0 next keeps.2,
+  )
+  content_fewer depth scope before (Nested tag inner end space next) keeps = (
+    tag_fewer scope tag keeps.0,
+    λ past. keeps.1 (omega (arith, less, past)),
+    content_fewer (suc depth) _ 0 inner keeps.2,
+    keeps.3,
+    keeps.4,
+    λ past. keeps.5 (omega (arith, less, past)),
+    content_fewer depth scope 0 next keeps.6,
+  )
 
   encoding_fewer : (encoding : Option Saying) → SaysEncoding m encoding → SaysEncoding n encoding
   encoding_fewer None keeps = tt
@@ -125,9 +134,11 @@ one_refusal bytes a b n m first second =
     let moved : IsRefused KeepsRules 13 bytes b first.rule =
     subst (λ at. IsRefused KeepsRules 13 bytes at first.rule) same first.refused in
     let rules : first.rule ≡ second.rule =
-    one_cause KeepsRules 13 fewer bytes b first.rule second.rule moved second.refused in
-    (same, first.told ∙ ap (λ at. cause_number bytes at first.rule) same
-    ∙ ap (λ rule. cause_number bytes b rule) rules ∙ sym second.told)
+    one_cause KeepsRules 13 fewer bytes b first.rule second.rule moved second.refused in (
+      same,
+      first.told ∙ ap (λ at. cause_number bytes at first.rule) same
+          ∙ ap (λ rule. cause_number bytes b rule) rules ∙ sym second.told,
+    )
 
 -- where there is a tree
 pub no_tree : (bytes : List ℕ) (at n : ℕ) (nodes : List Node) → IsRefusedBy bytes at n

@@ -23,16 +23,15 @@ pub document_of : (n : ℕ) (characters : List ℕ) → Marked n 0 0 [] characte
     → (document : Document) × IsDocument n document characters
 document_of n characters marked =
     let declared = marked.declared in
-    let content = declared.close in
-    (
-    record { mark = marked.mark; declaration = declared.declaration; content = content.content },
-    record {
-      spelled = marked.is ∙ ap (λ rest. mark_characters marked.mark ++ rest)
-          (declared.is ∙ ap (λ rest. declaration_characters declared.declaration ++ rest) content.is);
-      declaration = declared.keeps;
-      content = content.keeps;
-      one_root = λ more. omega (arith, content.one_root more);
-    },
+    let content = declared.close in (
+      record { mark = marked.mark; declaration = declared.declaration; content = content.content },
+      record {
+        spelled = marked.is ∙ ap (λ rest. mark_characters marked.mark ++ rest)
+            (declared.is ∙ ap (λ rest. declaration_characters declared.declaration ++ rest) content.is);
+        declaration = declared.keeps;
+        content = content.keeps;
+        one_root = λ more. omega (arith, content.one_root more);
+      },
     )
 
 of_document : (n : ℕ) (document : Document) (characters : List ℕ) → IsDocument n document characters

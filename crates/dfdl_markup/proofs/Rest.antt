@@ -108,15 +108,15 @@ pub data WroteSaid (n : ℕ) (raw : List ℕ) : Option Said → (space : List �
       → version.value ≡ version_value → SayingKeeps encoding
       → EncodingKeeps n encoding.value
       → raw ≡ 60 ∷ 63 ∷ (xml_word ++ (saying_characters Version version
-          ++ (saying_characters Encoding encoding ++ space)))
+      ++ (saying_characters Encoding encoding ++ space)))
       → WroteSaid n raw (Some Encoding) space
   WroteStandalone : (version standalone : Saying) (encoding : Option Saying) (space : List ℕ)
       → SayingKeeps version
       → version.value ≡ version_value → SaysEncoding n encoding
       → SaysStandalone (Some standalone)
       → raw ≡ 60 ∷ 63 ∷ (xml_word ++ (saying_characters Version version
-          ++ (optional_characters Encoding encoding
-          ++ (saying_characters Standalone standalone ++ space))))
+      ++ (optional_characters Encoding encoding
+      ++ (saying_characters Standalone standalone ++ space))))
       → WroteSaid n raw (Some Standalone) space
 
 -- what is said next may stand behind what was said last

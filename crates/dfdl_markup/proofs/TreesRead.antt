@@ -38,10 +38,10 @@ same_characters a b first second is = sym (coded a first) ∙ ap chars is ∙ co
 
 module _ (reads : ReadsCharacters step start accepts 13 Sound Rest beyond)
     (built_runs : (characters : List ℕ) (r : Reader) → run build_step build_start characters ≡ Ok r
-        → run step start characters ≡ Ok r.state)
+    → run step start characters ≡ Ok r.state)
     (tree_is_built : (document : Document) (characters : List ℕ) → IsDocument 13 document characters
-        → (r : Reader) → run build_step build_start characters ≡ Ok r
-        → r.built.nodes ≡ document_nodes document) where
+    → (r : Reader) → run build_step build_start characters ≡ Ok r
+    → r.built.nodes ≡ document_nodes document) where
   -- what is read and accepted is a document with the tree that was built
   pub tree_read : (characters : List ℕ) → Each IsScalar characters
       → Each (Allowed is_allowed) characters → (r : Reader)

@@ -88,14 +88,22 @@ changed_in change (element ∷ ancestors) nodes = changed change element nodes
 -- an element with more text, and with one more child
 abbrev pub with_more_text : List ℕ → Node → Node
 with_more_text more n = record {
-  name = n.name; attributes = n.attributes; parent = n.parent; children = n.children;
-  text = n.text ++ more; at = n.at;
+  name = n.name;
+  attributes = n.attributes;
+  parent = n.parent;
+  children = n.children;
+  text = n.text ++ more;
+  at = n.at;
 }
 
 abbrev pub with_child : ℕ → Node → Node
 with_child child n = record {
-  name = n.name; attributes = n.attributes; parent = n.parent;
-  children = n.children ++ child ∷ []; text = n.text; at = n.at;
+  name = n.name;
+  attributes = n.attributes;
+  parent = n.parent;
+  children = n.children ++ child ∷ [];
+  text = n.text;
+  at = n.at;
 }
 
 abbrev pub first_of : List ℕ → Option ℕ
@@ -105,8 +113,12 @@ first_of (element ∷ ancestors) = Some element
 -- the element of a start tag in the innermost open one, without children and text
 abbrev pub node_of : StartTag → List ℕ → ℕ → Node
 node_of tag ancestors at = record {
-  name = tag.name; attributes = tag.attributes; parent = first_of ancestors; children = [];
-  text = []; at = at;
+  name = tag.name;
+  attributes = tag.attributes;
+  parent = first_of ancestors;
+  children = [];
+  text = [];
+  at = at;
 }
 
 -- the elements with that of a start tag
@@ -122,36 +134,60 @@ without_first (element ∷ ancestors) = ancestors
 -- what the tree becomes by a character of so many bytes
 abbrev pub build : Effect → ℕ → Built → Built
 build Stays bytes b = record {
-  nodes = b.nodes; ancestors = b.ancestors; behind_cr = b.behind_cr; at = b.at + bytes;
+  nodes = b.nodes;
+  ancestors = b.ancestors;
+  behind_cr = b.behind_cr;
+  at = b.at + bytes;
   opened_at = b.opened_at;
 }
 build Opens bytes b = record {
-  nodes = b.nodes; ancestors = b.ancestors; behind_cr = false; at = b.at + bytes;
+  nodes = b.nodes;
+  ancestors = b.ancestors;
+  behind_cr = false;
+  at = b.at + bytes;
   opened_at = b.at;
 }
 build Closes bytes b = record {
-  nodes = b.nodes; ancestors = b.ancestors; behind_cr = false; at = b.at + bytes;
+  nodes = b.nodes;
+  ancestors = b.ancestors;
+  behind_cr = false;
+  at = b.at + bytes;
   opened_at = b.opened_at;
 }
 build (Reads held c) bytes b = record {
   nodes = changed_in (with_more_text (replicate held 93 ++ line_read (b.behind_cr && held == 0) c))
       b.ancestors b.nodes;
-  ancestors = b.ancestors; behind_cr = c == 13; at = b.at + bytes; opened_at = b.opened_at;
+  ancestors = b.ancestors;
+  behind_cr = c == 13;
+  at = b.at + bytes;
+  opened_at = b.opened_at;
 }
 build (Refers d) bytes b = record {
   nodes = changed_in (with_more_text (d ∷ [])) b.ancestors b.nodes;
-  ancestors = b.ancestors; behind_cr = false; at = b.at + bytes; opened_at = b.opened_at;
+  ancestors = b.ancestors;
+  behind_cr = false;
+  at = b.at + bytes;
+  opened_at = b.opened_at;
 }
 build (Enters tag) bytes b = record {
-  nodes = with_node tag b; ancestors = length b.nodes ∷ b.ancestors; behind_cr = false;
-  at = b.at + bytes; opened_at = b.opened_at;
+  nodes = with_node tag b;
+  ancestors = length b.nodes ∷ b.ancestors;
+  behind_cr = false;
+  at = b.at + bytes;
+  opened_at = b.opened_at;
 }
 build (Adds tag) bytes b = record {
-  nodes = with_node tag b; ancestors = b.ancestors; behind_cr = false; at = b.at + bytes;
+  nodes = with_node tag b;
+  ancestors = b.ancestors;
+  behind_cr = false;
+  at = b.at + bytes;
   opened_at = b.opened_at;
 }
 build Leaves bytes b = record {
-  nodes = b.nodes; ancestors = without_first b.ancestors; behind_cr = false; at = b.at + bytes;
+  nodes = b.nodes;
+  ancestors = without_first b.ancestors;
+  behind_cr = false;
+  at = b.at + bytes;
   opened_at = b.opened_at;
 }
 

@@ -281,7 +281,10 @@ entered s tag = record {
 -- behind the `/>` of a tag
 abbrev pub passed : State → State
 passed s = record {
-  ahead = NothingAhead; place = AtContent 0; begun = begun_by s.begun s.frames; frames = s.frames;
+  ahead = NothingAhead;
+  place = AtContent 0;
+  begun = begun_by s.begun s.frames;
+  frames = s.frames;
 }
 
 unfoldable pub tag_step : State → StartTag → Bool → ℕ → Result State ℕ
@@ -346,7 +349,11 @@ equals_step s tag name c =
 -- the value with more text
 abbrev pub with_text : OpenValue → List ℕ → Bool → OpenValue
 with_text v more behind_cr = record {
-  tag = v.tag; name = v.name; quote = v.quote; text = v.text ++ more; behind_cr = behind_cr;
+  tag = v.tag;
+  name = v.name;
+  quote = v.quote;
+  text = v.text ++ more;
+  behind_cr = behind_cr;
 }
 
 -- the text begins the word
@@ -362,7 +369,8 @@ fixed_value name = option_and_then fixed_namespace (declares name)
 -- the start tag with the attribute whose value was read
 abbrev pub with_value : OpenValue → StartTag
 with_value v = record {
-  name = v.tag.name; attributes = v.tag.attributes ++ record { name = v.name; value = v.text } ∷ [];
+  name = v.tag.name;
+  attributes = v.tag.attributes ++ record { name = v.name; value = v.text } ∷ [];
 }
 
 -- what is declared by the value may be declared: the prefix, and what its value must be

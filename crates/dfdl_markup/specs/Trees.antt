@@ -85,14 +85,22 @@ nodes_of (Section text next) parent first at =
     nodes_of next parent first (at + size (spelling (Section text Nothing)))
 nodes_of (Single tag next) parent first at =
     record {
-      name = tag.name; attributes = attributes_of tag; parent = parent; children = []; text = [];
+      name = tag.name;
+      attributes = attributes_of tag;
+      parent = parent;
+      children = [];
+      text = [];
       at = at;
     }
     ∷ nodes_of next parent (suc first) (at + size (spelling (Single tag Nothing)))
 nodes_of (Nested tag inner end space next) parent first at =
     record {
-      name = tag.name; attributes = attributes_of tag; parent = parent;
-      children = numbers inner (suc first); text = text_of false inner; at = at;
+      name = tag.name;
+      attributes = attributes_of tag;
+      parent = parent;
+      children = numbers inner (suc first);
+      text = text_of false inner;
+      at = at;
     }
     ∷ (nodes_of inner (Some first) (suc first) (at + size (60 ∷ (tag_characters tag ++ 62 ∷ [])))
     ++ nodes_of next parent (suc (first + elements inner))
@@ -107,7 +115,12 @@ document_nodes document =
 -- no element
 abbrev pub no_node : Node
 no_node = record {
-  name = Plain []; attributes = []; parent = None; children = []; text = []; at = 0;
+  name = Plain [];
+  attributes = [];
+  parent = None;
+  children = [];
+  text = [];
+  at = 0;
 }
 
 -- the element of a number

@@ -1,11 +1,11 @@
 -- What is owed for a step: of a state, that it is sound and what may follow goes over; of a rule,
 -- that some text goes on there that keeps the rules below it.
-use Rattle.std.proofs.Common.{◌≡◌, ℕ, ◌<◌, ◌≤◌, List, [], ◌∷◌, ◌++◌, Result, Ok, Err}
+use Rattle.std.proofs.Common.{ℕ, ◌<◌, ◌≤◌, List, ◌∷◌, Result, Ok, Err}
 use Rattle.std.specs.Char.{IsScalar}
 use Rattle.dfdl_layers.specs.Tellers.{Each}
 use Rattle.dfdl_layers.specs.Allowed.{GoodAllowed}
 use Rattle.dfdl_xml_chars.specs.Characters.{is_allowed}
-use Rattle.dfdl_markup.specs.Machine.{State, step}
+use Rattle.dfdl_markup.specs.Machine.{State}
 use Rattle.dfdl_markup.proofs.Rest.{From}
 use Rattle.dfdl_markup.proofs.Sound.{Sound}
 

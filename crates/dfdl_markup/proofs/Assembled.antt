@@ -1,6 +1,6 @@
 -- The machine reads the characters of documents, and tells at each that it refuses the rule that is
 -- broken.
-use Rattle.std.proofs.Common.{◌≡◌, ℕ, zero, suc, ◌<◌, ◌≤◌, List, [], ◌∷◌, ◌++◌, Bool, false, refl, sym, subst}
+use Rattle.std.proofs.Common.{◌≡◌, ℕ, ◌<◌, List, [], ◌∷◌, refl, subst}
 use Rattle.std.proofs.Common.{arith, Result, Ok, Err, nat_le, inl, inr}
 use Rattle.std.proofs.lemmas.Bool.{cases_Bool}
 use Rattle.std.proofs.lemmas.Bool.Decides.{nat_tests}
@@ -18,7 +18,7 @@ use Rattle.dfdl_markup.specs.Machine.{AtEndTag, AtEndName, AtEndSpace, AtReferen
 use Rattle.dfdl_markup.specs.Machine.{AtHexadecimal, AtNumber, AtDeclaration, AtSaidWord, AtSaid}
 use Rattle.dfdl_markup.specs.Machine.{AtSaidEquals, AtSaidValue, AtDeclarationEnd, State, start, step}
 use Rattle.dfdl_markup.specs.Machine.{step_at, accepts, beyond}
-use Rattle.dfdl_markup.proofs.Rest.{From, Rest}
+use Rattle.dfdl_markup.proofs.Rest.{Rest}
 use Rattle.dfdl_markup.proofs.Sound.{Sound}
 use Rattle.dfdl_markup.proofs.Answers.{Good, Answer, Leads, Told, Live}
 use Rattle.dfdl_markup.proofs.Moves.{at}

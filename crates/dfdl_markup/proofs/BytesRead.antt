@@ -1,6 +1,6 @@
 -- The reader over bytes is the machine over bytes, and reads the characters that they are.
 use Rattle.std.proofs.Common.{◌≡◌, ℕ, ◌<◌, List, [], ◌∷◌, ◌++◌, Bool, true, false, refl, sym, ap}
-use Rattle.std.proofs.Common.{subst, ◌∙◌, arith, Result, Ok, Err, Option, Some, None, encode_utf8}
+use Rattle.std.proofs.Common.{subst, ◌∙◌, Result, Ok, Err, Option, Some, None, encode_utf8}
 use Rattle.std.proofs.Common.{flat_map, append_assoc, if◌then◌else◌, length, take, get_or}
 use Rattle.std.proofs.lemmas.List.{append-nil}
 use Rattle.std.proofs.lemmas.Grind.{flat_map-append}
@@ -9,7 +9,7 @@ use Rattle.dfdl_layers.specs.Causes.{IsRefused}
 use Rattle.dfdl_layers.specs.Tellers.{Each, run, go_on}
 use Rattle.dfdl_layers.specs.Allowed.{Allowed, allowed_step}
 use Rattle.dfdl_layers.specs.Bytes.{Seen, Whole, Part, Bad, Inside, between, behind, waits, by_seen}
-use Rattle.dfdl_layers.specs.Bytes.{byte_accepts, if_whole}
+use Rattle.dfdl_layers.specs.Bytes.{if_whole}
 use Rattle.dfdl_layers.proofs.Runs.{run_push, each-append}
 use Rattle.dfdl_xml_chars.specs.Utf8.{see}
 use Rattle.dfdl_xml_chars.specs.Characters.{is_allowed}

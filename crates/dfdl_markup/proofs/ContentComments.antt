@@ -9,7 +9,7 @@ use Rattle.dfdl_markup.specs.Machine.{Ahead, AtOpened, AtBang, AtDash, AtComment
 use Rattle.dfdl_markup.specs.Machine.{Frame, wanted, bang_step, dash_step, comment_step, inside}
 use Rattle.dfdl_markup.proofs.Rest.{dashes_of, Wrote, Close}
 use Rattle.dfdl_markup.proofs.Sound.{Sound}
-use Rattle.dfdl_markup.proofs.Answers.{Good, Answer, Live}
+use Rattle.dfdl_markup.proofs.Answers.{Answer, Live}
 use Rattle.dfdl_markup.proofs.Closing.{close_all, grow_comment, good_text}
 use Rattle.dfdl_markup.proofs.Moves.{at, malformed, reads_on, reads_piece, live_piece, answer_if}
 

@@ -15,7 +15,7 @@ use Rattle.dfdl_markup.specs.Machine.{wanted, may_declare, target_ended, questio
 use Rattle.dfdl_markup.specs.Machine.{target_end_step, instruction_step}
 use Rattle.dfdl_markup.proofs.Rest.{mark_behind, WroteNone, Wrote, Close}
 use Rattle.dfdl_markup.proofs.Sound.{SoundAhead, Sound}
-use Rattle.dfdl_markup.proofs.Answers.{Good, Answer, Live, Leads}
+use Rattle.dfdl_markup.proofs.Answers.{Answer, Live, Leads}
 use Rattle.dfdl_markup.proofs.Closing.{close_all, start_a, grow_instruction, good_text, moves_on}
 use Rattle.dfdl_markup.proofs.Moves.{at, malformed, reads_on, reads_ahead, reads_piece, live_piece}
 use Rattle.dfdl_markup.proofs.Moves.{answer_if}

@@ -1,5 +1,5 @@
 -- The more rules, the fewer documents; so a refusal has one place and one cause.
-use Rattle.std.proofs.Common.{◌≡◌, ℕ, zero, suc, ◌+◌, ◌<◌, ◌≤◌, List, [], ◌∷◌, ◌++◌, Bool, arith}
+use Rattle.std.proofs.Common.{◌≡◌, ℕ, suc, ◌≤◌, List, [], ◌∷◌, arith}
 use Rattle.std.proofs.Common.{Option, Some, None, ap, sym, subst, ◌∙◌}
 use Rattle.dfdl_fronts.proofs.Places.{one_place}
 use Rattle.dfdl_layers.specs.Causes.{IsRefused}
@@ -11,7 +11,7 @@ use Rattle.dfdl_markup.specs.Grammar.{Content, Nothing, Character, Referring, Co
 use Rattle.dfdl_markup.specs.Grammar.{Section, Single, Nested, Saying, Declaration, Document}
 use Rattle.dfdl_markup.specs.Values.{Binding}
 use Rattle.dfdl_markup.specs.Rules.{ReferenceKeeps, ItemKeeps, GivenKeeps, TagKeeps, ContentKeeps}
-use Rattle.dfdl_markup.specs.Rules.{SaysEncoding, DeclarationKeeps, MayDeclareItself, IsDocument}
+use Rattle.dfdl_markup.specs.Rules.{SaysEncoding, MayDeclareItself, IsDocument}
 use Rattle.dfdl_markup.specs.Documents.{KeepsRules, IsTreeOf, IsRefusedBy, cause_number}
 use Rattle.dfdl_markup.specs.Trees.{Node}
 

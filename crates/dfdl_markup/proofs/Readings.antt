@@ -1,7 +1,6 @@
 -- What the machine over the bytes of a document tells of them, by the rules.
-use Rattle.std.proofs.Common.{◌≡◌, ℕ, ◌+◌, ◌<◌, ◌≤◌, List, [], ◌∷◌, ◌++◌, length, take, get_or}
-use Rattle.std.proofs.Common.{Bool, true, false, refl, sym, ap, subst, ◌∙◌, arith, Result, Ok, Err}
-use Rattle.dfdl_fronts.specs.Fronts.{IsFront, IsPlace}
+use Rattle.std.proofs.Common.{◌≡◌, ℕ, ◌+◌, ◌<◌, List, [], ◌++◌, length, take, get_or}
+use Rattle.std.proofs.Common.{true, false, refl, sym, ap, subst, ◌∙◌, arith, Ok, Err}
 use Rattle.dfdl_layers.specs.Causes.{IsBroken, IsRefused}
 use Rattle.dfdl_layers.specs.Tellers.{IsTeller, run}
 use Rattle.dfdl_layers.specs.Bytes.{Inside, between, byte_accepts, AnyByte}
@@ -10,7 +9,6 @@ use Rattle.dfdl_xml_chars.specs.DocumentReading.{document_step, SoundDocument, R
 use Rattle.dfdl_xml_chars.specs.DocumentReading.{ReadsCharacters}
 use Rattle.dfdl_xml_chars.proofs.Documents.{document_teller}
 use Rattle.dfdl_markup.specs.Grammar.{Document, mark_characters, declaration_characters, spelling}
-use Rattle.dfdl_markup.specs.Grammar.{document_characters}
 use Rattle.dfdl_markup.specs.Rules.{IsDocument}
 use Rattle.dfdl_markup.specs.Documents.{KeepsRules}
 use Rattle.dfdl_markup.specs.Machine.{State, start, step, accepts, beyond}

@@ -6,7 +6,7 @@ use Rattle.dfdl_markup.specs.Machine.{AtHexadecimal, AtNumber, Ahead, Frame, wit
 use Rattle.dfdl_markup.specs.Machine.{reference_step, entity_step, hash_step, hexadecimal_step}
 use Rattle.dfdl_markup.specs.Machine.{number_step}
 use Rattle.dfdl_markup.proofs.Sound.{SoundWithin, SoundFrames, SoundRoots, Sound}
-use Rattle.dfdl_markup.proofs.Answers.{Good, Live, Answer}
+use Rattle.dfdl_markup.proofs.Answers.{Live, Answer}
 use Rattle.dfdl_markup.proofs.Moves.{at}
 use Rattle.dfdl_markup.proofs.TagLive.{value_lives}
 use Rattle.dfdl_markup.proofs.ReferenceForms.{standing, place_behind}

@@ -1,22 +1,21 @@
 -- What may still come at each place of a document, so that the whole keeps the rules below n: with
 -- any way in which the piece of markup that is open may have been written before it, by these rules.
-use Rattle.std.proofs.Common.{◌≡◌, ℕ, zero, suc, ◌+◌, ◌==◌, ◌<◌, ◌≤◌, ◌⊎◌, Bool, true, false, List, [], ◌∷◌, ◌++◌}
+use Rattle.std.proofs.Common.{◌≡◌, ℕ, zero, suc, ◌+◌, ◌==◌, ◌<◌, Bool, true, false, List, [], ◌∷◌, ◌++◌}
 use Rattle.std.proofs.Common.{length, Option, Some, None, map}
 use Rattle.std.specs.List.{flat_map}
 use Rattle.dfdl_layers.specs.Tellers.{Each}
-use Rattle.dfdl_markup.specs.Grammar.{is_white, is_quote, Name, Plain, Prefixed, name_characters}
-use Rattle.dfdl_markup.specs.Grammar.{base_mark, Item, Letter, item_characters, Given}
+use Rattle.dfdl_markup.specs.Grammar.{is_white, is_quote, Name, name_characters}
+use Rattle.dfdl_markup.specs.Grammar.{base_mark, Item, Letter, item_characters}
 use Rattle.dfdl_markup.specs.Grammar.{given_start, Tag, tag_characters, Content, spelling}
 use Rattle.dfdl_markup.specs.Grammar.{section_word, Said, Version, Encoding, Standalone, said_word}
 use Rattle.dfdl_markup.specs.Grammar.{Saying, saying_characters, optional_characters, Declaration}
-use Rattle.dfdl_markup.specs.Grammar.{xml_word, declaration_characters, mark_characters, Document}
-use Rattle.dfdl_markup.specs.Values.{is_digit, number_on, items_read, ends_in_cr, declares}
-use Rattle.dfdl_markup.specs.Values.{outer_scope, have_same, same_name, same_expanded, names_of}
-use Rattle.dfdl_markup.specs.Values.{bindings_of}
+use Rattle.dfdl_markup.specs.Grammar.{xml_word, declaration_characters, mark_characters}
+use Rattle.dfdl_markup.specs.Values.{is_digit, number_on, items_read, ends_in_cr}
+use Rattle.dfdl_markup.specs.Values.{outer_scope, same_name}
 use Rattle.dfdl_markup.specs.Rules.{IsPart, IsName, AreWhite, ItemKeeps, GivenKeeps, attributes_of}
 use Rattle.dfdl_markup.specs.Rules.{IsCommentText, is_xml, HasNoMark, brackets, HasNoEnd, ContentKeeps, roots}
 use Rattle.dfdl_markup.specs.Rules.{SayingKeeps, SaysEncoding, SaysStandalone, MayDeclareItself}
-use Rattle.dfdl_markup.specs.Rules.{version_value, EncodingKeeps, yes_value, no_value, deepest}
+use Rattle.dfdl_markup.specs.Rules.{version_value, EncodingKeeps}
 use Rattle.dfdl_markup.specs.Machine.{Reading, First, Colon, Second, StartTag, OpenValue, Within}
 use Rattle.dfdl_markup.specs.Machine.{InContent, InValue, Place, AtContent, AtOpened, AtBang, AtDash}
 use Rattle.dfdl_markup.specs.Machine.{AtComment, AtSectionWord, AtSection, AtQuestion, AtTarget}

@@ -1,10 +1,9 @@
 -- The states that the reader comes to.
-use Rattle.std.proofs.Common.{◌≡◌, ℕ, zero, suc, ◌+◌, ◌<◌, ◌≤◌, Bool, true, false, List, [], ◌∷◌, ◌++◌}
+use Rattle.std.proofs.Common.{◌≡◌, ℕ, ◌<◌, ◌≤◌, Bool, true, false, List, [], ◌∷◌, ◌++◌}
 use Rattle.std.proofs.Common.{length, Option, Some, None}
 use Rattle.std.specs.List.{list_any}
-use Rattle.std.specs.Str.{bytes_eq}
 use Rattle.dfdl_layers.specs.Tellers.{Each}
-use Rattle.dfdl_markup.specs.Grammar.{Name, name_characters, Said, is_quote, section_word, said_word}
+use Rattle.dfdl_markup.specs.Grammar.{Name, is_quote, section_word, said_word}
 use Rattle.dfdl_markup.specs.Values.{Attribute, same_name, bindings_of, same_expanded, have_same}
 use Rattle.dfdl_markup.specs.Values.{names_of, declares}
 use Rattle.dfdl_markup.specs.Rules.{IsPart, IsName, deepest}

@@ -1,21 +1,21 @@
 -- The tree that is built while characters are read is the one that their bytes have.
-use Rattle.std.proofs.Common.{◌≡◌, ℕ, ◌<◌, List, [], ◌∷◌, ◌++◌, Bool, true, refl, sym, ap, subst, ◌∙◌}
-use Rattle.std.proofs.Common.{arith, Result, Ok, Err, encode_utf8, encode_utf8_all, chars, flat_map}
+use Rattle.std.proofs.Common.{◌≡◌, ℕ, List, [], ◌∷◌, ◌++◌, true, refl, sym, ap, subst, ◌∙◌}
+use Rattle.std.proofs.Common.{arith, Ok, encode_utf8, encode_utf8_all, chars, flat_map}
 use Rattle.std.proofs.lemmas.Str.{chars-encodes}
 use Rattle.std.specs.Char.{IsScalar}
 use Rattle.std.specs.Str.{all_scalars}
-use Rattle.dfdl_layers.specs.Tellers.{Each, run, go_on}
+use Rattle.dfdl_layers.specs.Tellers.{Each, run}
 use Rattle.dfdl_layers.specs.Allowed.{Allowed}
 use Rattle.dfdl_layers.proofs.Told.{text_end}
 use Rattle.dfdl_xml_chars.specs.Characters.{is_allowed}
 use Rattle.dfdl_xml_chars.specs.DocumentReading.{ReadsCharacters}
 use Rattle.dfdl_markup.specs.Grammar.{Document}
 use Rattle.dfdl_markup.specs.Rules.{IsDocument}
-use Rattle.dfdl_markup.specs.Documents.{KeepsRules, IsTreeOf}
+use Rattle.dfdl_markup.specs.Documents.{IsTreeOf}
 use Rattle.dfdl_markup.specs.Trees.{Node, document_nodes}
-use Rattle.dfdl_markup.specs.Machine.{State, start, step, accepts, beyond}
+use Rattle.dfdl_markup.specs.Machine.{start, step, accepts, beyond}
 use Rattle.dfdl_markup.specs.Building.{Reader, build_step, build_start}
-use Rattle.dfdl_markup.proofs.Rest.{From, Rest}
+use Rattle.dfdl_markup.proofs.Rest.{Rest}
 use Rattle.dfdl_markup.proofs.Sound.{Sound}
 use Rattle.dfdl_markup.proofs.Readings.{document_of, from_start}
 

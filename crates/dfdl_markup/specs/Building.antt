@@ -1,10 +1,10 @@
 -- How the tree grows while a document is read. The tree itself is told by Trees.
-use Rattle.std.specs.Prelude.{ℕ, zero, suc, ◌+◌, ◌==◌, ◌&&◌, ◌||◌, Bool, true, false, List, [], ◌∷◌}
+use Rattle.std.specs.Prelude.{ℕ, zero, suc, ◌+◌, ◌==◌, ◌&&◌, Bool, false, List, [], ◌∷◌}
 use Rattle.std.specs.Prelude.{◌++◌, length, Option, Some, None, Result, Ok, Err, if◌then◌else◌}
 use Rattle.std.specs.Prelude.{replicate}
 use Rattle.dfdl_layers.specs.Bytes.{Inside, between, byte_accepts}
 use Rattle.dfdl_xml_chars.specs.DocumentReading.{document_step}
-use Rattle.dfdl_markup.specs.Grammar.{Name, Plain}
+use Rattle.dfdl_markup.specs.Grammar.{Name}
 use Rattle.dfdl_markup.specs.Values.{entity, or_zero}
 use Rattle.dfdl_markup.specs.Trees.{Node, size, line_read}
 use Rattle.dfdl_markup.specs.Machine.{StartTag, Within, InContent, InValue, Place, AtContent, AtSection}

@@ -3,7 +3,7 @@
 -- all that is written, white space and quotes among it. Which of these are documents is told by the
 -- rules in Rules. Characters are code points: 33 is `!`, 34 and 39 are the quotes, 35 `#`, 38 `&`,
 -- 45 `-`, 47 `/`, 58 `:`, 59 `;`, 60 `<`, 61 `=`, 62 `>`, 63 `?`, 91 `[`, 93 `]`, 120 `x`.
-use Rattle.std.specs.Prelude.{ℕ, ◌+◌, ◌==◌, ◌||◌, Bool, true, false, List, [], ◌∷◌, ◌++◌, Option}
+use Rattle.std.specs.Prelude.{ℕ, ◌==◌, ◌||◌, Bool, true, false, List, [], ◌∷◌, ◌++◌, Option}
 use Rattle.std.specs.Prelude.{Some, None, codes}
 use Rattle.std.specs.List.{flat_map}
 

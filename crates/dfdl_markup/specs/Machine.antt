@@ -1,6 +1,6 @@
 -- How a document is read, character by character: the state behind some characters, and the step by
 -- one more, or the rule that it breaks. What it reads is told by Rules.
-use Rattle.std.specs.Prelude.{ℕ, zero, suc, ◌+◌, ◌*◌, ◌==◌, ◌&&◌, ◌||◌, Bool, true, false, not}
+use Rattle.std.specs.Prelude.{ℕ, suc, ◌+◌, ◌*◌, ◌==◌, ◌&&◌, ◌||◌, Bool, true, false}
 use Rattle.std.specs.Prelude.{nat_le, nat_lt, List, [], ◌∷◌, ◌++◌, length, Option, Some, None, Result}
 use Rattle.std.specs.Prelude.{Ok, Err, if◌then◌else◌, option_and_then}
 use Rattle.std.specs.List.{list_any, list_all}
@@ -15,7 +15,7 @@ use Rattle.dfdl_markup.specs.Values.{is_digit, digit_value, base_of, entities, e
 use Rattle.dfdl_markup.specs.Values.{Attribute, same_name, declares, Binding, bindings_of}
 use Rattle.dfdl_markup.specs.Values.{outer_scope, same_expanded, have_same, names_of, is_found}
 use Rattle.dfdl_markup.specs.Values.{scope_in, fixed_namespace, may_bind}
-use Rattle.dfdl_markup.specs.Rules.{is_text, is_xml, brackets, deepest, is_encoding_character, small}
+use Rattle.dfdl_markup.specs.Rules.{is_xml, brackets, deepest, is_encoding_character, small}
 use Rattle.dfdl_markup.specs.Rules.{version_value, encoding_value, yes_value, no_value}
 
 -- a name as far as it was read

@@ -2,21 +2,19 @@
 -- below n are kept. Rules 1 and 2, on bytes and characters, stand before these; 3 is that the
 -- markup is well formed, 12 that the character of a reference is allowed, and a document that keeps
 -- all of them keeps those below 13.
-use Rattle.std.specs.Prelude.{◌≡◌, ◌≢◌, ℕ, zero, suc, ◌+◌, ◌<◌, ◌==◌, ◌&&◌, ◌⊎◌, Bool, true, false}
-use Rattle.std.specs.Prelude.{not, List, [], ◌∷◌, ◌++◌, length, map, Option, Some, None, codes}
+use Rattle.std.specs.Prelude.{◌≡◌, ◌≢◌, ℕ, suc, ◌+◌, ◌<◌, ◌==◌, ◌&&◌, ◌⊎◌, Bool, true, false}
+use Rattle.std.specs.Prelude.{not, List, [], ◌∷◌, length, map, Option, Some, None, codes}
 use Rattle.std.specs.Prelude.{if◌then◌else◌, nat_le, ◌||◌, IsSome}
-use Rattle.std.specs.List.{list_any, list_all}
-use Rattle.std.specs.Str.{bytes_eq}
 use Rattle.dfdl_layers.specs.Tellers.{Each}
 use Rattle.dfdl_xml_chars.specs.Characters.{is_allowed, is_name_start, is_name_char}
-use Rattle.dfdl_markup.specs.Grammar.{is_white, is_quote, Name, Plain, Prefixed, name_characters}
+use Rattle.dfdl_markup.specs.Grammar.{is_white, is_quote, Name, Plain, Prefixed}
 use Rattle.dfdl_markup.specs.Grammar.{Reference, Named, Numbered, Item, Letter, Referred, Given, Tag}
 use Rattle.dfdl_markup.specs.Grammar.{Content, Nothing, Character, Referring, Comment, Instruction}
 use Rattle.dfdl_markup.specs.Grammar.{Section}
-use Rattle.dfdl_markup.specs.Grammar.{Single, Nested, xml_word, Saying, Declaration, Document}
+use Rattle.dfdl_markup.specs.Grammar.{Single, Nested, Saying, Declaration, Document}
 use Rattle.dfdl_markup.specs.Grammar.{document_characters}
 use Rattle.dfdl_markup.specs.Values.{is_digit, number_on, entity, value_of, Attribute, attribute_of}
-use Rattle.dfdl_markup.specs.Values.{same_name, declares, Binding, bindings_of, outer_scope}
+use Rattle.dfdl_markup.specs.Values.{same_name, declares, Binding, outer_scope}
 use Rattle.dfdl_markup.specs.Values.{same_expanded, have_same, names_of, is_found, scope_in}
 use Rattle.dfdl_markup.specs.Values.{fixed_namespace, may_bind}
 

@@ -1,8 +1,8 @@
 -- The tree that a document has: its elements in the order of their start tags.
-use Rattle.std.specs.Prelude.{◌≡◌, ℕ, zero, suc, ◌+◌, ◌<◌, ◌==◌, ◌&&◌, Bool, true, false, List, [], ◌∷◌}
+use Rattle.std.specs.Prelude.{ℕ, zero, suc, ◌+◌, ◌==◌, ◌&&◌, Bool, false, List, [], ◌∷◌}
 use Rattle.std.specs.Prelude.{◌++◌, length, get_or, Option, Some, None, if◌then◌else◌, encode_utf8}
 use Rattle.std.specs.List.{flat_map}
-use Rattle.dfdl_markup.specs.Grammar.{Name, Plain, Prefixed, Given, Tag, Content, Nothing, Character}
+use Rattle.dfdl_markup.specs.Grammar.{Name, Plain, Prefixed, Content, Nothing, Character}
 use Rattle.dfdl_markup.specs.Grammar.{Referring, Comment, Instruction, Section, Single, Nested}
 use Rattle.dfdl_markup.specs.Grammar.{spelling, tag_characters, Document, mark_characters}
 use Rattle.dfdl_markup.specs.Grammar.{declaration_characters}

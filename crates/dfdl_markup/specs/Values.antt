@@ -1,12 +1,12 @@
 -- What references, values, names and prefixes come to: 'Attribute-Value Normalization' and
 -- 'End-of-Line Handling' of XML 1.0, and the scoping of 'Namespaces in XML 1.0'.
-use Rattle.std.specs.Prelude.{ℕ, zero, suc, ◌+◌, ◌-◌, ◌*◌, ◌==◌, ◌&&◌, ◌||◌, Bool, true, false, not}
+use Rattle.std.specs.Prelude.{ℕ, ◌+◌, ◌-◌, ◌*◌, ◌==◌, ◌&&◌, ◌||◌, Bool, true, false, not}
 use Rattle.std.specs.Prelude.{nat_le, List, [], ◌∷◌, ◌++◌, map, Option, Some, None, codes}
 use Rattle.std.specs.Prelude.{if◌then◌else◌}
-use Rattle.std.specs.List.{list_any, list_all, filter_map}
+use Rattle.std.specs.List.{list_any, filter_map}
 use Rattle.std.specs.Str.{bytes_eq}
 use Rattle.dfdl_markup.specs.Grammar.{is_white, Name, Plain, Prefixed, name_characters, Reference}
-use Rattle.dfdl_markup.specs.Grammar.{Named, Numbered, Item, Letter, Referred, Given, Tag}
+use Rattle.dfdl_markup.specs.Grammar.{Named, Numbered, Item, Letter, Referred, Given}
 
 -- the character is a digit of that base: hexadecimal or decimal
 unfoldable pub is_digit : Bool → ℕ → Bool

@@ -2,3 +2,4 @@ pub mod Texts
 mod Kept
 mod Opened
 mod Lists
+mod Expanded

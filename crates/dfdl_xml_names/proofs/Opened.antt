@@ -14,7 +14,8 @@ use Rattle.dfdl_xml_names.specs.declared.element.Element.{Element}
 use Rattle.dfdl_xml_names.proofs.Kept.{found_append}
 use Rattle.dfdl_xml_names.proofs.Texts.{same_test}
 
-turned : (a b : List ℕ) → bytes_eq a b ≡ bytes_eq b a
+-- texts are compared either way
+pub turned : (a b : List ℕ) → bytes_eq a b ≡ bytes_eq b a
 turned a b =
     same_test _ _ (λ e. (bytes_eq-Decides b a).1 (sym ((bytes_eq-Decides a b).0 e)))
     (λ e. (bytes_eq-Decides a b).1 (sym ((bytes_eq-Decides b a).0 e)))

@@ -1,5 +1,6 @@
 -- Texts as characters: they are alike exactly where their bytes are.
 use Rattle.std.specs.Prelude.{◌≡◌, ℕ, Bool, true, false, List, ◌++◌, ◌∷◌, [], String, encode_utf8}
+use Rattle.std.specs.Prelude.{Result, Ok, Err, OnOk}
 use Rattle.std.specs.Str.{bytes_eq, chars, IsUtf8, encode_utf8_all}
 use Rattle.std.specs.String.{string_bytes}
 use Rattle.dfdl_markup.specs.Values.{xml_prefix, xmlns_prefix}
@@ -68,3 +69,12 @@ joined_chars xs ys u v =
     chars-append (xs ++ 58 ∷ []) ys (IsUtf8-append xs (58 ∷ []) u colon_is_utf8)
     ∙ ap (λ l. l ++ chars ys) (chars-append xs (58 ∷ []) u ∙ ap (λ l. chars xs ++ l) colon_chars)
     ∙ append_assoc (chars xs) (58 ∷ []) (chars ys)
+
+-- what follows from facts of an answer that is Ok
+pub on_ok : {T E : Type 0} {P Q : Type 0} (r : Result T E) → OnOk r P → (P → Q) → OnOk r Q
+on_ok (Ok x) p f = f p
+on_ok (Err e) p f = tt
+
+pub on_both : {T E : Type 0} {P Q R : Type 0} (r : Result T E) → OnOk r P → OnOk r Q → (P → Q → R) → OnOk r R
+on_both (Ok x) p q f = f p q
+on_both (Err e) p q f = tt

@@ -9,6 +9,8 @@ mod bindings;
 mod element;
 mod frames;
 mod name;
+mod pairs;
+mod resolved;
 mod scope;
 mod tag;
 

@@ -18,7 +18,7 @@ pub(crate) struct Scope<'a> {
 
 impl<'a> Scope<'a> {
     /// The namespace that a prefix stands for.
-    fn find(&self, prefix: &str) -> Option<&'a str>
+    pub(crate) fn find(&self, prefix: &str) -> Option<&'a str>
         ensures { lent_text result ≡ found (scope_seen self.now) (chars prefix.now) }
     {
         if let Some(namespace) = self.declared.find(prefix) {

@@ -1,0 +1,77 @@
+// The names of attributes by the namespaces of a scope.
+ghost use Rattle.std.specs.Prelude.{◌≡◌, ◌++◌, ◌∷◌, ◌&&◌, ◌||◌, [], ℕ, List, IfOk, OnOk, map, true, if◌then◌else◌, Some, chars};
+ghost use Rattle.std.specs.Str.{bytes_eq};
+ghost use Rattle.dfdl_markup.specs.Grammar.{Name as Named, Prefixed as Spelled};
+ghost use Rattle.dfdl_markup.specs.Values.{Binding, names_of, found};
+ghost use Rattle.dfdl_xml_names.specs.Shown.{name_of, attribute_of};
+ghost use Rattle.dfdl_xml_names.specs.Scoped.{scope_seen};
+ghost use Rattle.dfdl_xml_names.specs.Paired.{has_pair};
+ghost use Rattle.dfdl_xml_names.specs.Expanded.{IsResolved};
+
+use crate::name::{Attribute, Name};
+use crate::pairs::Pairs;
+use crate::scope::Scope;
+use std::alloc::{AllocError, Global};
+
+/// The namespaces and local parts of names whose prefix is found, and whether two are one.
+#[derive(Debug, Drop)]
+pub(crate) struct Resolved {
+    pub(crate) pairs: Pairs,
+    pub(crate) clash: bool,
+}
+
+impl Resolved {
+    pub(crate) fn new(alloc: Global) -> Resolved
+        ensures { (scope : List Binding) → IsResolved result scope [] }
+    {
+        Resolved {
+            pairs: Pairs::new(alloc),
+            clash: false,
+        }
+    }
+
+    /// One name more.
+    pub(crate) fn add(&mut self, alloc: Global, scope: &Scope<'_>, name: &Name) -> Result<(), AllocError>
+        ensures { OnOk result ((names : List Named) → IsResolved self.old (scope_seen scope.now) names
+            → IsResolved self.new (scope_seen scope.now) (names ++ name_of name.now ∷ [])) }
+    {
+        match name {
+            Name::Plain(_) => Ok(()),
+            Name::Prefixed { prefix, part } => match scope.find(prefix.as_str()) {
+                Some(namespace) => self.take(alloc, namespace, part.as_str()),
+                None => Ok(()),
+            },
+        }
+    }
+
+    /// One name more, of this local part and a prefix that stands for this namespace.
+    fn take(&mut self, alloc: Global, namespace: &str, part: &str) -> Result<(), AllocError>
+        ensures { OnOk result ((scope : List Binding) (names : List Named) (prefix : List ℕ)
+            → found scope prefix ≡ Some (chars namespace.now) → IsResolved self.old scope names
+            → IsResolved self.new scope (names ++ Spelled prefix (chars part.now) ∷ [])) }
+    {
+        self.insert(alloc, namespace, part)
+    }
+
+    fn insert(&mut self, alloc: Global, namespace: &str, part: &str) -> Result<(), AllocError>
+        ensures pairs { OnOk result ((a b : List ℕ) → has_pair self.new.pairs a b
+            ≡ (if bytes_eq namespace.now a && bytes_eq part.now b then true else has_pair self.old.pairs a b)) }
+        ensures clash { OnOk result (self.new.clash ≡ (self.old.clash || has_pair self.old.pairs namespace.now part.now)) }
+    {
+        let is_new = self.pairs.add(alloc, namespace, part)?;
+        self.clash = self.clash || !is_new;
+        Ok(())
+    }
+
+    /// The names of all attributes.
+    pub(crate) fn of(alloc: Global, scope: &Scope<'_>, attributes: &[Attribute]) -> Result<Resolved, AllocError>
+        ensures { IfOk result (λ resolved. IsResolved resolved (scope_seen scope.now)
+            (names_of (map attribute_of attributes.now))) }
+    {
+        let mut resolved = Resolved::new(alloc);
+        for attribute in attributes {
+            resolved.add(alloc, scope, &attribute.name)?;
+        }
+        Ok(resolved)
+    }
+}

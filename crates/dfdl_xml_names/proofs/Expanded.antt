@@ -8,14 +8,15 @@ use Rattle.std.proofs.lemmas.List.Folds.{list_any-append}
 use Rattle.dfdl_markup.specs.Grammar.{Name, Plain, Prefixed}
 use Rattle.dfdl_markup.specs.Values.{Binding, found, same_found, same_expanded, have_same}
 use Rattle.dfdl_xml_names.specs.Paired.{has_pair}
-use Rattle.dfdl_xml_names.specs.Expanded.{IsResolved, is_in, has_prefix}
+use Rattle.dfdl_xml_names.specs.Expanded.{IsResolved, is_in}
+use Rattle.dfdl_xml_names.specs.Kept.{has_prefix}
 use Rattle.dfdl_xml_names.specs.declared.resolved.Resolved.{Resolved}
 use Rattle.dfdl_xml_names.proofs.Texts.{same_chars}
 use Rattle.dfdl_xml_names.proofs.Kept.{found_append}
 use Rattle.dfdl_xml_names.proofs.Opened.{turned}
 use Rattle.std.proofs.lemmas.Bool.{false≢true}
 
-or_none : (b : Bool) → (b || false) ≡ b
+pub or_none : (b : Bool) → (b || false) ≡ b
 or_none true = refl
 or_none false = refl
 
@@ -61,13 +62,13 @@ add_none : (resolved : Resolved) (scope : List Binding) (names : List Name) (nam
     → IsResolved resolved scope names → IsResolved resolved scope (names ++ name ∷ [])
 add_none resolved scope names name apart alone kept = record {
   pairs = λ a b u v.
-    kept.pairs a b u v
-    ∙ sym (list_any-append (is_in scope (chars a) (chars b)) names (name ∷ [])
+      kept.pairs a b u v
+      ∙ sym (list_any-append (is_in scope (chars a) (chars b)) names (name ∷ [])
       ∙ (ap (λ c. list_any (is_in scope (chars a) (chars b)) names || (c || false)) (apart (chars a) (chars b))
       ∙ or_none (list_any (is_in scope (chars a) (chars b)) names)));
   clash =
-    kept.clash
-    ∙ sym (same_behind (same_expanded scope) names name
+      kept.clash
+      ∙ sym (same_behind (same_expanded scope) names name
       ∙ (ap (λ c. have_same (same_expanded scope) names || c) (any_none (λ other. same_expanded scope other name) alone names)
       ∙ or_none (have_same (same_expanded scope) names)));
 }
@@ -122,19 +123,19 @@ pub add_found : (old new : Resolved) (scope : List Binding) (names : List Name) 
     → IsResolved old scope names → IsResolved new scope (names ++ Prefixed prefix (chars part) ∷ [])
 add_found old new scope names prefix namespace part nu pu is pairs clash kept = record {
   pairs = λ a b u v.
-    pairs a b
-    ∙ (ap (λ h. if bytes_eq namespace a && bytes_eq part b then true else h) (kept.pairs a b u v)
-    ∙ (taken (bytes_eq namespace a) (bytes_eq part b) (list_any (is_in scope (chars a) (chars b)) names)
-    ∙ sym (list_any-append (is_in scope (chars a) (chars b)) names (Prefixed prefix (chars part) ∷ [])
+      pairs a b
+      ∙ (ap (λ h. if bytes_eq namespace a && bytes_eq part b then true else h) (kept.pairs a b u v)
+      ∙ (taken (bytes_eq namespace a) (bytes_eq part b) (list_any (is_in scope (chars a) (chars b)) names)
+      ∙ sym (list_any-append (is_in scope (chars a) (chars b)) names (Prefixed prefix (chars part) ∷ [])
       ∙ (ap (λ o. list_any (is_in scope (chars a) (chars b)) names || ((bytes_eq (chars part) (chars b) && same_found o (Some (chars a))) || false)) is
       ∙ (ap (λ t. list_any (is_in scope (chars a) (chars b)) names || ((t && bytes_eq (chars namespace) (chars a)) || false)) (same_chars part b pu v)
       ∙ ap (λ t. list_any (is_in scope (chars a) (chars b)) names || ((bytes_eq part b && t) || false)) (same_chars namespace a nu u))))));
   clash =
-    clash
-    ∙ (ap (λ b. b || has_pair old.pairs namespace part) kept.clash
-    ∙ (ap (λ b. have_same (same_expanded scope) names || b)
+      clash
+      ∙ (ap (λ b. b || has_pair old.pairs namespace part) kept.clash
+      ∙ (ap (λ b. have_same (same_expanded scope) names || b)
       (kept.pairs namespace part nu pu ∙ any_in scope prefix (chars part) (chars namespace) is names)
-    ∙ sym (same_behind (same_expanded scope) names (Prefixed prefix (chars part)))));
+      ∙ sym (same_behind (same_expanded scope) names (Prefixed prefix (chars part)))));
 }
 
 or_first : (a b : Bool) → (a || b) ≡ false → a ≡ false
@@ -194,7 +195,16 @@ module _ (scope : List Binding) (prefix namespace : List ℕ) where
       → IsResolved resolved scope names → IsResolved resolved (scope ++ record { prefix = prefix; namespace = namespace } ∷ []) names
   declare_unused resolved names none kept = record {
     pairs = λ a b u v.
-      kept.pairs a b u v
-      ∙ any_where (has_prefix prefix) (is_in scope (chars a) (chars b)) (is_in more (chars a) (chars b)) (in_stays (chars a) (chars b)) names none;
+        kept.pairs a b u v
+        ∙ any_where (has_prefix prefix) (is_in scope (chars a) (chars b)) (is_in more (chars a) (chars b)) (in_stays (chars a) (chars b)) names none;
     clash = kept.clash ∙ same_where (has_prefix prefix) (same_expanded scope) (same_expanded more) same_stays names none;
   }
+
+-- a test that no name passes
+pub none_plain : (scope : List Binding) (part : List ℕ) (names : List Name) → list_any (λ other. same_expanded scope other (Plain part)) names ≡ false
+none_plain scope part names = any_none (λ other. same_expanded scope other (Plain part)) (plain_alone scope part) names
+
+pub none_unfound : (scope : List Binding) (prefix part : List ℕ) → found scope prefix ≡ None → (names : List Name)
+    → list_any (λ other. same_expanded scope other (Prefixed prefix part)) names ≡ false
+none_unfound scope prefix part none names =
+    any_none (λ other. same_expanded scope other (Prefixed prefix part)) (unfound_alone scope prefix part none) names

@@ -18,8 +18,3 @@ pub record IsResolved (resolved : Resolved) (scope : List Binding) (names : List
   pub pairs : (a b : List ℕ) → IsUtf8 a → IsUtf8 b
       → has_pair resolved.pairs a b ≡ list_any (is_in scope (chars a) (chars b)) names
   pub clash : resolved.clash ≡ have_same (same_expanded scope) names
-
--- the name has this prefix
-abbrev pub has_prefix : List ℕ → Name → Bool
-has_prefix prefix (Plain name) = false
-has_prefix prefix (Prefixed other name) = bytes_eq other prefix

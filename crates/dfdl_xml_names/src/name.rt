@@ -124,13 +124,6 @@ pub fn fixed_namespace(prefix: &str) -> Option<&'static str>
     }
 }
 
-/// The texts are alike.
-pub(crate) fn same_text(a: &str, b: &str) -> bool
-    ensures { result ≡ bytes_eq (chars a.now) (chars b.now) }
-{
-    a == b
-}
-
 fn is_xml(prefix: &str) -> bool
     ensures { result ≡ bytes_eq (chars prefix.now) xml_prefix }
 {

@@ -34,7 +34,12 @@ impl Pairs {
     }
 
     /// Adds a pair, and answers whether it is new.
-    pub(crate) fn add(&mut self, alloc: Global, first: &str, second: &str) -> Result<bool, AllocError>
+    pub(crate) fn add(
+        &mut self,
+        alloc: Global,
+        first: &str,
+        second: &str,
+    ) -> Result<bool, AllocError>
         ensures new { IfOk result (λ is_new. is_new ≡ not (has_pair self.old first.now second.now)) }
         ensures pairs { OnOk result ((a b : List ℕ) → has_pair self.new a b
             ≡ (if bytes_eq first.now a && bytes_eq second.now b then true else has_pair self.old a b)) }
@@ -47,7 +52,11 @@ impl Pairs {
 }
 
 // Takes the set of a first text out, if there is one.
-fn take_set(sets: &mut BTreeMap<String, BTreeSet<String>>, alloc: Global, first: &str) -> BTreeSet<String>
+fn take_set(
+    sets: &mut BTreeMap<String, BTreeSet<String>>,
+    alloc: Global,
+    first: &str,
+) -> BTreeSet<String>
     ensures set { (b : List ℕ) → contains_text result b ≡ has_in (get_by_text sets.old first.now) b }
     ensures others { (a : List ℕ) → bytes_eq first.now a ≡ false → get_by_text sets.new a ≡ get_by_text sets.old a }
 {
@@ -57,7 +66,11 @@ fn take_set(sets: &mut BTreeMap<String, BTreeSet<String>>, alloc: Global, first:
     }
 }
 
-fn put_set(sets: &mut BTreeMap<String, BTreeSet<String>>, first: String, set: BTreeSet<String>) -> Result<(), AllocError>
+fn put_set(
+    sets: &mut BTreeMap<String, BTreeSet<String>>,
+    first: String,
+    set: BTreeSet<String>,
+) -> Result<(), AllocError>
     ensures { OnOk result ((a : List ℕ) → get_by_text sets.new a
         ≡ update bytes_eq (get_by_text sets.old) (string_bytes first) (Some set) a) }
 {

@@ -1,13 +1,15 @@
 // The names of attributes by the namespaces of a scope.
 ghost use Rattle.std.specs.Prelude.{◌≡◌, ◌++◌, ◌∷◌, ◌&&◌, ◌||◌, [], ℕ, List, IfOk, OnOk, map, true, if◌then◌else◌, Some, chars};
+ghost use Rattle.std.specs.List.{list_any};
 ghost use Rattle.std.specs.Str.{bytes_eq};
 ghost use Rattle.dfdl_markup.specs.Grammar.{Name as Named, Prefixed as Spelled};
-ghost use Rattle.dfdl_markup.specs.Values.{Binding, names_of, found};
+ghost use Rattle.dfdl_markup.specs.Values.{Binding, bindings_of, names_of, found, same_expanded};
 ghost use Rattle.dfdl_xml_names.specs.Shown.{name_of, attribute_of};
 ghost use Rattle.dfdl_xml_names.specs.Scoped.{scope_seen};
 ghost use Rattle.dfdl_xml_names.specs.Paired.{has_pair};
-ghost use Rattle.dfdl_xml_names.specs.Expanded.{IsResolved};
+ghost use Rattle.dfdl_xml_names.specs.Expanded.{IsResolved, is_in};
 
+use crate::attributes::Attributes;
 use crate::name::{Attribute, Name};
 use crate::pairs::Pairs;
 use crate::scope::Scope;
@@ -31,7 +33,12 @@ impl Resolved {
     }
 
     /// One name more.
-    pub(crate) fn add(&mut self, alloc: Global, scope: &Scope<'_>, name: &Name) -> Result<(), AllocError>
+    pub(crate) fn add(
+        &mut self,
+        alloc: Global,
+        scope: &Scope<'_>,
+        name: &Name,
+    ) -> Result<(), AllocError>
         ensures { OnOk result ((names : List Named) → IsResolved self.old (scope_seen scope.now) names
             → IsResolved self.new (scope_seen scope.now) (names ++ name_of name.now ∷ [])) }
     {
@@ -63,8 +70,58 @@ impl Resolved {
         Ok(())
     }
 
+    /// A name is the same as this one.
+    pub(crate) fn has(&self, scope: &Scope<'_>, name: &Name) -> bool
+        ensures { (names : List Named) → IsResolved self.now (scope_seen scope.now) names
+            → result ≡ list_any (λ other. same_expanded (scope_seen scope.now) other (name_of name.now)) names }
+    {
+        match name {
+            Name::Plain(_) => false,
+            Name::Prefixed { prefix, part } => match scope.find(prefix.as_str()) {
+                Some(namespace) => self.holds(namespace, part.as_str()),
+                None => false,
+            },
+        }
+    }
+
+    /// A name has this local part, and a prefix that stands for this namespace.
+    fn holds(&self, namespace: &str, part: &str) -> bool
+        ensures { (scope : List Binding) (names : List Named) → IsResolved self.now scope names
+            → result ≡ list_any (is_in scope (chars namespace.now) (chars part.now)) names }
+    {
+        self.pairs.has(namespace, part)
+    }
+
+    /// What is kept of the attributes' names, where one more declares what the scope has beyond.
+    pub(crate) fn within(
+        self,
+        alloc: Global,
+        scope: &Scope<'_>,
+        attributes: &Attributes,
+        name: &Name,
+    ) -> Result<Resolved, AllocError>
+        ensures { IfOk result (λ resolved. (old : List Binding) (value : List ℕ)
+            → scope_seen scope.now ≡ old ++ bindings_of (record { name = name_of name.now; value = value } ∷ [])
+            → IsResolved self old (names_of attributes.now)
+            → IsResolved resolved (scope_seen scope.now) (names_of attributes.now)) }
+    {
+        match name.declares() {
+            None => Ok(self),
+            Some(prefix) => {
+                if attributes.uses(prefix) {
+                    return Resolved::of(alloc, scope, attributes.as_slice());
+                }
+                Ok(self)
+            }
+        }
+    }
+
     /// The names of all attributes.
-    pub(crate) fn of(alloc: Global, scope: &Scope<'_>, attributes: &[Attribute]) -> Result<Resolved, AllocError>
+    pub(crate) fn of(
+        alloc: Global,
+        scope: &Scope<'_>,
+        attributes: &[Attribute],
+    ) -> Result<Resolved, AllocError>
         ensures { IfOk result (λ resolved. IsResolved resolved (scope_seen scope.now)
             (names_of (map attribute_of attributes.now))) }
     {

@@ -1,13 +1,13 @@
 // The bindings inside of a tag that is open.
-ghost use Rattle.std.specs.Prelude.{◌≡◌, Some, chars, map};
-ghost use Rattle.std.specs.List.{list_any, list_all};
-ghost use Rattle.dfdl_markup.specs.Values.{found, is_found, same_expanded, same_found, have_same, names_of};
-ghost use Rattle.dfdl_xml_names.specs.Shown.{name_of, attribute_of, lent_text};
+ghost use Rattle.std.specs.Prelude.{◌≡◌, chars};
+ghost use Rattle.std.specs.List.{list_all};
+ghost use Rattle.dfdl_markup.specs.Values.{found, is_found};
+ghost use Rattle.dfdl_xml_names.specs.Shown.{name_of, lent_text};
 ghost use Rattle.dfdl_xml_names.specs.Scoped.{scope_seen};
 
 use crate::bindings::Bindings;
 use crate::frames::Frames;
-use crate::name::{Attribute, Name, same_text};
+use crate::name::{Attribute, Name};
 
 /// What a tag declares, and the elements around it, if they count.
 #[derive(Clone, Copy, Drop)]
@@ -37,79 +37,6 @@ impl<'a> Scope<'a> {
         match name {
             Name::Plain(_) => true,
             Name::Prefixed { prefix, .. } => self.find(prefix.as_str()).is_some(),
-        }
-    }
-
-    /// The names have one local part, and prefixes that stand for one namespace.
-    fn is_same(&self, a: &Name, b: &Name) -> bool
-        ensures { result ≡ same_expanded (scope_seen self.now) (name_of a.now) (name_of b.now) }
-    {
-        match (a, b) {
-            (
-                Name::Prefixed {
-                    prefix: first,
-                    part: one,
-                },
-                Name::Prefixed {
-                    prefix: second,
-                    part: other,
-                },
-            ) => same_text(one.as_str(), other.as_str())
-                && self.agree(first.as_str(), second.as_str()),
-            _ => false,
-        }
-    }
-
-    /// Both prefixes stand for one namespace.
-    fn agree(&self, first: &str, second: &str) -> bool
-        ensures { result ≡ same_found (found (scope_seen self.now) (chars first.now))
-            (found (scope_seen self.now) (chars second.now)) }
-    {
-        match self.find(first) {
-            Some(namespace) => self.stands(second, namespace),
-            None => false,
-        }
-    }
-
-    /// The prefix stands for this namespace.
-    fn stands(&self, prefix: &str, namespace: &str) -> bool
-        ensures { result ≡ same_found (Some (chars namespace.now))
-            (found (scope_seen self.now) (chars prefix.now)) }
-    {
-        match self.find(prefix) {
-            Some(other) => same_text(namespace, other),
-            None => false,
-        }
-    }
-
-    /// An attribute's name is the same as this one.
-    pub(crate) fn has_same(&self, name: &Name, attributes: &[Attribute]) -> bool
-        ensures { result ≡ list_any (λ other. same_expanded (scope_seen self.now) (name_of other.name)
-            (name_of name.now)) attributes.now }
-    {
-        attributes
-            .iter()
-            .any(|other| self.is_same(&other.name, name))
-    }
-
-    /// This name is the same as an attribute's.
-    fn repeats(&self, name: &Name, attributes: &[Attribute]) -> bool
-        ensures { result ≡ list_any (λ other. same_expanded (scope_seen self.now) (name_of name.now)
-            (name_of other.name)) attributes.now }
-    {
-        attributes
-            .iter()
-            .any(|other| self.is_same(name, &other.name))
-    }
-
-    /// Two of the attributes' names are the same.
-    pub(crate) fn clashes(&self, attributes: &[Attribute]) -> bool
-        ensures { result ≡ have_same (same_expanded (scope_seen self.now))
-            (names_of (map attribute_of attributes.now)) }
-    {
-        match attributes {
-            [] => false,
-            [first, others @ ..] => { self.repeats(&first.name, others) || self.clashes(others) }
         }
     }
 

@@ -11,29 +11,34 @@ use crate::attributes::Attributes;
 use crate::bindings::Bindings;
 use crate::frames::Frames;
 use crate::name::{Attribute, Name};
+use crate::resolved::Resolved;
 use crate::scope::Scope;
 use std::alloc::{AllocError, Global};
 use std::marker::Model;
 
-/// A start tag: its name, its attributes, and the bindings that they declare.
+/// A start tag: its name, its attributes, the bindings that they declare, and their names by these.
 #[derive(Debug, Drop)]
 pub struct StartTag {
+    alloc: Global,
     name: Name,
     attributes: Attributes,
     declared: Bindings,
+    resolved: Resolved,
 }
 
 impl Model for StartTag {
     ghost use Rattle.std.specs.Prelude.{◌≡◌};
     ghost use Rattle.dfdl_markup.specs.Machine.{StartTag as Tagged};
-    ghost use Rattle.dfdl_markup.specs.Values.{bindings_of};
+    ghost use Rattle.dfdl_markup.specs.Values.{bindings_of, names_of};
     ghost use Rattle.dfdl_xml_names.specs.Shown.{name_of};
+    ghost use Rattle.dfdl_xml_names.specs.Expanded.{IsResolved};
 
     ghost Value = { Tagged };
 
     ghost view = { λ t. record { name = name_of t.name; attributes = t.attributes } };
 
-    ghost invariant = { λ t. t.declared ≡ bindings_of t.attributes };
+    ghost invariant = { λ t. (t.declared ≡ bindings_of t.attributes)
+        × IsResolved t.resolved (bindings_of t.attributes) (names_of t.attributes) };
 }
 
 impl StartTag {
@@ -42,9 +47,11 @@ impl StartTag {
         ensures { result ≡ tag_of (name_of name) }
     {
         StartTag {
+            alloc,
             name,
             attributes: Attributes::new(alloc),
             declared: Bindings::new(alloc),
+            resolved: Resolved::new(alloc),
         }
     }
 
@@ -98,7 +105,8 @@ impl StartTag {
     pub fn has_clash(&self, frames: &Frames) -> Result<bool, AllocError>
         ensures { IfOk result (λ clash. clash ≡ have_clash (scope_of frames.now) self.now.attributes) }
     {
-        Ok(self.inside(frames).clashes(self.attributes.as_slice()))
+        let resolved = Resolved::of(self.alloc, &self.inside(frames), self.attributes.as_slice())?;
+        Ok(resolved.clash)
     }
 
     /// All prefixes of the tag are found inside of these elements.
@@ -122,7 +130,7 @@ impl StartTag {
         ensures { result ≡ list_any (λ other. same_expanded (bindings_of self.now.attributes) other
             (name_of name.now)) (names_of self.now.attributes) }
     {
-        self.own().has_same(name, self.attributes.as_slice())
+        self.resolved.has(&own(&self.declared), name)
     }
 
     /// Two attributes' names are the same by these namespaces.
@@ -130,7 +138,7 @@ impl StartTag {
         ensures { result ≡ have_same (same_expanded (bindings_of self.now.attributes))
             (names_of self.now.attributes) }
     {
-        self.own().clashes(self.attributes.as_slice())
+        self.resolved.clash
     }
 
     /// The prefixes of the attributes' names are found inside of these elements.
@@ -139,15 +147,6 @@ impl StartTag {
             (scope_of frames.now)) name) (names_of self.now.attributes) }
     {
         self.inside(frames).are_found(self.attributes.as_slice())
-    }
-
-    fn own(&self) -> Scope<'_>
-        ensures { scope_seen result ≡ bindings_of self.now.attributes }
-    {
-        Scope {
-            declared: &self.declared,
-            outer: None,
-        }
     }
 
     fn inside<'a>(&'a self, frames: &'a Frames) -> Scope<'a>
@@ -164,16 +163,32 @@ impl StartTag {
         ensures { IfOk result (λ more. more ≡ tag_with self (name_of name) (text_of value)) }
     {
         let StartTag {
+            alloc,
             name: element,
             attributes,
             declared,
+            resolved,
         } = self;
         let declared = declare(declared, &name, value.as_str())?;
+        let mut resolved = resolved.within(alloc, &own(&declared), &attributes, &name)?;
+        resolved.add(alloc, &own(&declared), &name)?;
         Ok(StartTag {
+            alloc,
             name: element,
             attributes: attributes.with(Attribute { name, value })?,
             declared,
+            resolved,
         })
+    }
+}
+
+// The scope of what a tag declares alone.
+fn own(declared: &Bindings) -> Scope<'_>
+    ensures { scope_seen result ≡ declared.now }
+{
+    Scope {
+        declared,
+        outer: None,
     }
 }
 

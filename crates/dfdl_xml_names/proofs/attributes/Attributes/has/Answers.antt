@@ -8,5 +8,5 @@ use Rattle.dfdl_xml_names.proofs.attributes.Attributes.has.Goals as goal
 pub returns : goal.returns
 returns c =
     c.contains.ensures
-    ∙ (c.self.invariant c.args.name.now c.utf8.name
+    ∙ (c.self.invariant.0 c.args.name.now c.utf8.name
     ∙ ap (list_any (λ (a : values.Attribute). bytes_eq (name_characters a.name) (chars c.args.name.now))) c.self.view_is)

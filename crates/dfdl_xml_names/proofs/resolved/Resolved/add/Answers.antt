@@ -1,5 +1,5 @@
 use Rattle.std.specs.Str.{chars}
-use Rattle.std.specs.Prelude.{string_bytes, ◌++◌, ◌∷◌, []}
+use Rattle.std.specs.Prelude.{◌++◌, ◌∷◌, []}
 use Rattle.std.proofs.Common.{sym, ap, ◌∙◌, subst}
 use Rattle.dfdl_markup.specs.Values.{found}
 use Rattle.dfdl_xml_names.specs.Shown.{text_of, name_of}
@@ -13,14 +13,14 @@ use Rattle.dfdl_xml_names.proofs.resolved.Resolved.add.Goals as goal
 pub returns-in-Plain : goal.returns-in-Plain
 returns-in-Plain c = λ names kept.
     subst (λ n. IsResolved c.args.self.now (scope_seen c.args.scope.now) (names ++ name_of n ∷ [])) (sym c.in-Plain.is)
-      (add_plain c.args.self.now (scope_seen c.args.scope.now) names (text_of c.in-Plain.field-0) kept)
+    (add_plain c.args.self.now (scope_seen c.args.scope.now) names (text_of c.in-Plain.field-0) kept)
 
 pub returns-in-None : goal.returns-in-None
 returns-in-None c = λ names kept.
     let scope = scope_seen c.args.scope.now in
     subst (λ n. IsResolved c.args.self.now scope (names ++ name_of n ∷ [])) (sym c.in-Prefixed.is)
-      (add_unfound c.args.self.now scope names (text_of c.in-Prefixed.prefix) (text_of c.in-Prefixed.part)
-        (sym (c.in-None.ensures ∙ ap (λ l. found scope (chars l)) c.as_str.ensures.value)) kept)
+    (add_unfound c.args.self.now scope names (text_of c.in-Prefixed.prefix) (text_of c.in-Prefixed.part)
+    (sym (c.in-None.ensures ∙ ap (λ l. found scope (chars l)) c.as_str.ensures.value)) kept)
 
 pub returns-in-Some : goal.returns-in-Some
 returns-in-Some c =
@@ -29,6 +29,6 @@ returns-in-Some c =
     let is = sym (c.in-Some.ensures ∙ ap (λ l. found scope (chars l)) c.as_str.ensures.value) in
     on_ok c.take.result c.take.ensures
     (λ more names kept.
-        subst (λ n. IsResolved c.take.new.self scope (names ++ name_of n ∷ [])) (sym c.in-Prefixed.is)
-          (subst (λ l. IsResolved c.take.new.self scope (names ++ Prefixed prefix (chars l) ∷ [])) c.as_str-in-Some.ensures.value
-            (more scope names prefix is kept)))
+    subst (λ n. IsResolved c.take.new.self scope (names ++ name_of n ∷ [])) (sym c.in-Prefixed.is)
+    (subst (λ l. IsResolved c.take.new.self scope (names ++ Prefixed prefix (chars l) ∷ [])) c.as_str-in-Some.ensures.value
+    (more scope names prefix is kept)))

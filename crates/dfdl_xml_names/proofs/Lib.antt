@@ -3,3 +3,4 @@ mod Kept
 mod Opened
 mod Lists
 mod Expanded
+mod Rules

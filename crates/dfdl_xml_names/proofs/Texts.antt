@@ -1,10 +1,11 @@
 -- Texts as characters: they are alike exactly where their bytes are.
 use Rattle.std.specs.Prelude.{◌≡◌, ℕ, Bool, true, false, List, ◌++◌, ◌∷◌, [], String, encode_utf8}
-use Rattle.std.specs.Prelude.{Result, Ok, Err, OnOk}
+use Rattle.std.specs.Prelude.{Result, Ok, Err, OnOk, length, ◌==◌, suc}
 use Rattle.std.specs.Str.{bytes_eq, chars, IsUtf8, encode_utf8_all}
 use Rattle.std.specs.String.{string_bytes}
 use Rattle.dfdl_markup.specs.Values.{xml_prefix, xmlns_prefix}
-use Rattle.std.proofs.Common.{refl, sym, ap, ◌∙◌, append_assoc}
+use Rattle.std.proofs.Common.{refl, sym, ap, ◌∙◌, append_assoc, arith}
+use Rattle.std.proofs.lemmas.Bool.Decides.{nat_tests}
 use Rattle.std.proofs.lemmas.Str.{encodes-chars, chars-append, chars-nil, IsUtf8-had}
 use Rattle.std.proofs.lemmas.Str.{IsUtf8-append}
 use Rattle.std.proofs.lemmas.Slice.Eq.{bytes_eq-Decides}
@@ -78,3 +79,18 @@ on_ok (Err e) p f = tt
 pub on_both : {T E : Type 0} {P Q R : Type 0} (r : Result T E) → OnOk r P → OnOk r Q → (P → Q → R) → OnOk r R
 on_both (Ok x) p q f = f p q
 on_both (Err e) p q f = tt
+
+pub not_none : (n : ℕ) → (suc n == 0) ≡ false
+not_none n = grind (arith, nat_tests)
+
+-- a text has a character exactly where it has a byte
+pub none_alike : (xs : List ℕ) → IsUtf8 xs → (length xs == 0) ≡ (length (chars xs) == 0)
+none_alike [] u = ap (λ l. length l == 0) (sym chars-nil)
+none_alike (x ∷ xs) u = some (chars (x ∷ xs)) (λ e. cons≢nil (sym (encodes-chars (x ∷ xs) u) ∙ ap encode_utf8_all e))
+  where
+    cons≢nil : x ∷ xs ≡ [] → ⊥
+    cons≢nil e = absurd (cc)
+
+    some : (cs : List ℕ) → (cs ≡ [] → ⊥) → (length (x ∷ xs) == 0) ≡ (length cs == 0)
+    some [] h = absurd (h refl)
+    some (c ∷ cs) h = not_none (length xs) ∙ sym (not_none (length cs))

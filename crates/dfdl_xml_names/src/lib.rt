@@ -5,6 +5,7 @@
 #![tactic(auto)]
 
 mod attributes;
+mod binding_rules;
 mod bindings;
 mod element;
 mod frames;
@@ -14,6 +15,7 @@ mod resolved;
 mod scope;
 mod tag;
 
+pub use binding_rules::{may_bind, may_close};
 pub use frames::Frames;
 pub use name::{Attribute, Name, fixed_namespace};
 pub use tag::StartTag;

@@ -136,13 +136,13 @@ fn is_xmlns(prefix: &str) -> bool
     prefix == "xmlns"
 }
 
-fn xml_namespace() -> &'static str
+pub(crate) fn xml_namespace() -> &'static str
     ensures { chars result.now ≡ xml_namespace }
 {
     "http://www.w3.org/XML/1998/namespace"
 }
 
-fn xmlns_namespace() -> &'static str
+pub(crate) fn xmlns_namespace() -> &'static str
     ensures { chars result.now ≡ xmlns_namespace }
 {
     "http://www.w3.org/2000/xmlns/"

@@ -1,5 +1,5 @@
 -- An order that is being made grows by a component that is ready.
-use Rattle.std.proofs.Common.{◌≡◌, ◌≢◌, if◌then◌else◌, ℕ, ◌+◌, ◌<◌, ◌≤◌, ◌&&◌, List, [], ◌∷◌, ◌++◌, length, set, get_or, Bool, true, false, nat_lt, nat_le, All, sym, ap, subst, ◌∙◌, refl, arith, inl, inr, get_or-set_same, get_or-set_other, length-set, length-append}
+use Rattle.std.proofs.Common.{◌≡◌, ◌≢◌, if◌then◌else◌, ℕ, ◌+◌, ◌<◌, ◌≤◌, List, [], ◌∷◌, ◌++◌, length, set, get_or, Bool, true, nat_lt, nat_le, All, sym, ap, subst, ◌∙◌, arith, inl, inr, get_or-set_same, get_or-set_other, length-set, length-append}
 use Rattle.std.specs.List.{list_all, sum_by}
 use Rattle.std.proofs.Math.ListN.{get_or-append}
 use Rattle.std.proofs.Math.Seq.{get_or-append_seam}
@@ -16,7 +16,7 @@ all_at p xs e = AllPass-from_list_all p xs e
 open_is : (n r : ℕ) → n ≤ r → open_one n r ≡ 1
 open_is n r h = ap (λ (b : Bool). if b then 0 else 1) (le-ltb r n h)
 
-placed_is : (n r : ℕ) → r < n → open_one n r ≡ 0
+pub placed_is : (n r : ℕ) → r < n → open_one n r ≡ 0
 placed_is n r h = ap (λ (b : Bool). if b then 0 else 1) (lt-ltb r n h)
 
 -- what is known where a component is ready
@@ -34,7 +34,7 @@ counted_more : (n : ℕ) (rank : List ℕ) (c r : ℕ) → length rank ≡ n →
     → sum_by (open_one n) (set rank c r) + 1 ≡ sum_by (open_one n) rank
 counted_more n rank c r long within unplaced small =
     let moved : sum_by (open_one n) (set rank c r) + open_one n (get_or rank c 0) ≡ sum_by (open_one n) rank + open_one n r
-        = sum_by-set (open_one n) rank c r 0 (omega (arith, long)) in
+    = sum_by-set (open_one n) rank c r 0 (omega (arith, long)) in
     omega (arith, moved, open_is n (get_or rank c 0) unplaced, placed_is n r small)
 
 -- fewer components have a place than there are, where one has none
@@ -43,12 +43,11 @@ pub room : (uses : List (List ℕ)) (order : Places) (c : ℕ) → IsPart uses o
 room uses order c part within unplaced =
     let n : ℕ = length uses in
     let more : sum_by (open_one n) (set order.rank c 0) + 1 ≡ sum_by (open_one n) order.rank
-        = counted_more n order.rank c 0 part.ranked within unplaced (omega arith) in
+    = counted_more n order.rank c 0 part.ranked within unplaced (omega arith) in
     omega (arith, more, part.counted)
 
 module _ (uses : List (List ℕ)) (list rank : List ℕ) (c : ℕ) (within : c < length uses) (closed : IsClosed uses)
     (part : IsPart uses (placed list rank)) (ready : is_ready uses (placed list rank) c ≡ true) where
-
   n : ℕ
   n = length uses
 
@@ -81,8 +80,7 @@ module _ (uses : List (List ℕ)) (list rank : List ℕ) (c : ℕ) (within : c <
       → (get_or (set rank c (length list)) b 0 < length (list ++ c ∷ [])) × (get_or (list ++ c ∷ []) (get_or (set rank c (length list)) b 0) 0 ≡ b)
   place_old b inside other has =
       let same : get_or (set rank c (length list)) b 0 ≡ get_or rank b 0 = at_other b other in
-      let old : (get_or rank b 0 < length list) × (get_or list (get_or rank b 0) 0 ≡ b) = part.place b inside (omega (arith, same, has)) in
-      (
+      let old : (get_or rank b 0 < length list) × (get_or list (get_or rank b 0) 0 ≡ b) = part.place b inside (omega (arith, same, has)) in (
         omega (arith, same, old.0, length-append list (c ∷ [])),
         ap (λ (k : ℕ). get_or (list ++ c ∷ []) k 0) same ∙ (get_or-append list (c ∷ []) 0 (get_or rank b 0) old.0 ∙ old.1),
       )
@@ -90,8 +88,7 @@ module _ (uses : List (List ℕ)) (list rank : List ℕ) (c : ℕ) (within : c <
   place_new : (b : ℕ) → b ≡ c
       → (get_or (set rank c (length list)) b 0 < length (list ++ c ∷ [])) × (get_or (list ++ c ∷ []) (get_or (set rank c (length list)) b 0) 0 ≡ b)
   place_new b is =
-      let same : get_or (set rank c (length list)) b 0 ≡ length list = ap (λ (k : ℕ). get_or (set rank c (length list)) k 0) is ∙ at_c in
-      (
+      let same : get_or (set rank c (length list)) b 0 ≡ length list = ap (λ (k : ℕ). get_or (set rank c (length list)) k 0) is ∙ at_c in (
         omega (arith, same, length-append list (c ∷ [])),
         ap (λ (k : ℕ). get_or (list ++ c ∷ []) k 0) same ∙ (get_or-append_seam list c [] 0 ∙ sym is),
       )
@@ -101,8 +98,7 @@ module _ (uses : List (List ℕ)) (list rank : List ℕ) (c : ℕ) (within : c <
   component_old i small =
       let same : get_or (list ++ c ∷ []) i 0 ≡ get_or list i 0 = get_or-append list (c ∷ []) 0 i small in
       let old : (get_or list i 0 < length uses) × (get_or rank (get_or list i 0) 0 ≡ i) = part.component i small in
-      let other : get_or list i 0 ≢ c = is_other (get_or list i 0) (omega (arith, old.1, fits, small)) in
-      (
+      let other : get_or list i 0 ≢ c = is_other (get_or list i 0) (omega (arith, old.1, fits, small)) in (
         omega (arith, same, old.0),
         ap (λ (k : ℕ). get_or (set rank c (length list)) k 0) same ∙ (at_other (get_or list i 0) other ∙ old.1),
       )
@@ -110,8 +106,7 @@ module _ (uses : List (List ℕ)) (list rank : List ℕ) (c : ℕ) (within : c <
   component_new : (i : ℕ) → i ≡ length list
       → (get_or (list ++ c ∷ []) i 0 < length uses) × (get_or (set rank c (length list)) (get_or (list ++ c ∷ []) i 0) 0 ≡ i)
   component_new i is =
-      let same : get_or (list ++ c ∷ []) i 0 ≡ c = ap (λ (k : ℕ). get_or (list ++ c ∷ []) k 0) is ∙ get_or-append_seam list c [] 0 in
-      (
+      let same : get_or (list ++ c ∷ []) i 0 ≡ c = ap (λ (k : ℕ). get_or (list ++ c ∷ []) k 0) is ∙ get_or-append_seam list c [] 0 in (
         omega (arith, same, within),
         ap (λ (k : ℕ). get_or (set rank c (length list)) k 0) same ∙ (at_c ∙ sym is),
       )
@@ -129,10 +124,10 @@ module _ (uses : List (List ℕ)) (list rank : List ℕ) (c : ℕ) (within : c <
       let same : get_or (set rank c (length list)) b 0 ≡ get_or rank b 0 = at_other b other in
       let old : All (λ p. (p < length uses) × (get_or rank p 0 < get_or rank b 0)) (uses_of uses b) = part.falls b inside (omega (arith, same, has)) in
       All-from_get_or (λ p. (p < length uses) × (get_or (set rank c (length list)) p 0 < get_or (set rank c (length list)) b 0)) (uses_of uses b) 0
-        (λ i small.
-          let one : (get_or (uses_of uses b) i 0 < length uses) × (get_or rank (get_or (uses_of uses b) i 0) 0 < get_or rank b 0)
-              = All-get_or (λ p. (p < length uses) × (get_or rank p 0 < get_or rank b 0)) (uses_of uses b) i 0 small old in
-          falls_at (get_or (uses_of uses b) i 0) (get_or rank b 0) (get_or (set rank c (length list)) b 0) one.0 one.1 (omega (arith, same, has)) (sym same))
+      (λ i small.
+      let one : (get_or (uses_of uses b) i 0 < length uses) × (get_or rank (get_or (uses_of uses b) i 0) 0 < get_or rank b 0)
+      = All-get_or (λ p. (p < length uses) × (get_or rank p 0 < get_or rank b 0)) (uses_of uses b) i 0 small old in
+      falls_at (get_or (uses_of uses b) i 0) (get_or rank b 0) (get_or (set rank c (length list)) b 0) one.0 one.1 (omega (arith, same, has)) (sym same))
 
   falls_new : (b : ℕ) → b ≡ c
       → All (λ p. (p < length uses) × (get_or (set rank c (length list)) p 0 < get_or (set rank c (length list)) b 0)) (uses_of uses b)
@@ -141,13 +136,13 @@ module _ (uses : List (List ℕ)) (list rank : List ℕ) (c : ℕ) (within : c <
       let inside : All (λ p. p < length uses) (uses_of uses c) = All-get_or (λ parts. All (λ p. p < length uses) parts) uses c [] within closed in
       let known : All (λ p. nat_lt (get_or rank p 0) (length uses) ≡ true) (uses_of uses c) = ready_parts uses (placed list rank) c ready in
       let all : All (λ p. (p < length uses) × (get_or (set rank c (length list)) p 0 < get_or (set rank c (length list)) b 0)) (uses_of uses c)
-          = All-from_get_or (λ p. (p < length uses) × (get_or (set rank c (length list)) p 0 < get_or (set rank c (length list)) b 0)) (uses_of uses c) 0
-              (λ i small.
-                let p : ℕ = get_or (uses_of uses c) i 0 in
-                let low : p < length uses = All-get_or (λ q. q < length uses) (uses_of uses c) i 0 small inside in
-                let has : get_or rank p 0 < length uses = ltb-true (get_or rank p 0) (length uses)
-                    (All-get_or (λ q. nat_lt (get_or rank q 0) (length uses) ≡ true) (uses_of uses c) i 0 small known) in
-                falls_at p (length list) (get_or (set rank c (length list)) b 0) low ((part.place p low has).0) (omega (arith, fits)) (sym same)) in
+      = All-from_get_or (λ p. (p < length uses) × (get_or (set rank c (length list)) p 0 < get_or (set rank c (length list)) b 0)) (uses_of uses c) 0
+      (λ i small.
+      let p : ℕ = get_or (uses_of uses c) i 0 in
+      let low : p < length uses = All-get_or (λ q. q < length uses) (uses_of uses c) i 0 small inside in
+      let has : get_or rank p 0 < length uses = ltb-true (get_or rank p 0) (length uses)
+      (All-get_or (λ q. nat_lt (get_or rank q 0) (length uses) ≡ true) (uses_of uses c) i 0 small known) in
+      falls_at p (length list) (get_or (set rank c (length list)) b 0) low ((part.place p low has).0) (omega (arith, fits)) (sym same)) in
       subst (λ (k : ℕ). All (λ p. (p < length uses) × (get_or (set rank c (length list)) p 0 < get_or (set rank c (length list)) b 0)) (uses_of uses k)) (sym is) all
 
   pub added : IsPart uses (placed (list ++ c ∷ []) (set rank c (length list)))

@@ -1,2 +1,4 @@
+mod Ends
 mod Fill
+pub mod Over
 mod Spans

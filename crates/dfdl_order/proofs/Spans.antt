@@ -1,5 +1,5 @@
 -- Parts that are added behind the others are in no span of before.
-use Rattle.std.proofs.Common.{◌≡◌, ℕ, ◌+◌, ◌-◌, ◌<◌, ◌≤◌, List, [], ◌∷◌, ◌++◌, length, map, take, drop, get_or, All, sym, ap, subst, ◌∙◌, refl, arith, length-append}
+use Rattle.std.proofs.Common.{◌≡◌, ℕ, ◌-◌, ◌≤◌, List, [], ◌∷◌, ◌++◌, length, take, drop, ap, ◌∙◌, refl, arith, length-append}
 use Rattle.std.proofs.lemmas.List.{drop-append-le, take-append-le, length-drop, map-append}
 use Rattle.std.proofs.Math.Seq.{drop-append_seam, take-length}
 use Rattle.std.proofs.lemmas.List.Elements.{All-tail}
@@ -17,7 +17,7 @@ lists_same parts more (s ∷ spans) all =
     let first : (s.begin ≤ s.end) × (s.end ≤ length parts) = all 0 s (omega arith) in
     ap (λ (xs : List ℕ). xs ∷ lists_in (parts ++ more) spans) (one_same parts more s first.0 first.1)
     ∙ ap (λ (xss : List (List ℕ)). parts_in parts s ∷ xss)
-        (lists_same parts more spans (All-tail (λ (t : Span). (t.begin ≤ t.end) × (t.end ≤ length parts)) s spans all))
+    (lists_same parts more spans (All-tail (λ (t : Span). (t.begin ≤ t.end) × (t.end ≤ length parts)) s spans all))
 
 -- the span behind all parts has those that are added
 last_is : (parts more : List ℕ) → take (length (parts ++ more) - length parts) (drop (length parts) (parts ++ more)) ≡ more
@@ -30,8 +30,8 @@ pub pushed : (parts more : List ℕ) (spans : List Span) (s : Span) → s.begin 
     → lists_in (parts ++ more) (spans ++ s ∷ []) ≡ lists_in parts spans ++ more ∷ []
 pushed parts more spans s begin end all =
     let last : parts_in (parts ++ more) s ≡ more
-        = ap (λ (k : ℕ). take (s.end - k) (drop k (parts ++ more))) begin
-          ∙ (ap (λ (k : ℕ). take (k - length parts) (drop (length parts) (parts ++ more))) end ∙ last_is parts more) in
+    = ap (λ (k : ℕ). take (s.end - k) (drop k (parts ++ more))) begin
+    ∙ (ap (λ (k : ℕ). take (k - length parts) (drop (length parts) (parts ++ more))) end ∙ last_is parts more) in
     map-append (parts_in (parts ++ more)) spans (s ∷ [])
     ∙ (ap (λ (xss : List (List ℕ)). xss ++ parts_in (parts ++ more) s ∷ []) (lists_same parts more spans all)
     ∙ ap (λ (xs : List ℕ). lists_in parts spans ++ xs ∷ []) last)

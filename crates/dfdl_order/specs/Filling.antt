@@ -1,5 +1,5 @@
 -- Mirror for the prover: an order that is being made. A component without a place has the rank `length uses` or more.
-use Rattle.std.specs.Prelude.{◌≡◌, ℕ, ◌+◌, ◌<◌, ◌≤◌, ◌&&◌, List, [], length, All, get_or, Bool, true, false, nat_lt, nat_le, if◌then◌else◌}
+use Rattle.std.specs.Prelude.{◌≡◌, ℕ, ◌+◌, ◌<◌, ◌≤◌, ◌&&◌, List, length, All, get_or, Bool, true, false, nat_lt, nat_le, if◌then◌else◌}
 use Rattle.std.specs.List.{list_all, sum_by}
 use Rattle.dfdl_order.specs.Parts.{uses_of, Places}
 
@@ -36,3 +36,13 @@ NoneReady uses order = (c : ℕ) → c < length uses → is_ready uses order c �
 -- a component is ready
 abbrev pub IsNextReady : List (List ℕ) → Places → ℕ → Type 0
 IsNextReady uses order c = (c < length uses) × (is_ready uses order c ≡ true)
+
+-- each component has a place
+abbrev pub AllPlaced : List (List ℕ) → Places → Type 0
+AllPlaced uses order = (c : ℕ) → c < length uses → get_or order.rank c 0 < length uses
+
+-- a component has no place, and each one before it has one
+pub record IsFirstUnplaced (uses : List (List ℕ)) (order : Places) (c : ℕ) : Type 0 where
+  pub within : c < length uses
+  pub unplaced : length uses ≤ get_or order.rank c 0
+  pub before : (b : ℕ) → b < c → get_or order.rank b 0 < length uses

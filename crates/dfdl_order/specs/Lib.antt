@@ -1,4 +1,5 @@
 pub mod Parts
+pub mod Folds
 pub mod Cycles
 pub mod UsesShown
 pub mod Filling

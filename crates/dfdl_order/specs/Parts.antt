@@ -1,5 +1,5 @@
 -- Components and their parts: each component is a number, and a list has each one's parts in schema order.
-use Rattle.std.specs.Prelude.{◌≡◌, ℕ, zero, suc, ◌<◌, List, [], map, length, All, get_or}
+use Rattle.std.specs.Prelude.{◌≡◌, ℕ, ◌<◌, List, [], length, All, get_or}
 
 -- the parts of a component
 abbrev pub uses_of : List (List ℕ) → ℕ → List ℕ
@@ -8,15 +8,6 @@ uses_of uses c = get_or uses c []
 -- each part is a component
 abbrev pub IsClosed : List (List ℕ) → Type 0
 IsClosed uses = All (λ parts. All (λ p. p < length uses) parts) uses
-
--- the value of a component, by a step from the values of its parts; `none` is the value past so many levels of parts
-unfoldable pub over : {V : Type 0} → (ℕ → List ℕ) → (ℕ → List V → V) → V → ℕ → ℕ → V
-over parts step none zero c = none
-over parts step none (suc n) c = step c (map (over parts step none n) (parts c))
-
--- the value of a component, by recursion on parts
-abbrev pub value_by : {V : Type 0} → List (List ℕ) → (ℕ → List V → V) → V → ℕ → V
-value_by uses step none c = over (uses_of uses) step none (length uses) c
 
 -- a list of components, and the place of each one in it
 pub record Places : Type 0 where

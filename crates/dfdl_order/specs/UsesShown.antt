@@ -1,5 +1,5 @@
 -- Mirror for the prover: how the parts of components are kept.
-use Rattle.std.specs.Prelude.{◌≡◌, ℕ, ◌-◌, ◌<◌, ◌≤◌, List, map, take, drop, length, All}
+use Rattle.std.specs.Prelude.{ℕ, ◌-◌, ◌≤◌, List, map, take, drop, length, All}
 use Rattle.dfdl_order.specs.declared.uses.Span.{Span}
 
 -- the parts within a span

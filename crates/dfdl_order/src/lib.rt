@@ -6,9 +6,13 @@
 #![tactic(auto)]
 
 mod fault;
+pub mod laws;
 mod order;
+mod search;
+#[cfg(test)]
+mod tests;
 mod uses;
 
 pub use fault::OrderFault;
-pub use order::Order;
+pub use order::{Order, order_of};
 pub use uses::Uses;

@@ -1,8 +1,10 @@
-ghost use Rattle.std.specs.Prelude.{◌≡◌, ℕ, ◌+◌, ◌<◌, ◌≤◌, ◌^◌, List, [], length, All, get_or, IfOk, OnOk, IfSome, MatchOption, true, false};
+ghost use Rattle.std.specs.Prelude.{◌≡◌, ℕ, ◌+◌, ◌<◌, ◌≤◌, ◌^◌, List, [], length, All, get_or, IfOk, IfErr, OnOk, MatchOption, true, false};
 ghost use Rattle.dfdl_order.specs.Parts.{uses_of, IsClosed, IsOrder};
-ghost use Rattle.dfdl_order.specs.Filling.{IsPart, all_ranked, is_ready, NoneReady, IsNextReady};
+ghost use Rattle.dfdl_order.specs.Filling.{IsPart, all_ranked, is_ready, NoneReady, IsNextReady, AllPlaced, IsFirstUnplaced};
+ghost use Rattle.dfdl_order.specs.Cycles.{IsFaultOf};
 
-use crate::Uses;
+use crate::search::finishing_order;
+use crate::{OrderFault, Uses};
 use std::alloc::{AllocError, Global};
 use std::marker::Model;
 
@@ -42,7 +44,10 @@ impl Order {
         ensures { IfOk result (IsPart uses.now) }
     {
         let rank = vec![in alloc; u32::MAX; uses.count() as usize]?;
-        Ok(Order { list: Vec::new(alloc), rank })
+        Ok(Order {
+            list: Vec::new(alloc),
+            rank,
+        })
     }
 
     // Each of these components has a place.
@@ -127,4 +132,45 @@ impl Order {
         }
         Ok(())
     }
+
+    // The first component that has no place.
+    fn first_unplaced(&self, uses: &Uses) -> Option<u32>
+        requires part { IsPart uses.now self.now }
+        ensures { MatchOption result (AllPlaced uses.now self.now) (IsFirstUnplaced uses.now self.now) }
+    {
+        let count = uses.count();
+        for component in 0..count {
+            if self.rank[component as usize] >= count {
+                return Some(component);
+            }
+        }
+        None
+    }
+}
+
+/// An order of components, or the first one whose parts do not end.
+pub fn order_of(alloc: Global, uses: &Uses) -> Result<Order, OrderFault>
+    requires { IsClosed uses.now }
+    ensures ordered { IfOk result (IsOrder uses.now) }
+    ensures fault { IfErr result (IsFaultOf uses.now) }
+{
+    let Ok(order) = largest(alloc, uses) else {
+        return Err(OrderFault::OutOfMemory);
+    };
+    if let Some(component) = order.first_unplaced(uses) {
+        return Err(OrderFault::Endless { component });
+    }
+    Ok(order)
+}
+
+// An order of all components that can have a place.
+fn largest(alloc: Global, uses: &Uses) -> Result<Order, AllocError>
+    requires { IsClosed uses.now }
+    ensures part { IfOk result (IsPart uses.now) }
+    ensures full { IfOk result (NoneReady uses.now) }
+{
+    let first = finishing_order(alloc, uses)?;
+    let mut order = Order::empty(alloc, uses)?;
+    order.fill(uses, first.as_slice())?;
+    Ok(order)
 }

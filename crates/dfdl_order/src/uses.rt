@@ -1,4 +1,4 @@
-ghost use Rattle.std.specs.Prelude.{◌≡◌, ℕ, ◌<◌, ◌≤◌, ◌^◌, List, [], ◌∷◌, ◌++◌, length, All, OnOk, OnErr, IfErr};
+ghost use Rattle.std.specs.Prelude.{◌≡◌, ℕ, ◌<◌, ◌≤◌, ◌^◌, List, [], ◌∷◌, ◌++◌, length, All, OnOk, OnErr, IfErr, IsTrue, false};
 ghost use Rattle.dfdl_order.specs.declared.fault.OrderFault.TheVariants.{OutOfMemory};
 ghost use Rattle.dfdl_order.specs.Parts.{uses_of, IsClosed};
 
@@ -75,4 +75,26 @@ impl Uses {
         };
         Ok(())
     }
+
+    /// Each part is a component.
+    pub fn is_closed(&self) -> bool
+        ensures closed { IsTrue result → IsClosed self.now }
+        ensures unknown { result ≡ false → IsClosed self.now → ⊥ }
+    {
+        let count = self.count();
+        for component in 0..count {
+            if !are_below(self.of(component), count) {
+                return false;
+            }
+        }
+        true
+    }
+}
+
+// Each of these numbers is below a bound.
+fn are_below(parts: &[u32], count: u32) -> bool
+    ensures below { IsTrue result → All (λ p. p < count) parts.now }
+    ensures other { result ≡ false → All (λ p. p < count) parts.now → ⊥ }
+{
+    parts.iter().all(|part| *part < count)
 }

@@ -1,4 +1,4 @@
-use Rattle.std.proofs.Common.{◌≡◌, ℕ, List, ◌++◌, ◌∷◌, [], ◌∙◌, sym, ap, refl, length, arith}
+use Rattle.std.proofs.Common.{◌≡◌, ℕ, List, ◌++◌, ◌∷◌, [], ◌∙◌, ap, length, arith}
 use Rattle.dfdl_order.specs.UsesShown.{lists_in}
 use Rattle.dfdl_order.specs.declared.uses.Span.{Span}
 use Rattle.dfdl_order.proofs.Spans.{lists_same, pushed}

@@ -1,0 +1,4 @@
+pub mod Scoping
+pub mod Expressions
+pub mod Shown
+pub mod Told

@@ -1,0 +1,1 @@
+// Scoping as the standard has it.

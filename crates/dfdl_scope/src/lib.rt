@@ -10,12 +10,16 @@ mod component;
 mod expression;
 mod format;
 mod properties;
+mod row;
+mod table;
 
 pub use asking::{Asked, property};
 pub use component::{Component, Element};
 pub use expression::{is_expression, literal};
 pub use format::Format;
 pub use properties::Properties;
+pub use row::{Absence, Form, PropertyRow, Values};
+pub use table::property_rows;
 
 #[cfg(test)]
 mod tests;

@@ -1,1 +1,166 @@
-// Scoping as the standard has it.
+// Scoping as 'Property Scoping and DFDL Schema Checking' has it, and values that are expressions.
+use super::{Asked, Component, Element, Format, Properties, is_expression, literal, property};
+use dfdl_report::Place;
+use std::alloc::{AllocError, Global};
+use std::test::Fail;
+
+/// Properties with one name.
+fn one(
+    alloc: Global,
+    name: &'static str,
+    value: &'static str,
+) -> Result<Properties<'static>, AllocError> {
+    let mut properties = Properties::new(alloc);
+    properties.add(name, value)?;
+    Ok(properties)
+}
+
+/// A place in the first document.
+fn at(byte: u64) -> Place {
+    Place {
+        document: 0,
+        at: byte,
+    }
+}
+
+#[test]
+fn an_element_reference_and_its_element_may_not_both_give_a_property(
+    rt: HostRuntime,
+) -> Result<(), Fail> {
+    let alloc = rt.alloc();
+    let reference = one(alloc, "encoding", "UTF-8")?;
+    let global = one(alloc, "encoding", "UTF-8")?;
+    let mut component = Component::new(alloc);
+    component.push_element(Element {
+        place: at(120),
+        own: &reference,
+        format: None,
+        default: None,
+    })?;
+    component.push_element(Element {
+        place: at(40),
+        own: &global,
+        format: None,
+        default: None,
+    })?;
+    assert!(rt; property(&component, "encoding") == Asked::Twice { place: at(120) });
+    assert!(rt; property(&component, "byteOrder") == Asked::Absent);
+    Ok(())
+}
+
+#[test]
+fn the_format_that_is_referred_to_wins_over_the_default(rt: HostRuntime) -> Result<(), Fail> {
+    let alloc = rt.alloc();
+    let own = one(alloc, "lengthKind", "implicit")?;
+    let format = Format::new(one(alloc, "byteOrder", "littleEndian")?);
+    let mut defaults = one(alloc, "byteOrder", "bigEndian")?;
+    let was = defaults.add("encoding", "ASCII")?;
+    assert!(rt; !was);
+    let default = Format::new(defaults);
+    let mut component = Component::new(alloc);
+    component.push_element(Element {
+        place: at(8),
+        own: &own,
+        format: Some(&format),
+        default: Some(&default),
+    })?;
+    assert!(rt; property(&component, "byteOrder") == Asked::Given("littleEndian"));
+    assert!(rt; property(&component, "lengthKind") == Asked::Given("implicit"));
+    assert!(rt; property(&component, "encoding") == Asked::Given("ASCII"));
+    assert!(rt; property(&component, "bitOrder") == Asked::Absent);
+    Ok(())
+}
+
+#[test]
+fn a_nearer_format_wins_and_local_properties_win_over_both(rt: HostRuntime) -> Result<(), Fail> {
+    let alloc = rt.alloc();
+    let own = one(alloc, "terminator", ";")?;
+    let mut far = one(alloc, "separator", "far")?;
+    far.add("terminator", "far")?;
+    far.add("initiator", "far")?;
+    let base = Format::new(far);
+    let mut near = one(alloc, "separator", "near")?;
+    near.add("terminator", "near")?;
+    let format = Format::over(near, &base)?;
+    let mut component = Component::new(alloc);
+    component.push_element(Element {
+        place: at(0),
+        own: &own,
+        format: Some(&format),
+        default: None,
+    })?;
+    assert!(rt; property(&component, "terminator") == Asked::Given(";"));
+    assert!(rt; property(&component, "separator") == Asked::Given("near"));
+    assert!(rt; property(&component, "initiator") == Asked::Given("far"));
+    Ok(())
+}
+
+#[test]
+fn the_first_default_of_the_documents_wins(rt: HostRuntime) -> Result<(), Fail> {
+    let alloc = rt.alloc();
+    let own = Properties::new(alloc);
+    let first = Format::new(one(alloc, "encoding", "UTF-8")?);
+    let mut others = one(alloc, "encoding", "ASCII")?;
+    others.add("byteOrder", "bigEndian")?;
+    let second = Format::new(others);
+    let mut component = Component::new(alloc);
+    component.push_element(Element {
+        place: at(0),
+        own: &own,
+        format: None,
+        default: Some(&first),
+    })?;
+    component.push_element(Element {
+        place: Place { document: 1, at: 0 },
+        own: &own,
+        format: None,
+        default: Some(&second),
+    })?;
+    assert!(rt; property(&component, "encoding") == Asked::Given("UTF-8"));
+    assert!(rt; property(&component, "byteOrder") == Asked::Given("bigEndian"));
+    Ok(())
+}
+
+#[test]
+fn a_property_of_two_forms_is_seen(rt: HostRuntime) -> Result<(), Fail> {
+    let mut own = one(rt.alloc(), "length", "4")?;
+    let was = own.add("length", "5")?;
+    assert!(rt; was);
+    assert!(rt; own.get("length") == Some("4"));
+    Ok(())
+}
+
+#[test]
+fn braces_begin_expressions(rt: HostRuntime) -> Result<(), Fail> {
+    assert!(rt; is_expression("{../n}"));
+    assert!(rt; is_expression("{"));
+    assert!(rt; !is_expression("{{"));
+    assert!(rt; !is_expression(""));
+    assert!(rt; !is_expression(" {1}"));
+    assert_eq!(rt; literal("{{x}"), "{x}");
+    assert_eq!(rt; literal("x"), "x");
+    assert_eq!(rt; literal("{{{"), "{{");
+    Ok(())
+}
+
+/// So many names, each one different.
+fn names(alloc: Global, count: u32) -> Result<Vec<String>, AllocError> {
+    let mut names = Vec::new(alloc);
+    for number in 0..count {
+        names.push(format!(in alloc; "name{number}")?)?;
+    }
+    Ok(names)
+}
+
+#[test]
+fn many_properties_are_found_without_a_walk(rt: HostRuntime) -> Result<(), Fail> {
+    let names = names(rt.alloc(), 32_000)?;
+    let mut own = Properties::new(rt.alloc());
+    for name in names.iter() {
+        own.add(name.as_str(), name.as_str())?;
+    }
+    for name in names.iter() {
+        assert!(rt; own.get(name.as_str()) == Some(name.as_str()));
+    }
+    Ok(())
+}

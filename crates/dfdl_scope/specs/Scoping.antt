@@ -1,6 +1,6 @@
 -- Which value a property has at a schema component: 'Property Scoping and DFDL Schema Checking'. A name and a value are
 -- the bytes of a text.
-use Rattle.std.specs.Prelude.{ℕ, List, [], ◌∷◌, Option, Some, None, is_some, if◌then◌else◌, Bool}
+use Rattle.std.specs.Prelude.{ℕ, List, [], ◌∷◌, Option, Some, None, is_some, if◌then◌else◌, Bool, ◌&&◌}
 use Rattle.std.specs.List.{list_any}
 use Rattle.std.specs.Option.{option_or, option_map_or}
 use Rattle.dfdl_report.specs.declared.place.Place.{Place}
@@ -59,3 +59,12 @@ told_explicitly (element ∷ behind) name otherwise =
 -- that gives it, else it is absent
 abbrev pub told : List Element → List ℕ → Told
 told chain name = told_explicitly chain name (option_map_or Value (default_value chain name) Absent)
+
+-- the property is explicit at the element, and at one behind it too
+unfoldable pub is_repeated : Element → List Element → List ℕ → Bool
+is_repeated element behind name = is_some (explicit element name) && is_explicit behind name
+
+-- where the first element of the chain stands that gives a property of these names which one behind it gives too
+abbrev pub repeated_at : List Element → List (List ℕ) → Option Place
+repeated_at [] names = None
+repeated_at (element ∷ behind) names = if list_any (is_repeated element behind) names then Some element.place else repeated_at behind names

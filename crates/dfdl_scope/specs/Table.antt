@@ -1,6 +1,7 @@
 -- The properties of the profile: their names, which values each may have, and what stands where no scope gives it
 -- ('Property Scoping and DFDL Schema Checking', and the chapters on each property).
-use Rattle.std.specs.Prelude.{ℕ, List, [], ◌∷◌, codes}
+use Rattle.std.specs.Prelude.{ℕ, List, [], ◌∷◌, map, codes, Option, Some, None, if◌then◌else◌}
+use Rattle.std.specs.Str.{bytes_eq}
 use Rattle.dfdl_scope.specs.declared.row.Form.{Form}
 use Rattle.dfdl_scope.specs.declared.row.Form.TheVariants as form
 
@@ -99,3 +100,12 @@ property_table =
     ∷ row (codes "inputValueCalc") (Formed form.Expression) Nothing
     ∷ row (codes "outputValueCalc") (Formed form.Expression) Nothing
     ∷ []
+
+-- the first property of a name
+abbrev pub row_named : List Row → List ℕ → Option Row
+row_named [] name = None
+row_named (row ∷ rows) name = if bytes_eq row.name name then Some row else row_named rows name
+
+-- the names of properties
+abbrev pub names_of : List Row → List (List ℕ)
+names_of rows = map (λ row. row.name) rows

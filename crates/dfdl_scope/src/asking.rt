@@ -49,7 +49,7 @@ fn alone<'c>(value: &'c str, place: Place, behind: &[Element<'c>], name: &str) -
 }
 
 /// Whether some of these elements gives the property explicitly.
-fn is_explicit(chain: &[Element<'_>], name: &str) -> bool
+pub(crate) fn is_explicit(chain: &[Element<'_>], name: &str) -> bool
     ensures { result ≡ is_explicit (map element_of chain.now) name.now }
 {
     for element in chain {

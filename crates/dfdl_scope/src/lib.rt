@@ -10,6 +10,7 @@ mod component;
 mod expression;
 mod format;
 mod properties;
+mod repeated;
 mod row;
 mod table;
 
@@ -18,8 +19,9 @@ pub use component::{Component, Element};
 pub use expression::{is_expression, literal};
 pub use format::Format;
 pub use properties::Properties;
+pub use repeated::first_repeated;
 pub use row::{Absence, Form, PropertyRow, Values};
-pub use table::property_rows;
+pub use table::{property_row, property_rows};
 
 #[cfg(test)]
 mod tests;

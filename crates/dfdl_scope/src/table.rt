@@ -1,6 +1,6 @@
 // The properties of the profile.
-ghost use Rattle.std.specs.Prelude.{◌≡◌, map};
-ghost use Rattle.dfdl_scope.specs.Table.{property_table};
+ghost use Rattle.std.specs.Prelude.{◌≡◌, map, option_map};
+ghost use Rattle.dfdl_scope.specs.Table.{property_table, row_named};
 ghost use Rattle.dfdl_scope.specs.TableShown.{row_shown};
 
 use crate::row::{Absence, Form, PropertyRow, Values};
@@ -81,12 +81,18 @@ static PROPERTIES: [PropertyRow; 63] = [
     },
     PropertyRow {
         name: "leadingSkip",
-        values: Values::Range { least: 0, most: 65536 },
+        values: Values::Range {
+            least: 0,
+            most: 65536,
+        },
         absent: Absence::Value("0"),
     },
     PropertyRow {
         name: "trailingSkip",
-        values: Values::Range { least: 0, most: 65536 },
+        values: Values::Range {
+            least: 0,
+            most: 65536,
+        },
         absent: Absence::Value("0"),
     },
     PropertyRow {
@@ -251,7 +257,16 @@ static PROPERTIES: [PropertyRow; 63] = [
     },
     PropertyRow {
         name: "textNumberRoundingMode",
-        values: Values::Words(&["roundCeiling", "roundFloor", "roundDown", "roundUp", "roundHalfEven", "roundHalfDown", "roundHalfUp", "roundUnnecessary"]),
+        values: Values::Words(&[
+            "roundCeiling",
+            "roundFloor",
+            "roundDown",
+            "roundUp",
+            "roundHalfEven",
+            "roundHalfDown",
+            "roundHalfUp",
+            "roundUnnecessary",
+        ]),
         absent: Absence::Value("roundHalfEven"),
     },
     PropertyRow {
@@ -330,3 +345,23 @@ static PROPERTIES: [PropertyRow; 63] = [
         absent: Absence::Nothing,
     },
 ];
+
+/// The property of a name, where the profile has one.
+pub fn property_row(name: &str) -> Option<&'static PropertyRow>
+    ensures { option_map (λ row. row_shown row.now) result ≡ row_named property_table name.now }
+{
+    row_among(property_rows(), name)
+}
+
+/// The first of these properties that has the name.
+fn row_among<'r>(rows: &'r [PropertyRow], name: &str) -> Option<&'r PropertyRow>
+    ensures { option_map (λ row. row_shown row.now) result
+        ≡ row_named (map row_shown rows.now) name.now }
+{
+    for row in rows {
+        if row.name == name {
+            return Some(row);
+        }
+    }
+    None
+}

@@ -1,5 +1,8 @@
 // Scoping as 'Property Scoping and DFDL Schema Checking' has it, and values that are expressions.
-use super::{Asked, Component, Element, Format, Properties, is_expression, literal, property};
+use super::{
+    Absence, Asked, Component, Element, Format, Properties, first_repeated, is_expression, literal,
+    property, property_row,
+};
 use dfdl_report::Place;
 use std::alloc::{AllocError, Global};
 use std::test::Fail;
@@ -45,6 +48,7 @@ fn an_element_reference_and_its_element_may_not_both_give_a_property(
     })?;
     assert!(rt; property(&component, "encoding") == Asked::Twice { place: at(120) });
     assert!(rt; property(&component, "byteOrder") == Asked::Absent);
+    assert!(rt; first_repeated(&component) == Some(at(120)));
     Ok(())
 }
 
@@ -92,6 +96,7 @@ fn a_nearer_format_wins_and_local_properties_win_over_both(rt: HostRuntime) -> R
     assert!(rt; property(&component, "terminator") == Asked::Given(";"));
     assert!(rt; property(&component, "separator") == Asked::Given("near"));
     assert!(rt; property(&component, "initiator") == Asked::Given("far"));
+    assert!(rt; first_repeated(&component) == None);
     Ok(())
 }
 
@@ -131,6 +136,22 @@ fn a_property_of_two_forms_is_seen(rt: HostRuntime) -> Result<(), Fail> {
 }
 
 #[test]
+fn the_table_has_what_stands_for_an_absent_property(rt: HostRuntime) -> Result<(), Fail> {
+    let is_taken = match property_row("occursCountKind") {
+        Some(row) => matches!(row.absent, Absence::Value("implicit")),
+        None => false,
+    };
+    assert!(rt; is_taken);
+    let is_refused = match property_row("byteOrder") {
+        Some(row) => matches!(row.absent, Absence::Missing),
+        None => false,
+    };
+    assert!(rt; is_refused);
+    assert!(rt; property_row("floating").is_none());
+    Ok(())
+}
+
+#[test]
 fn braces_begin_expressions(rt: HostRuntime) -> Result<(), Fail> {
     assert!(rt; is_expression("{../n}"));
     assert!(rt; is_expression("{"));
@@ -154,7 +175,7 @@ fn names(alloc: Global, count: u32) -> Result<Vec<String>, AllocError> {
 
 #[test]
 fn many_properties_are_found_without_a_walk(rt: HostRuntime) -> Result<(), Fail> {
-    let names = names(rt.alloc(), 32_000)?;
+    let names = names(rt.alloc(), 2_000)?;
     let mut own = Properties::new(rt.alloc());
     for name in names.iter() {
         own.add(name.as_str(), name.as_str())?;

@@ -22,7 +22,7 @@ pub enum Asked<'c> {
 }
 
 /// Asks a component for a property. Takes no memory.
-pub fn property<'c>(component: &Component<'c>, name: &str) -> Asked<'c>
+pub fn property<'c>(component: &Component<'_, 'c>, name: &str) -> Asked<'c>
     ensures { told_by result ≡ told (chain_of component.now) name.now }
 {
     let chain = component.chain.as_slice();
@@ -38,7 +38,7 @@ pub fn property<'c>(component: &Component<'c>, name: &str) -> Asked<'c>
 }
 
 /// The answer where an element gives a value explicitly, with these elements behind it.
-fn alone<'c>(value: &'c str, place: Place, behind: &[Element<'c>], name: &str) -> Asked<'c>
+fn alone<'c>(value: &'c str, place: Place, behind: &[Element<'_, 'c>], name: &str) -> Asked<'c>
     ensures { told_by result ≡ alone value.now place (map element_of behind.now) name.now }
 {
     if is_explicit(behind, name) {
@@ -49,7 +49,7 @@ fn alone<'c>(value: &'c str, place: Place, behind: &[Element<'c>], name: &str) -
 }
 
 /// Whether some of these elements gives the property explicitly.
-pub(crate) fn is_explicit(chain: &[Element<'_>], name: &str) -> bool
+pub(crate) fn is_explicit(chain: &[Element<'_, '_>], name: &str) -> bool
     ensures { result ≡ is_explicit (map element_of chain.now) name.now }
 {
     for element in chain {
@@ -61,7 +61,7 @@ pub(crate) fn is_explicit(chain: &[Element<'_>], name: &str) -> bool
 }
 
 /// The value in the first default format that gives the property.
-fn in_default<'c>(chain: &[Element<'c>], name: &str) -> Option<&'c str>
+fn in_default<'c>(chain: &[Element<'_, 'c>], name: &str) -> Option<&'c str>
     ensures { lent_text result ≡ default_value (map element_of chain.now) name.now }
 {
     for element in chain {

@@ -11,23 +11,23 @@ use std::alloc::{AllocError, Global};
 
 /// An element of a component's chain.
 #[derive(Debug, Clone, Copy)]
-pub struct Element<'c> {
+pub struct Element<'e, 'c> {
     pub place: Place,
-    pub own: &'c Properties<'c>,
+    pub own: &'e Properties<'c>,
     /// The format that it refers to.
-    pub format: Option<&'c Format<'c>>,
+    pub format: Option<&'e Format<'c>>,
     /// The default format of its document.
-    pub default: Option<&'c Format<'c>>,
+    pub default: Option<&'e Format<'c>>,
 }
 
 /// The elements whose properties are joined for one component, from the reference on.
-#[derive(Debug, Drop)]
-pub struct Component<'c> {
-    pub(crate) chain: Vec<Element<'c>>,
+#[derive(Drop)]
+pub struct Component<'e, 'c> {
+    pub(crate) chain: Vec<Element<'e, 'c>>,
 }
 
-impl<'c> Component<'c> {
-    pub fn new(alloc: Global) -> Component<'c>
+impl<'e, 'c> Component<'e, 'c> {
+    pub fn new(alloc: Global) -> Component<'e, 'c>
         ensures { chain_of result ≡ [] }
     {
         Component {
@@ -36,7 +36,7 @@ impl<'c> Component<'c> {
     }
 
     /// Adds what the last element refers to: the global element, the type or the group.
-    pub fn push_element(&mut self, element: Element<'c>) -> Result<(), AllocError>
+    pub fn push_element(&mut self, element: Element<'e, 'c>) -> Result<(), AllocError>
         ensures ok { OnOk result (chain_of self.new ≡ chain_of self.old ++ element_of element.entry ∷ []) }
         ensures err { OnErr result (chain_of self.new ≡ chain_of self.old) }
     {
@@ -45,7 +45,7 @@ impl<'c> Component<'c> {
     }
 }
 
-impl<'c> Element<'c> {
+impl<'e, 'c> Element<'e, 'c> {
     /// The value of a property that is explicit here.
     pub(crate) fn explicit(&self, name: &str) -> Option<&'c str>
         ensures { lent_text result ≡ explicit (element_of self.now) name.now }
@@ -58,7 +58,7 @@ impl<'c> Element<'c> {
 }
 
 /// The value of a property in a format that may be lacking.
-pub(crate) fn value_in<'c>(format: Option<&'c Format<'c>>, name: &str) -> Option<&'c str>
+pub(crate) fn value_in<'c>(format: Option<&Format<'c>>, name: &str) -> Option<&'c str>
     ensures { lent_text result ≡ given_if format.entry name.now }
 {
     match format {

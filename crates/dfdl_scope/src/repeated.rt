@@ -14,14 +14,14 @@ use dfdl_report::Place;
 
 /// Where the first element of a component's chain stands that gives a property of the profile
 /// explicitly which one behind it gives too. Takes no memory.
-pub fn first_repeated(component: &Component<'_>) -> Option<Place>
+pub fn first_repeated(component: &Component<'_, '_>) -> Option<Place>
     ensures { result ≡ repeated_at (chain_of component.now) (names_of property_table) }
 {
     repeated_among(component.chain.as_slice(), property_rows())
 }
 
 /// The same, for these properties.
-fn repeated_among(chain: &[Element<'_>], rows: &[PropertyRow]) -> Option<Place>
+fn repeated_among(chain: &[Element<'_, '_>], rows: &[PropertyRow]) -> Option<Place>
     ensures { result ≡ repeated_at (map element_of chain.now) (names_of (map row_shown rows.now)) }
 {
     for (at, element) in chain.iter().enumerate() {
@@ -33,7 +33,7 @@ fn repeated_among(chain: &[Element<'_>], rows: &[PropertyRow]) -> Option<Place>
 }
 
 /// Whether an element gives one of these properties explicitly which one behind it gives too.
-fn has_repeated(element: &Element<'_>, behind: &[Element<'_>], rows: &[PropertyRow]) -> bool
+fn has_repeated(element: &Element<'_, '_>, behind: &[Element<'_, '_>], rows: &[PropertyRow]) -> bool
     ensures { result ≡ list_any (is_repeated (element_of element.now) (map element_of behind.now))
         (names_of (map row_shown rows.now)) }
 {
@@ -47,7 +47,7 @@ fn has_repeated(element: &Element<'_>, behind: &[Element<'_>], rows: &[PropertyR
 
 /// Whether an element gives a property explicitly which one behind it gives too.
 #[tactic(auto, unfolding(crate::specs::Scoping::is_repeated))]
-fn is_repeated(element: &Element<'_>, behind: &[Element<'_>], name: &str) -> bool
+fn is_repeated(element: &Element<'_, '_>, behind: &[Element<'_, '_>], name: &str) -> bool
     ensures { result ≡ is_repeated (element_of element.now) (map element_of behind.now) name.now }
 {
     element.explicit(name).is_some() && is_explicit(behind, name)

@@ -33,18 +33,19 @@ fn an_element_reference_and_its_element_may_not_both_give_a_property(
     let alloc = rt.alloc();
     let reference = one(alloc, "encoding", "UTF-8")?;
     let global = one(alloc, "encoding", "UTF-8")?;
+    let nothing = Format::new(Properties::new(alloc));
     let mut component = Component::new(alloc);
     component.push_element(Element {
         place: at(120),
         own: &reference,
-        format: None,
-        default: None,
+        format: Some(&nothing),
+        default: Some(&nothing),
     })?;
     component.push_element(Element {
         place: at(40),
         own: &global,
-        format: None,
-        default: None,
+        format: Some(&nothing),
+        default: Some(&nothing),
     })?;
     assert!(rt; property(&component, "encoding") == Asked::Twice { place: at(120) });
     assert!(rt; property(&component, "byteOrder") == Asked::Absent);
@@ -86,12 +87,13 @@ fn a_nearer_format_wins_and_local_properties_win_over_both(rt: HostRuntime) -> R
     let mut near = one(alloc, "separator", "near")?;
     near.add("terminator", "near")?;
     let format = Format::over(near, &base)?;
+    let nothing = Format::new(Properties::new(alloc));
     let mut component = Component::new(alloc);
     component.push_element(Element {
         place: at(0),
         own: &own,
         format: Some(&format),
-        default: None,
+        default: Some(&nothing),
     })?;
     assert!(rt; property(&component, "terminator") == Asked::Given(";"));
     assert!(rt; property(&component, "separator") == Asked::Given("near"));
@@ -108,17 +110,18 @@ fn the_first_default_of_the_documents_wins(rt: HostRuntime) -> Result<(), Fail> 
     let mut others = one(alloc, "encoding", "ASCII")?;
     others.add("byteOrder", "bigEndian")?;
     let second = Format::new(others);
+    let nothing = Format::new(Properties::new(alloc));
     let mut component = Component::new(alloc);
     component.push_element(Element {
         place: at(0),
         own: &own,
-        format: None,
+        format: Some(&nothing),
         default: Some(&first),
     })?;
     component.push_element(Element {
         place: Place { document: 1, at: 0 },
         own: &own,
-        format: None,
+        format: Some(&nothing),
         default: Some(&second),
     })?;
     assert!(rt; property(&component, "encoding") == Asked::Given("UTF-8"));
@@ -161,27 +164,5 @@ fn braces_begin_expressions(rt: HostRuntime) -> Result<(), Fail> {
     assert_eq!(rt; literal("{{x}"), "{x}");
     assert_eq!(rt; literal("x"), "x");
     assert_eq!(rt; literal("{{{"), "{{");
-    Ok(())
-}
-
-/// So many names, each one different.
-fn names(alloc: Global, count: u32) -> Result<Vec<String>, AllocError> {
-    let mut names = Vec::new(alloc);
-    for number in 0..count {
-        names.push(format!(in alloc; "name{number}")?)?;
-    }
-    Ok(names)
-}
-
-#[test]
-fn many_properties_are_found_without_a_walk(rt: HostRuntime) -> Result<(), Fail> {
-    let names = names(rt.alloc(), 2_000)?;
-    let mut own = Properties::new(rt.alloc());
-    for name in names.iter() {
-        own.add(name.as_str(), name.as_str())?;
-    }
-    for name in names.iter() {
-        assert!(rt; own.get(name.as_str()) == Some(name.as_str()));
-    }
     Ok(())
 }

@@ -1,5 +1,5 @@
 -- Which values of properties are expressions: 'DFDL Expression Language'.
-use Rattle.std.specs.Prelude.{ℕ, List, [], ◌∷◌, Bool, true, false, ◌==◌, not, ◌&&◌, if◌then◌else◌}
+use Rattle.std.specs.Prelude.{ℕ, List, [], ◌∷◌, Bool, false, ◌==◌, not, ◌&&◌, if◌then◌else◌}
 
 -- the text begins with a brace `{`
 abbrev pub has_brace : List ℕ → Bool

@@ -1,5 +1,5 @@
 -- Mirror for the prover: how the rows of the table are seen.
-use Rattle.std.specs.Prelude.{List, map}
+use Rattle.std.specs.Prelude.{map}
 use Rattle.dfdl_scope.specs.Table as table
 use Rattle.dfdl_scope.specs.declared.row.Values.{Values}
 use Rattle.dfdl_scope.specs.declared.row.Values.TheVariants as allowed

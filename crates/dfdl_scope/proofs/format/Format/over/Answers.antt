@@ -1,4 +1,4 @@
-use Rattle.std.proofs.Common.{◌≡◌, ◌∷◌, sym, ap, ◌∙◌}
+use Rattle.std.proofs.Common.{sym, ap, ◌∙◌}
 use Rattle.std.specs.Option.{option_or}
 use Rattle.dfdl_scope.specs.Shown.{given}
 use Rattle.dfdl_scope.proofs.Maps.{among, among-first, or-or, or-None}

@@ -1,4 +1,5 @@
 pub mod Different
 pub mod FieldLists
+pub mod PrefixedNames
 pub mod RowLemmas
 pub mod Shapes

@@ -1,6 +1,6 @@
 -- The record of a document, from its outline and the fields of its elements.
 use Rattle.std.proofs.Common.{◌≡◌, suc, List, [], ◌∷◌, length, map, Option, None, Some, option_map, option_and_then, refl, sym, ap, ◌∙◌}
-use Rattle.dfdl_doc_tree.specs.Node.{Node, node_at}
+use Rattle.dfdl_markup.specs.Trees.{Node}
 use Rattle.dfdl_terms.specs.Record.{Field, Record, all_of}
 use Rattle.dfdl_compile.specs.Schema.{Outline, outline_of, outline_record, field_of, IsRecordTree}
 
@@ -21,18 +21,18 @@ pub fields_count : (nodes : List Node) (outline : Outline) (described : Record) 
     → length described.fields ≡ length outline.fields
 fields_count nodes outline described is tree =
     let shape : outline_record nodes outline ≡ Some described = ap (option_and_then (outline_record nodes)) is ∙ tree.shape in
-    (elim (all_of (map (λ element. field_of (node_at nodes element)) outline.fields)) as
-    (λ o. all_of (map (λ element. field_of (node_at nodes element)) outline.fields) ≡ o
+    (elim (all_of (map (field_of nodes) outline.fields)) as
+    (λ o. all_of (map (field_of nodes) outline.fields) ≡ o
     → option_map (λ fields. let r : Record = record { root = outline.root; fields = fields } in r) o ≡ Some described → length described.fields ≡ length outline.fields) [
       | None ↦ λ _ none. absurd (cc)
       | Some fields ↦ λ read some.
           let same : fields ≡ described.fields = cc in
-          ap length (sym same) ∙ length-all_of (λ element. field_of (node_at nodes element)) outline.fields fields read
+          ap length (sym same) ∙ length-all_of (field_of nodes) outline.fields fields read
     ]) refl shape
 
 -- the record of an outline and its fields
 pub shape_is : (nodes : List Node) (outline : Outline) (fields : List Field) → Some outline ≡ outline_of nodes
-    → all_of (map (λ element. field_of (node_at nodes element)) outline.fields) ≡ Some fields
+    → all_of (map (field_of nodes) outline.fields) ≡ Some fields
     → option_and_then (outline_record nodes) (outline_of nodes) ≡ Some (record { root = outline.root; fields = fields })
 shape_is nodes outline fields is read =
     ap (option_and_then (outline_record nodes)) (sym is) ∙ ap (option_map (λ fs. record { root = outline.root; fields = fs })) read

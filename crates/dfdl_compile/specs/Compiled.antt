@@ -1,6 +1,6 @@
 -- What the terms of a schema document are.
 use Rattle.std.specs.Prelude.{◌≡◌, List, Some}
-use Rattle.dfdl_doc_tree.specs.Node.{Node}
+use Rattle.dfdl_markup.specs.Trees.{Node}
 use Rattle.dfdl_terms.specs.Record.{Record, record_of}
 use Rattle.dfdl_terms.specs.Rows.{Table}
 use Rattle.dfdl_compile.specs.Schema.{IsRecordTree}

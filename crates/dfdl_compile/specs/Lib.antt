@@ -1,4 +1,6 @@
 pub mod Compiled
+pub mod Elements
+pub mod Names
 pub mod OutlineShown
 pub mod RecordRows
 pub mod Schema

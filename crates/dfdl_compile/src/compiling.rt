@@ -1,7 +1,7 @@
 // The terms of a schema document.
-ghost use Rattle.std.specs.Prelude.{All, ◌≡◌, ◌≢◌, ◌<◌, ◌≤◌, ◌↔◌, ◌++◌, [], ◌∷◌, IfOk, IsErrOf, IsTrue, Some, None, length, map, vec_len, OnOk, ◌+◌, ◌*◌, ◌^◌};
+ghost use Rattle.std.specs.Prelude.{All, ◌≡◌, ◌≢◌, ◌<◌, ◌≤◌, ◌↔◌, ◌++◌, [], ◌∷◌, IfOk, IsErrOf};
+ghost use Rattle.std.specs.Prelude.{IsTrue, Some, None, length, map, vec_len, OnOk, ◌+◌, ◌*◌, ◌^◌};
 ghost use Rattle.std.specs.List.{AllPairs};
-ghost use Rattle.dfdl_doc_tree.specs.Node.{node_at};
 ghost use Rattle.dfdl_terms.specs.Record.{Record, all_of, record_of};
 ghost use Rattle.dfdl_terms.specs.declared.row.Row.TheVariants.{Leaf, Elem, Group};
 ghost use Rattle.dfdl_terms.specs.RecordShown.{field_shown};
@@ -11,10 +11,11 @@ ghost use Rattle.dfdl_terms.specs.Rows.{most_rows, Nests, NamesWithin, IsPrimiti
 ghost use Rattle.dfdl_compile.specs.RecordRows.{field_rows, element_rows, primitive_of};
 ghost use Rattle.dfdl_compile.specs.declared.compiling.CompileFault.TheVariants.{OutOfMemory};
 
-use crate::outline::{field_of_element, outline_of_document};
-use dfdl_doc_tree::Tree;
+use crate::fields::field_of_element;
+use crate::outline::outline_of_document;
 use dfdl_terms::{Field, Primitive, Row, RowId, RowList, Tables, TermFault, Terms};
 use dfdl_value::TextValue;
+use dfdl_xml_tree::Tree;
 use std::alloc::{AllocError, AllocFailed, Global};
 use std::collections::BTreeSet;
 
@@ -52,10 +53,10 @@ fn fields_of<'t>(
     elements: &[u32],
 ) -> Result<Vec<Field<'t>>, CompileFault>
     ensures ok { IfOk result (λ fields.
-        all_of (map (λ e. field_of (node_at tree.now e)) elements.now) ≡ Some (map field_shown fields.items)) }
+        all_of (map (field_of tree.now) elements.now) ≡ Some (map field_shown fields.items)) }
     ensures few { IfOk result (λ fields. All (λ f. f.form.bits ≤ 64) fields.items) }
     ensures refused { IsErrOf result CompileFault.Refused →
-        all_of (map (λ e. field_of (node_at tree.now e)) elements.now) ≡ None }
+        all_of (map (field_of tree.now) elements.now) ≡ None }
 {
     let mut fields = Vec::new(alloc);
     for element in elements {
@@ -69,7 +70,8 @@ fn fields_of<'t>(
 
 // Whether no two fields have one name.
 fn have_different_names(alloc: Global, fields: &[Field<'_>]) -> Result<bool, AllocError>
-    ensures { IfOk result (λ different. IsTrue different ↔ AllPairs (λ a b. a.name ≢ b.name) (map field_shown fields.now)) }
+    ensures { IfOk result (λ different.
+        IsTrue different ↔ AllPairs (λ a b. a.name ≢ b.name) (map field_shown fields.now)) }
 {
     let mut names = BTreeSet::new(alloc);
     for field in fields {
@@ -89,7 +91,8 @@ fn push_rows(
 ) -> Result<(), AllocError>
     requires { number < 2 ^ 31 }
     ensures { OnOk result (rows.new.items
-        ≡ (rows.old.items ++ Leaf number ∷ []) ++ Elem field.now.name.now (Some field.now.form.kind) (2 * number) ∷ []) }
+        ≡ (rows.old.items ++ Leaf number ∷ [])
+        ++ Elem field.now.name.now (Some field.now.form.kind) (2 * number) ∷ []) }
 {
     let name = TextValue::from_str(alloc, field.name)?;
     rows.push(Row::Leaf { prim: number })?;
@@ -113,10 +116,13 @@ struct FieldRows {
 fn rows_of_fields(alloc: Global, fields: &[Field<'_>]) -> Result<FieldRows, AllocError>
     requires count { length fields.now ≤ most_fields }
     requires few { All (λ f. f.form.bits ≤ 64) fields.now }
-    ensures rows { IfOk result (λ made. made.rows.items ≡ field_rows 0 (map field_shown fields.now)) }
-    ensures elements { IfOk result (λ made. made.elements.items ≡ element_rows 0 (map field_shown fields.now)) }
+    ensures rows { IfOk result (λ made.
+        made.rows.items ≡ field_rows 0 (map field_shown fields.now)) }
+    ensures elements { IfOk result (λ made.
+        made.elements.items ≡ element_rows 0 (map field_shown fields.now)) }
     ensures bounded { IfOk result (λ made. All IsPrimitive made.primitives.items) }
-    ensures primitives { IfOk result (λ made. made.primitives.items ≡ map primitive_of (map field_shown fields.now)) }
+    ensures primitives { IfOk result (λ made.
+        made.primitives.items ≡ map primitive_of (map field_shown fields.now)) }
 {
     let mut rows = Vec::new(alloc);
     let mut elements = Vec::new(alloc);
@@ -196,10 +202,12 @@ fn is_record_size(fields: usize) -> bool
     0 < fields && fields <= MOST_FIELDS
 }
 
-/// The terms of the record that a document is a schema of. It is refused exactly where it is a schema of none.
+/// The terms of the record that a document is a schema of. It is refused exactly where it is a
+/// schema of none.
 pub fn compile(alloc: Global, tree: &Tree) -> Result<Terms, CompileFault>
     ensures ok { IfOk result (IsCompiled tree.now) }
-    ensures refused { IsErrOf result CompileFault.Refused → (described : Record) → IsRecordTree tree.now described → ⊥ }
+    ensures refused { IsErrOf result CompileFault.Refused
+        → (described : Record) → IsRecordTree tree.now described → ⊥ }
 {
     let Some(outline) = outline_of_document(tree) else {
         return Err(CompileFault::Refused);

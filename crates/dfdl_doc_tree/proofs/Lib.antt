@@ -1,10 +1,7 @@
-pub mod Adopt
-pub mod Names
-pub mod Family
-pub mod Bytes
-pub mod Steps
-pub mod Runs
-pub mod Rest
-pub mod BackContent
-pub mod Back
-pub mod Documents
+pub mod Words
+pub mod NameLetters
+pub mod Begins
+pub mod TagNames
+pub mod Ends
+pub mod Sizes
+pub mod Refused

@@ -1,6 +1,4 @@
-pub mod Node
-pub mod Content
-pub mod Document
 pub mod Shown
-pub mod Machine
+pub mod ScannerShown
 pub mod ReaderShown
+pub mod Faults

@@ -1,16 +1,23 @@
-// The tree of a schema document. `read` answers the tree of the bytes that `IsDocument` gives them, and refuses all
-// others; the rest are the accessors of a tree. A document is a small subset of XML in ASCII. Serves the chapter
-// 'DFDL Schema Component Model', whose components are written as XML.
+//! The reader of schema documents. `read` answers the tree of the bytes that are a document, and of
+//! all others the byte at which none can go on, with the cause.
+//!
+//! Its contract cites `specs/Documents.antt` of dfdl_markup ('Extensible Markup Language (XML) 1.0',
+//! fifth edition, and 'Namespaces in XML 1.0', third edition, as far as schemas need them) and
+//! `specs/Faults.antt`. A scanner takes a character at a time and says what it does to the tree; the
+//! reader over it takes bytes. It serves the chapter 'DFDL Schema Component Model', whose components
+//! are written as XML.
 #![tactic(auto)]
 
-mod attribute_list;
+mod documents;
+mod effect;
 mod fault;
+mod letters;
 mod mark;
 mod reader;
 mod reading;
-mod tree;
+mod rule;
+mod said;
+mod scanner;
 
+pub use documents::read;
 pub use fault::DocFault;
-pub use mark::{is_name_byte, is_name_start};
-pub use reading::read;
-pub use tree::Tree;

@@ -1,116 +1,166 @@
-ghost use Rattle.std.specs.Prelude.{◌≡◌, ◌<◌, IsTrue, IsSome};
-ghost use Rattle.dfdl_doc_tree.specs.Content.{is_white, is_name_start, is_name_byte, is_value_byte};
-ghost use Rattle.dfdl_doc_tree.specs.Machine.{next_part, is_whole};
+// Where in a document the reader stands.
+ghost use Rattle.std.specs.Prelude.{◌≡◌};
+ghost use Rattle.dfdl_markup.specs.Rules.{brackets};
+ghost use Rattle.dfdl_doc_tree.specs.Shown.{run_number};
+ghost use Rattle.dfdl_xml_tree.specs.Held.{held_of};
 
-/// Where in a document the reader stands.
-#[derive(Clone, Copy, Debug, PartialEq, Eq)]
-pub(crate) enum Mark {
-    /// Between tags, before the root or behind it.
+use crate::said::Said;
+use dfdl_xml_tree::Held;
+
+/// What may come before all else.
+#[derive(Clone, Copy, Debug, PartialEq, Eq, Drop)]
+pub enum Ahead {
+    /// A byte order mark or an XML declaration.
+    Mark,
+    /// An XML declaration.
+    Declaration,
+    Nothing,
+}
+
+/// How many of the same character stand right before; where there are more, two.
+#[derive(Clone, Copy, Debug, PartialEq, Eq, Drop)]
+pub enum Run {
+    None,
+    One,
+    Two,
+}
+
+/// Where a reference stands.
+#[derive(Clone, Copy, Debug, PartialEq, Eq, Drop)]
+pub enum Within {
     Content,
-    /// Behind the `<` at this byte.
-    Opened { at: u64 },
-    /// In the name of the start tag that begins at this byte.
-    TagName { at: u64, part: Part },
-    /// In a start tag, behind white space.
-    InTag,
+    Value,
+}
+
+/// The piece of markup that is open, without what was read of it.
+#[derive(Clone, Copy, Debug, PartialEq, Eq, Drop)]
+pub enum Mark {
+    /// Between pieces of markup, behind so many `]`.
+    Content {
+        before: Run,
+    },
+    /// Behind `<`.
+    Opened,
+    /// Behind `<!`.
+    Bang,
+    /// Behind `<!-`.
+    Dash,
+    /// Behind `<!--`, with so many `-` right before.
+    Comment {
+        dashes: Run,
+    },
+    /// Behind `<![` and so many characters of the word of a CDATA section.
+    SectionWord {
+        read: usize,
+    },
+    /// In a CDATA section, behind so many `]`.
+    Section {
+        before: Run,
+    },
+    /// Behind `<?`.
+    Question,
+    /// In the target of a processing instruction.
+    Target,
+    /// Behind the `?` right behind a target.
+    TargetEnd,
+    /// In the text of a processing instruction, behind a `?` or not.
+    Instruction {
+        mark: bool,
+    },
+    /// In the name of a start tag.
+    TagName,
+    /// In a start tag, behind white space or not.
+    Tag {
+        spaced: bool,
+    },
     /// In an attribute's name.
-    AttributeName { part: Part },
+    AttributeName,
+    /// Behind an attribute's name and white space.
+    Named,
     /// Behind the `=` of an attribute.
     Equals,
     /// In an attribute's value.
     Value,
-    /// Behind an attribute's value.
-    AfterValue,
     /// Behind the `/` of a start tag.
     Slash,
-    /// In an end tag's name, behind so many of its bytes.
-    EndName { matched: usize },
-    /// In an end tag, behind its name and white space.
-    AfterEndName,
+    /// Behind `</`.
+    EndTag,
+    /// In the name of an end tag, behind so many of its characters.
+    EndName {
+        read: usize,
+    },
+    /// Behind the name of an end tag and white space.
+    EndSpace,
+    /// Behind `&`.
+    Reference {
+        within: Within,
+    },
+    /// In the name of an entity.
+    Entity {
+        within: Within,
+    },
+    /// Behind `&#`.
+    Hash {
+        within: Within,
+    },
+    /// Behind `&#x`.
+    Hexadecimal {
+        within: Within,
+    },
+    /// Behind digits of this number.
+    Number {
+        within: Within,
+        hexadecimal: bool,
+        value: u32,
+    },
+    /// In the XML declaration behind what was said last, with white space or without.
+    Declaration {
+        last: Option<Said>,
+        spaced: bool,
+    },
+    /// In a word of the XML declaration, behind so many of its characters.
+    SaidWord {
+        said: Said,
+        read: usize,
+    },
+    /// Behind a word of the XML declaration and white space.
+    SaidName {
+        said: Said,
+    },
+    /// Behind its `=`.
+    SaidEquals {
+        said: Said,
+    },
+    /// In its value.
+    SaidValue {
+        said: Said,
+    },
+    /// Behind the `?` of the XML declaration.
+    DeclarationEnd,
 }
 
-/// Where in a name the reader stands.
-#[derive(Clone, Copy, Debug, PartialEq, Eq)]
-pub(crate) enum Part {
-    /// In the first part.
-    First,
-    /// Behind the `:`.
-    Colon,
-    /// In the part behind the `:`.
-    Second,
-}
-
-impl Part {
-    /// Where a name goes on to by this byte.
-    pub(crate) fn next(self, byte: u8) -> Option<Part>
-        ensures value { result ≡ next_part self byte }
-        ensures ascii { IsSome result → byte < 128 }
+impl Run {
+    /// As many `]` that are held.
+    pub fn held(self) -> Held
+        ensures { held_of result ≡ run_number self }
     {
         match self {
-            Part::First => {
-                if is_name_byte(byte) {
-                    Some(Part::First)
-                } else if byte == b':' {
-                    Some(Part::Colon)
-                } else {
-                    None
-                }
-            }
-            Part::Colon => {
-                if is_name_start(byte) {
-                    Some(Part::Second)
-                } else {
-                    None
-                }
-            }
-            Part::Second => {
-                if is_name_byte(byte) {
-                    Some(Part::Second)
-                } else {
-                    None
-                }
-            }
+            Run::None => Held::None,
+            Run::One => Held::One,
+            Run::Two => Held::Two,
         }
     }
 
-    /// Whether a name may end here.
-    pub(crate) fn is_whole(self) -> bool
-        ensures { result ≡ is_whole self }
+    /// How many `]` stand behind one character more.
+    pub fn behind(self, c: char) -> Run
+        ensures { run_number result ≡ brackets (run_number self) c }
     {
-        self != Part::Colon
+        if c != ']' {
+            Run::None
+        } else if self == Run::None {
+            Run::One
+        } else {
+            Run::Two
+        }
     }
-}
-
-#[tactic(auto, unfolding(crate::specs::Content::is_white))]
-pub(crate) fn is_white(byte: u8) -> bool
-    ensures { result ≡ is_white byte }
-{
-    byte == b' ' || byte == b'\t' || byte == b'\n' || byte == b'\r'
-}
-
-/// Whether a part of a name may begin with this byte.
-#[tactic(auto, unfolding(crate::specs::Content::is_name_start))]
-pub fn is_name_start(byte: u8) -> bool
-    ensures value { result ≡ is_name_start byte }
-    ensures ascii { IsTrue result → byte < 128 }
-{
-    (b'a' <= byte && byte <= b'z') || (b'A' <= byte && byte <= b'Z') || byte == b'_'
-}
-
-/// Whether a part of a name may go on with this byte.
-#[tactic(auto, unfolding(crate::specs::Content::is_name_byte))]
-pub fn is_name_byte(byte: u8) -> bool
-    ensures value { result ≡ is_name_byte byte }
-    ensures ascii { IsTrue result → byte < 128 }
-{
-    is_name_start(byte) || (b'0' <= byte && byte <= b'9')
-}
-
-/// Whether this byte may stand in an attribute's value.
-#[tactic(auto, unfolding(crate::specs::Content::is_value_byte))]
-pub(crate) fn is_value_byte(byte: u8) -> bool
-    ensures value { result ≡ is_value_byte byte }
-    ensures ascii { IsTrue result → byte < 128 }
-{
-    (b' ' <= byte && byte <= b'~') && (byte != b'<' && (byte != b'&' && byte != b'"'))
 }

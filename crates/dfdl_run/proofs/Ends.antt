@@ -16,7 +16,8 @@ use Rattle.dfdl_run.specs.declared.answer.Answer.{Answer}
 use Rattle.dfdl_run.specs.declared.answer.Answer.TheVariants.{Done, LeftOver, Failed, Unparsed}
 use Rattle.dfdl_run.specs.declared.answer.Answer.TheVariants.{NotUnparsed, NoInfoset}
 use Rattle.dfdl_run.specs.declared.stop.Stop.{Stop}
-use Rattle.dfdl_run.specs.declared.stop.Stop.TheVariants.{Usage, FilesFailed, Refused, SourceFailed}
+use Rattle.dfdl_run.specs.declared.stop.Stop.TheVariants.{Usage, FilesFailed, NoDocument, Refused}
+use Rattle.dfdl_run.specs.declared.stop.Stop.TheVariants.{SourceFailed}
 use Rattle.dfdl_run.specs.declared.stop.Stop.TheVariants.{Limit, OutOfMemory}
 use Rattle.dfdl_run.specs.Answer.{End, status_of, written_of, note_of}
 use Rattle.dfdl_run.specs.Decided.{Decided, by_words, by_schema, by_data, IsLoadFault, IsReadEnd}
@@ -92,6 +93,7 @@ nine (Ok answer) is = absurd (no_answer answer 9 is (λ none. cc))
 never_six : (e : End) → status_of e ≡ 6 → ⊥
 never_six (Err (Usage word)) is = cc
 never_six (Err (FilesFailed name)) is = cc
+never_six (Err (NoDocument cause document at)) is = cc
 never_six (Err (Refused cause document at)) is = cc
 never_six (Err SourceFailed) is = cc
 never_six (Err (Limit cause quantity)) is = cc
@@ -111,6 +113,7 @@ nothing_written (Err stop) _ _ _ = refl
 unwritten_stop : (stop : Stop) → Writes (Err stop) → ⊥
 unwritten_stop (Usage word) line = cc
 unwritten_stop (FilesFailed name) line = cc
+unwritten_stop (NoDocument cause document at) line = cc
 unwritten_stop (Refused cause document at) line = cc
 unwritten_stop SourceFailed line = cc
 unwritten_stop (Limit Input quantity) line = cc
@@ -121,6 +124,7 @@ unwritten_stop OutOfMemory line = cc
 stop_early : (stop : Stop) → IsTrue (is_of_data (status_of (Err stop))) → ⊥
 stop_early (Usage word) of = cc
 stop_early (FilesFailed name) of = cc
+stop_early (NoDocument cause document at) of = cc
 stop_early (Refused cause document at) of = cc
 stop_early SourceFailed of = cc
 stop_early (Limit cause quantity) of = cc
@@ -144,6 +148,7 @@ read_late verb described before after (Err OutOfMemory) read early = cc
 read_late verb described before after (Err (Limit cause quantity)) read early = cc
 read_late verb described before after (Err (Usage word)) read early = absurd read
 read_late verb described before after (Err (FilesFailed name)) read early = absurd read
+read_late verb described before after (Err (NoDocument cause document at)) read early = absurd read
 read_late verb described before after (Err (Refused cause document at)) read early = absurd read
 
 read_used : (verb : Verb) (described : Record) (before after : SourceSeen) (e : End)
@@ -162,6 +167,7 @@ read_still verb described before after (Err OutOfMemory) read well = read
 read_still verb described before after (Err (Limit cause quantity)) read well = read.3
 read_still verb described before after (Err (Usage word)) read well = absurd read
 read_still verb described before after (Err (FilesFailed name)) read well = absurd read
+read_still verb described before after (Err (NoDocument cause document at)) read well = absurd read
 read_still verb described before after (Err (Refused cause document at)) read well = absurd read
 
 -- no schema is no usage
@@ -170,6 +176,7 @@ load_late : (before after : FilesSeen) (name : List ℕ) (stop : Stop)
     → status_of (Err stop) ≡ 4 → ⊥
 load_late before after name (Usage word) fault four = absurd fault
 load_late before after name (FilesFailed failed) fault four = cc
+load_late before after name (NoDocument cause document at) fault four = cc
 load_late before after name (Refused cause document at) fault four = cc
 load_late before after name SourceFailed fault four = absurd fault
 load_late before after name (Limit cause quantity) fault four = cc
@@ -180,6 +187,7 @@ load_still : (before after : FilesSeen) (name : List ℕ) (stop : Stop)
     → IsLoadFault before after name stop
     → ((status_of (Err stop) ≡ 7) ⊎ (status_of (Err stop) ≡ 9) → ⊥) → after.faults ≡ before.faults
 load_still before after name (FilesFailed failed) fault well = absurd (well (inl refl))
+load_still before after name (NoDocument cause document at) fault well = fault.2.still
 load_still before after name (Refused cause document at) fault well = fault.4.still
 load_still before after name (Limit cause quantity) fault well = fault.3.still
 load_still before after name OutOfMemory fault well = absurd (well (inr refl))

@@ -11,3 +11,4 @@ pub mod Readings
 pub mod Unparsings
 pub mod WholeRecords
 pub mod Words
+pub mod Causes

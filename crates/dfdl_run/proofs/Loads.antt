@@ -1,7 +1,7 @@
 -- The record of a schema's bytes is the one that its tree is compiled to.
 use Rattle.std.proofs.Common.{◌≡◌, ℕ, List, sym, subst, ◌∙◌}
-use Rattle.dfdl_doc_tree.specs.Node.{Node}
-use Rattle.dfdl_doc_tree.specs.Document.{IsDocument}
+use Rattle.dfdl_markup.specs.Trees.{Node}
+use Rattle.dfdl_markup.specs.Documents.{IsTreeOf}
 use Rattle.dfdl_terms.specs.Rows.{Table}
 use Rattle.dfdl_terms.specs.Record.{Record}
 use Rattle.dfdl_compile.specs.Schema.{IsRecordTree, IsSchema}
@@ -13,8 +13,8 @@ one_record : (nodes : List Node) (a b : Record) → IsRecordTree nodes a → IsR
     → a ≡ b
 one_record nodes a b first second = let shapes = sym first.shape ∙ second.shape in cc
 
-pub loaded : (bytes : List ℕ) (nodes : List Node) (terms : Table) → IsDocument bytes nodes
-    → ((others : List Node) → IsDocument bytes others → nodes ≡ others) → IsCompiled nodes terms
+pub loaded : (bytes : List ℕ) (nodes : List Node) (terms : Table) → IsTreeOf bytes nodes
+    → ((others : List Node) → IsTreeOf bytes others → nodes ≡ others) → IsCompiled nodes terms
     → AreTermsOf bytes terms
 loaded bytes nodes terms document only compiled = record {
   described = compiled.described;
@@ -25,7 +25,7 @@ loaded bytes nodes terms document only compiled = record {
 }
 
 pub no_record : (bytes : List ℕ) (nodes : List Node)
-    → ((others : List Node) → IsDocument bytes others → nodes ≡ others)
+    → ((others : List Node) → IsTreeOf bytes others → nodes ≡ others)
     → ((described : Record) → IsRecordTree nodes described → ⊥) → (described : Record)
     → IsSchema bytes described → ⊥
 no_record bytes nodes only none described schema =

@@ -6,18 +6,25 @@ use Rattle.dfdl_fronts.proofs.Places.{one_place}
 use Rattle.dfdl_edge.specs.Faults.{Rose}
 use Rattle.dfdl_report.specs.declared.cause.SchemaCause.TheVariants.{OutsideSubset}
 use Rattle.dfdl_report.specs.declared.cause.LimitCause.TheVariants.{Input, Schema}
+use Rattle.dfdl_report.specs.declared.cause.DocCause.{DocCause}
+use Rattle.dfdl_report.specs.Causes.{document_number}
+use Rattle.dfdl_markup.specs.Documents.{IsRefusedBy, IsTreeOf}
+use Rattle.dfdl_markup.specs.Trees.{Node}
+use Rattle.dfdl_markup.proofs.Fewer.{one_refusal, no_tree}
 use Rattle.dfdl_terms.specs.Record.{Record}
 use Rattle.dfdl_compile.specs.Schema.{IsSchema}
 use Rattle.dfdl_run.specs.declared.stop.Stop.{Stop}
-use Rattle.dfdl_run.specs.declared.stop.Stop.TheVariants.{Usage, FilesFailed, Refused, SourceFailed}
+use Rattle.dfdl_run.specs.declared.stop.Stop.TheVariants.{Usage, FilesFailed, NoDocument, Refused}
+use Rattle.dfdl_run.specs.declared.stop.Stop.TheVariants.{SourceFailed}
 use Rattle.dfdl_run.specs.declared.stop.Stop.TheVariants.{Limit, OutOfMemory}
 use Rattle.dfdl_run.specs.declared.command.Verb.{Verb}
 use Rattle.dfdl_run.specs.declared.command.Verb.TheVariants.{Parse, Unparse}
 use Rattle.dfdl_run.specs.Answer.{End}
 use Rattle.dfdl_run.specs.Command.{Order, Orders, IsCommand, verb_word}
-use Rattle.dfdl_run.specs.Decided.{Decided, by_words, by_schema, by_data, IsLoadFault, IsLoaded}
+use Rattle.dfdl_run.specs.Decided.{Decided, by_words, by_schema, by_data, IsLoadFault, IsLoaded, IsNoDocument}
 use Rattle.dfdl_run.specs.Decided.{IsMeant, IsNoSchema, IsReadEnd, IsSchemaOf}
-use Rattle.dfdl_run.specs.Expects.{Expects, no_command, no_file, long_schema, no_schema, long_input}
+use Rattle.dfdl_run.specs.Expects.{Expects, no_command, no_file, long_schema, no_document, no_schema, long_input}
+use Rattle.dfdl_run.proofs.Causes.{one_cause_of}
 use Rattle.dfdl_run.specs.Expects.{meant, is_excused, most_schema, most_input}
 use Rattle.dfdl_run.specs.Meaning.{answer_of}
 use Rattle.dfdl_run.specs.Outside.{Inputs}
@@ -58,7 +65,11 @@ at_told P o bytes is told = subst (λ (o : Option (List ℕ)). IfSome o P) is to
 -- what the bytes of the schema file leave to be expected
 data Leaves (schema name : List ℕ) : End → Type 0 where
   too_long : most_schema < length schema → Leaves schema name (Err (Limit Schema most_schema))
-  refused : length schema ≤ most_schema → ((described : Record) → IsSchema schema described → ⊥)
+  unread : (cause : DocCause) (at : ℕ) → length schema ≤ most_schema
+      → IsRefusedBy schema at (document_number cause)
+      → Leaves schema name (Err (NoDocument cause name at))
+  refused : (nodes : List Node) → length schema ≤ most_schema → IsTreeOf schema nodes
+      → ((described : Record) → IsSchema schema described → ⊥)
       → Leaves schema name (Err (Refused OutsideSubset name 0))
   good : (described : Record) (end : End) → length schema ≤ most_schema → IsSchema schema described
       → IsTrue (is_excused end 7) → IsTrue (is_excused end 9) → Leaves schema name end
@@ -71,26 +82,53 @@ module _ (before after : Inputs) where
       → Ranked before after (Err stop) b
   load_ranked schema name (FilesFailed failed) _ is fault (too_long long) =
       files failed refl fault.1.rose refl
-  load_ranked schema name (FilesFailed failed) _ is fault (refused fits none) =
+  load_ranked schema name (FilesFailed failed) _ is fault (unread why where_at fits broken) =
+      files failed refl fault.1.rose refl
+  load_ranked schema name (FilesFailed failed) _ is fault (refused nodes fits tree none) =
       files failed refl fault.1.rose refl
   load_ranked schema name (FilesFailed failed) _ is fault (good described end fits schema_is seven nine) =
       files failed refl fault.1.rose seven
   load_ranked schema name OutOfMemory _ is fault (too_long long) = memory refl refl
-  load_ranked schema name OutOfMemory _ is fault (refused fits none) = memory refl refl
+  load_ranked schema name OutOfMemory _ is fault (unread why where_at fits broken) = memory refl refl
+  load_ranked schema name OutOfMemory _ is fault (refused nodes fits tree none) = memory refl refl
   load_ranked schema name OutOfMemory _ is fault (good described end fits schema_is seven nine) =
       memory refl nine
   load_ranked schema name (Limit cause quantity) _ is fault (too_long long) =
       same (let cause_is = fault.0 in let quantity_is = fault.1 in cc)
-  load_ranked schema name (Limit cause quantity) _ is fault (refused fits none) =
+  load_ranked schema name (Limit cause quantity) _ is fault (unread why where_at fits broken) =
+      let long =
+      at_told (λ all. most_schema < length all) _ schema is fault.2 in absurd (omega arith)
+  load_ranked schema name (Limit cause quantity) _ is fault (refused nodes fits tree none) =
       let long =
       at_told (λ all. most_schema < length all) _ schema is fault.2 in absurd (omega arith)
   load_ranked schema name (Limit cause quantity) _ is fault (good described end fits schema_is seven nine) =
       let long =
       at_told (λ all. most_schema < length all) _ schema is fault.2 in absurd (omega arith)
+  load_ranked schema name (NoDocument cause document at) _ is fault (too_long long) =
+      let none : IsNoDocument cause at schema =
+      at_told (IsNoDocument cause at) _ schema is fault.1 in
+      let fits = none.fits in absurd (omega arith)
+  load_ranked schema name (NoDocument cause document at) _ is fault (unread why where_at fits broken) =
+      let none : IsNoDocument cause at schema =
+      at_told (IsNoDocument cause at) _ schema is fault.1 in
+      let one = one_refusal schema at where_at (document_number cause) (document_number why) none.refused broken in
+      let why_is : cause ≡ why = one_cause_of cause why one.1 in
+      let at_is : at ≡ where_at = one.0 in
+      same (let document_is = fault.0 in cc)
+  load_ranked schema name (NoDocument cause document at) _ is fault (refused nodes fits tree none) =
+      let no : IsNoDocument cause at schema = at_told (IsNoDocument cause at) _ schema is fault.1 in
+      absurd (no_tree schema at (document_number cause) nodes no.refused tree)
+  load_ranked schema name (NoDocument cause document at) _ is fault (good described end fits schema_is seven nine) =
+      let no : IsNoDocument cause at schema = at_told (IsNoDocument cause at) _ schema is fault.1 in
+      absurd (no_tree schema at (document_number cause) schema_is.nodes no.refused schema_is.document)
   load_ranked schema name (Refused cause document at) _ is fault (too_long long) =
       let none : IsNoSchema schema =
       at_told IsNoSchema _ schema is fault.3 in let fits = none.fits in absurd (omega arith)
-  load_ranked schema name (Refused cause document at) _ is fault (refused fits none) =
+  load_ranked schema name (Refused cause document at) _ is fault (unread why where_at fits broken) =
+      let none : IsNoSchema schema =
+      at_told IsNoSchema _ schema is fault.3 in
+      absurd (no_tree schema where_at (document_number why) none.nodes broken none.tree)
+  load_ranked schema name (Refused cause document at) _ is fault (refused nodes fits tree none) =
       same (let cause_is = fault.0 in let document_is = fault.1 in let at_is = fault.2 in cc)
   load_ranked schema name (Refused cause document at) _ is fault (good described end fits schema_is seven nine) =
       let none : IsNoSchema schema =
@@ -106,6 +144,7 @@ module _ (before after : Inputs) where
       same (ap (λ (n : List ℕ). let e : End = Err (FilesFailed n) in e) fault.0)
   missing_ranked name OutOfMemory missing fault = memory refl refl
   missing_ranked name (Limit cause quantity) missing fault = absurd (fault.3.there missing)
+  missing_ranked name (NoDocument cause document at) missing fault = absurd (fault.2.there missing)
   missing_ranked name (Refused cause document at) missing fault = absurd (fault.4.there missing)
   missing_ranked name (Usage word) missing fault = absurd fault
   missing_ranked name SourceFailed missing fault = absurd fault
@@ -125,6 +164,7 @@ module _ (before after : Inputs) where
       same (let cause_is = read.0 in let quantity_is = read.1 in cc)
   long_ranked bytes verb described (Err (Usage word)) long is read = absurd read
   long_ranked bytes verb described (Err (FilesFailed name)) long is read = absurd read
+  long_ranked bytes verb described (Err (NoDocument cause document at)) long is read = absurd read
   long_ranked bytes verb described (Err (Refused cause document at)) long is read = absurd read
 
   -- the bytes have a meaning
@@ -142,6 +182,7 @@ module _ (before after : Inputs) where
       let long = at_told (λ all. most_input < length all) _ bytes is read.2 in absurd (omega arith)
   meant_ranked bytes verb described (Err (Usage word)) fits is read = absurd read
   meant_ranked bytes verb described (Err (FilesFailed name)) fits is read = absurd read
+  meant_ranked bytes verb described (Err (NoDocument cause document at)) fits is read = absurd read
   meant_ranked bytes verb described (Err (Refused cause document at)) fits is read = absurd read
 
   -- the words are an order, so that they have no place at which no command goes on
@@ -154,7 +195,9 @@ module _ (before after : Inputs) where
     at_words at a _ place is (no_file order orders missing) = absurd (place.no_text (order, orders))
     at_words at a _ place is (long_schema order schema orders file_is long) =
         absurd (place.no_text (order, orders))
-    at_words at a _ place is (no_schema order schema orders file_is fits none) =
+    at_words at a _ place is (no_document order schema cause byte orders file_is fits broken) =
+        absurd (place.no_text (order, orders))
+    at_words at a _ place is (no_schema order schema nodes orders file_is fits tree none) =
         absurd (place.no_text (order, orders))
     at_words at a _ place is (long_input order schema described bytes orders file_is fits schema_is input_is long) =
         absurd (place.no_text (order, orders))
@@ -173,10 +216,14 @@ module _ (before after : Inputs) where
         load_ranked schema other.schema stop _ file_is
         (subst (λ (n : List ℕ). IsLoadFault before.files after.files n stop) (orders_schema words order other orders others) fault)
         (too_long long)
-    at_schema order stop _ orders fault (no_schema other schema others file_is fits none) =
+    at_schema order stop _ orders fault (no_document other schema cause byte others file_is fits broken) =
         load_ranked schema other.schema stop _ file_is
         (subst (λ (n : List ℕ). IsLoadFault before.files after.files n stop) (orders_schema words order other orders others) fault)
-        (refused fits none)
+        (unread cause byte fits broken)
+    at_schema order stop _ orders fault (no_schema other schema nodes others file_is fits tree none) =
+        load_ranked schema other.schema stop _ file_is
+        (subst (λ (n : List ℕ). IsLoadFault before.files after.files n stop) (orders_schema words order other orders others) fault)
+        (refused nodes fits tree none)
     at_schema order stop _ orders fault (long_input other schema described bytes others file_is fits schema_is input_is long) =
         load_ranked schema other.schema stop _ file_is
         (subst (λ (n : List ℕ). IsLoadFault before.files after.files n stop) (orders_schema words order other orders others) fault)
@@ -208,7 +255,11 @@ module _ (before after : Inputs) where
         let of : IsSchemaOf described schema =
         schema_of order other described schema orders others told file_is in
         let fits = of.fits in absurd (omega arith)
-    at_data order described a _ orders told loaded read (no_schema other schema others file_is fits none) =
+    at_data order described a _ orders told loaded read (no_document other schema cause byte others file_is fits broken) =
+        let of : IsSchemaOf described schema =
+        schema_of order other described schema orders others told file_is in
+        absurd (no_tree schema byte (document_number cause) of.schema_is.nodes broken of.schema_is.document)
+    at_data order described a _ orders told loaded read (no_schema other schema nodes others file_is fits tree none) =
         let of : IsSchemaOf described schema =
         schema_of order other described schema orders others told file_is in
         absurd (none described of.schema_is)

@@ -3,8 +3,8 @@ use Rattle.std.proofs.Common.{All, ◌≡◌, ◌*◌, ◌≤◌, ℕ, true, ◌
 use Rattle.std.proofs.Common.{[], ◌∷◌, map, Option, None, Some, IfSome, option_map}
 use Rattle.std.proofs.Common.{option_and_then, refl, subst, arith}
 use Rattle.std.specs.Str.{bytes_eq}
-use Rattle.std.specs.Prelude.{codes}
-use Rattle.std.specs.List.{list_all}
+use Rattle.std.specs.Prelude.{codes, length, ◌==◌}
+use Rattle.std.specs.List.{after_first, before_first, list_all, list_any}
 use Rattle.std.proofs.lemmas.Bool.{and_from, cond_both}
 use Rattle.std.proofs.lemmas.Bool.Decides.{nat_tests}
 use Rattle.json.proofs.Printed.Utf8.{IsUtf8-are_ascii, are_ascii}
@@ -15,17 +15,18 @@ use Rattle.dfdl_forms.specs.declared.simple.Simple.{Simple}
 use Rattle.dfdl_forms.specs.declared.simple.Simple.TheVariants.{UnsignedByte, UnsignedShort}
 use Rattle.dfdl_forms.specs.declared.simple.Simple.TheVariants.{UnsignedInt, UnsignedLong}
 use Rattle.dfdl_lemmas.proofs.Bools.{both}
-use Rattle.dfdl_doc_tree.specs.Content.{is_name_byte, is_name_start, is_part}
-use Rattle.dfdl_doc_tree.specs.Node.{Node, node_at}
+use Rattle.dfdl_markup.specs.Trees.{Node, node_at}
 use Rattle.dfdl_terms.specs.Record.{Field, Record, all_of, record_of}
 use Rattle.dfdl_terms.specs.Rows.{Table}
 use Rattle.dfdl_record.specs.Pieces.{IsWholeField, IsWholeRecord}
 use Rattle.dfdl_run.specs.RoundTrip.{HasTextNames}
-use Rattle.dfdl_compile.specs.Schema.{IsSchema, field_elements, has, is_element, is_schema, only}
-use Rattle.dfdl_compile.specs.Schema.{root_name, root_outline}
+use Rattle.dfdl_compile.specs.Elements.{has, is_element, plain_of, property_of}
+use Rattle.dfdl_compile.specs.Names.{is_local, is_name_byte, is_name_start, local_name}
+use Rattle.dfdl_compile.specs.Schema.{IsSchema, field_elements, is_schema_prefix, kind_at, kind_in}
+use Rattle.dfdl_compile.specs.Schema.{kind_prefixed, name_at, only, root_name, root_outline}
 use Rattle.dfdl_compile.specs.Schema.{Outline, IsRecordTree, bits_of, field_of, form_of}
-use Rattle.dfdl_compile.specs.Schema.{integer_form, is_field, kind_of, local_name, order_of}
-use Rattle.dfdl_compile.specs.Schema.{outline_of, outline_record, value_of}
+use Rattle.dfdl_compile.specs.Schema.{integer_form, is_field, kind_of, order_of}
+use Rattle.dfdl_compile.specs.Schema.{outline_of, outline_record}
 use Rattle.dfdl_run.specs.Loaded.{AreTermsOf}
 
 -- the type is unsigned, and has this many whole bytes
@@ -38,13 +39,13 @@ record IsWholeKind (kind : Simple) : Type 0 where
 
 kind_whole : (name : List ℕ) → IfSome (kind_of name) IsWholeKind
 kind_whole name =
-    cond_both (bytes_eq name (codes "xs:unsignedByte")) (Some UnsignedByte) _ (λ (o : Option Simple). IfSome o IsWholeKind)
+    cond_both (bytes_eq name (codes "unsignedByte")) (Some UnsignedByte) _ (λ (o : Option Simple). IfSome o IsWholeKind)
     (λ _. record { count = 1; unsigned = refl; bits = refl; some = omega arith; few = omega arith })
-    (λ _. cond_both (bytes_eq name (codes "xs:unsignedShort")) (Some UnsignedShort) _ (λ (o : Option Simple). IfSome o IsWholeKind)
+    (λ _. cond_both (bytes_eq name (codes "unsignedShort")) (Some UnsignedShort) _ (λ (o : Option Simple). IfSome o IsWholeKind)
     (λ _. record { count = 2; unsigned = refl; bits = refl; some = omega arith; few = omega arith })
-    (λ _. cond_both (bytes_eq name (codes "xs:unsignedInt")) (Some UnsignedInt) _ (λ (o : Option Simple). IfSome o IsWholeKind)
+    (λ _. cond_both (bytes_eq name (codes "unsignedInt")) (Some UnsignedInt) _ (λ (o : Option Simple). IfSome o IsWholeKind)
     (λ _. record { count = 4; unsigned = refl; bits = refl; some = omega arith; few = omega arith })
-    (λ _. cond_both (bytes_eq name (codes "xs:unsignedLong")) (Some UnsignedLong) None (λ (o : Option Simple). IfSome o IsWholeKind)
+    (λ _. cond_both (bytes_eq name (codes "unsignedLong")) (Some UnsignedLong) None (λ (o : Option Simple). IfSome o IsWholeKind)
     (λ _. record { count = 8; unsigned = refl; bits = refl; some = omega arith; few = omega arith })
     (λ _. tt))))
 
@@ -62,24 +63,54 @@ some_any : {A : Type 0} (o : Option A) → IfSome o (λ _. Unit {0})
 some_any None = tt
 some_any (Some a) = tt
 
-form_whole : (node : Node) → IfSome (form_of node) IsWholeField
-form_whole node =
-    some_then IsWholeKind IsWholeField (λ kind. option_map (integer_form kind) (order_of kind (value_of (codes "dfdl:byteOrder") node.attributes)))
-    (option_and_then kind_of (value_of (codes "type") node.attributes))
-    (some_then (λ _. Unit {0}) IsWholeKind kind_of (value_of (codes "type") node.attributes) (some_any _) (λ name _. kind_whole name))
-    (λ kind whole. some_map (λ _. Unit {0}) IsWholeField (integer_form kind) (order_of kind (value_of (codes "dfdl:byteOrder") node.attributes)) (some_any _)
-    (λ order _. record { count = whole.count; kind = whole.unsigned; bits = whole.bits; some = whole.some; few = whole.few; order = refl }))
+prefixed_whole : (nodes : List Node) (element : ℕ) (prefix name : List ℕ)
+    → IfSome (kind_in nodes element prefix name) IsWholeKind
+prefixed_whole nodes element prefix name =
+    cond_both (is_schema_prefix nodes element prefix) (kind_of name) None
+    (λ (o : Option Simple). IfSome o IsWholeKind) (λ _. kind_whole name) (λ _. tt)
+
+type_whole : (nodes : List Node) (element : ℕ) (name : List ℕ)
+    → IfSome (kind_at nodes element name) IsWholeKind
+type_whole nodes element name =
+    cond_both (list_any (λ b. b == 58) name)
+    (kind_prefixed nodes element (before_first (λ b. b == 58) name) (after_first (λ b. b == 58) name))
+    (kind_in nodes element [] name) (λ (o : Option Simple). IfSome o IsWholeKind)
+    (λ _. cond_both (length (before_first (λ b. b == 58) name) == 0) None
+    (kind_in nodes element (before_first (λ b. b == 58) name) (after_first (λ b. b == 58) name))
+    (λ (o : Option Simple). IfSome o IsWholeKind) (λ _. tt)
+    (λ _. prefixed_whole nodes element (before_first (λ b. b == 58) name) (after_first (λ b. b == 58) name)))
+    (λ _. prefixed_whole nodes element [] name)
+
+form_whole : (nodes : List Node) (element : ℕ) → IfSome (form_of nodes element) IsWholeField
+form_whole nodes element =
+    some_then IsWholeKind IsWholeField
+    (λ kind. option_map (integer_form kind) (order_of kind (property_of nodes element (codes "byteOrder"))))
+    (option_and_then (kind_at nodes element) (plain_of nodes element (codes "type")))
+    (some_then (λ _. Unit {0}) IsWholeKind (kind_at nodes element)
+    (plain_of nodes element (codes "type")) (some_any _) (λ name _. type_whole nodes element name))
+    (λ kind whole. some_map (λ _. Unit {0}) IsWholeField (integer_form kind)
+    (order_of kind (property_of nodes element (codes "byteOrder"))) (some_any _)
+    (λ order _. record {
+      count = whole.count;
+      kind = whole.unsigned;
+      bits = whole.bits;
+      some = whole.some;
+      few = whole.few;
+      order = refl;
+    }))
 
 -- the field is whole
 abbrev IsWhole : Field → Type 0
 IsWhole field = IsWholeField field.form
 
-field_whole : (node : Node) → IfSome (field_of node) IsWhole
-field_whole node =
-    cond_both (is_field node) _ None (λ (o : Option Field). IfSome o IsWhole)
-    (λ _. some_then (λ _. Unit {0}) IsWhole (λ name. option_map (λ form. let f : Field = record { name = name; form = form } in f) (form_of node))
-    (option_and_then local_name (value_of (codes "name") node.attributes)) (some_any _)
-    (λ name _. some_map IsWholeField IsWhole (λ form. record { name = name; form = form }) (form_of node) (form_whole node) (λ form whole. whole)))
+field_whole : (nodes : List Node) (element : ℕ) → IfSome (field_of nodes element) IsWhole
+field_whole nodes element =
+    cond_both (is_field nodes element) _ None (λ (o : Option Field). IfSome o IsWhole)
+    (λ _. some_then (λ _. Unit {0}) IsWhole
+    (λ name. option_map (λ form. let f : Field = record { name = name; form = form } in f) (form_of nodes element))
+    (name_at nodes element) (some_any _)
+    (λ name _. some_map IsWholeField IsWhole (λ form. record { name = name; form = form })
+    (form_of nodes element) (form_whole nodes element) (λ form whole. whole)))
     (λ _. tt)
 
 all_whole : {A B : Type 0} (P : B → Type 0) (read : A → Option B) (xs : List A) (ys : List B)
@@ -104,14 +135,14 @@ tree_whole nodes described tree =
     (elim (outline_of nodes) as (λ o. option_and_then (outline_record nodes) o ≡ Some described → All IsWhole described.fields) [
       | None ↦ λ none. absurd (cc)
       | Some outline ↦ λ some.
-          (elim (all_of (map (λ element. field_of (node_at nodes element)) outline.fields)) as
-          (λ o. all_of (map (λ element. field_of (node_at nodes element)) outline.fields) ≡ o
+          (elim (all_of (map (field_of nodes) outline.fields)) as
+          (λ o. all_of (map (field_of nodes) outline.fields) ≡ o
           → option_map (λ fields. let r : Record = record { root = outline.root; fields = fields } in r) o ≡ Some described → All IsWhole described.fields) [
             | None ↦ λ _ none. absurd (cc)
             | Some fields ↦ λ read same.
                 let same_fields : fields ≡ described.fields = cc in
                 subst (λ (fs : List Field). All IsWhole fs) same_fields
-                (all_whole IsWhole (λ element. field_of (node_at nodes element)) outline.fields fields (λ element. field_whole (node_at nodes element)) read)
+                (all_whole IsWhole (field_of nodes) outline.fields fields (field_whole nodes) read)
           ]) refl some
     ]) tree.shape
 
@@ -138,7 +169,7 @@ bytes_ascii (b ∷ bytes) all =
     let parts = both (is_name_byte b) (list_all is_name_byte bytes) all in
     and_from (nat_lt b 128) (are_ascii bytes) (byte_ascii b parts.0) (bytes_ascii bytes parts.1)
 
-part_utf8 : (name : List ℕ) → is_part name ≡ true → IsUtf8 name
+part_utf8 : (name : List ℕ) → is_local name ≡ true → IsUtf8 name
 part_utf8 [] part = absurd (cc)
 part_utf8 (b ∷ bytes) part =
     let parts = both (is_name_start b) (list_all is_name_byte bytes) part in
@@ -146,7 +177,7 @@ part_utf8 (b ∷ bytes) part =
 
 local_utf8 : (name : List ℕ) → IfSome (local_name name) IsUtf8
 local_utf8 name =
-    cond_both (is_part name) (Some name) None (λ (o : Option (List ℕ)). IfSome o IsUtf8) (λ part. part_utf8 name part) (λ _. tt)
+    cond_both (is_local name) (Some name) None (λ (o : Option (List ℕ)). IfSome o IsUtf8) (λ part. part_utf8 name part) (λ _. tt)
 
 -- the name that an attribute gives
 given_utf8 : (o : Option (List ℕ)) → IfSome (option_and_then local_name o) IsUtf8
@@ -156,32 +187,37 @@ given_utf8 o =
 abbrev IsNamed : Field → Type 0
 IsNamed field = IsUtf8 field.name
 
-field_named : (node : Node) → IfSome (field_of node) IsNamed
-field_named node =
-    cond_both (is_field node) _ None (λ (o : Option Field). IfSome o IsNamed)
-    (λ _. some_then IsUtf8 IsNamed (λ name. option_map (λ form. let f : Field = record { name = name; form = form } in f) (form_of node))
-    (option_and_then local_name (value_of (codes "name") node.attributes)) (given_utf8 _)
-    (λ name utf8. some_map (λ _. Unit {0}) IsNamed (λ form. record { name = name; form = form }) (form_of node) (some_any _) (λ form _. utf8)))
+field_named : (nodes : List Node) (element : ℕ) → IfSome (field_of nodes element) IsNamed
+field_named nodes element =
+    cond_both (is_field nodes element) _ None (λ (o : Option Field). IfSome o IsNamed)
+    (λ _. some_then IsUtf8 IsNamed
+    (λ name. option_map (λ form. let f : Field = record { name = name; form = form } in f) (form_of nodes element))
+    (name_at nodes element) (given_utf8 _)
+    (λ name utf8. some_map (λ _. Unit {0}) IsNamed (λ form. record { name = name; form = form })
+    (form_of nodes element) (some_any _) (λ form _. utf8)))
     (λ _. tt)
 
 abbrev IsRooted : Outline → Type 0
 IsRooted outline = IsUtf8 outline.root
 
-root_named : (node : Node) → IfSome (root_name node) IsUtf8
-root_named node =
-    cond_both (is_element (codes "xs:element") 2 node && has node (codes "dfdl:lengthKind") (codes "implicit")) _ None
-    (λ (o : Option (List ℕ)). IfSome o IsUtf8) (λ _. given_utf8 (value_of (codes "name") node.attributes)) (λ _. tt)
+root_named : (nodes : List Node) (element : ℕ) → IfSome (root_name nodes element) IsUtf8
+root_named nodes element =
+    cond_both (is_element nodes element (codes "element") 2 && has nodes element (codes "lengthKind") (codes "implicit")) _ None
+    (λ (o : Option (List ℕ)). IfSome o IsUtf8)
+    (λ _. given_utf8 (plain_of nodes element (codes "name"))) (λ _. tt)
 
 element_rooted : (nodes : List Node) (element : ℕ) → IfSome (root_outline nodes element) IsRooted
 element_rooted nodes element =
     some_then IsUtf8 IsRooted
-    (λ name. option_map (λ fields. let o : Outline = record { root = name; fields = fields } in o) (field_elements nodes (node_at nodes element).children))
-    (root_name (node_at nodes element)) (root_named (node_at nodes element))
-    (λ name utf8. some_map (λ _. Unit {0}) IsRooted (λ fields. record { root = name; fields = fields }) _ (some_any _) (λ fields _. utf8))
+    (λ name. option_map (λ fields. let o : Outline = record { root = name; fields = fields } in o)
+    (field_elements nodes (node_at nodes element).children))
+    (root_name nodes element) (root_named nodes element)
+    (λ name utf8. some_map (λ _. Unit {0}) IsRooted (λ fields. record { root = name; fields = fields })
+    _ (some_any _) (λ fields _. utf8))
 
 outline_rooted : (nodes : List Node) → IfSome (outline_of nodes) IsRooted
 outline_rooted nodes =
-    cond_both (is_schema (node_at nodes 0)) _ None (λ (o : Option Outline). IfSome o IsRooted)
+    cond_both (is_element nodes 0 (codes "schema") 0) _ None (λ (o : Option Outline). IfSome o IsRooted)
     (λ _. some_then (λ _. Unit {0}) IsRooted (root_outline nodes) (only (node_at nodes 0).children) (some_any _) (λ element _. element_rooted nodes element))
     (λ _. tt)
 
@@ -193,8 +229,8 @@ tree_named nodes described tree =
     → IsUtf8 described.root × All IsNamed described.fields) [
       | None ↦ λ _ none. absurd (cc)
       | Some outline ↦ λ rooted some.
-          (elim (all_of (map (λ element. field_of (node_at nodes element)) outline.fields)) as
-          (λ o. all_of (map (λ element. field_of (node_at nodes element)) outline.fields) ≡ o
+          (elim (all_of (map (field_of nodes) outline.fields)) as
+          (λ o. all_of (map (field_of nodes) outline.fields) ≡ o
           → option_map (λ fields. let r : Record = record { root = outline.root; fields = fields } in r) o ≡ Some described
           → IsUtf8 described.root × All IsNamed described.fields) [
             | None ↦ λ _ none. absurd (cc)
@@ -203,7 +239,7 @@ tree_named nodes described tree =
                 let same_fields : fields ≡ described.fields = cc in (
                   subst IsUtf8 same_root rooted,
                   subst (λ (fs : List Field). All IsNamed fs) same_fields
-                      (all_whole IsNamed (λ element. field_of (node_at nodes element)) outline.fields fields (λ element. field_named (node_at nodes element)) read),
+                      (all_whole IsNamed (field_of nodes) outline.fields fields (field_named nodes) read),
                 )
           ]) refl some
     ]) (outline_rooted nodes) tree.shape

@@ -3,7 +3,7 @@ use Rattle.std.specs.Prelude.{ℕ, List, [], Bool, true, false, Result, Ok, Err}
 use Rattle.dfdl_report.specs.declared.status.Status.{Status}
 use Rattle.dfdl_report.specs.declared.status.Status.TheVariants as status
 use Rattle.dfdl_report.specs.Statuses.{status_number}
-use Rattle.dfdl_report.specs.Lines.{files_line, infoset_line, left_over_line, limit_line}
+use Rattle.dfdl_report.specs.Lines.{document_line, files_line, infoset_line, left_over_line, limit_line}
 use Rattle.dfdl_report.specs.Lines.{memory_line}
 use Rattle.dfdl_report.specs.Lines.{parse_line, schema_line, source_line, unparse_line, usage_line}
 use Rattle.dfdl_record.specs.Pieces.{joined}
@@ -11,7 +11,8 @@ use Rattle.dfdl_run.specs.declared.answer.Answer.{Answer}
 use Rattle.dfdl_run.specs.declared.answer.Answer.TheVariants.{Done, LeftOver, Failed, Unparsed}
 use Rattle.dfdl_run.specs.declared.answer.Answer.TheVariants.{NotUnparsed, NoInfoset}
 use Rattle.dfdl_run.specs.declared.stop.Stop.{Stop}
-use Rattle.dfdl_run.specs.declared.stop.Stop.TheVariants.{Usage, FilesFailed, Refused, SourceFailed}
+use Rattle.dfdl_run.specs.declared.stop.Stop.TheVariants.{Usage, FilesFailed, NoDocument, Refused}
+use Rattle.dfdl_run.specs.declared.stop.Stop.TheVariants.{SourceFailed}
 use Rattle.dfdl_run.specs.declared.stop.Stop.TheVariants.{Limit, OutOfMemory}
 
 -- the end of a run: what its data came to, or what stopped it before that
@@ -31,6 +32,7 @@ answer_status (NoInfoset cause path) = status.InfosetRefused
 abbrev pub stop_status : Stop → Status
 stop_status (Usage word) = status.Usage
 stop_status (FilesFailed name) = status.FilesFailed
+stop_status (NoDocument cause document at) = status.SchemaRefused
 stop_status (Refused cause document at) = status.SchemaRefused
 stop_status SourceFailed = status.SourceFailed
 stop_status (Limit cause quantity) = status.Limit
@@ -77,6 +79,7 @@ answer_note (NoInfoset cause path) = infoset_line cause path
 abbrev pub stop_note : Stop → List ℕ
 stop_note (Usage word) = usage_line word
 stop_note (FilesFailed name) = files_line name
+stop_note (NoDocument cause document at) = document_line cause document at
 stop_note (Refused cause document at) = schema_line cause document at
 stop_note SourceFailed = source_line
 stop_note (Limit cause quantity) = limit_line cause quantity

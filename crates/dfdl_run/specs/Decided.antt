@@ -8,11 +8,16 @@ use Rattle.dfdl_edge.specs.Told.{IsLonger, IsNowLast}
 use Rattle.dfdl_edge.specs.Whole.{IsUsedUp}
 use Rattle.dfdl_report.specs.declared.cause.SchemaCause.TheVariants.{OutsideSubset}
 use Rattle.dfdl_report.specs.declared.cause.LimitCause.TheVariants.{Input, Schema}
+use Rattle.dfdl_report.specs.declared.cause.DocCause.{DocCause}
+use Rattle.dfdl_report.specs.Causes.{document_number}
+use Rattle.dfdl_markup.specs.Documents.{IsRefusedBy, IsTreeOf}
+use Rattle.dfdl_markup.specs.Trees.{Node}
 use Rattle.dfdl_terms.specs.Record.{Record}
 use Rattle.dfdl_compile.specs.Schema.{IsSchema}
 use Rattle.dfdl_run.specs.declared.answer.Answer.{Answer}
 use Rattle.dfdl_run.specs.declared.stop.Stop.{Stop}
-use Rattle.dfdl_run.specs.declared.stop.Stop.TheVariants.{Usage, FilesFailed, Refused, SourceFailed}
+use Rattle.dfdl_run.specs.declared.stop.Stop.TheVariants.{Usage, FilesFailed, NoDocument, Refused}
+use Rattle.dfdl_run.specs.declared.stop.Stop.TheVariants.{SourceFailed}
 use Rattle.dfdl_run.specs.declared.stop.Stop.TheVariants.{Limit, OutOfMemory}
 use Rattle.dfdl_run.specs.declared.command.Verb.{Verb}
 use Rattle.dfdl_run.specs.Answer.{End}
@@ -27,9 +32,16 @@ pub record IsSchemaOf (described : Record) (schema : List ℕ) : Type 0 where
   pub schema_is : IsSchema schema described
   pub only : (other : Record) → IsSchema schema other → other ≡ described
 
--- the schema file is not too long and no schema
+-- the schema file is not too long, and no document from this byte on
+pub record IsNoDocument (cause : DocCause) (at : ℕ) (schema : List ℕ) : Type 0 where
+  pub fits : length schema ≤ most_schema
+  pub refused : IsRefusedBy schema at (document_number cause)
+
+-- the schema file is not too long, and a document that is no schema
 pub record IsNoSchema (schema : List ℕ) : Type 0 where
   pub fits : length schema ≤ most_schema
+  pub nodes : List Node
+  pub tree : IsTreeOf schema nodes
   pub none : (described : Record) → IsSchema schema described → ⊥
 
 -- a load that did not fail: it is not told that there is no such file, and no fault was counted
@@ -48,6 +60,9 @@ IsLoadFault before after name (FilesFailed failed) = (failed ≡ name) × IsNotL
 IsLoadFault before after name OutOfMemory = Unit {0}
 IsLoadFault before after name (Limit cause quantity) =
     (cause ≡ Schema) × (quantity ≡ most_schema) × IsLonger (before.content name) most_schema
+    × IsLoaded before after name
+IsLoadFault before after name (NoDocument cause document at) =
+    (document ≡ name) × IfSome (before.content name) (IsNoDocument cause at)
     × IsLoaded before after name
 IsLoadFault before after name (Refused cause document at) =
     (cause ≡ OutsideSubset) × (document ≡ name) × (at ≡ 0) × IfSome (before.content name) IsNoSchema
@@ -78,6 +93,7 @@ IsReadEnd verb described before after (Err (Limit cause quantity)) =
     × (after.faults ≡ before.faults)
 IsReadEnd verb described before after (Err (Usage word)) = ⊥
 IsReadEnd verb described before after (Err (FilesFailed name)) = ⊥
+IsReadEnd verb described before after (Err (NoDocument cause document at)) = ⊥
 IsReadEnd verb described before after (Err (Refused cause document at)) = ⊥
 
 -- What was decided, by the stage at which it was. Where the words decide, nothing is loaded; else

@@ -6,9 +6,14 @@ use Rattle.dfdl_edge.specs.Faults.{Rose}
 use Rattle.dfdl_edge.specs.Sink.{Adds, AddsFront, SinkSeen}
 use Rattle.dfdl_report.specs.declared.cause.SchemaCause.TheVariants.{OutsideSubset}
 use Rattle.dfdl_report.specs.declared.cause.LimitCause.TheVariants.{Input, Schema}
+use Rattle.dfdl_report.specs.declared.cause.DocCause.{DocCause}
+use Rattle.dfdl_report.specs.Causes.{document_number}
+use Rattle.dfdl_markup.specs.Documents.{IsRefusedBy, IsTreeOf}
+use Rattle.dfdl_markup.specs.Trees.{Node}
 use Rattle.dfdl_terms.specs.Record.{Record}
 use Rattle.dfdl_compile.specs.Schema.{IsSchema}
-use Rattle.dfdl_run.specs.declared.stop.Stop.TheVariants.{Usage, FilesFailed, Refused, SourceFailed}
+use Rattle.dfdl_run.specs.declared.stop.Stop.TheVariants.{Usage, FilesFailed, NoDocument, Refused}
+use Rattle.dfdl_run.specs.declared.stop.Stop.TheVariants.{SourceFailed}
 use Rattle.dfdl_run.specs.declared.stop.Stop.TheVariants.{Limit, OutOfMemory}
 use Rattle.dfdl_run.specs.Answer.{End, is_written, note_of, status_of, written_of}
 use Rattle.dfdl_run.specs.Command.{Order, Orders, IsCommand}
@@ -24,8 +29,8 @@ abbrev pub most_input : ℕ
 most_input = 2 ^ 30
 
 -- The end of a run on these words, as far as the bytes of the files and of the source are told. The
--- words count first, then the schema file, then the schema, then the source, then the infoset, then
--- the meaning.
+-- words count first, then the schema file, then the document in it, then the schema, then the
+-- source, then the infoset, then the meaning.
 pub data Expects (words : List (List ℕ)) (told : Inputs) : End → Type 0 where
   -- the words are no command from word `at` on
   no_command : (at : ℕ) → IsPlace IsCommand words at → Expects words told (Err (Usage (at + 1)))
@@ -36,10 +41,16 @@ pub data Expects (words : List (List ℕ)) (told : Inputs) : End → Type 0 wher
   long_schema : (order : Order) (schema : List ℕ) → Orders words order
       → told.files.content order.schema ≡ Some schema
       → most_schema < length schema → Expects words told (Err (Limit Schema most_schema))
-  -- the schema file is no schema
-  no_schema : (order : Order) (schema : List ℕ) → Orders words order
+  -- the schema file is no document from this byte on
+  no_document : (order : Order) (schema : List ℕ) (cause : DocCause) (at : ℕ) → Orders words order
       → told.files.content order.schema ≡ Some schema
-      → length schema ≤ most_schema → ((described : Record) → IsSchema schema described → ⊥)
+      → length schema ≤ most_schema → IsRefusedBy schema at (document_number cause)
+      → Expects words told (Err (NoDocument cause order.schema at))
+  -- the document is no schema
+  no_schema : (order : Order) (schema : List ℕ) (nodes : List Node) → Orders words order
+      → told.files.content order.schema ≡ Some schema
+      → length schema ≤ most_schema → IsTreeOf schema nodes
+      → ((described : Record) → IsSchema schema described → ⊥)
       → Expects words told (Err (Refused OutsideSubset order.schema 0))
   -- the source gives a byte past the limit
   long_input : (order : Order) (schema : List ℕ) (described : Record) (bytes : List ℕ)
@@ -62,6 +73,7 @@ abbrev pub is_excused : End → ℕ → Bool
 is_excused (Err (Usage word)) status = status == 9
 is_excused (Err (FilesFailed name)) status = status == 9
 is_excused (Err (Limit Schema quantity)) status = status == 7 || status == 9
+is_excused (Err (NoDocument cause document at)) status = status == 7 || status == 9
 is_excused (Err (Refused cause document at)) status = status == 7 || status == 9
 is_excused (Err (Limit Input quantity)) status = status == 5 || status == 7 || status == 9
 is_excused (Ok answer) status =

@@ -2,6 +2,9 @@
 ghost use Rattle.std.specs.Prelude.{◌≡◌, ◌⊎◌, IsSome, IfOk, IfErr, IfSome, Some};
 ghost use Rattle.dfdl_edge.specs.Faults.{one_more};
 ghost use Rattle.dfdl_report.specs.declared.cause.SchemaCause.TheVariants.{OutsideSubset};
+ghost use Rattle.dfdl_report.specs.Causes.{document_number};
+ghost use Rattle.dfdl_markup.specs.Documents.{IsRefusedBy, IsTreeOf};
+ghost use Rattle.dfdl_markup.specs.Trees.{Node};
 ghost use Rattle.dfdl_terms.specs.Record.{Record, record_of};
 ghost use Rattle.dfdl_record.specs.Pieces.{IsWholeRecord};
 ghost use Rattle.dfdl_compile.specs.Schema.{IsSchema};
@@ -12,7 +15,7 @@ use crate::stop::Stop;
 use dfdl_compile::{CompileFault, compile};
 use dfdl_doc_tree::DocFault;
 use dfdl_edge::{Files, LoadFault};
-use dfdl_report::{LimitCause, SchemaCause};
+use dfdl_report::{DocCause, LimitCause, SchemaCause};
 use dfdl_terms::Terms;
 use dfdl_value::TextValue;
 use std::alloc::Global;
@@ -30,7 +33,21 @@ fn files_failed(alloc: Global, name: &str) -> Stop
     }
 }
 
-// What stops a run where this document is refused, or want of memory for its name.
+// What stops a run where this document is refused at a byte, or want of memory for its name.
+fn no_document(alloc: Global, name: &str, cause: DocCause, at: u64) -> Stop
+    ensures { (result ≡ Stop.NoDocument cause name.now at) ⊎ (result ≡ Stop.OutOfMemory) }
+{
+    match TextValue::from_str(alloc, name) {
+        Ok(document) => Stop::NoDocument {
+            cause,
+            document,
+            at,
+        },
+        Err(_) => Stop::OutOfMemory,
+    }
+}
+
+// What stops a run where this schema is refused, or want of memory for its name.
 fn refused(alloc: Global, name: &str) -> Stop
     ensures { (result ≡ Stop.Refused OutsideSubset name.now 0) ⊎ (result ≡ Stop.OutOfMemory) }
 {
@@ -54,6 +71,7 @@ pub(crate) fn limit(cause: LimitCause, quantity: u64) -> Stop
 // Why bytes gave no terms.
 #[derive(Clone, Copy, Debug, PartialEq, Eq)]
 pub(crate) enum TermsFault {
+    NoDocument { cause: DocCause, at: u64 },
     Refused,
     OutOfMemory,
 }
@@ -61,12 +79,16 @@ pub(crate) enum TermsFault {
 // The terms of a schema's bytes.
 fn terms_of_bytes(alloc: Global, bytes: &[u8]) -> Result<Terms, TermsFault>
     ensures ok { IfOk result (AreTermsOf bytes.now) }
+    ensures no_document { (cause : DocCause) (at : ℕ) → result ≡ Err (TermsFault.NoDocument cause at)
+        → IsRefusedBy bytes.now at (document_number cause) }
+    ensures document { result ≡ Err TermsFault.Refused
+        → (nodes : List Node) × IsTreeOf bytes.now nodes }
     ensures refused { result ≡ Err TermsFault.Refused
         → (described : Record) → IsSchema bytes.now described → ⊥ }
 {
     let tree = match dfdl_doc_tree::read(alloc, bytes) {
         Ok(tree) => tree,
-        Err(DocFault::Bad) => return Err(TermsFault::Refused),
+        Err(DocFault::Bad { cause, at }) => return Err(TermsFault::NoDocument { cause, at }),
         Err(DocFault::OutOfMemory) => return Err(TermsFault::OutOfMemory),
     };
     match compile(alloc, &tree) {
@@ -98,6 +120,7 @@ pub(crate) fn load_terms<F: Files>(alloc: Global, files: &mut F, name: &str) -> 
     };
     match terms_of_bytes(alloc, &bytes) {
         Ok(terms) => Ok(terms),
+        Err(TermsFault::NoDocument { cause, at }) => Err(no_document(alloc, name, cause, at)),
         Err(TermsFault::Refused) => Err(refused(alloc, name)),
         Err(TermsFault::OutOfMemory) => Err(Stop::OutOfMemory),
     }

@@ -1,7 +1,7 @@
 ghost use Rattle.std.specs.Prelude.{◌≡◌, IfOk, string_bytes};
 ghost use Rattle.dfdl_run.specs.Answer.{stop_note, stop_status};
 
-use dfdl_report::{LimitCause, SchemaCause, Status, line};
+use dfdl_report::{DocCause, LimitCause, SchemaCause, Status, line};
 use dfdl_value::TextValue;
 use std::alloc::{AllocError, Global};
 
@@ -15,6 +15,12 @@ pub enum Stop {
     /// The file of this name was not loaded.
     FilesFailed {
         name: TextValue,
+    },
+    /// This document is refused at this byte.
+    NoDocument {
+        cause: DocCause,
+        document: TextValue,
+        at: u64,
     },
     /// The schema is refused at this byte of this document.
     Refused {
@@ -38,7 +44,7 @@ impl Stop {
         match self {
             Stop::Usage { .. } => Status::Usage,
             Stop::FilesFailed { .. } => Status::FilesFailed,
-            Stop::Refused { .. } => Status::SchemaRefused,
+            Stop::NoDocument { .. } | Stop::Refused { .. } => Status::SchemaRefused,
             Stop::SourceFailed => Status::SourceFailed,
             Stop::Limit { .. } => Status::Limit,
             Stop::OutOfMemory => Status::OutOfMemory,
@@ -52,6 +58,11 @@ impl Stop {
         match self {
             Stop::Usage { word } => line::of_usage(alloc, *word),
             Stop::FilesFailed { name } => line::of_files(alloc, name.as_str()),
+            Stop::NoDocument {
+                cause,
+                document,
+                at,
+            } => line::of_document(alloc, *cause, document.as_str(), *at),
             Stop::Refused {
                 cause,
                 document,

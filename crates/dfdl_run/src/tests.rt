@@ -410,18 +410,15 @@ fn words_that_are_no_command(rt: HostRuntime) -> Result<(), Fail> {
 
 #[test]
 fn documents_outside_of_the_form(rt: HostRuntime) -> Result<(), Fail> {
-    let cases: [(&str, &str); 11] = [
-        ("<xs:complexType>", "<!-- c --><xs:complexType>"),
-        ("name=\"a\"", "name='a'"),
-        ("name=\"a\"", "name=\"a\" name=\"z\""),
+    let cases: [(&str, &str); 8] = [
         ("name=\"b\"", "name=\"a\""),
         (" dfdl:byteOrder=\"bigEndian\"", ""),
         ("bigEndian", "middleEndian"),
         ("dfdl-1.0/\"", "dfdl-1.0\""),
-        ("</xs:schema>", "</xs:schema>x"),
         ("name=\"r\"", "name=\"p:r\""),
         ("xs:unsignedByte", "xs:byte"),
-        ("<xs:schema", "<?xml version=\"1.0\"?><xs:schema"),
+        ("xs:unsignedByte", "unsignedByte"),
+        ("dfdl:byteOrder", "byteOrder"),
     ];
     for (part, other) in cases {
         let schema = schema_with(&rt, part, other)?;
@@ -440,9 +437,58 @@ fn documents_outside_of_the_form(rt: HostRuntime) -> Result<(), Fail> {
 }
 
 #[test]
+fn documents_that_are_none(rt: HostRuntime) -> Result<(), Fail> {
+    let cases = [
+        ("name=\"a\"", "name=\"a\" name=\"z\"", "error X5 at s.xsd:206: attribute twice\n"),
+        ("</xs:schema>", "</xs:schema>x", "error X10 at s.xsd:530: one root expected\n"),
+        ("<xs:complexType>", "<ys:complexType>", "error X7 at s.xsd:166: prefix not declared\n"),
+        ("<xs:schema", "<!DOCTYPE a><xs:schema", "error X8 at s.xsd:2: document type refused\n"),
+    ];
+    for (part, other, note) in cases {
+        let schema = schema_with(&rt, part, other)?;
+        ends(
+            &rt,
+            &Given {
+                schema: schema.as_str(),
+                ..PARSE
+            },
+            2,
+            "",
+            note,
+        )?;
+    }
+    Ok(())
+}
+
+#[test]
+fn other_markup_of_the_form(rt: HostRuntime) -> Result<(), Fail> {
+    let cases = [
+        ("<xs:complexType>", "<!-- c --><xs:complexType>"),
+        ("name=\"a\"", "name='&#97;'"),
+        ("<xs:schema", "\u{feff}<?xml version=\"1.0\"?>\r\n<xs:schema"),
+        ("<xs:complexType>", "<?p q?><xs:complexType xmlns:y=\"urn:y\">"),
+    ];
+    for (part, other) in cases {
+        let schema = schema_with(&rt, part, other)?;
+        ends(
+            &rt,
+            &Given {
+                schema: schema.as_str(),
+                ..PARSE
+            },
+            0,
+            LINE,
+            "",
+        )?;
+    }
+    Ok(())
+}
+
+#[test]
 fn a_schema_that_is_cut_off(rt: HostRuntime) -> Result<(), Fail> {
     for end in 0..SCHEMA.len() - 1 {
         let front = SCHEMA.get(..end).ok_or("no such front")?;
+        let note = format!(in rt.alloc(); "error X12 at s.xsd:{end}: document ends\n")?;
         ends(
             &rt,
             &Given {
@@ -451,7 +497,7 @@ fn a_schema_that_is_cut_off(rt: HostRuntime) -> Result<(), Fail> {
             },
             2,
             "",
-            NO_SCHEMA,
+            note.as_str(),
         )?;
     }
     Ok(())

@@ -14,6 +14,8 @@ mod pairs;
 mod resolved;
 mod scope;
 mod tag;
+#[cfg(test)]
+mod tests;
 
 pub use binding_rules::{may_bind, may_close};
 pub use frames::Frames;

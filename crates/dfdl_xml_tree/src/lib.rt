@@ -9,8 +9,11 @@
 mod element;
 mod growing;
 mod scope;
+#[cfg(test)]
+mod tests;
 mod text;
 mod tree;
 
 pub use growing::{Growing, Held};
+pub use text::Text;
 pub use tree::Tree;

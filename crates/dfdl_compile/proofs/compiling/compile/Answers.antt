@@ -1,6 +1,5 @@
 use Rattle.std.proofs.Common.{◌≡◌, IsTrue, false, length, map, ap, refl, arith}
 use Rattle.std.proofs.lemmas.List.{length-map}
-use Rattle.dfdl_doc_tree.specs.Node.{node_at}
 use Rattle.dfdl_terms.specs.RecordShown.{field_shown}
 use Rattle.dfdl_compile.specs.Schema.{field_of}
 use Rattle.dfdl_compile.specs.OutlineShown.{outline_shown}
@@ -18,7 +17,7 @@ returns-then-not-is_record_size-clause-refused c = λ _ described tree.
 
 pub terms_of-requires-clause-count : goal.terms_of-requires-clause-count
 terms_of-requires-clause-count c =
-    let count = length-all_of (λ e. field_of (node_at c.args.tree.now e)) c.in-Some.outline.fields.now (map field_shown c.in_ok-fields.fields.items) c.in_ok-fields.ensures.ok in
+    let count = length-all_of (field_of c.args.tree.now) c.in-Some.outline.fields.now (map field_shown c.in_ok-fields.fields.items) c.in_ok-fields.ensures.ok in
     let shown : length (map field_shown c.in_ok-fields.fields.items) ≡ length c.in_ok-fields.fields.items = simp length-map in
     let same = ap length c.deref-2.ensures.value in
     let fits = c.if-not-is_record_size.ensures.0 refl in
@@ -30,7 +29,7 @@ terms_of-requires-clause-few c = rw c.deref-2.ensures.value c.in_ok-fields.ensur
 pub returns-clause-ok : goal.returns-clause-ok
 returns-clause-ok c =
     let fields = map field_shown c.in_ok-fields.fields.items in
-    let count = length-all_of (λ e. field_of (node_at c.args.tree.now e)) c.in-Some.outline.fields.now fields c.in_ok-fields.ensures.ok in
+    let count = length-all_of (field_of c.args.tree.now) c.in-Some.outline.fields.now fields c.in_ok-fields.ensures.ok in
     let fits = c.if-not-is_record_size.ensures.0 refl in
     let different = rw c.deref.ensures.value at (c.in_ok-have_different_names.ensures.0 c.if-not-branch.false) in
     record {

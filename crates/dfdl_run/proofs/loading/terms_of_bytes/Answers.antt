@@ -1,13 +1,9 @@
 use Rattle.dfdl_run.proofs.Loads.{loaded, no_record}
 use Rattle.dfdl_run.proofs.loading.terms_of_bytes.Goals as goal
 
-pub returns-in-Err-Bad-clause-refused : goal.returns-in-Err-Bad-clause-refused
-returns-in-Err-Bad-clause-refused c =
-    λ _ described schema. c.in-Err-Bad.ensures.bad (cc) schema.nodes schema.document
-
 pub returns-in-Ok-compile-clause-ok : goal.returns-in-Ok-compile-clause-ok
 returns-in-Ok-compile-clause-ok c =
-    loaded _ _ _ c.in-Ok.ensures.ok (λ nodes document. c.in-Ok.ensures.only nodes document) c.in-Ok-compile.ensures.ok
+    loaded _ _ _ c.in-Ok.ensures.tree (λ nodes document. c.in-Ok.ensures.only nodes document) c.in-Ok-compile.ensures.ok
 
 pub returns-in-Err-Refused-clause-refused : goal.returns-in-Err-Refused-clause-refused
 returns-in-Err-Refused-clause-refused c = λ _ described schema.

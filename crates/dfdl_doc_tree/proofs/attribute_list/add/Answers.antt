@@ -1,6 +1,0 @@
-use Rattle.std.specs.String.{string_bytes}
-use Rattle.std.proofs.lemmas.Map.Text.{btree_set_updates_text}
-use Rattle.dfdl_doc_tree.proofs.attribute_list.add.Goals as goal
-
-pub returns-clause-others : goal.returns-clause-others
-returns-clause-others c = λ q. btree_set_updates_text (string_bytes c.args.name) c.args.names.now c.insert.new.self _ c.in_ok-is_new.ensures.updates q

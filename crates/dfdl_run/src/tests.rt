@@ -439,10 +439,26 @@ fn documents_outside_of_the_form(rt: HostRuntime) -> Result<(), Fail> {
 #[test]
 fn documents_that_are_none(rt: HostRuntime) -> Result<(), Fail> {
     let cases = [
-        ("name=\"a\"", "name=\"a\" name=\"z\"", "error X5 at s.xsd:206: attribute twice\n"),
-        ("</xs:schema>", "</xs:schema>x", "error X10 at s.xsd:530: one root expected\n"),
-        ("<xs:complexType>", "<ys:complexType>", "error X7 at s.xsd:166: prefix not declared\n"),
-        ("<xs:schema", "<!DOCTYPE a><xs:schema", "error X8 at s.xsd:2: document type refused\n"),
+        (
+            "name=\"a\"",
+            "name=\"a\" name=\"z\"",
+            "error X5 at s.xsd:206: attribute twice\n",
+        ),
+        (
+            "</xs:schema>",
+            "</xs:schema>x",
+            "error X10 at s.xsd:530: one root expected\n",
+        ),
+        (
+            "<xs:complexType>",
+            "<ys:complexType>",
+            "error X7 at s.xsd:166: prefix not declared\n",
+        ),
+        (
+            "<xs:schema",
+            "<!DOCTYPE a><xs:schema",
+            "error X8 at s.xsd:2: document type refused\n",
+        ),
     ];
     for (part, other, note) in cases {
         let schema = schema_with(&rt, part, other)?;
@@ -465,8 +481,14 @@ fn other_markup_of_the_form(rt: HostRuntime) -> Result<(), Fail> {
     let cases = [
         ("<xs:complexType>", "<!-- c --><xs:complexType>"),
         ("name=\"a\"", "name='&#97;'"),
-        ("<xs:schema", "\u{feff}<?xml version=\"1.0\"?>\r\n<xs:schema"),
-        ("<xs:complexType>", "<?p q?><xs:complexType xmlns:y=\"urn:y\">"),
+        (
+            "<xs:schema",
+            "\u{feff}<?xml version=\"1.0\"?>\r\n<xs:schema",
+        ),
+        (
+            "<xs:complexType>",
+            "<?p q?><xs:complexType xmlns:y=\"urn:y\">",
+        ),
     ];
     for (part, other) in cases {
         let schema = schema_with(&rt, part, other)?;

@@ -21,7 +21,8 @@ use Rattle.dfdl_run.specs.declared.stop.Stop.TheVariants.{SourceFailed}
 use Rattle.dfdl_run.specs.declared.stop.Stop.TheVariants.{Limit, OutOfMemory}
 use Rattle.dfdl_run.specs.Answer.{End, status_of, written_of, note_of}
 use Rattle.dfdl_run.specs.Decided.{Decided, by_words, by_schema, by_data, IsLoadFault, IsReadEnd}
-use Rattle.dfdl_run.specs.Expects.{Expects, no_command, no_file, long_schema, no_schema, long_input}
+use Rattle.dfdl_run.specs.Expects.{Expects, no_command, no_file, long_schema, no_document, no_schema}
+use Rattle.dfdl_run.specs.Expects.{long_input}
 use Rattle.dfdl_run.specs.Expects.{meant, is_excused, Tells, Gives, NoneFailed, IsAsExpected}
 use Rattle.dfdl_run.specs.Finished.{Finished, all, no_sink, no_memory, Writes}
 use Rattle.dfdl_run.specs.Outside.{Inputs, Outside}
@@ -57,7 +58,8 @@ memory_excused : (words : List (List ℕ)) (told : Inputs) (b : End) → Expects
 memory_excused words told _ (no_command at place) = refl
 memory_excused words told _ (no_file order orders missing) = refl
 memory_excused words told _ (long_schema order schema orders is long) = refl
-memory_excused words told _ (no_schema order schema orders is fits none) = refl
+memory_excused words told _ (no_document order schema cause at orders is fits broken) = refl
+memory_excused words told _ (no_schema order schema nodes orders is fits tree none) = refl
 memory_excused words told _ (long_input order schema described bytes orders is fits schema_is input_is long) = refl
 memory_excused words told _ (meant order schema described bytes orders is fits schema_is input_is few) = refl
 

@@ -65,7 +65,7 @@ at_told P o bytes is told = subst (λ (o : Option (List ℕ)). IfSome o P) is to
 -- what the bytes of the schema file leave to be expected
 data Leaves (schema name : List ℕ) : End → Type 0 where
   too_long : most_schema < length schema → Leaves schema name (Err (Limit Schema most_schema))
-  unread : (cause : DocCause) (at : ℕ) → length schema ≤ most_schema
+  unreadable : (cause : DocCause) (at : ℕ) → length schema ≤ most_schema
       → IsRefusedBy schema at (document_number cause)
       → Leaves schema name (Err (NoDocument cause name at))
   refused : (nodes : List Node) → length schema ≤ most_schema → IsTreeOf schema nodes
@@ -82,20 +82,20 @@ module _ (before after : Inputs) where
       → Ranked before after (Err stop) b
   load_ranked schema name (FilesFailed failed) _ is fault (too_long long) =
       files failed refl fault.1.rose refl
-  load_ranked schema name (FilesFailed failed) _ is fault (unread why where_at fits broken) =
+  load_ranked schema name (FilesFailed failed) _ is fault (unreadable why where_at fits broken) =
       files failed refl fault.1.rose refl
   load_ranked schema name (FilesFailed failed) _ is fault (refused nodes fits tree none) =
       files failed refl fault.1.rose refl
   load_ranked schema name (FilesFailed failed) _ is fault (good described end fits schema_is seven nine) =
       files failed refl fault.1.rose seven
   load_ranked schema name OutOfMemory _ is fault (too_long long) = memory refl refl
-  load_ranked schema name OutOfMemory _ is fault (unread why where_at fits broken) = memory refl refl
+  load_ranked schema name OutOfMemory _ is fault (unreadable why where_at fits broken) = memory refl refl
   load_ranked schema name OutOfMemory _ is fault (refused nodes fits tree none) = memory refl refl
   load_ranked schema name OutOfMemory _ is fault (good described end fits schema_is seven nine) =
       memory refl nine
   load_ranked schema name (Limit cause quantity) _ is fault (too_long long) =
       same (let cause_is = fault.0 in let quantity_is = fault.1 in cc)
-  load_ranked schema name (Limit cause quantity) _ is fault (unread why where_at fits broken) =
+  load_ranked schema name (Limit cause quantity) _ is fault (unreadable why where_at fits broken) =
       let long =
       at_told (λ all. most_schema < length all) _ schema is fault.2 in absurd (omega arith)
   load_ranked schema name (Limit cause quantity) _ is fault (refused nodes fits tree none) =
@@ -108,7 +108,7 @@ module _ (before after : Inputs) where
       let none : IsNoDocument cause at schema =
       at_told (IsNoDocument cause at) _ schema is fault.1 in
       let fits = none.fits in absurd (omega arith)
-  load_ranked schema name (NoDocument cause document at) _ is fault (unread why where_at fits broken) =
+  load_ranked schema name (NoDocument cause document at) _ is fault (unreadable why where_at fits broken) =
       let none : IsNoDocument cause at schema =
       at_told (IsNoDocument cause at) _ schema is fault.1 in
       let one = one_refusal schema at where_at (document_number cause) (document_number why) none.refused broken in
@@ -124,7 +124,7 @@ module _ (before after : Inputs) where
   load_ranked schema name (Refused cause document at) _ is fault (too_long long) =
       let none : IsNoSchema schema =
       at_told IsNoSchema _ schema is fault.3 in let fits = none.fits in absurd (omega arith)
-  load_ranked schema name (Refused cause document at) _ is fault (unread why where_at fits broken) =
+  load_ranked schema name (Refused cause document at) _ is fault (unreadable why where_at fits broken) =
       let none : IsNoSchema schema =
       at_told IsNoSchema _ schema is fault.3 in
       absurd (no_tree schema where_at (document_number why) none.nodes broken none.tree)
@@ -219,7 +219,7 @@ module _ (before after : Inputs) where
     at_schema order stop _ orders fault (no_document other schema cause byte others file_is fits broken) =
         load_ranked schema other.schema stop _ file_is
         (subst (λ (n : List ℕ). IsLoadFault before.files after.files n stop) (orders_schema words order other orders others) fault)
-        (unread cause byte fits broken)
+        (unreadable cause byte fits broken)
     at_schema order stop _ orders fault (no_schema other schema nodes others file_is fits tree none) =
         load_ranked schema other.schema stop _ file_is
         (subst (λ (n : List ℕ). IsLoadFault before.files after.files n stop) (orders_schema words order other orders others) fault)

@@ -1,5 +1,5 @@
 // The loading of a schema.
-ghost use Rattle.std.specs.Prelude.{◌≡◌, ◌⊎◌, IsSome, IfOk, IfErr, IfSome, Some};
+ghost use Rattle.std.specs.Prelude.{◌≡◌, ◌⊎◌, ℕ, List, IsSome, IfOk, IfErr, IfSome, Some, Err};
 ghost use Rattle.dfdl_edge.specs.Faults.{one_more};
 ghost use Rattle.dfdl_report.specs.declared.cause.SchemaCause.TheVariants.{OutsideSubset};
 ghost use Rattle.dfdl_report.specs.Causes.{document_number};

@@ -8,3 +8,6 @@ returns-in-Ok-compile-clause-ok c =
 pub returns-in-Err-Refused-clause-refused : goal.returns-in-Err-Refused-clause-refused
 returns-in-Err-Refused-clause-refused c = λ _ described schema.
     no_record _ _ (λ nodes document. c.in-Ok.ensures.only nodes document) (c.in-Err-Refused.ensures.refused (cc)) described schema
+
+pub returns-in-Err-Refused-clause-document : goal.returns-in-Err-Refused-clause-document
+returns-in-Err-Refused-clause-document c = λ _. (_, c.in-Ok.ensures.tree)

@@ -5,14 +5,16 @@ use Rattle.dfdl_report.specs.declared.cause.ParseCause.TheVariants.{DataEnds}
 use Rattle.dfdl_report.specs.declared.cause.UnparseCause.{UnparseCause}
 use Rattle.dfdl_report.specs.declared.cause.UnparseCause.TheVariants.{WrongOccurrences}
 use Rattle.dfdl_report.specs.declared.cause.SchemaCause.{SchemaCause}
-use Rattle.dfdl_report.specs.declared.cause.SchemaCause.TheVariants.{OutsideSubset}
+use Rattle.dfdl_report.specs.declared.cause.SchemaCause.TheVariants.{NameNotFound, GlobalTwice, OutsideSubset, ValueNotAllowed, Recursive}
+use Rattle.dfdl_report.specs.declared.cause.SchemaCause.TheVariants.{PropertyTwice, PropertyMissing, UnknownAnnotation, PropertyNotCarried, ExpressionNotAllowed}
+use Rattle.dfdl_report.specs.declared.cause.SchemaCause.TheVariants.{TypeNotCarried, LengthKind, LengthUnits, ElementTwice}
 use Rattle.dfdl_report.specs.declared.cause.DocCause.{DocCause}
 use Rattle.dfdl_report.specs.declared.cause.DocCause.TheVariants.{NotUtf8, CharacterNotAllowed, Malformed, EndTagMismatch, AttributeTwice}
 use Rattle.dfdl_report.specs.declared.cause.DocCause.TheVariants.{UnknownReference, PrefixNotDeclared, DocumentType, EncodingRefused, OneRoot, TooDeep, DocumentEnds}
 use Rattle.dfdl_report.specs.declared.cause.InfosetCause.{InfosetCause}
 use Rattle.dfdl_report.specs.declared.cause.InfosetCause.TheVariants.{NotJson, RootExpected, UnknownMember, ObjectExpected, ArrayExpected, StringExpected, NotAValue, NullNotAllowed}
 use Rattle.dfdl_report.specs.declared.cause.LimitCause.{LimitCause}
-use Rattle.dfdl_report.specs.declared.cause.LimitCause.TheVariants.{Input, Schema}
+use Rattle.dfdl_report.specs.declared.cause.LimitCause.TheVariants.{Input, Depth, Schema, Schemas, Rows}
 
 -- processing errors, P
 abbrev pub parse_number : ParseCause → ℕ
@@ -32,11 +34,37 @@ unparse_text WrongOccurrences = codes "wrong number of occurrences"
 
 -- refusals of schemas, C
 abbrev pub schema_number : SchemaCause → ℕ
+schema_number NameNotFound = 1
+schema_number GlobalTwice = 2
 schema_number OutsideSubset = 3
+schema_number ValueNotAllowed = 4
+schema_number Recursive = 5
+schema_number PropertyTwice = 6
+schema_number PropertyMissing = 7
+schema_number UnknownAnnotation = 8
+schema_number PropertyNotCarried = 9
+schema_number ExpressionNotAllowed = 10
+schema_number TypeNotCarried = 13
+schema_number LengthKind = 15
+schema_number LengthUnits = 16
+schema_number ElementTwice = 40
 
 -- what a refusal of a schema is told as
 abbrev pub schema_text : SchemaCause → List ℕ
+schema_text NameNotFound = codes "name not found"
+schema_text GlobalTwice = codes "global name twice"
 schema_text OutsideSubset = codes "construct outside the subset"
+schema_text ValueNotAllowed = codes "attribute value not allowed"
+schema_text Recursive = codes "recursive definition"
+schema_text PropertyTwice = codes "property given twice"
+schema_text PropertyMissing = codes "property missing"
+schema_text UnknownAnnotation = codes "unknown annotation"
+schema_text PropertyNotCarried = codes "property value not carried"
+schema_text ExpressionNotAllowed = codes "expression not allowed here"
+schema_text TypeNotCarried = codes "simple type not carried"
+schema_text LengthKind = codes "length kind not allowed"
+schema_text LengthUnits = codes "length units not allowed"
+schema_text ElementTwice = codes "element name twice"
 
 -- refusals of documents, X
 abbrev pub document_number : DocCause → ℕ
@@ -93,4 +121,7 @@ infoset_text NullNotAllowed = codes "null not allowed"
 -- limits, L
 abbrev pub limit_number : LimitCause → ℕ
 limit_number Input = 1
+limit_number Depth = 5
 limit_number Schema = 8
+limit_number Schemas = 9
+limit_number Rows = 10

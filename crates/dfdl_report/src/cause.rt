@@ -22,8 +22,34 @@ pub enum UnparseCause {
 /// Why a schema is refused: the numbers C of schema definition errors ('DFDL Schema Component Model').
 #[derive(Debug, Clone, Copy, PartialEq, Eq)]
 pub enum SchemaCause {
-    /// A construct that is not of the subset.
+    /// A name that is referred to and that nothing has.
+    NameNotFound,
+    /// A global component has the name of an earlier one of its kind.
+    GlobalTwice,
+    /// A construct that is not of the subset, or lacks a part of it.
     OutsideSubset,
+    /// A value that its attribute can't have.
+    ValueNotAllowed,
+    /// A global definition that reaches itself.
+    Recursive,
+    /// A property that two components of a chain give explicitly.
+    PropertyTwice,
+    /// A property that is needed and that no scope gives.
+    PropertyMissing,
+    /// An annotation that isn't known where it stands.
+    UnknownAnnotation,
+    /// A value that a property can't have.
+    PropertyNotCarried,
+    /// An expression as the value of a property that takes none.
+    ExpressionNotAllowed,
+    /// A simple type of XML Schema's that is not carried.
+    TypeNotCarried,
+    /// A length kind that the type does not have.
+    LengthKind,
+    /// Length units that the type does not have.
+    LengthUnits,
+    /// An element has the name of an earlier one of its group.
+    ElementTwice,
 }
 
 /// Why a document is refused: the numbers X ('Extensible Markup Language (XML) 1.0' and 'Namespaces
@@ -82,8 +108,14 @@ pub enum InfosetCause {
 pub enum LimitCause {
     /// The source gives more bytes than the limit.
     Input,
+    /// Elements of the schema are nested deeper than the limit.
+    Depth,
     /// A schema file has more bytes than the limit.
     Schema,
+    /// The schema has more documents than the limit.
+    Schemas,
+    /// The schema has more rows than the limit.
+    Rows,
 }
 
 impl ParseCause {
@@ -130,7 +162,20 @@ impl SchemaCause {
         ensures { result ≡ schema_number self.now }
     {
         match self {
+            SchemaCause::NameNotFound => 1,
+            SchemaCause::GlobalTwice => 2,
             SchemaCause::OutsideSubset => 3,
+            SchemaCause::ValueNotAllowed => 4,
+            SchemaCause::Recursive => 5,
+            SchemaCause::PropertyTwice => 6,
+            SchemaCause::PropertyMissing => 7,
+            SchemaCause::UnknownAnnotation => 8,
+            SchemaCause::PropertyNotCarried => 9,
+            SchemaCause::ExpressionNotAllowed => 10,
+            SchemaCause::TypeNotCarried => 13,
+            SchemaCause::LengthKind => 15,
+            SchemaCause::LengthUnits => 16,
+            SchemaCause::ElementTwice => 40,
         }
     }
 
@@ -138,7 +183,20 @@ impl SchemaCause {
         ensures { result.now ≡ schema_text self.now }
     {
         match self {
+            SchemaCause::NameNotFound => "name not found",
+            SchemaCause::GlobalTwice => "global name twice",
             SchemaCause::OutsideSubset => "construct outside the subset",
+            SchemaCause::ValueNotAllowed => "attribute value not allowed",
+            SchemaCause::Recursive => "recursive definition",
+            SchemaCause::PropertyTwice => "property given twice",
+            SchemaCause::PropertyMissing => "property missing",
+            SchemaCause::UnknownAnnotation => "unknown annotation",
+            SchemaCause::PropertyNotCarried => "property value not carried",
+            SchemaCause::ExpressionNotAllowed => "expression not allowed here",
+            SchemaCause::TypeNotCarried => "simple type not carried",
+            SchemaCause::LengthKind => "length kind not allowed",
+            SchemaCause::LengthUnits => "length units not allowed",
+            SchemaCause::ElementTwice => "element name twice",
         }
     }
 }
@@ -224,7 +282,10 @@ impl LimitCause {
     {
         match self {
             LimitCause::Input => 1,
+            LimitCause::Depth => 5,
             LimitCause::Schema => 8,
+            LimitCause::Schemas => 9,
+            LimitCause::Rows => 10,
         }
     }
 }

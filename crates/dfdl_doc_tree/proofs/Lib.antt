@@ -5,3 +5,6 @@ pub mod TagNames
 pub mod Ends
 pub mod Sizes
 pub mod Refused
+mod Passes
+mod AsciiRuns
+mod RunsRead

@@ -1,5 +1,5 @@
 // The tree of a document's bytes.
-ghost use Rattle.std.specs.Prelude.{◌≡◌, ◌≤◌, List, IfOk, length};
+ghost use Rattle.std.specs.Prelude.{◌≡◌, ◌≤◌, List, IfOk, drop, length};
 ghost use Rattle.dfdl_report.specs.Causes.{document_number};
 ghost use Rattle.dfdl_markup.specs.Trees.{Node};
 ghost use Rattle.dfdl_markup.specs.Documents.{IsRefusedBy, IsTreeOf};
@@ -26,6 +26,15 @@ fn fault_of(bytes: &[u8], at: usize, refusal: Refusal) -> DocFault
     }
 }
 
+/// The bytes from this place on.
+#[tactic(auto, using(std::proofs::lemmas::List::take_rest))]
+fn from_place(bytes: &[u8], at: usize) -> &[u8]
+    requires { at ≤ length bytes.now }
+    ensures { result.now ≡ drop at bytes.now }
+{
+    &bytes[at..]
+}
+
 /// The tree of a document's bytes.
 pub fn read(alloc: Global, bytes: &[u8]) -> Result<Tree, DocFault>
     ensures tree { IfOk result (λ tree. IsTreeOf bytes.now tree) }
@@ -34,9 +43,11 @@ pub fn read(alloc: Global, bytes: &[u8]) -> Result<Tree, DocFault>
 {
     documents_are_read();
     let mut reader = Reader::new(alloc);
-    for (at, byte) in bytes.iter().enumerate() {
-        if let Err(refusal) = reader.step(*byte) {
-            return Err(fault_of(bytes, at, refusal));
+    let mut at = 0;
+    while at < bytes.len() {
+        match reader.read_on(from_place(bytes, at)) {
+            Ok(count) => at += count,
+            Err(refusal) => return Err(fault_of(bytes, at, refusal)),
         }
     }
     if reader.accepts() {

@@ -13,6 +13,7 @@ mod effect;
 mod fault;
 mod letters;
 mod mark;
+mod plain;
 mod reader;
 mod reading;
 mod rule;

@@ -1,5 +1,6 @@
 // Reads a document and builds its tree.
-ghost use Rattle.std.specs.Prelude.{◌≡◌, ◌+◌, ◌<◌, ◌^◌, ◌∷◌, ◌++◌, [], OnOk, length};
+ghost use Rattle.std.specs.Prelude.{◌≡◌, ◌+◌, ◌<◌, ◌≤◌, ◌^◌, ◌∷◌, ◌++◌, [], OnOk, OnErr, IfOk, IfErr, length, take, get_or, false};
+ghost use Rattle.dfdl_layers.specs.Tellers.{run};
 ghost use Rattle.dfdl_layers.specs.Allowed.{allowed_step};
 ghost use Rattle.dfdl_layers.specs.Bytes.{behind, waits};
 ghost use Rattle.dfdl_xml_chars.specs.Beyond.{could_by};
@@ -13,6 +14,7 @@ ghost use Rattle.dfdl_doc_tree.specs.ScannerShown.{effect_seen, state_seen};
 ghost use Rattle.dfdl_doc_tree.specs.ReaderShown.{Becomes, IfWhole, count_of, inside_seen, reader_seen};
 
 use crate::effect::{Effect, Head};
+use crate::plain::{Passed, as_text};
 use crate::rule::{Refusal, Rule};
 use crate::scanner::Scanner;
 use dfdl_xml_chars::laws::bytes_are_seen;
@@ -121,6 +123,50 @@ impl Reader {
             Taken::Part(begun) => self.wait(begun),
             Taken::Bad => Err(Refusal::Broken(Rule::Utf8)),
         }
+    }
+
+    /// Reads a run of plain characters.
+    #[tactic(auto, using(crate::proofs::RunsRead::quiet_run, crate::proofs::RunsRead::text_run))]
+    fn pass(&mut self, bytes: &[u8]) -> Result<usize, Refusal>
+        requires between { self.old.begun ≡ Begun.Nothing }
+        requires line { self.old.growing.behind_cr ≡ false }
+        requires fits { self.old.growing.at + length bytes.now < 2 ^ 64 }
+        ensures within { IfOk result (λ count. count ≤ length bytes.now) }
+        ensures read { IfOk result (λ count. run read_step (inside_seen self.old) (take count bytes.now) ≡ Ok (inside_seen self.new)) }
+        ensures at { IfOk result (λ count. count_of self.new ≡ count_of self.old + count) }
+        ensures memory { OnErr result (result ≡ Err Refusal.OutOfMemory) }
+    {
+        match self.scanner.pass(bytes)? {
+            Passed::Quiet(count) => {
+                self.growing.stays(count as u64);
+                Ok(count)
+            }
+            Passed::Text(count) => {
+                let text = as_text(&bytes[..count]);
+                self.growing.reads_all(text, count as u64)?;
+                Ok(count)
+            }
+        }
+    }
+
+    /// Reads a run of plain characters, or one byte, and answers how many bytes.
+    pub fn read_on(&mut self, bytes: &[u8]) -> Result<usize, Refusal>
+        requires some { 0 < length bytes.now }
+        requires fits { count_of self.old + length bytes.now < 2 ^ 64 }
+        ensures within { IfOk result (λ count. count ≤ length bytes.now) }
+        ensures some { IfOk result (λ count. 0 < count) }
+        ensures read { IfOk result (λ count. run read_step (inside_seen self.old) (take count bytes.now) ≡ Ok (inside_seen self.new)) }
+        ensures at { IfOk result (λ count. count_of self.new ≡ count_of self.old + count) }
+        ensures refused { IfErr result (λ refusal. Becomes (read_step (inside_seen self.old) (get_or bytes.now 0 0)) (Err refusal) (inside_seen self.new)) }
+    {
+        if self.begun == Begun::Nothing && !self.growing.is_behind_cr() {
+            let count = self.pass(bytes)?;
+            if count > 0 {
+                return Ok(count);
+            }
+        }
+        self.step(bytes[0])?;
+        Ok(1)
     }
 
     /// The document may end here.

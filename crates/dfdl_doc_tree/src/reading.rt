@@ -1,9 +1,13 @@
 // A name as far as it was read.
-ghost use Rattle.std.specs.Prelude.{◌≡◌, ◌≢◌, [], ◌∷◌, OnOk, IfOk, IsTrue, IsSome, ◌↔◌, true, false};
+ghost use Rattle.std.specs.Prelude.{◌≡◌, ◌≢◌, [], ◌∷◌, OnOk, IfOk, IsTrue, IsSome, ◌↔◌, true, false, ◌≤◌, length, take};
+ghost use Rattle.std.specs.List.{list_all};
+ghost use Rattle.dfdl_doc_tree.specs.Plain.{ReadsOn, is_of};
+ghost use Rattle.dfdl_doc_tree.specs.declared.plain.Class.TheVariants as Class;
 ghost use Rattle.dfdl_xml_chars.specs.Shown.{bytes_of};
 ghost use Rattle.dfdl_markup.specs.Machine.{First, name_next, whole_name};
 ghost use Rattle.dfdl_doc_tree.specs.Shown.{goes_on, meets_in, name_seen};
 
+use crate::plain::Class as Kind;
 use dfdl_xml_chars::{Begun, is_name_char, is_name_start, meets_name_char, meets_name_start};
 use dfdl_xml_names::Name;
 use dfdl_xml_tree::Text;
@@ -85,6 +89,20 @@ impl Reading {
                 Ok(true)
             }
             _ => Ok(false),
+        }
+    }
+
+    /// Goes on by as many characters at the head of the bytes as are plain characters of names, and
+    /// answers how many; by none behind a `:`.
+    #[tactic(auto, using(crate::proofs::Passes::first_goes, crate::proofs::Passes::second_goes))]
+    pub fn pass(&mut self, bytes: &[u8]) -> Result<usize, AllocError>
+        ensures within { IfOk result (λ count. count ≤ length bytes.now) }
+        ensures class { IfOk result (λ count. list_all (is_of Class.Name) (take count bytes.now) ≡ true) }
+        ensures reading { IfOk result (λ count. ReadsOn self.old (take count bytes.now) self.new) }
+    {
+        match self.at {
+            Part::Colon => Ok(0),
+            Part::First | Part::Second => Kind::Name.lengthen(&mut self.part, bytes),
         }
     }
 

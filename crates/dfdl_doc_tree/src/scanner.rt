@@ -18,6 +18,7 @@ mod declaration;
 mod ends;
 mod instruction;
 mod references;
+mod runs;
 mod tags;
 mod values;
 

@@ -1,5 +1,5 @@
 // A tree that grows while its document is read.
-ghost use Rattle.std.specs.Prelude.{◌≡◌, ◌+◌, ◌<◌, ◌^◌, ◌++◌, ◌∷◌, [], ◌==◌, ◌&&◌, map, length, replicate, OnOk, IfOk, option_map};
+ghost use Rattle.std.specs.Prelude.{◌≡◌, ◌+◌, ◌<◌, ◌^◌, ◌++◌, ◌∷◌, [], ◌==◌, ◌&&◌, map, length, replicate, OnOk, IfOk, option_map, chars, false};
 ghost use Rattle.dfdl_markup.specs.Trees.{line_read};
 ghost use Rattle.dfdl_markup.specs.Building as building;
 ghost use Rattle.dfdl_markup.specs.Building.{build, Stays, Opens, Closes, Reads, Refers, Enters, Adds};
@@ -86,6 +86,18 @@ fn append(
 {
     let found = &mut elements[element as usize];
     push_more(&mut found.text, held, more)?;
+    Ok(())
+}
+
+// Appends a text to that of an element.
+fn append_text(elements: &mut Vec<Element>, element: u32, text: &str) -> Result<(), AllocError>
+    requires { element < length elements.old.items }
+    ensures nodes { OnOk result (map node_of elements.new.items
+        ≡ changed (with_more_text (chars text.now)) element (map node_of elements.old.items)) }
+    ensures count { length elements.new.items ≡ length elements.old.items }
+{
+    let found = &mut elements[element as usize];
+    found.text.push_str(text)?;
     Ok(())
 }
 
@@ -189,6 +201,49 @@ impl Growing {
                 append(&mut self.elements, element, held, more)?;
             }
         }
+        Ok(())
+    }
+
+    // Appends a text to that of the innermost open element, if there is one.
+    #[tactic(auto, using(crate::proofs::Grows::none_changed_in, crate::proofs::Grows::first_changed, crate::proofs::Grows::none_open))]
+    fn append_text(&mut self, text: &str) -> Result<(), AllocError>
+        ensures { OnOk result (self.new ≡ record {
+          nodes = changed_in (with_more_text (chars text.now)) self.old.ancestors self.old.nodes;
+          ancestors = self.old.ancestors;
+          behind_cr = self.old.behind_cr;
+          at = self.old.at;
+          opened_at = self.old.opened_at;
+        }) }
+    {
+        if let Some(element) = self.innermost() {
+            if (element as usize) < self.elements.len() {
+                append_text(&mut self.elements, element, text)?;
+            }
+        }
+        Ok(())
+    }
+
+    /// Whether the text read last ends in a CR.
+    pub fn is_behind_cr(&self) -> bool
+        ensures { result ≡ self.now.behind_cr }
+    {
+        self.behind_cr
+    }
+
+    /// Characters of text that are read as they stand, in so many bytes.
+    pub fn reads_all(&mut self, text: &str, bytes: u64) -> Result<(), AllocError>
+        requires { self.old.at + bytes < 2 ^ 64 }
+        ensures { OnOk result (self.new ≡ record {
+          nodes = changed_in (with_more_text (chars text.now)) self.old.ancestors self.old.nodes;
+          ancestors = self.old.ancestors;
+          behind_cr = false;
+          at = self.old.at + bytes;
+          opened_at = self.old.opened_at;
+        }) }
+    {
+        self.append_text(text)?;
+        self.behind_cr = false;
+        self.at += bytes;
         Ok(())
     }
 

@@ -40,6 +40,13 @@ impl Text {
         self.text.push(c)
     }
 
+    /// Appends a text.
+    pub fn push_str(&mut self, text: &str) -> Result<(), AllocError>
+        ensures { OnOk result (self.new ≡ self.old ++ chars text.now) }
+    {
+        self.text.push_str(text)
+    }
+
     /// Takes all characters away.
     pub fn clear(&mut self)
         ensures { self.new ≡ [] }

@@ -151,8 +151,8 @@ impl Tree {
         spelled(or_empty(self.prefix(element, prefix)))
     }
 
-    /// The local part of an attribute's name. Of a declaration of a namespace that is all of its name
-    /// as it is written.
+    /// The local part of an attribute's name. Of a declaration of a namespace that is the prefix that
+    /// it declares, or `xmlns`.
     pub fn attribute_name(&self, element: u32, at: u32) -> &str
         requires element { element < length self.now }
         requires at { at < length (node_at self.now element).attributes }

@@ -102,6 +102,17 @@ fn add(names: &mut BTreeSet<String>, name: String) -> Result<(), AllocError>
     Ok(())
 }
 
+/// Adds a name, unless it is there.
+fn add_once(names: &mut BTreeSet<String>, name: &String) -> Result<(), AllocError>
+    ensures { OnOk result ((q : List ℕ) → contains_text names.new q
+        ≡ (if bytes_eq (string_bytes name.now) q then true else contains_text names.old q)) }
+{
+    if names.contains(name.as_str()) {
+        return Ok(());
+    }
+    add(names, name.clone()?)
+}
+
 /// Adds the prefix of a name, if it has one.
 fn add_prefix(prefixes: &mut BTreeSet<String>, name: &Name) -> Result<(), AllocError>
     ensures { OnOk result ((attributes : List Attributed) (value : List ℕ)
@@ -110,6 +121,6 @@ fn add_prefix(prefixes: &mut BTreeSet<String>, name: &Name) -> Result<(), AllocE
 {
     match name {
         Name::Plain(_) => Ok(()),
-        Name::Prefixed { prefix, .. } => add(prefixes, prefix.clone()?),
+        Name::Prefixed { prefix, .. } => add_once(prefixes, prefix),
     }
 }

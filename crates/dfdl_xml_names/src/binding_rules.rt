@@ -41,7 +41,7 @@ fn has_none(text: &str) -> bool
 }
 
 // The texts are alike.
-fn same_text(a: &str, b: &str) -> bool
+pub(crate) fn same_text(a: &str, b: &str) -> bool
     ensures { result ≡ bytes_eq (chars a.now) (chars b.now) }
 {
     a == b

@@ -49,7 +49,7 @@ impl Bindings {
     }
 
     /// The namespace of the first binding of a prefix.
-    pub(crate) fn find(&self, prefix: &str) -> Option<&str>
+    pub fn find(&self, prefix: &str) -> Option<&str>
         ensures { lent_text result ≡ found self.now (chars prefix.now) }
     {
         match self.first.get(prefix) {

@@ -4,9 +4,11 @@
 //! (third edition). `specs/Shown.antt` says which characters a text has.
 #![tactic(auto)]
 
+mod alike;
 mod attributes;
 mod binding_rules;
 mod bindings;
+mod declared;
 mod element;
 mod frames;
 mod name;
@@ -18,6 +20,8 @@ mod tag;
 mod tests;
 
 pub use binding_rules::{may_bind, may_close};
+pub use bindings::Bindings;
+pub use declared::declared_by;
 pub use frames::Frames;
 pub use name::{Attribute, Name, fixed_namespace};
 pub use tag::StartTag;

@@ -105,7 +105,9 @@ impl Name {
 fn joined(prefix: &String, part: &String) -> Result<String, AllocError>
     ensures { IfOk result (λ text. text_of text ≡ text_of prefix.now ++ 58 ∷ text_of part.now) }
 {
-    let mut text = prefix.clone()?;
+    let size = prefix.len().saturating_add(1).saturating_add(part.len());
+    let mut text = String::with_capacity(*prefix.allocator(), size)?;
+    text.push_str(prefix)?;
     text.push(':')?;
     text.push_str(part)?;
     Ok(text)

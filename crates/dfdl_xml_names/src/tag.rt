@@ -9,12 +9,16 @@ ghost use Rattle.dfdl_xml_names.specs.Scoped.{scope_seen};
 
 use crate::attributes::Attributes;
 use crate::bindings::Bindings;
+use crate::declared::declare;
 use crate::frames::Frames;
 use crate::name::{Attribute, Name};
 use crate::resolved::Resolved;
 use crate::scope::Scope;
 use std::alloc::{AllocError, Global};
 use std::marker::Model;
+
+/// So many attributes are compared two by two, and more by an ordered set.
+const FEW: usize = 8;
 
 /// A start tag: its name, its attributes, the bindings that they declare, and their names by these.
 #[derive(Debug, Drop)]
@@ -105,7 +109,11 @@ impl StartTag {
     pub fn has_clash(&self, frames: &Frames) -> Result<bool, AllocError>
         ensures { IfOk result (λ clash. clash ≡ have_clash (scope_of frames.now) self.now.attributes) }
     {
-        let resolved = Resolved::of(self.alloc, &self.inside(frames), self.attributes.as_slice())?;
+        let attributes = self.attributes.as_slice();
+        if attributes.len() <= FEW {
+            return Ok(self.inside(frames).have_same(attributes));
+        }
+        let resolved = Resolved::of(self.alloc, &self.inside(frames), attributes)?;
         Ok(resolved.clash)
     }
 
@@ -189,16 +197,5 @@ fn own(declared: &Bindings) -> Scope<'_>
     Scope {
         declared,
         outer: None,
-    }
-}
-
-// The bindings with what an attribute declares, if it does.
-fn declare(bindings: Bindings, name: &Name, value: &str) -> Result<Bindings, AllocError>
-    ensures { IfOk result (λ more. more ≡ bindings
-        ++ bindings_of (record { name = name_of name.now; value = chars value.now } ∷ [])) }
-{
-    match name.declares() {
-        Some(prefix) => bindings.with(prefix, value),
-        None => Ok(bindings),
     }
 }

@@ -12,7 +12,7 @@ ghost use Rattle.dfdl_xml_tree.specs.Held.{held_of};
 use crate::element::Element;
 use crate::text::Text;
 use crate::tree::Tree;
-use dfdl_xml_names::{Attribute, Name};
+use dfdl_xml_names::{Attribute, Name, declared_by};
 use std::alloc::{AllocError, Global};
 use std::collections::VecDeque;
 use std::marker::Model;
@@ -294,10 +294,12 @@ impl Growing {
         if number >= u32::MAX as usize || attributes.len() >= u32::MAX as usize {
             return Err(AllocError);
         }
+        let declared = declared_by(self.alloc, attributes.as_slice())?;
         self.adopt(number as u32)?;
         let element = Element {
             name,
             attributes,
+            declared,
             parent: self.innermost(),
             children: Vec::new(self.alloc),
             text: Text::new(self.alloc),

@@ -1,48 +1,19 @@
 // Which namespace a prefix stands for.
 ghost use Rattle.std.specs.Prelude.{◌≡◌, map, chars};
-ghost use Rattle.std.specs.Str.{bytes_eq};
 ghost use Rattle.dfdl_markup.specs.Values.{found};
 ghost use Rattle.dfdl_markup.specs.Trees.{scope_from};
 ghost use Rattle.dfdl_xml_names.specs.Shown.{attribute_of, lent_text};
 ghost use Rattle.dfdl_xml_tree.specs.Shown.{node_of};
-ghost use Rattle.dfdl_xml_tree.specs.Texts.{declared_by, declared_in};
+ghost use Rattle.dfdl_xml_tree.specs.Texts.{declared_in};
 
 use crate::element::Element;
-use dfdl_xml_names::{Attribute, fixed_namespace};
+use dfdl_xml_names::fixed_namespace;
 
-// The two prefixes are one.
-fn is_same(declared: &str, prefix: &str) -> bool
-    ensures { result ≡ bytes_eq (chars declared.now) (chars prefix.now) }
+// The namespace that an element declares for a prefix.
+fn declared<'t>(element: &'t Element, prefix: &str) -> Option<&'t str>
+    ensures { lent_text result ≡ declared_in (map attribute_of element.now.attributes.items) (chars prefix.now) }
 {
-    declared == prefix
-}
-
-// The namespace that an attribute declares for a prefix.
-fn declared_by<'t>(attribute: &'t Attribute, prefix: &str) -> Option<&'t str>
-    ensures { lent_text result ≡ declared_by (attribute_of attribute.now) (chars prefix.now) }
-{
-    match attribute.name.declares() {
-        Some(declared) => {
-            if is_same(declared, prefix) {
-                Some(attribute.value.as_str())
-            } else {
-                None
-            }
-        }
-        None => None,
-    }
-}
-
-// The namespace that these attributes declare for a prefix.
-pub(crate) fn declared<'t>(attributes: &'t [Attribute], prefix: &str) -> Option<&'t str>
-    ensures { lent_text result ≡ declared_in (map attribute_of attributes.now) (chars prefix.now) }
-{
-    for at in 0..attributes.len() {
-        if let Some(namespace) = declared_by(&attributes[at], prefix) {
-            return Some(namespace);
-        }
-    }
-    None
+    element.declared.find(prefix)
 }
 
 // The namespace that a prefix stands for inside of an element, or of those that it stands in, at
@@ -66,7 +37,7 @@ pub(crate) fn find_from<'t>(
         return fixed_namespace(prefix);
     }
     let found = &elements[number as usize];
-    match declared(&found.attributes, prefix) {
+    match declared(found, prefix) {
         Some(namespace) => Some(namespace),
         None => find_from(elements, most - 1, found.parent, prefix),
     }

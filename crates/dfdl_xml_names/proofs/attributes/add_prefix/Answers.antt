@@ -13,12 +13,10 @@ returns-in-Plain c = λ attributes value kept.
     subst (λ n. HasPrefixes c.args.prefixes.now (attributes ++ record { name = name_of n; value = value } ∷ [])) (sym c.in-Plain.is)
     (with_plain c.args.prefixes.now attributes (text_of c.in-Plain.field-0) value kept)
 
-pub returns-in_ok-clone-in-Prefixed : goal.returns-in_ok-clone-in-Prefixed
-returns-in_ok-clone-in-Prefixed c =
-    on_ok c.add.result c.add.ensures
+pub returns-in-Prefixed : goal.returns-in-Prefixed
+returns-in-Prefixed c =
+    on_ok c.add_once.result c.add_once.ensures
     (λ step attributes value kept.
-    subst (λ n. HasPrefixes c.add.new.names (attributes ++ record { name = name_of n; value = value } ∷ [])) (sym c.in-Prefixed.is)
-    (subst (λ l. HasPrefixes c.add.new.names (attributes ++ record { name = Prefixed (chars l) (text_of c.in-Prefixed.part); value = value } ∷ []))
-    c.in_ok-clone-in-Prefixed.ensures.cases
-    (with_prefix c.args.prefixes.now c.add.new.names attributes (string_bytes c.in_ok-clone-in-Prefixed.field-0) (text_of c.in-Prefixed.part) value
-    (is_text c.in_ok-clone-in-Prefixed.field-0) step kept)))
+    subst (λ n. HasPrefixes c.add_once.new.names (attributes ++ record { name = name_of n; value = value } ∷ [])) (sym c.in-Prefixed.is)
+    (with_prefix c.args.prefixes.now c.add_once.new.names attributes (string_bytes c.in-Prefixed.prefix) (text_of c.in-Prefixed.part) value
+    (is_text c.in-Prefixed.prefix) step kept))

@@ -28,8 +28,7 @@ returns-in-Some-declared t c =
     (λ zero. omega (arith, zero, c.if-most-eq0.false)) node in
     sym (or_some (declared_in n.attributes prefix)
     (found (scope_from (c.args.most - 1) nodes n.parent) prefix) (chars c.in-Some-declared.namespace.now)
-    (c.in-Some-declared.ensures
-    ∙ ap (λ l. declared_in (map attribute_of l) prefix) c.deref.ensures.value)) ∙ sym here
+    c.in-Some-declared.ensures) ∙ sym here
 
 pub returns-in-None : goal.returns-in-None
 returns-in-None t c =
@@ -44,8 +43,7 @@ returns-in-None t c =
     c.find_from.ensures
     ∙ sym (or_none (declared_in n.attributes prefix)
     (found (scope_from (c.args.most - 1) nodes n.parent) prefix)
-    (c.in-None.ensures
-    ∙ ap (λ l. declared_in (map attribute_of l) prefix) c.deref.ensures.value)) ∙ sym here
+    c.in-None.ensures) ∙ sym here
 
 pub returns-then-number-elements : goal.returns-then-number-elements
 returns-then-number-elements t c =

@@ -3,3 +3,4 @@ pub mod Folds
 pub mod Cycles
 pub mod UsesShown
 pub mod Filling
+pub mod Reaching

@@ -7,9 +7,9 @@ use thiserror::Error;
 /// Why components have no order.
 #[derive(Clone, Copy, Debug, PartialEq, Eq, Error)]
 pub enum OrderFault {
-    /// A component reaches itself through its parts, or it leads to one that does.
-    #[error("the parts of component {component} do not end")]
-    Endless { component: u32 },
+    /// A component reaches itself through its parts, the first one that does.
+    #[error("component {component} reaches itself through its parts")]
+    Recursive { component: u32 },
     /// There was no memory for the order.
     #[error("out of memory")]
     OutOfMemory,

@@ -1,6 +1,7 @@
 // Laws of the definitions. The calls do nothing.
-ghost use Rattle.std.specs.Prelude.{◌≡◌, ◌+◌, ℕ, ◌<◌, List, map, length, get_or, slice_set};
+ghost use Rattle.std.specs.Prelude.{◌≡◌, ◌+◌, ℕ, ◌<◌, List, map, length, get_or, slice_set, false};
 ghost use Rattle.dfdl_order.specs.Parts.{uses_of, IsOrder, Places};
+ghost use Rattle.dfdl_order.specs.Cycles.{reaches_itself};
 ghost use Rattle.dfdl_order.specs.Folds.{value_by, HasBefore};
 
 /// A component's value by recursion on parts is the step from the values of its parts.
@@ -16,4 +17,9 @@ pub fn table_has_one_more<T>()
         → (i : ℕ) (table : List T) (v : T) → i < length uses → length table ≡ length uses → HasBefore uses order step none i table
         → v ≡ step (get_or order.list i 0) (map (λ p. get_or table p none) (uses_of uses (get_or order.list i 0)))
         → HasBefore uses order step none (i + 1) (slice_set table (get_or order.list i 0) v) }
+{}
+
+/// Components that have an order don't reach themselves.
+pub fn nothing_in_an_order_reaches_itself()
+    ensures { (uses : List (List ℕ)) (order : Places) → IsOrder uses order → (c : ℕ) → c < length uses → reaches_itself uses c ≡ false }
 {}

@@ -8,6 +8,7 @@
 mod fault;
 pub mod laws;
 mod order;
+mod recursive;
 mod search;
 #[cfg(test)]
 mod tests;

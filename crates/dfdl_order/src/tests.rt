@@ -3,13 +3,13 @@ use std::alloc::Global;
 use std::test::Fail;
 
 // None where there is an order, else the component that the fault names.
-fn endless(alloc: Global, uses: &Uses) -> Result<Option<u32>, OrderFault> {
+fn recursive(alloc: Global, uses: &Uses) -> Result<Option<u32>, OrderFault> {
     if !uses.is_closed() {
         return Ok(Some(u32::MAX));
     }
     match order_of(alloc, uses) {
         Ok(_) => Ok(None),
-        Err(OrderFault::Endless { component }) => Ok(Some(component)),
+        Err(OrderFault::Recursive { component }) => Ok(Some(component)),
         Err(fault) => Err(fault),
     }
 }
@@ -32,9 +32,9 @@ fn chain(alloc: Global, count: u32, last: &[u32]) -> Result<Uses, OrderFault> {
     Ok(uses)
 }
 
-// The answers are those of Python's graphlib, and of a search from each component.
+// The answers are those of a search from each component.
 #[test]
-fn finds_the_first_endless_component(rt: HostRuntime) -> Result<(), Fail> {
+fn finds_the_first_component_that_reaches_itself(rt: HostRuntime) -> Result<(), Fail> {
     let alloc = rt.alloc();
     let cases: [(&[&[u32]], Option<u32>); 13] = [
         (&[&[], &[3], &[3], &[4, 5], &[2], &[3, 1, 0]], Some(1)),
@@ -49,14 +49,14 @@ fn finds_the_first_endless_component(rt: HostRuntime) -> Result<(), Fail> {
         (&[&[0, 0]], Some(0)),
         (&[&[], &[4, 0], &[], &[4, 3], &[4, 1, 1], &[]], Some(1)),
         (&[&[], &[0], &[], &[], &[]], None),
-        (&[&[], &[], &[], &[], &[], &[]], None),
+        (&[&[1], &[2, 3], &[2], &[]], Some(2)),
         (&[&[2], &[4], &[3], &[1], &[]], None),
         (&[&[4], &[], &[6], &[5], &[], &[], &[0, 1, 5], &[]], None),
         (&[&[2, 2], &[], &[4, 6], &[4, 6], &[], &[], &[1]], None),
     ];
     for (graph, expected) in cases {
         let uses = uses_of(alloc, graph)?;
-        assert_eq!(rt; endless(alloc, &uses)?, expected);
+        assert_eq!(rt; recursive(alloc, &uses)?, expected);
     }
     Ok(())
 }
@@ -85,7 +85,7 @@ fn tells_parts_that_are_no_components(rt: HostRuntime) -> Result<(), Fail> {
 fn orders_a_long_chain(rt: HostRuntime) -> Result<(), Fail> {
     let alloc = rt.alloc();
     let uses = chain(alloc, 100_000, &[])?;
-    assert_eq!(rt; endless(alloc, &uses)?, None);
+    assert_eq!(rt; recursive(alloc, &uses)?, None);
     Ok(())
 }
 
@@ -93,7 +93,7 @@ fn orders_a_long_chain(rt: HostRuntime) -> Result<(), Fail> {
 fn refuses_a_long_cycle(rt: HostRuntime) -> Result<(), Fail> {
     let alloc = rt.alloc();
     let uses = chain(alloc, 100_000, &[0])?;
-    assert_eq!(rt; endless(alloc, &uses)?, Some(0));
+    assert_eq!(rt; recursive(alloc, &uses)?, Some(0));
     Ok(())
 }
 
@@ -101,6 +101,6 @@ fn refuses_a_long_cycle(rt: HostRuntime) -> Result<(), Fail> {
 fn refuses_a_long_way_to_a_cycle(rt: HostRuntime) -> Result<(), Fail> {
     let alloc = rt.alloc();
     let uses = chain(alloc, 100_000, &[50_000])?;
-    assert_eq!(rt; endless(alloc, &uses)?, Some(0));
+    assert_eq!(rt; recursive(alloc, &uses)?, Some(50_000));
     Ok(())
 }

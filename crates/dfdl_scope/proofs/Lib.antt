@@ -1,1 +1,2 @@
+pub mod ByLength
 pub mod Maps

@@ -4,3 +4,4 @@ pub mod Table
 pub mod Shown
 pub mod TableShown
 pub mod Told
+pub mod Names

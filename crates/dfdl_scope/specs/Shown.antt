@@ -1,6 +1,7 @@
 -- Mirror for the prover: what properties, formats and chains are seen as.
-use Rattle.std.specs.Prelude.{ℕ, List, map, Option, option_map, Some, None}
+use Rattle.std.specs.Prelude.{ℕ, List, map, Option, option_map, Some, None, Bool}
 use Rattle.std.specs.BTreeMap.{BTreeMap, get_by}
+use Rattle.std.specs.BTreeSet.{BTreeSet, contains_by}
 use Rattle.std.specs.Cmp.Lexicographic.{slice_cmp}
 use Rattle.std.specs.Ordering.{nat_cmp}
 use denote.Ref.{Bor}
@@ -23,6 +24,14 @@ value_in values name = lent_text (get_by (λ k. slice_cmp nat_cmp name k.now) va
 abbrev pub given : Properties → Given
 given properties = value_in properties.values
 
+-- the set has the name
+abbrev pub is_in : BTreeSet (Bor (List ℕ)) → List ℕ → Bool
+is_in names name = contains_by (λ k. slice_cmp nat_cmp name k.now) names
+
+-- which names properties give twice
+abbrev pub given_twice : Properties → List ℕ → Bool
+given_twice properties = is_in properties.twice
+
 -- what a format gives
 abbrev pub format_given : Format → Given
 format_given format = given format.joined
@@ -37,6 +46,7 @@ abbrev pub element_of : Element → scoping.Element
 element_of element = record {
   place = element.place;
   own = given element.own.now;
+  is_twice = given_twice element.own.now;
   format = given_if element.format;
   by_default = given_if element.default;
 }

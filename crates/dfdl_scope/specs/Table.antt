@@ -1,6 +1,6 @@
 -- The properties of the profile: their names, which values each may have, and what stands where no scope gives it
 -- ('Property Scoping and DFDL Schema Checking', and the chapters on each property).
-use Rattle.std.specs.Prelude.{ℕ, List, [], ◌∷◌, map, codes, Option, Some, None, if◌then◌else◌}
+use Rattle.std.specs.Prelude.{ℕ, List, [], ◌∷◌, map, codes, Option, Some, None, is_some, if◌then◌else◌, Bool}
 use Rattle.std.specs.Str.{bytes_eq}
 use Rattle.dfdl_scope.specs.declared.row.Form.{Form}
 use Rattle.dfdl_scope.specs.declared.row.Form.TheVariants as form
@@ -105,6 +105,10 @@ property_table =
 abbrev pub row_named : List Row → List ℕ → Option Row
 row_named [] name = None
 row_named (row ∷ rows) name = if bytes_eq row.name name then Some row else row_named rows name
+
+-- the profile has a property of this name; it has none of the name `ref`, which is no property but names a format
+abbrev pub is_property : List ℕ → Bool
+is_property name = is_some (row_named property_table name)
 
 -- the names of properties
 abbrev pub names_of : List Row → List (List ℕ)

@@ -1,4 +1,4 @@
-// Properties that two elements of a chain give explicitly.
+// Properties that are given explicitly twice in a chain.
 ghost use Rattle.std.specs.Prelude.{◌≡◌, map};
 ghost use Rattle.std.specs.List.{list_any};
 ghost use Rattle.dfdl_scope.specs.Scoping.{is_repeated, repeated_at};
@@ -6,14 +6,14 @@ ghost use Rattle.dfdl_scope.specs.Shown.{chain_of, element_of};
 ghost use Rattle.dfdl_scope.specs.Table.{names_of, property_table};
 ghost use Rattle.dfdl_scope.specs.TableShown.{row_shown};
 
-use crate::asking::is_explicit;
+use crate::asking::is_again;
 use crate::component::{Component, Element};
 use crate::row::PropertyRow;
 use crate::table::property_rows;
 use dfdl_report::Place;
 
 /// Where the first element of a component's chain stands that gives a property of the profile
-/// explicitly which one behind it gives too. Takes no memory.
+/// explicitly which it, or one behind it, gives again. Takes no memory.
 pub fn first_repeated(component: &Component<'_, '_>) -> Option<Place>
     ensures { result ≡ repeated_at (chain_of component.now) (names_of property_table) }
 {
@@ -32,7 +32,7 @@ fn repeated_among(chain: &[Element<'_, '_>], rows: &[PropertyRow]) -> Option<Pla
     None
 }
 
-/// Whether an element gives one of these properties explicitly which one behind it gives too.
+/// Whether an element gives one of these properties explicitly which is given again.
 fn has_repeated(element: &Element<'_, '_>, behind: &[Element<'_, '_>], rows: &[PropertyRow]) -> bool
     ensures { result ≡ list_any (is_repeated (element_of element.now) (map element_of behind.now))
         (names_of (map row_shown rows.now)) }
@@ -45,10 +45,10 @@ fn has_repeated(element: &Element<'_, '_>, behind: &[Element<'_, '_>], rows: &[P
     false
 }
 
-/// Whether an element gives a property explicitly which one behind it gives too.
+/// Whether an element gives a property explicitly which is given again.
 #[tactic(auto, unfolding(crate::specs::Scoping::is_repeated))]
 fn is_repeated(element: &Element<'_, '_>, behind: &[Element<'_, '_>], name: &str) -> bool
     ensures { result ≡ is_repeated (element_of element.now) (map element_of behind.now) name.now }
 {
-    element.explicit(name).is_some() && is_explicit(behind, name)
+    element.explicit(name).is_some() && is_again(element, behind, name)
 }

@@ -1,7 +1,7 @@
 // Scoping as 'Property Scoping and DFDL Schema Checking' has it, and values that are expressions.
 use super::{
-    Absence, Asked, Component, Element, Format, Properties, first_repeated, is_expression, literal,
-    property, property_row,
+    Absence, Asked, Component, Element, Format, Properties, first_repeated, is_expression,
+    is_property, literal, property, property_row,
 };
 use dfdl_report::Place;
 use std::alloc::{AllocError, Global};
@@ -16,6 +16,15 @@ fn one(
     let mut properties = Properties::new(alloc);
     properties.add(name, value)?;
     Ok(properties)
+}
+
+/// A format of these properties that refers to another.
+fn joined(
+    alloc: Global,
+    near: &Properties<'static>,
+    base: &Format<'static>,
+) -> Result<Format<'static>, AllocError> {
+    Format::over(alloc, near, Some(base))
 }
 
 /// A place in the first document.
@@ -59,8 +68,7 @@ fn the_format_that_is_referred_to_wins_over_the_default(rt: HostRuntime) -> Resu
     let own = one(alloc, "lengthKind", "implicit")?;
     let format = Format::new(one(alloc, "byteOrder", "littleEndian")?);
     let mut defaults = one(alloc, "byteOrder", "bigEndian")?;
-    let was = defaults.add("encoding", "ASCII")?;
-    assert!(rt; !was);
+    defaults.add("encoding", "ASCII")?;
     let default = Format::new(defaults);
     let mut component = Component::new(alloc);
     component.push_element(Element {
@@ -86,7 +94,7 @@ fn a_nearer_format_wins_and_local_properties_win_over_both(rt: HostRuntime) -> R
     let base = Format::new(far);
     let mut near = one(alloc, "separator", "near")?;
     near.add("terminator", "near")?;
-    let format = Format::over(near, &base)?;
+    let format = joined(alloc, &near, &base)?;
     let nothing = Format::new(Properties::new(alloc));
     let mut component = Component::new(alloc);
     component.push_element(Element {
@@ -130,11 +138,20 @@ fn the_first_default_of_the_documents_wins(rt: HostRuntime) -> Result<(), Fail> 
 }
 
 #[test]
-fn a_property_of_two_forms_is_seen(rt: HostRuntime) -> Result<(), Fail> {
-    let mut own = one(rt.alloc(), "length", "4")?;
-    let was = own.add("length", "5")?;
-    assert!(rt; was);
+fn a_property_in_two_forms_of_one_component_is_seen(rt: HostRuntime) -> Result<(), Fail> {
+    let alloc = rt.alloc();
+    let mut own = one(alloc, "length", "4")?;
+    own.add("length", "5")?;
     assert!(rt; own.get("length") == Some("4"));
+    let mut component = Component::new(alloc);
+    component.push_element(Element {
+        place: at(16),
+        own: &own,
+        format: None,
+        default: None,
+    })?;
+    assert!(rt; property(&component, "length") == Asked::Twice { place: at(16) });
+    assert!(rt; first_repeated(&component) == Some(at(16)));
     Ok(())
 }
 
@@ -151,6 +168,8 @@ fn the_table_has_what_stands_for_an_absent_property(rt: HostRuntime) -> Result<(
     };
     assert!(rt; is_refused);
     assert!(rt; property_row("floating").is_none());
+    assert!(rt; is_property("nilKind"));
+    assert!(rt; !is_property("ref"));
     Ok(())
 }
 

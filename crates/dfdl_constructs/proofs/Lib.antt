@@ -1,0 +1,4 @@
+pub mod Colons
+pub mod Walking
+pub mod Names
+pub mod Numbers

@@ -1,0 +1,10 @@
+pub mod Elements
+pub mod Values
+pub mod Parts
+pub mod Roles
+pub mod OutsideSubset
+pub mod ValuesAllowed
+pub mod UnknownAnnotations
+pub mod Comparing
+pub mod Walking
+pub mod Shown

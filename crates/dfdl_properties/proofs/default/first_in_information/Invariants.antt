@@ -1,0 +1,11 @@
+use Rattle.std.proofs.Common.{◌≡◌, drop, filter}
+use Rattle.dfdl_markup.specs.Trees.{node_at}
+use Rattle.dfdl_properties.specs.Forms.{children_of, is_one}
+use Rattle.dfdl_properties.specs.Own.{first, is_default_format}
+use Rattle.dfdl_properties.proofs.default.first_in_information.Given as goal
+
+-- among what is left stands the same as among all
+abbrev pub invariant-loop-child : goal.invariant-loop-child
+invariant-loop-child l =
+    first (filter (is_one l.tree is_default_format) (drop l.child-index (node_at l.tree l.information).children))
+    ≡ first (children_of l.tree is_default_format l.information)

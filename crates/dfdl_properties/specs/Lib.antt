@@ -1,0 +1,5 @@
+pub mod Written
+pub mod Forms
+pub mod Own
+pub mod Formats
+pub mod Shown

@@ -1,0 +1,79 @@
+-- Components that break no rule.
+use Rattle.std.proofs.Common.{◌≡◌, refl, Option, Some, None, Bool, true, false, not, if◌then◌else◌, ◌||◌, IsTrue, IsSome, arith}
+use Rattle.std.specs.Option.{option_map_or}
+use Rattle.dfdl_forms.specs.declared.order.ByteOrder.{ByteOrder}
+use Rattle.dfdl_report.specs.declared.cause.SchemaCause.{SchemaCause}
+use Rattle.dfdl_report.specs.declared.cause.SchemaCause.TheVariants as causes
+use Rattle.dfdl_report.specs.declared.place.Place.{Place}
+use Rattle.dfdl_checks.specs.Numbers.{number_of, number_of_kind, integer_form_of}
+use Rattle.dfdl_checks.specs.Rules.{breach_of, first_breach, rules, is_built_type, has_later_type, is_unbuilt, property_twice, is_property_missing, is_value_not_carried, is_expression_not_allowed, is_type_not_carried, is_length_kind_not_allowed}
+use Rattle.dfdl_checks.specs.Subjects.{is_simple, is_choice}
+use Rattle.dfdl_checks.specs.declared.subject.Kind.{Kind}
+use Rattle.dfdl_checks.specs.declared.subject.Kind.TheVariants.{ComplexElement, SimpleElement, UncarriedElement, Sequence, Choice}
+use Rattle.dfdl_checks.specs.declared.subject.Subject.{Subject}
+use Rattle.dfdl_checks.specs.declared.subject.Breach.{Breach}
+
+-- a component keeps each rule
+pub record IsKept (s : Subject) : Type 0 where
+  pub built : is_unbuilt s ≡ false
+  pub once : property_twice s ≡ None
+  pub given : is_property_missing s ≡ false
+  pub carried : is_value_not_carried s ≡ false
+  pub allowed : is_expression_not_allowed s ≡ false
+  pub typed : is_type_not_carried s.kind ≡ false
+  pub length_kind : is_length_kind_not_allowed s ≡ false
+
+-- no rule of some is broken: neither the first one nor another
+first-kept : (cause : SchemaCause) (at : Option Place) (rest : Option Breach)
+    → option_map_or (λ place. Some (breach_of cause place)) at rest ≡ None → (at ≡ None) × (rest ≡ None)
+first-kept cause None rest none = (refl, none)
+first-kept cause (Some place) rest none = grind (arith, none)
+
+-- a rule that is told at the component is not broken
+itself-kept : (b : Bool) (place : Place) → (if b then Some place else None) ≡ None → b ≡ false
+itself-kept false place none = refl
+itself-kept true place none = grind (arith, none)
+
+-- a component without a breach keeps each rule
+pub keeps-all : (s : Subject) → first_breach rules s ≡ None → IsKept s
+unfolding rules
+keeps-all s none =
+    let a = first-kept causes.OutsideSubset _ _ none in
+    let b = first-kept causes.PropertyTwice _ _ a.1 in
+    let c = first-kept causes.PropertyMissing _ _ b.1 in
+    let d = first-kept causes.PropertyNotCarried _ _ c.1 in
+    let e = first-kept causes.ExpressionNotAllowed _ _ d.1 in
+    let f = first-kept causes.TypeNotCarried _ _ e.1 in
+    let g = first-kept causes.LengthKind _ _ f.1 in
+    record {
+      built = itself-kept _ s.place a.0;
+      once = b.0;
+      given = itself-kept _ s.place c.0;
+      carried = itself-kept _ s.place d.0;
+      allowed = itself-kept _ s.place e.0;
+      typed = itself-kept _ s.place f.0;
+      length_kind = itself-kept _ s.place g.0;
+    }
+
+-- where none of some holds, the second doesn't
+pub second-fails : (a b c d e : Bool) → (a || b || c || d || e) ≡ false → b ≡ false
+second-fails a b c d e none = grind (arith, none)
+
+-- a kind of element that is built has a form
+pub built-number : (kind : Kind) (order : ByteOrder) → has_later_type kind ≡ false → is_type_not_carried kind ≡ false
+    → IsTrue (is_simple kind) → IsSome (number_of_kind kind order)
+built-number ComplexElement order later typed simple = grind (arith, simple)
+built-number (SimpleElement simple) order later typed is = by (is_built_type simple) later
+  where
+    by : (b : Bool) → not b ≡ false → IsSome (if b then Some (number_of simple order) else None)
+    by true kept = refl
+    by false kept = grind (arith, kept)
+built-number UncarriedElement order later typed simple = grind (arith, typed)
+built-number Sequence order later typed simple = grind (arith, simple)
+built-number Choice order later typed simple = grind (arith, simple)
+
+-- a simple element without a breach has a form
+pub has-form : (s : Subject) → first_breach rules s ≡ None → IsTrue (is_simple s.kind) → IsSome (integer_form_of s)
+has-form s none simple =
+    let kept = keeps-all s none in
+    built-number s.kind _ (second-fails (is_choice s.kind) (has_later_type s.kind) _ _ _ kept.built) kept.typed simple

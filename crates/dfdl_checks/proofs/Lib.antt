@@ -1,0 +1,5 @@
+pub mod Digits
+pub mod Kept
+pub mod Flawless
+pub mod Once
+pub mod Integers

@@ -1,0 +1,77 @@
+-- Which component it is, and what its properties are told to be.
+use Rattle.std.specs.Prelude.{ℕ, List, Bool, true, false, nat_lt, ◌&&◌, ◌||◌, codes}
+use Rattle.std.specs.Str.{bytes_eq}
+use Rattle.dfdl_forms.specs.Binary.{most_bits}
+use Rattle.dfdl_forms.specs.Types.{form_of}
+use Rattle.dfdl_forms.specs.declared.simple.Form.{Form}
+use Rattle.dfdl_forms.specs.declared.simple.Form.TheVariants.{Signed, Unsigned, Fixed, Characters, Truths, Octets}
+use Rattle.dfdl_scope.specs.Expressions.{literal}
+use Rattle.dfdl_scope.specs.Scoping.{Told, Value, Absent, Twice, told}
+use Rattle.dfdl_scope.specs.Shown.{chain_of}
+use Rattle.dfdl_checks.specs.declared.subject.Kind.{Kind}
+use Rattle.dfdl_checks.specs.declared.subject.Kind.TheVariants.{ComplexElement, SimpleElement, UncarriedElement, Sequence, Choice}
+use Rattle.dfdl_checks.specs.declared.subject.Subject.{Subject}
+
+-- an element
+abbrev pub is_element : Kind → Bool
+is_element ComplexElement = true
+is_element (SimpleElement simple) = true
+is_element UncarriedElement = true
+is_element Sequence = false
+is_element Choice = false
+
+-- an element of a simple type
+abbrev pub is_simple : Kind → Bool
+is_simple ComplexElement = false
+is_simple (SimpleElement simple) = true
+is_simple UncarriedElement = true
+is_simple Sequence = false
+is_simple Choice = false
+
+-- a sequence
+abbrev pub is_sequence : Kind → Bool
+is_sequence Sequence = true
+is_sequence _ = false
+
+-- a choice
+abbrev pub is_choice : Kind → Bool
+is_choice Choice = true
+is_choice _ = false
+
+-- a sequence or a choice
+abbrev pub is_group : Kind → Bool
+is_group kind = is_sequence kind || is_choice kind
+
+-- values of this form are written as text or in binary, by the property representation; texts and bytes are not
+abbrev pub has_representation : Form → Bool
+has_representation (Signed bits) = true
+has_representation (Unsigned bits) = true
+has_representation Fixed = true
+has_representation Truths = true
+has_representation Characters = false
+has_representation Octets = false
+
+-- a simple element with a representation; one of a type that is not carried counts as one
+abbrev pub is_represented : Kind → Bool
+is_represented (SimpleElement simple) = has_representation (form_of simple)
+is_represented UncarriedElement = true
+is_represented _ = false
+
+-- how many bits an element of an integer or decimal type has at most in binary; 0 for every other component
+abbrev pub number_bits : Kind → ℕ
+number_bits (SimpleElement simple) = most_bits (form_of simple)
+number_bits _ = 0
+
+-- what is told of a property at a component
+abbrev pub told_at : Subject → List ℕ → Told
+told_at subject name = told (chain_of subject.chain.now) name
+
+-- what is told stands for this word
+abbrev pub is_word : List ℕ → Told → Bool
+is_word word (Value written) = bytes_eq (literal written) word
+is_word word Absent = false
+is_word word (Twice place) = false
+
+-- a binary number: an element of an integer or decimal type whose representation is binary
+abbrev pub is_binary_number : Subject → Bool
+is_binary_number subject = nat_lt 0 (number_bits subject.kind) && is_word (codes "binary") (told_at subject (codes "representation"))

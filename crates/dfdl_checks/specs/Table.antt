@@ -1,0 +1,65 @@
+-- Which properties are asked of which components, and which of their values are built. Each property of the profile that
+-- is not here applies to components of later forms alone: to text, to delimiters, to escapes, to elements of explicit or
+-- prefixed length, to elements that may be nil or occur otherwise than once, to choices and their branches, to packed
+-- numbers, and to binary decimals and booleans. Where the least significant bit comes first, which is a later form too,
+-- byteOrder will be asked of each binary number.
+use Rattle.std.specs.Prelude.{ℕ, List, [], ◌∷◌, Bool, true, false, codes}
+use Rattle.dfdl_checks.specs.Values.{is_among, is_within}
+use Rattle.dfdl_checks.specs.declared.applicability.Bearers.{Bearers}
+use Rattle.dfdl_checks.specs.declared.applicability.Bearers.TheVariants.{EveryComponent, Elements, OtherElements, SimpleElements, RepresentedElements, BinaryNumbers, WideBinaryNumbers, PatternElements, Groups, Sequences, EmptySequences}
+
+-- which values are built
+pub data Built : Type 0 where
+  Words : List (List ℕ) → Built
+  Number : ℕ → Built
+  EveryValue : Built
+  NoValue : Built
+
+-- a text is a value that is built
+abbrev pub is_built : Built → List ℕ → Bool
+is_built (Words words) text = is_among words text
+is_built (Number number) text = is_within number number text
+is_built EveryValue text = true
+is_built NoValue text = false
+
+-- a property, some of the components that it applies to, and which of its values are built there
+pub record Applicability : Type 0 where
+  pub name : List ℕ
+  pub bearers : Bearers
+  pub built : Built
+
+-- the property of this name
+abbrev pub applies : List ℕ → Bearers → Built → Applicability
+applies name bearers built = record { name = name; bearers = bearers; built = built }
+
+-- one word alone is built
+abbrev pub word : List ℕ → Built
+word text = Words (text ∷ [])
+
+-- the properties, in the order of the profile. A binary number of delimited length or with a length by a pattern is
+-- refused by a rule of its own, so these two values, and its pattern, are no forms that come later
+unfoldable pub applicability_table : List Applicability
+applicability_table =
+    applies (codes "representation") RepresentedElements (word (codes "binary"))
+    ∷ applies (codes "byteOrder") WideBinaryNumbers EveryValue
+    ∷ applies (codes "bitOrder") EveryComponent (word (codes "mostSignificantBitFirst"))
+    ∷ applies (codes "lengthKind") OtherElements (word (codes "implicit"))
+    ∷ applies (codes "lengthKind") BinaryNumbers (Words (codes "implicit" ∷ codes "delimited" ∷ codes "pattern" ∷ []))
+    ∷ applies (codes "lengthPattern") PatternElements EveryValue
+    ∷ applies (codes "alignment") EveryComponent (Number 1)
+    ∷ applies (codes "alignmentUnits") EveryComponent (word (codes "bits"))
+    ∷ applies (codes "leadingSkip") EveryComponent (Number 0)
+    ∷ applies (codes "trailingSkip") EveryComponent (Number 0)
+    ∷ applies (codes "fillByte") EveryComponent (word (codes "%#r00;"))
+    ∷ applies (codes "initiator") EveryComponent (word (codes ""))
+    ∷ applies (codes "terminator") EveryComponent (word (codes ""))
+    ∷ applies (codes "separator") Groups (word (codes ""))
+    ∷ applies (codes "initiatedContent") Groups (word (codes "no"))
+    ∷ applies (codes "sequenceKind") Sequences (word (codes "ordered"))
+    ∷ applies (codes "hiddenGroupRef") EmptySequences NoValue
+    ∷ applies (codes "binaryNumberRep") BinaryNumbers (word (codes "binary"))
+    ∷ applies (codes "nilValueDelimiterPolicy") SimpleElements EveryValue
+    ∷ applies (codes "emptyValueDelimiterPolicy") SimpleElements EveryValue
+    ∷ applies (codes "inputValueCalc") Elements NoValue
+    ∷ applies (codes "outputValueCalc") Elements NoValue
+    ∷ []

@@ -1,0 +1,42 @@
+// Which properties are asked of which components.
+
+/// The components that a property applies to.
+#[derive(Debug, Clone, Copy, PartialEq, Eq)]
+pub enum Bearers {
+    EveryComponent,
+    Elements,
+    /// Elements that are no binary numbers.
+    OtherElements,
+    SimpleElements,
+    /// Simple elements but those of type string and hexBinary.
+    RepresentedElements,
+    /// Simple elements of an integer or decimal type whose representation is binary.
+    BinaryNumbers,
+    /// Binary numbers of a type with more than 8 bits.
+    WideBinaryNumbers,
+    /// Elements whose length is by a pattern.
+    PatternElements,
+    /// Sequences and choices.
+    Groups,
+    Sequences,
+    EmptySequences,
+}
+
+/// Which values of a property are built: the others are carried later.
+#[derive(Debug, Clone, Copy)]
+pub enum Built {
+    /// These words.
+    Words(&'static [&'static str]),
+    /// This number.
+    Number(u64),
+    EveryValue,
+    NoValue,
+}
+
+/// A property, some of the components that it applies to, and which of its values are built there.
+#[derive(Debug, Clone, Copy)]
+pub struct Applicability {
+    pub name: &'static str,
+    pub bearers: Bearers,
+    pub built: Built,
+}

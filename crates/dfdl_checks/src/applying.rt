@@ -1,0 +1,135 @@
+// Which components a property applies to.
+ghost use Rattle.std.specs.Prelude.{◌≡◌};
+ghost use Rattle.dfdl_forms.specs.Binary.{most_bits};
+ghost use Rattle.dfdl_forms.specs.Types.{form_of};
+ghost use Rattle.dfdl_checks.specs.Subjects as subjects;
+ghost use Rattle.dfdl_checks.specs.Applying.{is_bearer};
+ghost use Rattle.dfdl_scope.specs.Scoping.{told};
+ghost use Rattle.dfdl_scope.specs.Shown.{chain_of};
+
+use crate::applicability::Bearers;
+use crate::subject::{Kind, Subject};
+use dfdl_forms::{Form, Simple};
+use dfdl_scope::{Asked, Component, literal, property};
+
+/// Whether a component is one of these.
+pub(crate) fn is_bearer(bearers: Bearers, subject: &Subject<'_, '_, '_>) -> bool
+    ensures { result ≡ is_bearer bearers subject.now }
+{
+    let kind = subject.kind;
+    match bearers {
+        Bearers::EveryComponent => true,
+        Bearers::Elements => is_element(kind),
+        Bearers::OtherElements => is_element(kind) && !is_binary_number(subject),
+        Bearers::SimpleElements => is_simple(kind),
+        Bearers::RepresentedElements => is_represented(kind),
+        Bearers::BinaryNumbers => is_binary_number(subject),
+        Bearers::WideBinaryNumbers => number_bits(kind) > 8 && is_binary_number(subject),
+        Bearers::PatternElements => {
+            is_element(kind) && is_word(subject.chain, "lengthKind", "pattern")
+        }
+        Bearers::Groups => is_sequence(kind) || is_choice(kind),
+        Bearers::Sequences => is_sequence(kind),
+        Bearers::EmptySequences => is_sequence(kind) && subject.facts.is_empty,
+    }
+}
+
+/// Whether it is an element.
+pub(crate) fn is_element(kind: Kind) -> bool
+    ensures { result ≡ subjects.is_element kind }
+{
+    match kind {
+        Kind::ComplexElement | Kind::SimpleElement(_) | Kind::UncarriedElement => true,
+        Kind::Sequence | Kind::Choice => false,
+    }
+}
+
+/// Whether it is an element of a simple type.
+fn is_simple(kind: Kind) -> bool
+    ensures { result ≡ subjects.is_simple kind }
+{
+    match kind {
+        Kind::SimpleElement(_) | Kind::UncarriedElement => true,
+        Kind::ComplexElement | Kind::Sequence | Kind::Choice => false,
+    }
+}
+
+/// Whether it is a sequence.
+fn is_sequence(kind: Kind) -> bool
+    ensures { result ≡ subjects.is_sequence kind }
+{
+    match kind {
+        Kind::Sequence => true,
+        _ => false,
+    }
+}
+
+/// Whether it is a choice.
+pub(crate) fn is_choice(kind: Kind) -> bool
+    ensures { result ≡ subjects.is_choice kind }
+{
+    match kind {
+        Kind::Choice => true,
+        _ => false,
+    }
+}
+
+/// Whether it is a simple element that has a representation.
+fn is_represented(kind: Kind) -> bool
+    ensures { result ≡ subjects.is_represented kind }
+{
+    match kind {
+        Kind::SimpleElement(simple) => has_representation(simple.form()),
+        Kind::UncarriedElement => true,
+        _ => false,
+    }
+}
+
+/// Whether values of a form are written as text or in binary.
+fn has_representation(form: Form) -> bool
+    ensures { result ≡ subjects.has_representation form }
+{
+    match form {
+        Form::Signed { .. } | Form::Unsigned { .. } | Form::Fixed | Form::Truths => true,
+        Form::Characters | Form::Octets => false,
+    }
+}
+
+/// Whether it is an element of an integer or decimal type whose representation is binary.
+pub(crate) fn is_binary_number(subject: &Subject<'_, '_, '_>) -> bool
+    ensures { result ≡ subjects.is_binary_number subject.now }
+{
+    number_bits(subject.kind) > 0 && is_word(subject.chain, "representation", "binary")
+}
+
+/// How many bits an element of an integer or decimal type has at most in binary, else 0.
+fn number_bits(kind: Kind) -> u32
+    ensures { result ≡ subjects.number_bits kind }
+{
+    match kind {
+        Kind::SimpleElement(simple) => most_bits(simple),
+        _ => 0,
+    }
+}
+
+/// How many bits a number of the type has at most in binary, 0 where it is no number.
+pub(crate) fn most_bits(simple: Simple) -> u32
+    ensures { result ≡ most_bits (form_of simple) }
+{
+    match simple.form() {
+        Form::Signed { bits } | Form::Unsigned { bits } => bits,
+        Form::Fixed => 128,
+        Form::Characters | Form::Truths | Form::Octets => 0,
+    }
+}
+
+/// Whether what is told of a property stands for this word.
+pub(crate) fn is_word(chain: &Component<'_, '_>, name: &str, word: &str) -> bool
+    ensures { result ≡ subjects.is_word word.now (told (chain_of chain.now) name.now) }
+{
+    match property(chain, name) {
+        Asked::Given(written) => literal(written) == word,
+        Asked::Absent => false,
+        Asked::Twice { .. } => false,
+    }
+}

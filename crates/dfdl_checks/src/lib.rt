@@ -1,0 +1,27 @@
+//! What is wrong at one schema component: the rules that the compiler asks of each component by itself, in the order
+//! of their numbers.
+//!
+//! A component comes as a `Subject`: what kind it is, what it states, and the chain that its properties are asked of.
+//! `breach` gives the first rule that it breaks; its contract cites `specs/Rules.antt`, and the table of the properties
+//! that apply to components is `specs/Table.antt`. `integer_form` says how the values of a simple element without a
+//! breach lie in the data, by `specs/Numbers.antt`. The chapters are 'Property Scoping and DFDL Schema Checking' and
+//! 'Simple Types'.
+#![tactic(auto)]
+
+mod applicability;
+mod applying;
+mod flaw;
+mod flaws;
+pub mod laws;
+mod number;
+mod rules;
+mod subject;
+mod table;
+mod values;
+
+pub use number::integer_form;
+pub use rules::breach;
+pub use subject::{Breach, Facts, Kind, Subject};
+
+#[cfg(test)]
+mod tests;

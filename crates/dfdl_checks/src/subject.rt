@@ -1,0 +1,50 @@
+// A component as the rules see it.
+use dfdl_forms::Simple;
+use dfdl_report::{Place, SchemaCause};
+use dfdl_scope::Component;
+
+/// What kind of component it is.
+#[derive(Debug, Clone, Copy, PartialEq, Eq)]
+pub enum Kind {
+    /// An element of a complex type.
+    ComplexElement,
+    /// An element of a simple type that is carried.
+    SimpleElement(Simple),
+    /// An element of a simple type that is not carried.
+    UncarriedElement,
+    Sequence,
+    Choice,
+}
+
+/// What a component states besides its properties.
+#[derive(Debug, Clone, Copy, PartialEq, Eq)]
+pub struct Facts {
+    /// Of an element: minOccurs and maxOccurs are both 1.
+    pub occurs_once: bool,
+    /// Of an element: it may be nil.
+    pub is_nillable: bool,
+    /// Of an element: it has a default value.
+    pub has_default: bool,
+    /// An assert, a discriminator, a setVariable or a newVariableInstance stands at it.
+    pub has_statements: bool,
+    /// Of a sequence or a choice: nothing is in it.
+    pub is_empty: bool,
+}
+
+/// A component of a schema, with what the rules ask of it.
+#[derive(Clone, Copy)]
+pub struct Subject<'s, 'e, 'c> {
+    pub kind: Kind,
+    /// Its start tag.
+    pub place: Place,
+    /// What its properties are asked of.
+    pub chain: &'s Component<'e, 'c>,
+    pub facts: Facts,
+}
+
+/// A rule that a component breaks, by its cause, and where that is told.
+#[derive(Debug, Clone, Copy, PartialEq, Eq)]
+pub struct Breach {
+    pub cause: SchemaCause,
+    pub place: Place,
+}

@@ -1,0 +1,44 @@
+use Rattle.std.proofs.Common.{List, length, All, sym, ap, subst, arith}
+use Rattle.dfdl_terms.specs.declared.row.Row.{Row}
+use Rattle.dfdl_terms.specs.Rows.{Nests, NamesWithin}
+use Rattle.dfdl_rows.specs.Components.{component_at}
+use Rattle.dfdl_rows.specs.Answers.{EndsWith}
+use Rattle.dfdl_rows.proofs.Nesting.{rows_nest, rows_some, rows_named, rows_end}
+use Rattle.dfdl_rows.proofs.RowsOf.{length_rows}
+use Rattle.dfdl_rows.proofs.rows.rows_of.Goals as goal
+
+pub returns-clause-some : goal.returns-clause-some
+returns-clause-some c =
+    omega (
+      arith,
+      c.in_ok-all_rows.field-0.ok.0,
+      ap (λ (rows : List Row). length rows) c.in_ok-all_rows.ensures,
+      rows_some c.args.components.now c.facts.ensures.ordered c.facts.ensures.of_one c.args.root c.requires,
+    )
+
+pub returns-clause-few : goal.returns-clause-few
+returns-clause-few c =
+    omega (
+      arith,
+      c.in_ok-all_rows.field-0.ok.0,
+      ap (λ (rows : List Row). length rows) c.in_ok-all_rows.ensures,
+      length_rows c.args.components.now c.facts.ensures.ordered c.args.root c.requires 0,
+      c.if-branch-from-2.false,
+      c.in_ok-size.ensures,
+      c.from-2.ensures,
+    )
+
+pub returns-clause-nests : goal.returns-clause-nests
+returns-clause-nests c =
+    subst Nests (sym c.in_ok-all_rows.ensures)
+    (rows_nest c.args.components.now c.facts.ensures.ordered c.facts.ensures.of_one c.args.root c.requires)
+
+pub returns-clause-root : goal.returns-clause-root
+returns-clause-root c =
+    subst (EndsWith (component_at c.args.components.now.components c.args.root)) (sym c.in_ok-all_rows.ensures)
+    (rows_end c.args.components.now c.facts.ensures.ordered c.facts.ensures.of_one c.args.root c.requires)
+
+pub returns-clause-named : goal.returns-clause-named
+returns-clause-named c = λ count has.
+    subst (λ (rows : List Row). All (NamesWithin count) rows) (sym c.in_ok-all_rows.ensures)
+    (rows_named c.args.components.now c.facts.ensures.ordered c.facts.ensures.of_one count has c.args.root c.requires 0)

@@ -1,0 +1,41 @@
+-- The components of a schema: what each one is, and which components it has as its parts ('DFDL Schema Component Model').
+use Rattle.std.specs.Prelude.{◌≡◌, ℕ, ◌<◌, List, [], length, get_or, Option}
+use Rattle.dfdl_order.specs.Parts.{uses_of, IsOrder, Places}
+use Rattle.dfdl_rows.specs.declared.component.Component.{Component}
+use Rattle.dfdl_rows.specs.declared.component.Component.TheVariants.{Sequence, Reference, ComplexElement, SimpleElement}
+use Rattle.dfdl_rows.specs.declared.refusal.Refusal.{Refusal}
+
+-- by a component's number: its parts in schema order, what it is, and the refusal of its own, if it has one
+pub record Schema : Type 0 where
+  pub uses : List (List ℕ)
+  pub components : List Component
+  pub refusals : List (Option Refusal)
+
+-- what a component is
+abbrev pub component_at : List Component → ℕ → Component
+component_at components c = get_or components c Sequence
+
+-- a component of this kind can have these parts: a complex element its content, a reference what it stands for, and a
+-- simple element none
+abbrev pub CanHave : Component → List ℕ → Type 0
+CanHave Sequence parts = Unit {0}
+CanHave Reference parts = length parts ≡ 1
+CanHave (ComplexElement name) parts = length parts ≡ 1
+CanHave (SimpleElement name simple prim) parts = parts ≡ []
+
+-- the lists are those of one schema
+pub record AreOfOne (uses : List (List ℕ)) (components : List Component) (refusals : List (Option Refusal)) : Type 0 where
+  pub counted : length components ≡ length uses
+  pub judged : length refusals ≡ length uses
+  pub fit : (c : ℕ) → c < length uses → CanHave (component_at components c) (uses_of uses c)
+
+-- the components can be put in an order in which each stands behind its parts
+abbrev pub HasOrder : List (List ℕ) → Type 0
+HasOrder uses = (order : Places) × IsOrder uses order
+
+-- the primitive of a simple element is one of so many
+abbrev pub HasPrimitive : ℕ → Component → Type 0
+HasPrimitive count Sequence = Unit {0}
+HasPrimitive count Reference = Unit {0}
+HasPrimitive count (ComplexElement name) = Unit {0}
+HasPrimitive count (SimpleElement name simple prim) = prim < count

@@ -1,0 +1,9 @@
+pub mod Components
+pub mod Refusals
+pub mod Depths
+pub mod Sizes
+pub mod RowLists
+pub mod Answers
+pub mod Saturated
+pub mod Ends
+pub mod Walk

@@ -1,0 +1,47 @@
+-- The rows of components: children first, in schema order, the component's own row last, once for each use ('DFDL Data
+-- Syntax Grammar').
+use Rattle.std.specs.Prelude.{ℕ, ◌+◌, ◌-◌, List, [], ◌∷◌, ◌++◌, length, get_or, None, Some}
+use Rattle.dfdl_order.specs.Folds.{value_by}
+use Rattle.dfdl_terms.specs.declared.row.Row.{Row}
+use Rattle.dfdl_terms.specs.declared.row.Row.TheVariants.{Leaf, Elem, Group}
+use Rattle.dfdl_rows.specs.Components.{Schema, component_at}
+use Rattle.dfdl_rows.specs.declared.component.Component.{Component}
+use Rattle.dfdl_rows.specs.declared.component.Component.TheVariants.{Sequence, Reference, ComplexElement, SimpleElement}
+
+-- rows that are numbered from any number on
+abbrev pub Numbered : Type 0
+Numbered = ℕ → List Row
+
+-- the rows of a component's own, from a number on, where these are the last rows of its parts
+abbrev pub own_rows : Component → List ℕ → ℕ → List Row
+own_rows Sequence parts first = Group parts ∷ []
+own_rows Reference parts first = []
+own_rows (ComplexElement name) parts first = Elem name None (get_or parts 0 0) ∷ []
+own_rows (SimpleElement name simple prim) parts first = Leaf prim ∷ (Elem name (Some simple) first ∷ [])
+
+-- the rows of parts, one part after the other
+abbrev pub in_turn : List Numbered → Numbered
+in_turn [] first = []
+in_turn (rows ∷ others) first = rows first ++ in_turn others (first + length (rows first))
+
+-- the number of each part's last row
+abbrev pub last_rows : List Numbered → ℕ → List ℕ
+last_rows [] first = []
+last_rows (rows ∷ others) first = (first + length (rows first) - 1) ∷ last_rows others (first + length (rows first))
+
+-- the rows of a component's parts, and its own behind them
+abbrev pub rows_from : List Component → ℕ → List Numbered → Numbered
+rows_from components c parts first =
+    in_turn parts first ++ own_rows (component_at components c) (last_rows parts first) (first + length (in_turn parts first))
+
+-- no rows, wherever they begin
+abbrev pub no_rows : Numbered
+no_rows first = []
+
+-- the rows of a component, numbered from a number on
+abbrev pub rows_at : Schema → ℕ → Numbered
+rows_at s c = value_by s.uses (rows_from s.components) no_rows c
+
+-- the rows of a root
+abbrev pub rows_of : Schema → ℕ → List Row
+rows_of s root = rows_at s root 0

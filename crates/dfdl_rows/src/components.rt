@@ -1,0 +1,153 @@
+// The components of a schema, with an order of them.
+ghost use Rattle.std.specs.Prelude.{◌≡◌, ◌<◌, ◌↔◌, length, All, IsTrue, false};
+ghost use Rattle.dfdl_order.specs.Parts.{uses_of, IsOrder};
+ghost use Rattle.dfdl_rows.specs.Components.{AreOfOne, CanHave, HasOrder, component_at};
+ghost use Rattle.dfdl_rows.specs.Refusals.{own_refusal};
+ghost use Rattle.dfdl_rows.specs.Components.{HasPrimitive};
+
+use crate::{Component, Refusal};
+use dfdl_order::{Order, Uses};
+use std::marker::Model;
+
+/// The components of a schema by number: the parts of each one in schema order, what it is, and the refusal of its own.
+#[derive(Drop)]
+pub struct Components {
+    uses: Uses,
+    order: Order,
+    components: Vec<Component>,
+    refusals: Vec<Option<Refusal>>,
+}
+
+impl Model for Components {
+    ghost use Rattle.dfdl_order.specs.Parts.{IsOrder};
+    ghost use Rattle.dfdl_rows.specs.Components.{Schema, AreOfOne};
+
+    ghost Value = { Schema };
+
+    ghost view = { λ s. record { uses = s.uses; components = s.components.items; refusals = s.refusals.items } };
+
+    ghost invariant = { λ s. IsOrder s.uses s.order × AreOfOne s.uses s.components.items s.refusals.items };
+}
+
+impl Components {
+    /// Components that `are_of_one` is true of, and an order of them.
+    pub fn new(
+        uses: Uses,
+        order: Order,
+        components: Vec<Component>,
+        refusals: Vec<Option<Refusal>>,
+    ) -> Components
+        requires ordered { IsOrder uses order }
+        requires of_one { AreOfOne uses components.items refusals.items }
+        ensures { result ≡ record { uses = uses; components = components.items; refusals = refusals.items } }
+    {
+        Components {
+            uses,
+            order,
+            components,
+            refusals,
+        }
+    }
+
+    /// How many components there are.
+    pub fn count(&self) -> u32
+        ensures count { result ≡ length self.now.uses }
+        ensures of_one { AreOfOne self.now.uses self.now.components self.now.refusals }
+    {
+        self.uses.count()
+    }
+
+    /// An order in which each component stands behind its parts.
+    pub(crate) fn order(&self) -> &Order
+        ensures { IsOrder self.now.uses result.now }
+    {
+        &self.order
+    }
+
+    /// What is known of the components. The call does nothing.
+    pub(crate) fn facts(&self)
+        ensures ordered { HasOrder self.now.uses }
+        ensures of_one { AreOfOne self.now.uses self.now.components self.now.refusals }
+    {
+        let _order = self.order();
+        let _count = self.count();
+    }
+
+    /// What a component is.
+    pub(crate) fn component(&self, number: u32) -> &Component
+        requires { number < length self.now.uses }
+        ensures component { result.now ≡ component_at self.now.components number }
+        ensures parts { CanHave result.now (uses_of self.now.uses number) }
+    {
+        &self.components[number as usize]
+    }
+
+    /// The parts of a component.
+    pub(crate) fn parts(&self, number: u32) -> &[u32]
+        requires { number < length self.now.uses }
+        ensures parts { result.now ≡ uses_of self.now.uses number }
+        ensures within { All (λ p. p < length self.now.uses) result.now }
+    {
+        self.uses.of(number)
+    }
+
+    /// The refusal of a component's own.
+    pub(crate) fn refusal(&self, number: u32) -> Option<Refusal>
+        requires { number < length self.now.uses }
+        ensures { result ≡ own_refusal self.now.refusals number }
+    {
+        self.refusals[number as usize]
+    }
+}
+
+/// These components and refusals are as many as the lists of parts, and each component can have its parts.
+pub fn are_of_one(uses: &Uses, components: &[Component], refusals: &[Option<Refusal>]) -> bool
+    ensures of_one { IsTrue result → AreOfOne uses.now components.now refusals.now }
+    ensures other { result ≡ false → AreOfOne uses.now components.now refusals.now → ⊥ }
+{
+    let count = uses.count();
+    if components.len() != count as usize || refusals.len() != count as usize {
+        return false;
+    }
+    for number in 0..count {
+        if !can_have(&components[number as usize], uses.of(number)) {
+            return false;
+        }
+    }
+    true
+}
+
+// Whether a component of this kind can have these parts.
+fn can_have(component: &Component, parts: &[u32]) -> bool
+    ensures can { IsTrue result → CanHave component.now parts.now }
+    ensures other { result ≡ false → CanHave component.now parts.now → ⊥ }
+{
+    match component {
+        Component::Sequence => true,
+        Component::Reference => parts.len() == 1,
+        Component::ComplexElement { .. } => parts.len() == 1,
+        Component::SimpleElement { .. } => parts.is_empty(),
+    }
+}
+
+/// Whether the primitive of each simple element is one of so many.
+pub fn have_primitives(components: &[Component], count: u32) -> bool
+    ensures have { IsTrue result → All (HasPrimitive count) components.now }
+    ensures other { result ≡ false → All (HasPrimitive count) components.now → ⊥ }
+{
+    components
+        .iter()
+        .all(|component| has_primitive(component, count))
+}
+
+// Whether the primitive of a simple element is one of so many.
+fn has_primitive(component: &Component, count: u32) -> bool
+    ensures { IsTrue result ↔ HasPrimitive count component.now }
+{
+    match component {
+        Component::Sequence => true,
+        Component::Reference => true,
+        Component::ComplexElement { .. } => true,
+        Component::SimpleElement { prim, .. } => *prim < count,
+    }
+}

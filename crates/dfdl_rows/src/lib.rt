@@ -1,0 +1,27 @@
+//! The rows of schema components, once for each use: 'DFDL Schema Component Model' and 'DFDL Data Syntax Grammar'.
+//!
+//! Components are numbers, and each has parts that stand behind it in schema order. `rows_of` gives the rows of one of
+//! them as the root: the rows of its parts first, and its own last. Contracts cite `specs/Answers.antt`, which says
+//! when there are none: elements are nested too deep, a component that is reached is refused, or there are too many
+//! rows. What components share is computed once.
+#![tactic(auto)]
+
+mod component;
+mod components;
+mod depths;
+mod ends;
+mod fault;
+mod refusal;
+mod refusals;
+mod rows;
+mod sizes;
+mod walk;
+
+pub use component::Component;
+pub use components::{Components, are_of_one, have_primitives};
+pub use fault::RowsFault;
+pub use refusal::Refusal;
+pub use rows::{rows_of, terms_of};
+
+#[cfg(test)]
+mod tests;

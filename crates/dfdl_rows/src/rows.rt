@@ -1,0 +1,91 @@
+// The rows of a root, or why there are none.
+ghost use Rattle.std.specs.Prelude.{◌≡◌, ◌<◌, ◌≤◌, ℕ, length, All, IfOk, IfErr, vec_len};
+ghost use Rattle.dfdl_terms.specs.Rows.{most_rows as table_rows, Nests, NamesWithin, IsPrimitive};
+ghost use Rattle.dfdl_rows.specs.Components.{component_at, HasPrimitive};
+ghost use Rattle.dfdl_rows.specs.Answers.{asked, AreRowsOf, IsFaultOf, EndsWith};
+
+use crate::depths::depth;
+use crate::refusals::first_refusal;
+use crate::sizes::size;
+use crate::walk::all_rows;
+use crate::{Components, RowsFault};
+use dfdl_report::LimitCause;
+use dfdl_terms::{Row, Tables, Terms};
+use std::alloc::Global;
+
+/// The rows of a component as the root, where elements are nested no deeper than `most_depth`, none of the components
+/// that are reached is refused, and there are no more rows than `most_rows`. Else the first of these that fails.
+pub fn rows_of(
+    alloc: Global,
+    components: &Components,
+    root: u32,
+    most_depth: u32,
+    most_rows: u32,
+) -> Result<Vec<Row>, RowsFault>
+    requires { root < length components.now.uses }
+    ensures rows { IfOk result (λ made. AreRowsOf (asked components.now root most_depth most_rows) made.items) }
+    ensures fault { IfErr result (IsFaultOf (asked components.now root most_depth most_rows)) }
+    ensures some { IfOk result (λ made. 0 < vec_len made) }
+    ensures few { IfOk result (λ made. vec_len made ≤ most_rows) }
+    ensures nests { IfOk result (λ made. Nests made.items) }
+    ensures root { IfOk result (λ made. EndsWith (component_at components.now.components root) made.items) }
+    ensures named { (count : ℕ) → All (HasPrimitive count) components.now.components
+        → IfOk result (λ made. All (NamesWithin count) made.items) }
+{
+    components.facts();
+    if depth(alloc, components, root)? > u64::from(most_depth) {
+        return Err(RowsFault::Limit {
+            cause: LimitCause::Depth,
+            quantity: most_depth,
+        });
+    }
+    if let Some(refusal) = first_refusal(alloc, components, root)? {
+        return Err(RowsFault::Refused(refusal));
+    }
+    if size(alloc, components, root)? > u64::from(most_rows) {
+        return Err(RowsFault::Limit {
+            cause: LimitCause::Rows,
+            quantity: most_rows,
+        });
+    }
+    Ok(all_rows(alloc, components, root)?)
+}
+
+/// The same rows as terms, with what they name by numbers.
+pub fn terms_of(
+    alloc: Global,
+    components: &Components,
+    root: u32,
+    most_depth: u32,
+    most_rows: u32,
+    tables: Tables,
+) -> Result<Terms, RowsFault>
+    requires within { root < length components.now.uses }
+    requires few { most_rows ≤ table_rows }
+    requires named { All (HasPrimitive (length tables)) components.now.components }
+    requires bounded { All IsPrimitive tables }
+    ensures rows { IfOk result (λ made. AreRowsOf (asked components.now root most_depth most_rows) made.rows) }
+    ensures tables { IfOk result (λ made. made.primitives ≡ tables) }
+    ensures fault { IfErr result (IsFaultOf (asked components.now root most_depth most_rows)) }
+    ensures root { IfOk result (λ made. EndsWith (component_at components.now.components root) made.rows) }
+{
+    match rows_of(alloc, components, root, most_depth, most_rows) {
+        Ok(rows) => Ok(built(alloc, rows, tables)),
+        Err(fault) => Err(fault),
+    }
+}
+
+// The terms of rows that are terms.
+fn built(alloc: Global, rows: Vec<Row>, tables: Tables) -> Terms
+    requires some { 0 < vec_len rows }
+    requires few { vec_len rows ≤ table_rows }
+    requires nests { Nests rows.items }
+    requires named { All (NamesWithin (length tables)) rows.items }
+    requires bounded { All IsPrimitive tables }
+    ensures { result ≡ record { rows = rows.items; primitives = tables } }
+{
+    match Terms::build(alloc, rows, tables) {
+        Ok(terms) => terms,
+        Err(_) => unreachable!(),
+    }
+}

@@ -1,0 +1,64 @@
+// How many rows components have, for each component once.
+ghost use Rattle.std.specs.Prelude.{◌≡◌, ◌<◌, ◌+◌, ℕ, length, map, All, get_or, IfOk};
+ghost use Rattle.dfdl_rows.specs.Sizes as sizes;
+ghost use Rattle.dfdl_rows.specs.Saturated.{saturated};
+
+use crate::{Component, Components};
+use std::alloc::{AllocError, Global};
+
+// The rows of a component that are not its parts'.
+fn own_size(component: &Component) -> u64
+    ensures { result ≡ sizes.own_size component.now }
+{
+    match component {
+        Component::Sequence => 1,
+        Component::Reference => 0,
+        Component::ComplexElement { .. } => 1,
+        Component::SimpleElement { .. } => 2,
+    }
+}
+
+// The rows of these components, as far as 64 bits count.
+fn total(parts: &[u32], known: &[u64]) -> u64
+    requires { All (λ p. p < length known.now) parts.now }
+    ensures { result ≡ saturated (sizes.total (map (λ p. get_or known.now p 0) parts.now)) }
+{
+    let mut total = 0u64;
+    for part in parts {
+        total = total.saturating_add(known[*part as usize]);
+    }
+    total
+}
+
+// The number of a component's rows, where it is known for its parts, as far as 64 bits count.
+fn size_at(component: &Component, parts: &[u32], known: &[u64]) -> u64
+    requires { All (λ p. p < length known.now) parts.now }
+    ensures { result ≡ saturated (sizes.own_size component.now
+        + sizes.total (map (λ p. get_or known.now p 0) parts.now)) }
+{
+    own_size(component).saturating_add(total(parts, known))
+}
+
+// The number of each component's rows, as far as 64 bits count.
+fn sizes(alloc: Global, components: &Components) -> Result<Vec<u64>, AllocError>
+    ensures counted { IfOk result (λ made. length made.items ≡ length components.now.uses) }
+    ensures known { IfOk result (λ made. (c : ℕ) → c < length components.now.uses
+        → get_or made.items c 0 ≡ saturated (sizes.size_of components.now c)) }
+{
+    let mut known = vec![in alloc; 0u64; components.count() as usize]?;
+    for number in components.order().list() {
+        let component = components.component(*number);
+        let size = size_at(component, components.parts(*number), known.as_slice());
+        known[*number as usize] = size;
+    }
+    Ok(known)
+}
+
+/// How many rows a component has, as far as 64 bits count.
+pub(crate) fn size(alloc: Global, components: &Components, root: u32) -> Result<u64, AllocError>
+    requires { root < length components.now.uses }
+    ensures { IfOk result (λ found. found ≡ saturated (sizes.size_of components.now root)) }
+{
+    let known = sizes(alloc, components)?;
+    Ok(known[root as usize])
+}

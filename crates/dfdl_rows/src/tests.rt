@@ -1,0 +1,193 @@
+ghost use Rattle.std.specs.Prelude.{All, IfSome, IfOk, ◌≡◌, ◌<◌, length};
+ghost use Rattle.dfdl_rows.specs.Components.{HasPrimitive};
+ghost use Rattle.dfdl_terms.specs.Rows.{IsPrimitive};
+
+use super::*;
+use dfdl_forms::{BitOrder, ByteOrder, IntForm, Simple};
+use dfdl_order::{Uses, order_of};
+use dfdl_report::{LimitCause, Place, SchemaCause};
+use dfdl_terms::{Primitive, RowId, Tables, Terms, field_of_row, root_of_record};
+use dfdl_value::TextValue;
+use std::alloc::{AllocError, Global};
+use std::test::Fail;
+
+// Components while they are gathered.
+#[derive(Drop)]
+struct Gathered {
+    uses: Uses,
+    components: Vec<Component>,
+    refusals: Vec<Option<Refusal>>,
+}
+
+impl Gathered {
+    fn new(alloc: Global) -> Gathered {
+        Gathered {
+            uses: Uses::new(alloc),
+            components: Vec::new(alloc),
+            refusals: Vec::new(alloc),
+        }
+    }
+
+    fn push(&mut self, component: Component, parts: &[u32]) -> Result<(), RowsFault> {
+        let Ok(()) = self.uses.push(parts) else {
+            return Err(RowsFault::OutOfMemory);
+        };
+        self.components.push(component)?;
+        self.refusals.push(None)?;
+        Ok(())
+    }
+
+    fn refuse(&mut self, number: usize, at: u64) {
+        if number < self.refusals.len() {
+            self.refusals[number] = Some(refusal(at));
+        }
+    }
+
+    fn whole(self, alloc: Global) -> Option<Components>
+        ensures { IfSome result (λ c. All (HasPrimitive 1) c.components) }
+    {
+        let Gathered {
+            uses,
+            components,
+            refusals,
+        } = self;
+        if !uses.is_closed() || !are_of_one(&uses, &components, &refusals) {
+            return None;
+        }
+        if !have_primitives(&components, 1) {
+            return None;
+        }
+        let Ok(order) = order_of(alloc, &uses) else {
+            return None;
+        };
+        Some(Components::new(uses, order, components, refusals))
+    }
+}
+
+fn refusal(at: u64) -> Refusal {
+    Refusal {
+        cause: SchemaCause::PropertyMissing,
+        place: Place { document: 0, at },
+    }
+}
+
+fn simple(alloc: Global) -> Result<Component, AllocError> {
+    Ok(Component::SimpleElement {
+        name: TextValue::from_str(alloc, "a")?,
+        simple: Simple::Int,
+        prim: 0,
+    })
+}
+
+fn complex(alloc: Global) -> Result<Component, AllocError> {
+    Ok(Component::ComplexElement {
+        name: TextValue::from_str(alloc, "r")?,
+    })
+}
+
+// A root whose content has an element twice: by a reference that stands before it and by itself.
+fn used_twice(alloc: Global) -> Result<Gathered, RowsFault> {
+    let mut gathered = Gathered::new(alloc);
+    gathered.push(complex(alloc)?, &[1])?;
+    gathered.push(Component::Sequence, &[3, 2])?;
+    gathered.push(simple(alloc)?, &[])?;
+    gathered.push(Component::Reference, &[2])?;
+    Ok(gathered)
+}
+
+// A root over sequences, each of which has the next one twice; the last one is an element.
+fn doubled(alloc: Global, levels: u32) -> Result<Gathered, RowsFault>
+    requires { levels < 100 }
+{
+    let mut gathered = Gathered::new(alloc);
+    gathered.push(complex(alloc)?, &[1])?;
+    for level in 0..levels {
+        gathered.push(Component::Sequence, &[level + 2, level + 2])?;
+    }
+    gathered.push(simple(alloc)?, &[])?;
+    Ok(gathered)
+}
+
+// How many rows the first component has, or why it has none.
+fn count_of(alloc: Global, gathered: Gathered, depth: u32, rows: u32) -> Result<usize, RowsFault> {
+    let Some(components) = gathered.whole(alloc) else {
+        return Err(RowsFault::OutOfMemory);
+    };
+    if components.count() == 0 {
+        return Ok(0);
+    }
+    Ok(rows_of(alloc, &components, 0, depth, rows)?.len())
+}
+
+fn limit(cause: LimitCause, quantity: u32) -> Result<usize, RowsFault> {
+    Err(RowsFault::Limit { cause, quantity })
+}
+
+// One primitive, for all elements.
+fn tables(alloc: Global) -> Result<Tables, AllocError>
+    ensures { IfOk result (λ made. length made ≡ 1 × All IsPrimitive made) }
+{
+    let mut primitives = Vec::new(alloc);
+    primitives.push(Primitive::Integer(IntForm {
+        bits: 32,
+        bytes_by: ByteOrder::Big,
+        bits_by: BitOrder::MostFirst,
+        point: 0,
+        kind: Simple::Int,
+    }))?;
+    Ok(Tables::new(primitives))
+}
+
+// The terms of the first component.
+fn terms(alloc: Global, gathered: Gathered) -> Result<Option<Terms>, RowsFault> {
+    let tables = tables(alloc)?;
+    match gathered.whole(alloc) {
+        Some(components) if components.count() > 0 => {
+            Ok(Some(terms_of(alloc, &components, 0, 2, 6, tables)?))
+        }
+        _ => Ok(None),
+    }
+}
+
+#[test]
+fn gives_rows_once_for_each_use(rt: HostRuntime) -> Result<(), Fail> {
+    let alloc = rt.alloc();
+    let terms = terms(alloc, used_twice(alloc)?)?.expect(&rt, "terms");
+    let root = root_of_record(&terms).expect(&rt, "a root");
+    assert_eq!(rt; root.name, "r");
+    assert_eq!(rt; root.children, [RowId::new(1), RowId::new(3)].as_slice());
+    assert_eq!(rt; field_of_row(&terms, RowId::new(3)).is_some(), true);
+    Ok(())
+}
+
+#[test]
+fn counts_what_is_shared_to_the_limit(rt: HostRuntime) -> Result<(), Fail> {
+    let alloc = rt.alloc();
+    // 14 levels have 3 * 2^14 rows: the root's, 2^14 - 1 of sequences and two for each of 2^14 elements.
+    assert_eq!(rt; count_of(alloc, doubled(alloc, 14)?, 2, 49152), Ok(49152));
+    assert_eq!(rt;
+        count_of(alloc, doubled(alloc, 14)?, 2, 49151),
+        limit(LimitCause::Rows, 49151)
+    );
+    assert_eq!(rt;
+        count_of(alloc, doubled(alloc, 40)?, 2, 65535),
+        limit(LimitCause::Rows, 65535)
+    );
+    Ok(())
+}
+
+#[test]
+fn tells_depth_first_then_the_first_refusal_then_rows(rt: HostRuntime) -> Result<(), Fail> {
+    let alloc = rt.alloc();
+    let mut refused = used_twice(alloc)?;
+    refused.refuse(2, 5);
+    refused.refuse(3, 9);
+    assert_eq!(rt;
+        count_of(alloc, refused, 2, 1),
+        Err(RowsFault::Refused(refusal(9)))
+    );
+    let mut deep = used_twice(alloc)?;
+    deep.refuse(0, 5);
+    assert_eq!(rt; count_of(alloc, deep, 1, 1), limit(LimitCause::Depth, 1));
+    Ok(())
+}

@@ -1,0 +1,10 @@
+pub mod Segments
+pub mod Named
+pub mod Queue
+pub mod Steps
+pub mod Loops
+pub mod Endings
+pub mod Trees
+pub mod Causes
+pub mod Agreed
+pub mod Settled

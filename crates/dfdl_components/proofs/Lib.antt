@@ -1,0 +1,5 @@
+mod Gathering
+mod Indexing
+mod Outward
+mod Searching
+pub mod Consisting

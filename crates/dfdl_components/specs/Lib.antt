@@ -1,0 +1,12 @@
+pub mod Searching
+pub mod Sites
+pub mod Namespaces
+pub mod Globals
+pub mod BuiltIns
+pub mod References
+pub mod Naming
+pub mod Rules
+pub mod Faults
+pub mod Shown
+pub mod Recursion
+pub mod Counting

@@ -3,13 +3,14 @@ use Rattle.std.proofs.Common.{◌≡◌, ◌⊎◌, ℕ, ◌+◌, ◌++◌, IsTr
 use Rattle.std.proofs.Common.{None, Some, Ok, Err, refl, sym, ap, subst, ◌∙◌, arith, append-nil}
 use Rattle.std.proofs.Common.{inl, inr}
 use Rattle.std.proofs.Math.Seq.{take-length}
-use Rattle.dfdl_edge.specs.Faults.{Rose, one_more}
+use Rattle.dfdl_edge.specs.Faults.{Rose}
 use Rattle.dfdl_edge.specs.Files.{FilesSeen}
 use Rattle.dfdl_edge.specs.Sink.{Adds, AddsFront, SinkSeen}
 use Rattle.dfdl_edge.specs.Source.{SourceSeen}
 use Rattle.dfdl_edge.specs.Whole.{IsUsedUp}
 use Rattle.dfdl_report.specs.Lines.{memory_line}
-use Rattle.dfdl_report.specs.declared.cause.LimitCause.TheVariants.{Input, Schema}
+use Rattle.dfdl_report.specs.declared.cause.LimitCause.TheVariants.{Input, Depth, Schema, Schemas, Rows}
+use Rattle.dfdl_documents.specs.Faults.{IsFailed}
 use Rattle.dfdl_terms.specs.Record.{Record}
 use Rattle.dfdl_run.specs.declared.command.Verb.{Verb}
 use Rattle.dfdl_run.specs.declared.answer.Answer.{Answer}
@@ -20,15 +21,15 @@ use Rattle.dfdl_run.specs.declared.stop.Stop.TheVariants.{Usage, FilesFailed, No
 use Rattle.dfdl_run.specs.declared.stop.Stop.TheVariants.{SourceFailed}
 use Rattle.dfdl_run.specs.declared.stop.Stop.TheVariants.{Limit, OutOfMemory}
 use Rattle.dfdl_run.specs.Answer.{End, status_of, written_of, note_of}
-use Rattle.dfdl_run.specs.Decided.{Decided, by_words, by_schema, by_data, IsLoadFault, IsReadEnd}
-use Rattle.dfdl_run.specs.Expects.{Expects, no_command, no_file, long_schema, no_document, no_schema}
-use Rattle.dfdl_run.specs.Expects.{long_input}
+use Rattle.dfdl_run.specs.Decided.{Decided, by_words, by_schema, by_data, AreFewLoads, IsLoadFault, IsReadEnd}
+use Rattle.dfdl_run.specs.Expects.{Expects, no_command, no_documents, no_schema, long_input}
 use Rattle.dfdl_run.specs.Expects.{meant, is_excused, Tells, Gives, NoneFailed, IsAsExpected}
 use Rattle.dfdl_run.specs.Finished.{Finished, all, no_sink, no_memory, Writes}
 use Rattle.dfdl_run.specs.Outside.{Inputs, Outside}
 use Rattle.dfdl_run.specs.Run.{IsRun, FilesFail, SinkFails, SourceFails, is_of_data}
 use Rattle.dfdl_run.specs.Run.{is_before_data}
-use Rattle.dfdl_run.proofs.Rankings.{Ranked, same, files, source, memory, ranked}
+use Rattle.dfdl_run.specs.Schemas.{asked}
+use Rattle.dfdl_run.proofs.Rankings.{LoadingIsOne, Ranked, same, files, source, memory, ranked, due_memory}
 
 adds_front : (old new : Option (List ℕ)) (piece : List ℕ) → Adds old piece new
     → AddsFront old piece new
@@ -56,12 +57,10 @@ same_adds (Some before) (Some now) is =
 memory_excused : (words : List (List ℕ)) (told : Inputs) (b : End) → Expects words told b
     → IsTrue (is_excused b 9)
 memory_excused words told _ (no_command at place) = refl
-memory_excused words told _ (no_file order orders missing) = refl
-memory_excused words told _ (long_schema order schema orders is long) = refl
-memory_excused words told _ (no_document order schema cause at orders is fits broken) = refl
-memory_excused words told _ (no_schema order schema nodes orders is fits tree none) = refl
-memory_excused words told _ (long_input order schema described bytes orders is fits schema_is input_is long) = refl
-memory_excused words told _ (meant order schema described bytes orders is fits schema_is input_is few) = refl
+memory_excused words told _ (no_documents order due orders expects) = due_memory told.files order.schema due expects
+memory_excused words told _ (no_schema order documents cause document at orders there loaded wrong) = refl
+memory_excused words told _ (long_input order documents described bytes orders there loaded schema input_is long) = refl
+memory_excused words told _ (meant order documents described bytes orders there loaded schema input_is few) = refl
 
 -- the statuses of answers are those of data
 of_data : (answer : Answer) → IsTrue (is_of_data (status_of (Ok answer)))
@@ -119,7 +118,10 @@ unwritten_stop (NoDocument cause document at) line = cc
 unwritten_stop (Refused cause document at) line = cc
 unwritten_stop SourceFailed line = cc
 unwritten_stop (Limit Input quantity) line = cc
+unwritten_stop (Limit Depth quantity) line = cc
 unwritten_stop (Limit Schema quantity) line = cc
+unwritten_stop (Limit Schemas quantity) line = cc
+unwritten_stop (Limit Rows quantity) line = cc
 unwritten_stop OutOfMemory line = cc
 
 -- what stops a run before its data is no status of data
@@ -189,14 +191,18 @@ load_still : (before after : FilesSeen) (name : List ℕ) (stop : Stop)
     → IsLoadFault before after name stop
     → ((status_of (Err stop) ≡ 7) ⊎ (status_of (Err stop) ≡ 9) → ⊥) → after.faults ≡ before.faults
 load_still before after name (FilesFailed failed) fault well = absurd (well (inl refl))
-load_still before after name (NoDocument cause document at) fault well = fault.2.still
-load_still before after name (Refused cause document at) fault well = fault.4.still
-load_still before after name (Limit cause quantity) fault well = fault.3.still
-load_still before after name OutOfMemory fault well = absurd (well (inr refl))
+load_still before after name (NoDocument cause document at) fault well =
+    ap (λ (f : FilesSeen). f.faults) fault.refused.seen
+load_still before after name (Refused cause document at) fault well =
+    ap (λ (f : FilesSeen). f.faults) fault.loaded.seen
+load_still before after name (Limit Schema quantity) fault well = ap (λ (f : FilesSeen). f.faults) fault.1.seen
+load_still before after name (Limit Schemas quantity) fault well = ap (λ (f : FilesSeen). f.faults) fault.1.seen
+load_still before after name (Limit cause quantity) fault well = absurd fault
+load_still before after name OutOfMemory fault well = fault
 load_still before after name (Usage word) fault well = absurd fault
 load_still before after name SourceFailed fault well = absurd fault
 
-module _ (words : List (List ℕ)) (before after : Outside) (status : ℕ) (a : End)
+module _ (loading : LoadingIsOne) (words : List (List ℕ)) (before after : Outside) (status : ℕ) (a : End)
     (decided : Decided words before.inputs after.inputs a) (finished : Finished a before.outputs after.outputs status) where
   -- what it is to end so
   abbrev Ends : End → Type 0
@@ -278,7 +284,7 @@ module _ (words : List (List ℕ)) (before after : Outside) (status : ℕ) (a : 
 
   expected : (b : End) → Expects words before.inputs b → IsAsExpected b before after status
   expected b expects =
-      let ranking = ranked before.inputs after.inputs words a b decided expects in
+      let ranking = ranked loading before.inputs after.inputs words a b decided expects in
       let is_exact = exact b ranking finished (memory_excused words before.inputs b expects) in
       record {
         exact = is_exact;
@@ -297,7 +303,7 @@ module _ (words : List (List ℕ)) (before after : Outside) (status : ℕ) (a : 
   source_rises end (by_schema order stop orders is fault loads unread) =
       let same_stop : stop ≡ SourceFailed = let no = sym is ∙ end in cc in
       absurd (subst (λ (s : Stop). IsLoadFault before.inputs.files after.inputs.files order.schema s) same_stop fault)
-  source_rises end (by_data order described orders told loaded loads read) =
+  source_rises end (by_data order described orders found read) =
       subst (λ (e : End). IsReadEnd order.verb described before.inputs.source after.inputs.source e) end read
 
   source_failed : Finished a before.outputs after.outputs status → status ≡ 5
@@ -322,20 +328,20 @@ module _ (words : List (List ℕ)) (before after : Outside) (status : ℕ) (a : 
   names name end gives (by_words at place is untouched) = absurd (let no = sym end ∙ is in cc)
   names name end gives (by_schema order stop orders is fault loads unread) =
       let same_stop : stop ≡ FilesFailed name = let no = sym is ∙ end in cc in
-      let failed : IsLoadFault before.inputs.files after.inputs.files order.schema (FilesFailed name) =
+      let failed : IsFailed before.inputs.files after.inputs.files (asked order.schema) name =
       subst (λ (s : Stop). IsLoadFault before.inputs.files after.inputs.files order.schema s) same_stop fault in
-      let end_is : a ≡ Err (FilesFailed order.schema) = let name_is = failed.0 in cc in
       record {
-        rose = failed.1.rose;
+        rose = failed.rose;
         named = record {
           order = order;
           orders = orders;
-          last = failed.1.last;
+          name = name;
+          failed = failed;
           told =
-              subst (λ (e : End). Tells (note_of e) before.outputs.notes after.outputs.notes) end_is gives.told;
+              subst (λ (e : End). Tells (note_of e) before.outputs.notes after.outputs.notes) end gives.told;
         };
       }
-  names name end gives (by_data order described orders told loaded loads read) =
+  names name end gives (by_data order described orders found read) =
       absurd (subst (λ (e : End). IsReadEnd order.verb described before.inputs.source after.inputs.source e) end read)
 
   files_failed : Finished a before.outputs after.outputs status → status ≡ 7
@@ -377,12 +383,12 @@ module _ (words : List (List ℕ)) (before after : Outside) (status : ℕ) (a : 
       → IsTrue (is_before_data status) → after.inputs.source ≡ before.inputs.source
   unread end (by_words at place is untouched) early = ap (λ (i : Inputs). i.source) untouched
   unread end (by_schema order stop orders is fault loads kept) early = kept
-  unread (all gives still) (by_data order described orders told loaded loads read) early =
+  unread (all gives still) (by_data order described orders found read) early =
       absurd (read_late order.verb described before.inputs.source after.inputs.source a read
       (subst (λ (s : ℕ). IsTrue (is_before_data s)) gives.status_is early))
-  unread (no_sink line number rose written told) (by_data order described orders told' loaded loads read) early =
+  unread (no_sink line number rose written told) (by_data order described orders found read) early =
       absurd (let no : IsTrue (is_before_data 6) = subst (λ (s : ℕ). IsTrue (is_before_data s)) number early in cc)
-  unread (no_memory number none told) (by_data order described orders told' loaded loads read) early =
+  unread (no_memory number none told) (by_data order described orders found read) early =
       absurd (let no : IsTrue (is_before_data 9) = subst (λ (s : ℕ). IsTrue (is_before_data s)) number early in cc)
 
   unloaded : Finished a before.outputs after.outputs status
@@ -396,11 +402,11 @@ module _ (words : List (List ℕ)) (before after : Outside) (status : ℕ) (a : 
       no_usage (inl own) =
           load_late before.inputs.files after.inputs.files order.schema stop fault (sym own ∙ four)
       no_usage (inr none) = absurd (omega arith)
-  unloaded (all gives still) (by_data order described orders told loaded loads read) four =
+  unloaded (all gives still) (by_data order described orders found read) four =
       absurd (read_late order.verb described before.inputs.source after.inputs.source a read
       (subst (λ (s : ℕ). IsTrue (is_before_data s)) (sym four ∙ gives.status_is) refl))
-  unloaded (no_sink line number rose written told) (by_data order described orders told' loaded loads read) four = absurd (omega arith)
-  unloaded (no_memory number none told) (by_data order described orders told' loaded loads read) four = absurd (omega arith)
+  unloaded (no_sink line number rose written told) (by_data order described orders found read) four = absurd (omega arith)
+  unloaded (no_memory number none told) (by_data order described orders found read) four = absurd (omega arith)
 
   used_up : Finished a before.outputs after.outputs status
       → Decided words before.inputs after.inputs a
@@ -413,7 +419,7 @@ module _ (words : List (List ℕ)) (before after : Outside) (status : ℕ) (a : 
       absurd (stop_early (Usage (at + 1)) (subst (λ (s : ℕ). IsTrue (is_of_data s)) (gives.status_is ∙ ap status_of is) of))
   used_up (all gives still) (by_schema order stop orders is fault loads kept) of =
       absurd (stop_early stop (subst (λ (s : ℕ). IsTrue (is_of_data s)) (gives.status_is ∙ ap status_of is) of))
-  used_up (all gives still) (by_data order described orders told loaded loads read) of =
+  used_up (all gives still) (by_data order described orders found read) of =
       read_used order.verb described before.inputs.source after.inputs.source a read
       (subst (λ (s : ℕ). IsTrue (is_of_data s)) gives.status_is of)
 
@@ -431,7 +437,7 @@ module _ (words : List (List ℕ)) (before after : Outside) (status : ℕ) (a : 
       ap (λ (i : Inputs). i.source.faults) untouched
   source_still end (by_schema order stop orders is fault loads kept) not_failed some =
       ap (λ (s : SourceSeen). s.faults) kept
-  source_still end (by_data order described orders told loaded loads read) not_failed some =
+  source_still end (by_data order described orders found read) not_failed some =
       read_still order.verb described before.inputs.source after.inputs.source a read
       (λ is. either (stopped SourceFailed is end))
     where
@@ -453,15 +459,18 @@ module _ (words : List (List ℕ)) (before after : Outside) (status : ℕ) (a : 
       either (inl own) (inl failed) = not_failed (own ∙ failed)
       either (inl own) (inr none) = some (own ∙ none)
       either (inr none) number = some none
-  files_still end (by_data order described orders told loaded loads read) not_failed some =
-      loaded.still
+  files_still end (by_data order described orders found read) not_failed some =
+      ap (λ (f : FilesSeen). f.faults) found.loaded.seen
 
-  few_loads : Decided words before.inputs after.inputs a
-      → (after.inputs.files.loads ≡ before.inputs.files.loads)
-      ⊎ (after.inputs.files.loads ≡ one_more before.inputs.files.loads)
-  few_loads (by_words at place is untouched) = inl (ap (λ (i : Inputs). i.files.loads) untouched)
-  few_loads (by_schema order stop orders is fault loads kept) = inr loads
-  few_loads (by_data order described orders told loaded loads read) = inr loads
+  few_loads : Decided words before.inputs after.inputs a → AreFewLoads before.inputs.files after.inputs.files
+  few_loads (by_words at place is untouched) =
+      record { n = 0; few = omega arith; loads = ap (λ (i : Inputs). i.files.loads) untouched }
+  few_loads (by_schema order stop orders is fault loads kept) = loads
+  few_loads (by_data order described orders found read) = record {
+    n = length found.documents;
+    few = found.loaded.are.few;
+    loads = ap (λ (f : FilesSeen). f.loads) found.loaded.seen;
+  }
 
   pub run_is : IsRun words before after status
   run_is = record {

@@ -11,4 +11,3 @@ pub mod Readings
 pub mod Unparsings
 pub mod WholeRecords
 pub mod Words
-pub mod Causes

@@ -1,18 +1,25 @@
 -- What a run has decided is what is expected of it, or an end that comes before that.
-use Rattle.std.proofs.Common.{◌≡◌, ℕ, ◌+◌, ◌<◌, ◌≤◌, IsTrue, List, length, Option, Some, IfSome, Ok}
-use Rattle.std.proofs.Common.{Err, refl, sym, ap, subst, ◌∙◌, arith}
+use Rattle.std.proofs.Common.{◌≡◌, ◌⊎◌, ℕ, zero, suc, ◌+◌, ◌<◌, ◌≤◌, IsTrue, List, length, Option, Some, IfSome, Ok}
+use Rattle.std.proofs.Common.{Err, refl, sym, ap, subst, ◌∙◌, inl, inr, arith}
 use Rattle.dfdl_fronts.specs.Fronts.{IsPlace}
 use Rattle.dfdl_fronts.proofs.Places.{one_place}
 use Rattle.dfdl_edge.specs.Faults.{Rose}
-use Rattle.dfdl_report.specs.declared.cause.SchemaCause.TheVariants.{OutsideSubset}
-use Rattle.dfdl_report.specs.declared.cause.LimitCause.TheVariants.{Input, Schema}
-use Rattle.dfdl_report.specs.declared.cause.DocCause.{DocCause}
-use Rattle.dfdl_report.specs.Causes.{document_number}
-use Rattle.dfdl_markup.specs.Documents.{IsRefusedBy, IsTreeOf}
-use Rattle.dfdl_markup.specs.Trees.{Node}
-use Rattle.dfdl_markup.proofs.Fewer.{one_refusal, no_tree}
+use Rattle.dfdl_edge.specs.Files.{FilesSeen}
+use Rattle.dfdl_report.specs.declared.cause.SchemaCause.{SchemaCause}
+use Rattle.dfdl_report.specs.declared.cause.LimitCause.TheVariants.{Input, Schema, Schemas}
+use Rattle.dfdl_documents.specs.Documents.{SchemaDocument}
+use Rattle.dfdl_documents.specs.Loading.{AreLoaded, document_at}
+use Rattle.dfdl_documents.specs.Faults.{EndsBy, Request}
+use Rattle.dfdl_documents.specs.Told.{AreTold, IsDue, IsUntold}
+use Rattle.dfdl_documents.specs.declared.fault.DocumentsFault.{DocumentsFault}
+use Rattle.dfdl_documents.specs.declared.fault.DocumentsFault.TheVariants as fault
+use Rattle.dfdl_report.specs.declared.place.Place.{Place}
+use Rattle.dfdl_markup.specs.Trees.{node_at}
+use Rattle.dfdl_components.specs.declared.site.Site.{Site}
+use Rattle.dfdl_components.specs.Sites.{StandsBefore, nodes_of}
+use Rattle.dfdl_components.specs.Rules.{AllKeep, IsFirst, Rule, loading_rules}
+use Rattle.dfdl_components.specs.Faults.{IsRefused}
 use Rattle.dfdl_terms.specs.Record.{Record}
-use Rattle.dfdl_compile.specs.Schema.{IsSchema}
 use Rattle.dfdl_run.specs.declared.stop.Stop.{Stop}
 use Rattle.dfdl_run.specs.declared.stop.Stop.TheVariants.{Usage, FilesFailed, NoDocument, Refused}
 use Rattle.dfdl_run.specs.declared.stop.Stop.TheVariants.{SourceFailed}
@@ -21,13 +28,14 @@ use Rattle.dfdl_run.specs.declared.command.Verb.{Verb}
 use Rattle.dfdl_run.specs.declared.command.Verb.TheVariants.{Parse, Unparse}
 use Rattle.dfdl_run.specs.Answer.{End}
 use Rattle.dfdl_run.specs.Command.{Order, Orders, IsCommand, verb_word}
-use Rattle.dfdl_run.specs.Decided.{Decided, by_words, by_schema, by_data, IsLoadFault, IsLoaded, IsNoDocument}
-use Rattle.dfdl_run.specs.Decided.{IsMeant, IsNoSchema, IsReadEnd, IsSchemaOf}
-use Rattle.dfdl_run.specs.Expects.{Expects, no_command, no_file, long_schema, no_document, no_schema, long_input}
-use Rattle.dfdl_run.proofs.Causes.{one_cause_of}
-use Rattle.dfdl_run.specs.Expects.{meant, is_excused, most_schema, most_input}
+use Rattle.dfdl_run.specs.Decided.{Decided, by_words, by_schema, by_data, IsDescribed, IsLoadFault}
+use Rattle.dfdl_run.specs.Decided.{IsMeant, IsReadEnd}
+use Rattle.dfdl_run.specs.Expects.{Expects, no_command, no_documents, no_schema, long_input}
+use Rattle.dfdl_run.specs.Expects.{meant, is_excused, most_input}
 use Rattle.dfdl_run.specs.Meaning.{answer_of}
 use Rattle.dfdl_run.specs.Outside.{Inputs}
+use Rattle.dfdl_run.specs.Schemas.{AreDocuments, IsNoSchema, IsSchemaOf, breaks, no_record, asked, stop_of}
+use Rattle.dfdl_run.proofs.Loads.{one_record}
 
 -- the end that was decided is the expected one, or one that comes before it
 pub data Ranked (before after : Inputs) (decided expected : End) : Type 0 where
@@ -62,92 +70,187 @@ at_told : (P : List ℕ → Type 0) (o : Option (List ℕ)) (bytes : List ℕ) �
     → P bytes
 at_told P o bytes is told = subst (λ (o : Option (List ℕ)). IfSome o P) is told
 
--- what the bytes of the schema file leave to be expected
-data Leaves (schema name : List ℕ) : End → Type 0 where
-  too_long : most_schema < length schema → Leaves schema name (Err (Limit Schema most_schema))
-  unreadable : (cause : DocCause) (at : ℕ) → length schema ≤ most_schema
-      → IsRefusedBy schema at (document_number cause)
-      → Leaves schema name (Err (NoDocument cause name at))
-  refused : (nodes : List Node) → length schema ≤ most_schema → IsTreeOf schema nodes
-      → ((described : Record) → IsSchema schema described → ⊥)
-      → Leaves schema name (Err (Refused OutsideSubset name 0))
-  good : (described : Record) (end : End) → length schema ≤ most_schema → IsSchema schema described
-      → IsTrue (is_excused end 7) → IsTrue (is_excused end 9) → Leaves schema name end
+-- where a fault is due, a failed load comes before
+due_files : (seen : FilesSeen) (name : List ℕ) (due : DocumentsFault) → IsDue seen (asked name) due
+    → IsTrue (is_excused (Err (stop_of due)) 7)
+due_files seen name (fault.Files missing) is_due = refl
+due_files seen name (fault.Document cause place document) is_due = refl
+due_files seen name (fault.Limit Schema quantity) is_due = refl
+due_files seen name (fault.Limit Schemas quantity) is_due = refl
+due_files seen name (fault.Limit cause quantity) is_due = absurd is_due
+due_files seen name fault.OutOfMemory is_due = absurd is_due
 
-module _ (before after : Inputs) where
-  -- there is no schema: the file has not been loaded, or is none
-  load_ranked : (schema name : List ℕ) (stop : Stop) (b : End)
-      → before.files.content name ≡ Some schema
-      → IsLoadFault before.files after.files name stop → Leaves schema name b
+-- and want of memory
+pub due_memory : (seen : FilesSeen) (name : List ℕ) (due : DocumentsFault) → IsDue seen (asked name) due
+    → IsTrue (is_excused (Err (stop_of due)) 9)
+due_memory seen name (fault.Files missing) is_due = refl
+due_memory seen name (fault.Document cause place document) is_due = refl
+due_memory seen name (fault.Limit Schema quantity) is_due = refl
+due_memory seen name (fault.Limit Schemas quantity) is_due = refl
+due_memory seen name (fault.Limit cause quantity) is_due = absurd is_due
+due_memory seen name fault.OutOfMemory is_due = absurd is_due
+
+-- what is known of the loading of documents: where it is told what the files are, it has one end
+pub record LoadingIsOne : Type 0 where
+  pub documents : (files : FilesSeen) (request : Request) (a b : List SchemaDocument)
+      → AreLoaded files request.most request.schemas request.first a
+      → AreLoaded files request.most request.schemas request.first b → AreTold files b → a ≡ b
+  pub no_fault_due : (files : FilesSeen) (request : Request) (a : List SchemaDocument) (due : DocumentsFault)
+      → AreLoaded files request.most request.schemas request.first a → IsDue files request due → ⊥
+  pub no_fault : (before after : FilesSeen) (request : Request) (found : DocumentsFault) (b : List SchemaDocument)
+      → EndsBy before after request found → AreLoaded before request.most request.schemas request.first b
+      → AreTold before b → IsUntold found
+  pub fault_due : (before after : FilesSeen) (request : Request) (found due : DocumentsFault)
+      → EndsBy before after request found → IsDue before request due → (found ≡ due) ⊎ IsUntold found
+
+-- of two elements one stands before the other, or they are one
+sites : (a b : Site) → StandsBefore a b ⊎ ((a ≡ b) ⊎ StandsBefore b a)
+sites a b = elim (by_number a.document b.document) [
+  | inl less ↦ inl (inl less)
+  | inr (inr less) ↦ inr (inr (inl less))
+  | inr (inl same_document) ↦ elim (by_number a.element b.element) [
+    | inl less ↦ inl (inr (same_document, less))
+    | inr (inr less) ↦ inr (inr (inr (sym same_document, less)))
+    | inr (inl same_element) ↦ inr (inl (ap (λ n. let s : Site = record { document = n; element = a.element } in s) same_document
+        ∙ ap (λ n. let s : Site = record { document = b.document; element = n } in s) same_element))
+  ]
+]
+  where
+    by_number : (n m : ℕ) → (n < m) ⊎ ((n ≡ m) ⊎ (m < n))
+    by_number zero zero = inr (inl refl)
+    by_number zero (suc m) = inl (omega arith)
+    by_number (suc n) zero = inr (inr (omega arith))
+    by_number (suc n) (suc m) = elim (by_number n m) [
+      | inl less ↦ inl (omega arith)
+      | inr (inl as_many) ↦ inr (inl (ap suc as_many))
+      | inr (inr less) ↦ inr (inr (omega arith))
+    ]
+
+-- the first element that breaks a rule is one
+one_first : (rules : List Rule) (documents : List SchemaDocument) (a b : Site) (x y : SchemaCause)
+    → IsFirst rules documents a x → IsFirst rules documents b y → (a ≡ b) × (x ≡ y)
+one_first rules documents a b x y first second = elim (sites a b) [
+  | inl less ↦ absurd (let none = second.before a first.within less in let some = first.broken in cc)
+  | inr (inr less) ↦ absurd (let none = first.before b second.within less in let some = second.broken in cc)
+  | inr (inl is) ↦ (is, let some = first.broken in let others = second.broken in cc)
+]
+
+-- documents that break a rule are refused in one way
+one_broken : (documents : List SchemaDocument) (a b : SchemaCause) (p q : Place) (document name : List ℕ)
+    → IsRefused documents a p document → IsRefused documents b q name
+    → (a ≡ b) × ((document ≡ name) × (p.at ≡ q.at))
+one_broken documents a b p q document name first second =
+    let one = one_first (loading_rules documents) documents first.own second.own a b first.first second.first in (
+      one.1,
+      (
+        first.named ∙ ap (λ (s : Site). (document_at documents s.document).name) one.0 ∙ sym second.named,
+        first.at ∙ ap (λ (s : Site). (node_at (nodes_of documents s.document) s.element).at) one.0 ∙ sym second.at,
+      ),
+    )
+
+-- the ends that tell these refusals
+alike : (a b : SchemaCause) (document name : List ℕ) (at byte : ℕ) → (a ≡ b) × ((document ≡ name) × (at ≡ byte))
+    → (let e : End = Err (Refused a document at) in e) ≡ Err (Refused b name byte)
+alike a b document name at byte same_data =
+    let causes = same_data.0 in let names = same_data.1.0 in let bytes = same_data.1.1 in cc
+
+-- documents that keep all rules break none
+keeps_all : (documents : List SchemaDocument) (cause : SchemaCause) (place : Place) (name : List ℕ)
+    → AllKeep (loading_rules documents) documents → IsRefused documents cause place name → ⊥
+keeps_all documents cause place name keeps refused =
+    let none = keeps refused.own refused.first.within in let some = refused.first.broken in cc
+
+-- documents that are refused as a schema are refused in one way
+one_refused : (documents : List SchemaDocument) (a b : SchemaCause) (document name : List ℕ) (at byte : ℕ)
+    → IsNoSchema documents a document at → IsNoSchema documents b name byte
+    → (let e : End = Err (Refused a document at) in e) ≡ Err (Refused b name byte)
+one_refused documents _ _ _ _ _ _ (breaks a p document first) (breaks b q name second) =
+    alike a b document name p.at q.at (one_broken documents a b p q document name first second)
+one_refused documents _ _ _ _ _ _ (breaks a p document first) (no_record keeps none) =
+    absurd (keeps_all documents a p document keeps first)
+one_refused documents _ _ _ _ _ _ (no_record keeps none) (breaks b q name second) =
+    absurd (keeps_all documents b q name keeps second)
+one_refused documents _ _ _ _ _ _ (no_record keeps none) (no_record keeps' none') = refl
+
+-- a schema of a record is not refused
+no_refusal : (documents : List SchemaDocument) (cause : SchemaCause) (document : List ℕ) (at : ℕ) (described : Record)
+    → IsNoSchema documents cause document at → IsSchemaOf documents described → ⊥
+no_refusal documents _ _ _ described (breaks cause place name refused) schema =
+    keeps_all documents cause place name schema.keeps refused
+no_refusal documents _ _ _ described (no_record keeps none) schema = none described schema.tree
+
+module _ (loading : LoadingIsOne) (before after : Inputs) where
+  abbrev Fault : List ℕ → Stop → Type 0
+  Fault name stop = IsLoadFault before.files after.files name stop
+
+  -- the loading has ended in the way that is due, or by a failed load
+  of_ends : (name : List ℕ) (found due : DocumentsFault) → EndsBy before.files after.files (asked name) found
+      → IsDue before.files (asked name) due → (found ≡ due) ⊎ IsUntold found
+      → Ranked before after (Err (stop_of found)) (Err (stop_of due))
+  of_ends name found due ends is_due (inl is) = same (ap (λ (f : DocumentsFault). let e : End = Err (stop_of f) in e) is)
+  of_ends name (fault.Files failed) due ends is_due (inr untold) =
+      files failed refl ends.rose (due_files before.files name due is_due)
+  of_ends name fault.OutOfMemory due ends is_due (inr untold) = memory refl (due_memory before.files name due is_due)
+  of_ends name (fault.Document cause place document) due ends is_due (inr untold) = absurd untold
+  of_ends name (fault.Limit cause quantity) due ends is_due (inr untold) = absurd untold
+
+  ends_ranked : (name : List ℕ) (found due : DocumentsFault) → EndsBy before.files after.files (asked name) found
+      → IsDue before.files (asked name) due → Ranked before after (Err (stop_of found)) (Err (stop_of due))
+  ends_ranked name found due ends is_due =
+      of_ends name found due ends is_due (loading.fault_due before.files after.files (asked name) found due ends is_due)
+
+  -- there is no schema, and the documents are due to end
+  due_ranked : (name : List ℕ) (stop : Stop) (due : DocumentsFault) → Fault name stop
+      → IsDue before.files (asked name) due → Ranked before after (Err stop) (Err (stop_of due))
+  due_ranked name (FilesFailed failed) due fault_is expects = ends_ranked name (fault.Files failed) due fault_is expects
+  due_ranked name OutOfMemory due fault_is expects = memory refl (due_memory before.files name due expects)
+  due_ranked name (Limit cause quantity) due fault_is expects =
+      ends_ranked name (fault.Limit cause quantity) due fault_is expects
+  due_ranked name (NoDocument cause document at) due fault_is expects =
+      subst (λ (byte : ℕ). Ranked before after (Err (NoDocument cause document byte)) (Err (stop_of due))) fault_is.place_is
+      (ends_ranked name (fault.Document cause fault_is.place document) due fault_is.refused expects)
+  due_ranked name (Refused cause document at) due fault_is expects =
+      absurd (loading.no_fault_due before.files (asked name) fault_is.documents due fault_is.loaded.are expects)
+  due_ranked name (Usage word) due fault_is expects = absurd fault_is
+  due_ranked name SourceFailed due fault_is expects = absurd fault_is
+
+  -- a failed load or want of memory, where all documents are there
+  of_untold : (name : List ℕ) (found : DocumentsFault) (b : End) → EndsBy before.files after.files (asked name) found
+      → IsUntold found → IsTrue (is_excused b 7) → IsTrue (is_excused b 9) → Ranked before after (Err (stop_of found)) b
+  of_untold name (fault.Files failed) b ends untold seven nine = files failed refl ends.rose seven
+  of_untold name fault.OutOfMemory b ends untold seven nine = memory refl nine
+  of_untold name (fault.Document cause place document) b ends untold seven nine = absurd untold
+  of_untold name (fault.Limit cause quantity) b ends untold seven nine = absurd untold
+
+  -- the documents are not all loaded, although they are there
+  loaded_ranked : (name : List ℕ) (documents : List SchemaDocument) (found : DocumentsFault) (b : End)
+      → EndsBy before.files after.files (asked name) found
+      → AreTold before.files documents → AreDocuments before.files name documents
+      → IsTrue (is_excused b 7) → IsTrue (is_excused b 9) → Ranked before after (Err (stop_of found)) b
+  loaded_ranked name documents found b ends told loaded seven nine =
+      of_untold name found b ends (loading.no_fault before.files after.files (asked name) found documents ends loaded told) seven nine
+
+  -- there is no schema, although the documents are there; where they are refused, `refused_is` tells it
+  there_ranked : (name : List ℕ) (documents : List SchemaDocument) (stop : Stop) (b : End) → Fault name stop
+      → AreTold before.files documents → AreDocuments before.files name documents
+      → IsTrue (is_excused b 7) → IsTrue (is_excused b 9)
+      → ((cause : SchemaCause) (document : List ℕ) (at : ℕ) → stop ≡ Refused cause document at
+      → IsNoSchema documents cause document at → Ranked before after (Err stop) b)
       → Ranked before after (Err stop) b
-  load_ranked schema name (FilesFailed failed) _ is fault (too_long long) =
-      files failed refl fault.1.rose refl
-  load_ranked schema name (FilesFailed failed) _ is fault (unreadable why where_at fits broken) =
-      files failed refl fault.1.rose refl
-  load_ranked schema name (FilesFailed failed) _ is fault (refused nodes fits tree none) =
-      files failed refl fault.1.rose refl
-  load_ranked schema name (FilesFailed failed) _ is fault (good described end fits schema_is seven nine) =
-      files failed refl fault.1.rose seven
-  load_ranked schema name OutOfMemory _ is fault (too_long long) = memory refl refl
-  load_ranked schema name OutOfMemory _ is fault (unreadable why where_at fits broken) = memory refl refl
-  load_ranked schema name OutOfMemory _ is fault (refused nodes fits tree none) = memory refl refl
-  load_ranked schema name OutOfMemory _ is fault (good described end fits schema_is seven nine) =
-      memory refl nine
-  load_ranked schema name (Limit cause quantity) _ is fault (too_long long) =
-      same (let cause_is = fault.0 in let quantity_is = fault.1 in cc)
-  load_ranked schema name (Limit cause quantity) _ is fault (unreadable why where_at fits broken) =
-      let long =
-      at_told (λ all. most_schema < length all) _ schema is fault.2 in absurd (omega arith)
-  load_ranked schema name (Limit cause quantity) _ is fault (refused nodes fits tree none) =
-      let long =
-      at_told (λ all. most_schema < length all) _ schema is fault.2 in absurd (omega arith)
-  load_ranked schema name (Limit cause quantity) _ is fault (good described end fits schema_is seven nine) =
-      let long =
-      at_told (λ all. most_schema < length all) _ schema is fault.2 in absurd (omega arith)
-  load_ranked schema name (NoDocument cause document at) _ is fault (too_long long) =
-      let none : IsNoDocument cause at schema =
-      at_told (IsNoDocument cause at) _ schema is fault.1 in
-      let fits = none.fits in absurd (omega arith)
-  load_ranked schema name (NoDocument cause document at) _ is fault (unreadable why where_at fits broken) =
-      let none : IsNoDocument cause at schema =
-      at_told (IsNoDocument cause at) _ schema is fault.1 in
-      let one = one_refusal schema at where_at (document_number cause) (document_number why) none.refused broken in
-      let why_is : cause ≡ why = one_cause_of cause why one.1 in
-      let at_is : at ≡ where_at = one.0 in
-      same (let document_is = fault.0 in cc)
-  load_ranked schema name (NoDocument cause document at) _ is fault (refused nodes fits tree none) =
-      let no : IsNoDocument cause at schema = at_told (IsNoDocument cause at) _ schema is fault.1 in
-      absurd (no_tree schema at (document_number cause) nodes no.refused tree)
-  load_ranked schema name (NoDocument cause document at) _ is fault (good described end fits schema_is seven nine) =
-      let no : IsNoDocument cause at schema = at_told (IsNoDocument cause at) _ schema is fault.1 in
-      absurd (no_tree schema at (document_number cause) schema_is.nodes no.refused schema_is.document)
-  load_ranked schema name (Refused cause document at) _ is fault (too_long long) =
-      let none : IsNoSchema schema =
-      at_told IsNoSchema _ schema is fault.3 in let fits = none.fits in absurd (omega arith)
-  load_ranked schema name (Refused cause document at) _ is fault (unreadable why where_at fits broken) =
-      let none : IsNoSchema schema =
-      at_told IsNoSchema _ schema is fault.3 in
-      absurd (no_tree schema where_at (document_number why) none.nodes broken none.tree)
-  load_ranked schema name (Refused cause document at) _ is fault (refused nodes fits tree none) =
-      same (let cause_is = fault.0 in let document_is = fault.1 in let at_is = fault.2 in cc)
-  load_ranked schema name (Refused cause document at) _ is fault (good described end fits schema_is seven nine) =
-      let none : IsNoSchema schema =
-      at_told IsNoSchema _ schema is fault.3 in absurd (none.none described schema_is)
-  load_ranked schema name (Usage word) _ is fault leaves = absurd fault
-  load_ranked schema name SourceFailed _ is fault leaves = absurd fault
-
-  -- there is no file
-  missing_ranked : (name : List ℕ) (stop : Stop) → IsTrue (before.files.is_missing name)
-      → IsLoadFault before.files after.files name stop
-      → Ranked before after (Err stop) (Err (FilesFailed name))
-  missing_ranked name (FilesFailed failed) missing fault =
-      same (ap (λ (n : List ℕ). let e : End = Err (FilesFailed n) in e) fault.0)
-  missing_ranked name OutOfMemory missing fault = memory refl refl
-  missing_ranked name (Limit cause quantity) missing fault = absurd (fault.3.there missing)
-  missing_ranked name (NoDocument cause document at) missing fault = absurd (fault.2.there missing)
-  missing_ranked name (Refused cause document at) missing fault = absurd (fault.4.there missing)
-  missing_ranked name (Usage word) missing fault = absurd fault
-  missing_ranked name SourceFailed missing fault = absurd fault
+  there_ranked name documents (FilesFailed failed) b fault_is told loaded seven nine refused_is =
+      loaded_ranked name documents (fault.Files failed) b fault_is told loaded seven nine
+  there_ranked name documents OutOfMemory b fault_is told loaded seven nine refused_is = memory refl nine
+  there_ranked name documents (Limit cause quantity) b fault_is told loaded seven nine refused_is =
+      loaded_ranked name documents (fault.Limit cause quantity) b fault_is told loaded seven nine
+  there_ranked name documents (NoDocument cause document at) b fault_is told loaded seven nine refused_is =
+      subst (λ (byte : ℕ). Ranked before after (Err (NoDocument cause document byte)) b) fault_is.place_is
+      (loaded_ranked name documents (fault.Document cause fault_is.place document) b fault_is.refused told loaded seven nine)
+  there_ranked name documents (Refused cause document at) b fault_is told loaded seven nine refused_is =
+      refused_is cause document at refl
+      (subst (λ (ds : List SchemaDocument). IsNoSchema ds cause document at)
+      (loading.documents before.files (asked name) fault_is.documents documents fault_is.loaded.are loaded told) fault_is.refused)
+  there_ranked name documents (Usage word) b fault_is told loaded seven nine refused_is = absurd fault_is
+  there_ranked name documents SourceFailed b fault_is told loaded seven nine refused_is = absurd fault_is
 
   -- the source gives too many bytes
   long_ranked : (bytes : List ℕ) (verb : Verb) (described : Record) (a : End)
@@ -192,90 +295,73 @@ module _ (before after : Inputs) where
     at_words at a _ place is (no_command other place') =
         same (is
         ∙ ap (λ (n : ℕ). let e : End = Err (Usage (n + 1)) in e) (one_place IsCommand words at other place place'))
-    at_words at a _ place is (no_file order orders missing) = absurd (place.no_text (order, orders))
-    at_words at a _ place is (long_schema order schema orders file_is long) =
+    at_words at a _ place is (no_documents order due orders expects) = absurd (place.no_text (order, orders))
+    at_words at a _ place is (no_schema order documents cause document byte orders told loaded wrong) =
         absurd (place.no_text (order, orders))
-    at_words at a _ place is (no_document order schema cause byte orders file_is fits broken) =
+    at_words at a _ place is (long_input order documents described bytes orders told loaded schema input_is long) =
         absurd (place.no_text (order, orders))
-    at_words at a _ place is (no_schema order schema nodes orders file_is fits tree none) =
+    at_words at a _ place is (meant order documents described bytes orders told loaded schema input_is few) =
         absurd (place.no_text (order, orders))
-    at_words at a _ place is (long_input order schema described bytes orders file_is fits schema_is input_is long) =
-        absurd (place.no_text (order, orders))
-    at_words at a _ place is (meant order schema described bytes orders file_is fits schema_is input_is few) =
-        absurd (place.no_text (order, orders))
+
+    -- a fault under the name that another order of the same words has
+    renamed : (order other : Order) (stop : Stop) → Orders words order → Orders words other
+        → Fault order.schema stop → Fault other.schema stop
+    renamed order other stop orders others fault_is =
+        subst (λ (n : List ℕ). Fault n stop) (orders_schema words order other orders others) fault_is
 
     at_schema : (order : Order) (stop : Stop) (b : End) → Orders words order
-        → IsLoadFault before.files after.files order.schema stop → Expects words before b
-        → Ranked before after (Err stop) b
-    at_schema order stop _ orders fault (no_command at place) =
+        → Fault order.schema stop → Expects words before b → Ranked before after (Err stop) b
+    at_schema order stop _ orders fault_is (no_command at place) =
         absurd (place.no_text (order, orders))
-    at_schema order stop _ orders fault (no_file other others missing) =
-        missing_ranked other.schema stop missing
-        (subst (λ (n : List ℕ). IsLoadFault before.files after.files n stop) (orders_schema words order other orders others) fault)
-    at_schema order stop _ orders fault (long_schema other schema others file_is long) =
-        load_ranked schema other.schema stop _ file_is
-        (subst (λ (n : List ℕ). IsLoadFault before.files after.files n stop) (orders_schema words order other orders others) fault)
-        (too_long long)
-    at_schema order stop _ orders fault (no_document other schema cause byte others file_is fits broken) =
-        load_ranked schema other.schema stop _ file_is
-        (subst (λ (n : List ℕ). IsLoadFault before.files after.files n stop) (orders_schema words order other orders others) fault)
-        (unreadable cause byte fits broken)
-    at_schema order stop _ orders fault (no_schema other schema nodes others file_is fits tree none) =
-        load_ranked schema other.schema stop _ file_is
-        (subst (λ (n : List ℕ). IsLoadFault before.files after.files n stop) (orders_schema words order other orders others) fault)
-        (refused nodes fits tree none)
-    at_schema order stop _ orders fault (long_input other schema described bytes others file_is fits schema_is input_is long) =
-        load_ranked schema other.schema stop _ file_is
-        (subst (λ (n : List ℕ). IsLoadFault before.files after.files n stop) (orders_schema words order other orders others) fault)
-        (good described _ fits schema_is refl refl)
-    at_schema order stop _ orders fault (meant other schema described bytes others file_is fits schema_is input_is few) =
-        load_ranked schema other.schema stop _ file_is
-        (subst (λ (n : List ℕ). IsLoadFault before.files after.files n stop) (orders_schema words order other orders others) fault)
-        (good described _ fits schema_is refl refl)
+    at_schema order stop _ orders fault_is (no_documents other due others expects) =
+        due_ranked other.schema stop due (renamed order other stop orders others fault_is) expects
+    at_schema order stop _ orders fault_is (no_schema other documents cause document byte others told loaded wrong) =
+        there_ranked other.schema documents stop _ (renamed order other stop orders others fault_is) told loaded refl refl
+        (λ found name at is refused. same (ap (λ (s : Stop). let e : End = Err s in e) is
+        ∙ one_refused documents found cause name document at byte refused wrong))
+    at_schema order stop _ orders fault_is (long_input other documents described bytes others told loaded schema input_is long) =
+        there_ranked other.schema documents stop _ (renamed order other stop orders others fault_is) told loaded refl refl
+        (λ found name at is refused. absurd (no_refusal documents found name at described refused schema))
+    at_schema order stop _ orders fault_is (meant other documents described bytes others told loaded schema input_is few) =
+        there_ranked other.schema documents stop _ (renamed order other stop orders others fault_is) told loaded refl refl
+        (λ found name at is refused. absurd (no_refusal documents found name at described refused schema))
 
-    -- the schema, where another order of the same words has its bytes
-    schema_of : (order other : Order) (described : Record) (schema : List ℕ) → Orders words order
-        → Orders words other
-        → IfSome (before.files.content order.schema) (IsSchemaOf described)
-        → before.files.content other.schema ≡ Some schema
-        → IsSchemaOf described schema
-    schema_of order other described schema orders others told is =
-        at_told (IsSchemaOf described) _ schema (ap before.files.content (orders_schema words order other orders others) ∙ is) told
+    -- the loaded documents are a schema, where another order of the same words has all of them
+    schema_of : (order other : Order) (described : Record) (documents : List SchemaDocument)
+        → Orders words order → Orders words other
+        → IsDescribed before.files after.files order.schema described
+        → AreTold before.files documents → AreDocuments before.files other.schema documents
+        → IsSchemaOf documents described
+    schema_of order other described documents orders others found told loaded =
+        subst (λ (ds : List SchemaDocument). IsSchemaOf ds described)
+        (loading.documents before.files (asked other.schema) found.documents documents
+        (subst (λ (n : List ℕ). AreDocuments before.files n found.documents) (orders_schema words order other orders others) found.loaded.are) loaded told)
+        found.schema
 
     at_data : (order : Order) (described : Record) (a b : End) → Orders words order
-        → IfSome (before.files.content order.schema) (IsSchemaOf described)
-        → IsLoaded before.files after.files order.schema
+        → IsDescribed before.files after.files order.schema described
         → IsReadEnd order.verb described before.source after.source a → Expects words before b
         → Ranked before after a b
-    at_data order described a _ orders told loaded read (no_command at place) =
+    at_data order described a _ orders found read (no_command at place) =
         absurd (place.no_text (order, orders))
-    at_data order described a _ orders told loaded read (no_file other others missing) =
-        absurd (loaded.there (subst (λ (n : List ℕ). IsTrue (before.files.is_missing n)) (sym (orders_schema words order other orders others)) missing))
-    at_data order described a _ orders told loaded read (long_schema other schema others file_is long) =
-        let of : IsSchemaOf described schema =
-        schema_of order other described schema orders others told file_is in
-        let fits = of.fits in absurd (omega arith)
-    at_data order described a _ orders told loaded read (no_document other schema cause byte others file_is fits broken) =
-        let of : IsSchemaOf described schema =
-        schema_of order other described schema orders others told file_is in
-        absurd (no_tree schema byte (document_number cause) of.schema_is.nodes broken of.schema_is.document)
-    at_data order described a _ orders told loaded read (no_schema other schema nodes others file_is fits tree none) =
-        let of : IsSchemaOf described schema =
-        schema_of order other described schema orders others told file_is in
-        absurd (none described of.schema_is)
-    at_data order described a _ orders told loaded read (long_input other schema described' bytes others file_is fits schema_is input_is long) =
+    at_data order described a _ orders found read (no_documents other due others expects) =
+        absurd (loading.no_fault_due before.files (asked other.schema) found.documents due
+        (subst (λ (n : List ℕ). AreDocuments before.files n found.documents) (orders_schema words order other orders others) found.loaded.are) expects)
+    at_data order described a _ orders found read (no_schema other documents cause document byte others told loaded wrong) =
+        absurd (no_refusal documents cause document byte described wrong (schema_of order other described documents orders others found told loaded))
+    at_data order described a _ orders found read (long_input other documents described' bytes others told loaded schema input_is long) =
         long_ranked bytes order.verb described a long input_is read
-    at_data order described a _ orders told loaded read (meant other schema described' bytes others file_is fits schema_is input_is few) =
-        let of : IsSchemaOf described schema =
-        schema_of order other described schema orders others told file_is in
+    at_data order described a _ orders found read (meant other documents described' bytes others told loaded schema input_is few) =
+        let same_record : described ≡ described' =
+        one_record (document_at documents 0).nodes described described' (schema_of order other described documents orders others found told loaded).tree schema.tree in
         subst (λ (v : Verb). Ranked before after a (Ok (answer_of v described' bytes))) (orders_verb words order other orders others)
-        (subst (λ (d : Record). Ranked before after a (Ok (answer_of order.verb d bytes))) (sym (of.only described' schema_is))
+        (subst (λ (d : Record). Ranked before after a (Ok (answer_of order.verb d bytes))) same_record
         (meant_ranked bytes order.verb described a few input_is read))
 
     pub ranked : (a b : End) → Decided words before after a → Expects words before b
         → Ranked before after a b
     ranked a b (by_words at place is untouched) expects = at_words at a b place is expects
-    ranked a b (by_schema order stop orders is fault loads unread) expects =
-        subst (λ (e : End). Ranked before after e b) (sym is) (at_schema order stop b orders fault expects)
-    ranked a b (by_data order described orders told loaded loads read) expects =
-        at_data order described a b orders told loaded read expects
+    ranked a b (by_schema order stop orders is fault_is loads unread) expects =
+        subst (λ (e : End). Ranked before after e b) (sym is) (at_schema order stop b orders fault_is expects)
+    ranked a b (by_data order described orders found read) expects =
+        at_data order described a b orders found read expects

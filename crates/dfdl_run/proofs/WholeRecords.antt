@@ -27,7 +27,6 @@ use Rattle.dfdl_compile.specs.Schema.{kind_prefixed, name_at, only, root_name, r
 use Rattle.dfdl_compile.specs.Schema.{Outline, IsRecordTree, bits_of, field_of, form_of}
 use Rattle.dfdl_compile.specs.Schema.{integer_form, is_field, kind_of, order_of}
 use Rattle.dfdl_compile.specs.Schema.{outline_of, outline_record}
-use Rattle.dfdl_run.specs.Loaded.{AreTermsOf}
 
 -- the type is unsigned, and has this many whole bytes
 record IsWholeKind (kind : Simple) : Type 0 where
@@ -146,12 +145,10 @@ tree_whole nodes described tree =
           ]) refl some
     ]) tree.shape
 
--- the record that loaded terms are
-pub loaded_whole : (bytes : List ℕ) (terms : Table) → AreTermsOf bytes terms → (described : Record)
-    → record_of terms ≡ Some described → IsWholeRecord described
-loaded_whole bytes terms loaded described is =
-    let same : loaded.described ≡ described = let terms_are = loaded.terms_are in cc in
-    subst IsWholeRecord same (record { whole = tree_whole loaded.schema.nodes loaded.described loaded.schema.tree; different = loaded.schema.tree.different })
+-- the record that elements are a schema of
+pub whole_record : (nodes : List Node) (described : Record) → IsRecordTree nodes described
+    → IsWholeRecord described
+whole_record nodes described tree = record { whole = tree_whole nodes described tree; different = tree.different }
 
 -- ---- the names of a schema's record are texts
 

@@ -1,19 +1,19 @@
 -- What a run has found out before it writes anything.
-use Rattle.std.specs.Prelude.{◌≡◌, ℕ, ◌+◌, ◌≤◌, List, length, IsTrue, IfSome, Ok, Err}
+use Rattle.std.specs.Prelude.{◌≡◌, ℕ, ◌+◌, ◌≤◌, List, length, IfSome, Ok, Err}
 use Rattle.dfdl_fronts.specs.Fronts.{IsPlace}
-use Rattle.dfdl_edge.specs.Faults.{Rose, one_more}
+use Rattle.dfdl_edge.specs.Faults.{Rose}
 use Rattle.dfdl_edge.specs.Files.{FilesSeen}
 use Rattle.dfdl_edge.specs.Source.{SourceSeen}
-use Rattle.dfdl_edge.specs.Told.{IsLonger, IsNowLast}
+use Rattle.dfdl_edge.specs.Told.{IsLonger}
 use Rattle.dfdl_edge.specs.Whole.{IsUsedUp}
-use Rattle.dfdl_report.specs.declared.cause.SchemaCause.TheVariants.{OutsideSubset}
-use Rattle.dfdl_report.specs.declared.cause.LimitCause.TheVariants.{Input, Schema}
+use Rattle.dfdl_report.specs.declared.cause.SchemaCause.{SchemaCause}
+use Rattle.dfdl_report.specs.declared.cause.LimitCause.TheVariants.{Input}
 use Rattle.dfdl_report.specs.declared.cause.DocCause.{DocCause}
-use Rattle.dfdl_report.specs.Causes.{document_number}
-use Rattle.dfdl_markup.specs.Documents.{IsRefusedBy, IsTreeOf}
-use Rattle.dfdl_markup.specs.Trees.{Node}
+use Rattle.dfdl_report.specs.declared.place.Place.{Place}
+use Rattle.dfdl_documents.specs.Documents.{SchemaDocument}
+use Rattle.dfdl_documents.specs.Loading.{IsCounted, after_loads}
+use Rattle.dfdl_documents.specs.Faults.{IsFailed, IsLimit, IsNoDocument}
 use Rattle.dfdl_terms.specs.Record.{Record}
-use Rattle.dfdl_compile.specs.Schema.{IsSchema}
 use Rattle.dfdl_run.specs.declared.answer.Answer.{Answer}
 use Rattle.dfdl_run.specs.declared.stop.Stop.{Stop}
 use Rattle.dfdl_run.specs.declared.stop.Stop.TheVariants.{Usage, FilesFailed, NoDocument, Refused}
@@ -22,53 +22,52 @@ use Rattle.dfdl_run.specs.declared.stop.Stop.TheVariants.{Limit, OutOfMemory}
 use Rattle.dfdl_run.specs.declared.command.Verb.{Verb}
 use Rattle.dfdl_run.specs.Answer.{End}
 use Rattle.dfdl_run.specs.Command.{Order, Orders, IsCommand}
-use Rattle.dfdl_run.specs.Expects.{most_schema, most_input}
+use Rattle.dfdl_run.specs.Expects.{most_input}
 use Rattle.dfdl_run.specs.Meaning.{answer_of}
 use Rattle.dfdl_run.specs.Outside.{Inputs}
+use Rattle.dfdl_run.specs.Schemas.{AreDocuments, IsNoSchema, IsSchemaOf, asked, most_schemas}
 
--- the schema file is not too long, and a schema of this record and of no other
-pub record IsSchemaOf (described : Record) (schema : List ℕ) : Type 0 where
-  pub fits : length schema ≤ most_schema
-  pub schema_is : IsSchema schema described
-  pub only : (other : Record) → IsSchema schema other → other ≡ described
+-- all documents of the schema were loaded, each by one load that did not fail
+pub record AreLoadedOnce (before after : FilesSeen) (name : List ℕ) (documents : List SchemaDocument)
+    : Type 0 where
+  pub are : AreDocuments before name documents
+  pub seen : after ≡ after_loads (length documents) before
 
--- the schema file is not too long, and no document from this byte on
-pub record IsNoDocument (cause : DocCause) (at : ℕ) (schema : List ℕ) : Type 0 where
-  pub fits : length schema ≤ most_schema
-  pub refused : IsRefusedBy schema at (document_number cause)
+-- the documents are loaded, and a schema of this record
+pub record IsDescribed (before after : FilesSeen) (name : List ℕ) (described : Record) : Type 0 where
+  pub documents : List SchemaDocument
+  pub loaded : AreLoadedOnce before after name documents
+  pub schema : IsSchemaOf documents described
 
--- the schema file is not too long, and a document that is no schema
-pub record IsNoSchema (schema : List ℕ) : Type 0 where
-  pub fits : length schema ≤ most_schema
-  pub nodes : List Node
-  pub tree : IsTreeOf schema nodes
-  pub none : (described : Record) → IsSchema schema described → ⊥
+-- the documents are loaded, and refused as a schema at this byte of the document of this name
+pub record IsRefusedSchema (before after : FilesSeen) (name : List ℕ) (cause : SchemaCause)
+    (document : List ℕ) (at : ℕ) : Type 0 where
+  pub documents : List SchemaDocument
+  pub loaded : AreLoadedOnce before after name documents
+  pub refused : IsNoSchema documents cause document at
 
--- a load that did not fail: it is not told that there is no such file, and no fault was counted
-pub record IsLoaded (before after : FilesSeen) (name : List ℕ) : Type 0 where
-  pub there : IsTrue (before.is_missing name) → ⊥
-  pub still : after.faults ≡ before.faults
-
--- the load failed, and this name is now the one last failed
-pub record IsNotLoaded (before after : FilesSeen) (name : List ℕ) : Type 0 where
-  pub rose : Rose before.faults after.faults
-  pub last : IsNowLast before.last_failed name after.last_failed
+-- the file of this name, the next one to be loaded, is no document from this byte on
+pub record IsUnreadable (before after : FilesSeen) (name : List ℕ) (cause : DocCause)
+    (document : List ℕ) (at : ℕ) : Type 0 where
+  pub place : Place
+  pub place_is : place.at ≡ at
+  pub refused : IsNoDocument before after (asked name) cause place document
 
 -- there is no schema, for what stops the run
 abbrev pub IsLoadFault : FilesSeen → FilesSeen → List ℕ → Stop → Type 0
-IsLoadFault before after name (FilesFailed failed) = (failed ≡ name) × IsNotLoaded before after name
-IsLoadFault before after name OutOfMemory = Unit {0}
-IsLoadFault before after name (Limit cause quantity) =
-    (cause ≡ Schema) × (quantity ≡ most_schema) × IsLonger (before.content name) most_schema
-    × IsLoaded before after name
+IsLoadFault before after name (FilesFailed failed) = IsFailed before after (asked name) failed
+IsLoadFault before after name OutOfMemory = after.faults ≡ before.faults
+IsLoadFault before after name (Limit cause quantity) = IsLimit before after (asked name) cause quantity
 IsLoadFault before after name (NoDocument cause document at) =
-    (document ≡ name) × IfSome (before.content name) (IsNoDocument cause at)
-    × IsLoaded before after name
+    IsUnreadable before after name cause document at
 IsLoadFault before after name (Refused cause document at) =
-    (cause ≡ OutsideSubset) × (document ≡ name) × (at ≡ 0) × IfSome (before.content name) IsNoSchema
-    × IsLoaded before after name
+    IsRefusedSchema before after name cause document at
 IsLoadFault before after name (Usage word) = ⊥
 IsLoadFault before after name SourceFailed = ⊥
+
+-- files were loaded, no more than a schema may have documents
+abbrev pub AreFewLoads : FilesSeen → FilesSeen → Type 0
+AreFewLoads before after = IsCounted most_schemas before.loads after.loads
 
 -- the bytes fit their limit and come to this answer
 pub record IsMeant (verb : Verb) (described : Record) (answer : Answer)
@@ -97,17 +96,15 @@ IsReadEnd verb described before after (Err (NoDocument cause document at)) = ⊥
 IsReadEnd verb described before after (Err (Refused cause document at)) = ⊥
 
 -- What was decided, by the stage at which it was. Where the words decide, nothing is loaded; else
--- one file is, the schema. Only where the data decides is the source touched.
+-- the documents of the schema are. Only where the data decides is the source touched.
 pub data Decided (words : List (List ℕ)) (before after : Inputs) (end : End) : Type 0 where
   by_words : (at : ℕ) → IsPlace IsCommand words at → end ≡ Err (Usage (at + 1)) → after ≡ before
       → Decided words before after end
   by_schema : (order : Order) (stop : Stop) → Orders words order → end ≡ Err stop
       → IsLoadFault before.files after.files order.schema stop
-      → after.files.loads ≡ one_more before.files.loads
+      → AreFewLoads before.files after.files
       → after.source ≡ before.source → Decided words before after end
   by_data : (order : Order) (described : Record) → Orders words order
-      → IfSome (before.files.content order.schema) (IsSchemaOf described)
-      → IsLoaded before.files after.files order.schema
-      → after.files.loads ≡ one_more before.files.loads
+      → IsDescribed before.files after.files order.schema described
       → IsReadEnd order.verb described before.source after.source end
       → Decided words before after end

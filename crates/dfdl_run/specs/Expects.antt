@@ -4,14 +4,12 @@ use Rattle.std.specs.Prelude.{IsTrue, List, length, Some, Ok, Err}
 use Rattle.dfdl_fronts.specs.Fronts.{IsPlace}
 use Rattle.dfdl_edge.specs.Faults.{Rose}
 use Rattle.dfdl_edge.specs.Sink.{Adds, AddsFront, SinkSeen}
-use Rattle.dfdl_report.specs.declared.cause.SchemaCause.TheVariants.{OutsideSubset}
-use Rattle.dfdl_report.specs.declared.cause.LimitCause.TheVariants.{Input, Schema}
-use Rattle.dfdl_report.specs.declared.cause.DocCause.{DocCause}
-use Rattle.dfdl_report.specs.Causes.{document_number}
-use Rattle.dfdl_markup.specs.Documents.{IsRefusedBy, IsTreeOf}
-use Rattle.dfdl_markup.specs.Trees.{Node}
+use Rattle.dfdl_report.specs.declared.cause.SchemaCause.{SchemaCause}
+use Rattle.dfdl_report.specs.declared.cause.LimitCause.TheVariants.{Input}
+use Rattle.dfdl_documents.specs.Documents.{SchemaDocument}
+use Rattle.dfdl_documents.specs.Told.{AreTold, IsDue}
+use Rattle.dfdl_documents.specs.declared.fault.DocumentsFault.{DocumentsFault}
 use Rattle.dfdl_terms.specs.Record.{Record}
-use Rattle.dfdl_compile.specs.Schema.{IsSchema}
 use Rattle.dfdl_run.specs.declared.stop.Stop.TheVariants.{Usage, FilesFailed, NoDocument, Refused}
 use Rattle.dfdl_run.specs.declared.stop.Stop.TheVariants.{SourceFailed}
 use Rattle.dfdl_run.specs.declared.stop.Stop.TheVariants.{Limit, OutOfMemory}
@@ -19,51 +17,39 @@ use Rattle.dfdl_run.specs.Answer.{End, is_written, note_of, status_of, written_o
 use Rattle.dfdl_run.specs.Command.{Order, Orders, IsCommand}
 use Rattle.dfdl_run.specs.Meaning.{answer_of}
 use Rattle.dfdl_run.specs.Outside.{Inputs, Outputs, Outside}
-
--- the most bytes of a schema file
-abbrev pub most_schema : ℕ
-most_schema = 4194304
+use Rattle.dfdl_run.specs.Schemas.{AreDocuments, IsNoSchema, IsSchemaOf, asked, stop_of}
 
 -- the most bytes of the source
 abbrev pub most_input : ℕ
 most_input = 2 ^ 30
 
 -- The end of a run on these words, as far as the bytes of the files and of the source are told. The
--- words count first, then the schema file, then the document in it, then the schema, then the
--- source, then the infoset, then the meaning.
+-- words count first, then the documents of the schema, then the schema, then the source, then the
+-- infoset, then the meaning.
 pub data Expects (words : List (List ℕ)) (told : Inputs) : End → Type 0 where
   -- the words are no command from word `at` on
   no_command : (at : ℕ) → IsPlace IsCommand words at → Expects words told (Err (Usage (at + 1)))
-  -- there is no schema file
-  no_file : (order : Order) → Orders words order → IsTrue (told.files.is_missing order.schema)
-      → Expects words told (Err (FilesFailed order.schema))
-  -- the schema file is longer than the limit
-  long_schema : (order : Order) (schema : List ℕ) → Orders words order
-      → told.files.content order.schema ≡ Some schema
-      → most_schema < length schema → Expects words told (Err (Limit Schema most_schema))
-  -- the schema file is no document from this byte on
-  no_document : (order : Order) (schema : List ℕ) (cause : DocCause) (at : ℕ) → Orders words order
-      → told.files.content order.schema ≡ Some schema
-      → length schema ≤ most_schema → IsRefusedBy schema at (document_number cause)
-      → Expects words told (Err (NoDocument cause order.schema at))
-  -- the document is no schema
-  no_schema : (order : Order) (schema : List ℕ) (nodes : List Node) → Orders words order
-      → told.files.content order.schema ≡ Some schema
-      → length schema ≤ most_schema → IsTreeOf schema nodes
-      → ((described : Record) → IsSchema schema described → ⊥)
-      → Expects words told (Err (Refused OutsideSubset order.schema 0))
+  -- a document of the schema is not there, too long, none, or one too many
+  no_documents : (order : Order) (fault : DocumentsFault) → Orders words order
+      → IsDue told.files (asked order.schema) fault → Expects words told (Err (stop_of fault))
+  -- the documents are no schema
+  no_schema : (order : Order) (documents : List SchemaDocument) (cause : SchemaCause)
+      (document : List ℕ) (at : ℕ) → Orders words order
+      → AreTold told.files documents → AreDocuments told.files order.schema documents
+      → IsNoSchema documents cause document at
+      → Expects words told (Err (Refused cause document at))
   -- the source gives a byte past the limit
-  long_input : (order : Order) (schema : List ℕ) (described : Record) (bytes : List ℕ)
-      → Orders words order
-      → told.files.content order.schema ≡ Some schema → length schema ≤ most_schema
-      → IsSchema schema described
+  long_input : (order : Order) (documents : List SchemaDocument) (described : Record)
+      (bytes : List ℕ) → Orders words order
+      → AreTold told.files documents → AreDocuments told.files order.schema documents
+      → IsSchemaOf documents described
       → told.source.left ≡ Some bytes → most_input < length bytes
       → Expects words told (Err (Limit Input most_input))
   -- the bytes are parsed or unparsed
-  meant : (order : Order) (schema : List ℕ) (described : Record) (bytes : List ℕ)
+  meant : (order : Order) (documents : List SchemaDocument) (described : Record) (bytes : List ℕ)
       → Orders words order
-      → told.files.content order.schema ≡ Some schema → length schema ≤ most_schema
-      → IsSchema schema described
+      → AreTold told.files documents → AreDocuments told.files order.schema documents
+      → IsSchemaOf documents described
       → told.source.left ≡ Some bytes → length bytes ≤ most_input
       → Expects words told (Ok (answer_of order.verb described bytes))
 
@@ -71,11 +57,11 @@ pub data Expects (words : List (List ℕ)) (told : Inputs) : End → Type 0 wher
 -- source and `out` where a call on them failed before, and that of want of memory
 abbrev pub is_excused : End → ℕ → Bool
 is_excused (Err (Usage word)) status = status == 9
-is_excused (Err (FilesFailed name)) status = status == 9
-is_excused (Err (Limit Schema quantity)) status = status == 7 || status == 9
+is_excused (Err (FilesFailed name)) status = status == 7 || status == 9
+is_excused (Err (Limit Input quantity)) status = status == 5 || status == 7 || status == 9
+is_excused (Err (Limit cause quantity)) status = status == 7 || status == 9
 is_excused (Err (NoDocument cause document at)) status = status == 7 || status == 9
 is_excused (Err (Refused cause document at)) status = status == 7 || status == 9
-is_excused (Err (Limit Input quantity)) status = status == 5 || status == 7 || status == 9
 is_excused (Ok answer) status =
     status == 5 || status == 7 || status == 9 || (status == 6 && is_written answer)
 is_excused (Err SourceFailed) status = false

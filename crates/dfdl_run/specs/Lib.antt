@@ -4,9 +4,9 @@ pub mod CommandShown
 pub mod Decided
 pub mod Expects
 pub mod Finished
-pub mod Loaded
 pub mod Meaning
 pub mod Outside
 pub mod RecordReading
 pub mod RoundTrip
 pub mod Run
+pub mod Schemas

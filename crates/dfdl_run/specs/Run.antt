@@ -1,16 +1,17 @@
 -- One run, by what is seen of the outside before and after it, and by its exit status.
-use Rattle.std.specs.Prelude.{◌≡◌, ◌⊎◌, ℕ, ◌||◌, ◌==◌, Bool, IsTrue, List, []}
-use Rattle.dfdl_edge.specs.Faults.{Rose, one_more}
+use Rattle.std.specs.Prelude.{◌≡◌, ℕ, ◌||◌, ◌==◌, Bool, IsTrue, List, []}
+use Rattle.dfdl_edge.specs.Faults.{Rose}
 use Rattle.dfdl_edge.specs.Sink.{Adds}
-use Rattle.dfdl_edge.specs.Told.{IsNowLast}
 use Rattle.dfdl_edge.specs.Whole.{IsUsedUp}
+use Rattle.dfdl_documents.specs.Faults.{IsFailed}
 use Rattle.dfdl_report.specs.Lines.{files_line, memory_line, sink_line, source_line}
 use Rattle.dfdl_run.specs.Answer.{End}
 use Rattle.dfdl_run.specs.Command.{Order, Orders}
-use Rattle.dfdl_run.specs.Decided.{Decided}
+use Rattle.dfdl_run.specs.Decided.{AreFewLoads, Decided}
 use Rattle.dfdl_run.specs.Expects.{Expects, IsAsExpected, Tells}
 use Rattle.dfdl_run.specs.Finished.{Finished}
 use Rattle.dfdl_run.specs.Outside.{Outside}
+use Rattle.dfdl_run.specs.Schemas.{asked}
 
 -- the statuses of runs whose data came to something
 abbrev pub is_of_data : ℕ → Bool
@@ -20,12 +21,13 @@ is_of_data status = status == 0 || status == 1 || status == 3 || status == 11 ||
 abbrev pub is_before_data : ℕ → Bool
 is_before_data status = status == 2 || status == 4 || status == 7
 
--- the schema file of the command is the one last failed, and the note names it
+-- the file of a document of the command's schema is the one last failed, and the note names it
 pub record NamesFile (words : List (List ℕ)) (before after : Outside) : Type 0 where
   pub order : Order
   pub orders : Orders words order
-  pub last : IsNowLast before.inputs.files.last_failed order.schema after.inputs.files.last_failed
-  pub told : Tells (files_line order.schema) before.outputs.notes after.outputs.notes
+  pub name : List ℕ
+  pub failed : IsFailed before.inputs.files after.inputs.files (asked order.schema) name
+  pub told : Tells (files_line name) before.outputs.notes after.outputs.notes
 
 -- a call on the source has failed in this run, and the note tells it
 pub record SourceFails (before after : Outside) : Type 0 where
@@ -70,6 +72,5 @@ pub record IsRun (words : List (List ℕ)) (before after : Outside) (status : �
       → after.inputs.source.faults ≡ before.inputs.source.faults
   pub files_still : (status ≡ 7 → ⊥) → (status ≡ 9 → ⊥)
       → after.inputs.files.faults ≡ before.inputs.files.faults
-  -- at most one file is loaded
-  pub loads : (after.inputs.files.loads ≡ before.inputs.files.loads)
-      ⊎ (after.inputs.files.loads ≡ one_more before.inputs.files.loads)
+  -- no more files are loaded than a schema may have documents
+  pub loads : AreFewLoads before.inputs.files after.inputs.files

@@ -5,6 +5,7 @@ ghost use Rattle.dfdl_run.specs.Run.{IsRun};
 use crate::chooser::Chooser;
 use crate::deciding::decide;
 use crate::delivery::finish;
+use dfdl_documents::laws::loading_is_one;
 use dfdl_edge::{Files, Patterns, Sink, Source};
 use std::alloc::Global;
 
@@ -34,6 +35,7 @@ pub fn run<S: Source, K: Sink, N: Sink, F: Files, C: Chooser, P: Patterns>(
     ensures chooser { chooser.new ≡ chooser.old }
     ensures patterns { patterns.new ≡ patterns.old }
 {
+    loading_is_one();
     let _ = chooser;
     let _ = patterns;
     let end = decide(alloc, words, files, source);

@@ -410,14 +410,12 @@ fn words_that_are_no_command(rt: HostRuntime) -> Result<(), Fail> {
 
 #[test]
 fn documents_outside_of_the_form(rt: HostRuntime) -> Result<(), Fail> {
-    let cases: [(&str, &str); 8] = [
+    let cases: [(&str, &str); 6] = [
         ("name=\"b\"", "name=\"a\""),
         (" dfdl:byteOrder=\"bigEndian\"", ""),
         ("bigEndian", "middleEndian"),
         ("dfdl-1.0/\"", "dfdl-1.0\""),
-        ("name=\"r\"", "name=\"p:r\""),
         ("xs:unsignedByte", "xs:byte"),
-        ("xs:unsignedByte", "unsignedByte"),
         ("dfdl:byteOrder", "byteOrder"),
     ];
     for (part, other) in cases {
@@ -431,6 +429,36 @@ fn documents_outside_of_the_form(rt: HostRuntime) -> Result<(), Fail> {
             2,
             "",
             NO_SCHEMA,
+        )?;
+    }
+    Ok(())
+}
+
+#[test]
+fn rules_that_are_broken(rt: HostRuntime) -> Result<(), Fail> {
+    let cases = [
+        (
+            "name=\"r\"",
+            "name=\"p:r\"",
+            "error C4 at s.xsd:103: attribute value not allowed\n",
+        ),
+        (
+            "xs:unsignedByte",
+            "unsignedByte",
+            "error C1 at s.xsd:181: name not found\n",
+        ),
+    ];
+    for (part, other, note) in cases {
+        let schema = schema_with(&rt, part, other)?;
+        ends(
+            &rt,
+            &Given {
+                schema: schema.as_str(),
+                ..PARSE
+            },
+            2,
+            "",
+            note,
         )?;
     }
     Ok(())

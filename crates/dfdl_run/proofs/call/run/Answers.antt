@@ -2,4 +2,10 @@ use Rattle.dfdl_run.proofs.Ends.{run_is}
 use Rattle.dfdl_run.proofs.call.run.Goals as goal
 
 pub returns-clause-run : goal.returns-clause-run
-returns-clause-run g c = run_is _ _ _ _ _ c.decide-end.ensures c.finish.ensures
+returns-clause-run g c =
+    run_is (record {
+      documents = c.loading_is_one.ensures.documents;
+      no_fault_due = c.loading_is_one.ensures.no_fault_due;
+      no_fault = c.loading_is_one.ensures.no_fault;
+      fault_due = c.loading_is_one.ensures.fault_due;
+    }) _ _ _ _ _ c.decide-end.ensures c.finish.ensures

@@ -13,9 +13,9 @@ returns-in-Ok-load_terms g c =
     let some =
     described_by (record_of c.in-Ok-load_terms.terms) c.in-Ok-load_terms.ensures.described in
     by_data (order_shown c.in-Ok.command) some.0 c.in-Ok.ensures.ok (c.in-Ok-load_terms.ensures.ok some.0 some.1)
-    c.in-Ok-load_terms.ensures.loaded c.in-Ok-load_terms.ensures.one_load (c.read_answer.ensures some.0 some.1)
+    (c.read_answer.ensures some.0 some.1)
 
 pub returns-in-Err-load_terms : goal.returns-in-Err-load_terms
 returns-in-Err-load_terms g c =
     by_schema (order_shown c.in-Ok.command) _ c.in-Ok.ensures.ok refl c.in-Err-load_terms.ensures.err
-    c.in-Err-load_terms.ensures.one_load refl
+    c.in-Err-load_terms.ensures.few refl

@@ -1,0 +1,65 @@
+-- The schema of a run: its documents, the limits on them, and what they have to be.
+use Rattle.std.specs.Prelude.{◌≡◌, ℕ, List}
+use Rattle.dfdl_report.specs.declared.cause.SchemaCause.{SchemaCause}
+use Rattle.dfdl_report.specs.declared.cause.SchemaCause.TheVariants.{OutsideSubset}
+use Rattle.dfdl_report.specs.declared.place.Place.{Place}
+use Rattle.dfdl_edge.specs.Files.{FilesSeen}
+use Rattle.dfdl_documents.specs.Documents.{SchemaDocument}
+use Rattle.dfdl_documents.specs.Loading.{AreLoaded, document_at}
+use Rattle.dfdl_documents.specs.Faults.{Request, request}
+use Rattle.dfdl_documents.specs.declared.fault.DocumentsFault.{DocumentsFault}
+use Rattle.dfdl_documents.specs.declared.fault.DocumentsFault.TheVariants as fault
+use Rattle.dfdl_components.specs.declared.fault.SchemaFault.{SchemaFault}
+use Rattle.dfdl_components.specs.declared.fault.SchemaFault.TheVariants as schema
+use Rattle.dfdl_components.specs.Rules.{AllKeep, loading_rules}
+use Rattle.dfdl_components.specs.Faults.{IsRefused}
+use Rattle.dfdl_terms.specs.Record.{Record}
+use Rattle.dfdl_compile.specs.Schema.{IsRecordTree}
+use Rattle.dfdl_run.specs.declared.stop.Stop.{Stop}
+use Rattle.dfdl_run.specs.declared.stop.Stop.TheVariants.{FilesFailed, NoDocument, Refused, Limit, OutOfMemory}
+
+-- the most bytes of a schema document
+abbrev pub most_schema : ℕ
+most_schema = 4194304
+
+-- the most documents of a schema
+abbrev pub most_schemas : ℕ
+most_schemas = 64
+
+-- how the documents of the schema of this name are asked for
+abbrev pub asked : List ℕ → Request
+asked name = request most_schema most_schemas name
+
+-- these are the documents of the schema of this name
+abbrev pub AreDocuments : FilesSeen → List ℕ → List SchemaDocument → Type 0
+AreDocuments files name documents = AreLoaded files most_schema most_schemas name documents
+
+-- what stops a run whose documents are not all loaded
+abbrev pub stop_of : DocumentsFault → Stop
+stop_of (fault.Files name) = FilesFailed name
+stop_of (fault.Document cause place name) = NoDocument cause name place.at
+stop_of (fault.Limit cause quantity) = Limit cause quantity
+stop_of fault.OutOfMemory = OutOfMemory
+
+-- what stops a run whose schema is not loaded
+abbrev pub schema_stop : SchemaFault → Stop
+schema_stop (schema.Files name) = FilesFailed name
+schema_stop (schema.Doc cause place name) = NoDocument cause name place.at
+schema_stop (schema.Schema cause place name) = Refused cause name place.at
+schema_stop (schema.Limit cause quantity) = Limit cause quantity
+schema_stop schema.OutOfMemory = OutOfMemory
+
+-- the documents are a schema of this record: they keep all rules, and the first of them describes it
+pub record IsSchemaOf (documents : List SchemaDocument) (described : Record) : Type 0 where
+  pub keeps : AllKeep (loading_rules documents) documents
+  pub tree : IsRecordTree (document_at documents 0).nodes described
+
+-- Why documents are no schema of a record, with the name of a document and a byte of it.
+pub data IsNoSchema (documents : List SchemaDocument) : SchemaCause → List ℕ → ℕ → Type 0 where
+  -- an element that begins there breaks a rule, the first one that does
+  breaks : (cause : SchemaCause) (place : Place) (name : List ℕ) → IsRefused documents cause place name
+      → IsNoSchema documents cause name place.at
+  -- they keep all rules, and the first of them describes no record, which is told at its first byte
+  no_record : AllKeep (loading_rules documents) documents
+      → ((described : Record) → IsRecordTree (document_at documents 0).nodes described → ⊥)
+      → IsNoSchema documents OutsideSubset (document_at documents 0).name 0

@@ -7,7 +7,7 @@ use Rattle.dfdl_markup.specs.Documents.{IsRefusedBy, IsTreeOf}
 use Rattle.dfdl_markup.specs.Trees.{Node}
 use Rattle.dfdl_report.specs.Causes.{document_number}
 use Rattle.dfdl_report.specs.declared.cause.DocCause.{DocCause}
-use Rattle.dfdl_report.specs.declared.cause.LimitCause.TheVariants.{Input, Depth, Schema, Schemas, Rows}
+use Rattle.dfdl_report.specs.declared.cause.LimitCause.TheVariants.{Input, Window, Nodes, Text, Depth, Schema, Schemas, Rows}
 use Rattle.dfdl_report.specs.declared.place.Place.{Place}
 use Rattle.dfdl_documents.specs.declared.fault.DocumentsFault.{DocumentsFault}
 use Rattle.dfdl_documents.specs.declared.fault.DocumentsFault.TheVariants as fault
@@ -193,6 +193,9 @@ module _ (no_tree : (bytes : List ℕ) (at n : ℕ) (nodes : List Node) → IsRe
     not_due files asked a (fault.Limit Schemas quantity) left u =
         loaded_or_due files asked a u.1.documents u.1.name left u.1.told (many_are_due files asked u.1)
     not_due files asked a (fault.Limit Input quantity) left u = u
+    not_due files asked a (fault.Limit Window quantity) left u = u
+    not_due files asked a (fault.Limit Nodes quantity) left u = u
+    not_due files asked a (fault.Limit Text quantity) left u = u
     not_due files asked a (fault.Limit Depth quantity) left u = u
     not_due files asked a (fault.Limit Rows quantity) left u = u
     not_due files asked a fault.OutOfMemory left u = u
@@ -208,6 +211,9 @@ module _ (no_tree : (bytes : List ℕ) (at n : ℕ) (nodes : List Node) → IsRe
     not_ended before after asked (fault.Limit Schemas quantity) b t right told =
         loaded_or_ended before asked t.1.documents b t.1.name (many_stops before after asked t.1) right told
     not_ended before after asked (fault.Limit Input quantity) b t right told = t
+    not_ended before after asked (fault.Limit Window quantity) b t right told = t
+    not_ended before after asked (fault.Limit Nodes quantity) b t right told = t
+    not_ended before after asked (fault.Limit Text quantity) b t right told = t
     not_ended before after asked (fault.Limit Depth quantity) b t right told = t
     not_ended before after asked (fault.Limit Rows quantity) b t right told = t
     not_ended before after asked fault.OutOfMemory b t right told = tt
@@ -255,6 +261,9 @@ module _ (no_tree : (bytes : List ℕ) (at n : ℕ) (nodes : List Node) → IsRe
           let is = ended_where_due before asked t.documents u.1.documents name u.1.name (refused_stops before after asked cause place name t) u.1.told (many_are_due before asked u.1) in
           absurd (omega (arith, ap length is, t.next.room, u.1.full))
       document_due before after asked cause place name (fault.Limit Input quantity) t u = absurd u
+      document_due before after asked cause place name (fault.Limit Window quantity) t u = absurd u
+      document_due before after asked cause place name (fault.Limit Nodes quantity) t u = absurd u
+      document_due before after asked cause place name (fault.Limit Text quantity) t u = absurd u
       document_due before after asked cause place name (fault.Limit Depth quantity) t u = absurd u
       document_due before after asked cause place name (fault.Limit Rows quantity) t u = absurd u
       document_due before after asked cause place name fault.OutOfMemory t u = absurd u
@@ -276,6 +285,9 @@ module _ (no_tree : (bytes : List ℕ) (at n : ℕ) (nodes : List Node) → IsRe
           let is = ended_where_due before asked t.documents u.1.documents t.name u.1.name (too_long_stops before after asked t) u.1.told (many_are_due before asked u.1) in
           absurd (omega (arith, ap length is, t.next.room, u.1.full))
       length_due before after asked quantity (fault.Limit Input other) told t u = absurd u
+      length_due before after asked quantity (fault.Limit Window other) told t u = absurd u
+      length_due before after asked quantity (fault.Limit Nodes other) told t u = absurd u
+      length_due before after asked quantity (fault.Limit Text other) told t u = absurd u
       length_due before after asked quantity (fault.Limit Depth other) told t u = absurd u
       length_due before after asked quantity (fault.Limit Rows other) told t u = absurd u
       length_due before after asked quantity fault.OutOfMemory told t u = absurd u
@@ -294,6 +306,9 @@ module _ (no_tree : (bytes : List ℕ) (at n : ℕ) (nodes : List Node) → IsRe
           absurd (omega (arith, ap length is, t.full, u.1.next.room))
       number_due before after asked quantity (fault.Limit Schemas other) told t u = ap (fault.Limit Schemas) (told ∙ sym u.0)
       number_due before after asked quantity (fault.Limit Input other) told t u = absurd u
+      number_due before after asked quantity (fault.Limit Window other) told t u = absurd u
+      number_due before after asked quantity (fault.Limit Nodes other) told t u = absurd u
+      number_due before after asked quantity (fault.Limit Text other) told t u = absurd u
       number_due before after asked quantity (fault.Limit Depth other) told t u = absurd u
       number_due before after asked quantity (fault.Limit Rows other) told t u = absurd u
       number_due before after asked quantity fault.OutOfMemory told t u = absurd u
@@ -308,6 +323,9 @@ module _ (no_tree : (bytes : List ℕ) (at n : ℕ) (nodes : List Node) → IsRe
       as_due before after asked (fault.Limit Schemas quantity) due t u =
           inl (number_due before after asked quantity due t.0 t.1 u)
       as_due before after asked (fault.Limit Input quantity) due t u = absurd t
+      as_due before after asked (fault.Limit Window quantity) due t u = absurd t
+      as_due before after asked (fault.Limit Nodes quantity) due t u = absurd t
+      as_due before after asked (fault.Limit Text quantity) due t u = absurd t
       as_due before after asked (fault.Limit Depth quantity) due t u = absurd t
       as_due before after asked (fault.Limit Rows quantity) due t u = absurd t
       as_due before after asked fault.OutOfMemory due t u = inr tt

@@ -14,7 +14,7 @@ use Rattle.dfdl_report.specs.declared.cause.DocCause.TheVariants.{UnknownReferen
 use Rattle.dfdl_report.specs.declared.cause.InfosetCause.{InfosetCause}
 use Rattle.dfdl_report.specs.declared.cause.InfosetCause.TheVariants.{NotJson, RootExpected, UnknownMember, ObjectExpected, ArrayExpected, StringExpected, NotAValue, NullNotAllowed}
 use Rattle.dfdl_report.specs.declared.cause.LimitCause.{LimitCause}
-use Rattle.dfdl_report.specs.declared.cause.LimitCause.TheVariants.{Input, Depth, Schema, Schemas, Rows}
+use Rattle.dfdl_report.specs.declared.cause.LimitCause.TheVariants.{Input, Window, Nodes, Text, Depth, Schema, Schemas, Rows}
 
 -- processing errors, P
 abbrev pub parse_number : ParseCause → ℕ
@@ -121,6 +121,9 @@ infoset_text NullNotAllowed = codes "null not allowed"
 -- limits, L
 abbrev pub limit_number : LimitCause → ℕ
 limit_number Input = 1
+limit_number Window = 2
+limit_number Nodes = 3
+limit_number Text = 4
 limit_number Depth = 5
 limit_number Schema = 8
 limit_number Schemas = 9

@@ -108,6 +108,12 @@ pub enum InfosetCause {
 pub enum LimitCause {
     /// The source gives more bytes than the limit.
     Input,
+    /// A byte is looked at that is as far behind the first that is still needed as the limit.
+    Window,
+    /// A document has more elements than the limit.
+    Nodes,
+    /// A document has more bytes of text and of hexBinary values than the limit.
+    Text,
     /// Elements of the schema are nested deeper than the limit.
     Depth,
     /// A schema file has more bytes than the limit.
@@ -282,6 +288,9 @@ impl LimitCause {
     {
         match self {
             LimitCause::Input => 1,
+            LimitCause::Window => 2,
+            LimitCause::Nodes => 3,
+            LimitCause::Text => 4,
             LimitCause::Depth => 5,
             LimitCause::Schema => 8,
             LimitCause::Schemas => 9,

@@ -2,7 +2,7 @@
 -- then the number of rows.
 use Rattle.std.specs.Prelude.{◌≡◌, ℕ, ◌<◌, ◌≤◌, ◌-◌, List, length, None, Some, slice_get}
 use Rattle.dfdl_report.specs.declared.cause.LimitCause.{LimitCause}
-use Rattle.dfdl_report.specs.declared.cause.LimitCause.TheVariants.{Input, Depth, Schema as SchemaSize, Schemas, Rows}
+use Rattle.dfdl_report.specs.declared.cause.LimitCause.TheVariants.{Input, Window, Nodes, Text, Depth, Schema as SchemaSize, Schemas, Rows}
 use Rattle.dfdl_terms.specs.declared.row.Row.{Row}
 use Rattle.dfdl_terms.specs.declared.row.Row.TheVariants.{Elem}
 use Rattle.dfdl_rows.specs.Components.{Schema}
@@ -41,6 +41,9 @@ IsShort a = size_of a.schema a.root ≤ a.rows
 -- a limit that was reached
 abbrev pub IsLimitOf : Asked → LimitCause → ℕ → Type 0
 IsLimitOf a Input quantity = ⊥
+IsLimitOf a Window quantity = ⊥
+IsLimitOf a Nodes quantity = ⊥
+IsLimitOf a Text quantity = ⊥
 IsLimitOf a Depth quantity = (quantity ≡ a.depth) × (a.depth < depth_of a.schema a.root)
 IsLimitOf a SchemaSize quantity = ⊥
 IsLimitOf a Schemas quantity = ⊥

@@ -9,7 +9,7 @@ use Rattle.dfdl_edge.specs.Sink.{Adds, AddsFront, SinkSeen}
 use Rattle.dfdl_edge.specs.Source.{SourceSeen}
 use Rattle.dfdl_edge.specs.Whole.{IsUsedUp}
 use Rattle.dfdl_report.specs.Lines.{memory_line}
-use Rattle.dfdl_report.specs.declared.cause.LimitCause.TheVariants.{Input, Depth, Schema, Schemas, Rows}
+use Rattle.dfdl_report.specs.declared.cause.LimitCause.TheVariants.{Input, Window, Nodes, Text, Depth, Schema, Schemas, Rows}
 use Rattle.dfdl_documents.specs.Faults.{IsFailed}
 use Rattle.dfdl_terms.specs.Record.{Record}
 use Rattle.dfdl_run.specs.declared.command.Verb.{Verb}
@@ -118,6 +118,9 @@ unwritten_stop (NoDocument cause document at) line = cc
 unwritten_stop (Refused cause document at) line = cc
 unwritten_stop SourceFailed line = cc
 unwritten_stop (Limit Input quantity) line = cc
+unwritten_stop (Limit Window quantity) line = cc
+unwritten_stop (Limit Nodes quantity) line = cc
+unwritten_stop (Limit Text quantity) line = cc
 unwritten_stop (Limit Depth quantity) line = cc
 unwritten_stop (Limit Schema quantity) line = cc
 unwritten_stop (Limit Schemas quantity) line = cc

@@ -8,3 +8,4 @@ pub mod Refused
 mod Passes
 mod AsciiRuns
 mod RunsRead
+mod NameBytes

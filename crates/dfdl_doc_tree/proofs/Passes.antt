@@ -1,5 +1,5 @@
 -- The machine goes on over runs of plain characters.
-use Rattle.std.proofs.Common.{◌≡◌, ◌≤◌, ℕ, Bool, true, false, List, [], ◌∷◌, ◌++◌, ◌&&◌, ◌||◌, not, ◌==◌, nat_le, nat_lt}
+use Rattle.std.proofs.Common.{◌≡◌, ◌≤◌, ℕ, Bool, true, false, List, [], ◌∷◌, ◌++◌, ◌||◌, not, ◌==◌, nat_le}
 use Rattle.std.proofs.Common.{refl, sym, ap, ◌∙◌, subst, take, length, Ok, None, append_assoc, append-nil}
 use Rattle.std.proofs.lemmas.Bool.{and_parts, and_from}
 use Rattle.std.specs.List.{list_all}
@@ -10,9 +10,9 @@ use Rattle.dfdl_doc_tree.specs.Shown.{ahead_seen}
 use Rattle.dfdl_doc_tree.specs.ScannerShown.{place_seen, state_seen}
 use Rattle.dfdl_doc_tree.specs.declared.mark.Mark.{Mark}
 use Rattle.dfdl_doc_tree.specs.declared.scanner.Scanner.{Scanner}
-use Rattle.dfdl_markup.specs.Machine.{State, Frame, StartTag, Reading, First, Colon, Second, OpenValue, with_text}
+use Rattle.dfdl_markup.specs.Machine.{State, Frame, StartTag, Reading, First, Second, OpenValue, with_text}
 use Rattle.dfdl_markup.specs.Machine.{NothingAhead, AtContent, AtSection, AtComment, AtInstruction, AtTag, AtValue}
-use Rattle.dfdl_markup.specs.Machine.{AtTagName, AtAttributeName, Place, step, stand, fixed_value, whole_name}
+use Rattle.dfdl_markup.specs.Machine.{AtTagName, AtAttributeName, Place, step, fixed_value, whole_name}
 use Rattle.dfdl_markup.specs.Machine.{content_step, section_step, comment_step, instruction_step, tag_step, value_step}
 use Rattle.dfdl_markup.specs.Machine.{tag_name_step, attribute_name_step, name_next}
 use Rattle.dfdl_markup.specs.Grammar.{is_white}

@@ -1,6 +1,6 @@
 -- The reader over runs of plain characters.
-use Rattle.std.proofs.Common.{◌≡◌, ◌≤◌, ◌<◌, ◌+◌, ℕ, zero, suc, Bool, true, false, List, [], ◌∷◌, ◌++◌, ◌&&◌, ◌||◌, ◌==◌}
-use Rattle.std.proofs.Common.{refl, sym, ap, ap₂, ◌∙◌, subst, take, length, Result, Ok, Err, arith, append_assoc, append-nil, nat_lt}
+use Rattle.std.proofs.Common.{◌≡◌, ◌≤◌, ◌+◌, ℕ, zero, suc, true, false, List, [], ◌∷◌, ◌++◌, ◌==◌}
+use Rattle.std.proofs.Common.{refl, sym, ap, ap₂, ◌∙◌, take, length, Result, Ok, Err, arith, append_assoc, append-nil, nat_lt}
 use Rattle.std.proofs.lemmas.Bool.{and_parts, ltb-true}
 use Rattle.std.proofs.lemmas.Bool.Decides.{nat_tests}
 use Rattle.std.proofs.lemmas.List.{length-take, length-drop}

@@ -1,15 +1,15 @@
 -- Mirror for the prover: the state of the machine that a scanner stands for.
-use Rattle.std.specs.Prelude.{◌≡◌, ℕ, List, Option, Some, None, Result, Ok, Err, drop, map, ◌==◌}
+use Rattle.std.specs.Prelude.{◌≡◌, ℕ, List, Option, Some, None, Result, Ok, Err, drop, ◌==◌}
 use Rattle.std.specs.Prelude.{if◌then◌else◌}
+use Rattle.std.specs.Box.{box_value}
 use Rattle.dfdl_markup.specs.Grammar.{section_word, said_word}
 use Rattle.dfdl_xml_chars.specs.Characters.{is_allowed}
 use Rattle.dfdl_markup.specs.Values.{entity, or_zero}
 use Rattle.dfdl_markup.specs.Machine as machine
 use Rattle.dfdl_markup.specs.Machine.{State}
 use Rattle.dfdl_markup.specs.Building as building
-use Rattle.dfdl_xml_names.specs.Shown.{name_of, attribute_of}
+use Rattle.dfdl_xml_names.specs.Shown.{name_of}
 use Rattle.dfdl_doc_tree.specs.Shown.{rule_number, run_number, ahead_seen, said_seen, last_seen}
-use Rattle.dfdl_doc_tree.specs.declared.effect.Head.{Head}
 use Rattle.dfdl_doc_tree.specs.declared.effect.Effect.{Effect}
 use Rattle.dfdl_doc_tree.specs.declared.effect.Effect.TheVariants as effect
 use Rattle.dfdl_doc_tree.specs.declared.rule.Refusal.{Refusal}
@@ -81,13 +81,6 @@ state_seen s = record {
   frames = s.frames;
 }
 
--- what a start tag says of its element
-abbrev pub head_seen : Head → machine.StartTag
-head_seen head = record {
-  name = name_of head.name;
-  attributes = map attribute_of head.attributes.items;
-}
-
 -- what a character does to the tree
 abbrev pub effect_seen : Effect → building.Effect
 effect_seen effect.Stays = building.Stays
@@ -95,8 +88,8 @@ effect_seen effect.Opens = building.Opens
 effect_seen effect.Closes = building.Closes
 effect_seen (effect.Reads held c) = building.Reads (run_number held) c
 effect_seen (effect.Refers c) = building.Refers c
-effect_seen (effect.Enters head) = building.Enters (head_seen head)
-effect_seen (effect.Adds head) = building.Adds (head_seen head)
+effect_seen (effect.Enters tag) = building.Enters (box_value tag)
+effect_seen (effect.Adds tag) = building.Adds (box_value tag)
 effect_seen effect.Leaves = building.Leaves
 
 -- what a step of the scanner answers: want of memory says nothing

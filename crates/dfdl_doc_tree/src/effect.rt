@@ -1,13 +1,6 @@
 // What a character does to the tree.
 use crate::mark::Run;
-use dfdl_xml_names::{Attribute, Name};
-
-/// What a start tag says of its element.
-#[derive(Drop)]
-pub struct Head {
-    pub name: Name,
-    pub attributes: Vec<Attribute>,
-}
+use dfdl_xml_names::StartTag;
 
 /// What a character does to the tree.
 #[derive(Drop)]
@@ -22,9 +15,9 @@ pub enum Effect {
     /// A reference to this character ends with it.
     Refers(char),
     /// A start tag ends with it.
-    Enters(Head),
+    Enters(Box<StartTag>),
     /// A tag that closes itself ends with it.
-    Adds(Head),
+    Adds(Box<StartTag>),
     /// An end tag ends with it.
     Leaves,
 }

@@ -4,7 +4,9 @@
 ghost use Rattle.std.specs.Prelude.{◌≡◌, ◌≤◌, ◌++◌, IfOk, chars, length, take, true};
 ghost use Rattle.std.specs.List.{list_all};
 ghost use Rattle.std.specs.Str.{IsAscii};
+ghost use Rattle.dfdl_xml_chars.specs.Characters.{is_in, low_name_rows};
 ghost use Rattle.dfdl_doc_tree.specs.Plain.{is_of, is_plain};
+ghost use Rattle.dfdl_doc_tree.specs.declared.plain.Class.TheVariants as Class;
 
 use dfdl_xml_chars::is_name_char;
 use dfdl_xml_tree::Text;
@@ -41,6 +43,56 @@ fn is_plain(byte: u8) -> bool
     byte < 0x80 && (byte >= 0x20 || (byte == b'\t' || byte == b'\n'))
 }
 
+/// A character of names that is ASCII.
+#[tactic(auto, unfolding(dfdl_xml_chars::specs::Characters::low_name_rows, dfdl_xml_chars::specs::Characters::low_start_rows))]
+fn is_low(byte: u8) -> bool
+    ensures { result ≡ is_in low_name_rows byte }
+{
+    matches!(byte, b'-' | b'.' | b'0'..=b'9' | b'A'..=b'Z' | b'_' | b'a'..=b'z')
+}
+
+/// A plain character of names.
+#[tactic(auto, unfolding(crate::specs::Plain::is_of), using(crate::proofs::NameBytes::name_byte))]
+fn is_in_name(byte: u8) -> bool
+    ensures { result ≡ is_of Class.Name byte }
+{
+    is_plain(byte) && is_low(byte)
+}
+
+/// A plain character of a value in these quotes.
+fn is_in_value(quote: char, byte: u8) -> bool
+    ensures { result ≡ is_of (Class.Value quote) byte }
+{
+    is_plain(byte)
+        && (byte >= 0x20 && !(char::from(byte) == quote || (byte == b'<' || byte == b'&')))
+}
+
+/// How many bytes at the head are plain characters of names.
+fn count_in_name(bytes: &[u8]) -> usize
+    ensures within { result ≤ length bytes.now }
+    ensures class { list_all (is_of Class.Name) (take result bytes.now) ≡ true }
+{
+    for (at, byte) in bytes.iter().enumerate() {
+        if !is_in_name(*byte) {
+            return at;
+        }
+    }
+    bytes.len()
+}
+
+/// How many bytes at the head are plain characters of a value in these quotes.
+fn count_in_value(quote: char, bytes: &[u8]) -> usize
+    ensures within { result ≤ length bytes.now }
+    ensures class { list_all (is_of (Class.Value quote)) (take result bytes.now) ≡ true }
+{
+    for (at, byte) in bytes.iter().enumerate() {
+        if !is_in_value(quote, *byte) {
+            return at;
+        }
+    }
+    bytes.len()
+}
+
 impl Class {
     /// The character is plain and lengthens such a piece.
     fn has(self, byte: u8) -> bool
@@ -62,6 +114,18 @@ impl Class {
 
     /// How many bytes at the head are such characters.
     pub fn count(self, bytes: &[u8]) -> usize
+        ensures within { result ≤ length bytes.now }
+        ensures class { list_all (is_of self) (take result bytes.now) ≡ true }
+    {
+        match self {
+            Class::Name => count_in_name(bytes),
+            Class::Value(quote) => count_in_value(quote, bytes),
+            _ => self.count_each(bytes),
+        }
+    }
+
+    /// The same, by a test of the class at each byte.
+    fn count_each(self, bytes: &[u8]) -> usize
         ensures within { result ≤ length bytes.now }
         ensures class { list_all (is_of self) (take result bytes.now) ≡ true }
     {

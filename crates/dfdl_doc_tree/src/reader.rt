@@ -13,7 +13,7 @@ ghost use Rattle.dfdl_markup.specs.Building.{build, build_step, read_accepts, re
 ghost use Rattle.dfdl_doc_tree.specs.ScannerShown.{effect_seen, state_seen};
 ghost use Rattle.dfdl_doc_tree.specs.ReaderShown.{Becomes, IfWhole, count_of, inside_seen, reader_seen};
 
-use crate::effect::{Effect, Head};
+use crate::effect::Effect;
 use crate::plain::{Passed, as_text};
 use crate::rule::{Refusal, Rule};
 use crate::scanner::Scanner;
@@ -42,8 +42,8 @@ fn grow(growing: &mut Growing, effect: Effect, bytes: u64) -> Result<(), AllocEr
         Effect::Closes => growing.closes(bytes),
         Effect::Reads { held, c } => growing.reads(held.held(), c, bytes)?,
         Effect::Refers(c) => growing.refers(c, bytes)?,
-        Effect::Enters(Head { name, attributes }) => growing.enters(name, attributes, bytes)?,
-        Effect::Adds(Head { name, attributes }) => growing.adds(name, attributes, bytes)?,
+        Effect::Enters(tag) => growing.enters(Box::into_inner(tag), bytes)?,
+        Effect::Adds(tag) => growing.adds(Box::into_inner(tag), bytes)?,
         Effect::Leaves => growing.leaves(bytes),
     }
     Ok(())

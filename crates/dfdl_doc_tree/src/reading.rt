@@ -57,8 +57,7 @@ impl Reading {
         ensures { OnOk result (self.new ≡ First (c ∷ [])) }
     {
         self.at = Part::First;
-        self.part.clear();
-        self.part.push(c)
+        self.part.begin(c)
     }
 
     /// Goes on by a character, and answers whether it did.
@@ -79,8 +78,7 @@ impl Reading {
                 Ok(true)
             }
             Part::Colon if is_name_start(c) => {
-                self.part.clear();
-                self.part.push(c)?;
+                self.part.begin(c)?;
                 self.at = Part::Second;
                 Ok(true)
             }

@@ -4,3 +4,4 @@ mod Opened
 mod Lists
 mod Expanded
 mod Rules
+mod Written

@@ -1,8 +1,8 @@
 -- Tests of the attributes' names.
-use Rattle.std.specs.Prelude.{◌≡◌, ◌<◌, ◌+◌, ℕ, zero, suc, Bool, ◌||◌, ◌&&◌, List, ◌∷◌, [], ◌++◌, map, drop, get_or, length}
+use Rattle.std.specs.Prelude.{◌≡◌, ◌<◌, ◌≤◌, ◌+◌, ℕ, zero, suc, Bool, false, ◌||◌, ◌&&◌, List, ◌∷◌, [], ◌++◌, map, drop, take, get_or, length}
 use Rattle.std.specs.List.{list_any, list_all}
 use Rattle.std.proofs.Common.{refl, sym, ap, ◌∙◌, arith}
-use Rattle.std.proofs.lemmas.List.{map-append}
+use Rattle.std.proofs.lemmas.List.{map-append, take_more}
 use Rattle.std.proofs.lemmas.List.Elements.{filter_map-append}
 use Rattle.dfdl_markup.specs.Grammar as grammar
 use Rattle.dfdl_markup.specs.Values as values
@@ -51,3 +51,26 @@ pub declared_more : (xs : List Attribute) (x : Attribute)
 declared_more xs x =
     ap bindings_of (map-append attribute_of xs (x ∷ []))
     ∙ filter_map-append values.binding_of (map attribute_of xs) (attribute_of x ∷ [])
+
+-- the attributes up to a place and the one at it, as they are shown
+pub shown_more : (xs : List Attribute) (i : ℕ) (x : Attribute) → i < length xs → x ≡ get_or xs i x
+    → map attribute_of (take (i + 1) xs) ≡ map attribute_of (take i xs) ++ attribute_of x ∷ []
+shown_more xs i x less is =
+    ap (map attribute_of) (take_more xs i x less)
+    ∙ (map-append attribute_of (take i xs) (get_or xs i x ∷ [])
+    ∙ ap (λ (z : Attribute). map attribute_of (take i xs) ++ attribute_of z ∷ []) (sym is))
+
+-- a test of some attribute from a place on
+pub any_from : (test : Attribute → Bool) (xs : List Attribute) (at : ℕ) (x : Attribute) → at < length xs → x ≡ get_or xs at x
+    → list_any test (drop at xs) ≡ (test x || list_any test (drop (at + 1) xs))
+any_from test xs at x less is = ap (list_any test) (from_place xs at x less is)
+
+pub none_left : (test : Attribute → Bool) (xs : List Attribute) (at : ℕ) → length xs ≤ at → list_any test (drop at xs) ≡ false
+none_left test [] zero past = refl
+none_left test [] (suc at) past = refl
+none_left test (x ∷ xs) zero past = absurd (omega (arith, past))
+none_left test (x ∷ xs) (suc at) past = none_left test xs at (omega (arith, past))
+
+pub no_more : (bindings : List values.Binding) → bindings ++ [] ≡ bindings
+no_more [] = refl
+no_more (x ∷ bindings) = ap (λ bs. x ∷ bs) (no_more bindings)

@@ -56,7 +56,7 @@ is_xml xs u = ap (bytes_eq (chars xs)) (sym xml_chars) ∙ same_chars xs xml_pre
 pub is_xmlns : (xs : List ℕ) → IsUtf8 xs → bytes_eq (chars xs) xmlns_prefix ≡ bytes_eq xs xmlns_prefix
 is_xmlns xs u = ap (bytes_eq (chars xs)) (sym xmlns_chars) ∙ same_chars xs xmlns_prefix u xmlns_is_utf8
 
-colon_is_utf8 : IsUtf8 (58 ∷ [])
+pub colon_is_utf8 : IsUtf8 (58 ∷ [])
 unfolding lib.Utf8.encode
 colon_is_utf8 = (58 ∷ [], (refl, refl))
 

@@ -4,3 +4,4 @@ pub mod Opened
 pub mod Scoped
 pub mod Paired
 pub mod Expanded
+pub mod Indexed

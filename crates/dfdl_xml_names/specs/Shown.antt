@@ -23,6 +23,11 @@ abbrev pub name_of : Name → grammar.Name
 name_of (Plain part) = grammar.Plain (text_of part)
 name_of (Prefixed prefix part) = grammar.Prefixed (text_of prefix) (text_of part)
 
+-- the bytes of a name as it is written
+abbrev pub written_bytes : Name → List ℕ
+written_bytes (Plain part) = string_bytes part
+written_bytes (Prefixed prefix part) = (string_bytes prefix ++ 58 ∷ []) ++ string_bytes part
+
 -- an attribute
 abbrev pub attribute_of : Attribute → values.Attribute
 attribute_of attribute = record {

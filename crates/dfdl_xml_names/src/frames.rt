@@ -1,12 +1,12 @@
 // The open elements.
-ghost use Rattle.std.specs.Prelude.{◌≡◌, ◌++◌, ◌∷◌, [], ◌==◌, length, drop, IfOk, OnOk, chars, map};
-ghost use Rattle.dfdl_markup.specs.Values.{found, outer_scope};
+ghost use Rattle.std.specs.Prelude.{◌≡◌, ◌∷◌, [], ◌==◌, length, drop, OnOk, chars};
+ghost use Rattle.dfdl_markup.specs.Values.{found};
 ghost use Rattle.dfdl_markup.specs.Machine.{frame_of, scope_of, wanted};
-ghost use Rattle.dfdl_xml_names.specs.Shown.{name_of, attribute_of, lent_text};
-ghost use Rattle.dfdl_xml_names.specs.Opened.{frame_in, frames_on};
+ghost use Rattle.dfdl_xml_names.specs.Shown.{lent_text};
+ghost use Rattle.dfdl_xml_names.specs.Opened.{frames_on};
 
 use crate::element::Element;
-use crate::name::{Attribute, Name, fixed_namespace};
+use crate::name::fixed_namespace;
 use crate::tag::StartTag;
 use std::alloc::{AllocError, Global};
 use std::marker::Model;
@@ -56,20 +56,18 @@ impl Frames {
         last_text(self.elements.as_slice())
     }
 
-    /// Opens the element of a tag, and gives the tag's name and attributes.
-    pub fn enter(&mut self, tag: StartTag) -> Result<(Name, Vec<Attribute>), AllocError>
-        ensures frames { OnOk result (self.new ≡ frame_of self.old tag ∷ self.old) }
-        ensures name { IfOk result (λ parts. name_of parts.0 ≡ tag.name) }
-        ensures attributes { IfOk result (λ parts. map attribute_of parts.1.items ≡ tag.attributes) }
+    /// Opens the element of a tag.
+    pub fn enter(&mut self, tag: &StartTag) -> Result<(), AllocError>
+        ensures { OnOk result (self.new ≡ frame_of self.old tag.now ∷ self.old) }
     {
-        let (name, attributes, declared) = tag.into_all();
-        let text = name.text()?;
+        let declared = tag.bindings()?;
+        let text = tag.name().text()?;
         self.elements.push(Element {
-            name: name.copy()?,
+            name: tag.name().copy()?,
             text,
             declared,
         })?;
-        Ok((name, attributes))
+        Ok(())
     }
 
     /// Closes the innermost element.

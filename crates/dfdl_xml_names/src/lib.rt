@@ -5,12 +5,12 @@
 #![tactic(auto)]
 
 mod alike;
-mod attributes;
 mod binding_rules;
 mod bindings;
 mod declared;
 mod element;
 mod frames;
+mod index;
 mod name;
 mod pairs;
 mod resolved;

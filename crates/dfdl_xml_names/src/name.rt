@@ -1,12 +1,13 @@
 // Names and attributes as they are written.
-ghost use Rattle.std.specs.Prelude.{◌≡◌, ◌++◌, ◌∷◌, IfOk, chars};
+ghost use Rattle.std.specs.Prelude.{◌≡◌, ◌++◌, ◌∷◌, ◌^◌, ◌-◌, [], IfOk, chars, false, length, min, string_bytes, true};
 ghost use Rattle.std.specs.Str.{bytes_eq};
 ghost use Rattle.dfdl_markup.specs.Grammar.{name_characters};
-ghost use Rattle.dfdl_markup.specs.Values.{declares, fixed_namespace, xml_prefix, xmlns_prefix, xml_namespace, xmlns_namespace};
+ghost use Rattle.dfdl_markup.specs.Values.{declares, fixed_namespace, same_name, xml_prefix, xmlns_prefix, xml_namespace, xmlns_namespace};
 ghost use Rattle.dfdl_markup.specs.Machine.{fixed_value};
 ghost use Rattle.dfdl_markup.specs.Trees.{prefix_of, local_part};
-ghost use Rattle.dfdl_xml_names.specs.Shown.{name_of, text_of, lent_text};
+ghost use Rattle.dfdl_xml_names.specs.Shown.{name_of, text_of, lent_text, written_bytes};
 
+use crate::binding_rules::same_text;
 use std::alloc::AllocError;
 
 /// A name of one part, or of two with a `:` between.
@@ -51,6 +52,38 @@ impl Name {
         match self {
             Name::Plain(part) => part.clone(),
             Name::Prefixed { prefix, part } => joined(prefix, part),
+        }
+    }
+
+    /// The names are written alike.
+    pub(crate) fn is_written_as(&self, other: &Name) -> Result<bool, AllocError>
+        ensures { IfOk result (λ alike. alike ≡ same_name (name_of self.now) (name_of other.now)) }
+    {
+        if let Name::Plain(part) = self {
+            if let Name::Plain(second) = other {
+                return Ok(same_text(part.as_str(), second.as_str()));
+            }
+        }
+        if self.differs(other) {
+            return Ok(false);
+        }
+        Ok(same_text(self.text()?.as_str(), other.text()?.as_str()))
+    }
+
+    /// The names surely are not written alike, by their lengths.
+    fn differs(&self, other: &Name) -> bool
+        ensures { result ≡ true → same_name (name_of self.now) (name_of other.now) ≡ false }
+    {
+        self.size() != other.size()
+    }
+
+    /// How many bytes the whole name has, as far as a `usize` counts.
+    fn size(&self) -> usize
+        ensures { result ≡ min (length (written_bytes self.now)) (2 ^ 64 - 1) }
+    {
+        match self {
+            Name::Plain(part) => part.len(),
+            Name::Prefixed { prefix, part } => size_of(prefix, part),
         }
     }
 
@@ -101,11 +134,18 @@ impl Name {
     }
 }
 
+// How many bytes the two have with a `:` between.
+fn size_of(prefix: &String, part: &String) -> usize
+    ensures { result ≡ min (length ((string_bytes prefix.now ++ 58 ∷ []) ++ string_bytes part.now)) (2 ^ 64 - 1) }
+{
+    prefix.len().saturating_add(1).saturating_add(part.len())
+}
+
 // The two with a `:` between.
 fn joined(prefix: &String, part: &String) -> Result<String, AllocError>
     ensures { IfOk result (λ text. text_of text ≡ text_of prefix.now ++ 58 ∷ text_of part.now) }
 {
-    let size = prefix.len().saturating_add(1).saturating_add(part.len());
+    let size = size_of(prefix, part);
     let mut text = String::with_capacity(*prefix.allocator(), size)?;
     text.push_str(prefix)?;
     text.push(':')?;

@@ -3,17 +3,18 @@ ghost use Rattle.std.specs.Prelude.{◌≡◌, ◌++◌, ◌∷◌, ◌&&◌, �
 ghost use Rattle.std.specs.List.{list_any};
 ghost use Rattle.std.specs.Str.{bytes_eq};
 ghost use Rattle.dfdl_markup.specs.Grammar.{Name as Named, Prefixed as Spelled};
-ghost use Rattle.dfdl_markup.specs.Values.{Binding, bindings_of, names_of, found, same_expanded};
+ghost use Rattle.dfdl_markup.specs.Values.{Attribute as Attributed, Binding, bindings_of, names_of, found, same_expanded};
 ghost use Rattle.dfdl_xml_names.specs.Shown.{name_of, attribute_of};
 ghost use Rattle.dfdl_xml_names.specs.Scoped.{scope_seen};
 ghost use Rattle.dfdl_xml_names.specs.Paired.{has_pair};
 ghost use Rattle.dfdl_xml_names.specs.Expanded.{IsResolved, is_in};
+ghost use Rattle.dfdl_xml_names.specs.Kept.{HasPrefixes, has_prefix};
 
-use crate::attributes::Attributes;
 use crate::name::{Attribute, Name};
 use crate::pairs::Pairs;
 use crate::scope::Scope;
 use std::alloc::{AllocError, Global};
+use std::collections::BTreeSet;
 
 /// The namespaces and local parts of names whose prefix is found, and whether two are one.
 #[derive(Debug, Drop)]
@@ -92,24 +93,27 @@ impl Resolved {
         self.pairs.has(namespace, part)
     }
 
-    /// What is kept of the attributes' names, where one more declares what the scope has beyond.
+    /// What is kept of the attributes' names, which have these prefixes, where one more declares what
+    /// the scope has beyond.
     pub(crate) fn within(
         self,
         alloc: Global,
         scope: &Scope<'_>,
-        attributes: &Attributes,
+        attributes: &[Attribute],
+        prefixes: &BTreeSet<String>,
         name: &Name,
     ) -> Result<Resolved, AllocError>
         ensures { IfOk result (λ resolved. (old : List Binding) (value : List ℕ)
             → scope_seen scope.now ≡ old ++ bindings_of (record { name = name_of name.now; value = value } ∷ [])
-            → IsResolved self old (names_of attributes.now)
-            → IsResolved resolved (scope_seen scope.now) (names_of attributes.now)) }
+            → HasPrefixes prefixes.now (map attribute_of attributes.now)
+            → IsResolved self old (names_of (map attribute_of attributes.now))
+            → IsResolved resolved (scope_seen scope.now) (names_of (map attribute_of attributes.now))) }
     {
         match name.declares() {
             None => Ok(self),
             Some(prefix) => {
-                if attributes.uses(prefix) {
-                    return Resolved::of(alloc, scope, attributes.as_slice());
+                if uses(prefixes, prefix) {
+                    return Resolved::of(alloc, scope, attributes);
                 }
                 Ok(self)
             }
@@ -131,4 +135,12 @@ impl Resolved {
         }
         Ok(resolved)
     }
+}
+
+// One of the attributes' names has the prefix.
+fn uses(prefixes: &BTreeSet<String>, prefix: &str) -> bool
+    ensures { (attributes : List Attributed) → HasPrefixes prefixes.now attributes
+        → result ≡ list_any (has_prefix (chars prefix.now)) (names_of attributes) }
+{
+    prefixes.contains(prefix)
 }

@@ -1,48 +1,51 @@
 // A start tag as far as it was read.
-ghost use Rattle.std.specs.Prelude.{◌≡◌, ◌++◌, ◌∷◌, [], IfOk, chars, map};
-ghost use Rattle.std.specs.List.{list_any, list_all};
-ghost use Rattle.dfdl_markup.specs.Values.{bindings_of, declares, scope_in, is_found, same_name};
+ghost use Rattle.std.specs.Prelude.{◌≡◌, ◌++◌, ◌∷◌, [], ℕ, List, IfOk, None, OnOk, map, true};
+ghost use Rattle.std.specs.List.{list_all};
+ghost use Rattle.dfdl_markup.specs.Values.{Binding, bindings_of, declares, scope_in, is_found};
 ghost use Rattle.dfdl_markup.specs.Values.{same_expanded, have_same, names_of};
 ghost use Rattle.dfdl_markup.specs.Machine.{tag_of, is_given, has_sure_clash, have_clash, all_found, scope_of};
 ghost use Rattle.dfdl_xml_names.specs.Shown.{name_of, text_of, tag_with, attribute_of};
 ghost use Rattle.dfdl_xml_names.specs.Scoped.{scope_seen};
+ghost use Rattle.dfdl_xml_names.specs.Indexed.{IsKept};
 
-use crate::attributes::Attributes;
 use crate::bindings::Bindings;
-use crate::declared::declare;
+use crate::declared::{declare, declared_by};
 use crate::frames::Frames;
+use crate::index::Index;
 use crate::name::{Attribute, Name};
 use crate::resolved::Resolved;
 use crate::scope::Scope;
 use std::alloc::{AllocError, Global};
 use std::marker::Model;
+use std::mem;
 
-/// So many attributes are compared two by two, and more by an ordered set.
+/// So many attributes are compared two by two, and more by ordered sets.
 const FEW: usize = 8;
 
-/// A start tag: its name, its attributes, the bindings that they declare, and their names by these.
+/// A start tag: its name, its attributes, the bindings that they declare, and what is kept of their
+/// names where they are many.
 #[derive(Debug, Drop)]
 pub struct StartTag {
     alloc: Global,
     name: Name,
-    attributes: Attributes,
+    attributes: Vec<Attribute>,
     declared: Bindings,
-    resolved: Resolved,
+    index: Option<Index>,
 }
 
 impl Model for StartTag {
-    ghost use Rattle.std.specs.Prelude.{◌≡◌};
+    ghost use Rattle.std.specs.Prelude.{◌≡◌, map};
     ghost use Rattle.dfdl_markup.specs.Machine.{StartTag as Tagged};
-    ghost use Rattle.dfdl_markup.specs.Values.{bindings_of, names_of};
-    ghost use Rattle.dfdl_xml_names.specs.Shown.{name_of};
-    ghost use Rattle.dfdl_xml_names.specs.Expanded.{IsResolved};
+    ghost use Rattle.dfdl_markup.specs.Values.{bindings_of};
+    ghost use Rattle.dfdl_xml_names.specs.Shown.{name_of, attribute_of};
+    ghost use Rattle.dfdl_xml_names.specs.Indexed.{IsKept};
 
     ghost Value = { Tagged };
 
-    ghost view = { λ t. record { name = name_of t.name; attributes = t.attributes } };
+    ghost view = { λ t. record { name = name_of t.name; attributes = map attribute_of t.attributes.items } };
 
-    ghost invariant = { λ t. (t.declared ≡ bindings_of t.attributes)
-        × IsResolved t.resolved (bindings_of t.attributes) (names_of t.attributes) };
+    ghost invariant = { λ t. (t.declared ≡ bindings_of (map attribute_of t.attributes.items))
+        × IsKept t.index (bindings_of (map attribute_of t.attributes.items)) (map attribute_of t.attributes.items) };
 }
 
 impl StartTag {
@@ -53,9 +56,9 @@ impl StartTag {
         StartTag {
             alloc,
             name,
-            attributes: Attributes::new(alloc),
+            attributes: Vec::new(alloc),
             declared: Bindings::new(alloc),
-            resolved: Resolved::new(alloc),
+            index: None,
         }
     }
 
@@ -65,21 +68,20 @@ impl StartTag {
         &self.name
     }
 
-    /// The name and the attributes.
-    pub fn into_parts(self) -> (Name, Vec<Attribute>)
-        ensures name { name_of result.0 ≡ self.name }
-        ensures attributes { map attribute_of result.1.items ≡ self.attributes }
-    {
-        (self.name, self.attributes.into_items())
-    }
-
     /// The name, the attributes, and what they declare.
-    pub(crate) fn into_all(self) -> (Name, Vec<Attribute>, Bindings)
+    pub fn into_parts(self) -> (Name, Vec<Attribute>, Bindings)
         ensures name { name_of result.0 ≡ self.name }
         ensures attributes { map attribute_of result.1.items ≡ self.attributes }
         ensures declared { result.2 ≡ bindings_of self.attributes }
     {
-        (self.name, self.attributes.into_items(), self.declared)
+        (self.name, self.attributes, self.declared)
+    }
+
+    /// What the attributes declare.
+    pub(crate) fn bindings(&self) -> Result<Bindings, AllocError>
+        ensures { IfOk result (λ bindings. bindings ≡ bindings_of self.now.attributes) }
+    {
+        declared_by(self.alloc, self.attributes.as_slice())
     }
 
     /// The tag has an attribute of the name, or surely one that is the same by the namespaces that
@@ -87,10 +89,11 @@ impl StartTag {
     pub fn is_given(&self, name: &Name) -> Result<bool, AllocError>
         ensures { IfOk result (λ given. given ≡ is_given self.now (name_of name.now)) }
     {
-        if self.is_written(name)? {
-            return Ok(true);
+        let scope = own(&self.declared);
+        match &self.index {
+            Some(index) => index.is_given(&scope, name),
+            None => scope.is_given(name, self.attributes.as_slice()),
         }
-        Ok(self.is_same(name))
     }
 
     /// The tag with one attribute more; true where two attributes are one by the namespaces that it
@@ -103,6 +106,24 @@ impl StartTag {
         let more = self.more(name, value)?;
         let clash = declares && more.clashes();
         Ok((more, clash))
+    }
+
+    /// Gives the tag one attribute more, and answers whether two attributes are one by the namespaces
+    /// that it declares itself, and this attribute declares one.
+    pub fn push(&mut self, name: Name, value: String) -> Result<bool, AllocError>
+        ensures tag { OnOk result (self.new ≡ tag_with self.old (name_of name) (text_of value)) }
+        ensures clash { IfOk result (λ clash. clash ≡ has_sure_clash (declares (name_of name)) self.new.attributes) }
+    {
+        if declares_none(&name) {
+            if stay_few(&self.index, self.attributes.as_slice()) {
+                self.attributes.push(Attribute { name, value })?;
+                return Ok(false);
+            }
+        }
+        let empty = StartTag::new(self.alloc, Name::Plain(String::new(self.alloc)));
+        let (tag, clash) = mem::replace(self, empty).with(name, value)?;
+        *self = tag;
+        Ok(clash)
     }
 
     /// Two attributes are one by the namespaces that are found inside of these elements.
@@ -124,29 +145,15 @@ impl StartTag {
         self.inside(frames).is_found(&self.name) && self.are_found(frames)
     }
 
-    /// An attribute has this name as it is written.
-    fn is_written(&self, name: &Name) -> Result<bool, AllocError>
-        ensures { IfOk result (λ written. written
-            ≡ list_any (λ other. same_name other (name_of name.now)) (names_of self.now.attributes)) }
-    {
-        let text = name.text()?;
-        Ok(self.attributes.has(text.as_str()))
-    }
-
-    /// An attribute's name is the same as this one by the namespaces that the tag declares itself.
-    fn is_same(&self, name: &Name) -> bool
-        ensures { result ≡ list_any (λ other. same_expanded (bindings_of self.now.attributes) other
-            (name_of name.now)) (names_of self.now.attributes) }
-    {
-        self.resolved.has(&own(&self.declared), name)
-    }
-
     /// Two attributes' names are the same by these namespaces.
     fn clashes(&self) -> bool
         ensures { result ≡ have_same (same_expanded (bindings_of self.now.attributes))
             (names_of self.now.attributes) }
     {
-        self.resolved.clash
+        match &self.index {
+            Some(index) => index.resolved.clash,
+            None => own(&self.declared).have_same(self.attributes.as_slice()),
+        }
     }
 
     /// The prefixes of the attributes' names are found inside of these elements.
@@ -173,21 +180,72 @@ impl StartTag {
         let StartTag {
             alloc,
             name: element,
-            attributes,
+            mut attributes,
             declared,
-            resolved,
+            index,
         } = self;
         let declared = declare(declared, &name, value.as_str())?;
-        let mut resolved = resolved.within(alloc, &own(&declared), &attributes, &name)?;
-        resolved.add(alloc, &own(&declared), &name)?;
+        let index = extended(alloc, index, &own(&declared), attributes.as_slice(), &name)?;
+        attributes.push(Attribute { name, value })?;
+        let index = begun(alloc, index, &own(&declared), attributes.as_slice())?;
         Ok(StartTag {
             alloc,
             name: element,
-            attributes: attributes.with(Attribute { name, value })?,
+            attributes,
             declared,
-            resolved,
+            index,
         })
     }
+}
+
+// An attribute of this name declares nothing.
+fn declares_none(name: &Name) -> bool
+    ensures { result ≡ true → declares (name_of name.now) ≡ None }
+{
+    name.declares().is_none()
+}
+
+// With one more the attributes are still few.
+fn stay_few(index: &Option<Index>, attributes: &[Attribute]) -> bool
+    ensures { result ≡ true → index.now ≡ None }
+{
+    index.is_none() && attributes.len() < FEW
+}
+
+// The index, if there is one, with one attribute more.
+fn extended(
+    alloc: Global,
+    index: Option<Index>,
+    scope: &Scope<'_>,
+    attributes: &[Attribute],
+    name: &Name,
+) -> Result<Option<Index>, AllocError>
+    ensures { IfOk result (λ more. (old : List Binding) (value : List ℕ)
+        → scope_seen scope.now ≡ old ++ bindings_of (record { name = name_of name.now; value = value } ∷ [])
+        → IsKept index old (map attribute_of attributes.now)
+        → IsKept more (scope_seen scope.now)
+        (map attribute_of attributes.now ++ record { name = name_of name.now; value = value } ∷ [])) }
+{
+    match index {
+        Some(index) => Ok(Some(index.more(alloc, scope, attributes, name)?)),
+        None => Ok(None),
+    }
+}
+
+// The index, which is made where the attributes are many.
+fn begun(
+    alloc: Global,
+    index: Option<Index>,
+    scope: &Scope<'_>,
+    attributes: &[Attribute],
+) -> Result<Option<Index>, AllocError>
+    ensures { IfOk result (λ made. IsKept index (scope_seen scope.now) (map attribute_of attributes.now)
+        → IsKept made (scope_seen scope.now) (map attribute_of attributes.now)) }
+{
+    if index.is_some() || attributes.len() <= FEW {
+        return Ok(index);
+    }
+    Ok(Some(Index::of(alloc, scope, attributes)?))
 }
 
 // The scope of what a tag declares alone.

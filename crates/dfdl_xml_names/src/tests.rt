@@ -56,7 +56,7 @@ fn prefixes_are_found_in_the_element_around(rt: HostRuntime) -> Result<(), Alloc
     let tag = declaring(alloc, "u")?;
     assert!(rt; tag.is_given(&prefixed(alloc, "p", "x")?)?);
     assert!(rt; !tag.has_clash(&frames)? && tag.all_found(&frames));
-    frames.enter(tag)?;
+    frames.enter(&tag)?;
     let tag = StartTag::new(alloc, prefixed(alloc, "p", "b")?);
     let (tag, _) = with(tag, alloc, "xmlns", "q", "u")?;
     let (tag, _) = with(tag, alloc, "p", "x", "")?;

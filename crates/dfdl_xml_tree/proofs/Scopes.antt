@@ -1,12 +1,12 @@
 -- How the namespace of a prefix is found.
 use Rattle.std.proofs.Common.{◌≡◌, ℕ, zero, suc, List, [], ◌∷◌, ◌++◌, Option, Some, None, refl, ap, sym, ◌∙◌}
-use Rattle.std.proofs.Common.{Bool, true, false, if◌then◌else◌, bytes_eq, map, get_or, filter_map, length, ◌≤◌, ◌<◌, ◌-◌, arith, inl, inr}
+use Rattle.std.proofs.Common.{Bool, true, false, if◌then◌else◌, bytes_eq, map, get_or, length, ◌≤◌, ◌<◌, ◌-◌, arith, inl, inr}
 use Rattle.std.proofs.Math.ListN.{get_or-map, length-map}
 use Rattle.std.proofs.lemmas.Bool.{cases_Bool}
 use Rattle.std.proofs.lemmas.Slice.Eq.{bytes_eq-Decides}
 use Rattle.std.specs.List.{cons_option}
-use Rattle.dfdl_markup.specs.Values.{Attribute, Binding, binding_of, bindings_of, found, declares, bound_to}
-use Rattle.dfdl_markup.specs.Values.{scope_in, outer_scope, fixed_namespace, xml_prefix, xmlns_prefix}
+use Rattle.dfdl_markup.specs.Values.{Attribute, Binding, bindings_of, found, declares, bound_to}
+use Rattle.dfdl_markup.specs.Values.{outer_scope, fixed_namespace, xml_prefix, xmlns_prefix}
 use Rattle.dfdl_markup.specs.Values.{xml_namespace, xmlns_namespace}
 use Rattle.std.proofs.lemmas.Str.{chars-nil, encodes-chars}
 use Rattle.std.specs.Prelude.{chars, encode_utf8_all, IsUtf8}

@@ -4,7 +4,7 @@ use Rattle.std.proofs.lemmas.Bool.{and_from}
 use Rattle.std.proofs.lemmas.Str.{chars-append, chars-encodes, chars-nil}
 use Rattle.std.specs.Prelude.{encode_utf8}
 use Rattle.std.specs.Str.{chars, IsUtf8}
-use lib.Utf8.{scalar, scalars, encodes}
+use lib.Utf8.{scalar}
 
 pub chars-one : (c : ℕ) → scalar c ≡ true → chars (encode_utf8 c) ≡ c ∷ []
 chars-one c is =

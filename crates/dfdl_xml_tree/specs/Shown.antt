@@ -1,10 +1,6 @@
 -- Mirror for the prover: how elements, the tree and what grows to one are shown by clauses.
-use Rattle.std.specs.Prelude.{ℕ, ◌==◌, ◌&&◌, Bool, List, [], ◌∷◌, ◌++◌, map, replicate, Option, Some, None}
-use Rattle.std.specs.Prelude.{Vec}
+use Rattle.std.specs.Prelude.{ℕ, List, [], ◌∷◌, ◌++◌, map, replicate, Option, Some, None}
 use Rattle.dfdl_markup.specs.Trees.{Node}
-use Rattle.dfdl_markup.specs.Machine.{StartTag}
-use Rattle.dfdl_xml_names.specs.declared.name.Name.{Name}
-use Rattle.dfdl_xml_names.specs.declared.name.Attribute.{Attribute}
 use Rattle.dfdl_xml_names.specs.Shown.{name_of, attribute_of}
 use Rattle.dfdl_xml_tree.specs.declared.element.Element.{Element}
 
@@ -27,10 +23,3 @@ if_any (Some c) = c ∷ []
 -- so many `]`, and the character behind them, if there is one
 abbrev pub more_text : ℕ → Option ℕ → List ℕ
 more_text held more = replicate held 93 ++ if_any more
-
--- the start tag of a name and attributes
-abbrev pub tag_shown : {A : Type 0} → Name → Vec Attribute A → StartTag
-tag_shown name attributes = record {
-  name = name_of name;
-  attributes = map attribute_of attributes.items;
-}

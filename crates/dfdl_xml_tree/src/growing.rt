@@ -5,14 +5,13 @@ ghost use Rattle.dfdl_markup.specs.Building as building;
 ghost use Rattle.dfdl_markup.specs.Building.{build, Stays, Opens, Closes, Reads, Refers, Enters, Adds};
 ghost use Rattle.dfdl_markup.specs.Building.{Leaves, changed, changed_in, with_more_text, with_child};
 ghost use Rattle.dfdl_markup.specs.Building.{nothing_built, with_node, first_of};
-ghost use Rattle.dfdl_xml_names.specs.Shown.{name_of, attribute_of};
-ghost use Rattle.dfdl_xml_tree.specs.Shown.{node_of, if_any, more_text, tag_shown};
+ghost use Rattle.dfdl_xml_tree.specs.Shown.{node_of, if_any, more_text};
 ghost use Rattle.dfdl_xml_tree.specs.Held.{held_of};
 
 use crate::element::Element;
 use crate::text::Text;
 use crate::tree::Tree;
-use dfdl_xml_names::{Attribute, Name, declared_by};
+use dfdl_xml_names::StartTag;
 use std::alloc::{AllocError, Global};
 use std::collections::VecDeque;
 use std::marker::Model;
@@ -280,10 +279,10 @@ impl Growing {
     }
 
     // Adds the element of a start tag, and answers its number.
-    fn add(&mut self, name: Name, attributes: Vec<Attribute>) -> Result<u32, AllocError>
+    fn add(&mut self, tag: StartTag) -> Result<u32, AllocError>
         ensures number { IfOk result (λ number. number ≡ length self.old.nodes) }
         ensures added { OnOk result (self.new ≡ record {
-          nodes = with_node (tag_shown name attributes) self.old;
+          nodes = with_node tag self.old;
           ancestors = self.old.ancestors;
           behind_cr = self.old.behind_cr;
           at = self.old.at;
@@ -291,10 +290,10 @@ impl Growing {
         }) }
     {
         let number = self.elements.len();
+        let (name, attributes, declared) = tag.into_parts();
         if number >= u32::MAX as usize || attributes.len() >= u32::MAX as usize {
             return Err(AllocError);
         }
-        let declared = declared_by(self.alloc, attributes.as_slice())?;
         self.adopt(number as u32)?;
         let element = Element {
             name,
@@ -310,32 +309,22 @@ impl Growing {
     }
 
     /// A start tag that closes itself ends.
-    pub fn adds(
-        &mut self,
-        name: Name,
-        attributes: Vec<Attribute>,
-        bytes: u64,
-    ) -> Result<(), AllocError>
+    pub fn adds(&mut self, tag: StartTag, bytes: u64) -> Result<(), AllocError>
         requires { self.old.at + bytes < 2 ^ 64 }
-        ensures { OnOk result (self.new ≡ build (Adds (tag_shown name attributes)) bytes self.old) }
+        ensures { OnOk result (self.new ≡ build (Adds tag) bytes self.old) }
     {
-        self.add(name, attributes)?;
+        self.add(tag)?;
         self.behind_cr = false;
         self.at += bytes;
         Ok(())
     }
 
     /// A start tag ends.
-    pub fn enters(
-        &mut self,
-        name: Name,
-        attributes: Vec<Attribute>,
-        bytes: u64,
-    ) -> Result<(), AllocError>
+    pub fn enters(&mut self, tag: StartTag, bytes: u64) -> Result<(), AllocError>
         requires { self.old.at + bytes < 2 ^ 64 }
-        ensures { OnOk result (self.new ≡ build (Enters (tag_shown name attributes)) bytes self.old) }
+        ensures { OnOk result (self.new ≡ build (Enters tag) bytes self.old) }
     {
-        let number = self.add(name, attributes)?;
+        let number = self.add(tag)?;
         self.ancestors.push_front(number)?;
         self.behind_cr = false;
         self.at += bytes;

@@ -6,6 +6,9 @@ use std::alloc::{AllocError, Global};
 use std::marker::Model;
 use std::mem;
 
+/// How many bytes a text has room for where it begins.
+const ROOM: usize = 24;
+
 /// Characters.
 #[derive(Drop)]
 pub struct Text {
@@ -38,6 +41,22 @@ impl Text {
         ensures { OnOk result (self.new ≡ self.old ++ c ∷ []) }
     {
         self.text.push(c)
+    }
+
+    /// Makes it this character alone, with room for some more.
+    pub fn begin(&mut self, c: char) -> Result<(), AllocError>
+        ensures { OnOk result (self.new ≡ c ∷ []) }
+    {
+        self.clear();
+        self.reserve()?;
+        self.push(c)
+    }
+
+    // Makes room for a short text.
+    fn reserve(&mut self) -> Result<(), AllocError>
+        ensures { self.new ≡ self.old }
+    {
+        self.text.reserve(ROOM)
     }
 
     /// Appends a text.

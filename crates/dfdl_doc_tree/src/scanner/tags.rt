@@ -11,7 +11,7 @@ ghost use Rattle.dfdl_doc_tree.specs.ScannerShown.{Answers, state_seen, tag_faul
 ghost use Rattle.dfdl_doc_tree.specs.Shown.{fault_number};
 
 use super::{Scanner, broken};
-use crate::effect::{Effect, Head};
+use crate::effect::Effect;
 use crate::letters::{is_quote, is_white};
 use crate::mark::{Ahead, Mark, Run};
 use crate::rule::{Refusal, Rule};
@@ -63,10 +63,11 @@ impl Scanner {
     {
         self.count_root()?;
         let tag = self.take_tag();
-        let (name, attributes) = self.frames.enter(tag)?;
+        self.frames.enter(&tag)?;
+        let tag = Box::new(self.alloc, tag)?;
         self.ahead = Ahead::Nothing;
         self.mark = Mark::Content { before: Run::None };
-        Ok(Effect::Enters(Head { name, attributes }))
+        Ok(Effect::Enters(tag))
     }
 
     /// Behind a `>`.
@@ -105,13 +106,6 @@ impl Scanner {
         } else {
             broken(Rule::Syntax)
         }
-    }
-
-    /// Goes on with this tag.
-    pub(crate) fn set_tag(&mut self, tag: StartTag)
-        ensures { self.new ≡ record self.old { tag = tag } }
-    {
-        self.tag = tag;
     }
 
     /// Begins the tag of this name.
@@ -204,9 +198,10 @@ impl Scanner {
             return broken(Rule::Syntax);
         }
         self.count_root()?;
-        let (name, attributes) = self.take_tag().into_parts();
+        let tag = self.take_tag();
+        let tag = Box::new(self.alloc, tag)?;
         self.ahead = Ahead::Nothing;
         self.mark = Mark::Content { before: Run::None };
-        Ok(Effect::Adds(Head { name, attributes }))
+        Ok(Effect::Adds(tag))
     }
 }

@@ -35,9 +35,7 @@ impl Scanner {
     {
         let name = self.take_attribute();
         let value = self.value.take(self.alloc);
-        let (tag, clash) = self.take_tag().with(name, value)?;
-        self.set_tag(tag);
-        Ok(clash)
+        self.tag.push(name, value)
     }
 
     /// Behind the value.

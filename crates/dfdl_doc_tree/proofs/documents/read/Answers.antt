@@ -1,5 +1,5 @@
-use Rattle.std.proofs.Common.{◌≡◌, ℕ, ◌+◌, ◌≤◌, List, Ok, Err, length, arith, ap, sym, subst, ◌∙◌, drop, get_or}
-use Rattle.dfdl_markup.specs.Building.{read_start, read_step}
+use Rattle.std.proofs.Common.{ℕ, ◌+◌, ◌≤◌, List, Ok, Err, length, arith, ap, sym, subst, ◌∙◌}
+use Rattle.dfdl_markup.specs.Building.{read_step}
 use Rattle.dfdl_markup.specs.Documents.{IsTreeOf}
 use Rattle.dfdl_markup.specs.Trees.{Node}
 use Rattle.dfdl_doc_tree.specs.ReaderShown.{Becomes, inside_seen}

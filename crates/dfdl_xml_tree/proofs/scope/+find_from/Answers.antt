@@ -1,8 +1,7 @@
-use Rattle.std.proofs.Common.{◌≡◌, ℕ, ◌-◌, List, map, Option, Some, None, chars, sym, ap, ◌∙◌, arith, refl}
+use Rattle.std.proofs.Common.{◌≡◌, ◌-◌, map, chars, sym, ap, ◌∙◌, arith}
 use Rattle.std.proofs.Math.ListN.{length-map}
 use Rattle.dfdl_markup.specs.Values.{found}
 use Rattle.dfdl_markup.specs.Trees.{node_at, scope_from}
-use Rattle.dfdl_xml_names.specs.Shown.{lent_text, attribute_of}
 use Rattle.dfdl_xml_tree.specs.Shown.{node_of}
 use Rattle.dfdl_xml_tree.specs.Texts.{declared_in}
 use Rattle.dfdl_xml_tree.proofs.Scopes.{found_here, node_shown, beyond_found, no_more_found, or_some, or_none}

@@ -1,5 +1,4 @@
-use Rattle.std.proofs.Common.{sym, ◌∙◌, ap, arith}
-use Rattle.std.specs.Prelude.{◌==◌}
+use Rattle.std.proofs.Common.{arith}
 use Rattle.std.proofs.lemmas.Bool.Decides.{nat_tests}
 use Rattle.dfdl_xml_tree.proofs.Scopes.{none_if_empty, some_if_not}
 use Rattle.dfdl_xml_tree.proofs.tree.if_some.Goals as goal

@@ -1,12 +1,9 @@
-use Rattle.std.proofs.Common.{◌≡◌, ◌≤◌, ℕ, List, Ok, true, false, length, take, ap, sym, ◌∙◌, subst}
+use Rattle.std.proofs.Common.{◌≡◌, ℕ, length, take, ap, sym, ◌∙◌, subst}
 use Rattle.std.specs.Str.{chars}
-use Rattle.dfdl_layers.specs.Tellers.{run}
-use Rattle.dfdl_layers.specs.Bytes.{between}
-use Rattle.dfdl_markup.specs.Building.{Built, Stays, build, read_step}
+use Rattle.dfdl_markup.specs.Building.{Stays, build}
 use Rattle.dfdl_xml_chars.specs.Shown.{bytes_of}
-use Rattle.dfdl_xml_chars.specs.declared.begun.Begun.{Begun}
 use Rattle.dfdl_doc_tree.specs.Plain.{IsPassed, IsPassedBy, quiet, reads}
-use Rattle.dfdl_doc_tree.specs.ReaderShown.{inside_seen, reader_seen}
+use Rattle.dfdl_doc_tree.specs.ReaderShown.{reader_seen}
 use Rattle.dfdl_doc_tree.specs.ScannerShown.{state_seen}
 use Rattle.dfdl_doc_tree.proofs.AsciiRuns.{plain_ascii}
 use Rattle.dfdl_doc_tree.proofs.RunsRead.{quiet_run, text_run, grown, from_between, taken_length}

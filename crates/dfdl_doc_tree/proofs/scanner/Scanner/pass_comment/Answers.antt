@@ -1,4 +1,4 @@
-use Rattle.std.proofs.Common.{ap, sym, ◌∙◌, Bool}
+use Rattle.std.proofs.Common.{ap, ◌∙◌}
 use Rattle.dfdl_markup.specs.Machine.{AtComment}
 use Rattle.dfdl_doc_tree.specs.Shown.{ahead_seen, run_number}
 use Rattle.dfdl_doc_tree.specs.ScannerShown.{place_seen, state_seen}

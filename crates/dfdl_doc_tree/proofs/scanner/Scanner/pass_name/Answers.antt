@@ -1,9 +1,6 @@
 use Rattle.std.proofs.Common.{ap, refl}
-use Rattle.dfdl_markup.specs.Machine.{State}
 use Rattle.dfdl_doc_tree.specs.Shown.{ahead_seen}
 use Rattle.dfdl_doc_tree.specs.ScannerShown.{place_seen, state_seen}
-use Rattle.dfdl_doc_tree.specs.declared.mark.Mark.{Mark}
-use Rattle.dfdl_doc_tree.specs.declared.scanner.Scanner.{Scanner}
 use Rattle.dfdl_doc_tree.proofs.Passes.{tag_name_passed, attribute_name_passed, marked_at}
 use Rattle.dfdl_doc_tree.proofs.scanner.Scanner.pass_name.Goals as goal
 

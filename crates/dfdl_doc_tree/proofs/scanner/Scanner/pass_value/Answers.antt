@@ -1,4 +1,4 @@
-use Rattle.std.proofs.Common.{ℕ, List, ap, refl, sym, ◌∙◌}
+use Rattle.std.proofs.Common.{ℕ, List, ap, sym, ◌∙◌}
 use Rattle.dfdl_markup.specs.Machine.{AtValue}
 use Rattle.dfdl_xml_names.specs.Shown.{name_of}
 use Rattle.dfdl_doc_tree.specs.Shown.{ahead_seen}

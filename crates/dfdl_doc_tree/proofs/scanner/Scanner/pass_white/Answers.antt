@@ -1,6 +1,6 @@
-use Rattle.std.proofs.Common.{ap, sym, ◌∙◌, Bool}
+use Rattle.std.proofs.Common.{ap, ◌∙◌, Bool}
 use Rattle.dfdl_markup.specs.Machine.{AtTag}
-use Rattle.dfdl_doc_tree.specs.Shown.{ahead_seen, run_number}
+use Rattle.dfdl_doc_tree.specs.Shown.{ahead_seen}
 use Rattle.dfdl_doc_tree.specs.ScannerShown.{place_seen, state_seen}
 use Rattle.dfdl_doc_tree.proofs.Passes.{white_passed}
 use Rattle.dfdl_doc_tree.proofs.scanner.Scanner.pass_white.Goals as goal

@@ -5,10 +5,10 @@ use Rattle.dfdl_xml_names.specs.Opened.{frames_on}
 use Rattle.dfdl_xml_names.proofs.Opened.{entered}
 use Rattle.dfdl_xml_names.proofs.frames.Frames.enter.Goals as goal
 
-pub returns-clause-frames : goal.returns-clause-frames
-returns-clause-frames c =
+pub returns : goal.returns
+returns c =
     ap (frames_on []) c.in_ok-push.ensures.items
-    ∙ entered c.args.self.now c.self.inside.elements.items _ c.args.tag.name (bindings_of c.args.tag.attributes)
+    ∙ entered c.args.self.now c.self.inside.elements.items _ c.args.tag.now.name (bindings_of c.args.tag.now.attributes)
     c.self.view_is
-    (c.in_ok-copy.ensures ∙ c.into_all-name.ensures.name)
-    c.into_all-name.ensures.declared
+    (c.in_ok-copy.ensures ∙ c.name-2.ensures)
+    c.in_ok-declared.ensures

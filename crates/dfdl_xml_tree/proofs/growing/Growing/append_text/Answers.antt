@@ -1,4 +1,4 @@
-use Rattle.std.proofs.Common.{◌≡◌, ℕ, ◌≤◌, length, map, ap, sym, ◌∙◌, arith}
+use Rattle.std.proofs.Common.{◌≡◌, length, ap, sym, ◌∙◌, arith}
 use Rattle.dfdl_xml_tree.specs.Shown.{node_of}
 use Rattle.std.specs.Str.{chars}
 use Rattle.std.proofs.Math.ListN.{length-map}

@@ -13,7 +13,7 @@ use Rattle.dfdl_checks.specs.Table.{Applicability, Built, is_built, applicabilit
 use Rattle.dfdl_checks.specs.Values.{is_among, is_value, is_plain_value, takes_expressions}
 use Rattle.dfdl_checks.specs.declared.flaw.Flaw.{Flaw}
 use Rattle.dfdl_checks.specs.declared.flaw.Flaw.TheVariants as flaws
-use Rattle.dfdl_checks.specs.declared.subject.Subject.{Subject}
+use Rattle.dfdl_checks.specs.Judged.{Judged}
 
 -- a test that no element of a list passes is passed by none at a place
 at-place : {X : Type 0} (test : X → Bool) (xs : List X) (i : ℕ) (x : X) → slice_get xs i ≡ Some x → list_any test xs ≡ false → test x ≡ false
@@ -25,7 +25,7 @@ at-place test (y ∷ ys) (suc i) x there none = at-place test ys i x there (rest
     rest a b h = grind (arith, h)
 
 -- a component without a flaw has none at a property that applies to it
-pub flawless : (flaw : Flaw) (s : Subject) → has_flaw flaw s ≡ false → (i : ℕ) (a : Applicability) → slice_get applicability_table i ≡ Some a
+pub flawless : (flaw : Flaw) (s : Judged) → has_flaw flaw s ≡ false → (i : ℕ) (a : Applicability) → slice_get applicability_table i ≡ Some a
     → is_bearer a.bearers s ≡ true → (row : Row) → row_named property_table a.name ≡ Some row
     → is_flawed flaw row a.built (told_at s a.name) ≡ false
 unfolding is_flawed_at

@@ -9,7 +9,6 @@ use Rattle.dfdl_forms.specs.declared.simple.Simple.{Simple}
 use Rattle.dfdl_forms.specs.declared.simple.Simple.TheVariants as types
 use Rattle.dfdl_scope.specs.Expressions.{literal}
 use Rattle.dfdl_scope.specs.Scoping.{Told, Value, Absent, Twice}
-use Rattle.dfdl_scope.specs.Shown.{chain_of}
 use Rattle.dfdl_scope.specs.Table.{Row, row, Words, Missing, property_table, row_named}
 use Rattle.dfdl_checks.proofs.Flawless.{flawless, HasNoFlaw, HasBuilt, value-built, given-built, among-words}
 use Rattle.dfdl_checks.proofs.Kept.{IsKept, keeps-all, second-fails}
@@ -24,7 +23,7 @@ use Rattle.dfdl_checks.specs.declared.applicability.Bearers.TheVariants as beare
 use Rattle.dfdl_checks.specs.declared.flaw.Flaw.TheVariants as flaws
 use Rattle.dfdl_checks.specs.declared.subject.Kind.{Kind}
 use Rattle.dfdl_checks.specs.declared.subject.Kind.TheVariants.{ComplexElement, SimpleElement, UncarriedElement, Sequence, Choice}
-use Rattle.dfdl_checks.specs.declared.subject.Subject.{Subject}
+use Rattle.dfdl_checks.specs.Judged.{Judged}
 
 -- a type that is built is one of numbers
 built-type : (simple : Simple) → is_built_type simple ≡ true
@@ -57,7 +56,7 @@ built-kind Sequence later typed simple = grind (arith, simple)
 built-kind Choice later typed simple = grind (arith, simple)
 
 -- a property that applies to a component without a breach has no flaw
-no-flaw : (s : Subject) → IsKept s → (i : ℕ) (a : Applicability) → slice_get applicability_table i ≡ Some a → is_bearer a.bearers s ≡ true
+no-flaw : (s : Judged) → IsKept s → (i : ℕ) (a : Applicability) → slice_get applicability_table i ≡ Some a → is_bearer a.bearers s ≡ true
     → (r : Row) → row_named property_table a.name ≡ Some r → HasNoFlaw r a.built (told_at s a.name)
 no-flaw s kept i a there bearer r named = record {
   unbuilt = flawless flaws.Unbuilt s (last (is_later_component s) (has_flaw flaws.Unbuilt s) kept.built) i a there bearer r named;
@@ -70,11 +69,11 @@ no-flaw s kept i a there bearer r named = record {
     last a b h = grind (arith, h)
 
 -- where it has to be given, it has a value that is built
-built-at : (s : Subject) → IsKept s → (i : ℕ) (a : Applicability) → slice_get applicability_table i ≡ Some a → is_bearer a.bearers s ≡ true
+built-at : (s : Judged) → IsKept s → (i : ℕ) (a : Applicability) → slice_get applicability_table i ≡ Some a → is_bearer a.bearers s ≡ true
     → (r : Row) → row_named property_table a.name ≡ Some r → r.absent ≡ Missing → HasBuilt r a.built (told_at s a.name)
 built-at s kept i a there bearer r named needed =
     given-built r a.built (told_at s a.name) needed (no-flaw s kept i a there bearer r named)
-    (told-once (chain_of s.chain.now) property_table a.name r named kept.once)
+    (told-once s.chain property_table a.name r named kept.once)
 
 -- where one word alone is built, that is told
 one-word : (x : List ℕ) (r : Row) (t : Told) → HasBuilt r (BuiltWords (x ∷ [])) t → is_word x t ≡ true
@@ -111,7 +110,7 @@ no-other-word x y apart r Absent none = refl
 no-other-word x y apart r (Twice place) none = refl
 
 -- the properties of a simple element without a breach are those of a binary integer
-pub are-integers : (s : Subject) → first_breach rules s ≡ None → IsTrue (is_simple s.kind) → IsBinaryInteger s
+pub are-integers : (s : Judged) → first_breach rules s ≡ None → IsTrue (is_simple s.kind) → IsBinaryInteger s
 unfolding applicability_table property_table
 are-integers s none simple = record {
   representation = represented;

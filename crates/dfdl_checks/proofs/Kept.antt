@@ -10,11 +10,11 @@ use Rattle.dfdl_checks.specs.Rules.{breach_of, first_breach, rules, is_built_typ
 use Rattle.dfdl_checks.specs.Subjects.{is_simple, is_choice}
 use Rattle.dfdl_checks.specs.declared.subject.Kind.{Kind}
 use Rattle.dfdl_checks.specs.declared.subject.Kind.TheVariants.{ComplexElement, SimpleElement, UncarriedElement, Sequence, Choice}
-use Rattle.dfdl_checks.specs.declared.subject.Subject.{Subject}
+use Rattle.dfdl_checks.specs.Judged.{Judged}
 use Rattle.dfdl_checks.specs.declared.subject.Breach.{Breach}
 
 -- a component keeps each rule
-pub record IsKept (s : Subject) : Type 0 where
+pub record IsKept (s : Judged) : Type 0 where
   pub built : is_unbuilt s ≡ false
   pub once : property_twice s ≡ None
   pub given : is_property_missing s ≡ false
@@ -35,7 +35,7 @@ itself-kept false place none = refl
 itself-kept true place none = grind (arith, none)
 
 -- a component without a breach keeps each rule
-pub keeps-all : (s : Subject) → first_breach rules s ≡ None → IsKept s
+pub keeps-all : (s : Judged) → first_breach rules s ≡ None → IsKept s
 unfolding rules
 keeps-all s none =
     let a = first-kept causes.OutsideSubset _ _ none in
@@ -73,7 +73,7 @@ built-number Sequence order later typed simple = grind (arith, simple)
 built-number Choice order later typed simple = grind (arith, simple)
 
 -- a simple element without a breach has a form
-pub has-form : (s : Subject) → first_breach rules s ≡ None → IsTrue (is_simple s.kind) → IsSome (integer_form_of s)
+pub has-form : (s : Judged) → first_breach rules s ≡ None → IsTrue (is_simple s.kind) → IsSome (integer_form_of s)
 has-form s none simple =
     let kept = keeps-all s none in
     built-number s.kind _ (second-fails (is_choice s.kind) (has_later_type s.kind) _ _ _ kept.built) kept.typed simple

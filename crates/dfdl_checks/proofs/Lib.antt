@@ -3,3 +3,5 @@ pub mod Kept
 pub mod Flawless
 pub mod Once
 pub mod Integers
+pub mod AlikeChains
+pub mod AlikeJudged

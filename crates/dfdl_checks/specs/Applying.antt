@@ -1,12 +1,12 @@
 -- Which components a property applies to.
 use Rattle.std.specs.Prelude.{Bool, true, not, nat_lt, ◌&&◌, codes}
 use Rattle.dfdl_checks.specs.Subjects.{is_element, is_simple, is_sequence, is_group, is_represented, number_bits, is_binary_number, is_word, told_at}
-use Rattle.dfdl_checks.specs.declared.subject.Subject.{Subject}
+use Rattle.dfdl_checks.specs.Judged.{Judged}
 use Rattle.dfdl_checks.specs.declared.applicability.Bearers.{Bearers}
 use Rattle.dfdl_checks.specs.declared.applicability.Bearers.TheVariants.{EveryComponent, Elements, OtherElements, SimpleElements, RepresentedElements, BinaryNumbers, WideBinaryNumbers, PatternElements, Groups, Sequences, EmptySequences}
 
 -- a component is one of these
-abbrev pub is_bearer : Bearers → Subject → Bool
+abbrev pub is_bearer : Bearers → Judged → Bool
 is_bearer EveryComponent subject = true
 is_bearer Elements subject = is_element subject.kind
 is_bearer OtherElements subject = is_element subject.kind && not (is_binary_number subject)

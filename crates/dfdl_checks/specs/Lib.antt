@@ -1,3 +1,6 @@
+pub mod Judged
+pub mod JudgedShown
+pub mod Alike
 pub mod Subjects
 pub mod Values
 pub mod Applying

@@ -13,7 +13,7 @@ use Rattle.dfdl_checks.specs.Rules.{is_built_type}
 use Rattle.dfdl_checks.specs.Subjects.{is_word, number_bits, told_at}
 use Rattle.dfdl_checks.specs.declared.subject.Kind.{Kind}
 use Rattle.dfdl_checks.specs.declared.subject.Kind.TheVariants.{SimpleElement}
-use Rattle.dfdl_checks.specs.declared.subject.Subject.{Subject}
+use Rattle.dfdl_checks.specs.Judged.{Judged}
 
 -- the order of bytes that is told; big endian where none is, as it may be where a number has 8 bits
 abbrev pub byte_order : Told → ByteOrder
@@ -29,16 +29,16 @@ number_of_kind (SimpleElement simple) order = if is_built_type simple then Some 
 number_of_kind _ order = None
 
 -- the form of the component's values, where they are integers of a type that is built
-abbrev pub integer_form_of : Subject → Option IntForm
+abbrev pub integer_form_of : Judged → Option IntForm
 integer_form_of subject = number_of_kind subject.kind (byte_order (told_at subject (codes "byteOrder")))
 
 -- what is told of a property at the component stands for this word
-abbrev pub is_told : Subject → List ℕ → List ℕ → Bool
+abbrev pub is_told : Judged → List ℕ → List ℕ → Bool
 is_told subject name word = is_word word (told_at subject name)
 
 -- the properties of a component say that it is a binary integer of implicit length whose most significant bits come first,
 -- and where it has more than 8 bits, which of its bytes come first
-pub record IsBinaryInteger (subject : Subject) : Type 0 where
+pub record IsBinaryInteger (subject : Judged) : Type 0 where
   pub representation : IsTrue (is_told subject (codes "representation") (codes "binary"))
   pub number : IsTrue (is_told subject (codes "binaryNumberRep") (codes "binary"))
   pub length_kind : IsTrue (is_told subject (codes "lengthKind") (codes "implicit"))

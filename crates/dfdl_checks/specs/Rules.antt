@@ -7,7 +7,6 @@ use Rattle.dfdl_report.specs.declared.cause.SchemaCause.{SchemaCause}
 use Rattle.dfdl_report.specs.declared.cause.SchemaCause.TheVariants as causes
 use Rattle.dfdl_report.specs.declared.place.Place.{Place}
 use Rattle.dfdl_scope.specs.Scoping.{repeated_at}
-use Rattle.dfdl_scope.specs.Shown.{chain_of}
 use Rattle.dfdl_scope.specs.Table.{names_of, property_table}
 use Rattle.dfdl_checks.specs.Subjects.{is_element, is_choice, is_binary_number, is_word, told_at}
 use Rattle.dfdl_checks.specs.Flaws.{has_flaw}
@@ -15,7 +14,7 @@ use Rattle.dfdl_checks.specs.declared.flaw.Flaw.TheVariants as flaws
 use Rattle.dfdl_checks.specs.declared.subject.Facts.{Facts}
 use Rattle.dfdl_checks.specs.declared.subject.Kind.{Kind}
 use Rattle.dfdl_checks.specs.declared.subject.Kind.TheVariants.{SimpleElement, UncarriedElement}
-use Rattle.dfdl_checks.specs.declared.subject.Subject.{Subject}
+use Rattle.dfdl_checks.specs.Judged.{Judged}
 use Rattle.dfdl_checks.specs.declared.subject.Breach.{Breach}
 
 -- elements of these types are built
@@ -36,29 +35,29 @@ abbrev pub is_later_element : Facts → Bool
 is_later_element facts = not facts.occurs_once || facts.is_nillable || facts.has_default
 
 -- a component of a kind that is built later, whatever its properties are
-abbrev pub is_later_component : Subject → Bool
+abbrev pub is_later_component : Judged → Bool
 is_later_component subject =
     is_choice subject.kind || has_later_type subject.kind || subject.facts.has_statements
     || (is_element subject.kind && is_later_element subject.facts)
 
 -- 3: the component, or the value of a property that applies to it, is of a form that is built later
-abbrev pub is_unbuilt : Subject → Bool
+abbrev pub is_unbuilt : Judged → Bool
 is_unbuilt subject = is_later_component subject || has_flaw flaws.Unbuilt subject
 
 -- 6: where the component's chain first gives a property of the profile that is given again
-abbrev pub property_twice : Subject → Option Place
-property_twice subject = repeated_at (chain_of subject.chain.now) (names_of property_table)
+abbrev pub property_twice : Judged → Option Place
+property_twice subject = repeated_at subject.chain (names_of property_table)
 
 -- 7: a property that applies to the component is given nowhere, and no value stands in its place
-abbrev pub is_property_missing : Subject → Bool
+abbrev pub is_property_missing : Judged → Bool
 is_property_missing subject = has_flaw flaws.Missing subject
 
 -- 9: a property that applies to the component has a value that is none of the profile
-abbrev pub is_value_not_carried : Subject → Bool
+abbrev pub is_value_not_carried : Judged → Bool
 is_value_not_carried subject = has_flaw flaws.NotCarried subject
 
 -- 10: a property that applies to the component has an expression where none may stand
-abbrev pub is_expression_not_allowed : Subject → Bool
+abbrev pub is_expression_not_allowed : Judged → Bool
 is_expression_not_allowed subject = has_flaw flaws.Expression subject
 
 -- 13: an element of a simple type that is not carried
@@ -67,21 +66,21 @@ is_type_not_carried UncarriedElement = true
 is_type_not_carried _ = false
 
 -- the length is delimited or by a pattern
-abbrev pub is_length_by_content : Subject → Bool
+abbrev pub is_length_by_content : Judged → Bool
 is_length_by_content subject =
     is_word (codes "delimited") (told_at subject (codes "lengthKind")) || is_word (codes "pattern") (told_at subject (codes "lengthKind"))
 
 -- 15: a binary number of delimited length, or with a length by a pattern
-abbrev pub is_length_kind_not_allowed : Subject → Bool
+abbrev pub is_length_kind_not_allowed : Judged → Bool
 is_length_kind_not_allowed subject = is_binary_number subject && is_length_by_content subject
 
 -- a rule: its cause, and where a component breaks it, if it does
 pub record Rule : Type 0 where
   pub cause : SchemaCause
-  pub broken_at : Subject → Option Place
+  pub broken_at : Judged → Option Place
 
 -- a rule that is told at the component itself
-abbrev pub at_itself : SchemaCause → (Subject → Bool) → Rule
+abbrev pub at_itself : SchemaCause → (Judged → Bool) → Rule
 at_itself cause is_broken = record { cause = cause; broken_at = λ subject. if is_broken subject then Some subject.place else None }
 
 -- the rules, in the order of their numbers
@@ -101,7 +100,7 @@ abbrev pub breach_of : SchemaCause → Place → Breach
 breach_of cause place = record { cause = cause; place = place }
 
 -- the first of some rules that the component breaks
-abbrev pub first_breach : List Rule → Subject → Option Breach
+abbrev pub first_breach : List Rule → Judged → Option Breach
 first_breach [] subject = None
 first_breach (rule ∷ others) subject =
     option_map_or (λ place. Some (breach_of rule.cause place)) (rule.broken_at subject) (first_breach others subject)

@@ -7,10 +7,9 @@ use Rattle.dfdl_forms.specs.declared.simple.Form.{Form}
 use Rattle.dfdl_forms.specs.declared.simple.Form.TheVariants.{Signed, Unsigned, Fixed, Characters, Truths, Octets}
 use Rattle.dfdl_scope.specs.Expressions.{literal}
 use Rattle.dfdl_scope.specs.Scoping.{Told, Value, Absent, Twice, told}
-use Rattle.dfdl_scope.specs.Shown.{chain_of}
 use Rattle.dfdl_checks.specs.declared.subject.Kind.{Kind}
 use Rattle.dfdl_checks.specs.declared.subject.Kind.TheVariants.{ComplexElement, SimpleElement, UncarriedElement, Sequence, Choice}
-use Rattle.dfdl_checks.specs.declared.subject.Subject.{Subject}
+use Rattle.dfdl_checks.specs.Judged.{Judged}
 
 -- an element
 abbrev pub is_element : Kind → Bool
@@ -63,8 +62,8 @@ number_bits (SimpleElement simple) = most_bits (form_of simple)
 number_bits _ = 0
 
 -- what is told of a property at a component
-abbrev pub told_at : Subject → List ℕ → Told
-told_at subject name = told (chain_of subject.chain.now) name
+abbrev pub told_at : Judged → List ℕ → Told
+told_at subject name = told subject.chain name
 
 -- what is told stands for this word
 abbrev pub is_word : List ℕ → Told → Bool
@@ -73,5 +72,5 @@ is_word word Absent = false
 is_word word (Twice place) = false
 
 -- a binary number: an element of an integer or decimal type whose representation is binary
-abbrev pub is_binary_number : Subject → Bool
+abbrev pub is_binary_number : Judged → Bool
 is_binary_number subject = nat_lt 0 (number_bits subject.kind) && is_word (codes "binary") (told_at subject (codes "representation"))

@@ -2,6 +2,7 @@
 ghost use Rattle.std.specs.Prelude.{◌≡◌};
 ghost use Rattle.dfdl_forms.specs.Binary.{most_bits};
 ghost use Rattle.dfdl_forms.specs.Types.{form_of};
+ghost use Rattle.dfdl_checks.specs.JudgedShown.{judged_of};
 ghost use Rattle.dfdl_checks.specs.Subjects as subjects;
 ghost use Rattle.dfdl_checks.specs.Applying.{is_bearer};
 ghost use Rattle.dfdl_scope.specs.Scoping.{told};
@@ -14,7 +15,7 @@ use dfdl_scope::{Asked, Component, literal, property};
 
 /// Whether a component is one of these.
 pub(crate) fn is_bearer(bearers: Bearers, subject: &Subject<'_, '_, '_>) -> bool
-    ensures { result ≡ is_bearer bearers subject.now }
+    ensures { result ≡ is_bearer bearers (judged_of subject.now) }
 {
     let kind = subject.kind;
     match bearers {
@@ -97,7 +98,7 @@ fn has_representation(form: Form) -> bool
 
 /// Whether it is an element of an integer or decimal type whose representation is binary.
 pub(crate) fn is_binary_number(subject: &Subject<'_, '_, '_>) -> bool
-    ensures { result ≡ subjects.is_binary_number subject.now }
+    ensures { result ≡ subjects.is_binary_number (judged_of subject.now) }
 {
     number_bits(subject.kind) > 0 && is_word(subject.chain, "representation", "binary")
 }

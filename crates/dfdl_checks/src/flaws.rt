@@ -1,6 +1,7 @@
 // Which flaws the properties of a component have.
 ghost use Rattle.std.specs.Prelude.{◌≡◌, map};
 ghost use Rattle.std.specs.List.{list_any};
+ghost use Rattle.dfdl_checks.specs.JudgedShown.{judged_of};
 ghost use Rattle.dfdl_checks.specs.Flaws as flaws;
 ghost use Rattle.dfdl_checks.specs.Table.{is_built};
 ghost use Rattle.dfdl_checks.specs.TableShown.{applicability_shown, built_shown};
@@ -17,14 +18,14 @@ use dfdl_scope::{Absence, Asked, PropertyRow, is_expression, literal, property, 
 
 /// Whether some property that applies to a component has the flaw there.
 pub(crate) fn has_flaw(flaw: Flaw, subject: &Subject<'_, '_, '_>) -> bool
-    ensures { result ≡ flaws.has_flaw flaw subject.now }
+    ensures { result ≡ flaws.has_flaw flaw (judged_of subject.now) }
 {
     is_flawed_by_some(flaw, subject, applicabilities())
 }
 
 /// The same, for these properties.
 fn is_flawed_by_some(flaw: Flaw, subject: &Subject<'_, '_, '_>, rows: &[Applicability]) -> bool
-    ensures { result ≡ list_any (flaws.is_flawed_at flaw subject.now) (map applicability_shown rows.now) }
+    ensures { result ≡ list_any (flaws.is_flawed_at flaw (judged_of subject.now)) (map applicability_shown rows.now) }
 {
     for row in rows {
         if is_flawed_at(flaw, subject, row) {
@@ -37,7 +38,7 @@ fn is_flawed_by_some(flaw: Flaw, subject: &Subject<'_, '_, '_>, rows: &[Applicab
 /// Whether a property applies to a component and has the flaw there.
 #[tactic(auto, unfolding(crate::specs::Flaws::is_flawed_at))]
 fn is_flawed_at(flaw: Flaw, subject: &Subject<'_, '_, '_>, row: &Applicability) -> bool
-    ensures { result ≡ flaws.is_flawed_at flaw subject.now (applicability_shown row.now) }
+    ensures { result ≡ flaws.is_flawed_at flaw (judged_of subject.now) (applicability_shown row.now) }
 {
     if !is_bearer(row.bearers, subject) {
         return false;

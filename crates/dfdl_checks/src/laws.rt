@@ -1,14 +1,21 @@
 // Laws of the definitions that the contracts cite. The calls do nothing.
-ghost use Rattle.std.specs.Prelude.{◌≡◌, None, IsTrue};
-ghost use Rattle.dfdl_checks.specs.Numbers.{IsBinaryInteger};
+ghost use Rattle.std.specs.Prelude.{◌≡◌, None, IsTrue, IsSome};
+ghost use Rattle.dfdl_checks.specs.Alike.{IsAlike};
+ghost use Rattle.dfdl_checks.specs.Judged.{Judged};
+ghost use Rattle.dfdl_checks.specs.Numbers.{IsBinaryInteger, integer_form_of};
 ghost use Rattle.dfdl_checks.specs.Rules.{first_breach, rules};
 ghost use Rattle.dfdl_checks.specs.Subjects.{is_simple};
 
-use crate::subject::Subject;
+/// A simple element without a breach has a form, and its properties are those of a binary integer
+/// of implicit length.
+pub fn sound_elements_are_integers()
+    ensures form { (j : Judged) → first_breach rules j ≡ None → IsTrue (is_simple j.kind) → IsSome (integer_form_of j) }
+    ensures properties { (j : Judged) → first_breach rules j ≡ None → IsTrue (is_simple j.kind) → IsBinaryInteger j }
+{}
 
-/// The properties of a simple element without a breach are those of a binary integer of implicit
-/// length.
-pub fn sound_elements_are_integers(subject: &Subject<'_, '_, '_>)
-    ensures { first_breach rules subject.now ≡ None → IsTrue (is_simple subject.now.kind)
-        → IsBinaryInteger subject.now }
+/// Components whose chains give the same, name by name, have the same first breach and the same
+/// form.
+pub fn alike_components_are_judged_alike()
+    ensures breach { (a b : Judged) → IsAlike a b → first_breach rules a ≡ first_breach rules b }
+    ensures form { (a b : Judged) → IsAlike a b → integer_form_of a ≡ integer_form_of b }
 {}

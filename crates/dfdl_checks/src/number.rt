@@ -1,5 +1,6 @@
 // How the values of a simple element lie in the data.
 ghost use Rattle.std.specs.Prelude.{◌≡◌, None, IsTrue, IsSome, codes};
+ghost use Rattle.dfdl_checks.specs.JudgedShown.{judged_of};
 ghost use Rattle.dfdl_checks.specs.Numbers as numbers;
 ghost use Rattle.dfdl_checks.specs.Rules.{first_breach, rules};
 ghost use Rattle.dfdl_checks.specs.Subjects.{is_simple};
@@ -16,8 +17,8 @@ use dfdl_scope::Component;
 /// How the values of a component lie in the data, where they are integers of a type that is built:
 /// each simple element without a breach is one. Takes no memory.
 pub fn integer_form(subject: &Subject<'_, '_, '_>) -> Option<IntForm>
-    ensures form { result ≡ numbers.integer_form_of subject.now }
-    ensures sound { first_breach rules subject.now ≡ None → IsTrue (is_simple subject.now.kind) → IsSome result }
+    ensures form { result ≡ numbers.integer_form_of (judged_of subject.now) }
+    ensures sound { first_breach rules (judged_of subject.now) ≡ None → IsTrue (is_simple subject.now.kind) → IsSome result }
 {
     of_kind(subject.kind, subject.chain)
 }

@@ -1,5 +1,6 @@
 // The rules that a component has to keep.
 ghost use Rattle.std.specs.Prelude.{◌≡◌, Some};
+ghost use Rattle.dfdl_checks.specs.JudgedShown.{judged_of};
 ghost use Rattle.dfdl_checks.specs.Rules as spec;
 
 use crate::applying::{is_binary_number, is_choice, is_element, is_word};
@@ -14,7 +15,7 @@ use dfdl_scope::first_repeated;
 /// Takes no memory.
 #[tactic(auto, unfolding(crate::specs::Rules::rules))]
 pub fn breach(subject: &Subject<'_, '_, '_>) -> Option<Breach>
-    ensures { result ≡ spec.first_breach spec.rules subject.now }
+    ensures { result ≡ spec.first_breach spec.rules (judged_of subject.now) }
 {
     if is_unbuilt(subject) {
         return told_here(SchemaCause::OutsideSubset, subject);
@@ -55,14 +56,14 @@ fn told_here(cause: SchemaCause, subject: &Subject<'_, '_, '_>) -> Option<Breach
 
 /// Whether the component, or a value of a property that applies to it, is built later.
 fn is_unbuilt(subject: &Subject<'_, '_, '_>) -> bool
-    ensures { result ≡ spec.is_unbuilt subject.now }
+    ensures { result ≡ spec.is_unbuilt (judged_of subject.now) }
 {
     is_later_component(subject) || has_flaw(Flaw::Unbuilt, subject)
 }
 
 /// Whether the component is of a kind that is built later.
 fn is_later_component(subject: &Subject<'_, '_, '_>) -> bool
-    ensures { result ≡ spec.is_later_component subject.now }
+    ensures { result ≡ spec.is_later_component (judged_of subject.now) }
 {
     let kind = subject.kind;
     is_choice(kind)
@@ -111,14 +112,14 @@ fn is_type_not_carried(kind: Kind) -> bool
 
 /// Whether it is a binary number of delimited length, or with a length by a pattern.
 fn is_length_kind_not_allowed(subject: &Subject<'_, '_, '_>) -> bool
-    ensures { result ≡ spec.is_length_kind_not_allowed subject.now }
+    ensures { result ≡ spec.is_length_kind_not_allowed (judged_of subject.now) }
 {
     is_binary_number(subject) && is_length_by_content(subject)
 }
 
 /// Whether the length is delimited or by a pattern.
 fn is_length_by_content(subject: &Subject<'_, '_, '_>) -> bool
-    ensures { result ≡ spec.is_length_by_content subject.now }
+    ensures { result ≡ spec.is_length_by_content (judged_of subject.now) }
 {
     is_word(subject.chain, "lengthKind", "delimited")
         || is_word(subject.chain, "lengthKind", "pattern")

@@ -1,5 +1,5 @@
-pub mod Different
-pub mod FieldLists
-pub mod PrefixedNames
-pub mod RowLemmas
-pub mod Shapes
+mod Fitting
+mod Searches
+mod Roots
+mod Ending
+mod Taken

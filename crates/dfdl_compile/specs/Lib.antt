@@ -1,6 +1,6 @@
+pub mod Primitives
+pub mod Components
 pub mod Compiled
-pub mod Elements
-pub mod Names
-pub mod OutlineShown
-pub mod RecordRows
-pub mod Schema
+pub mod Faults
+pub mod FaultsShown
+pub mod Shown

@@ -1,17 +1,15 @@
-// Schemas as terms: the rows of the record that a schema document describes.
-//
-// `specs/Schema.antt` says which documents are schemas of which record, by the namespaces of their
-// elements and attributes; `compile` gives the terms of that record, or refuses a document that is a
-// schema of none. It serves 'DFDL Schema Component Model'.
+//! The terms of a schema: its documents' components in rows, from the root on.
+//!
+//! `specs/Components.antt` says which components the elements of the documents are, and `specs/Compiled.antt` what a
+//! schema comes to, which the contract of `compile` cites: its rows, or the first reason why it has none. The chapters
+//! are 'DFDL Schema Component Model' and 'DFDL Data Syntax Grammar'.
 #![tactic(auto)]
 
 mod compiling;
-mod elements;
-mod fields;
-mod names;
-mod outline;
+mod fault;
+mod gathering;
+mod primitives;
+mod root;
 
-pub use compiling::{CompileFault, MOST_FIELDS, compile};
-
-#[cfg(test)]
-mod tests;
+pub use compiling::compile;
+pub use fault::CompileFault;

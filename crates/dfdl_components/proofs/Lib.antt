@@ -3,3 +3,4 @@ mod Indexing
 mod Outward
 mod Searching
 pub mod Consisting
+mod Unrecursive

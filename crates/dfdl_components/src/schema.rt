@@ -1,6 +1,7 @@
 // The documents of a schema, and what is known of each.
 ghost use Rattle.std.specs.Prelude.{◌≡◌, ◌<◌, ◌^◌, ℕ, List, length, IfOk, Some, option_copied, is_some};
 ghost use Rattle.dfdl_markup.specs.Trees.{node_at};
+ghost use Rattle.dfdl_constructs.specs.Roles.{AreRoles};
 ghost use Rattle.dfdl_documents.specs.Loading.{document_at};
 ghost use Rattle.dfdl_components.specs.Sites.{IsSite, nodes_of, role_of};
 ghost use Rattle.dfdl_components.specs.Namespaces.{AreIncluders, namespace_of, own_namespace};
@@ -131,6 +132,14 @@ impl Schema {
         ensures { result ≡ role_of self.now site }
     {
         self.index(site.document).roles.of(site.element)
+    }
+
+    /// What the elements of a document stand for.
+    pub fn roles(&self, document: u32) -> &Roles
+        requires { document < length self.now }
+        ensures { AreRoles (nodes_of self.now document) result.now }
+    {
+        &self.index(document).roles
     }
 
     /// The byte at which an element begins.

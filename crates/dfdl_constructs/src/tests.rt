@@ -3,7 +3,7 @@ use super::{
     Qualified, is_ncname, is_outside_subset, is_qname, is_unknown_annotation, is_value_not_allowed,
     roles_of,
 };
-use dfdl_xml_names::{Attribute, Name};
+use dfdl_xml_names::{Name, StartTag};
 use dfdl_xml_tree::{Growing, Tree};
 use std::alloc::{AllocError, Global};
 use std::test::Fail;
@@ -16,53 +16,56 @@ fn prefixed(alloc: Global, prefix: &str, part: &str) -> Result<Name, AllocError>
     })
 }
 
-/// The declarations of the two prefixes.
-fn declarations(alloc: Global) -> Result<Vec<Attribute>, AllocError> {
-    let mut attributes = Vec::new(alloc);
-    attributes.push(Attribute {
-        name: prefixed(alloc, "xmlns", "xs")?,
-        value: String::from_str(alloc, "http://www.w3.org/2001/XMLSchema")?,
-    })?;
-    attributes.push(Attribute {
-        name: prefixed(alloc, "xmlns", "dfdl")?,
-        value: String::from_str(alloc, "http://www.ogf.org/dfdl/dfdl-1.0/")?,
-    })?;
-    Ok(attributes)
+/// The start tag with one attribute more.
+fn with(tag: StartTag, name: Name, value: &str, alloc: Global) -> Result<StartTag, AllocError> {
+    let (tag, _) = tag.with(name, String::from_str(alloc, value)?)?;
+    Ok(tag)
 }
 
-/// One attribute of no namespace.
-fn attribute(alloc: Global, name: &str, value: &str) -> Result<Vec<Attribute>, AllocError> {
-    let mut attributes = Vec::new(alloc);
-    attributes.push(Attribute {
-        name: Name::Plain(String::from_str(alloc, name)?),
-        value: String::from_str(alloc, value)?,
-    })?;
-    Ok(attributes)
+/// The start tag of a schema, with the declarations of the two prefixes.
+fn schema(alloc: Global) -> Result<StartTag, AllocError> {
+    let tag = StartTag::new(alloc, prefixed(alloc, "xs", "schema")?);
+    let name = prefixed(alloc, "xmlns", "xs")?;
+    let tag = with(tag, name, "http://www.w3.org/2001/XMLSchema", alloc)?;
+    let name = prefixed(alloc, "xmlns", "dfdl")?;
+    with(tag, name, "http://www.ogf.org/dfdl/dfdl-1.0/", alloc)
+}
+
+/// A start tag with one attribute of no namespace.
+fn tag_with(alloc: Global, part: &str, name: &str, value: &str) -> Result<StartTag, AllocError> {
+    let tag = StartTag::new(alloc, prefixed(alloc, "xs", part)?);
+    with(
+        tag,
+        Name::Plain(String::from_str(alloc, name)?),
+        value,
+        alloc,
+    )
 }
 
 /// A schema with an element in it that has one attribute.
 fn schema_with(alloc: Global, child: &str, name: &str, value: &str) -> Result<Tree, AllocError> {
     let mut growing = Growing::new(alloc);
-    growing.enters(prefixed(alloc, "xs", "schema")?, declarations(alloc)?, 0)?;
-    growing.adds(
-        prefixed(alloc, "xs", child)?,
-        attribute(alloc, name, value)?,
-        0,
-    )?;
+    growing.enters(schema(alloc)?, 0)?;
+    growing.adds(tag_with(alloc, child, name, value)?, 0)?;
     Ok(growing.finish())
 }
 
 /// A schema with an annotation element of DFDL's.
 fn annotated(alloc: Global, annotation: &str) -> Result<Tree, AllocError> {
     let mut growing = Growing::new(alloc);
-    growing.enters(prefixed(alloc, "xs", "schema")?, declarations(alloc)?, 0)?;
-    growing.enters(prefixed(alloc, "xs", "annotation")?, Vec::new(alloc), 0)?;
+    growing.enters(schema(alloc)?, 0)?;
     growing.enters(
-        prefixed(alloc, "xs", "appinfo")?,
-        attribute(alloc, "source", "http://www.ogf.org/dfdl/")?,
+        StartTag::new(alloc, prefixed(alloc, "xs", "annotation")?),
         0,
     )?;
-    growing.adds(prefixed(alloc, "dfdl", annotation)?, Vec::new(alloc), 0)?;
+    growing.enters(
+        tag_with(alloc, "appinfo", "source", "http://www.ogf.org/dfdl/")?,
+        0,
+    )?;
+    growing.adds(
+        StartTag::new(alloc, prefixed(alloc, "dfdl", annotation)?),
+        0,
+    )?;
     Ok(growing.finish())
 }
 

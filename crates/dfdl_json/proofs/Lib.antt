@@ -1,5 +1,12 @@
-mod FieldNames
+mod Answered
+pub mod Below
+mod Contents
+pub mod Declares
+mod ElementNames
+mod Fitted
+mod Inner
 mod JsonParts
-mod Records
+mod Notes
+pub mod RowValues
 mod TextReading
-mod Walks
+mod Typed

@@ -1,55 +1,32 @@
--- The events of a record's values, and the lists of events that fit the terms of a record.
-use Rattle.std.specs.Prelude.{◌≡◌, ℕ, ◌-◌, List, [], ◌∷◌, length, Option, None, Some, option_map, unwrap_or, Result, Ok, Err}
-use Rattle.serde_json.specs.Data.{Data}
+-- The lists of events that fit the terms of a schema ('The DFDL Information Set').
+use Rattle.std.specs.Prelude.{◌≡◌, ℕ, List, [], ◌∷◌, ◌++◌, Option, Some, None, slice_get}
+use Rattle.dfdl_forms.specs.declared.simple.Simple.{Simple}
 use Rattle.dfdl_value.specs.declared.value.Value.{Value}
 use Rattle.dfdl_value.specs.Types.{IsOfType}
 use Rattle.dfdl_terms.specs.declared.event.Event.{Event}
-use Rattle.dfdl_terms.specs.declared.event.Event.TheVariants.{Start, Simple, Nil, End}
+use Rattle.dfdl_terms.specs.declared.event.Event.TheVariants.{Start, Simple as SimpleElement, End}
+use Rattle.dfdl_terms.specs.declared.row.Row.TheVariants.{Elem}
 use Rattle.dfdl_terms.specs.Rows.{Table}
-use Rattle.dfdl_terms.specs.Record.{Field, Record, field_at, root_at}
-use Rattle.dfdl_json.specs.Infosets.{Refusal, values_of}
+use Rattle.dfdl_json.specs.Children.{root_row, elements_in}
 
--- the row of the root element
-abbrev pub root_row : Table → ℕ
-root_row t = length t.rows - 1
+mutual
+  -- The events of one element: a simple one has a value of its type, and a complex one begins, has the events of what
+  -- is inside, and ends.
+  pub data IsElement (t : Table) : ℕ → List Event → Type 0 where
+    simple : (row : ℕ) (name : List ℕ) (kind : Simple) (body : ℕ) (value : Value)
+        → slice_get t.rows row ≡ Some (Elem name (Some kind) body) → IsOfType kind value
+        → IsElement t row (SimpleElement row value ∷ [])
+    complex : (row : ℕ) (name : List ℕ) (body : ℕ) (inside : List Event)
+        → slice_get t.rows row ≡ Some (Elem name None body) → AreInside t (elements_in t body) inside
+        → IsElement t row (Start row ∷ (inside ++ End ∷ []))
 
--- the rows of its children, in schema order
-abbrev pub child_rows : Table → List ℕ
-child_rows t = unwrap_or (option_map (λ root. root.children) (root_at t)) []
+  -- The events of elements among these rows, in their order, each at most once.
+  pub data AreInside (t : Table) : List ℕ → List Event → Type 0 where
+    nothing : AreInside t [] []
+    absent : (row : ℕ) (rows : List ℕ) (events : List Event) → AreInside t rows events → AreInside t (row ∷ rows) events
+    present : (row : ℕ) (rows : List ℕ) (own more : List Event)
+        → IsElement t row own → AreInside t rows more → AreInside t (row ∷ rows) (own ++ more)
 
--- the events inside the root element and its end: one for each child that has a value
-abbrev pub content_events : List ℕ → List (Option Value) → List Event
-content_events (row ∷ rows) (Some value ∷ values) = Simple row value ∷ content_events rows values
-content_events (row ∷ rows) (None ∷ values) = content_events rows values
-content_events (row ∷ rows) [] = End ∷ []
-content_events [] values = End ∷ []
-
--- the events of a record whose fields have these values
-abbrev pub record_events : Table → List (Option Value) → List Event
-record_events t values = Start (root_row t) ∷ content_events (child_rows t) values
-
--- the events of values, or the refusal in their place
-abbrev pub events_if : Table → Result (List (Option Value)) Refusal → Result (List Event) Refusal
-events_if t (Ok values) = Ok (record_events t values)
-events_if t (Err refusal) = Err refusal
-
--- the events of a JSON value, or why it is no infoset
-abbrev pub events_in : Table → Record → Data → Result (List Event) Refusal
-events_in t described content = events_if t (values_of described content)
-
--- The events are of children among these rows, in their order, each at most once and with a value of its type, and then
--- the element ends.
-pub data FitsContent (t : Table) : List ℕ → List Event → Type 0 where
-  ends : (rows : List ℕ) → FitsContent t rows (End ∷ [])
-  passes : (row : ℕ) (rows : List ℕ) (events : List Event) → FitsContent t rows events → FitsContent t (row ∷ rows) events
-  takes : (row : ℕ) (rows : List ℕ) (field : Field) (value : Value) (events : List Event)
-      → field_at t row ≡ Some field → IsOfType field.form.kind value → FitsContent t rows events
-      → FitsContent t (row ∷ rows) (Simple row value ∷ events)
-
--- the list is that of the root element, once, with its children inside
+-- the list is that of the root element, once
 abbrev pub Fits : Table → List Event → Type 0
-Fits t [] = ⊥
-Fits t (Start row ∷ events) = (row ≡ root_row t) × FitsContent t (child_rows t) events
-Fits t (Simple row value ∷ events) = ⊥
-Fits t (Nil row ∷ events) = ⊥
-Fits t (End ∷ events) = ⊥
+Fits t events = IsElement t (root_row t) events

@@ -1,21 +1,39 @@
--- What a JSON value says of a record: for each field its value or nothing, or why the value is no infoset of the record.
-use Rattle.std.specs.Prelude.{ℕ, Bool, if◌then◌else◌, List, [], ◌∷◌, Option, None, Some, Result, Ok, Err}
-use Rattle.std.specs.List.{list_all, list_any}
+-- What a JSON value says as an infoset: the events of its elements in schema order, or why it is none
+-- ('The DFDL Information Set').
+use Rattle.std.specs.Prelude.{ℕ, ◌-◌, Bool, nat_lt, if◌then◌else◌, List, [], ◌∷◌, ◌++◌, length, map, Option, None, Some, Result, Ok, Err}
+use Rattle.std.specs.List.{list_all, list_any, flat_map}
 use Rattle.std.specs.Str.{bytes_eq}
 use Rattle.serde_json.specs.Data.{Data, null, boolean, number, string, array, object, Members, no_members, member}
 use Rattle.serde_json.specs.Find.{get_member}
 use Rattle.dfdl_forms.specs.declared.simple.Simple.{Simple}
 use Rattle.dfdl_value.specs.declared.value.Value.{Value}
 use Rattle.dfdl_value.specs.ReadValues.{Reading, reading_of}
-use Rattle.dfdl_report.specs.Paths.{whole_path, root_path, field_path}
-use Rattle.dfdl_terms.specs.Record.{Field, Record}
+use Rattle.dfdl_report.specs.Paths.{whole_path}
 use Rattle.dfdl_report.specs.declared.cause.InfosetCause.{InfosetCause}
 use Rattle.dfdl_report.specs.declared.cause.InfosetCause.TheVariants.{RootExpected, UnknownMember, ObjectExpected, StringExpected, NotAValue, NullNotAllowed}
+use Rattle.dfdl_terms.specs.Rows.{Table}
+use Rattle.dfdl_terms.specs.declared.row.Row.{Row}
+use Rattle.dfdl_terms.specs.declared.row.Row.TheVariants.{Leaf, Elem, Group}
+use Rattle.dfdl_terms.specs.declared.event.Event.{Event}
+use Rattle.dfdl_terms.specs.declared.event.Event.TheVariants.{Start, Simple as SimpleElement, End}
+use Rattle.dfdl_json.specs.ByRows.{by_rows}
+use Rattle.dfdl_json.specs.Children.{root_row, name_of, elements_in}
+use Rattle.dfdl_json.specs.Paths.{Names, path_of}
 
 -- why an infoset is refused, and the path of the element at which it is
 pub record Refusal : Type 0 where
   pub cause : InfosetCause
   pub path : List ℕ
+
+-- a refusal, and how many elements stand around what is refused
+pub record Placed : Type 0 where
+  pub level : ℕ
+  pub refusal : Refusal
+
+-- what one place in an infoset says: an event, or that it is refused
+pub data Finding : Type 0 where
+  Says : Event → Finding
+  Refuses : Placed → Finding
 
 -- the value that a text writes; it is none of the type's texts, or a number outside of the type, in one cause
 abbrev pub value_if : Reading → Result Value InfosetCause
@@ -31,61 +49,72 @@ value_in kind (number n) = Err StringExpected
 value_in kind (array items) = Err StringExpected
 value_in kind (object entries) = Err StringExpected
 
--- the value at a place, or the refusal there
-abbrev pub value_at : List ℕ → Result Value InfosetCause → Result Value Refusal
-value_at path (Ok value) = Ok value
-value_at path (Err cause) = Err (record { cause = cause; path = path })
+-- the element of these names is refused
+abbrev pub refused : InfosetCause → Names → Finding
+refused cause names = Refuses (record { level = length names - 1; refusal = record { cause = cause; path = path_of names } })
 
--- a value that is there
-abbrev pub present : Result Value Refusal → Result (Option Value) Refusal
-present (Ok value) = Ok (Some value)
-present (Err refusal) = Err refusal
+-- a member of the element of these names is refused; it stands beside the children
+abbrev pub unknown_in : Names → Finding
+unknown_in names =
+    Refuses (record { level = length names; refusal = record { cause = UnknownMember; path = path_of names } })
 
--- the value of a field, whose member may be absent
-abbrev pub value_of_field : List ℕ → Field → Option Data → Result (Option Value) Refusal
-value_of_field root field None = Ok None
-value_of_field root field (Some content) = present (value_at (field_path root field.name) (value_in field.form.kind content))
-
--- a first item before the others: the first refusal counts
-abbrev pub before : {A : Type 0} → Result A Refusal → Result (List A) Refusal → Result (List A) Refusal
-before (Err refusal) others = Err refusal
-before (Ok x) (Err refusal) = Err refusal
-before (Ok x) (Ok xs) = Ok (x ∷ xs)
-
--- the values of fields in schema order
-abbrev pub field_values : List ℕ → List Field → Members → Result (List (Option Value)) Refusal
-field_values root [] entries = Ok []
-field_values root (field ∷ fields) entries =
-    before (value_of_field root field (get_member field.name entries)) (field_values root fields entries)
+-- a simple element says its value, or is refused
+abbrev pub simple_findings : ℕ → Names → Result Value InfosetCause → List Finding
+simple_findings row names (Ok value) = Says (SimpleElement row value) ∷ []
+simple_findings row names (Err cause) = refused cause names ∷ []
 
 -- the names of an object's members
 abbrev pub names_of : Members → List (List ℕ)
 names_of no_members = []
 names_of (member name content rest) = name ∷ names_of rest
 
--- the field has this name
-abbrev pub has_name : List ℕ → Field → Bool
-has_name name field = bytes_eq field.name name
+-- one of the elements of these rows has the name
+abbrev pub is_declared : Table → List ℕ → List ℕ → Bool
+is_declared t elements name = list_any (λ row. bytes_eq (name_of t row) name) elements
 
--- each member has the name of a field
-abbrev pub are_known : List Field → Members → Bool
-are_known fields entries = list_all (λ name. list_any (has_name name) fields) (names_of entries)
+-- each member has the name of one of the elements of these rows
+abbrev pub are_known : Table → List ℕ → Members → Bool
+are_known t elements entries = list_all (is_declared t elements) (names_of entries)
 
--- what the members of the root element say: unknown members come before all that is inside
-abbrev pub members_values : Record → Members → Result (List (Option Value)) Refusal
-members_values described entries =
-    if are_known described.fields entries
-    then field_values described.root described.fields entries
-    else Err (record { cause = UnknownMember; path = root_path described.root })
+-- what members say beside the elements that are declared: one refusal where a member has no such name
+abbrev pub unknown_findings : Table → List ℕ → Names → Members → List Finding
+unknown_findings t elements names entries = if are_known t elements entries then [] else unknown_in names ∷ []
 
--- what the root element's content says
-abbrev pub content_values : Record → Data → Result (List (Option Value)) Refusal
-content_values described (object entries) = members_values described entries
-content_values described null = Err (record { cause = NullNotAllowed; path = root_path described.root })
-content_values described (boolean b) = Err (record { cause = ObjectExpected; path = root_path described.root })
-content_values described (number n) = Err (record { cause = ObjectExpected; path = root_path described.root })
-content_values described (string text) = Err (record { cause = ObjectExpected; path = root_path described.root })
-content_values described (array items) = Err (record { cause = ObjectExpected; path = root_path described.root })
+-- what the member of an element says of it; an absent one says nothing
+abbrev pub member_findings : (Data → Names → List Finding) → Names → Option Data → List Finding
+member_findings inside around None = []
+member_findings inside around (Some content) = inside content around
+
+-- what an object says of the elements that a complex element declares, in schema order
+abbrev pub children_findings : Table → (ℕ → Data → Names → List Finding) → List ℕ → Names → Members → List Finding
+children_findings t inside elements names entries =
+    flat_map (λ row. member_findings (inside row) names (get_member (name_of t row) entries)) elements
+
+-- a complex element is an object: it begins, unknown members are refused before all that is inside, and it ends
+abbrev pub complex_findings : Table → (ℕ → Data → Names → List Finding) → ℕ → List ℕ → Names → Data → List Finding
+complex_findings t inside row elements names (object entries) =
+    Says (Start row) ∷ (unknown_findings t elements names entries
+    ++ (children_findings t inside elements names entries ++ Says End ∷ []))
+complex_findings t inside row elements names null = refused NullNotAllowed names ∷ []
+complex_findings t inside row elements names (boolean b) = refused ObjectExpected names ∷ []
+complex_findings t inside row elements names (number n) = refused ObjectExpected names ∷ []
+complex_findings t inside row elements names (string text) = refused ObjectExpected names ∷ []
+complex_findings t inside row elements names (array items) = refused ObjectExpected names ∷ []
+
+-- what content says of a row's element, which stands in elements of these names, where `inside` has what it says of
+-- the rows below
+abbrev pub findings_by : Table → (ℕ → Data → Names → List Finding) → ℕ → Option Row → Data → Names → List Finding
+findings_by t inside row (Some (Elem name (Some kind) body)) content around =
+    simple_findings row (name ∷ around) (value_in kind content)
+findings_by t inside row (Some (Elem name None body)) content around =
+    complex_findings t inside row (elements_in t body) (name ∷ around) content
+findings_by t inside row (Some (Leaf prim)) content around = []
+findings_by t inside row (Some (Group children)) content around = []
+findings_by t inside row None content around = []
+
+-- what content says of the element of this row, which stands in elements of these names
+abbrev pub findings : Table → ℕ → Data → Names → List Finding
+findings t row = by_rows (findings_by t) (λ content around. []) t.rows row
 
 -- the content of the root element: the whole is an object whose only member has its name
 abbrev pub content_in : List ℕ → Data → Option Data
@@ -98,11 +127,38 @@ content_in root (number n) = None
 content_in root (string text) = None
 content_in root (array items) = None
 
--- what the content says, if there is one
-abbrev pub values_from : Record → Option Data → Result (List (Option Value)) Refusal
-values_from described None = Err (record { cause = RootExpected; path = whole_path })
-values_from described (Some content) = content_values described content
+-- what the content of the root element says, if there is one
+abbrev pub root_findings : Table → Option Data → List Finding
+root_findings t None =
+    Refuses (record { level = 0; refusal = record { cause = RootExpected; path = whole_path } }) ∷ []
+root_findings t (Some content) = findings t (root_row t) content []
 
--- what a JSON value says of a record
-abbrev pub values_of : Record → Data → Result (List (Option Value)) Refusal
-values_of described content = values_from described (content_in described.root content)
+-- the events that are said
+abbrev pub events_said : List Finding → List Event
+events_said [] = []
+events_said (Says event ∷ rest) = event ∷ events_said rest
+events_said (Refuses placed ∷ rest) = events_said rest
+
+-- of a refusal and what counts of those behind it: the outer one, and of one level the first
+abbrev pub outer : Placed → Option Placed → Placed
+outer first None = first
+outer first (Some later) = if nat_lt later.level first.level then later else first
+
+-- the refusal that counts: that at the outermost level, and there the first in schema order
+abbrev pub counting : List Finding → Option Placed
+counting [] = None
+counting (Says event ∷ rest) = counting rest
+counting (Refuses placed ∷ rest) = Some (outer placed (counting rest))
+
+-- the refusal, if there is one, else the events
+abbrev pub unless_refused : Option Placed → List Event → Result (List Event) Refusal
+unless_refused None events = Ok events
+unless_refused (Some placed) events = Err placed.refusal
+
+-- what findings come to
+abbrev pub answer_of : List Finding → Result (List Event) Refusal
+answer_of found = unless_refused (counting found) (events_said found)
+
+-- the events of a JSON value, or why it is no infoset
+abbrev pub events_in : Table → Data → Result (List Event) Refusal
+events_in t whole = answer_of (root_findings t (content_in (name_of t (root_row t)) whole))

@@ -1,5 +1,12 @@
 pub mod Answers
+pub mod ByRows
+pub mod Children
 pub mod Fitting
+pub mod Found
 pub mod Infosets
-pub mod Names
+pub mod Inside
+pub mod Lines
+pub mod Paths
+pub mod Reading
+pub mod Steps
 pub mod Texts

@@ -1,18 +1,27 @@
-// Infosets as JSON: the events of the JSON value that a record's infoset is.
+// Infosets as JSON, for any schema: the events of the JSON value that an infoset is, and the line of parsed data.
 //
-// The contract of `events_of` cites `values_of` of `specs/Infosets.antt`, which says what a JSON value gives each field
-// of a record or why it is refused, and `Fits` of `specs/Fitting.antt`, which says which lists of events fit the terms.
-// It serves 'The DFDL Information Set'.
+// The contract of `events_of` cites `events_in` of `specs/Infosets.antt`, which says what a JSON value says of each
+// element that the schema declares, or which refusal counts, and `Fits` of `specs/Fitting.antt`, which says which lists
+// of events fit the terms. That of `line_of` cites `infoset_of` of `specs/Lines.antt`. `specs/Children.antt` has the
+// elements that a schema declares, by recursion on its rows. It serves 'The DFDL Information Set'.
 #![tactic(auto)]
 
+pub mod children;
 mod events;
 pub mod fault;
+mod found;
+mod lines;
 mod members;
+pub mod path;
+mod reading;
 #[cfg(test)]
 mod tests;
 mod text;
 
+pub use children::{elements_in, name_of, push_all, root_row, row_at};
 pub use dfdl_report::InfosetCause;
 pub use events::events_of;
 pub use fault::InfosetFault;
+pub use lines::{line_of, value_of};
+pub use path::OpenElements;
 pub use text::events_of_json;

@@ -1,5 +1,5 @@
 // The parts of a JSON value: the root element's content, the names and the values of its members.
-ghost use Rattle.std.specs.Prelude.{◌≡◌, IfOk, IsSome, map, option_map, string_bytes};
+ghost use Rattle.std.specs.Prelude.{◌≡◌, IfOk, map, option_map, string_bytes};
 ghost use Rattle.std.specs.BTreeSet.{contains, contains_by};
 ghost use Rattle.std.specs.BTreeMap.{keys};
 ghost use Rattle.std.specs.List.{list_all};
@@ -9,12 +9,12 @@ ghost use Rattle.serde_json.specs.Find.{get_member};
 ghost use Rattle.serde_json.specs.View.{view, members_view};
 ghost use Rattle.dfdl_value.specs.Types.{IsOfType};
 ghost use Rattle.dfdl_value.specs.ReadValues.{reading_of};
-ghost use Rattle.dfdl_terms.specs.Record.{all_of, field_at, fields_at};
-ghost use Rattle.dfdl_json.specs.Infosets.{content_in, value_if, value_in};
-ghost use Rattle.dfdl_json.specs.Names.{HasNames};
+ghost use Rattle.dfdl_json.specs.Infosets.{content_in, value_if, value_in, are_known as all_known};
+ghost use Rattle.dfdl_json.specs.Reading.{HasNames};
 
+use crate::children::name_of;
 use dfdl_report::InfosetCause;
-use dfdl_terms::{RowId, Terms, field_of_row};
+use dfdl_terms::{RowId, Terms};
 use dfdl_value::{ReadFault, Simple, Value};
 use serde_json::{Map, Value as Json};
 use std::alloc::{AllocError, Global};
@@ -39,28 +39,36 @@ pub(crate) fn member_of<'v>(members: &'v Map<String, Json>, name: &str) -> Optio
     members.get(name)
 }
 
-// The names of the fields of these rows.
-pub(crate) fn names_of_fields<'t>(
+// Whether each member has the name of one of these elements.
+pub(crate) fn are_known(
+    alloc: Global,
+    terms: &Terms,
+    elements: &[RowId],
+    members: &Map<String, Json>,
+) -> Result<bool, AllocError>
+    ensures { IfOk result (λ known. known ≡ all_known terms.now elements.now (members_view members.now.entries)) }
+{
+    let names = names_of(alloc, terms, elements)?;
+    Ok(are_among(members, &names))
+}
+
+// The names of the elements of these rows.
+fn names_of<'t>(
     alloc: Global,
     terms: &'t Terms,
-    rows: &[RowId],
+    elements: &[RowId],
 ) -> Result<BTreeSet<&'t str>, AllocError>
-    requires { IsSome (all_of (map (field_at terms.now) rows.now)) }
-    ensures { IfOk result (λ names.
-        HasNames (contains (λ x y. slice_cmp nat_cmp x.now y.now) names) (fields_at terms.now rows.now)) }
+    ensures { IfOk result (λ names. HasNames (contains (λ x y. slice_cmp nat_cmp x.now y.now) names) terms.now elements.now) }
 {
     let mut names = BTreeSet::new(alloc);
-    for row in rows {
-        let Some(field) = field_of_row(terms, *row) else {
-            unreachable!()
-        };
-        names.insert(field.name)?;
+    for row in elements {
+        names.insert(name_of(terms, *row))?;
     }
     Ok(names)
 }
 
 // Whether each member has one of these names.
-pub(crate) fn are_members_known(members: &Map<String, Json>, names: &BTreeSet<&str>) -> bool
+fn are_among(members: &Map<String, Json>, names: &BTreeSet<&str>) -> bool
     ensures { result ≡ list_all (λ key. contains_by (λ k. slice_cmp nat_cmp (string_bytes key) k.now) names.now) (keys members.now) }
 {
     members.keys().all(|name| names.contains(name.as_str()))
@@ -73,7 +81,6 @@ pub(crate) fn read_member(
     member: &Json,
 ) -> Result<Result<Value, InfosetCause>, AllocError>
     ensures read { IfOk result (λ read. read ≡ value_in kind (view member.now)) }
-    ensures typed { IfOk result (λ read. IfOk read (IsOfType kind)) }
 {
     match member {
         Json::String(text) => read_text(alloc, kind, text.as_str()),
@@ -89,7 +96,6 @@ fn read_text(
     text: &str,
 ) -> Result<Result<Value, InfosetCause>, AllocError>
     ensures read { IfOk result (λ read. read ≡ value_if (reading_of kind text.now)) }
-    ensures typed { IfOk result (λ read. IfOk read (IsOfType kind)) }
 {
     match Value::read(alloc, kind, text) {
         Ok(value) => Ok(Ok(value)),

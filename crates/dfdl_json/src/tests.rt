@@ -1,11 +1,12 @@
-// Infosets of a record of two fields: `a`, an unsignedByte, and `b`, an unsignedShort.
-ghost use Rattle.std.specs.Prelude.{◌≡◌, ◌≤◌, IfOk, IsSome};
+// Infosets of `r`, which has `a` with `x` and, in a group inside, `y`, and behind `a` the number `b`.
+ghost use Rattle.std.specs.Prelude.{◌≡◌, ◌≤◌, IfOk};
 ghost use Rattle.dfdl_terms.specs.Rows.{IsPrimitive};
-ghost use Rattle.dfdl_terms.specs.declared.row.Row.TheVariants.{Elem};
-ghost use Rattle.dfdl_terms.specs.Record.{record_of};
+ghost use Rattle.dfdl_terms.specs.declared.row.Row.TheVariants.{Elem, Group};
+ghost use Rattle.dfdl_json.specs.Children.{HasElementLast};
 
-use crate::{InfosetFault, events_of};
+use crate::{InfosetFault, OpenElements, events_of, events_of_json, line_of, name_of};
 use dfdl_forms::{BitOrder, ByteOrder, IntForm};
+use dfdl_region::{Content, Node};
 use dfdl_terms::{Event, Primitive, Row, RowId, RowList, Tables, Terms};
 use dfdl_value::{Simple, TextValue, Value};
 use std::alloc::{AllocError, Global};
@@ -34,55 +35,58 @@ fn element(alloc: Global, name: &str, simple: Option<Simple>, body: u32) -> Resu
     })
 }
 
-// The rows 1 and 3 are the fields, the row 5 is the root element `r`.
-fn two_fields(alloc: Global) -> Result<Terms, Fail>
-    ensures { IfOk result (λ terms. IsSome (record_of terms)) }
+fn group(alloc: Global, children: &[RowId]) -> Result<Row, AllocError>
+    ensures { IfOk result (λ row. row ≡ Group children.now) }
 {
-    let forms = vec![in alloc;
-        form(8, Simple::UnsignedByte),
-        form(16, Simple::UnsignedShort),
-    ]?;
-    let children = vec![in alloc; RowId::new(1), RowId::new(3)]?;
+    Ok(Row::Group {
+        children: RowList::new(Vec::from_slice(alloc, children)?),
+    })
+}
+
+// The row 8 is the root element.
+fn nested(alloc: Global) -> Result<Terms, Fail>
+    ensures { IfOk result HasElementLast }
+{
+    let byte = Some(Simple::UnsignedByte);
     let rows = vec![in alloc;
         Row::Leaf { prim: 0 },
-        element(alloc, "a", Some(Simple::UnsignedByte), 0)?,
-        Row::Leaf { prim: 1 },
-        element(alloc, "b", Some(Simple::UnsignedShort), 2)?,
-        Row::Group {
-            children: RowList::new(children)
-        },
-        element(alloc, "r", None, 4)?,
+        element(alloc, "x", byte, 0)?,
+        element(alloc, "y", byte, 0)?,
+        group(alloc, &[RowId::new(2)])?,
+        group(alloc, &[RowId::new(1), RowId::new(3)])?,
+        element(alloc, "a", None, 4)?,
+        element(alloc, "b", byte, 0)?,
+        group(alloc, &[RowId::new(5), RowId::new(6)])?,
+        element(alloc, "r", None, 7)?,
     ]?;
+    let forms = vec![in alloc; form(8, Simple::UnsignedByte)]?;
     Ok(Terms::build(alloc, rows, Tables::new(forms))?)
 }
 
-fn event_shown(alloc: Global, event: &Event) -> Result<String, AllocError> {
+fn event_shown(alloc: Global, terms: &Terms, event: &Event) -> Result<String, AllocError> {
     match event {
-        Event::Start { elem } => format!(in alloc; "start {}", elem.number()),
+        Event::Start { elem } => format!(in alloc; "{} ", name_of(terms, *elem)),
         Event::Simple {
             elem,
             value: Value::Uns(number),
-        } => format!(in alloc; ", {} is {number}", elem.number()),
-        Event::End => String::from_str(alloc, ", end"),
-        _ => String::from_str(alloc, ", other"),
+        } => format!(in alloc; "{} is {number}, ", name_of(terms, *elem)),
+        Event::End => String::from_str(alloc, "end, "),
+        _ => String::from_str(alloc, "other, "),
     }
-}
-
-fn events_shown(alloc: Global, events: &[Event]) -> Result<String, AllocError> {
-    let mut shown = String::new(alloc);
-    for event in events {
-        let part = event_shown(alloc, event)?;
-        shown.push_str(part.as_str())?;
-    }
-    Ok(shown)
 }
 
 fn answer_shown(alloc: Global, terms: &Terms, text: &str) -> Result<String, Fail>
-    requires { IsSome (record_of terms.now) }
+    requires { HasElementLast terms.now }
 {
-    let value = serde_json::Value::from_str(alloc, text)?;
-    match events_of(alloc, terms, &value) {
-        Ok(events) => Ok(events_shown(alloc, &events)?),
+    match events_of_json(alloc, terms, text.as_bytes()) {
+        Ok(events) => {
+            let mut shown = String::new(alloc);
+            for event in &events {
+                let part = event_shown(alloc, terms, event)?;
+                shown.push_str(part.as_str())?;
+            }
+            Ok(shown)
+        }
         Err(InfosetFault::Bad { cause, path }) => {
             Ok(format!(in alloc; "I{} in {}", cause.number(), path.as_str())?)
         }
@@ -92,30 +96,18 @@ fn answer_shown(alloc: Global, terms: &Terms, text: &str) -> Result<String, Fail
 
 #[test]
 fn infosets_give_events_in_schema_order(rt: HostRuntime) -> Result<(), Fail> {
-    let terms = two_fields(rt.alloc())?;
+    let terms = nested(rt.alloc())?;
     for (text, events) in [
         (
-            r#"{"r":{"a":"1","b":"515"}}"#,
-            "start 5, 1 is 1, 3 is 515, end",
+            r#"{"r":{"a":{"x":"1","y":"2"},"b":"3"}}"#,
+            "r a x is 1, y is 2, end, b is 3, end, ",
         ),
         (
-            r#"{"r":{"b":"515","a":"1"}}"#,
-            "start 5, 1 is 1, 3 is 515, end",
+            r#"{"r":{"b":"3","a":{"y":" 2 ","x":"+1"}}}"#,
+            "r a x is 1, y is 2, end, b is 3, end, ",
         ),
-        (
-            r#"{"r":{"\u0061":"1","b":"\u0035"}}"#,
-            "start 5, 1 is 1, 3 is 5, end",
-        ),
-        (
-            r#"{"r":{"a":"007","b":"+7"}}"#,
-            "start 5, 1 is 7, 3 is 7, end",
-        ),
-        (
-            r#"{"r":{"a":" 7 ","b":"\t65535\n"}}"#,
-            "start 5, 1 is 7, 3 is 65535, end",
-        ),
-        (r#"{"r":{"b":"7"}}"#, "start 5, 3 is 7, end"),
-        (r#"{"r":{}}"#, "start 5, end"),
+        (r#"{"r":{"a":{"y":"\u0032"}}}"#, "r a y is 2, end, end, "),
+        (r#"{"r":{}}"#, "r end, "),
     ] {
         let shown = answer_shown(rt.alloc(), &terms, text)?;
         assert_eq!(rt; shown.as_str(), events, "{text}");
@@ -124,27 +116,64 @@ fn infosets_give_events_in_schema_order(rt: HostRuntime) -> Result<(), Fail> {
 }
 
 #[test]
-fn other_values_are_refused_at_their_element(rt: HostRuntime) -> Result<(), Fail> {
-    let terms = two_fields(rt.alloc())?;
+fn the_outermost_refusal_counts_and_of_one_level_the_first(rt: HostRuntime) -> Result<(), Fail> {
+    let terms = nested(rt.alloc())?;
     for (text, refusal) in [
+        ("{", "I1 in /"),
         ("[]", "I2 in /"),
-        ("{}", "I2 in /"),
-        (r#"{"q":{"a":"1","b":"515"}}"#, "I2 in /"),
-        (r#"{"q":{},"r":{"a":"1","b":"515"}}"#, "I2 in /"),
+        (r#"{"q":{}}"#, "I2 in /"),
+        (r#"{"q":{},"r":{}}"#, "I2 in /"),
         (r#"{"r":[]}"#, "I4 in /r"),
         (r#"{"r":null}"#, "I8 in /r"),
-        (r#"{"r":{"a":"1","zz":"2"}}"#, "I3 in /r"),
-        (r#"{"r":{"a":null,"zz":"2"}}"#, "I3 in /r"),
-        (r#"{"r":{"a":"256","b":"1"}}"#, "I7 in /r/a"),
-        (r#"{"r":{"a":"-1","b":null}}"#, "I7 in /r/a"),
-        (r#"{"r":{"a":"1","b":"one"}}"#, "I7 in /r/b"),
-        (r#"{"r":{"a":null,"b":"1"}}"#, "I8 in /r/a"),
-        (r#"{"r":{"a":["1"],"b":"1"}}"#, "I6 in /r/a"),
-        (r#"{"r":{"a":"1","b":515}}"#, "I6 in /r/b"),
-        (r#"{"r":{"a":"1","b":{}}}"#, "I6 in /r/b"),
+        (r#"{"r":{"zz":"2","a":null}}"#, "I3 in /r"),
+        (r#"{"r":{"a":{"x":1},"b":1}}"#, "I6 in /r/b"),
+        (r#"{"r":{"a":{"x":1,"zz":1},"b":"1"}}"#, "I3 in /r/a"),
+        (
+            r#"{"r":{"a":{"x":"256","y":null},"b":"1"}}"#,
+            "I7 in /r/a/x",
+        ),
+        (r#"{"r":{"a":{"x":"1","y":null},"b":"1"}}"#, "I8 in /r/a/y"),
+        (r#"{"r":{"a":"1","b":{}}}"#, "I4 in /r/a"),
     ] {
         let shown = answer_shown(rt.alloc(), &terms, text)?;
         assert_eq!(rt; shown.as_str(), refusal, "{text}");
     }
+    Ok(())
+}
+
+fn node(element: u32, parent: u32, content: Content) -> Node {
+    Node {
+        element: RowId::new(element),
+        parent,
+        content,
+    }
+}
+
+#[test]
+fn the_members_of_a_line_are_in_the_order_of_their_names(rt: HostRuntime) -> Result<(), Fail> {
+    let terms = nested(rt.alloc())?;
+    let nodes = [
+        node(8, 0, Content::Complex),
+        node(6, 0, Content::Unsigned(3)),
+        node(5, 0, Content::Complex),
+        node(2, 2, Content::Unsigned(2)),
+        node(1, 2, Content::Unsigned(1)),
+    ];
+    let line = line_of(rt.alloc(), &terms, &nodes)?;
+    assert_eq!(rt;
+        line.as_str(),
+        "{\"r\":{\"a\":{\"x\":\"1\",\"y\":\"2\"},\"b\":\"3\"}}\n"
+    );
+    Ok(())
+}
+
+#[test]
+fn a_value_in_memory_is_read(rt: HostRuntime) -> Result<(), Fail> {
+    let terms = nested(rt.alloc())?;
+    let value = serde_json::Value::from_str(rt.alloc(), r#"{"r":{}}"#)?;
+    let events = events_of(rt.alloc(), &terms, &value)?;
+    assert_eq!(rt; events.len(), 2);
+    let open = OpenElements::new(rt.alloc());
+    assert_eq!(rt; open.depth(), 0);
     Ok(())
 }

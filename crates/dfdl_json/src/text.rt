@@ -1,8 +1,8 @@
 // The events of the text of an infoset.
-ghost use Rattle.std.specs.Prelude.{◌≡◌, IfOk, IsSome, Some};
+ghost use Rattle.std.specs.Prelude.{IfOk};
 ghost use Rattle.serde_json.specs.View.{view};
-ghost use Rattle.dfdl_terms.specs.Record.{Record, record_of};
 ghost use Rattle.dfdl_json.specs.Answers.{Answers};
+ghost use Rattle.dfdl_json.specs.Children.{HasElementLast};
 ghost use Rattle.dfdl_json.specs.Fitting.{Fits};
 ghost use Rattle.dfdl_json.specs.Texts.{events_of_text, json_in};
 
@@ -15,12 +15,11 @@ use serde_json::Value as Json;
 use std::alloc::Global;
 
 /// The events of an infoset's text, in schema order. Bad comes exactly where the text is no JSON in UTF-8, or the value
-/// of it is no infoset of the record ('The DFDL Information Set'). Values that are nested deeper than 127 count as no
+/// of it is no infoset of the schema ('The DFDL Information Set'). Values that are nested deeper than 127 count as no
 /// JSON (profile).
 pub fn events_of_json(alloc: Global, terms: &Terms, text: &[u8]) -> Result<Vec<Event>, InfosetFault>
-    requires { IsSome (record_of terms.now) }
-    ensures answer { (described : Record) → record_of terms.now ≡ Some described
-        → Answers (λ events. events.items) (events_of_text terms.now described text.now) result }
+    requires { HasElementLast terms.now }
+    ensures answer { Answers (λ events. events.items) (events_of_text terms.now text.now) result }
     ensures fits { IfOk result (λ events. Fits terms.now events.items) }
 {
     let json = json_of(alloc, text)?;

@@ -42,7 +42,7 @@ module _ (s : Schema) (c : ℕ) (within : c < length s.uses) where
   led_by (ComplexElement name) ps can rows steps all = led_itself
   led_by (SimpleElement name simple prim) ps can rows steps all = led_itself
 
-pub led : (s : Schema) → HasOrder s.uses → AreOfOne s.uses s.components s.refusals → (c : ℕ) → c < length s.uses → IsLed s c (end_of s c)
+pub led : (s : Schema) → HasOrder s.uses → AreOfOne s.uses s.components s.refusals s.places → (c : ℕ) → c < length s.uses → IsLed s c (end_of s c)
 led s ordered one = by_parts s.uses ordered.0 ordered.1 (λ c. IsLed s c (end_of s c))
     (λ c within all.
     subst (IsLed s c) (sym (value_step s.uses ordered.0 (end_from s.components) 0 ordered.1 c within))

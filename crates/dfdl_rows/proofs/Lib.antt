@@ -1,8 +1,11 @@
 mod Parts
 mod Counts
-mod Reaching
 mod Tables
 mod RowsOf
 mod Walks
+mod Looks
+mod Named
+mod Elements
 mod Nesting
+mod Leaves
 mod Leading

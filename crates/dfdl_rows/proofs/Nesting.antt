@@ -75,7 +75,7 @@ own_nest (SimpleElement name simple prim) ps lasts first can long below =
     nests_cons first (Leaf prim) (Elem name (Some simple) first ∷ []) tt
     (nests_cons (first + 1) (Elem name (Some simple) first) [] (omega arith) (nests_none (first + 1 + 1)))
 
-module _ (s : Schema) (ordered : HasOrder s.uses) (one : AreOfOne s.uses s.components s.refusals) where
+module _ (s : Schema) (ordered : HasOrder s.uses) (one : AreOfOne s.uses s.components s.refusals s.places) where
   nested : (c : ℕ) → c < length s.uses → IsNested (rows_at s c)
   nested = by_parts s.uses ordered.0 ordered.1 (λ c. IsNested (rows_at s c))
       (λ c within all. record {
@@ -115,7 +115,7 @@ turn_named count f (p ∷ ps) all first =
     All-append (NamesWithin count) (f p first) (in_turn (map f ps) (first + length (f p first))) (all 0 p (omega arith) first)
     (turn_named count f ps (All-tail (λ (q : ℕ). IsNamed count (f q)) p ps all) (first + length (f p first)))
 
-pub rows_named : (s : Schema) → HasOrder s.uses → AreOfOne s.uses s.components s.refusals → (count : ℕ) → All (HasPrimitive count) s.components
+pub rows_named : (s : Schema) → HasOrder s.uses → AreOfOne s.uses s.components s.refusals s.places → (count : ℕ) → All (HasPrimitive count) s.components
     → (c : ℕ) → c < length s.uses → IsNamed count (rows_at s c)
 rows_named s ordered one count has = by_parts s.uses ordered.0 ordered.1 (λ c. IsNamed count (rows_at s c))
     (λ c within all first.
@@ -159,7 +159,7 @@ own_last (SimpleElement name simple prim) f ps can =
     ap (λ (rows : List Row). slice_get rows (length rows - 1)) regrouped
     ∙ (last_of (turn ++ Leaf prim ∷ []) row ∙ ap (λ (n : ℕ). Some (Elem name (Some simple) n)) same)
 
-pub rows_end : (s : Schema) → HasOrder s.uses → AreOfOne s.uses s.components s.refusals → (root : ℕ) → root < length s.uses
+pub rows_end : (s : Schema) → HasOrder s.uses → AreOfOne s.uses s.components s.refusals s.places → (root : ℕ) → root < length s.uses
     → EndsWith (component_at s.components root) (rows_of s root)
 rows_end s ordered one root within =
     subst (λ (rows : Numbered). EndsWith (component_at s.components root) (rows 0)) (sym (rows_step s ordered root within))

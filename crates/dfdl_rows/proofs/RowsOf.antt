@@ -65,6 +65,6 @@ some_own size (ComplexElement name) ps can all = omega arith
 some_own size (SimpleElement name simple prim) ps can all = omega arith
 
 -- each component has a row
-pub some_rows : (s : Schema) → HasOrder s.uses → AreOfOne s.uses s.components s.refusals → (c : ℕ) → c < length s.uses → 0 < size_of s c
+pub some_rows : (s : Schema) → HasOrder s.uses → AreOfOne s.uses s.components s.refusals s.places → (c : ℕ) → c < length s.uses → 0 < size_of s c
 some_rows s ordered one = by_parts s.uses ordered.0 ordered.1 (λ c. 0 < size_of s c)
     (λ c within all. subst (λ n. 0 < n) (sym (size_step s ordered c within)) (some_own (size_of s) (component_at s.components c) (uses_of s.uses c) (one.fit c within) all))

@@ -1,19 +1,25 @@
 -- The components of a schema: what each one is, and which components it has as its parts ('DFDL Schema Component Model').
 use Rattle.std.specs.Prelude.{◌≡◌, ℕ, ◌<◌, List, [], length, get_or, Option}
+use Rattle.dfdl_report.specs.declared.place.Place.{Place}
 use Rattle.dfdl_order.specs.Parts.{uses_of, IsOrder, Places}
 use Rattle.dfdl_rows.specs.declared.component.Component.{Component}
 use Rattle.dfdl_rows.specs.declared.component.Component.TheVariants.{Sequence, Reference, ComplexElement, SimpleElement}
 use Rattle.dfdl_rows.specs.declared.refusal.Refusal.{Refusal}
 
--- by a component's number: its parts in schema order, what it is, and the refusal of its own, if it has one
+-- by a component's number: its parts in schema order, what it is, the refusal of its own, if it has one, and where it begins
 pub record Schema : Type 0 where
   pub uses : List (List ℕ)
   pub components : List Component
   pub refusals : List (Option Refusal)
+  pub places : List Place
 
 -- what a component is
 abbrev pub component_at : List Component → ℕ → Component
 component_at components c = get_or components c Sequence
+
+-- where a component begins
+abbrev pub place_at : List Place → ℕ → Place
+place_at places c = get_or places c (record { document = 0; at = 0 })
 
 -- a component of this kind can have these parts: a complex element its content, a reference what it stands for, and a
 -- simple element none
@@ -24,9 +30,10 @@ CanHave (ComplexElement name) parts = length parts ≡ 1
 CanHave (SimpleElement name simple prim) parts = parts ≡ []
 
 -- the lists are those of one schema
-pub record AreOfOne (uses : List (List ℕ)) (components : List Component) (refusals : List (Option Refusal)) : Type 0 where
+pub record AreOfOne (uses : List (List ℕ)) (components : List Component) (refusals : List (Option Refusal)) (places : List Place) : Type 0 where
   pub counted : length components ≡ length uses
   pub judged : length refusals ≡ length uses
+  pub placed : length places ≡ length uses
   pub fit : (c : ℕ) → c < length uses → CanHave (component_at components c) (uses_of uses c)
 
 -- the components can be put in an order in which each stands behind its parts

@@ -1,8 +1,10 @@
 pub mod Components
 pub mod Refusals
+pub mod Looking
 pub mod Depths
 pub mod Sizes
 pub mod RowLists
+pub mod Leaves
 pub mod Answers
 pub mod Saturated
 pub mod Ends

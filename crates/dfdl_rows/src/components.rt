@@ -1,21 +1,24 @@
 // The components of a schema, with an order of them.
 ghost use Rattle.std.specs.Prelude.{◌≡◌, ◌<◌, ◌↔◌, length, All, IsTrue, false};
 ghost use Rattle.dfdl_order.specs.Parts.{uses_of, IsOrder};
-ghost use Rattle.dfdl_rows.specs.Components.{AreOfOne, CanHave, HasOrder, component_at};
+ghost use Rattle.dfdl_rows.specs.Components.{AreOfOne, CanHave, HasOrder, component_at, place_at};
 ghost use Rattle.dfdl_rows.specs.Refusals.{own_refusal};
 ghost use Rattle.dfdl_rows.specs.Components.{HasPrimitive};
 
 use crate::{Component, Refusal};
 use dfdl_order::{Order, Uses};
+use dfdl_report::Place;
 use std::marker::Model;
 
-/// The components of a schema by number: the parts of each one in schema order, what it is, and the refusal of its own.
+/// The components of a schema by number: the parts of each one in schema order, what it is, the refusal
+/// of its own, and where it begins.
 #[derive(Drop)]
 pub struct Components {
     uses: Uses,
     order: Order,
     components: Vec<Component>,
     refusals: Vec<Option<Refusal>>,
+    places: Vec<Place>,
 }
 
 impl Model for Components {
@@ -24,9 +27,9 @@ impl Model for Components {
 
     ghost Value = { Schema };
 
-    ghost view = { λ s. record { uses = s.uses; components = s.components.items; refusals = s.refusals.items } };
+    ghost view = { λ s. record { uses = s.uses; components = s.components.items; refusals = s.refusals.items; places = s.places.items } };
 
-    ghost invariant = { λ s. IsOrder s.uses s.order × AreOfOne s.uses s.components.items s.refusals.items };
+    ghost invariant = { λ s. IsOrder s.uses s.order × AreOfOne s.uses s.components.items s.refusals.items s.places.items };
 }
 
 impl Components {
@@ -36,23 +39,25 @@ impl Components {
         order: Order,
         components: Vec<Component>,
         refusals: Vec<Option<Refusal>>,
+        places: Vec<Place>,
     ) -> Components
         requires ordered { IsOrder uses order }
-        requires of_one { AreOfOne uses components.items refusals.items }
-        ensures { result ≡ record { uses = uses; components = components.items; refusals = refusals.items } }
+        requires of_one { AreOfOne uses components.items refusals.items places.items }
+        ensures { result ≡ record { uses = uses; components = components.items; refusals = refusals.items; places = places.items } }
     {
         Components {
             uses,
             order,
             components,
             refusals,
+            places,
         }
     }
 
     /// How many components there are.
     pub fn count(&self) -> u32
         ensures count { result ≡ length self.now.uses }
-        ensures of_one { AreOfOne self.now.uses self.now.components self.now.refusals }
+        ensures of_one { AreOfOne self.now.uses self.now.components self.now.refusals self.now.places }
     {
         self.uses.count()
     }
@@ -67,7 +72,7 @@ impl Components {
     /// What is known of the components. The call does nothing.
     pub(crate) fn facts(&self)
         ensures ordered { HasOrder self.now.uses }
-        ensures of_one { AreOfOne self.now.uses self.now.components self.now.refusals }
+        ensures of_one { AreOfOne self.now.uses self.now.components self.now.refusals self.now.places }
     {
         let _order = self.order();
         let _count = self.count();
@@ -98,17 +103,31 @@ impl Components {
     {
         self.refusals[number as usize]
     }
+
+    /// Where a component begins.
+    pub(crate) fn place(&self, number: u32) -> Place
+        requires { number < length self.now.uses }
+        ensures { result ≡ place_at self.now.places number }
+    {
+        self.places[number as usize]
+    }
 }
 
-/// These components and refusals are as many as the lists of parts, and each component can have its parts.
-pub fn are_of_one(uses: &Uses, components: &[Component], refusals: &[Option<Refusal>]) -> bool
-    ensures of_one { IsTrue result → AreOfOne uses.now components.now refusals.now }
-    ensures other { result ≡ false → AreOfOne uses.now components.now refusals.now → ⊥ }
+/// These components, refusals and places are as many as the lists of parts, and each component can have its parts.
+pub fn are_of_one(
+    uses: &Uses,
+    components: &[Component],
+    refusals: &[Option<Refusal>],
+    places: &[Place],
+) -> bool
+    ensures of_one { IsTrue result → AreOfOne uses.now components.now refusals.now places.now }
+    ensures other { result ≡ false → AreOfOne uses.now components.now refusals.now places.now → ⊥ }
 {
-    let count = uses.count();
-    if components.len() != count as usize || refusals.len() != count as usize {
+    let count = uses.count() as usize;
+    if components.len() != count || refusals.len() != count || places.len() != count {
         return false;
     }
+    let count = uses.count();
     for number in 0..count {
         if !can_have(&components[number as usize], uses.of(number)) {
             return false;

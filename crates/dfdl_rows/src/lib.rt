@@ -11,6 +11,8 @@ mod components;
 mod depths;
 mod ends;
 mod fault;
+mod idle;
+mod looking;
 mod refusal;
 mod refusals;
 mod rows;

@@ -6,7 +6,7 @@ use super::*;
 use dfdl_forms::{BitOrder, ByteOrder, IntForm, Simple};
 use dfdl_order::{Uses, order_of};
 use dfdl_report::{LimitCause, Place, SchemaCause};
-use dfdl_terms::{Primitive, RowId, Tables, Terms, field_of_row, root_of_record};
+use dfdl_terms::{Primitive, Row, RowId, Tables, Terms};
 use dfdl_value::TextValue;
 use std::alloc::{AllocError, Global};
 use std::test::Fail;
@@ -17,6 +17,7 @@ struct Gathered {
     uses: Uses,
     components: Vec<Component>,
     refusals: Vec<Option<Refusal>>,
+    places: Vec<Place>,
 }
 
 impl Gathered {
@@ -25,6 +26,7 @@ impl Gathered {
             uses: Uses::new(alloc),
             components: Vec::new(alloc),
             refusals: Vec::new(alloc),
+            places: Vec::new(alloc),
         }
     }
 
@@ -34,6 +36,8 @@ impl Gathered {
         };
         self.components.push(component)?;
         self.refusals.push(None)?;
+        let at = self.places.len() as u64;
+        self.places.push(Place { document: 0, at })?;
         Ok(())
     }
 
@@ -50,8 +54,9 @@ impl Gathered {
             uses,
             components,
             refusals,
+            places,
         } = self;
-        if !uses.is_closed() || !are_of_one(&uses, &components, &refusals) {
+        if !uses.is_closed() || !are_of_one(&uses, &components, &refusals, &places) {
             return None;
         }
         if !have_primitives(&components, 1) {
@@ -60,7 +65,7 @@ impl Gathered {
         let Ok(order) = order_of(alloc, &uses) else {
             return None;
         };
-        Some(Components::new(uses, order, components, refusals))
+        Some(Components::new(uses, order, components, refusals, places))
     }
 }
 
@@ -72,8 +77,13 @@ fn refusal(at: u64) -> Refusal {
 }
 
 fn simple(alloc: Global) -> Result<Component, AllocError> {
+    named(alloc, "a")
+}
+
+// A simple element of this name.
+fn named(alloc: Global, name: &str) -> Result<Component, AllocError> {
     Ok(Component::SimpleElement {
-        name: TextValue::from_str(alloc, "a")?,
+        name: TextValue::from_str(alloc, name)?,
         simple: Simple::Int,
         prim: 0,
     })
@@ -85,18 +95,19 @@ fn complex(alloc: Global) -> Result<Component, AllocError> {
     })
 }
 
-// A root whose content has an element twice: by a reference that stands before it and by itself.
+// A root whose content has two elements: one by a reference that stands before the other.
 fn used_twice(alloc: Global) -> Result<Gathered, RowsFault> {
     let mut gathered = Gathered::new(alloc);
     gathered.push(complex(alloc)?, &[1])?;
     gathered.push(Component::Sequence, &[3, 2])?;
     gathered.push(simple(alloc)?, &[])?;
-    gathered.push(Component::Reference, &[2])?;
+    gathered.push(Component::Reference, &[4])?;
+    gathered.push(named(alloc, "b")?, &[])?;
     Ok(gathered)
 }
 
-// A root over sequences, each of which has the next one twice; the last one is an element.
-fn doubled(alloc: Global, levels: u32) -> Result<Gathered, RowsFault>
+// A root over sequences, each of which has the next one twice; the last one is an element where it is asked for.
+fn doubled_with(alloc: Global, levels: u32, last: Component) -> Result<Gathered, RowsFault>
     requires { levels < 100 }
 {
     let mut gathered = Gathered::new(alloc);
@@ -104,8 +115,15 @@ fn doubled(alloc: Global, levels: u32) -> Result<Gathered, RowsFault>
     for level in 0..levels {
         gathered.push(Component::Sequence, &[level + 2, level + 2])?;
     }
-    gathered.push(simple(alloc)?, &[])?;
+    gathered.push(last, &[])?;
     Ok(gathered)
+}
+
+// The same, where the last one is a sequence.
+fn doubled(alloc: Global, levels: u32) -> Result<Gathered, RowsFault>
+    requires { levels < 100 }
+{
+    doubled_with(alloc, levels, Component::Sequence)
 }
 
 // How many rows the first component has, or why it has none.
@@ -153,26 +171,64 @@ fn terms(alloc: Global, gathered: Gathered) -> Result<Option<Terms>, RowsFault> 
 fn gives_rows_once_for_each_use(rt: HostRuntime) -> Result<(), Fail> {
     let alloc = rt.alloc();
     let terms = terms(alloc, used_twice(alloc)?)?.expect(&rt, "terms");
-    let root = root_of_record(&terms).expect(&rt, "a root");
-    assert_eq!(rt; root.name, "r");
-    assert_eq!(rt; root.children, [RowId::new(1), RowId::new(3)].as_slice());
-    assert_eq!(rt; field_of_row(&terms, RowId::new(3)).is_some(), true);
+    // A leaf and an element for each of two, their sequence, the root.
+    assert_eq!(rt; terms.rows(), 6);
+    let Row::Elem { name, body, .. } = terms.row(RowId::new(terms.rows() - 1)) else {
+        return Err(Fail::new("no root"));
+    };
+    assert_eq!(rt; name.as_str(), "r");
+    assert_eq!(rt; body.number(), 4);
     Ok(())
 }
 
 #[test]
 fn counts_what_is_shared_to_the_limit(rt: HostRuntime) -> Result<(), Fail> {
     let alloc = rt.alloc();
-    // 14 levels have 3 * 2^14 rows: the root's, 2^14 - 1 of sequences and two for each of 2^14 elements.
-    assert_eq!(rt; count_of(alloc, doubled(alloc, 14)?, 2, 49152), Ok(49152));
+    // 14 levels have 2^15 rows: the root's, and 2^15 - 1 of sequences.
+    assert_eq!(rt; count_of(alloc, doubled(alloc, 14)?, 1, 32768), Ok(32768));
     assert_eq!(rt;
-        count_of(alloc, doubled(alloc, 14)?, 2, 49151),
-        limit(LimitCause::Rows, 49151)
+        count_of(alloc, doubled(alloc, 14)?, 1, 32767),
+        limit(LimitCause::Rows, 32767)
     );
     assert_eq!(rt;
-        count_of(alloc, doubled(alloc, 40)?, 2, 65535),
+        count_of(alloc, doubled(alloc, 40)?, 1, 65535),
         limit(LimitCause::Rows, 65535)
     );
+    Ok(())
+}
+
+fn twice(at: u64) -> Result<usize, RowsFault> {
+    Err(RowsFault::Refused(Refusal {
+        cause: SchemaCause::ElementTwice,
+        place: Place { document: 0, at },
+    }))
+}
+
+#[test]
+fn refuses_the_later_of_two_elements_of_one_name(rt: HostRuntime) -> Result<(), Fail> {
+    let alloc = rt.alloc();
+    // The element of a sequence that doubles is its own second use.
+    let doubled = doubled_with(alloc, 40, simple(alloc)?)?;
+    assert_eq!(rt; count_of(alloc, doubled, 2, 65535), twice(41));
+    // The root's name doesn't count inside of it, and a name in another complex element doesn't count.
+    let mut nested = Gathered::new(alloc);
+    nested.push(complex(alloc)?, &[1])?;
+    nested.push(Component::Sequence, &[2, 3, 5])?;
+    nested.push(complex(alloc)?, &[4])?;
+    nested.push(simple(alloc)?, &[])?;
+    nested.push(Component::Sequence, &[3])?;
+    nested.push(Component::Sequence, &[6])?;
+    nested.push(named(alloc, "b")?, &[])?;
+    assert_eq!(rt; count_of(alloc, nested, 3, 65535), Ok(11));
+    // A refusal of its own counts before the name, and the name before a later refusal.
+    let mut both = Gathered::new(alloc);
+    both.push(complex(alloc)?, &[1])?;
+    both.push(Component::Sequence, &[2, 3, 4])?;
+    both.push(simple(alloc)?, &[])?;
+    both.push(simple(alloc)?, &[])?;
+    both.push(named(alloc, "b")?, &[])?;
+    both.refuse(4, 9);
+    assert_eq!(rt; count_of(alloc, both, 2, 65535), twice(3));
     Ok(())
 }
 

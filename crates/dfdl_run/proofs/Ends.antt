@@ -11,7 +11,7 @@ use Rattle.dfdl_edge.specs.Whole.{IsUsedUp}
 use Rattle.dfdl_report.specs.Lines.{memory_line}
 use Rattle.dfdl_report.specs.declared.cause.LimitCause.TheVariants.{Input, Window, Nodes, Text, Depth, Schema, Schemas, Rows}
 use Rattle.dfdl_documents.specs.Faults.{IsFailed}
-use Rattle.dfdl_terms.specs.Record.{Record}
+use Rattle.dfdl_terms.specs.Rows.{Table}
 use Rattle.dfdl_run.specs.declared.command.Verb.{Verb}
 use Rattle.dfdl_run.specs.declared.answer.Answer.{Answer}
 use Rattle.dfdl_run.specs.declared.answer.Answer.TheVariants.{Done, LeftOver, Failed, Unparsed}
@@ -22,13 +22,14 @@ use Rattle.dfdl_run.specs.declared.stop.Stop.TheVariants.{SourceFailed}
 use Rattle.dfdl_run.specs.declared.stop.Stop.TheVariants.{Limit, OutOfMemory}
 use Rattle.dfdl_run.specs.Answer.{End, status_of, written_of, note_of}
 use Rattle.dfdl_run.specs.Decided.{Decided, by_words, by_schema, by_data, AreFewLoads, IsLoadFault, IsReadEnd}
-use Rattle.dfdl_run.specs.Expects.{Expects, no_command, no_documents, no_schema, long_input}
+use Rattle.dfdl_run.specs.Expects.{Expects, no_command, no_documents, no_schema, no_rows, long_input}
 use Rattle.dfdl_run.specs.Expects.{meant, is_excused, Tells, Gives, NoneFailed, IsAsExpected}
 use Rattle.dfdl_run.specs.Finished.{Finished, all, no_sink, no_memory, Writes}
 use Rattle.dfdl_run.specs.Outside.{Inputs, Outside}
 use Rattle.dfdl_run.specs.Run.{IsRun, FilesFail, SinkFails, SourceFails, is_of_data}
 use Rattle.dfdl_run.specs.Run.{is_before_data}
 use Rattle.dfdl_run.specs.Schemas.{asked}
+use Rattle.dfdl_run.proofs.Excuses.{end_excused, limit_excused}
 use Rattle.dfdl_run.proofs.Rankings.{LoadingIsOne, Ranked, same, files, source, memory, ranked, due_memory}
 
 adds_front : (old new : Option (List ℕ)) (piece : List ℕ) → Adds old piece new
@@ -59,8 +60,9 @@ memory_excused : (words : List (List ℕ)) (told : Inputs) (b : End) → Expects
 memory_excused words told _ (no_command at place) = refl
 memory_excused words told _ (no_documents order due orders expects) = due_memory told.files order.schema due expects
 memory_excused words told _ (no_schema order documents cause document at orders there loaded wrong) = refl
-memory_excused words told _ (long_input order documents described bytes orders there loaded schema input_is long) = refl
-memory_excused words told _ (meant order documents described bytes orders there loaded schema input_is few) = refl
+memory_excused words told _ (no_rows order documents cause quantity orders there loaded past) = limit_excused cause quantity
+memory_excused words told _ (long_input order documents table bytes orders there loaded schema input_is long) = refl
+memory_excused words told _ (meant order documents table bytes orders there loaded schema input_is few) = (end_excused order.verb table bytes).memory
 
 -- the statuses of answers are those of data
 of_data : (answer : Answer) → IsTrue (is_of_data (status_of (Ok answer)))
@@ -146,36 +148,37 @@ answer_late (NotUnparsed pieces cause path) early = cc
 answer_late (NoInfoset cause path) early = cc
 
 -- what the source came to has no status of what stops a run before
-read_late : (verb : Verb) (described : Record) (before after : SourceSeen) (e : End)
-    → IsReadEnd verb described before after e
+read_late : (verb : Verb) (table : Table) (before after : SourceSeen) (e : End)
+    → IsReadEnd verb table before after e
     → IsTrue (is_before_data (status_of e)) → ⊥
-read_late verb described before after (Ok answer) read early = answer_late answer early
-read_late verb described before after (Err SourceFailed) read early = cc
-read_late verb described before after (Err OutOfMemory) read early = cc
-read_late verb described before after (Err (Limit cause quantity)) read early = cc
-read_late verb described before after (Err (Usage word)) read early = absurd read
-read_late verb described before after (Err (FilesFailed name)) read early = absurd read
-read_late verb described before after (Err (NoDocument cause document at)) read early = absurd read
-read_late verb described before after (Err (Refused cause document at)) read early = absurd read
+read_late verb table before after (Ok answer) read early = answer_late answer early
+read_late verb table before after (Err SourceFailed) read early = cc
+read_late verb table before after (Err OutOfMemory) read early = cc
+read_late verb table before after (Err (Limit cause quantity)) read early = cc
+read_late verb table before after (Err (Usage word)) read early = absurd read
+read_late verb table before after (Err (FilesFailed name)) read early = absurd read
+read_late verb table before after (Err (NoDocument cause document at)) read early = absurd read
+read_late verb table before after (Err (Refused cause document at)) read early = absurd read
 
-read_used : (verb : Verb) (described : Record) (before after : SourceSeen) (e : End)
-    → IsReadEnd verb described before after e
+read_used : (verb : Verb) (table : Table) (before after : SourceSeen) (e : End)
+    → IsReadEnd verb table before after e
     → IsTrue (is_of_data (status_of e)) → IsUsedUp before.left after.left
-read_used verb described before after (Ok answer) read of = read.used_up
-read_used verb described before after (Err stop) read of = absurd (stop_early stop of)
+read_used verb table before after (Ok answer) read of = read.used_up
+read_used verb table before after (Err stop) read of = absurd (stop_early stop of)
 
 -- the count of faults of the source stands where no read failed
-read_still : (verb : Verb) (described : Record) (before after : SourceSeen) (e : End)
-    → IsReadEnd verb described before after e
+read_still : (verb : Verb) (table : Table) (before after : SourceSeen) (e : End)
+    → IsReadEnd verb table before after e
     → (e ≡ Err SourceFailed → ⊥) → after.faults ≡ before.faults
-read_still verb described before after (Ok answer) read well = read.still
-read_still verb described before after (Err SourceFailed) read well = absurd (well refl)
-read_still verb described before after (Err OutOfMemory) read well = read
-read_still verb described before after (Err (Limit cause quantity)) read well = read.3
-read_still verb described before after (Err (Usage word)) read well = absurd read
-read_still verb described before after (Err (FilesFailed name)) read well = absurd read
-read_still verb described before after (Err (NoDocument cause document at)) read well = absurd read
-read_still verb described before after (Err (Refused cause document at)) read well = absurd read
+read_still verb table before after (Ok answer) read well = read.still
+read_still verb table before after (Err SourceFailed) read well = absurd (well refl)
+read_still verb table before after (Err OutOfMemory) read well = read
+read_still verb table before after (Err (Limit cause quantity)) (inl long) well = long.still
+read_still verb table before after (Err (Limit cause quantity)) (inr answered) well = answered.still
+read_still verb table before after (Err (Usage word)) read well = absurd read
+read_still verb table before after (Err (FilesFailed name)) read well = absurd read
+read_still verb table before after (Err (NoDocument cause document at)) read well = absurd read
+read_still verb table before after (Err (Refused cause document at)) read well = absurd read
 
 -- no schema is no usage
 load_late : (before after : FilesSeen) (name : List ℕ) (stop : Stop)
@@ -198,9 +201,10 @@ load_still before after name (NoDocument cause document at) fault well =
     ap (λ (f : FilesSeen). f.faults) fault.refused.seen
 load_still before after name (Refused cause document at) fault well =
     ap (λ (f : FilesSeen). f.faults) fault.loaded.seen
-load_still before after name (Limit Schema quantity) fault well = ap (λ (f : FilesSeen). f.faults) fault.1.seen
-load_still before after name (Limit Schemas quantity) fault well = ap (λ (f : FilesSeen). f.faults) fault.1.seen
-load_still before after name (Limit cause quantity) fault well = absurd fault
+load_still before after name (Limit Schema quantity) (inl limit) well = ap (λ (f : FilesSeen). f.faults) limit.1.seen
+load_still before after name (Limit Schemas quantity) (inl limit) well = ap (λ (f : FilesSeen). f.faults) limit.1.seen
+load_still before after name (Limit cause quantity) (inl limit) well = absurd limit
+load_still before after name (Limit cause quantity) (inr past) well = ap (λ (f : FilesSeen). f.faults) past.loaded.seen
 load_still before after name OutOfMemory fault well = fault
 load_still before after name (Usage word) fault well = absurd fault
 load_still before after name SourceFailed fault well = absurd fault
@@ -306,8 +310,8 @@ module _ (loading : LoadingIsOne) (words : List (List ℕ)) (before after : Outs
   source_rises end (by_schema order stop orders is fault loads unread) =
       let same_stop : stop ≡ SourceFailed = let no = sym is ∙ end in cc in
       absurd (subst (λ (s : Stop). IsLoadFault before.inputs.files after.inputs.files order.schema s) same_stop fault)
-  source_rises end (by_data order described orders found read) =
-      subst (λ (e : End). IsReadEnd order.verb described before.inputs.source after.inputs.source e) end read
+  source_rises end (by_data order table orders found read) =
+      subst (λ (e : End). IsReadEnd order.verb table before.inputs.source after.inputs.source e) end read
 
   source_failed : Finished a before.outputs after.outputs status → status ≡ 5
       → SourceFails before after
@@ -344,8 +348,8 @@ module _ (loading : LoadingIsOne) (words : List (List ℕ)) (before after : Outs
               subst (λ (e : End). Tells (note_of e) before.outputs.notes after.outputs.notes) end gives.told;
         };
       }
-  names name end gives (by_data order described orders found read) =
-      absurd (subst (λ (e : End). IsReadEnd order.verb described before.inputs.source after.inputs.source e) end read)
+  names name end gives (by_data order table orders found read) =
+      absurd (subst (λ (e : End). IsReadEnd order.verb table before.inputs.source after.inputs.source e) end read)
 
   files_failed : Finished a before.outputs after.outputs status → status ≡ 7
       → FilesFail words before after
@@ -386,12 +390,12 @@ module _ (loading : LoadingIsOne) (words : List (List ℕ)) (before after : Outs
       → IsTrue (is_before_data status) → after.inputs.source ≡ before.inputs.source
   unread end (by_words at place is untouched) early = ap (λ (i : Inputs). i.source) untouched
   unread end (by_schema order stop orders is fault loads kept) early = kept
-  unread (all gives still) (by_data order described orders found read) early =
-      absurd (read_late order.verb described before.inputs.source after.inputs.source a read
+  unread (all gives still) (by_data order table orders found read) early =
+      absurd (read_late order.verb table before.inputs.source after.inputs.source a read
       (subst (λ (s : ℕ). IsTrue (is_before_data s)) gives.status_is early))
-  unread (no_sink line number rose written told) (by_data order described orders found read) early =
+  unread (no_sink line number rose written told) (by_data order table orders found read) early =
       absurd (let no : IsTrue (is_before_data 6) = subst (λ (s : ℕ). IsTrue (is_before_data s)) number early in cc)
-  unread (no_memory number none told) (by_data order described orders found read) early =
+  unread (no_memory number none told) (by_data order table orders found read) early =
       absurd (let no : IsTrue (is_before_data 9) = subst (λ (s : ℕ). IsTrue (is_before_data s)) number early in cc)
 
   unloaded : Finished a before.outputs after.outputs status
@@ -405,11 +409,11 @@ module _ (loading : LoadingIsOne) (words : List (List ℕ)) (before after : Outs
       no_usage (inl own) =
           load_late before.inputs.files after.inputs.files order.schema stop fault (sym own ∙ four)
       no_usage (inr none) = absurd (omega arith)
-  unloaded (all gives still) (by_data order described orders found read) four =
-      absurd (read_late order.verb described before.inputs.source after.inputs.source a read
+  unloaded (all gives still) (by_data order table orders found read) four =
+      absurd (read_late order.verb table before.inputs.source after.inputs.source a read
       (subst (λ (s : ℕ). IsTrue (is_before_data s)) (sym four ∙ gives.status_is) refl))
-  unloaded (no_sink line number rose written told) (by_data order described orders found read) four = absurd (omega arith)
-  unloaded (no_memory number none told) (by_data order described orders found read) four = absurd (omega arith)
+  unloaded (no_sink line number rose written told) (by_data order table orders found read) four = absurd (omega arith)
+  unloaded (no_memory number none told) (by_data order table orders found read) four = absurd (omega arith)
 
   used_up : Finished a before.outputs after.outputs status
       → Decided words before.inputs after.inputs a
@@ -422,8 +426,8 @@ module _ (loading : LoadingIsOne) (words : List (List ℕ)) (before after : Outs
       absurd (stop_early (Usage (at + 1)) (subst (λ (s : ℕ). IsTrue (is_of_data s)) (gives.status_is ∙ ap status_of is) of))
   used_up (all gives still) (by_schema order stop orders is fault loads kept) of =
       absurd (stop_early stop (subst (λ (s : ℕ). IsTrue (is_of_data s)) (gives.status_is ∙ ap status_of is) of))
-  used_up (all gives still) (by_data order described orders found read) of =
-      read_used order.verb described before.inputs.source after.inputs.source a read
+  used_up (all gives still) (by_data order table orders found read) of =
+      read_used order.verb table before.inputs.source after.inputs.source a read
       (subst (λ (s : ℕ). IsTrue (is_of_data s)) gives.status_is of)
 
   out_still : Finished a before.outputs after.outputs status → (status ≡ 6 → ⊥)
@@ -440,8 +444,8 @@ module _ (loading : LoadingIsOne) (words : List (List ℕ)) (before after : Outs
       ap (λ (i : Inputs). i.source.faults) untouched
   source_still end (by_schema order stop orders is fault loads kept) not_failed some =
       ap (λ (s : SourceSeen). s.faults) kept
-  source_still end (by_data order described orders found read) not_failed some =
-      read_still order.verb described before.inputs.source after.inputs.source a read
+  source_still end (by_data order table orders found read) not_failed some =
+      read_still order.verb table before.inputs.source after.inputs.source a read
       (λ is. either (stopped SourceFailed is end))
     where
       either : (status ≡ 5) ⊎ (status ≡ 9) → ⊥
@@ -462,14 +466,14 @@ module _ (loading : LoadingIsOne) (words : List (List ℕ)) (before after : Outs
       either (inl own) (inl failed) = not_failed (own ∙ failed)
       either (inl own) (inr none) = some (own ∙ none)
       either (inr none) number = some none
-  files_still end (by_data order described orders found read) not_failed some =
+  files_still end (by_data order table orders found read) not_failed some =
       ap (λ (f : FilesSeen). f.faults) found.loaded.seen
 
   few_loads : Decided words before.inputs after.inputs a → AreFewLoads before.inputs.files after.inputs.files
   few_loads (by_words at place is untouched) =
       record { n = 0; few = omega arith; loads = ap (λ (i : Inputs). i.files.loads) untouched }
   few_loads (by_schema order stop orders is fault loads kept) = loads
-  few_loads (by_data order described orders found read) = record {
+  few_loads (by_data order table orders found read) = record {
     n = length found.documents;
     few = found.loaded.are.few;
     loads = ap (λ (f : FilesSeen). f.loads) found.loaded.seen;

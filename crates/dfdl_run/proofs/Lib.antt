@@ -1,13 +1,10 @@
 pub mod Decisions
 pub mod Ends
-pub mod LineTexts
-pub mod Lines
-pub mod LinesBack
+pub mod Excuses
 pub mod Loads
-pub mod MemberLists
+pub mod Parses
 pub mod PieceLemmas
 pub mod Rankings
-pub mod Readings
-pub mod Unparsings
-pub mod WholeRecords
+pub mod Stops
+pub mod Tables
 pub mod Words

@@ -6,7 +6,7 @@ use Rattle.std.proofs.Math.Seq.{take-append-add, drop-cons}
 use Rattle.std.proofs.lemmas.Grind.{flat_map-append}
 use Rattle.std.proofs.lemmas.List.{take-append-drop, take-append-le, take_min, take_more, take_all}
 use Rattle.dfdl_edge.specs.Sink.{Adds, AddsFront}
-use Rattle.dfdl_record.specs.Pieces.{joined}
+use Rattle.dfdl_pieces.specs.Pieces.{joined}
 
 -- pieces, cut at one of them
 joined_cut : (xs : List (List ℕ)) (i : ℕ) (d : List ℕ) → i < length xs

@@ -6,6 +6,7 @@ use Rattle.dfdl_fronts.proofs.Places.{one_place}
 use Rattle.dfdl_edge.specs.Faults.{Rose}
 use Rattle.dfdl_edge.specs.Files.{FilesSeen}
 use Rattle.dfdl_report.specs.declared.cause.SchemaCause.{SchemaCause}
+use Rattle.dfdl_report.specs.declared.cause.LimitCause.{LimitCause}
 use Rattle.dfdl_report.specs.declared.cause.LimitCause.TheVariants.{Input, Schema, Schemas}
 use Rattle.dfdl_documents.specs.Documents.{SchemaDocument}
 use Rattle.dfdl_documents.specs.Loading.{AreLoaded, document_at}
@@ -19,7 +20,7 @@ use Rattle.dfdl_components.specs.declared.site.Site.{Site}
 use Rattle.dfdl_components.specs.Sites.{StandsBefore, nodes_of}
 use Rattle.dfdl_components.specs.Rules.{AllKeep, IsFirst, Rule, loading_rules}
 use Rattle.dfdl_components.specs.Faults.{IsRefused}
-use Rattle.dfdl_terms.specs.Record.{Record}
+use Rattle.dfdl_terms.specs.Rows.{Table}
 use Rattle.dfdl_run.specs.declared.stop.Stop.{Stop}
 use Rattle.dfdl_run.specs.declared.stop.Stop.TheVariants.{Usage, FilesFailed, NoDocument, Refused}
 use Rattle.dfdl_run.specs.declared.stop.Stop.TheVariants.{SourceFailed}
@@ -29,13 +30,13 @@ use Rattle.dfdl_run.specs.declared.command.Verb.TheVariants.{Parse, Unparse}
 use Rattle.dfdl_run.specs.Answer.{End}
 use Rattle.dfdl_run.specs.Command.{Order, Orders, IsCommand, verb_word}
 use Rattle.dfdl_run.specs.Decided.{Decided, by_words, by_schema, by_data, IsDescribed, IsLoadFault}
-use Rattle.dfdl_run.specs.Decided.{IsMeant, IsReadEnd}
-use Rattle.dfdl_run.specs.Expects.{Expects, no_command, no_documents, no_schema, long_input}
+use Rattle.dfdl_run.specs.Decided.{IsMeant, IsPastLimit, IsReadEnd}
+use Rattle.dfdl_run.specs.Expects.{Expects, no_command, no_documents, no_schema, no_rows, long_input}
 use Rattle.dfdl_run.specs.Expects.{meant, is_excused, most_input}
-use Rattle.dfdl_run.specs.Meaning.{answer_of}
+use Rattle.dfdl_run.specs.Meaning.{end_of}
 use Rattle.dfdl_run.specs.Outside.{Inputs}
-use Rattle.dfdl_run.specs.Schemas.{AreDocuments, IsNoSchema, IsSchemaOf, breaks, no_record, asked, stop_of}
-use Rattle.dfdl_run.proofs.Loads.{one_record}
+use Rattle.dfdl_run.specs.Schemas.{AreDocuments, IsNoSchema, IsPast, IsSchemaOf, breaks, refuses, asked, stop_of}
+use Rattle.dfdl_run.proofs.Excuses.{end_excused, limit_excused, limit_files}
 
 -- the end that was decided is the expected one, or one that comes before it
 pub data Ranked (before after : Inputs) (decided expected : End) : Type 0 where
@@ -166,18 +167,42 @@ one_refused : (documents : List SchemaDocument) (a b : SchemaCause) (document na
     → (let e : End = Err (Refused a document at) in e) ≡ Err (Refused b name byte)
 one_refused documents _ _ _ _ _ _ (breaks a p document first) (breaks b q name second) =
     alike a b document name p.at q.at (one_broken documents a b p q document name first second)
-one_refused documents _ _ _ _ _ _ (breaks a p document first) (no_record keeps none) =
+one_refused documents _ _ _ _ _ _ (breaks a p document first) (refuses b q keeps is) =
     absurd (keeps_all documents a p document keeps first)
-one_refused documents _ _ _ _ _ _ (no_record keeps none) (breaks b q name second) =
+one_refused documents _ _ _ _ _ _ (refuses a p keeps is) (breaks b q name second) =
     absurd (keeps_all documents b q name keeps second)
-one_refused documents _ _ _ _ _ _ (no_record keeps none) (no_record keeps' none') = refl
+one_refused documents _ _ _ _ _ _ (refuses a p keeps is) (refuses b q keeps' is') =
+    let both = sym is ∙ is' in cc
 
--- a schema of a record is not refused
-no_refusal : (documents : List SchemaDocument) (cause : SchemaCause) (document : List ℕ) (at : ℕ) (described : Record)
-    → IsNoSchema documents cause document at → IsSchemaOf documents described → ⊥
-no_refusal documents _ _ _ described (breaks cause place name refused) schema =
+-- a schema is not refused
+no_refusal : (documents : List SchemaDocument) (cause : SchemaCause) (document : List ℕ) (at : ℕ) (table : Table)
+    → IsNoSchema documents cause document at → IsSchemaOf documents table → ⊥
+no_refusal documents _ _ _ table (breaks cause place name refused) schema =
     keeps_all documents cause place name schema.keeps refused
-no_refusal documents _ _ _ described (no_record keeps none) schema = none described schema.tree
+no_refusal documents _ _ _ table (refuses cause place keeps is) schema =
+    absurd (let both = sym is ∙ schema.compiled_is in cc)
+
+-- documents are a schema of one table of rows
+one_schema : (documents : List SchemaDocument) (a b : Table) → IsSchemaOf documents a → IsSchemaOf documents b → a ≡ b
+one_schema documents a b first second = let both = sym first.compiled_is ∙ second.compiled_is in cc
+
+-- documents that pass a limit pass one
+one_past : (documents : List SchemaDocument) (a b : LimitCause) (n m : ℕ) → IsPast documents a n → IsPast documents b m
+    → (let e : End = Err (Limit a n) in e) ≡ Err (Limit b m)
+one_past documents a b n m first second = let both = sym first.compiled_is ∙ second.compiled_is in cc
+
+-- documents that pass a limit are no schema
+no_past : (documents : List SchemaDocument) (cause : LimitCause) (quantity : ℕ) (table : Table)
+    → IsPast documents cause quantity → IsSchemaOf documents table → ⊥
+no_past documents cause quantity table past schema = absurd (let both = sym past.compiled_is ∙ schema.compiled_is in cc)
+
+-- and they are not refused
+past_refused : (documents : List SchemaDocument) (cause : SchemaCause) (document : List ℕ) (at : ℕ) (limit : LimitCause) (quantity : ℕ)
+    → IsNoSchema documents cause document at → IsPast documents limit quantity → ⊥
+past_refused documents _ _ _ limit quantity (breaks cause place name refused) past =
+    keeps_all documents cause place name past.keeps refused
+past_refused documents _ _ _ limit quantity (refuses cause place keeps is) past =
+    absurd (let both = sym is ∙ past.compiled_is in cc)
 
 module _ (loading : LoadingIsOne) (before after : Inputs) where
   abbrev Fault : List ℕ → Stop → Type 0
@@ -204,8 +229,10 @@ module _ (loading : LoadingIsOne) (before after : Inputs) where
       → IsDue before.files (asked name) due → Ranked before after (Err stop) (Err (stop_of due))
   due_ranked name (FilesFailed failed) due fault_is expects = ends_ranked name (fault.Files failed) due fault_is expects
   due_ranked name OutOfMemory due fault_is expects = memory refl (due_memory before.files name due expects)
-  due_ranked name (Limit cause quantity) due fault_is expects =
-      ends_ranked name (fault.Limit cause quantity) due fault_is expects
+  due_ranked name (Limit cause quantity) due (inl limit) expects =
+      ends_ranked name (fault.Limit cause quantity) due limit expects
+  due_ranked name (Limit cause quantity) due (inr past) expects =
+      absurd (loading.no_fault_due before.files (asked name) past.documents due past.loaded.are expects)
   due_ranked name (NoDocument cause document at) due fault_is expects =
       subst (λ (byte : ℕ). Ranked before after (Err (NoDocument cause document byte)) (Err (stop_of due))) fault_is.place_is
       (ends_ranked name (fault.Document cause fault_is.place document) due fault_is.refused expects)
@@ -230,63 +257,78 @@ module _ (loading : LoadingIsOne) (before after : Inputs) where
   loaded_ranked name documents found b ends told loaded seven nine =
       of_untold name found b ends (loading.no_fault before.files after.files (asked name) found documents ends loaded told) seven nine
 
-  -- there is no schema, although the documents are there; where they are refused, `refused_is` tells it
+  -- there is no schema, although the documents are there; where they are refused, `refused_is` tells it, and where they
+  -- pass a limit `past_is`
   there_ranked : (name : List ℕ) (documents : List SchemaDocument) (stop : Stop) (b : End) → Fault name stop
       → AreTold before.files documents → AreDocuments before.files name documents
       → IsTrue (is_excused b 7) → IsTrue (is_excused b 9)
       → ((cause : SchemaCause) (document : List ℕ) (at : ℕ) → stop ≡ Refused cause document at
       → IsNoSchema documents cause document at → Ranked before after (Err stop) b)
+      → ((cause : LimitCause) (quantity : ℕ) → stop ≡ Limit cause quantity
+      → IsPast documents cause quantity → Ranked before after (Err stop) b)
       → Ranked before after (Err stop) b
-  there_ranked name documents (FilesFailed failed) b fault_is told loaded seven nine refused_is =
+  there_ranked name documents (FilesFailed failed) b fault_is told loaded seven nine refused_is past_is =
       loaded_ranked name documents (fault.Files failed) b fault_is told loaded seven nine
-  there_ranked name documents OutOfMemory b fault_is told loaded seven nine refused_is = memory refl nine
-  there_ranked name documents (Limit cause quantity) b fault_is told loaded seven nine refused_is =
-      loaded_ranked name documents (fault.Limit cause quantity) b fault_is told loaded seven nine
-  there_ranked name documents (NoDocument cause document at) b fault_is told loaded seven nine refused_is =
+  there_ranked name documents OutOfMemory b fault_is told loaded seven nine refused_is past_is = memory refl nine
+  there_ranked name documents (Limit cause quantity) b (inl limit) told loaded seven nine refused_is past_is =
+      loaded_ranked name documents (fault.Limit cause quantity) b limit told loaded seven nine
+  there_ranked name documents (Limit cause quantity) b (inr past) told loaded seven nine refused_is past_is =
+      past_is cause quantity refl
+      (subst (λ (ds : List SchemaDocument). IsPast ds cause quantity)
+      (loading.documents before.files (asked name) past.documents documents past.loaded.are loaded told) past.past)
+  there_ranked name documents (NoDocument cause document at) b fault_is told loaded seven nine refused_is past_is =
       subst (λ (byte : ℕ). Ranked before after (Err (NoDocument cause document byte)) b) fault_is.place_is
       (loaded_ranked name documents (fault.Document cause fault_is.place document) b fault_is.refused told loaded seven nine)
-  there_ranked name documents (Refused cause document at) b fault_is told loaded seven nine refused_is =
+  there_ranked name documents (Refused cause document at) b fault_is told loaded seven nine refused_is past_is =
       refused_is cause document at refl
       (subst (λ (ds : List SchemaDocument). IsNoSchema ds cause document at)
       (loading.documents before.files (asked name) fault_is.documents documents fault_is.loaded.are loaded told) fault_is.refused)
-  there_ranked name documents (Usage word) b fault_is told loaded seven nine refused_is = absurd fault_is
-  there_ranked name documents SourceFailed b fault_is told loaded seven nine refused_is = absurd fault_is
+  there_ranked name documents (Usage word) b fault_is told loaded seven nine refused_is past_is = absurd fault_is
+  there_ranked name documents SourceFailed b fault_is told loaded seven nine refused_is past_is = absurd fault_is
 
   -- the source gives too many bytes
-  long_ranked : (bytes : List ℕ) (verb : Verb) (described : Record) (a : End)
+  long_ranked : (bytes : List ℕ) (verb : Verb) (table : Table) (a : End)
       → most_input < length bytes
-      → before.source.left ≡ Some bytes → IsReadEnd verb described before.source after.source a
+      → before.source.left ≡ Some bytes → IsReadEnd verb table before.source after.source a
       → Ranked before after a (Err (Limit Input most_input))
-  long_ranked bytes verb described (Ok answer) long is read =
-      let meant : IsMeant verb described answer bytes =
-      at_told (IsMeant verb described answer) _ bytes is read.meant in
+  long_ranked bytes verb table (Ok answer) long is read =
+      let meant : IsMeant verb table (Ok answer) bytes =
+      at_told (IsMeant verb table (Ok answer)) _ bytes is read.meant in
       let fits = meant.fits in absurd (omega arith)
-  long_ranked bytes verb described (Err SourceFailed) long is rose = source refl rose refl
-  long_ranked bytes verb described (Err OutOfMemory) long is still = memory refl refl
-  long_ranked bytes verb described (Err (Limit cause quantity)) long is read =
-      same (let cause_is = read.0 in let quantity_is = read.1 in cc)
-  long_ranked bytes verb described (Err (Usage word)) long is read = absurd read
-  long_ranked bytes verb described (Err (FilesFailed name)) long is read = absurd read
-  long_ranked bytes verb described (Err (NoDocument cause document at)) long is read = absurd read
-  long_ranked bytes verb described (Err (Refused cause document at)) long is read = absurd read
+  long_ranked bytes verb table (Err SourceFailed) long is rose = source refl rose refl
+  long_ranked bytes verb table (Err OutOfMemory) long is still = memory refl refl
+  long_ranked bytes verb table (Err (Limit cause quantity)) long is (inl past) =
+      same (let cause_is = past.cause_is in let quantity_is = past.quantity_is in cc)
+  long_ranked bytes verb table (Err (Limit cause quantity)) long is (inr answered) =
+      let meant : IsMeant verb table (Err (Limit cause quantity)) bytes =
+      at_told (IsMeant verb table (Err (Limit cause quantity))) _ bytes is answered.meant in
+      let fits = meant.fits in absurd (omega arith)
+  long_ranked bytes verb table (Err (Usage word)) long is read = absurd read
+  long_ranked bytes verb table (Err (FilesFailed name)) long is read = absurd read
+  long_ranked bytes verb table (Err (NoDocument cause document at)) long is read = absurd read
+  long_ranked bytes verb table (Err (Refused cause document at)) long is read = absurd read
 
   -- the bytes have a meaning
-  meant_ranked : (bytes : List ℕ) (verb : Verb) (described : Record) (a : End)
+  meant_ranked : (bytes : List ℕ) (verb : Verb) (table : Table) (a : End)
       → length bytes ≤ most_input
-      → before.source.left ≡ Some bytes → IsReadEnd verb described before.source after.source a
-      → Ranked before after a (Ok (answer_of verb described bytes))
-  meant_ranked bytes verb described (Ok answer) fits is read =
-      let meant : IsMeant verb described answer bytes =
-      at_told (IsMeant verb described answer) _ bytes is read.meant in
-      same (let answer_is = meant.answer_is in cc)
-  meant_ranked bytes verb described (Err SourceFailed) fits is rose = source refl rose refl
-  meant_ranked bytes verb described (Err OutOfMemory) fits is still = memory refl refl
-  meant_ranked bytes verb described (Err (Limit cause quantity)) fits is read =
-      let long = at_told (λ all. most_input < length all) _ bytes is read.2 in absurd (omega arith)
-  meant_ranked bytes verb described (Err (Usage word)) fits is read = absurd read
-  meant_ranked bytes verb described (Err (FilesFailed name)) fits is read = absurd read
-  meant_ranked bytes verb described (Err (NoDocument cause document at)) fits is read = absurd read
-  meant_ranked bytes verb described (Err (Refused cause document at)) fits is read = absurd read
+      → before.source.left ≡ Some bytes → IsReadEnd verb table before.source after.source a
+      → Ranked before after a (end_of verb table bytes)
+  meant_ranked bytes verb table (Ok answer) fits is read =
+      let meant : IsMeant verb table (Ok answer) bytes =
+      at_told (IsMeant verb table (Ok answer)) _ bytes is read.meant in
+      same meant.end_is
+  meant_ranked bytes verb table (Err SourceFailed) fits is rose = source refl rose (end_excused verb table bytes).source
+  meant_ranked bytes verb table (Err OutOfMemory) fits is still = memory refl (end_excused verb table bytes).memory
+  meant_ranked bytes verb table (Err (Limit cause quantity)) fits is (inl past) =
+      let long = at_told (λ all. most_input < length all) _ bytes is past.long in absurd (omega arith)
+  meant_ranked bytes verb table (Err (Limit cause quantity)) fits is (inr answered) =
+      let meant : IsMeant verb table (Err (Limit cause quantity)) bytes =
+      at_told (IsMeant verb table (Err (Limit cause quantity))) _ bytes is answered.meant in
+      same meant.end_is
+  meant_ranked bytes verb table (Err (Usage word)) fits is read = absurd read
+  meant_ranked bytes verb table (Err (FilesFailed name)) fits is read = absurd read
+  meant_ranked bytes verb table (Err (NoDocument cause document at)) fits is read = absurd read
+  meant_ranked bytes verb table (Err (Refused cause document at)) fits is read = absurd read
 
   -- the words are an order, so that they have no place at which no command goes on
   module _ (words : List (List ℕ)) where
@@ -298,9 +340,11 @@ module _ (loading : LoadingIsOne) (before after : Inputs) where
     at_words at a _ place is (no_documents order due orders expects) = absurd (place.no_text (order, orders))
     at_words at a _ place is (no_schema order documents cause document byte orders told loaded wrong) =
         absurd (place.no_text (order, orders))
-    at_words at a _ place is (long_input order documents described bytes orders told loaded schema input_is long) =
+    at_words at a _ place is (no_rows order documents cause quantity orders told loaded past) =
         absurd (place.no_text (order, orders))
-    at_words at a _ place is (meant order documents described bytes orders told loaded schema input_is few) =
+    at_words at a _ place is (long_input order documents table bytes orders told loaded schema input_is long) =
+        absurd (place.no_text (order, orders))
+    at_words at a _ place is (meant order documents table bytes orders told loaded schema input_is few) =
         absurd (place.no_text (order, orders))
 
     -- a fault under the name that another order of the same words has
@@ -319,49 +363,61 @@ module _ (loading : LoadingIsOne) (before after : Inputs) where
         there_ranked other.schema documents stop _ (renamed order other stop orders others fault_is) told loaded refl refl
         (λ found name at is refused. same (ap (λ (s : Stop). let e : End = Err s in e) is
         ∙ one_refused documents found cause name document at byte refused wrong))
-    at_schema order stop _ orders fault_is (long_input other documents described bytes others told loaded schema input_is long) =
+        (λ limit quantity is past. absurd (past_refused documents cause document byte limit quantity wrong past))
+    at_schema order stop _ orders fault_is (no_rows other documents cause quantity others told loaded past) =
+        there_ranked other.schema documents stop _ (renamed order other stop orders others fault_is) told loaded
+        (limit_files cause quantity) (limit_excused cause quantity)
+        (λ found name at is refused. absurd (past_refused documents found name at cause quantity refused past))
+        (λ limit number is other_past. same (ap (λ (s : Stop). let e : End = Err s in e) is
+        ∙ one_past documents limit cause number quantity other_past past))
+    at_schema order stop _ orders fault_is (long_input other documents table bytes others told loaded schema input_is long) =
         there_ranked other.schema documents stop _ (renamed order other stop orders others fault_is) told loaded refl refl
-        (λ found name at is refused. absurd (no_refusal documents found name at described refused schema))
-    at_schema order stop _ orders fault_is (meant other documents described bytes others told loaded schema input_is few) =
-        there_ranked other.schema documents stop _ (renamed order other stop orders others fault_is) told loaded refl refl
-        (λ found name at is refused. absurd (no_refusal documents found name at described refused schema))
+        (λ found name at is refused. absurd (no_refusal documents found name at table refused schema))
+        (λ limit quantity is past. absurd (no_past documents limit quantity table past schema))
+    at_schema order stop _ orders fault_is (meant other documents table bytes others told loaded schema input_is few) =
+        there_ranked other.schema documents stop _ (renamed order other stop orders others fault_is) told loaded
+        (end_excused other.verb table bytes).files (end_excused other.verb table bytes).memory
+        (λ found name at is refused. absurd (no_refusal documents found name at table refused schema))
+        (λ limit quantity is past. absurd (no_past documents limit quantity table past schema))
 
     -- the loaded documents are a schema, where another order of the same words has all of them
-    schema_of : (order other : Order) (described : Record) (documents : List SchemaDocument)
+    schema_of : (order other : Order) (table : Table) (documents : List SchemaDocument)
         → Orders words order → Orders words other
-        → IsDescribed before.files after.files order.schema described
+        → IsDescribed before.files after.files order.schema table
         → AreTold before.files documents → AreDocuments before.files other.schema documents
-        → IsSchemaOf documents described
-    schema_of order other described documents orders others found told loaded =
-        subst (λ (ds : List SchemaDocument). IsSchemaOf ds described)
+        → IsSchemaOf documents table
+    schema_of order other table documents orders others found told loaded =
+        subst (λ (ds : List SchemaDocument). IsSchemaOf ds table)
         (loading.documents before.files (asked other.schema) found.documents documents
         (subst (λ (n : List ℕ). AreDocuments before.files n found.documents) (orders_schema words order other orders others) found.loaded.are) loaded told)
         found.schema
 
-    at_data : (order : Order) (described : Record) (a b : End) → Orders words order
-        → IsDescribed before.files after.files order.schema described
-        → IsReadEnd order.verb described before.source after.source a → Expects words before b
+    at_data : (order : Order) (table : Table) (a b : End) → Orders words order
+        → IsDescribed before.files after.files order.schema table
+        → IsReadEnd order.verb table before.source after.source a → Expects words before b
         → Ranked before after a b
-    at_data order described a _ orders found read (no_command at place) =
+    at_data order table a _ orders found read (no_command at place) =
         absurd (place.no_text (order, orders))
-    at_data order described a _ orders found read (no_documents other due others expects) =
+    at_data order table a _ orders found read (no_documents other due others expects) =
         absurd (loading.no_fault_due before.files (asked other.schema) found.documents due
         (subst (λ (n : List ℕ). AreDocuments before.files n found.documents) (orders_schema words order other orders others) found.loaded.are) expects)
-    at_data order described a _ orders found read (no_schema other documents cause document byte others told loaded wrong) =
-        absurd (no_refusal documents cause document byte described wrong (schema_of order other described documents orders others found told loaded))
-    at_data order described a _ orders found read (long_input other documents described' bytes others told loaded schema input_is long) =
-        long_ranked bytes order.verb described a long input_is read
-    at_data order described a _ orders found read (meant other documents described' bytes others told loaded schema input_is few) =
-        let same_record : described ≡ described' =
-        one_record (document_at documents 0).nodes described described' (schema_of order other described documents orders others found told loaded).tree schema.tree in
-        subst (λ (v : Verb). Ranked before after a (Ok (answer_of v described' bytes))) (orders_verb words order other orders others)
-        (subst (λ (d : Record). Ranked before after a (Ok (answer_of order.verb d bytes))) same_record
-        (meant_ranked bytes order.verb described a few input_is read))
+    at_data order table a _ orders found read (no_schema other documents cause document byte others told loaded wrong) =
+        absurd (no_refusal documents cause document byte table wrong (schema_of order other table documents orders others found told loaded))
+    at_data order table a _ orders found read (no_rows other documents cause quantity others told loaded past) =
+        absurd (no_past documents cause quantity table past (schema_of order other table documents orders others found told loaded))
+    at_data order table a _ orders found read (long_input other documents table' bytes others told loaded schema input_is long) =
+        long_ranked bytes order.verb table a long input_is read
+    at_data order table a _ orders found read (meant other documents table' bytes others told loaded schema input_is few) =
+        let same_table : table ≡ table' =
+        one_schema documents table table' (schema_of order other table documents orders others found told loaded) schema in
+        subst (λ (v : Verb). Ranked before after a (end_of v table' bytes)) (orders_verb words order other orders others)
+        (subst (λ (t : Table). Ranked before after a (end_of order.verb t bytes)) same_table
+        (meant_ranked bytes order.verb table a few input_is read))
 
     pub ranked : (a b : End) → Decided words before after a → Expects words before b
         → Ranked before after a b
     ranked a b (by_words at place is untouched) expects = at_words at a b place is expects
     ranked a b (by_schema order stop orders is fault_is loads unread) expects =
         subst (λ (e : End). Ranked before after e b) (sym is) (at_schema order stop b orders fault_is expects)
-    ranked a b (by_data order described orders found read) expects =
-        at_data order described a b orders found read expects
+    ranked a b (by_data order table orders found read) expects =
+        at_data order table a b orders found read expects

@@ -6,7 +6,7 @@ use Rattle.dfdl_report.specs.Statuses.{status_number}
 use Rattle.dfdl_report.specs.Lines.{document_line, files_line, infoset_line, left_over_line, limit_line}
 use Rattle.dfdl_report.specs.Lines.{memory_line}
 use Rattle.dfdl_report.specs.Lines.{parse_line, schema_line, source_line, unparse_line, usage_line}
-use Rattle.dfdl_record.specs.Pieces.{joined}
+use Rattle.dfdl_pieces.specs.Pieces.{joined}
 use Rattle.dfdl_run.specs.declared.answer.Answer.{Answer}
 use Rattle.dfdl_run.specs.declared.answer.Answer.TheVariants.{Done, LeftOver, Failed, Unparsed}
 use Rattle.dfdl_run.specs.declared.answer.Answer.TheVariants.{NotUnparsed, NoInfoset}

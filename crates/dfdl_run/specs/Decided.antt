@@ -1,5 +1,5 @@
 -- What a run has found out before it writes anything.
-use Rattle.std.specs.Prelude.{◌≡◌, ℕ, ◌+◌, ◌≤◌, List, length, IfSome, Ok, Err}
+use Rattle.std.specs.Prelude.{◌≡◌, ◌⊎◌, ℕ, ◌+◌, ◌≤◌, List, length, IfSome, Ok, Err}
 use Rattle.dfdl_fronts.specs.Fronts.{IsPlace}
 use Rattle.dfdl_edge.specs.Faults.{Rose}
 use Rattle.dfdl_edge.specs.Files.{FilesSeen}
@@ -7,14 +7,14 @@ use Rattle.dfdl_edge.specs.Source.{SourceSeen}
 use Rattle.dfdl_edge.specs.Told.{IsLonger}
 use Rattle.dfdl_edge.specs.Whole.{IsUsedUp}
 use Rattle.dfdl_report.specs.declared.cause.SchemaCause.{SchemaCause}
+use Rattle.dfdl_report.specs.declared.cause.LimitCause.{LimitCause}
 use Rattle.dfdl_report.specs.declared.cause.LimitCause.TheVariants.{Input}
 use Rattle.dfdl_report.specs.declared.cause.DocCause.{DocCause}
 use Rattle.dfdl_report.specs.declared.place.Place.{Place}
 use Rattle.dfdl_documents.specs.Documents.{SchemaDocument}
 use Rattle.dfdl_documents.specs.Loading.{IsCounted, after_loads}
 use Rattle.dfdl_documents.specs.Faults.{IsFailed, IsLimit, IsNoDocument}
-use Rattle.dfdl_terms.specs.Record.{Record}
-use Rattle.dfdl_run.specs.declared.answer.Answer.{Answer}
+use Rattle.dfdl_terms.specs.Rows.{Table}
 use Rattle.dfdl_run.specs.declared.stop.Stop.{Stop}
 use Rattle.dfdl_run.specs.declared.stop.Stop.TheVariants.{Usage, FilesFailed, NoDocument, Refused}
 use Rattle.dfdl_run.specs.declared.stop.Stop.TheVariants.{SourceFailed}
@@ -23,9 +23,9 @@ use Rattle.dfdl_run.specs.declared.command.Verb.{Verb}
 use Rattle.dfdl_run.specs.Answer.{End}
 use Rattle.dfdl_run.specs.Command.{Order, Orders, IsCommand}
 use Rattle.dfdl_run.specs.Expects.{most_input}
-use Rattle.dfdl_run.specs.Meaning.{answer_of}
+use Rattle.dfdl_run.specs.Meaning.{end_of}
 use Rattle.dfdl_run.specs.Outside.{Inputs}
-use Rattle.dfdl_run.specs.Schemas.{AreDocuments, IsNoSchema, IsSchemaOf, asked, most_schemas}
+use Rattle.dfdl_run.specs.Schemas.{AreDocuments, IsNoSchema, IsPast, IsSchemaOf, asked, most_schemas}
 
 -- all documents of the schema were loaded, each by one load that did not fail
 pub record AreLoadedOnce (before after : FilesSeen) (name : List ℕ) (documents : List SchemaDocument)
@@ -33,11 +33,11 @@ pub record AreLoadedOnce (before after : FilesSeen) (name : List ℕ) (documents
   pub are : AreDocuments before name documents
   pub seen : after ≡ after_loads (length documents) before
 
--- the documents are loaded, and a schema of this record
-pub record IsDescribed (before after : FilesSeen) (name : List ℕ) (described : Record) : Type 0 where
+-- the documents are loaded, and a schema of these rows
+pub record IsDescribed (before after : FilesSeen) (name : List ℕ) (table : Table) : Type 0 where
   pub documents : List SchemaDocument
   pub loaded : AreLoadedOnce before after name documents
-  pub schema : IsSchemaOf documents described
+  pub schema : IsSchemaOf documents table
 
 -- the documents are loaded, and refused as a schema at this byte of the document of this name
 pub record IsRefusedSchema (before after : FilesSeen) (name : List ℕ) (cause : SchemaCause)
@@ -45,6 +45,13 @@ pub record IsRefusedSchema (before after : FilesSeen) (name : List ℕ) (cause :
   pub documents : List SchemaDocument
   pub loaded : AreLoadedOnce before after name documents
   pub refused : IsNoSchema documents cause document at
+
+-- the documents are loaded, and their components pass a limit
+pub record IsPastLimit (before after : FilesSeen) (name : List ℕ) (cause : LimitCause) (quantity : ℕ)
+    : Type 0 where
+  pub documents : List SchemaDocument
+  pub loaded : AreLoadedOnce before after name documents
+  pub past : IsPast documents cause quantity
 
 -- the file of this name, the next one to be loaded, is no document from this byte on
 pub record IsUnreadable (before after : FilesSeen) (name : List ℕ) (cause : DocCause)
@@ -57,7 +64,8 @@ pub record IsUnreadable (before after : FilesSeen) (name : List ℕ) (cause : Do
 abbrev pub IsLoadFault : FilesSeen → FilesSeen → List ℕ → Stop → Type 0
 IsLoadFault before after name (FilesFailed failed) = IsFailed before after (asked name) failed
 IsLoadFault before after name OutOfMemory = after.faults ≡ before.faults
-IsLoadFault before after name (Limit cause quantity) = IsLimit before after (asked name) cause quantity
+IsLoadFault before after name (Limit cause quantity) =
+    IsLimit before after (asked name) cause quantity ⊎ IsPastLimit before after name cause quantity
 IsLoadFault before after name (NoDocument cause document at) =
     IsUnreadable before after name cause document at
 IsLoadFault before after name (Refused cause document at) =
@@ -69,31 +77,35 @@ IsLoadFault before after name SourceFailed = ⊥
 abbrev pub AreFewLoads : FilesSeen → FilesSeen → Type 0
 AreFewLoads before after = IsCounted most_schemas before.loads after.loads
 
--- the bytes fit their limit and come to this answer
-pub record IsMeant (verb : Verb) (described : Record) (answer : Answer)
-    (bytes : List ℕ) : Type 0 where
+-- the bytes fit their limit and come to this end
+pub record IsMeant (verb : Verb) (table : Table) (end : End) (bytes : List ℕ) : Type 0 where
   pub fits : length bytes ≤ most_input
-  pub answer_is : answer ≡ answer_of verb described bytes
+  pub end_is : end ≡ end_of verb table bytes
 
--- the source was read to its end, with no fault, and its bytes come to this answer
-pub record IsAnswered (verb : Verb) (described : Record) (before after : SourceSeen)
-    (answer : Answer) : Type 0 where
-  pub meant : IfSome before.left (IsMeant verb described answer)
+-- the source was read to its end, with no fault, and its bytes come to this end
+pub record IsAnswered (verb : Verb) (table : Table) (before after : SourceSeen) (end : End) : Type 0 where
+  pub meant : IfSome before.left (IsMeant verb table end)
   pub used_up : IsUsedUp before.left after.left
   pub still : after.faults ≡ before.faults
 
+-- the source gives more bytes than this limit, and no read failed
+pub record IsTooLong (before after : SourceSeen) (cause : LimitCause) (quantity : ℕ) : Type 0 where
+  pub cause_is : cause ≡ Input
+  pub quantity_is : quantity ≡ most_input
+  pub long : IsLonger before.left most_input
+  pub still : after.faults ≡ before.faults
+
 -- what the reading of the source and its meaning came to
-abbrev pub IsReadEnd : Verb → Record → SourceSeen → SourceSeen → End → Type 0
-IsReadEnd verb described before after (Ok answer) = IsAnswered verb described before after answer
-IsReadEnd verb described before after (Err SourceFailed) = Rose before.faults after.faults
-IsReadEnd verb described before after (Err OutOfMemory) = after.faults ≡ before.faults
-IsReadEnd verb described before after (Err (Limit cause quantity)) =
-    (cause ≡ Input) × (quantity ≡ most_input) × IsLonger before.left most_input
-    × (after.faults ≡ before.faults)
-IsReadEnd verb described before after (Err (Usage word)) = ⊥
-IsReadEnd verb described before after (Err (FilesFailed name)) = ⊥
-IsReadEnd verb described before after (Err (NoDocument cause document at)) = ⊥
-IsReadEnd verb described before after (Err (Refused cause document at)) = ⊥
+abbrev pub IsReadEnd : Verb → Table → SourceSeen → SourceSeen → End → Type 0
+IsReadEnd verb table before after (Ok answer) = IsAnswered verb table before after (Ok answer)
+IsReadEnd verb table before after (Err SourceFailed) = Rose before.faults after.faults
+IsReadEnd verb table before after (Err OutOfMemory) = after.faults ≡ before.faults
+IsReadEnd verb table before after (Err (Limit cause quantity)) =
+    IsTooLong before after cause quantity ⊎ IsAnswered verb table before after (Err (Limit cause quantity))
+IsReadEnd verb table before after (Err (Usage word)) = ⊥
+IsReadEnd verb table before after (Err (FilesFailed name)) = ⊥
+IsReadEnd verb table before after (Err (NoDocument cause document at)) = ⊥
+IsReadEnd verb table before after (Err (Refused cause document at)) = ⊥
 
 -- What was decided, by the stage at which it was. Where the words decide, nothing is loaded; else
 -- the documents of the schema are. Only where the data decides is the source touched.
@@ -104,7 +116,7 @@ pub data Decided (words : List (List ℕ)) (before after : Inputs) (end : End) :
       → IsLoadFault before.files after.files order.schema stop
       → AreFewLoads before.files after.files
       → after.source ≡ before.source → Decided words before after end
-  by_data : (order : Order) (described : Record) → Orders words order
-      → IsDescribed before.files after.files order.schema described
-      → IsReadEnd order.verb described before.source after.source end
+  by_data : (order : Order) (table : Table) → Orders words order
+      → IsDescribed before.files after.files order.schema table
+      → IsReadEnd order.verb table before.source after.source end
       → Decided words before after end

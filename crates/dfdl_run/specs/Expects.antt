@@ -5,19 +5,20 @@ use Rattle.dfdl_fronts.specs.Fronts.{IsPlace}
 use Rattle.dfdl_edge.specs.Faults.{Rose}
 use Rattle.dfdl_edge.specs.Sink.{Adds, AddsFront, SinkSeen}
 use Rattle.dfdl_report.specs.declared.cause.SchemaCause.{SchemaCause}
-use Rattle.dfdl_report.specs.declared.cause.LimitCause.TheVariants.{Input}
+use Rattle.dfdl_report.specs.declared.cause.LimitCause.{LimitCause}
+use Rattle.dfdl_report.specs.declared.cause.LimitCause.TheVariants.{Input, Window, Nodes, Text}
 use Rattle.dfdl_documents.specs.Documents.{SchemaDocument}
 use Rattle.dfdl_documents.specs.Told.{AreTold, IsDue}
 use Rattle.dfdl_documents.specs.declared.fault.DocumentsFault.{DocumentsFault}
-use Rattle.dfdl_terms.specs.Record.{Record}
+use Rattle.dfdl_terms.specs.Rows.{Table}
 use Rattle.dfdl_run.specs.declared.stop.Stop.TheVariants.{Usage, FilesFailed, NoDocument, Refused}
 use Rattle.dfdl_run.specs.declared.stop.Stop.TheVariants.{SourceFailed}
 use Rattle.dfdl_run.specs.declared.stop.Stop.TheVariants.{Limit, OutOfMemory}
 use Rattle.dfdl_run.specs.Answer.{End, is_written, note_of, status_of, written_of}
 use Rattle.dfdl_run.specs.Command.{Order, Orders, IsCommand}
-use Rattle.dfdl_run.specs.Meaning.{answer_of}
+use Rattle.dfdl_run.specs.Meaning.{end_of}
 use Rattle.dfdl_run.specs.Outside.{Inputs, Outputs, Outside}
-use Rattle.dfdl_run.specs.Schemas.{AreDocuments, IsNoSchema, IsSchemaOf, asked, stop_of}
+use Rattle.dfdl_run.specs.Schemas.{AreDocuments, IsNoSchema, IsPast, IsSchemaOf, asked, stop_of}
 
 -- the most bytes of the source
 abbrev pub most_input : ℕ
@@ -38,20 +39,26 @@ pub data Expects (words : List (List ℕ)) (told : Inputs) : End → Type 0 wher
       → AreTold told.files documents → AreDocuments told.files order.schema documents
       → IsNoSchema documents cause document at
       → Expects words told (Err (Refused cause document at))
+  -- the components of the documents pass a limit
+  no_rows : (order : Order) (documents : List SchemaDocument) (cause : LimitCause) (quantity : ℕ)
+      → Orders words order
+      → AreTold told.files documents → AreDocuments told.files order.schema documents
+      → IsPast documents cause quantity
+      → Expects words told (Err (Limit cause quantity))
   -- the source gives a byte past the limit
-  long_input : (order : Order) (documents : List SchemaDocument) (described : Record)
+  long_input : (order : Order) (documents : List SchemaDocument) (table : Table)
       (bytes : List ℕ) → Orders words order
       → AreTold told.files documents → AreDocuments told.files order.schema documents
-      → IsSchemaOf documents described
+      → IsSchemaOf documents table
       → told.source.left ≡ Some bytes → most_input < length bytes
       → Expects words told (Err (Limit Input most_input))
   -- the bytes are parsed or unparsed
-  meant : (order : Order) (documents : List SchemaDocument) (described : Record) (bytes : List ℕ)
+  meant : (order : Order) (documents : List SchemaDocument) (table : Table) (bytes : List ℕ)
       → Orders words order
       → AreTold told.files documents → AreDocuments told.files order.schema documents
-      → IsSchemaOf documents described
+      → IsSchemaOf documents table
       → told.source.left ≡ Some bytes → length bytes ≤ most_input
-      → Expects words told (Ok (answer_of order.verb described bytes))
+      → Expects words told (end_of order.verb table bytes)
 
 -- the statuses that can come in place of an end, since they come before it: those of the files, the
 -- source and `out` where a call on them failed before, and that of want of memory
@@ -59,6 +66,9 @@ abbrev pub is_excused : End → ℕ → Bool
 is_excused (Err (Usage word)) status = status == 9
 is_excused (Err (FilesFailed name)) status = status == 7 || status == 9
 is_excused (Err (Limit Input quantity)) status = status == 5 || status == 7 || status == 9
+is_excused (Err (Limit Window quantity)) status = status == 5 || status == 7 || status == 9
+is_excused (Err (Limit Nodes quantity)) status = status == 5 || status == 7 || status == 9
+is_excused (Err (Limit Text quantity)) status = status == 5 || status == 7 || status == 9
 is_excused (Err (Limit cause quantity)) status = status == 7 || status == 9
 is_excused (Err (NoDocument cause document at)) status = status == 7 || status == 9
 is_excused (Err (Refused cause document at)) status = status == 7 || status == 9

@@ -6,7 +6,6 @@ pub mod Expects
 pub mod Finished
 pub mod Meaning
 pub mod Outside
-pub mod RecordReading
-pub mod RoundTrip
+pub mod Parsed
 pub mod Run
 pub mod Schemas

@@ -1,54 +1,71 @@
 -- What the bytes of the source come to: data that is parsed, or an infoset that is unparsed.
 use Rattle.std.specs.Prelude.{ℕ, ◌+◌, ◌*◌, if◌then◌else◌, nat_le, List, [], ◌∷◌, ◌++◌, length}
 use Rattle.std.specs.Prelude.{Option, None, Some, Result, Ok, Err}
-use Rattle.serde_json.specs.Written.{compact_text}
-use Rattle.dfdl_value.specs.declared.value.Value.{Value}
-use Rattle.dfdl_report.specs.declared.cause.ParseCause.TheVariants.{DataEnds}
 use Rattle.dfdl_report.specs.declared.cause.UnparseCause.TheVariants.{WrongOccurrences}
-use Rattle.dfdl_report.specs.Paths.{field_path}
-use Rattle.dfdl_terms.specs.Record.{Record}
+use Rattle.dfdl_terms.specs.Rows.{Table}
+use Rattle.dfdl_terms.specs.declared.event.Event.{Event}
+use Rattle.dfdl_grammar.specs.declared.end.End.{End as DocumentEnd}
+use Rattle.dfdl_grammar.specs.declared.end.End.TheVariants.{Done as IsDone, Failed as Fails, Stopped}
+use Rattle.dfdl_grammar.specs.declared.limits.Limits.{Limits}
+use Rattle.dfdl_grammar.specs.Outcomes.{Outcome}
+use Rattle.dfdl_grammar.specs.States.{State}
+use Rattle.dfdl_grammar.specs.Paths.{path_of}
+use Rattle.dfdl_grammar.specs.Documents.{document}
 use Rattle.dfdl_json.specs.Infosets.{Refusal}
-use Rattle.dfdl_json.specs.Texts.{values_of_text}
-use Rattle.dfdl_record.specs.Outcomes.{Item, Outcome, Read, Ends, outcome_of, infoset_of}
-use Rattle.dfdl_record.specs.Pieces.{unparsed_of}
+use Rattle.dfdl_json.specs.Texts.{events_of_text}
+use Rattle.dfdl_json.specs.Lines.{line_of}
+use Rattle.dfdl_pieces.specs.Laying.{unparsed_of}
+use Rattle.dfdl_pieces.specs.declared.unparsing.Unparsed.{Unparsed as Laid}
 use Rattle.dfdl_run.specs.declared.answer.Answer.{Answer}
 use Rattle.dfdl_run.specs.declared.answer.Answer.TheVariants.{Done, LeftOver, Failed, Unparsed}
 use Rattle.dfdl_run.specs.declared.answer.Answer.TheVariants.{NotUnparsed, NoInfoset}
+use Rattle.dfdl_run.specs.declared.stop.Stop.TheVariants.{Limit}
 use Rattle.dfdl_run.specs.declared.command.Verb.{Verb}
 use Rattle.dfdl_run.specs.declared.command.Verb.TheVariants.{Parse, Unparse}
+use Rattle.dfdl_run.specs.Answer.{End}
 
--- the line of an infoset
-abbrev pub line_of : List ℕ → List Item → List ℕ
-line_of root items = compact_text (infoset_of root items) ++ 10 ∷ []
+-- the most bytes that are held of the data, and the most elements of a document
+abbrev pub limits : Limits
+limits = record { window = 33554432; nodes = 1000000 }
 
--- the answer of an outcome over so many bits of data: what is left is told from a whole byte on
-abbrev pub answer_at : List ℕ → ℕ → Outcome → Answer
-answer_at root bits (Read items bit) =
-    if nat_le (bit + 8) bits then LeftOver (line_of root items) bit else Done (line_of root items)
-answer_at root bits (Ends name bit) = Failed DataEnds bit (field_path root name)
+-- the answer of a document that is read up to a bit, of so many bits of data: what is left is told from a whole byte on
+abbrev pub answer_at : Table → ℕ → State → Answer
+answer_at t bits s =
+    if nat_le (s.at + 8) bits then LeftOver (line_of t s.nodes) s.at else Done (line_of t s.nodes)
 
--- what parsing the data of a record comes to
-abbrev pub parse_answer : Record → List ℕ → Answer
-parse_answer described bytes =
-    answer_at described.root (8 * length bytes) (outcome_of bytes 0 described.fields)
+-- what the end of a document comes to, of so many bits of data
+abbrev pub document_end : Table → ℕ → DocumentEnd → State → End
+document_end t bits IsDone s = Ok (answer_at t bits s)
+document_end t bits (Fails cause at) s = Ok (Failed cause at (path_of t s.nodes s.inside))
+document_end t bits (Stopped cause quantity) s = Err (Limit cause quantity)
 
--- the answer of pieces, and of the field that is missing behind them, if one is
-abbrev pub pieces_answer : List ℕ → List (List ℕ) → Option (List ℕ) → Answer
-pieces_answer root pieces None = Unparsed pieces
-pieces_answer root pieces (Some name) = NotUnparsed pieces WrongOccurrences (field_path root name)
+-- what an outcome comes to, of so many bits of data
+abbrev pub outcome_end : Table → ℕ → Outcome → End
+outcome_end t bits o = document_end t bits o.end o.state
 
--- the answer of the values of a record, or of the refusal in their place
-abbrev pub values_answer : Record → Result (List (Option Value)) Refusal → Answer
-values_answer described (Err refusal) = NoInfoset refusal.cause refusal.path
-values_answer described (Ok values) =
-    let unparsed = unparsed_of described.fields values in
-    pieces_answer described.root unparsed.pieces unparsed.missing
+-- what parsing data comes to
+abbrev pub parse_end : Table → List ℕ → End
+parse_end t bytes = outcome_end t (8 * length bytes) (document limits t bytes)
+
+-- the answer of pieces, and of the element of this path that is missing behind them, if one is
+abbrev pub pieces_answer : List (List ℕ) → Option (List ℕ) → Answer
+pieces_answer pieces None = Unparsed pieces
+pieces_answer pieces (Some path) = NotUnparsed pieces WrongOccurrences path
+
+-- the answer of what was laid
+abbrev pub laid_answer : Laid → Answer
+laid_answer laid = pieces_answer laid.pieces laid.missing
+
+-- the answer of the events of an infoset, or of the refusal in their place
+abbrev pub events_answer : Table → Result (List Event) Refusal → Answer
+events_answer t (Err refusal) = NoInfoset refusal.cause refusal.path
+events_answer t (Ok events) = laid_answer (unparsed_of t events)
 
 -- what unparsing the text of an infoset comes to
-abbrev pub unparse_answer : Record → List ℕ → Answer
-unparse_answer described text = values_answer described (values_of_text described text)
+abbrev pub unparse_end : Table → List ℕ → End
+unparse_end t text = Ok (events_answer t (events_of_text t text))
 
 -- what the bytes of the source come to
-abbrev pub answer_of : Verb → Record → List ℕ → Answer
-answer_of Parse described bytes = parse_answer described bytes
-answer_of Unparse described bytes = unparse_answer described bytes
+abbrev pub end_of : Verb → Table → List ℕ → End
+end_of Parse t bytes = parse_end t bytes
+end_of Unparse t bytes = unparse_end t bytes

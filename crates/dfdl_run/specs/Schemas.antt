@@ -1,7 +1,7 @@
 -- The schema of a run: its documents, the limits on them, and what they have to be.
-use Rattle.std.specs.Prelude.{◌≡◌, ℕ, List}
+use Rattle.std.specs.Prelude.{◌≡◌, ℕ, List, Ok, Err}
 use Rattle.dfdl_report.specs.declared.cause.SchemaCause.{SchemaCause}
-use Rattle.dfdl_report.specs.declared.cause.SchemaCause.TheVariants.{OutsideSubset}
+use Rattle.dfdl_report.specs.declared.cause.LimitCause.{LimitCause}
 use Rattle.dfdl_report.specs.declared.place.Place.{Place}
 use Rattle.dfdl_edge.specs.Files.{FilesSeen}
 use Rattle.dfdl_documents.specs.Documents.{SchemaDocument}
@@ -13,8 +13,8 @@ use Rattle.dfdl_components.specs.declared.fault.SchemaFault.{SchemaFault}
 use Rattle.dfdl_components.specs.declared.fault.SchemaFault.TheVariants as schema
 use Rattle.dfdl_components.specs.Rules.{AllKeep, loading_rules}
 use Rattle.dfdl_components.specs.Faults.{IsRefused}
-use Rattle.dfdl_terms.specs.Record.{Record}
-use Rattle.dfdl_compile.specs.Schema.{IsRecordTree}
+use Rattle.dfdl_terms.specs.Rows.{Table}
+use Rattle.dfdl_compile.specs.Compiled.{compiled, Refused as Refuses, Limit as Passes}
 use Rattle.dfdl_run.specs.declared.stop.Stop.{Stop}
 use Rattle.dfdl_run.specs.declared.stop.Stop.TheVariants.{FilesFailed, NoDocument, Refused, Limit, OutOfMemory}
 
@@ -25,6 +25,14 @@ most_schema = 4194304
 -- the most documents of a schema
 abbrev pub most_schemas : ℕ
 most_schemas = 64
+
+-- the most elements that are nested in one another
+abbrev pub most_depth : ℕ
+most_depth = 60
+
+-- the most rows of a schema
+abbrev pub most_rows : ℕ
+most_rows = 65535
 
 -- how the documents of the schema of this name are asked for
 abbrev pub asked : List ℕ → Request
@@ -49,17 +57,22 @@ schema_stop (schema.Schema cause place name) = Refused cause name place.at
 schema_stop (schema.Limit cause quantity) = Limit cause quantity
 schema_stop schema.OutOfMemory = OutOfMemory
 
--- the documents are a schema of this record: they keep all rules, and the first of them describes it
-pub record IsSchemaOf (documents : List SchemaDocument) (described : Record) : Type 0 where
+-- the documents are a schema of these rows: they keep all rules, and their components come to the rows
+pub record IsSchemaOf (documents : List SchemaDocument) (table : Table) : Type 0 where
   pub keeps : AllKeep (loading_rules documents) documents
-  pub tree : IsRecordTree (document_at documents 0).nodes described
+  pub compiled_is : compiled documents most_depth most_rows ≡ Ok table
 
--- Why documents are no schema of a record, with the name of a document and a byte of it.
+-- Why documents are no schema, with the name of a document and a byte of it.
 pub data IsNoSchema (documents : List SchemaDocument) : SchemaCause → List ℕ → ℕ → Type 0 where
-  -- an element that begins there breaks a rule, the first one that does
+  -- an element that begins there breaks a rule of loading, the first one that does
   breaks : (cause : SchemaCause) (place : Place) (name : List ℕ) → IsRefused documents cause place name
       → IsNoSchema documents cause name place.at
-  -- they keep all rules, and the first of them describes no record, which is told at its first byte
-  no_record : AllKeep (loading_rules documents) documents
-      → ((described : Record) → IsRecordTree (document_at documents 0).nodes described → ⊥)
-      → IsNoSchema documents OutsideSubset (document_at documents 0).name 0
+  -- they keep all of these, and a component that begins there is refused
+  refuses : (cause : SchemaCause) (place : Place) → AllKeep (loading_rules documents) documents
+      → compiled documents most_depth most_rows ≡ Err (Refuses cause place)
+      → IsNoSchema documents cause (document_at documents place.document).name place.at
+
+-- Which limit on components documents pass that keep all rules of loading.
+pub record IsPast (documents : List SchemaDocument) (cause : LimitCause) (quantity : ℕ) : Type 0 where
+  pub keeps : AllKeep (loading_rules documents) documents
+  pub compiled_is : compiled documents most_depth most_rows ≡ Err (Passes cause quantity)

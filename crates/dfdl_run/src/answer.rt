@@ -1,7 +1,7 @@
 ghost use Rattle.std.specs.Prelude.{◌≡◌, IfOk, string_bytes};
 ghost use Rattle.dfdl_run.specs.Answer.{answer_note, answer_status, is_written};
 
-use dfdl_record::PieceList;
+use dfdl_pieces::PieceList;
 use dfdl_report::{InfosetCause, ParseCause, Status, UnparseCause, line};
 use dfdl_value::TextValue;
 use std::alloc::{AllocError, Global};

@@ -1,10 +1,12 @@
 // What a run comes to, before anything is written.
-ghost use Rattle.std.specs.Prelude.{◌≡◌, ◌<◌, ◌+◌, ◌^◌, ◌≤◌, IsSome, IfOk, Some, length, map};
+ghost use Rattle.std.specs.Prelude.{◌≡◌, ◌⊎◌, ◌<◌, ◌+◌, ◌^◌, ◌≤◌, All, Err, length, map};
 ghost use Rattle.std.specs.Prelude.{string_bytes};
-ghost use Rattle.dfdl_terms.specs.Record.{Record, record_of};
-ghost use Rattle.dfdl_record.specs.Pieces.{IsWholeRecord};
+ghost use Rattle.dfdl_grammar.specs.Leaves.{IsUnsigned};
+ghost use Rattle.dfdl_json.specs.Children.{HasElementLast};
+ghost use Rattle.dfdl_pieces.specs.Whole.{AreWholeFields};
 ghost use Rattle.dfdl_run.specs.Decided.{Decided, IsReadEnd};
-ghost use Rattle.dfdl_run.specs.Meaning.{answer_of};
+ghost use Rattle.dfdl_run.specs.Meaning.{end_of};
+ghost use Rattle.dfdl_run.specs.declared.stop.Stop.TheVariants.{OutOfMemory};
 
 use crate::answer::Answer;
 use crate::command::{Verb, command_of};
@@ -15,19 +17,18 @@ use crate::unparsing::unparse;
 use dfdl_edge::{Files, Source, SourceFault, read_to_limit};
 use dfdl_report::LimitCause;
 use dfdl_terms::Terms;
-use std::alloc::{AllocError, Global};
+use std::alloc::Global;
 
 /// The most bytes that are read of the source.
 pub const MOST_INPUT: u64 = 1 << 30;
 
 // What the bytes of the source come to.
-fn meaning(alloc: Global, verb: Verb, terms: &Terms, bytes: &[u8]) -> Result<Answer, AllocError>
+fn meaning(alloc: Global, verb: Verb, terms: &Terms, bytes: &[u8]) -> Result<Answer, Stop>
     requires small { length bytes.now ≤ 2 ^ 60 }
-    requires described { IsSome (record_of terms.now) }
-    requires whole { (described : Record) → record_of terms.now ≡ Some described
-        → IsWholeRecord described }
-    ensures { (described : Record) → record_of terms.now ≡ Some described
-        → IfOk result (λ answer. answer ≡ answer_of verb described bytes.now) }
+    requires element { HasElementLast terms.now }
+    requires unsigned { All IsUnsigned terms.now.primitives }
+    requires whole { AreWholeFields terms.now }
+    ensures { (result ≡ Err OutOfMemory) ⊎ (result ≡ end_of verb terms.now bytes.now) }
 {
     match verb {
         Verb::Parse => parse(alloc, terms, bytes),
@@ -42,21 +43,16 @@ fn read_answer<S: Source>(
     verb: Verb,
     terms: &Terms,
 ) -> Result<Answer, Stop>
-    requires described { IsSome (record_of terms.now) }
-    requires whole { (described : Record) → record_of terms.now ≡ Some described
-        → IsWholeRecord described }
-    ensures { (described : Record) → record_of terms.now ≡ Some described
-        → IsReadEnd verb described (S.seen source.old) (S.seen source.new) result }
+    requires element { HasElementLast terms.now }
+    requires unsigned { All IsUnsigned terms.now.primitives }
+    requires whole { AreWholeFields terms.now }
+    ensures { IsReadEnd verb terms.now (S.seen source.old) (S.seen source.new) result }
 {
-    let bytes = match read_to_limit(alloc, source, MOST_INPUT) {
-        Ok(bytes) => bytes,
-        Err(SourceFault::Failed) => return Err(Stop::SourceFailed),
-        Err(SourceFault::TooLarge) => return Err(limit(LimitCause::Input, MOST_INPUT)),
-        Err(SourceFault::OutOfMemory) => return Err(Stop::OutOfMemory),
-    };
-    match meaning(alloc, verb, terms, &bytes) {
-        Ok(answer) => Ok(answer),
-        Err(_) => Err(Stop::OutOfMemory),
+    match read_to_limit(alloc, source, MOST_INPUT) {
+        Ok(bytes) => meaning(alloc, verb, terms, &bytes),
+        Err(SourceFault::Failed) => Err(Stop::SourceFailed),
+        Err(SourceFault::TooLarge) => Err(limit(LimitCause::Input, MOST_INPUT)),
+        Err(SourceFault::OutOfMemory) => Err(Stop::OutOfMemory),
     }
 }
 

@@ -2,7 +2,7 @@
 ghost use Rattle.std.specs.Prelude.{◌≡◌, IfOk, IsOk, OnOk, OnErr, IsErr, IsTrue, string_bytes};
 ghost use Rattle.dfdl_edge.specs.Faults.{Rose};
 ghost use Rattle.dfdl_edge.specs.Sink.{Adds, AddsFront};
-ghost use Rattle.dfdl_record.specs.Pieces.{joined};
+ghost use Rattle.dfdl_pieces.specs.Pieces.{joined};
 ghost use Rattle.dfdl_run.specs.Answer.{answer_bytes, is_written, note_of, status_of, written_of};
 ghost use Rattle.dfdl_run.specs.Expects.{Tells};
 ghost use Rattle.dfdl_run.specs.Finished.{Finished, Writes};
@@ -10,7 +10,7 @@ ghost use Rattle.dfdl_run.specs.Finished.{Finished, Writes};
 use crate::answer::Answer;
 use crate::stop::Stop;
 use dfdl_edge::{Failed, Sink};
-use dfdl_record::PieceList;
+use dfdl_pieces::PieceList;
 use dfdl_report::{Status, line};
 use std::alloc::{AllocError, Global};
 

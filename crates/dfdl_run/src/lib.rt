@@ -13,7 +13,6 @@ pub mod chooser;
 mod command;
 mod deciding;
 mod delivery;
-pub mod laws;
 mod loading;
 mod parsing;
 pub mod stop;

@@ -1,16 +1,18 @@
 // The loading of a schema.
-ghost use Rattle.std.specs.Prelude.{◌≡◌, ◌⊎◌, IsSome, IfOk, IfErr, Some};
-ghost use Rattle.dfdl_report.specs.declared.cause.SchemaCause.TheVariants.{OutsideSubset};
-ghost use Rattle.dfdl_terms.specs.Record.{Record, record_of};
-ghost use Rattle.dfdl_record.specs.Pieces.{IsWholeRecord};
+ghost use Rattle.std.specs.Prelude.{◌≡◌, ◌⊎◌, All, IfOk, IfErr};
+ghost use Rattle.dfdl_components.specs.Rules.{AllKeep, loading_rules};
+ghost use Rattle.dfdl_documents.specs.Loading.{document_at};
+ghost use Rattle.dfdl_grammar.specs.Leaves.{IsUnsigned};
+ghost use Rattle.dfdl_json.specs.Children.{HasElementLast};
+ghost use Rattle.dfdl_pieces.specs.Whole.{AreWholeFields};
 ghost use Rattle.dfdl_run.specs.Decided.{AreFewLoads, IsDescribed, IsLoadFault};
 ghost use Rattle.dfdl_run.specs.Schemas.{schema_stop};
 
 use crate::stop::Stop;
 use dfdl_compile::{CompileFault, compile};
-use dfdl_components::{SchemaFault, load};
+use dfdl_components::{Schema, SchemaFault, load};
 use dfdl_edge::Files;
-use dfdl_report::{LimitCause, SchemaCause};
+use dfdl_report::{LimitCause, Place, SchemaCause};
 use dfdl_terms::Terms;
 use dfdl_value::TextValue;
 use std::alloc::Global;
@@ -20,6 +22,12 @@ pub const MOST_SCHEMA: u32 = 4_194_304;
 
 /// The most documents of a schema.
 pub const MOST_SCHEMAS: u32 = 64;
+
+/// The most elements of a schema that are nested in one another.
+pub const MOST_DEPTH: u32 = 60;
+
+/// The most rows of a schema.
+pub const MOST_ROWS: u32 = 65_535;
 
 // What stops a run whose schema is not loaded.
 fn stop_of(fault: SchemaFault) -> Stop
@@ -42,15 +50,26 @@ fn stop_of(fault: SchemaFault) -> Stop
     }
 }
 
-// What stops a run where this schema is refused, or want of memory for its name.
-fn refused(alloc: Global, name: &str) -> Stop
-    ensures { (result ≡ Stop.Refused OutsideSubset name.now 0) ⊎ (result ≡ Stop.OutOfMemory) }
+// The name of a document; of none it is empty.
+fn name_of(schema: &Schema, document: u32) -> &str
+    ensures { result.now ≡ (document_at schema.now document).name }
 {
-    match TextValue::from_str(alloc, name) {
+    if document < schema.count() {
+        schema.name(document)
+    } else {
+        ""
+    }
+}
+
+// What stops a run where a schema is refused at a place, or want of memory for the name of its document.
+fn refused(alloc: Global, schema: &Schema, cause: SchemaCause, place: Place) -> Stop
+    ensures { (result ≡ Stop.Refused cause (document_at schema.now place.document).name place.at) ⊎ (result ≡ Stop.OutOfMemory) }
+{
+    match TextValue::from_str(alloc, name_of(schema, place.document)) {
         Ok(document) => Stop::Refused {
-            cause: SchemaCause::OutsideSubset,
+            cause,
             document,
-            at: 0,
+            at: place.at,
         },
         Err(_) => Stop::OutOfMemory,
     }
@@ -65,11 +84,10 @@ pub(crate) fn limit(cause: LimitCause, quantity: u64) -> Stop
 
 // The terms of the schema whose first document has this name, or what stops the run in their place.
 pub(crate) fn load_terms<F: Files>(alloc: Global, files: &mut F, name: &str) -> Result<Terms, Stop>
-    ensures described { IfOk result (λ terms. IsSome (record_of terms)) }
-    ensures whole { IfOk result (λ terms. (described : Record) → record_of terms ≡ Some described
-        → IsWholeRecord described) }
-    ensures ok { IfOk result (λ terms. (described : Record) → record_of terms ≡ Some described
-        → IsDescribed (F.seen files.old) (F.seen files.new) name.now described) }
+    ensures element { IfOk result HasElementLast }
+    ensures unsigned { IfOk result (λ t. All IsUnsigned t.primitives) }
+    ensures whole { IfOk result AreWholeFields }
+    ensures ok { IfOk result (IsDescribed (F.seen files.old) (F.seen files.new) name.now) }
     ensures err { IfErr result (IsLoadFault (F.seen files.old) (F.seen files.new) name.now) }
     ensures few { AreFewLoads (F.seen files.old) (F.seen files.new) }
 {
@@ -77,9 +95,10 @@ pub(crate) fn load_terms<F: Files>(alloc: Global, files: &mut F, name: &str) -> 
         Ok(schema) => schema,
         Err(fault) => return Err(stop_of(fault)),
     };
-    match compile(alloc, schema.tree(0)) {
+    match compile(alloc, &schema, MOST_DEPTH, MOST_ROWS) {
         Ok(terms) => Ok(terms),
-        Err(CompileFault::Refused) => Err(refused(alloc, schema.name(0))),
+        Err(CompileFault::Refused { cause, place }) => Err(refused(alloc, &schema, cause, place)),
+        Err(CompileFault::Limit { cause, quantity }) => Err(limit(cause, u64::from(quantity))),
         Err(CompileFault::OutOfMemory) => Err(Stop::OutOfMemory),
     }
 }

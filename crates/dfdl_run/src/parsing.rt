@@ -1,139 +1,114 @@
-// The reading of a record's data, and the line of its infoset.
-ghost use Rattle.std.specs.Prelude.{◌<◌, ◌≡◌, ◌^◌, ◌≤◌, ◌*◌, ◌++◌, [], ◌∷◌, List, ℕ, IfOk, IsSome};
-ghost use Rattle.std.specs.Prelude.{Some, false, length, map};
-ghost use Rattle.serde_json.specs.Data.{object, no_members, put as with_member};
-ghost use Rattle.serde_json.specs.View.{members_view};
-ghost use Rattle.serde_json.specs.Written.{has_float, compact_text};
-ghost use Rattle.dfdl_terms.specs.Record.{Record, all_of, field_at, fields_at, record_of};
-ghost use Rattle.dfdl_report.specs.declared.cause.ParseCause.TheVariants.{DataEnds};
-ghost use Rattle.dfdl_run.specs.declared.answer.Answer.{Answer};
-ghost use Rattle.dfdl_report.specs.Paths.{field_path};
-ghost use Rattle.dfdl_record.specs.Outcomes.{outcome_of};
-ghost use Rattle.dfdl_run.specs.Meaning.{parse_answer};
-ghost use Rattle.dfdl_run.specs.RecordReading.{reached, reading_shown};
+// The parsing of data.
+ghost use Rattle.std.specs.Prelude.{◌≡◌, ◌⊎◌, ◌<◌, ◌+◌, ◌*◌, ◌^◌, ◌≤◌, nat_le, if◌then◌else◌, Err, All, IfOk, length, take, drop, string_bytes};
+ghost use Rattle.dfdl_grammar.specs.Documents.{document};
+ghost use Rattle.dfdl_grammar.specs.Leaves.{IsUnsigned};
+ghost use Rattle.dfdl_run.specs.Meaning.{limits, parse_end};
+ghost use Rattle.dfdl_run.specs.Parsed.{HasParsed};
+ghost use Rattle.dfdl_run.specs.declared.answer.Answer.TheVariants.{Done, LeftOver};
+ghost use Rattle.dfdl_run.specs.declared.stop.Stop.TheVariants.{OutOfMemory};
 
 use crate::answer::Answer;
-use dfdl_bits::number_at;
-use dfdl_report::{ParseCause, path_of_field};
-use dfdl_terms::{RowId, Terms, field_of_row, root_of_record};
+use crate::loading::limit;
+use crate::stop::Stop;
+use dfdl_bits::Steps;
+use dfdl_json::line_of;
+use dfdl_parse::{Limits, Outcome, Session};
+use dfdl_report::ParseCause;
+use dfdl_terms::Terms;
 use dfdl_value::TextValue;
-use serde_json::{Map, Value};
 use std::alloc::{AllocError, Global};
+use std::marker::Brand;
+use std::sync::ledger::{Blank, Ledger};
 
-// What the data of a record came to.
-#[derive(Drop)]
-pub(crate) enum Reading<'t> {
-    // A member for each field, and the bit behind the last one.
-    Read {
-        members: Map<String, Value>,
-        bit: u64,
-    },
-    // The field of this name begins at this bit, and its bits pass the end of the data.
-    Ends {
-        name: &'t str,
-        bit: u64,
-    },
+// What parsing may take: the bytes of the data that are held, and the elements of a document.
+fn limits() -> Limits
+    ensures { result ≡ limits }
+{
+    Limits {
+        window: 33_554_432,
+        nodes: 1_000_000,
+    }
 }
 
-// The fields of these rows, one after another.
-fn read_fields<'t>(
+// So many bytes from one on.
+fn piece_of(bytes: &[u8], at: usize, count: usize) -> &[u8]
+    requires { at + count ≤ length bytes.now }
+    ensures { result.now ≡ take count (drop at bytes.now) }
+{
+    &bytes[at..at + count]
+}
+
+// The session that has taken all of these bytes, and has come to the outcome of their document. The caller picks the
+// ledger in which its steps are counted.
+fn parsed<'t, L: Ledger>(
     alloc: Global,
     terms: &'t Terms,
-    rows: &[RowId],
     bytes: &[u8],
-) -> Result<Reading<'t>, AllocError>
+    blank: Blank,
+) -> Result<Session<'t>, AllocError>
+    requires name { blank.name ≡ L.name }
+    requires parts { blank.parts ≡ L.parts }
+    requires some { 0 < L.parts }
     requires small { length bytes.now ≤ 2 ^ 60 }
-    requires fields { IsSome (all_of (map (field_at terms.now) rows.now)) }
-    ensures { IfOk result (λ reading.
-        reading_shown reading
-        ≡ reached no_members (outcome_of bytes.now 0 (fields_at terms.now rows.now))) }
+    requires unsigned { All IsUnsigned terms.now.primitives }
+    ensures terms { IfOk result (λ session. session.terms.now ≡ terms.now) }
+    ensures ended { IfOk result (λ session. HasParsed session (document limits terms.now bytes.now)) }
 {
-    let mut members = Map::new(alloc);
-    let mut bit = 0u64;
-    let end = 8 * bytes.len() as u64;
-    for row in rows {
-        let Some(field) = field_of_row(terms, *row) else {
-            unreachable!()
-        };
-        let bits = u64::from(field.form.bits);
-        if end - bit < bits {
-            return Ok(Reading::Ends {
-                name: field.name,
-                bit,
-            });
+    let mut steps = Steps::<L>::open(blank);
+    let mut session = Session::open(alloc, terms, limits())?;
+    let mut at = 0usize;
+    while at < bytes.len() {
+        let count = session.room().min(bytes.len() - at);
+        let more = session.feed(piece_of(bytes, at, count), &mut steps)?;
+        if !more {
+            return Ok(session);
         }
-        let number = number_at(
-            bytes,
-            bit,
-            field.form.bits,
-            field.form.bytes_by,
-            field.form.bits_by,
-        );
-        let text = Value::String(number.to_string(alloc)?);
-        serde_json::put(&mut members, alloc, field.name, text)?;
-        bit += bits;
+        at += count;
     }
-    Ok(Reading::Read { members, bit })
+    session.finish(&mut steps)?;
+    Ok(session)
 }
 
-// The line of an infoset: an object with the root's name, of an object with these members.
-fn line_of_members(
-    alloc: Global,
-    root: &str,
-    members: Map<String, Value>,
-) -> Result<TextValue, AllocError>
-    requires { has_float (object (with_member root.now (object (members_view members.entries)) no_members)) ≡ false }
-    ensures { IfOk result (λ line.
-        line ≡ compact_text (object (with_member root.now (object (members_view members.entries)) no_members)) ++ 10 ∷ []) }
+// The answer where a document was read up to a bit, of so many bytes of data.
+fn answer_of(line: TextValue, bit: u64, bytes: usize) -> Answer
+    requires { bytes ≤ 2 ^ 60 }
+    ensures { result ≡ (if nat_le (bit + 8) (8 * bytes) then LeftOver line bit else Done line) }
 {
-    let mut whole = Map::new(alloc);
-    serde_json::put(&mut whole, alloc, root, Value::Object(members))?;
-    let value = Value::Object(whole);
-    let mut text = value.to_string(alloc)?;
-    text.push('\n')?;
-    Ok(TextValue::from_string(text))
-}
-
-// What parsing the data of a record comes to.
-pub(crate) fn parse(alloc: Global, terms: &Terms, bytes: &[u8]) -> Result<Answer, AllocError>
-    requires small { length bytes.now ≤ 2 ^ 60 }
-    requires described { IsSome (record_of terms.now) }
-    ensures { (described : Record) → record_of terms.now ≡ Some described
-        → IfOk result (λ answer. answer ≡ parse_answer described bytes.now) }
-{
-    let Some(root) = root_of_record(terms) else {
-        unreachable!()
-    };
-    match read_fields(alloc, terms, root.children, bytes)? {
-        Reading::Ends { name, bit } => failed(alloc, root.name, name, bit),
-        Reading::Read { members, bit } => {
-            let line = line_of_members(alloc, root.name, members)?;
-            let left = (8 * bytes.len() as u64).saturating_sub(bit);
-            Ok(answer_of_line(line, bit, left))
-        }
-    }
-}
-
-// The answer where the data ends in a field.
-fn failed(alloc: Global, root: &str, name: &str, bit: u64) -> Result<Answer, AllocError>
-    ensures { IfOk result (λ answer. answer
-        ≡ Answer.Failed DataEnds bit (field_path root.now name.now)) }
-{
-    Ok(Answer::Failed {
-        cause: ParseCause::DataEnds,
-        bit,
-        path: TextValue::from_string(path_of_field(alloc, root, name)?),
-    })
-}
-
-// The answer where these many bits are left behind the fields.
-fn answer_of_line(line: TextValue, bit: u64, left: u64) -> Answer
-    ensures over { 8 ≤ left → result ≡ Answer.LeftOver line bit }
-    ensures done { left < 8 → result ≡ Answer.Done line }
-{
+    let left = (8 * bytes as u64).saturating_sub(bit);
     if left >= 8 {
         Answer::LeftOver { line, bit }
     } else {
         Answer::Done { line }
     }
+}
+
+// What parsing data comes to.
+pub(crate) fn parse(alloc: Global, terms: &Terms, bytes: &[u8]) -> Result<Answer, Stop>
+    requires small { length bytes.now ≤ 2 ^ 60 }
+    requires unsigned { All IsUnsigned terms.now.primitives }
+    ensures { (result ≡ Err OutOfMemory) ⊎ (result ≡ parse_end terms.now bytes.now) }
+{
+    let Ok(session) = parsed::<Brand>(alloc, terms, bytes, Blank::new(1)) else {
+        return Err(Stop::OutOfMemory);
+    };
+    match session.outcome() {
+        Outcome::Done => match line_of(alloc, terms, session.nodes()) {
+            Ok(line) => Ok(answer_of(line, session.position(), bytes.len())),
+            Err(_) => Err(Stop::OutOfMemory),
+        },
+        Outcome::Failed { cause, bit } => match session.path(alloc) {
+            Ok(path) => Ok(failed(cause, bit, path)),
+            Err(_) => Err(Stop::OutOfMemory),
+        },
+        Outcome::Limit { cause, quantity } => Err(limit(cause, quantity)),
+        Outcome::Open | Outcome::OutOfMemory => Err(Stop::OutOfMemory),
+    }
+}
+
+// The answer of a processing error.
+fn failed(cause: ParseCause, bit: u64, path: String) -> Answer
+    ensures { result ≡ Answer.Failed cause bit (string_bytes path) }
+{
+    let path = TextValue::from_string(path);
+    Answer::Failed { cause, bit, path }
 }

@@ -1,41 +1,46 @@
-// The unparsing of an infoset of a record.
-ghost use Rattle.std.specs.Prelude.{◌≡◌, IfOk, IsSome, Some};
-ghost use Rattle.dfdl_terms.specs.Record.{Record, record_of};
-ghost use Rattle.dfdl_record.specs.Pieces.{IsWholeRecord};
-ghost use Rattle.dfdl_run.specs.Meaning.{unparse_answer};
+// The unparsing of an infoset.
+ghost use Rattle.std.specs.Prelude.{◌≡◌, ◌⊎◌, Err, IfOk};
+ghost use Rattle.dfdl_json.specs.Children.{HasElementLast};
+ghost use Rattle.dfdl_pieces.specs.Whole.{AreWholeFields};
+ghost use Rattle.dfdl_run.specs.Meaning.{laid_answer, unparse_end};
+ghost use Rattle.dfdl_run.specs.declared.stop.Stop.TheVariants.{OutOfMemory};
 
 use crate::answer::Answer;
+use crate::stop::Stop;
 use dfdl_json::{InfosetFault, events_of_json};
-use dfdl_record::unparse as pieces_of;
-use dfdl_report::{UnparseCause, path_of_field};
-use dfdl_terms::{Terms, root_of_record};
-use dfdl_value::TextValue;
-use std::alloc::{AllocError, Global};
+use dfdl_pieces::{Unparsed, unparse as laid};
+use dfdl_report::UnparseCause;
+use dfdl_terms::Terms;
+use std::alloc::Global;
+
+// The answer of what was laid.
+fn answer_of(unparsed: Unparsed) -> Answer
+    ensures { result ≡ laid_answer unparsed }
+{
+    let Unparsed { pieces, missing } = unparsed;
+    match missing {
+        None => Answer::Unparsed { pieces },
+        Some(path) => Answer::NotUnparsed {
+            pieces,
+            cause: UnparseCause::WrongOccurrences,
+            path,
+        },
+    }
+}
 
 // What unparsing the text of an infoset comes to.
-pub(crate) fn unparse(alloc: Global, terms: &Terms, text: &[u8]) -> Result<Answer, AllocError>
-    requires described { IsSome (record_of terms.now) }
-    requires whole { (described : Record) → record_of terms.now ≡ Some described
-        → IsWholeRecord described }
-    ensures { (described : Record) → record_of terms.now ≡ Some described
-        → IfOk result (λ answer. answer ≡ unparse_answer described text.now) }
+pub(crate) fn unparse(alloc: Global, terms: &Terms, text: &[u8]) -> Result<Answer, Stop>
+    requires element { HasElementLast terms.now }
+    requires whole { AreWholeFields terms.now }
+    ensures { (result ≡ Err OutOfMemory) ⊎ (result ≡ unparse_end terms.now text.now) }
 {
     let events = match events_of_json(alloc, terms, text) {
         Ok(events) => events,
         Err(InfosetFault::Bad { cause, path }) => return Ok(Answer::NoInfoset { cause, path }),
-        Err(InfosetFault::OutOfMemory) => return Err(AllocError),
+        Err(InfosetFault::OutOfMemory) => return Err(Stop::OutOfMemory),
     };
-    let Some(root) = root_of_record(terms) else {
-        unreachable!()
-    };
-    let unparsed = pieces_of(alloc, terms, &events)?;
-    let pieces = unparsed.pieces;
-    match unparsed.missing {
-        None => Ok(Answer::Unparsed { pieces }),
-        Some(name) => Ok(Answer::NotUnparsed {
-            pieces,
-            cause: UnparseCause::WrongOccurrences,
-            path: TextValue::from_string(path_of_field(alloc, root.name, name)?),
-        }),
+    match laid(alloc, terms, &events) {
+        Ok(unparsed) => Ok(answer_of(unparsed)),
+        Err(_) => Err(Stop::OutOfMemory),
     }
 }

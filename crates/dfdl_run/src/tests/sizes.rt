@@ -199,7 +199,7 @@ fn runs_of_other_sizes_are_stopped(rt: HostRuntime) -> Result<(), Fail> {
             },
             2,
             "",
-            NO_SCHEMA,
+            "error C40 at s.xsd:2299: element name twice\n",
         ),
         (
             Given {

@@ -4,6 +4,8 @@ use Rattle.dfdl_terms.specs.Rows.{Nests, NamesWithin}
 use Rattle.dfdl_rows.specs.Components.{component_at}
 use Rattle.dfdl_rows.specs.Answers.{EndsWith}
 use Rattle.dfdl_rows.proofs.Nesting.{rows_nest, rows_some, rows_named, rows_end}
+use Rattle.dfdl_rows.specs.Leaves.{HaveLeaves}
+use Rattle.dfdl_rows.proofs.Leaves.{rows_have_leaves}
 use Rattle.dfdl_rows.proofs.RowsOf.{length_rows}
 use Rattle.dfdl_rows.proofs.rows.rows_of.Goals as goal
 
@@ -42,3 +44,8 @@ pub returns-clause-named : goal.returns-clause-named
 returns-clause-named c = λ count has.
     subst (λ (rows : List Row). All (NamesWithin count) rows) (sym c.in_ok-all_rows.ensures)
     (rows_named c.args.components.now c.facts.ensures.ordered c.facts.ensures.of_one count has c.args.root c.requires 0)
+
+pub returns-clause-leaves : goal.returns-clause-leaves
+returns-clause-leaves c = λ takes taken.
+    subst (λ (rows : List Row). HaveLeaves takes rows) (sym c.in_ok-all_rows.ensures)
+    (rows_have_leaves takes c.args.components.now c.facts.ensures.ordered c.facts.ensures.of_one taken c.args.root c.requires)

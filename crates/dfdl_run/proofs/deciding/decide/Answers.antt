@@ -1,8 +1,6 @@
 use Rattle.std.proofs.Common.{refl}
-use Rattle.dfdl_terms.specs.Record.{record_of}
 use Rattle.dfdl_run.specs.Decided.{by_words, by_schema, by_data}
 use Rattle.dfdl_run.specs.CommandShown.{order_shown}
-use Rattle.dfdl_run.proofs.Decisions.{described_by}
 use Rattle.dfdl_run.proofs.deciding.decide.Goals as goal
 
 pub returns-in-Err : goal.returns-in-Err
@@ -10,10 +8,7 @@ returns-in-Err g c = by_words c.in-Err.at c.in-Err.ensures.place (cc) refl
 
 pub returns-in-Ok-load_terms : goal.returns-in-Ok-load_terms
 returns-in-Ok-load_terms g c =
-    let some =
-    described_by (record_of c.in-Ok-load_terms.terms) c.in-Ok-load_terms.ensures.described in
-    by_data (order_shown c.in-Ok.command) some.0 c.in-Ok.ensures.ok (c.in-Ok-load_terms.ensures.ok some.0 some.1)
-    (c.read_answer.ensures some.0 some.1)
+    by_data (order_shown c.in-Ok.command) _ c.in-Ok.ensures.ok c.in-Ok-load_terms.ensures.ok c.read_answer.ensures
 
 pub returns-in-Err-load_terms : goal.returns-in-Err-load_terms
 returns-in-Err-load_terms g c =

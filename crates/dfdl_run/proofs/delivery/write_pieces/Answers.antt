@@ -1,6 +1,6 @@
 use Rattle.std.proofs.Common.{subst, OnErr}
 use Rattle.dfdl_edge.specs.Sink.{AddsFront}
-use Rattle.dfdl_record.specs.Pieces.{joined}
+use Rattle.dfdl_pieces.specs.Pieces.{joined}
 use Rattle.dfdl_run.proofs.PieceLemmas.{stopped}
 use Rattle.dfdl_run.proofs.delivery.write_pieces.Goals as goal
 

@@ -1,0 +1,108 @@
+-- What is kept of elements and formats, and the elements of chains.
+use Rattle.std.proofs.Common.{◌≡◌, refl, sym, ap, subst, ◌∙◌, ℕ, zero, ◌+◌, ◌<◌, List, [], ◌∷◌, ◌++◌, length, take, get_or, map, Option, Some, None, option_map, IfSome, arith}
+use Rattle.dfdl_documents.specs.Documents.{SchemaDocument}
+use Rattle.std.proofs.lemmas.List.{get_or-map, map-append, take_more}
+use Rattle.std.proofs.lemmas.Slice.Zip.{all_zipped_more}
+use Rattle.dfdl_report.specs.declared.place.Place.{Place}
+use Rattle.dfdl_components.specs.declared.site.Site.{Site}
+use Rattle.dfdl_components.specs.Recursion.{count_of, number_of}
+use Rattle.dfdl_components.specs.Sites.{IsSite}
+use Rattle.dfdl_checks.specs.Alike.{AreAlikeChains, IsAlike, IsAlikeElement}
+use Rattle.dfdl_checks.specs.Judged.{Judged}
+use Rattle.dfdl_scope.specs.Scoping.{Element, nothing}
+use Rattle.dfdl_scope.specs.Shown.{format_given}
+use Rattle.dfdl_scope.specs.declared.format.Format.{Format}
+use Rattle.dfdl_chains.specs.Chains.{chain_sites}
+use Rattle.dfdl_chains.specs.Everywhere.{all_sites}
+use Rattle.dfdl_chains.specs.Facts.{facts_at}
+use Rattle.dfdl_chains.specs.Kinds.{kind_at}
+use Rattle.dfdl_breaches.proofs.Found.{IsFound, of-found, default-found}
+use Rattle.dfdl_breaches.proofs.Joining.{all-tabled}
+use Rattle.dfdl_breaches.proofs.Numbering.{at-number, length-sites, number-below}
+use Rattle.dfdl_breaches.specs.Elements.{element_at, place_of}
+use Rattle.dfdl_breaches.specs.Formats.{format_value, given_by}
+use Rattle.dfdl_breaches.specs.Judging.{judged_at}
+use Rattle.dfdl_breaches.specs.KeptShown.{IsFormatIf}
+use Rattle.dfdl_breaches.specs.References.{default_of, format_of}
+use Rattle.dfdl_breaches.specs.Tabled.{AreJoined, AreTabled}
+
+-- a number that is there
+abbrev or-zero : Option ℕ → ℕ
+or-zero None = zero
+or-zero (Some n) = n
+
+-- what the format of a number gives
+pub some_given : (documents : List SchemaDocument) (formats : List Format) (n : ℕ) (d : Format) (o : Option Site) (name : List ℕ)
+    → AreJoined documents (count_of documents) formats → n < length formats → Some n ≡ option_map (number_of documents) o → IsFormatIf documents o
+    → format_given (get_or formats n d) name ≡ given_by (format_value documents) o name
+some_given documents formats n d None name joined low is format = absurd (grind (arith, is))
+some_given documents formats n d (Some own) name joined low is format =
+    sym (get_or-map (λ f. format_given f name) formats n d None low)
+    ∙ (ap (λ k. get_or (map (λ f. format_given f name) formats) k None) (ap or-zero is) ∙ joined.each own name format.0 format.1)
+
+pub none_given : (documents : List SchemaDocument) (o : Option Site) (name : List ℕ) → None ≡ option_map (number_of documents) o
+    → nothing name ≡ given_by (format_value documents) o name
+none_given documents None name is = refl
+none_given documents (Some own) name is = absurd (grind (arith, is))
+
+-- what may be found is a format
+found-format : (documents : List SchemaDocument) (o : Option Site) → ((format : Site) → o ≡ Some format → IsFound documents format) → IsFormatIf documents o
+found-format documents None found = tt
+found-format documents (Some format) found = ((found format refl).is, (found format refl).role)
+
+pub of_format : (documents : List SchemaDocument) (own : Site) → IsFormatIf documents (format_of documents own)
+of_format documents own = found-format documents (format_of documents own) (of-found documents own)
+
+pub default_format : (documents : List SchemaDocument) (document : ℕ) → IsFormatIf documents (default_of documents document)
+default_format documents document = found-format documents (default_of documents document) (default-found documents document)
+
+-- its number is that of one of the formats
+pub number_within : (documents : List SchemaDocument) (formats : List Format) (o : Option Site) (number : Option ℕ) → number ≡ option_map (number_of documents) o
+    → IsFormatIf documents o → length formats ≡ count_of documents → IfSome number (λ n. n < length formats)
+number_within documents formats None number is format counted = subst (λ (p : Option ℕ). IfSome p (λ n. n < length formats)) (sym is) tt
+number_within documents formats (Some own) number is format counted =
+    subst (λ (p : Option ℕ). IfSome p (λ n. n < length formats)) (sym is)
+    (subst (λ (k : ℕ). number_of documents own < k) (sym counted) (number-below documents own format.0))
+
+-- what a table has of an element
+pub at_site : {X : Type 0} (relation : Site → X → Type 0) (documents : List SchemaDocument) (sites : List Site) (table : List X) (own : Site) (x : X) → sites ≡ all_sites documents
+    → AreTabled relation sites (length sites) table → IsSite documents own → relation own (get_or table (number_of documents own) x)
+at_site relation documents sites table own x is tabled at =
+    subst (λ (s : Site). relation s (get_or table (number_of documents own) x)) (at-number documents own own at)
+    ((all-tabled relation documents sites table is tabled).each (number_of documents own) own x (number-below documents own at))
+
+-- the number of an element is below the table's length
+pub number_low : {X : Type 0} (relation : Site → X → Type 0) (documents : List SchemaDocument) (sites : List Site) (table : List X) (own : Site) (n : ℕ) → sites ≡ all_sites documents
+    → AreTabled relation sites (length sites) table → IsSite documents own → n ≡ number_of documents own → n < length table
+number_low relation documents sites table own n is tabled at number =
+    let low : number_of documents own < count_of documents = number-below documents own at in
+    let long : length table ≡ length sites = tabled.count in
+    let all : length sites ≡ length (all_sites documents) = ap length is in
+    let counted : length (all_sites documents) ≡ count_of documents = length-sites documents in
+    subst (λ (k : ℕ). n < k) (sym (long ∙ (all ∙ counted))) (subst (λ (k : ℕ). k < count_of documents) (sym number) low)
+
+-- a chain with the next element
+pub chain_more : (documents : List SchemaDocument) (sites : List Site) (n : ℕ) (old new : List Element) (element : Element) (d : Site) → n < length sites
+    → AreAlikeChains old (map (element_at documents) (take n sites)) → IsAlikeElement element (element_at documents (get_or sites n d)) → new ≡ old ++ element ∷ []
+    → AreAlikeChains new (map (element_at documents) (take (n + 1) sites))
+chain_more documents sites n old new element d low before alike pushed =
+    subst (λ (xs : List Element). AreAlikeChains xs (map (element_at documents) (take (n + 1) sites))) (sym pushed)
+    (subst (λ (ys : List Element). AreAlikeChains (old ++ element ∷ []) ys)
+    (sym (ap (λ (xs : List Site). map (element_at documents) xs) (take_more sites n d low) ∙ map-append (element_at documents) (take n sites) (get_or sites n d ∷ [])))
+    (all_zipped_more IsAlikeElement old (map (element_at documents) (take n sites)) element (element_at documents (get_or sites n d)) before alike))
+
+-- a place by its parts
+pub same_place : (place : Place) (document at : ℕ) → place.document ≡ document → place.at ≡ at → place ≡ record { document = document; at = at }
+same_place place document at one other =
+    ap (λ (d : ℕ). record { document = d; at = place.at }) one ∙ ap (λ (a : ℕ). record { document = document; at = a }) other
+
+-- a component whose parts are those of the documents
+pub alike_judged : (documents : List SchemaDocument) (own : Site) (sites : List Site) (j : Judged) → j.kind ≡ kind_at documents own
+    → j.place.document ≡ (place_of documents own).document → j.place.at ≡ (place_of documents own).at → sites ≡ chain_sites documents own
+    → AreAlikeChains j.chain (map (element_at documents) sites) → j.facts ≡ facts_at documents own → IsAlike j (judged_at documents own)
+alike_judged documents own sites j kind document at is chain facts = record {
+  kind = kind;
+  place = same_place j.place (place_of documents own).document (place_of documents own).at document at;
+  chain = subst (λ (xs : List Site). AreAlikeChains j.chain (map (element_at documents) xs)) is chain;
+  facts = facts;
+}

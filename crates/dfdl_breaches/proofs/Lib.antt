@@ -1,0 +1,6 @@
+mod Found
+mod Joining
+mod Keeping
+pub mod Numbering
+mod Ordered
+mod Tables

@@ -1,0 +1,8 @@
+pub mod References
+pub mod Formats
+pub mod Elements
+pub mod Judging
+pub mod Forms
+pub mod Numbered
+pub mod Tabled
+pub mod KeptShown

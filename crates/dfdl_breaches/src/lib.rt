@@ -1,0 +1,23 @@
+//! What is wrong at each component of a schema by itself: for every element of its documents the first rule that the
+//! component there breaks, and how its values lie in the data where it is a simple element.
+//!
+//! A component is judged by what the elements of its chain give: their own properties, the formats that they refer to
+//! (`specs/References.antt`), each joined once with those that it refers to (`specs/Formats.antt`), and the default formats
+//! of their documents (`specs/Elements.antt`). The contract of `breaches` cites `specs/Judging.antt`. It serves the chapter
+//! 'Property Scoping and DFDL Schema Checking'.
+#![tactic(auto)]
+
+mod entries;
+mod entry;
+mod formats;
+mod judgement;
+mod kept;
+pub mod laws;
+mod referring;
+mod sites;
+mod telling;
+#[cfg(test)]
+mod tests;
+
+pub use judgement::Judgement;
+pub use telling::breaches;

@@ -1,0 +1,130 @@
+// What is told of all components of a schema.
+ghost use Rattle.std.specs.Prelude.{◌≡◌, map, IfOk, All, true};
+ghost use Rattle.dfdl_checks.specs.Alike.{AreAlikeChains};
+ghost use Rattle.dfdl_components.specs.Rules.{loading_rules, AllKeep};
+ghost use Rattle.dfdl_components.specs.Sites.{IsSite, role_of};
+ghost use Rattle.dfdl_chains.specs.Chains.{chain_sites};
+ghost use Rattle.dfdl_chains.specs.Everywhere.{for_each};
+ghost use Rattle.dfdl_chains.specs.Parts.{is_component};
+ghost use Rattle.dfdl_scope.specs.Shown.{chain_of};
+ghost use Rattle.dfdl_breaches.specs.Elements.{element_at};
+ghost use Rattle.dfdl_breaches.specs.Judging.{breach_at, form_at, judgement_at};
+ghost use Rattle.dfdl_breaches.specs.KeptShown.{AreKept};
+
+use crate::entries::entries_of;
+use crate::formats::formats_of;
+use crate::judgement::Judgement;
+use crate::kept::{Kept, element_at};
+use crate::sites::sites_of;
+use dfdl_chains::{chain_sites, facts_at, is_component, kind_at};
+use dfdl_checks::laws::alike_components_are_judged_alike;
+use dfdl_checks::{Subject, breach, integer_form};
+use dfdl_components::{Schema, Site};
+use dfdl_scope::Component;
+use std::alloc::{AllocError, Global};
+
+// The chain of these elements.
+fn chain_at<'e, 's>(
+    alloc: Global,
+    kept: &Kept<'e, 's>,
+    schema: &Schema,
+    sites: &[Site],
+) -> Result<Component<'e, 's>, AllocError>
+    requires kept { AreKept schema.now kept.now }
+    requires sites { All (IsSite schema.now) sites.now }
+    ensures { IfOk result (λ chain. AreAlikeChains (chain_of chain) (map (element_at schema.now) sites.now)) }
+{
+    let mut chain = Component::new(alloc);
+    for site in sites {
+        chain.push_element(element_at(kept, schema, *site))?;
+    }
+    Ok(chain)
+}
+
+// What is told of a component with this chain.
+fn judged(
+    alloc: Global,
+    kept: &Kept<'_, '_>,
+    schema: &Schema,
+    site: Site,
+    sites: &[Site],
+) -> Result<Judgement, AllocError>
+    requires kept { AreKept schema.now kept.now }
+    requires site { IsSite schema.now site }
+    requires chain { sites.now ≡ chain_sites schema.now site }
+    requires within { All (IsSite schema.now) sites.now }
+    ensures breach { IfOk result (λ judgement. judgement.breach ≡ breach_at schema.now site) }
+    ensures form { IfOk result (λ judgement. judgement.form ≡ form_at schema.now site) }
+{
+    alike_components_are_judged_alike();
+    let chain = chain_at(alloc, kept, schema, sites)?;
+    let subject = Subject {
+        kind: kind_at(schema, &kept.sites.numbers, site),
+        place: schema.place(site),
+        chain: &chain,
+        facts: facts_at(schema, site, sites),
+    };
+    Ok(Judgement {
+        breach: breach(&subject),
+        form: integer_form(&subject),
+    })
+}
+
+// What is told of an element. The list takes its chain.
+#[tactic(auto, unfolding(crate::specs::Judging::judgement_at))]
+fn judgement(
+    alloc: Global,
+    kept: &Kept<'_, '_>,
+    schema: &Schema,
+    site: Site,
+    chain: &mut Vec<Site>,
+) -> Result<Judgement, AllocError>
+    requires kept { AreKept schema.now kept.now }
+    requires site { IsSite schema.now site }
+    ensures { IfOk result (λ judgement. judgement ≡ judgement_at schema.now site) }
+{
+    if !is_component(schema.role(site)) {
+        return Ok(Judgement {
+            breach: None,
+            form: None,
+        });
+    }
+    chain_sites(schema, &kept.sites.numbers, site, chain)?;
+    judged(alloc, kept, schema, site, chain.as_slice())
+}
+
+// What is told of all elements.
+fn judgements(
+    alloc: Global,
+    kept: &Kept<'_, '_>,
+    schema: &Schema,
+) -> Result<Vec<Judgement>, AllocError>
+    requires kept { AreKept schema.now kept.now }
+    ensures { IfOk result (λ judgements. judgements.items ≡ for_each schema.now (judgement_at schema.now)) }
+{
+    let mut judgements = Vec::new(alloc);
+    let mut chain = Vec::new(alloc);
+    for site in kept.sites.all.as_slice() {
+        judgements.push(judgement(alloc, kept, schema, *site, &mut chain)?)?;
+    }
+    Ok(judgements)
+}
+
+/// What is told of each element of a schema's documents, in the order of their numbers: of a component
+/// the first rule that it breaks, and how its values lie in the data; of every other element nothing.
+///
+/// The properties of each element are collected once, and each format is joined once.
+pub fn breaches(alloc: Global, schema: &Schema) -> Result<Vec<Judgement>, AllocError>
+    requires { AllKeep (loading_rules schema.now) schema.now }
+    ensures { IfOk result (λ judgements. judgements.items ≡ for_each schema.now (judgement_at schema.now)) }
+{
+    let sites = sites_of(alloc, schema)?;
+    let formats = formats_of(alloc, schema, &sites)?;
+    let entries = entries_of(alloc, schema, &sites)?;
+    let kept = Kept {
+        sites: &sites,
+        entries: entries.as_slice(),
+        formats: formats.as_slice(),
+    };
+    judgements(alloc, &kept, schema)
+}

@@ -1,0 +1,178 @@
+// What is told of schemas in memory.
+use crate::laws::sound_elements_have_whole_forms;
+use crate::{Judgement, breaches};
+use dfdl_components::{Schema, load};
+use dfdl_edge::{MemoryFile, MemoryFiles};
+use dfdl_forms::ByteOrder;
+use std::alloc::{AllocError, Global};
+use std::test::Fail;
+
+/// A default format with what binary integers of implicit length are given, but for the order of bytes.
+const INTEGERS: &str =
+    "representation=\"binary\" binaryNumberRep=\"binary\" lengthKind=\"implicit\"";
+
+/// The annotation of a schema with this in it.
+fn annotated(alloc: Global, inside: &str) -> Result<String, AllocError> {
+    format!(in alloc;
+        "<x:annotation><x:appinfo source=\"http://www.ogf.org/dfdl/\">{inside}</x:appinfo></x:annotation>"
+    )
+}
+
+/// A document: what its default format gives, what stands with that in the annotation of its schema,
+/// and its components.
+fn file_of(
+    alloc: Global,
+    name: &str,
+    default: &str,
+    formats: &str,
+    components: &str,
+) -> Result<MemoryFile, AllocError> {
+    let inside = format!(in alloc; "<d:format {default}/>{formats}")?;
+    let annotation = annotated(alloc, inside.as_str())?;
+    let text = format!(in alloc;
+        "<x:schema xmlns:x=\"http://www.w3.org/2001/XMLSchema\" xmlns:d=\"http://www.ogf.org/dfdl/dfdl-1.0/\">{annotation}{components}</x:schema>"
+    )?;
+    Ok(MemoryFile {
+        name: String::from_str(alloc, name)?,
+        bytes: text.into_bytes(),
+    })
+}
+
+/// What is told of the elements of some files that have a breach or a form, as a line: the number of
+/// the cause, or the bits and the order of bytes.
+fn told(alloc: Global, files: Vec<MemoryFile>) -> Result<String, AllocError> {
+    let mut files = MemoryFiles::new(files, Vec::new(alloc));
+    let Ok(schema) = load(alloc, &mut files, "a", 10_000, 2) else {
+        return String::from_str(alloc, "refused");
+    };
+    let mut line = String::new(alloc);
+    for judgement in breaches(alloc, &schema)? {
+        let piece = told_of(alloc, judgement)?;
+        line.push_str(piece.as_str())?;
+    }
+    Ok(line)
+}
+
+/// The same of one element.
+fn told_of(alloc: Global, judgement: Judgement) -> Result<String, AllocError> {
+    if let Some(breach) = judgement.breach {
+        return format!(in alloc; "C{}@{} ", breach.cause.number(), breach.place.document);
+    }
+    match judgement.form {
+        Some(form) if form.bytes_by == ByteOrder::Little => format!(in alloc;
+            "little{} ",
+            form.bits
+        ),
+        Some(form) => format!(in alloc; "big{} ", form.bits),
+        None => Ok(String::new(alloc)),
+    }
+}
+
+/// One document.
+fn one(
+    alloc: Global,
+    default: &str,
+    formats: &str,
+    components: &str,
+) -> Result<String, AllocError> {
+    let mut files = Vec::new(alloc);
+    let with = format!(in alloc; "{INTEGERS} {default}")?;
+    files.push(file_of(alloc, "a", with.as_str(), formats, components)?)?;
+    told(alloc, files)
+}
+
+#[test]
+fn a_referenced_format_wins_over_the_default(rt: HostRuntime) -> Result<(), Fail> {
+    let alloc = rt.alloc();
+    let formats =
+        "<d:defineFormat name=\"f\"><d:format ref=\"g\" lengthKind=\"implicit\"/></d:defineFormat>\
+        <d:defineFormat name=\"g\"><d:format byteOrder=\"littleEndian\"/></d:defineFormat>";
+    let components = "<x:element name=\"r\" type=\"x:unsignedShort\" d:ref=\"f\"/>\
+        <x:element name=\"s\" type=\"x:unsignedShort\"/>";
+    let line = one(alloc, "byteOrder=\"bigEndian\"", formats, components)?;
+    assert_eq!(rt; line.as_str(), "little16 big16 ");
+    Ok(())
+}
+
+#[test]
+fn properties_are_taken_in_each_form(rt: HostRuntime) -> Result<(), Fail> {
+    let alloc = rt.alloc();
+    let inside = annotated(
+        alloc,
+        "<d:element><d:property name=\"byteOrder\"> littleEndian </d:property></d:element>",
+    )?;
+    let components = format!(in alloc;
+        "<x:element name=\"r\" type=\"x:unsignedInt\" d:byteOrder=\"littleEndian\"/>\
+        <x:element name=\"s\" type=\"x:unsignedLong\">{inside}</x:element>\
+        <x:element name=\"t\" type=\"x:unsignedByte\"/>"
+    )?;
+    let line = one(alloc, "", "", components.as_str())?;
+    assert_eq!(rt; line.as_str(), "little32 little64 big8 ");
+    Ok(())
+}
+
+#[test]
+fn breaches_are_told_by_their_numbers(rt: HostRuntime) -> Result<(), Fail> {
+    let alloc = rt.alloc();
+    let cases = [
+        ("<x:element name=\"r\" type=\"x:unsignedShort\"/>", "C7@0 "),
+        (
+            "<x:element name=\"r\" type=\"x:unsignedShort\" d:byteOrder=\"middle\"/>",
+            "C9@0 ",
+        ),
+        (
+            "<x:element name=\"r\" type=\"x:unsignedByte\" d:alignmentUnits=\"{1}\"/>",
+            "C10@0 ",
+        ),
+        ("<x:element name=\"r\" type=\"x:date\"/>", "C13@0 "),
+        (
+            "<x:element name=\"r\" type=\"x:unsignedByte\" d:lengthKind=\"delimited\"/>",
+            "C15@0 ",
+        ),
+        ("<x:element name=\"r\" type=\"x:string\"/>", "C3@0 "),
+    ];
+    for (components, expected) in cases {
+        let line = one(alloc, "", "", components)?;
+        assert_eq!(rt; line.as_str(), expected);
+    }
+    Ok(())
+}
+
+/// Two documents: an element of a type of the other one, whose default format differs.
+fn two(alloc: Global, element: &str, simple: &str) -> Result<String, AllocError> {
+    let big = format!(in alloc; "{INTEGERS} byteOrder=\"bigEndian\"")?;
+    let little = format!(in alloc; "{INTEGERS} byteOrder=\"littleEndian\"")?;
+    let here = format!(in alloc;
+        "<x:include schemaLocation=\"b\"/><x:element name=\"r\" type=\"t\" {element}/>"
+    )?;
+    let there = format!(in alloc;
+        "<x:simpleType name=\"t\" {simple}><x:restriction base=\"x:unsignedShort\"/></x:simpleType>"
+    )?;
+    let mut files = Vec::new(alloc);
+    files.push(file_of(alloc, "a", big.as_str(), "", here.as_str())?)?;
+    files.push(file_of(alloc, "b", little.as_str(), "", there.as_str())?)?;
+    told(alloc, files)
+}
+
+#[test]
+fn what_an_element_and_its_type_give_is_joined(rt: HostRuntime) -> Result<(), Fail> {
+    let alloc = rt.alloc();
+    let little = "d:byteOrder=\"littleEndian\"";
+    let cases = [
+        ("", "", "big16 "),
+        ("", little, "little16 "),
+        (little, "", "little16 "),
+        (little, "d:byteOrder=\"bigEndian\"", "C6@0 "),
+    ];
+    for (element, simple, expected) in cases {
+        let line = two(alloc, element, simple)?;
+        assert_eq!(rt; line.as_str(), expected);
+    }
+    Ok(())
+}
+
+#[test]
+fn laws_take_no_input(_rt: HostRuntime) -> Result<(), Fail> {
+    sound_elements_have_whole_forms();
+    Ok(())
+}

@@ -1,0 +1,4 @@
+pub mod Within
+pub mod Numbering
+mod Deriving
+mod Finding

@@ -1,0 +1,10 @@
+use Rattle.std.proofs.Common.{◌≡◌, ◌-◌, ◌++◌}
+use Rattle.dfdl_chains.specs.Derivation.{derived_within}
+use Rattle.dfdl_chains.specs.Shown.{IsTypeOf}
+use Rattle.dfdl_chains.proofs.derivation.push_derived.Given as goal
+
+abbrev pub invariant-loop-step : goal.invariant-loop-step
+invariant-loop-step l = record {
+  same : l.chain.items ++ derived_within (l.most - l.step) l.schema l.last ≡ l.fn.chain.items ++ derived_within l.most l.schema l.fn.typed;
+  within : IsTypeOf l.schema l.last;
+}

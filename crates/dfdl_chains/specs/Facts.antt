@@ -1,0 +1,103 @@
+-- What a component states besides its properties. Of a reference and its declaration the reference says
+-- how often the element occurs, and the declaration whether it may be nil and has a default ('DFDL
+-- Schema Component Model').
+use Rattle.std.specs.Prelude.{ℕ, List, [], ◌∷◌, ◌&&◌, ◌||◌, ◌==◌, if◌then◌else◌, Bool, true, false, not, nat_lt, length, Option, Some, None, codes, bytes_eq, is_some}
+use Rattle.std.specs.List.{list_any}
+use Rattle.dfdl_markup.specs.Trees.{Node, node_at}
+use Rattle.dfdl_constructs.specs.declared.role.Role.{Role}
+use Rattle.dfdl_constructs.specs.declared.role.Role.TheVariants as role
+use Rattle.dfdl_constructs.specs.Roles.{role_at}
+use Rattle.dfdl_constructs.specs.ValuesAllowed.{is_occurring}
+use Rattle.dfdl_documents.specs.Documents.{SchemaDocument}
+use Rattle.dfdl_components.specs.declared.site.Site.{Site}
+use Rattle.dfdl_components.specs.Sites.{nodes_of, role_of}
+use Rattle.dfdl_checks.specs.declared.subject.Facts.{Facts}
+use Rattle.dfdl_chains.specs.Declarations.{attribute_of, declaration}
+use Rattle.dfdl_chains.specs.Chains.{chain_sites}
+use Rattle.dfdl_chains.specs.Parts.{inside_of, is_none_of}
+
+-- no character is left
+abbrev pub is_end : List ℕ → Bool
+is_end [] = true
+is_end (b ∷ text) = false
+
+-- the number 1, before which zeros may stand
+abbrev pub is_one : List ℕ → Bool
+is_one [] = false
+is_one (b ∷ text) = if b == 48 then is_one text else (b == 49 && is_end text)
+
+-- a bound of occurrences that is 1, as it is where it is absent
+abbrev pub is_one_or_absent : Option (List ℕ) → Bool
+is_one_or_absent None = true
+is_one_or_absent (Some text) = is_one text
+
+-- both bounds are 1
+abbrev pub are_bounds_one : List SchemaDocument → Site → Bool
+are_bounds_one documents own =
+    is_one_or_absent (attribute_of documents own (codes "minOccurs"))
+    && is_one_or_absent (attribute_of documents own (codes "maxOccurs"))
+
+-- the element occurs exactly once; a global element has no bounds
+abbrev pub occurs_once : List SchemaDocument → Site → Bool
+occurs_once documents own = not (is_occurring (role_of documents own)) || are_bounds_one documents own
+
+-- a truth value that is true
+abbrev pub is_true : Option (List ℕ) → Bool
+is_true None = false
+is_true (Some text) = bytes_eq text (codes "true") || bytes_eq text (codes "1")
+
+-- the element may be nil
+abbrev pub is_nillable : List SchemaDocument → Site → Bool
+is_nillable documents own = is_true (attribute_of documents (declaration documents own) (codes "nillable"))
+
+-- the element has a default value
+abbrev pub has_default : List SchemaDocument → Site → Bool
+has_default documents own = is_some (attribute_of documents (declaration documents own) (codes "default"))
+
+-- a statement
+abbrev pub is_statement : Role → Bool
+is_statement role.Assert = true
+is_statement role.Discriminator = true
+is_statement role.SetVariable = true
+is_statement role.NewVariableInstance = true
+is_statement _ = false
+
+-- an annotation, and the part of one that holds annotations of DFDL's
+abbrev pub is_annotation : Role → Bool
+is_annotation (role.Annotation at) = true
+is_annotation (role.Annotations at) = true
+is_annotation _ = false
+
+-- an element of the document is a statement
+abbrev pub is_statement_at : List Node → ℕ → Bool
+is_statement_at nodes element = nat_lt element (length nodes) && is_statement (role_at nodes element)
+
+-- an element of the document is an annotation, or the part of one that holds annotations of DFDL's
+abbrev pub is_annotation_at : List Node → ℕ → Bool
+is_annotation_at nodes element = nat_lt element (length nodes) && is_annotation (role_at nodes element)
+
+-- a statement stands in the annotations of DFDL's at this element
+abbrev pub states_in : List Node → ℕ → Bool
+states_in nodes element =
+    is_annotation_at nodes element && list_any (is_statement_at nodes) (node_at nodes element).children
+
+-- a statement stands in the annotation
+abbrev pub states_at : List Node → ℕ → Bool
+states_at nodes element =
+    is_annotation_at nodes element && list_any (states_in nodes) (node_at nodes element).children
+
+-- a statement stands in the annotations of an element
+abbrev pub has_own_statements : List SchemaDocument → Site → Bool
+has_own_statements documents own =
+    list_any (states_at (nodes_of documents own.document))
+    (node_at (nodes_of documents own.document) own.element).children
+
+-- what a component states
+unfoldable pub facts_at : List SchemaDocument → Site → Facts
+facts_at documents own = record {
+  occurs_once = occurs_once documents own;
+  is_nillable = is_nillable documents own;
+  has_default = has_default documents own;
+  has_statements = list_any (has_own_statements documents) (chain_sites documents own);
+  is_empty = is_none_of (inside_of documents own);
+}

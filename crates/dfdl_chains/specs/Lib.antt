@@ -1,0 +1,9 @@
+pub mod Types
+pub mod Declarations
+pub mod Derivation
+pub mod Chains
+pub mod Parts
+pub mod Kinds
+pub mod Facts
+pub mod Everywhere
+pub mod Shown

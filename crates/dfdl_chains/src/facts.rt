@@ -1,0 +1,213 @@
+// What a component states besides its properties.
+ghost use Rattle.std.specs.Prelude.{◌≡◌, ◌<◌, length, All, option_copied};
+ghost use Rattle.std.specs.List.{list_any};
+ghost use Rattle.dfdl_markup.specs.Trees.{node_at};
+ghost use Rattle.dfdl_constructs.specs.ValuesAllowed.{is_occurring};
+ghost use Rattle.dfdl_components.specs.Sites.{IsSite, nodes_of};
+ghost use Rattle.dfdl_chains.specs.Chains as chains;
+ghost use Rattle.dfdl_chains.specs.Facts as spec;
+
+use crate::declaring::{attribute, declaration};
+use crate::parts::is_empty;
+use dfdl_checks::Facts;
+use dfdl_components::{Schema, Site};
+use dfdl_constructs::Role;
+
+// The number 1, before which zeros may stand.
+fn is_one(text: &str) -> bool
+    ensures { result ≡ spec.is_one text.now }
+{
+    let digits = text.as_bytes();
+    for at in 0..digits.len() {
+        if digits[at] != b'0' {
+            return digits[at] == b'1' && at + 1 == digits.len();
+        }
+    }
+    false
+}
+
+// A bound of occurrences that is 1, as it is where it is absent.
+fn is_one_or_absent(text: Option<&str>) -> bool
+    ensures { result ≡ spec.is_one_or_absent (option_copied text.entry) }
+{
+    match text {
+        Some(text) => is_one(text),
+        None => true,
+    }
+}
+
+// An element with bounds of occurrences.
+fn is_occurring(role: Role) -> bool
+    ensures { result ≡ is_occurring role }
+{
+    match role {
+        Role::LocalElement | Role::ElementReference => true,
+        _ => false,
+    }
+}
+
+// The element occurs exactly once.
+fn occurs_once(schema: &Schema, site: Site) -> bool
+    requires { IsSite schema.now site }
+    ensures { result ≡ spec.occurs_once schema.now site }
+{
+    if !is_occurring(schema.role(site)) {
+        return true;
+    }
+    is_one_or_absent(attribute(schema, site, "minOccurs"))
+        && is_one_or_absent(attribute(schema, site, "maxOccurs"))
+}
+
+// A truth value that is true.
+fn is_true(text: Option<&str>) -> bool
+    ensures { result ≡ spec.is_true (option_copied text.entry) }
+{
+    match text {
+        Some(text) => text == "true" || text == "1",
+        None => false,
+    }
+}
+
+// The element may be nil.
+fn is_nillable(schema: &Schema, site: Site) -> bool
+    requires { IsSite schema.now site }
+    ensures { result ≡ spec.is_nillable schema.now site }
+{
+    is_true(attribute(schema, declaration(schema, site), "nillable"))
+}
+
+// The element has a default value.
+fn has_default(schema: &Schema, site: Site) -> bool
+    requires { IsSite schema.now site }
+    ensures { result ≡ spec.has_default schema.now site }
+{
+    attribute(schema, declaration(schema, site), "default").is_some()
+}
+
+// A statement.
+fn is_statement(role: Role) -> bool
+    ensures { result ≡ spec.is_statement role }
+{
+    match role {
+        Role::Assert | Role::Discriminator | Role::SetVariable | Role::NewVariableInstance => true,
+        _ => false,
+    }
+}
+
+// An annotation, or the part of one that holds annotations of DFDL's.
+fn is_annotation(role: Role) -> bool
+    ensures { result ≡ spec.is_annotation role }
+{
+    match role {
+        Role::Annotation(_) | Role::Annotations(_) => true,
+        _ => false,
+    }
+}
+
+// An element of the document is a statement.
+fn is_statement_at(schema: &Schema, site: Site) -> bool
+    requires { site.document < length schema.now }
+    ensures { result ≡ spec.is_statement_at (nodes_of schema.now site.document) site.element }
+{
+    site.element < schema.tree(site.document).count() && is_statement(schema.role(site))
+}
+
+// An element of the document is an annotation, or the part of one that holds annotations of DFDL's.
+fn is_annotation_at(schema: &Schema, site: Site) -> bool
+    requires { site.document < length schema.now }
+    ensures { result ≡ spec.is_annotation_at (nodes_of schema.now site.document) site.element }
+{
+    site.element < schema.tree(site.document).count() && is_annotation(schema.role(site))
+}
+
+// A statement stands in an element.
+fn has_statement(schema: &Schema, site: Site) -> bool
+    requires { IsSite schema.now site }
+    ensures { result ≡ list_any (spec.is_statement_at (nodes_of schema.now site.document))
+        (node_at (nodes_of schema.now site.document) site.element).children }
+{
+    let document = site.document;
+    for child in schema.tree(document).children(site.element) {
+        let element = *child;
+        if is_statement_at(schema, Site { document, element }) {
+            return true;
+        }
+    }
+    false
+}
+
+// A statement stands in the annotations of DFDL's at this element.
+fn states_in(schema: &Schema, site: Site) -> bool
+    requires { site.document < length schema.now }
+    ensures { result ≡ spec.states_in (nodes_of schema.now site.document) site.element }
+{
+    is_annotation_at(schema, site) && has_statement(schema, site)
+}
+
+// A statement stands in one of the annotations of DFDL's in an annotation.
+fn has_stating(schema: &Schema, site: Site) -> bool
+    requires { IsSite schema.now site }
+    ensures { result ≡ list_any (spec.states_in (nodes_of schema.now site.document))
+        (node_at (nodes_of schema.now site.document) site.element).children }
+{
+    let document = site.document;
+    for child in schema.tree(document).children(site.element) {
+        let element = *child;
+        if states_in(schema, Site { document, element }) {
+            return true;
+        }
+    }
+    false
+}
+
+// A statement stands in the annotation.
+fn states_at(schema: &Schema, site: Site) -> bool
+    requires { site.document < length schema.now }
+    ensures { result ≡ spec.states_at (nodes_of schema.now site.document) site.element }
+{
+    is_annotation_at(schema, site) && has_stating(schema, site)
+}
+
+// A statement stands in the annotations of an element.
+fn has_own_statements(schema: &Schema, site: Site) -> bool
+    requires { IsSite schema.now site }
+    ensures { result ≡ spec.has_own_statements schema.now site }
+{
+    let document = site.document;
+    for child in schema.tree(document).children(site.element) {
+        let element = *child;
+        if states_at(schema, Site { document, element }) {
+            return true;
+        }
+    }
+    false
+}
+
+// A statement stands in the annotations of one of these.
+fn have_statements(schema: &Schema, chain: &[Site]) -> bool
+    requires { All (IsSite schema.now) chain.now }
+    ensures { result ≡ list_any (spec.has_own_statements schema.now) chain.now }
+{
+    for site in chain {
+        if has_own_statements(schema, *site) {
+            return true;
+        }
+    }
+    false
+}
+
+/// What a component with this chain states.
+#[tactic(auto, using(crate::proofs::Within::chain_within), unfolding(crate::specs::Facts::facts_at))]
+pub fn facts_at(schema: &Schema, site: Site, chain: &[Site]) -> Facts
+    requires site { IsSite schema.now site }
+    requires chain { chain.now ≡ chains.chain_sites schema.now site }
+    ensures { result ≡ spec.facts_at schema.now site }
+{
+    Facts {
+        occurs_once: occurs_once(schema, site),
+        is_nillable: is_nillable(schema, site),
+        has_default: has_default(schema, site),
+        has_statements: have_statements(schema, chain),
+        is_empty: is_empty(schema, site),
+    }
+}

@@ -1,0 +1,28 @@
+//! What the components of a schema are joined from and consist of: the declaration of an element, its type, its chain of
+//! elements with properties, its parts, its kind and what it states besides properties.
+//!
+//! Contracts cite `specs/Declarations.antt`, `specs/Derivation.antt`, `specs/Chains.antt`, `specs/Parts.antt`,
+//! `specs/Kinds.antt` and `specs/Facts.antt`. The chapters are 'DFDL Schema Component Model' and 'Property Scoping and DFDL
+//! Schema Checking'.
+#![tactic(auto)]
+
+mod chain;
+mod declaring;
+mod derivation;
+mod everywhere;
+mod facts;
+mod kinds;
+mod numbers;
+mod parts;
+mod simple;
+mod typed;
+
+pub use chain::chain_sites;
+pub use declaring::{declaration, referred};
+pub use derivation::type_of;
+pub use everywhere::all_sites;
+pub use facts::facts_at;
+pub use kinds::kind_at;
+pub use numbers::Numbers;
+pub use parts::{is_component, parts_at};
+pub use typed::Typed;

@@ -1,0 +1,24 @@
+-- Components that differ in nothing that is asked of them: their elements give the same values, name by name.
+use Rattle.std.specs.Prelude.{◌≡◌, ℕ, List}
+use Rattle.std.specs.List.{AllZip}
+use Rattle.dfdl_scope.specs.Scoping.{Element}
+use Rattle.dfdl_checks.specs.Judged.{Judged}
+
+-- two elements of chains stand at one place, and give the same
+pub record IsAlikeElement (a b : Element) : Type 0 where
+  pub place : a.place ≡ b.place
+  pub own : (name : List ℕ) → a.own name ≡ b.own name
+  pub is_twice : (name : List ℕ) → a.is_twice name ≡ b.is_twice name
+  pub format : (name : List ℕ) → a.format name ≡ b.format name
+  pub by_default : (name : List ℕ) → a.by_default name ≡ b.by_default name
+
+-- two chains have alike elements, one after the other
+abbrev pub AreAlikeChains : List Element → List Element → Type 0
+AreAlikeChains xs ys = AllZip IsAlikeElement xs ys
+
+-- two components have alike chains, and are the same else
+pub record IsAlike (a b : Judged) : Type 0 where
+  pub kind : a.kind ≡ b.kind
+  pub place : a.place ≡ b.place
+  pub chain : AreAlikeChains a.chain b.chain
+  pub facts : a.facts ≡ b.facts

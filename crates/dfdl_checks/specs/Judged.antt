@@ -1,0 +1,13 @@
+-- A component as the rules see it.
+use Rattle.std.specs.Prelude.{List}
+use Rattle.dfdl_report.specs.declared.place.Place.{Place}
+use Rattle.dfdl_scope.specs.Scoping.{Element}
+use Rattle.dfdl_checks.specs.declared.subject.Facts.{Facts}
+use Rattle.dfdl_checks.specs.declared.subject.Kind.{Kind}
+
+-- a component: its kind, its start tag, the chain that its properties are asked of, and what else it states
+pub record Judged : Type 0 where
+  pub kind : Kind
+  pub place : Place
+  pub chain : List Element
+  pub facts : Facts

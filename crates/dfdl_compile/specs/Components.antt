@@ -1,0 +1,94 @@
+-- The components of a schema's documents: each element of them is one, by its number among those of all
+-- documents. What is no component is an empty sequence, and nothing reaches it ('DFDL Schema Component
+-- Model').
+use Rattle.std.specs.Prelude.{ℕ, List, [], map, length, Option, None, Some, option_map, codes, if◌then◌else◌, Bool, true, false}
+use Rattle.std.specs.Option.{unwrap_or}
+use Rattle.dfdl_forms.specs.declared.binary.IntForm.{IntForm}
+use Rattle.dfdl_markup.specs.Trees.{Node}
+use Rattle.dfdl_constructs.specs.declared.role.Role.{Role}
+use Rattle.dfdl_constructs.specs.declared.role.Role.TheVariants as role
+use Rattle.dfdl_constructs.specs.Roles.{role_at}
+use Rattle.dfdl_documents.specs.Documents.{SchemaDocument}
+use Rattle.dfdl_components.specs.declared.kind.ComponentKind.TheVariants as names
+use Rattle.dfdl_components.specs.declared.site.Site.{Site}
+use Rattle.dfdl_components.specs.Globals.{site}
+use Rattle.dfdl_components.specs.Recursion.{number_of}
+use Rattle.dfdl_components.specs.Searching.{first_below}
+use Rattle.dfdl_components.specs.Sites.{nodes_of, role_of}
+use Rattle.dfdl_checks.specs.declared.subject.Breach.{Breach}
+use Rattle.dfdl_checks.specs.declared.subject.Kind.{Kind}
+use Rattle.dfdl_checks.specs.declared.subject.Kind.TheVariants as kind
+use Rattle.dfdl_chains.specs.Declarations.{attribute_of, declaration, referred}
+use Rattle.dfdl_chains.specs.Everywhere.{for_each}
+use Rattle.dfdl_chains.specs.Kinds.{kind_at}
+use Rattle.dfdl_chains.specs.Parts.{parts_at}
+use Rattle.dfdl_breaches.specs.declared.judgement.Judgement.{Judgement}
+use Rattle.dfdl_breaches.specs.Elements.{place_of}
+use Rattle.dfdl_breaches.specs.Judging.{judgement_at}
+use Rattle.dfdl_rows.specs.Components.{Schema}
+use Rattle.dfdl_rows.specs.declared.component.Component.{Component}
+use Rattle.dfdl_rows.specs.declared.component.Component.TheVariants.{Sequence, Reference, ComplexElement, SimpleElement}
+use Rattle.dfdl_rows.specs.declared.refusal.Refusal.{Refusal}
+use Rattle.dfdl_compile.specs.Primitives.{primitive_number, simple_of}
+
+-- the local name of an element
+abbrev pub element_name : List SchemaDocument → Site → List ℕ
+element_name documents own = unwrap_or (attribute_of documents (declaration documents own) (codes "name")) []
+
+-- an element or a group, of which this is its name and how its values lie in the data
+abbrev pub component_by : List ℕ → Option IntForm → Kind → Component
+component_by name form kind.ComplexElement = ComplexElement name
+component_by name form (kind.SimpleElement simple) = SimpleElement name (simple_of form) (primitive_number form)
+component_by name form kind.UncarriedElement = SimpleElement name (simple_of form) (primitive_number form)
+component_by name form kind.Sequence = Sequence
+component_by name form kind.Choice = Sequence
+
+-- a group reference stands for the group that it names
+abbrev pub reference_by : Option Site → Component
+reference_by None = Sequence
+reference_by (Some own) = Reference
+
+-- what an element of the documents is, by its role
+abbrev pub component_of : List SchemaDocument → Site → Role → Component
+component_of documents own role.GroupReference = reference_by (referred documents own names.Group)
+component_of documents own _ =
+    component_by (element_name documents own) (judgement_at documents own).form (kind_at documents own)
+
+-- what an element of the documents is
+abbrev pub component_at : List SchemaDocument → Site → Component
+component_at documents own = component_of documents own (role_of documents own)
+
+-- the numbers of the parts of a component
+abbrev pub part_numbers : List SchemaDocument → Site → List ℕ
+part_numbers documents own = map (number_of documents) (parts_at documents own)
+
+-- the breach of a rule as the refusal of a component
+abbrev pub refusal_of : Breach → Refusal
+refusal_of breach = record { cause = breach.cause; place = breach.place }
+
+-- the refusal of a component's own: the first rule that it breaks by itself
+abbrev pub refusal_at : List SchemaDocument → Site → Option Refusal
+refusal_at documents own = option_map refusal_of (judgement_at documents own).breach
+
+-- the components of the documents
+unfoldable pub components_of : List SchemaDocument → Schema
+components_of documents = record {
+  uses = for_each documents (part_numbers documents);
+  components = for_each documents (component_at documents);
+  refusals = for_each documents (refusal_at documents);
+  places = for_each documents (place_of documents);
+}
+
+-- a global element
+abbrev pub is_global_element : Role → Bool
+is_global_element role.GlobalElement = true
+is_global_element _ = false
+
+-- the element of the first document, if it is global
+abbrev pub if_global_element : List Node → ℕ → Option ℕ
+if_global_element nodes element = if is_global_element (role_at nodes element) then Some element else None
+
+-- the root: the first global element of the first document
+unfoldable pub root_of : List SchemaDocument → Option Site
+root_of documents =
+    option_map (site 0) (first_below (if_global_element (nodes_of documents 0)) (length (nodes_of documents 0)))

@@ -1,0 +1,26 @@
+-- What a fault of compiling says of a schema.
+use Rattle.std.specs.Prelude.{◌≡◌, ℕ, List, Some, Result, Err}
+use Rattle.dfdl_report.specs.declared.cause.SchemaCause.TheVariants.{Recursive}
+use Rattle.dfdl_documents.specs.Documents.{SchemaDocument}
+use Rattle.dfdl_chains.specs.Everywhere.{site_at}
+use Rattle.dfdl_breaches.specs.Elements.{place_of}
+use Rattle.dfdl_terms.specs.Rows.{Table}
+use Rattle.dfdl_compile.specs.Compiled as ends
+use Rattle.dfdl_compile.specs.Compiled.{CompileEnd, first_recursive}
+use Rattle.dfdl_compile.specs.Components.{components_of}
+use Rattle.dfdl_compile.specs.declared.fault.CompileFault.{CompileFault}
+use Rattle.dfdl_compile.specs.declared.fault.CompileFault.TheVariants.{Refused, Limit, OutOfMemory}
+
+-- this is why a schema that comes to this has no rows; want of memory says nothing of it
+abbrev pub IsFaultOf : Result Table CompileEnd → CompileFault → Type 0
+IsFaultOf answer (Refused cause place) = answer ≡ Err (ends.Refused cause place)
+IsFaultOf answer (Limit cause quantity) = answer ≡ Err (ends.Limit cause quantity)
+IsFaultOf answer OutOfMemory = Unit {0}
+
+-- a component of the documents reaches itself, and this is told of the first one
+abbrev pub IsRecursionFault : List SchemaDocument → CompileFault → Type 0
+IsRecursionFault documents (Refused cause place) =
+    (c : ℕ) × (first_recursive (components_of documents).uses ≡ Some c) × (cause ≡ Recursive)
+    × (place ≡ place_of documents (site_at documents c))
+IsRecursionFault documents (Limit cause quantity) = ⊥
+IsRecursionFault documents OutOfMemory = Unit {0}

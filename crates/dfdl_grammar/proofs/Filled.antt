@@ -1,0 +1,306 @@
+-- Where a row is done, the elements that began in it are read.
+use Rattle.std.proofs.Common.{◌≡◌, ℕ, zero, suc, ◌+◌, ◌/◌, ◌%◌, ◌<◌, ◌≤◌, ◌⊎◌, inl, inr, refl, List, [], ◌∷◌, ◌++◌, length, get_or, Bool, true, false, cond, leb, ltb, ◌-◌, nat_eq, nat_lt, Option, Some, None, All, ap, sym, subst, ◌∙◌, arith, length-append}
+use Rattle.std.specs.Prelude.{slice_get}
+use Rattle.std.proofs.lemmas.Option.{get_or_from_slice_get, slice_get_within}
+use Rattle.dfdl_bits.specs.declared.window.Seen.{Seen}
+use Rattle.dfdl_bits.specs.declared.window.Seen.TheVariants.{Byte, End as DataEnded, NotYet, Over}
+use Rattle.dfdl_forms.specs.Types.{form_of}
+use Rattle.dfdl_forms.specs.declared.simple.Form.{Form}
+use Rattle.dfdl_int_binary.specs.Integers.{field_of, value_in}
+use Rattle.dfdl_report.specs.declared.cause.LimitCause.TheVariants.{Nodes}
+use Rattle.dfdl_terms.specs.declared.row.Primitive.{Primitive}
+use Rattle.dfdl_terms.specs.declared.row.Primitive.TheVariants.{Integer}
+use Rattle.dfdl_terms.specs.declared.row.Row.{Row}
+use Rattle.dfdl_terms.specs.declared.row.Row.TheVariants.{Leaf, Elem, Group}
+use Rattle.dfdl_terms.specs.Rows.{Table, Nests}
+use Rattle.dfdl_region.specs.declared.node.Node.{Node}
+use Rattle.dfdl_region.specs.declared.node.Content.{Content}
+use Rattle.dfdl_region.specs.declared.node.Content.TheVariants.{Begun, Complex, Unsigned}
+use Rattle.dfdl_region.specs.Nodes.{with_content}
+use Rattle.dfdl_looks.specs.Asks.{Ask, Answer, Look, Reached, Told, TooFar, Missing, ask, look_at}
+use Rattle.dfdl_looks.specs.Looks.{seen_in}
+use Rattle.dfdl_looks.specs.Tallies.{Tally, nothing, one_row, saw_byte, saw_end}
+use Rattle.dfdl_looks.proofs.Resumed.{on_seen}
+use Rattle.dfdl_grammar.specs.declared.end.End.{End}
+use Rattle.dfdl_grammar.specs.declared.end.End.TheVariants.{Done, Failed, Stopped}
+use Rattle.dfdl_grammar.specs.States.{Input, State, anchor, front}
+use Rattle.dfdl_grammar.specs.Outcomes.{Outcome, ended, follow, spend, then_do}
+use Rattle.dfdl_grammar.specs.Leaves.{Find, DataEnd, Finds, IsUnsigned, bytes_spanned, content_of, integer_in, land, leaf, program}
+use Rattle.dfdl_grammar.specs.Elements.{begun, close, left}
+use Rattle.dfdl_grammar.specs.Rows.{below, group, meaning, row, row_at}
+use Rattle.dfdl_grammar.specs.Trees.{AreRead, HasLeaves}
+use Rattle.dfdl_grammar.proofs.Towers.{below-meaning}
+use Rattle.dfdl_grammar.proofs.Trees.{content-length}
+
+same_at : (nodes : List Node) (number : ℕ) (content : Content) (node : Node) → slice_get (with_content nodes number content) number ≡ Some node → node.content ≡ content
+same_at [] number content node is = absurd (cc)
+same_at (first ∷ rest) zero content node is = let same : ◌≡◌ {A = Node} (record first { content = content }) node = cc in sym (ap (λ (n : Node). n.content) same)
+same_at (first ∷ rest) (suc number) content node is = same_at rest number content node is
+
+other_at : (nodes : List Node) (number at : ℕ) (content : Content) (node : Node) → (at ≡ number → ⊥) → slice_get (with_content nodes number content) at ≡ Some node → slice_get nodes at ≡ Some node
+other_at [] number at content node apart is = absurd (cc)
+other_at (first ∷ rest) zero zero content node apart is = absurd (apart refl)
+other_at (first ∷ rest) zero (suc at) content node apart is = is
+other_at (first ∷ rest) (suc number) zero content node apart is = is
+other_at (first ∷ rest) (suc number) (suc at) content node apart is = other_at rest number at content node (λ same. apart (ap suc same)) is
+
+same_or : (a b : ℕ) → (a ≡ b) ⊎ (a ≡ b → ⊥)
+same_or zero zero = inl refl
+same_or zero (suc b) = inr (λ same. omega arith)
+same_or (suc a) zero = inr (λ same. omega arith)
+same_or (suc a) (suc b) = elim (same_or a b) [ inl same ↦ inl (ap suc same) | inr apart ↦ inr (λ same. apart (omega arith)) ]
+
+below_or : (a b : ℕ) → (a < b) ⊎ (b ≤ a)
+below_or zero zero = inr (omega arith)
+below_or zero (suc b) = inl (omega arith)
+below_or (suc a) zero = inr (omega arith)
+below_or (suc a) (suc b) = elim (below_or a b) [ inl less ↦ inl (omega arith) | inr most ↦ inr (omega arith) ]
+
+-- an element that had begun and wasn't read
+record WasBegun (nodes : List Node) (at : ℕ) : Type 0 where
+  old : Node
+  there : slice_get nodes at ≡ Some old
+  unread : old.content ≡ Begun
+
+-- a state that follows another: the same element is open, those that began meanwhile are read, and none is unread again
+pub record Fine (s t : State) : Type 0 where
+  inside : t.inside ≡ s.inside
+  longer : length s.nodes ≤ length t.nodes
+  fresh : (at : ℕ) (node : Node) → length s.nodes ≤ at → slice_get t.nodes at ≡ Some node → node.content ≡ Begun → ⊥
+  kept : (at : ℕ) (node : Node) → at < length s.nodes → slice_get t.nodes at ≡ Some node → node.content ≡ Begun → WasBegun s.nodes at
+
+fine : (s : State) → Fine s s
+fine s = record {
+  inside = refl;
+  longer = omega arith;
+  fresh = λ at node past is unread. let within = slice_get_within s.nodes at node is in absurd (omega arith);
+  kept = λ at node few is unread. record { old = node; there = is; unread = unread };
+}
+
+both : (s t u : State) → Fine s t → Fine t u → Fine s u
+both s t u one two =
+    let a = one.longer in
+    let b = two.longer in
+    record {
+      inside = two.inside ∙ one.inside;
+      longer = omega arith;
+      fresh = λ at node past is unread. elim (below_or at (length t.nodes)) [
+        | inl few ↦ (let was = two.kept at node few is unread in one.fresh at was.old past was.there was.unread)
+        | inr most ↦ two.fresh at node most is unread
+      ];
+      kept = λ at node few is unread.
+          let within : at < length t.nodes = omega arith in
+          let was = two.kept at node within is unread in
+          one.kept at was.old few was.there was.unread;
+    }
+
+-- a content that is put into the open element
+put : (s : State) (at : ℕ) (content : Content) → (content ≡ Begun → ⊥) → Fine s (record s { at = at; nodes = with_content s.nodes s.inside content })
+put s at content read =
+    let size = content-length s.nodes s.inside content in
+    record {
+      inside = refl;
+      longer = omega arith;
+      fresh = λ i node past is unread. let within = slice_get_within (with_content s.nodes s.inside content) i node is in absurd (omega arith);
+      kept = λ i node few is unread. elim (same_or i s.inside) [
+        | inl same ↦ absurd (read (sym (same_at s.nodes s.inside content node (subst (λ (j : ℕ). slice_get (with_content s.nodes s.inside content) j ≡ Some node) same is)) ∙ unread))
+        | inr apart ↦ record { old = node; there = other_at s.nodes s.inside i content node apart is; unread = unread }
+      ];
+    }
+
+-- what a program over a stretch finds is what it makes of some bytes
+record Made (go : List ℕ → Find) (found : Find) : Type 0 where
+  bytes : List ℕ
+  is : go bytes ≡ found
+
+step-made : (look : ℕ → Seen) (count k : ℕ) (go : List ℕ → Find) (t : Tally) (content : Content) (bits : ℕ)
+    → ((more : List ℕ → Find) (u : Tally) → (ask look (look_at count (k + 1) DataEnd more) u).reached ≡ Told (Finds content bits) → Made more (Finds content bits))
+    → (s : Seen)
+    → (on_seen look (λ o. elim o as (λ _. Ask Find) [ None ↦ Answer DataEnd | Some b ↦ look_at count (k + 1) DataEnd (λ bytes. go (b ∷ bytes)) ]) k t s).reached ≡ Told (Finds content bits)
+    → Made go (Finds content bits)
+step-made look count k go t content bits more (Byte b) is =
+    let made = more (λ bytes. go (b ∷ bytes)) (saw_byte k t) is in record { bytes = b ∷ made.bytes; is = made.is }
+step-made look count k go t content bits more DataEnded is = absurd (cc)
+step-made look count k go t content bits more NotYet is = absurd (cc)
+step-made look count k go t content bits more Over is = absurd (cc)
+
+made : (look : ℕ → Seen) (count k : ℕ) (go : List ℕ → Find) (t : Tally) (content : Content) (bits : ℕ)
+    → (ask look (look_at count k DataEnd go) t).reached ≡ Told (Finds content bits) → Made go (Finds content bits)
+made look zero k go t content bits is = let same : go [] ≡ Finds content bits = cc in record { bytes = []; is = same }
+made look (suc count) k go t content bits is =
+    step-made look count k go t content bits (λ more u found. made look count (k + 1) more u content bits found) (look k) is
+
+-- what is found of an unsigned integer is a value
+value : (look : ℕ → Seen) (primitive : Primitive) (bit : ℕ) (content : Content) (bits : ℕ) → IsUnsigned primitive
+    → (ask look (program primitive bit) nothing).reached ≡ Told (Finds content bits) → content ≡ Begun → ⊥
+value look (Integer form) bit content bits unsigned is unread =
+    let here = made look (bytes_spanned bit form.bits) (bit / 8) (integer_in form bit) nothing content bits is in
+    let number : ℕ = field_of form here.bytes (bit % 8) in
+    let same : content_of (value_in (form_of form.kind) form.bits form.point number) ≡ content = cc (here.is) in
+    let told : content_of (value_in (form_of form.kind) form.bits form.point number) ≡ Unsigned number =
+    ap (λ (f : Form). content_of (value_in f form.bits form.point number)) unsigned.kind in
+    absurd (cc)
+
+-- whole data have no byte that hasn't come
+no-missing : {F : Type 0} (bytes : List ℕ) (size low : ℕ) (go : Option ℕ → Ask F) (k : ℕ) (t : Tally)
+    → ((o : Option ℕ) (u : Tally) → (ask (seen_in bytes size low) (go o) u).reached ≡ Missing → ⊥)
+    → (over inside : Bool) → (on_seen (seen_in bytes size low) go k t (cond over Over (cond inside (Byte (get_or bytes k 0)) DataEnded))).reached ≡ Missing → ⊥
+no-missing bytes size low go k t more true inside missing = absurd (cc)
+no-missing bytes size low go k t more false true missing = more (Some (get_or bytes k 0)) (saw_byte k t) missing
+no-missing bytes size low go k t more false false missing = more None (saw_end k t) missing
+
+whole-told : {F : Type 0} (bytes : List ℕ) (size low : ℕ) (a : Ask F) (t : Tally) → (ask (seen_in bytes size low) a t).reached ≡ Missing → ⊥
+whole-told bytes size low (Answer f) t missing = absurd (cc)
+whole-told bytes size low (Look k go) t missing =
+    no-missing bytes size low go k t (λ o u more. whole-told bytes size low (go o) u more) (leb size (k - low)) (ltb k (length bytes)) missing
+
+-- what a row does where it is done
+abbrev Fills : (State → Outcome) → Type 0
+Fills f = (s : State) → (f s).end ≡ Done → Fine s (f s).state
+
+module _ (input : Input) (table : Table) (unsigned : All IsUnsigned table.primitives) (leaves : HasLeaves table) where
+  integer_at : (prim : ℕ) (primitive : Primitive) → slice_get table.primitives prim ≡ Some primitive → IsUnsigned primitive
+  integer_at prim primitive is =
+      subst (λ (p : Primitive). IsUnsigned p) (get_or_from_slice_get table.primitives prim primitive primitive is)
+      (unsigned prim primitive (slice_get_within table.primitives prim primitive is))
+
+  -- a leaf that is done has put a value into the open element
+  record Puts (s t : State) : Type 0 where
+    at : ℕ
+    content : Content
+    read : content ≡ Begun → ⊥
+    is : t ≡ record s { at = at; nodes = with_content s.nodes s.inside content }
+
+  land-puts : (reached : Reached Find) (s : State) → ((content : Content) (bits : ℕ) → reached ≡ Told (Finds content bits) → content ≡ Begun → ⊥)
+      → (reached ≡ Missing → ⊥) → (land input.limits.window reached s).end ≡ Done → Puts s (land input.limits.window reached s).state
+  land-puts (Told DataEnd) s read here done = absurd (cc)
+  land-puts (Told (Finds content bits)) s read here done = record { at = s.at + bits; content = content; read = read content bits refl; is = refl }
+  land-puts TooFar s read here done = absurd (cc)
+  land-puts Missing s read here done = absurd (here refl)
+
+  leaf-puts : (primitive : Primitive) → IsUnsigned primitive → (s : State) → (leaf input (Some primitive) s).end ≡ Done → Puts s (leaf input (Some primitive) s).state
+  leaf-puts primitive integer s done =
+      land-puts (ask (seen_in input.bytes input.limits.window (anchor s)) (program primitive s.at) nothing).reached s
+      (λ content bits is. value (seen_in input.bytes input.limits.window (anchor s)) primitive s.at content bits integer is)
+      (λ missing. whole-told input.bytes input.limits.window (anchor s) (program primitive s.at) nothing missing) done
+
+  leaf-fills : (prim : ℕ) (primitive : Option Primitive) → slice_get table.primitives prim ≡ primitive → Fills (leaf input primitive)
+  leaf-fills prim None is s done = fine s
+  leaf-fills prim (Some primitive) is s done =
+      let puts = leaf-puts primitive (integer_at prim primitive is) s done in
+      subst (λ (t : State). Fine s t) (sym puts.is) (put s puts.at puts.content puts.read)
+
+  front_at : (nodes : List Node) (last : Node) (at : ℕ) (node : Node) → at < length nodes → slice_get (nodes ++ last ∷ []) at ≡ Some node → slice_get nodes at ≡ Some node
+  front_at [] last at node few is = absurd (omega arith)
+  front_at (first ∷ rest) last zero node few is = is
+  front_at (first ∷ rest) last (suc at) node few is = front_at rest last at node (omega arith) is
+
+  -- an element that has begun, and what is in it, and then has a content
+  element-ends : (id : ℕ) (s c t : State) (content : Content) → (content ≡ Begun → ⊥) → Fine (begun id s) c
+      → t.nodes ≡ with_content c.nodes (length s.nodes) content → t.inside ≡ s.inside → Fine s t
+  element-ends id s c t content read inner nodes_are inside_is =
+      let last : Node = record { element = id; parent = s.inside; content = Begun } in
+      let one_more : length (s.nodes ++ last ∷ []) ≡ length s.nodes + 1 = length-append s.nodes (last ∷ []) in
+      let longer = inner.longer in
+      let size : length t.nodes ≡ length c.nodes = ap (λ (ns : List Node). length ns) nodes_are ∙ content-length c.nodes (length s.nodes) content in
+      record {
+        inside = inside_is;
+        longer = omega arith;
+        fresh = λ at node past is unread.
+            let there : slice_get (with_content c.nodes (length s.nodes) content) at ≡ Some node = subst (λ (ns : List Node). slice_get ns at ≡ Some node) nodes_are is in
+            elim (same_or at (length s.nodes)) [
+              | inl same ↦ read (sym (same_at c.nodes (length s.nodes) content node
+                  (subst (λ (j : ℕ). slice_get (with_content c.nodes (length s.nodes) content) j ≡ Some node) same there)) ∙ unread)
+              | inr apart ↦ inner.fresh at node (omega arith) (other_at c.nodes (length s.nodes) at content node apart there) unread
+            ];
+        kept = λ at node few is unread.
+            let there : slice_get (with_content c.nodes (length s.nodes) content) at ≡ Some node = subst (λ (ns : List Node). slice_get ns at ≡ Some node) nodes_are is in
+            let apart : at ≡ length s.nodes → ⊥ = λ same. omega arith in
+            let within : at < length (begun id s).nodes = omega arith in
+            let was = inner.kept at node within (other_at c.nodes (length s.nodes) at content node apart there) unread in
+            record { old = was.old; there = front_at s.nodes last at was.old few was.there; unread = was.unread };
+      }
+
+  close-done : (end : End) (outer : ℕ) (complex : Bool) (o : Outcome) → end ≡ o.end → (close end outer complex o).end ≡ Done → end ≡ Done
+  close-done Done outer complex o is done = refl
+  close-done (Failed cause bit) outer complex o is done = absurd (cc)
+  close-done (Stopped cause quantity) outer complex o is done = absurd (cc)
+
+  follow-done : (end : End) (o : Outcome) (next : State → Outcome) → end ≡ o.end → (follow end o next).end ≡ Done → (end ≡ Done) × ((next o.state).end ≡ Done)
+  follow-done Done o next is done = (refl, done)
+  follow-done (Failed cause bit) o next is done = absurd (cc)
+  follow-done (Stopped cause quantity) o next is done = absurd (cc)
+
+  complex-fills : (id : ℕ) (body : State → Outcome) → Fills body → (s : State) (room : Bool)
+      → (cond room (let o : Outcome = body (begun id s) in close o.end s.inside true o) (ended (Stopped Nodes input.limits.nodes) s)).end ≡ Done
+      → Fine s (cond room (let o : Outcome = body (begun id s) in close o.end s.inside true o) (ended (Stopped Nodes input.limits.nodes) s)).state
+  complex-fills id body fills s true done =
+      let o : Outcome = body (begun id s) in
+      let over : o.end ≡ Done = close-done o.end s.inside true o refl done in
+      let inner : Fine (begun id s) o.state = fills (begun id s) over in
+      let closed : (close o.end s.inside true o).state ≡ left s.inside true o.state = ap (λ (e : End). (close e s.inside true o).state) over in
+      subst (λ (t : State). Fine s t) (sym closed)
+      (element-ends id s o.state (left s.inside true o.state) Complex (λ same. absurd (cc)) inner
+      (ap (λ (k : ℕ). with_content o.state.nodes k Complex) inner.inside) refl)
+  complex-fills id body fills s false done = absurd (cc)
+
+  simple-fills : (id : ℕ) (body : State → Outcome) → ((s : State) → (body s).end ≡ Done → Puts s (body s).state) → (s : State) (room : Bool)
+      → (cond room (let o : Outcome = body (begun id s) in close o.end s.inside false o) (ended (Stopped Nodes input.limits.nodes) s)).end ≡ Done
+      → Fine s (cond room (let o : Outcome = body (begun id s) in close o.end s.inside false o) (ended (Stopped Nodes input.limits.nodes) s)).state
+  simple-fills id body puts s true done =
+      let o : Outcome = body (begun id s) in
+      let over : o.end ≡ Done = close-done o.end s.inside false o refl done in
+      let inner = puts (begun id s) over in
+      let closed : (close o.end s.inside false o).state ≡ left s.inside false o.state = ap (λ (e : End). (close e s.inside false o).state) over in
+      subst (λ (t : State). Fine s t) (sym closed)
+      (element-ends id s (begun id s) (left s.inside false o.state) inner.content inner.read (fine (begun id s))
+      (ap (λ (t : State). t.nodes) inner.is) refl)
+  simple-fills id body puts s false done = absurd (cc)
+
+  group-fills : (child : ℕ → State → Outcome) → ((id : ℕ) → Fills (child id)) → (children : List ℕ) → Fills (group child children)
+  group-fills child fills [] s done = fine s
+  group-fills child fills (id ∷ rest) s done =
+      let parts = follow-done (child id s).end (child id s) (group child rest) refl done in
+      let after : (then_do (child id s) (group child rest)).state ≡ (group child rest (child id s).state).state =
+      ap (λ (e : End). (follow e (child id s) (group child rest)).state) parts.0 in
+      subst (λ (t : State). Fine s t) (sym after)
+      (both s (child id s).state (group child rest (child id s).state).state (fills id s parts.0) (group-fills child fills rest (child id s).state parts.1))
+
+  module _ (nests : Nests table.rows) where
+    leaf-below : (n id prim : ℕ) (primitive : Primitive) → id < n → slice_get table.rows id ≡ Some (Leaf prim) → slice_get table.primitives prim ≡ Some primitive
+        → (s : State) → (below input table n id s).end ≡ Done → Puts s (below input table n id s).state
+    unfolding meaning
+    leaf-below n id prim primitive less row_is primitive_is s done =
+        let same : below input table n id s ≡ spend one_row (leaf input (Some primitive) s) =
+        below-meaning input table n id s less
+        ∙ ap (λ (r : Option Row). spend one_row (row input table (below input table id) id r s)) row_is
+        ∙ ap (λ (p : Option Primitive). spend one_row (leaf input p s)) primitive_is in
+        subst (λ (o : Outcome). Puts s o.state) (sym same)
+        (leaf-puts primitive (integer_at prim primitive primitive_is) s (ap (λ (o : Outcome). o.end) (sym same) ∙ done))
+
+    row-fills : (id : ℕ) → ((i : ℕ) → Fills (below input table id i)) → (r : Option Row) → slice_get table.rows id ≡ r → Fills (row input table (below input table id) id r)
+    row-fills id fills None is s done = fine s
+    row-fills id fills (Some (Leaf prim)) is s done = leaf-fills prim (slice_get table.primitives prim) refl s done
+    row-fills id fills (Some (Elem name None body)) is s done =
+        complex-fills id (below input table id body) (fills body) s (nat_lt (length s.nodes) input.limits.nodes) done
+    row-fills id fills (Some (Elem name (Some simple) body)) is s done =
+        let found = leaves id name simple body is in
+        let less : body < id = nests id (Elem name (Some simple) body) (slice_get_within table.rows id (Elem name (Some simple) body) is) is in
+        simple-fills id (below input table id body) (leaf-below id body found.0 found.1 less found.2 found.3) s (nat_lt (length s.nodes) input.limits.nodes) done
+    row-fills id fills (Some (Group children)) is s done = group-fills (below input table id) fills children s done
+
+    choice-fills : (n id : ℕ) → ((i : ℕ) → Fills (below input table n i)) → (s : State) (test : Bool)
+        → (cond test (row_at input table (below input table n) n s) (below input table n id s)).end ≡ Done
+        → Fine s (cond test (row_at input table (below input table n) n s) (below input table n id s)).state
+    choice-fills n id fills s true done = row-fills n fills (slice_get table.rows n) refl s done
+    choice-fills n id fills s false done = fills id s done
+
+    below-fills : (n id : ℕ) → Fills (below input table n id)
+    unfolding below
+    below-fills zero id s done = fine s
+    below-fills (suc n) id s done = choice-fills n id (below-fills n) s (nat_eq id n) done
+
+    pub all-read : (id : ℕ) → (meaning input table id front).end ≡ Done → AreRead (meaning input table id front).state.nodes
+    unfolding meaning
+    all-read id done at node is =
+        (row-fills id (below-fills id) (slice_get table.rows id) refl front done).fresh at node (omega arith) is

@@ -1,0 +1,4 @@
+pub mod Spending
+pub mod Towers
+pub mod Trees
+pub mod Filled

@@ -1,0 +1,191 @@
+-- The elements stay a tree whatever the rows do.
+use Rattle.std.proofs.Common.{◌≡◌, ℕ, zero, suc, ◌+◌, ◌<◌, ◌≤◌, refl, List, [], ◌∷◌, ◌++◌, length, Bool, true, false, cond, nat_eq, nat_lt, Option, Some, None, ap, sym, subst, arith, length-append, zero-add}
+use Rattle.std.specs.Prelude.{slice_get}
+use Rattle.dfdl_report.specs.declared.cause.LimitCause.TheVariants.{Nodes}
+use Rattle.dfdl_terms.specs.declared.row.Primitive.{Primitive}
+use Rattle.dfdl_terms.specs.declared.row.Row.{Row}
+use Rattle.dfdl_terms.specs.declared.row.Row.TheVariants.{Leaf, Elem, Group}
+use Rattle.dfdl_terms.specs.Rows.{Table}
+use Rattle.dfdl_region.specs.declared.node.Node.{Node}
+use Rattle.dfdl_region.specs.declared.node.Content.{Content}
+use Rattle.dfdl_region.specs.declared.node.Content.TheVariants.{Begun, Complex}
+use Rattle.dfdl_region.specs.Nodes.{with_content}
+use Rattle.dfdl_looks.specs.Asks.{Reached, Told, TooFar, Missing, ask}
+use Rattle.dfdl_looks.specs.Looks.{seen_in}
+use Rattle.dfdl_looks.specs.Tallies.{nothing}
+use Rattle.dfdl_grammar.specs.declared.end.End.{End}
+use Rattle.dfdl_grammar.specs.declared.end.End.TheVariants.{Done, Failed, Stopped}
+use Rattle.dfdl_grammar.specs.States.{Input, State, anchor, front}
+use Rattle.dfdl_grammar.specs.Outcomes.{Outcome, ended, follow}
+use Rattle.dfdl_grammar.specs.Leaves.{Find, DataEnd, Finds, land, leaf, program}
+use Rattle.dfdl_grammar.specs.Elements.{begun, close, has_elements, left}
+use Rattle.dfdl_grammar.specs.Rows.{below, group, meaning, row, row_at}
+use Rattle.dfdl_grammar.specs.Trees.{IsElem, IsNode, IsTree}
+
+-- the elements are a tree, and the innermost open one is among them, where there are any
+record Grows (table : Table) (s : State) : Type 0 where
+  tree : IsTree table s.nodes
+  few : s.inside ≤ length s.nodes
+  open_one : 0 < length s.nodes → s.inside < length s.nodes
+
+pub content-length : (nodes : List Node) (number : ℕ) (content : Content) → length (with_content nodes number content) ≡ length nodes
+content-length [] number content = refl
+content-length (node ∷ rest) zero content = refl
+content-length (node ∷ rest) (suc number) content = ap suc (content-length rest number content)
+
+-- a node of which only the content may have changed
+record IsLike (nodes : List Node) (at : ℕ) (node : Node) : Type 0 where
+  like : Node
+  there : slice_get nodes at ≡ Some like
+  parent : like.parent ≡ node.parent
+  element : like.element ≡ node.element
+
+content-like : (nodes : List Node) (number at : ℕ) (content : Content) (node : Node) → slice_get (with_content nodes number content) at ≡ Some node → IsLike nodes at node
+content-like [] number at content node is = absurd (cc)
+content-like (first ∷ rest) zero zero content node is =
+    let same : ◌≡◌ {A = Node} (record first { content = content }) node = cc in
+    record { like = first; there = refl; parent = ap (λ (n : Node). n.parent) same; element = ap (λ (n : Node). n.element) same }
+content-like (first ∷ rest) zero (suc at) content node is = record { like = node; there = is; parent = refl; element = refl }
+content-like (first ∷ rest) (suc number) zero content node is = record { like = node; there = is; parent = refl; element = refl }
+content-like (first ∷ rest) (suc number) (suc at) content node is =
+    let more = content-like rest number at content node is in
+    record { like = more.like; there = more.there; parent = more.parent; element = more.element }
+
+content-tree : (table : Table) (nodes : List Node) (number : ℕ) (content : Content) → IsTree table nodes → IsTree table (with_content nodes number content)
+content-tree table nodes number content tree at node is =
+    let one = content-like nodes number at content node is in
+    let good = tree at one.like one.there in
+    let parent = good.parent in
+    let same = one.parent in
+    record {
+      parent = omega arith;
+      earlier = λ some. let less = good.earlier some in omega arith;
+      element = subst (λ (id : ℕ). IsElem (slice_get table.rows id)) one.element good.element;
+    }
+
+last-tree : (table : Table) (nodes : List Node) (last : Node) → (all : ℕ) → ((number : ℕ) (node : Node) → slice_get nodes number ≡ Some node → IsNode table (all + number) node)
+    → IsNode table (all + length nodes) last
+    → (number : ℕ) (node : Node) → slice_get (nodes ++ last ∷ []) number ≡ Some node → IsNode table (all + number) node
+last-tree table [] last all tree one zero node is =
+    let same : last ≡ node = cc in subst (λ (n : Node). IsNode table (all + 0) n) same one
+last-tree table [] last all tree one (suc number) node is = absurd (cc)
+last-tree table (first ∷ rest) last all tree one zero node is = tree zero node is
+last-tree table (first ∷ rest) last all tree one (suc number) node is =
+    subst (λ (n : ℕ). IsNode table n node) (place number)
+    (last-tree table rest last (all + 1) (λ i n at. subst (λ (j : ℕ). IsNode table j n) (sym (place i)) (tree (suc i) n at))
+    (subst (λ (j : ℕ). IsNode table j last) (sym (place (length rest))) one) number node is)
+  where
+    place : (i : ℕ) → all + 1 + i ≡ all + suc i
+    place i = omega arith
+
+module _ (input : Input) (table : Table) where
+  -- a state that follows another: its elements are a tree, and no fewer
+  abbrev Follows : State → State → Type 0
+  Follows s t = Grows table t × (length s.nodes ≤ length t.nodes)
+
+  -- what is done keeps the tree, wherever it begins
+  abbrev Keeps : (State → Outcome) → Type 0
+  Keeps f = (s : State) → Grows table s → Follows s (f s).state
+
+  same_length : (n : ℕ) → n ≤ n
+  same_length n = omega arith
+
+  content-grows : (s : State) (number at inside : ℕ) (content : Content) → Grows table s → inside ≤ length s.nodes → (0 < length s.nodes → inside < length s.nodes)
+      → Follows s (record s { at = at; nodes = with_content s.nodes number content; inside = inside })
+  content-grows s number at inside content good few open_one =
+      let size = content-length s.nodes number content in (
+        record {
+          tree = content-tree table s.nodes number content good.tree;
+          few = omega arith;
+          open_one = λ some. let less = open_one (omega arith) in omega arith;
+        },
+        omega arith,
+      )
+
+  land-keeps : (reached : Reached Find) → Keeps (land input.limits.window reached)
+  land-keeps (Told DataEnd) s good = (good, same_length (length s.nodes))
+  land-keeps (Told (Finds content bits)) s good = content-grows s s.inside (s.at + bits) s.inside content good good.few good.open_one
+  land-keeps TooFar s good = (good, same_length (length s.nodes))
+  land-keeps Missing s good = (good, same_length (length s.nodes))
+
+  leaf-keeps : (primitive : Option Primitive) → Keeps (leaf input primitive)
+  leaf-keeps None s good = (good, same_length (length s.nodes))
+  leaf-keeps (Some primitive) s good =
+      land-keeps (ask (seen_in input.bytes input.limits.window (anchor s)) (program primitive s.at) nothing).reached s good
+
+  begun-longer : (id : ℕ) (s : State) → length (begun id s).nodes ≡ length s.nodes + 1
+  begun-longer id s = length-append s.nodes (record { element = id; parent = s.inside; content = Begun } ∷ [])
+
+  begun-grows : (id : ℕ) (s : State) → IsElem (slice_get table.rows id) → Grows table s → Grows table (begun id s)
+  begun-grows id s elem good =
+      let node : Node = record { element = id; parent = s.inside; content = Begun } in
+      let size = begun-longer id s in
+      let few = good.few in
+      let one : IsNode table (0 + length s.nodes) node = subst (λ (n : ℕ). IsNode table n node) (sym (zero-add (length s.nodes)))
+      (record { parent = few; earlier = good.open_one; element = elem }) in
+      record {
+        tree = λ number n is. subst (λ (i : ℕ). IsNode table i n) (zero-add number)
+            (last-tree table s.nodes node 0 (λ i m at. subst (λ (j : ℕ). IsNode table j m) (sym (zero-add i)) (good.tree i m at)) one number n is);
+        few = omega arith;
+        open_one = λ some. omega arith;
+      }
+
+  left-follows : (outer : ℕ) (complex : Bool) (s : State) → Grows table s → outer < length s.nodes → Follows s (left outer complex s)
+  left-follows outer true s good less = content-grows s s.inside s.at outer Complex good (omega arith) (λ some. less)
+  left-follows outer false s good less = (record { tree = good.tree; few = omega arith; open_one = λ some. less }, same_length (length s.nodes))
+
+  close-follows : (end : End) (outer : ℕ) (complex : Bool) (o : Outcome) → Grows table o.state → outer < length o.state.nodes
+      → Follows o.state (close end outer complex o).state
+  close-follows Done outer complex o good less = left-follows outer complex o.state good less
+  close-follows (Failed cause bit) outer complex o good less = (good, same_length (length o.state.nodes))
+  close-follows (Stopped cause quantity) outer complex o good less = (good, same_length (length o.state.nodes))
+
+  element-keeps : (id : ℕ) (complex : Bool) (body : State → Outcome) → IsElem (slice_get table.rows id) → Keeps body → (s : State) → Grows table s → (room : Bool)
+      → Follows s (cond room (let o : Outcome = body (begun id s) in close o.end s.inside complex o) (ended (Stopped Nodes input.limits.nodes) s)).state
+  element-keeps id complex body elem keeps s good true =
+      let inner = keeps (begun id s) (begun-grows id s elem good) in
+      let size = begun-longer id s in
+      let few = good.few in
+      let longer : length (begun id s).nodes ≤ length (body (begun id s)).state.nodes = inner.1 in
+      let closed = close-follows (body (begun id s)).end s.inside complex (body (begun id s)) inner.0 (omega arith) in
+      let more = closed.1 in
+      (closed.0, omega arith)
+  element-keeps id complex body elem keeps s good false = (good, same_length (length s.nodes))
+
+  follow-keeps : (end : End) (o : Outcome) (next : State → Outcome) → Keeps next → Grows table o.state → Follows o.state (follow end o next).state
+  follow-keeps Done o next keeps good = keeps o.state good
+  follow-keeps (Failed cause bit) o next keeps good = (good, same_length (length o.state.nodes))
+  follow-keeps (Stopped cause quantity) o next keeps good = (good, same_length (length o.state.nodes))
+
+  group-keeps : (child : ℕ → State → Outcome) → ((id : ℕ) → Keeps (child id)) → (children : List ℕ) → Keeps (group child children)
+  group-keeps child keeps [] s good = (good, same_length (length s.nodes))
+  group-keeps child keeps (id ∷ rest) s good =
+      let first = keeps id s good in
+      let last = follow-keeps (child id s).end (child id s) (group child rest) (group-keeps child keeps rest) first.0 in
+      let a = first.1 in
+      let b = last.1 in
+      (last.0, omega arith)
+
+  row-keeps : (child : ℕ → State → Outcome) → ((id : ℕ) → Keeps (child id)) → (id : ℕ) (r : Option Row) → slice_get table.rows id ≡ r → Keeps (row input table child id r)
+  row-keeps child keeps id None is s good = (good, same_length (length s.nodes))
+  row-keeps child keeps id (Some (Leaf prim)) is s good = leaf-keeps (slice_get table.primitives prim) s good
+  row-keeps child keeps id (Some (Elem name simple body)) is s good =
+      element-keeps id (has_elements simple) (child body) (subst (λ (r : Option Row). IsElem r) (sym is) tt) (keeps body) s good
+      (nat_lt (length s.nodes) input.limits.nodes)
+  row-keeps child keeps id (Some (Group children)) is s good = group-keeps child keeps children s good
+
+  below-choice : (n id : ℕ) → ((i : ℕ) → Keeps (below input table n i)) → (s : State) → Grows table s → (test : Bool)
+      → Follows s (cond test (row_at input table (below input table n) n s) (below input table n id s)).state
+  below-choice n id keeps s good true = row-keeps (below input table n) keeps n (slice_get table.rows n) refl s good
+  below-choice n id keeps s good false = keeps id s good
+
+  below-keeps : (n id : ℕ) → Keeps (below input table n id)
+  unfolding below
+  below-keeps zero id s good = (good, same_length (length s.nodes))
+  below-keeps (suc n) id s good = below-choice n id (below-keeps n) s good (nat_eq id n)
+
+  pub meaning-tree : (id : ℕ) → IsTree table (meaning input table id front).state.nodes
+  unfolding meaning
+  meaning-tree id =
+      let first : Grows table front = record { tree = λ number node is. absurd (cc); few = omega arith; open_one = λ some. absurd (omega arith) } in
+      (row-keeps (below input table id) (below-keeps id) id (slice_get table.rows id) refl front first).0.tree

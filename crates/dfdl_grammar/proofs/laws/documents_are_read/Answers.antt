@@ -1,0 +1,7 @@
+use Rattle.std.proofs.Common.{◌-◌, length}
+use Rattle.dfdl_grammar.proofs.Filled.{all-read}
+use Rattle.dfdl_grammar.proofs.laws.documents_are_read.Goals as goal
+
+pub returns : goal.returns
+returns c limits table bytes nests unsigned leaves done =
+    all-read (record { bytes = bytes; limits = limits }) table unsigned leaves nests (length table.rows - 1) done

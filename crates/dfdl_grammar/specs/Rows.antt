@@ -1,0 +1,36 @@
+-- The meaning of each row, by that of the rows inside it, which stand below it. 'DFDL Data Syntax Grammar'.
+use Rattle.std.specs.Prelude.{ℕ, zero, suc, nat_eq, List, [], ◌∷◌, Option, Some, None, slice_get, if◌then◌else◌}
+use Rattle.dfdl_terms.specs.declared.row.Row.{Row}
+use Rattle.dfdl_terms.specs.declared.row.Row.TheVariants.{Leaf, Elem, Group}
+use Rattle.dfdl_terms.specs.Rows.{Table}
+use Rattle.dfdl_grammar.specs.declared.end.End.TheVariants.{Done}
+use Rattle.dfdl_looks.specs.Tallies.{one_row}
+use Rattle.dfdl_grammar.specs.States.{Input, State}
+use Rattle.dfdl_grammar.specs.Outcomes.{Outcome, ended, spend, then_do}
+use Rattle.dfdl_grammar.specs.Leaves.{leaf}
+use Rattle.dfdl_grammar.specs.Elements.{element, has_elements}
+
+-- rows one after another
+abbrev pub group : (ℕ → State → Outcome) → List ℕ → State → Outcome
+group child [] s = ended Done s
+group child (id ∷ ids) s = then_do (child id s) (group child ids)
+
+-- the meaning of a row of this number, where child is that of the rows inside it; of no row it is nothing
+abbrev pub row : Input → Table → (ℕ → State → Outcome) → ℕ → Option Row → State → Outcome
+row input table child id None s = ended Done s
+row input table child id (Some (Leaf prim)) s = leaf input (slice_get table.primitives prim) s
+row input table child id (Some (Elem name simple body)) s = element input id (has_elements simple) (child body) s
+row input table child id (Some (Group children)) s = group child children s
+
+-- the row of this number of the table, with its cost
+abbrev pub row_at : Input → Table → (ℕ → State → Outcome) → ℕ → State → Outcome
+row_at input table child id s = spend one_row (row input table child id (slice_get table.rows id) s)
+
+-- the meaning of the rows below a number
+unfoldable pub below : Input → Table → ℕ → ℕ → State → Outcome
+below input table zero id s = ended Done s
+below input table (suc n) id s = if nat_eq id n then row_at input table (below input table n) n s else below input table n id s
+
+-- the meaning of the row of a number
+unfoldable pub meaning : Input → Table → ℕ → State → Outcome
+meaning input table id s = row_at input table (below input table id) id s

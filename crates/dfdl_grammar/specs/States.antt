@@ -1,0 +1,39 @@
+-- What is known while data are parsed. 'Parsing Algorithm'.
+use Rattle.std.specs.Prelude.{ℕ, ◌/◌, Bool, List, [], ◌∷◌, if◌then◌else◌}
+use Rattle.dfdl_region.specs.declared.node.Node.{Node}
+use Rattle.dfdl_grammar.specs.declared.limits.Limits.{Limits}
+
+-- the data and the limits
+pub record Input : Type 0 where
+  pub bytes : List ℕ
+  pub limits : Limits
+
+-- A place that parsing can go back to: its bit, whether it is a point of uncertainty, whether that is resolved, and the
+-- elements and the innermost open one as they were there.
+pub record Mark : Type 0 where
+  pub at : ℕ
+  pub is_point : Bool
+  pub is_resolved : Bool
+  pub nodes : List Node
+  pub inside : ℕ
+
+-- The bit that comes next, the elements that have begun, the number of the innermost one that is open, and the open marks
+-- with the innermost first.
+pub record State : Type 0 where
+  pub at : ℕ
+  pub nodes : List Node
+  pub inside : ℕ
+  pub marks : List Mark
+
+-- the state at the front of the data
+abbrev pub front : State
+front = record { at = 0; nodes = []; inside = 0; marks = [] }
+
+-- the bit of the outermost mark that isn't resolved, or another bit where there is none
+abbrev pub held_from : List Mark → ℕ → ℕ
+held_from [] at = at
+held_from (mark ∷ outer) at = held_from outer (if mark.is_resolved then at else mark.at)
+
+-- the first byte that is still needed
+abbrev pub anchor : State → ℕ
+anchor s = held_from s.marks s.at / 8

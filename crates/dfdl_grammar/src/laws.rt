@@ -1,0 +1,32 @@
+// Laws of the definitions that the contracts cite. The calls do nothing.
+ghost use Rattle.std.specs.Prelude.{◌≡◌, ◌<◌, ℕ, List, All};
+ghost use Rattle.dfdl_looks.specs.Tallies.{Tally};
+ghost use Rattle.dfdl_terms.specs.Rows.{Nests, Table};
+ghost use Rattle.dfdl_grammar.specs.declared.limits.Limits.{Limits};
+ghost use Rattle.dfdl_grammar.specs.Documents.{document};
+ghost use Rattle.dfdl_grammar.specs.Trees.{AreRead, HasLeaves, IsTree};
+ghost use Rattle.dfdl_grammar.specs.Leaves.{IsUnsigned};
+ghost use Rattle.dfdl_grammar.specs.declared.end.End.TheVariants.{Done};
+ghost use Rattle.dfdl_grammar.specs.Outcomes.{Outcome, spend, then_do};
+ghost use Rattle.dfdl_grammar.specs.Rows.{below, meaning};
+ghost use Rattle.dfdl_grammar.specs.States.{Input, State};
+
+/// A row has its own meaning below each that stands above it, and what was spent before a row is spent before what
+/// follows it.
+pub fn rows_mean()
+    ensures below { (input : Input) (table : Table) (above id : ℕ) (s : State) → id < above
+        → below input table above id s ≡ meaning input table id s }
+    ensures spent { (t : Tally) (o : Outcome) (next : State → Outcome) → then_do (spend t o) next ≡ spend t (then_do o next) }
+{}
+
+/// The elements of a document are a tree: each begins inside of an earlier one, but the first, and each is one of the
+/// schema's elements, whatever the data come to.
+pub fn documents_are_trees()
+    ensures { (limits : Limits) (table : Table) (bytes : List ℕ) → IsTree table (document limits table bytes).state.nodes }
+{}
+
+/// Where a document is done, each of its elements is read.
+pub fn documents_are_read()
+    ensures { (limits : Limits) (table : Table) (bytes : List ℕ) → Nests table.rows → All IsUnsigned table.primitives → HasLeaves table
+        → (document limits table bytes).end ≡ Done → AreRead (document limits table bytes).state.nodes }
+{}

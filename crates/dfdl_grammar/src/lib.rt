@@ -1,0 +1,23 @@
+//! What the rows of a schema mean over data: `document` (`specs/Documents.antt`) gives the elements of a document, the
+//! bit behind it, and the cause where it fails. It has no code; dfdl_parse computes it.
+//!
+//! The map of the grammar, one file of specs/ for each subject of the standard:
+//! - States: what is known while data are parsed ('Parsing Algorithm').
+//! - Outcomes: what a row comes to, and how outcomes are put together ('Parsing Algorithm').
+//! - Leaves: what a simple element's content is read as ('Simple Types').
+//! - Elements: an element begins, and ends ('The DFDL Information Set').
+//! - Rows: the meaning of each row, by those below it ('DFDL Data Syntax Grammar').
+//! - Documents: the meaning of the root element's row at the front of the data.
+//! - Trees: the elements of a document are a tree of the schema's elements.
+//! - Paths: the path of an element, by names.
+#![tactic(auto)]
+
+pub mod end;
+pub mod laws;
+pub mod limits;
+
+pub use end::End;
+pub use limits::Limits;
+
+#[cfg(test)]
+mod tests;

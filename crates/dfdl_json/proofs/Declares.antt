@@ -1,0 +1,124 @@
+-- What a row declares and how many steps it takes, by its kind.
+use Rattle.std.proofs.Common.{◌≡◌, ℕ, suc, ◌+◌, ◌<◌, ◌≤◌, List, [], ◌∷◌, ◌++◌, All, map, Option, None, Some, slice_get, refl, sym, ap, subst, ◌∙◌, arith, append_assoc, Result, Ok, Err, OnOk}
+use Rattle.std.specs.List.{flat_map}
+use Rattle.std.proofs.lemmas.Grind.{flat_map-append}
+use Rattle.std.proofs.lemmas.List.{append-nil}
+use Rattle.std.proofs.lemmas.List.Elements.{All-head, All-tail, All-cons, All-nil, All-append}
+use Rattle.dfdl_forms.specs.declared.simple.Simple.{Simple}
+use Rattle.dfdl_terms.specs.declared.row.Row.{Row}
+use Rattle.dfdl_terms.specs.declared.row.Row.TheVariants.{Leaf, Elem, Group}
+use Rattle.dfdl_terms.specs.Rows.{Table, ChildrenBelow}
+use Rattle.dfdl_json.specs.ByRows.{below, by_rows}
+use Rattle.dfdl_json.specs.Children.{declared_by, elements_in}
+use Rattle.dfdl_json.specs.Steps.{steps_by, steps_of, total}
+use Rattle.dfdl_json.proofs.RowValues.{row_is, below_is, flat_map_same, map_same}
+
+module _ (t : Table) (row : ℕ) where
+  pub no_row_declares : slice_get t.rows row ≡ None → elements_in t row ≡ []
+  no_row_declares is = row_is declared_by [] t.rows row None is
+
+  pub leaf_declares : (prim : ℕ) → slice_get t.rows row ≡ Some (Leaf prim) → elements_in t row ≡ []
+  leaf_declares prim is = row_is declared_by [] t.rows row (Some (Leaf prim)) is
+
+  pub elem_declares : (name : List ℕ) (simple : Option Simple) (body : ℕ) → slice_get t.rows row ≡ Some (Elem name simple body) → elements_in t row ≡ row ∷ []
+  elem_declares name simple body is = row_is declared_by [] t.rows row (Some (Elem name simple body)) is
+
+  pub group_declares : (children : List ℕ) → slice_get t.rows row ≡ Some (Group children) → All (λ c. c < row) children
+      → elements_in t row ≡ flat_map (elements_in t) children
+  group_declares children is below_row =
+      row_is declared_by [] t.rows row (Some (Group children)) is
+      ∙ flat_map_same row (below declared_by [] t.rows row) (elements_in t) (λ c less. below_is declared_by [] t.rows row c less) children below_row
+
+  pub no_row_steps : slice_get t.rows row ≡ None → steps_of t row ≡ 1
+  no_row_steps is = row_is steps_by 0 t.rows row None is
+
+  pub leaf_steps : (prim : ℕ) → slice_get t.rows row ≡ Some (Leaf prim) → steps_of t row ≡ 1
+  leaf_steps prim is = row_is steps_by 0 t.rows row (Some (Leaf prim)) is
+
+  pub elem_steps : (name : List ℕ) (simple : Option Simple) (body : ℕ) → slice_get t.rows row ≡ Some (Elem name simple body) → body < row
+      → steps_of t row ≡ 2 + steps_of t body
+  elem_steps name simple body is less =
+      row_is steps_by 0 t.rows row (Some (Elem name simple body)) is ∙ ap (λ n. 2 + n) (below_is steps_by 0 t.rows row body less)
+
+  pub group_steps : (children : List ℕ) → slice_get t.rows row ≡ Some (Group children) → All (λ c. c < row) children
+      → steps_of t row ≡ 1 + total (map (steps_of t) children)
+  group_steps children is below_row =
+      row_is steps_by 0 t.rows row (Some (Group children)) is
+      ∙ ap (λ ns. 1 + total ns) (map_same row (below steps_by 0 t.rows row) (steps_of t) (λ c less. below_is steps_by 0 t.rows row c less) children below_row)
+
+pub total_both : (f : ℕ → ℕ) (xs ys : List ℕ) → total (map f (xs ++ ys)) ≡ total (map f xs) + total (map f ys)
+total_both f [] ys = omega arith
+total_both f (x ∷ xs) ys = omega (arith, total_both f xs ys)
+
+-- what is there, by its kind
+pub there : {A : Type 0} (o : Option A) (r s : A) → Some r ≡ o → r ≡ s → o ≡ Some s
+there o r s is kind = sym is ∙ ap Some kind
+
+-- the children of a row are below it
+pub below_elem : (bound : ℕ) (r : Row) (name : List ℕ) (simple : Option Simple) (body : ℕ) → r ≡ Elem name simple body → ChildrenBelow bound r → body < bound
+below_elem bound r name simple body is below_row = subst (λ (x : Row). ChildrenBelow bound x) is below_row
+
+pub below_group : (bound : ℕ) (r : Row) (children : List ℕ) → r ≡ Group children → ChildrenBelow bound r → All (λ c. c < bound) children
+below_group bound r children is below_row = subst (λ (x : Row). ChildrenBelow bound x) is below_row
+
+-- what follows where a call succeeds
+pub on_ok : {T E : Type 0} (r : Result T E) (P Q : Type 0) → OnOk r P → (P → Q) → OnOk r Q
+on_ok (Ok x) P Q p f = f p
+on_ok (Err e) P Q p f = tt
+
+pub on_ok_both : {T E : Type 0} (r : Result T E) (P Q R : Type 0) → OnOk r P → OnOk r Q → (P → Q → R) → OnOk r R
+on_ok_both (Ok x) P Q R p q f = f p q
+on_ok_both (Err e) P Q R p q f = tt
+
+pub on_ok_four : {T E : Type 0} (r : Result T E) (P Q R S X : Type 0) → OnOk r P → OnOk r Q → OnOk r R → OnOk r S → (P → Q → R → S → X) → OnOk r X
+on_ok_four (Ok x) P Q R S X p q r s f = f p q r s
+on_ok_four (Err e) P Q R S X p q r s f = tt
+
+-- one step of the walk over declared elements
+module _ (t : Table) (row : ℕ) (elements left : List ℕ) where
+  pub elem_visited : (name : List ℕ) (simple : Option Simple) (body : ℕ) (now : List ℕ) → slice_get t.rows row ≡ Some (Elem name simple body)
+      → now ≡ elements ++ row ∷ []
+      → now ++ flat_map (elements_in t) left ≡ elements ++ (elements_in t row ++ flat_map (elements_in t) left)
+  elem_visited name simple body now is now_is =
+      ap (λ xs. xs ++ flat_map (elements_in t) left) now_is
+      ∙ (append_assoc elements (row ∷ []) (flat_map (elements_in t) left)
+      ∙ ap (λ xs. elements ++ (xs ++ flat_map (elements_in t) left)) (sym (elem_declares t row name simple body is)))
+
+  pub elem_less : (name : List ℕ) (simple : Option Simple) (body : ℕ) → slice_get t.rows row ≡ Some (Elem name simple body) → body < row
+      → total (map (steps_of t) left) < steps_of t row + total (map (steps_of t) left)
+  elem_less name simple body is less = omega (arith, elem_steps t row name simple body is less)
+
+  pub group_visited : (children now : List ℕ) → slice_get t.rows row ≡ Some (Group children) → All (λ c. c < row) children
+      → now ≡ children ++ left
+      → elements ++ flat_map (elements_in t) now ≡ elements ++ (elements_in t row ++ flat_map (elements_in t) left)
+  group_visited children now is below_row now_is =
+      ap (λ xs. elements ++ flat_map (elements_in t) xs) now_is
+      ∙ (ap (λ xs. elements ++ xs) (flat_map-append (elements_in t) children left)
+      ∙ ap (λ xs. elements ++ (xs ++ flat_map (elements_in t) left)) (sym (group_declares t row children is below_row)))
+
+  pub group_less : (children now : List ℕ) → slice_get t.rows row ≡ Some (Group children) → All (λ c. c < row) children
+      → now ≡ children ++ left
+      → total (map (steps_of t) now) < steps_of t row + total (map (steps_of t) left)
+  group_less children now is below_row now_is =
+      let both : total (map (steps_of t) now) ≡ total (map (steps_of t) children) + total (map (steps_of t) left)
+      = ap (λ xs. total (map (steps_of t) xs)) now_is ∙ total_both (steps_of t) children left in
+      omega (arith, both, group_steps t row children is below_row)
+
+  pub leaf_visited : (prim : ℕ) → slice_get t.rows row ≡ Some (Leaf prim)
+      → elements ++ flat_map (elements_in t) left ≡ elements ++ (elements_in t row ++ flat_map (elements_in t) left)
+  leaf_visited prim is = ap (λ xs. elements ++ (xs ++ flat_map (elements_in t) left)) (sym (leaf_declares t row prim is))
+
+  pub no_row_visited : slice_get t.rows row ≡ None
+      → elements ++ flat_map (elements_in t) left ≡ elements ++ (elements_in t row ++ flat_map (elements_in t) left)
+  no_row_visited is = ap (λ xs. elements ++ (xs ++ flat_map (elements_in t) left)) (sym (no_row_declares t row is))
+
+  pub leaf_less : (prim : ℕ) → slice_get t.rows row ≡ Some (Leaf prim) → total (map (steps_of t) left) < steps_of t row + total (map (steps_of t) left)
+  leaf_less prim is = omega (arith, leaf_steps t row prim is)
+
+  pub no_row_less : slice_get t.rows row ≡ None → total (map (steps_of t) left) < steps_of t row + total (map (steps_of t) left)
+  no_row_less is = omega (arith, no_row_steps t row is)
+
+-- the begin of the walk
+pub walk_begins : (t : Table) (id : ℕ) (elements left : List ℕ) → elements ≡ [] → left ≡ id ∷ []
+    → elements ++ flat_map (elements_in t) left ≡ elements_in t id
+walk_begins t id elements left none one = rw (none, one) (append-nil (elements_in t id))

@@ -1,0 +1,35 @@
+use Rattle.dfdl_json.proofs.Declares.{there, on_ok, below_elem, below_group, elem_visited, elem_less, group_visited, group_less, leaf_visited, leaf_less, no_row_visited, no_row_less}
+use Rattle.std.proofs.Common.{sym, ◌∙◌, ap, [], ◌++◌}
+use Rattle.dfdl_json.proofs.children.visit.Goals as goal
+
+pub returns-in_ok-push-in-Some-Elem-clause-same : goal.returns-in_ok-push-in-Some-Elem-clause-same
+returns-in_ok-push-in-Some-Elem-clause-same c =
+    elem_visited c.args.terms.now c.args.row _ _ _ _ _ _ (there _ _ _ c.in-Some-Elem.ensures.row c.in-Some-Elem.field-0-is) c.in_ok-push-in-Some-Elem.ensures.items
+
+pub returns-in_ok-push-in-Some-Elem-clause-less : goal.returns-in_ok-push-in-Some-Elem-clause-less
+returns-in_ok-push-in-Some-Elem-clause-less c =
+    elem_less c.args.terms.now c.args.row [] _ _ _ _ (there _ _ _ c.in-Some-Elem.ensures.row c.in-Some-Elem.field-0-is) (below_elem _ _ _ _ _ c.in-Some-Elem.field-0-is c.in-Some-Elem.ensures.nests)
+
+pub returns-in-Some-Group-clause-same : goal.returns-in-Some-Group-clause-same
+returns-in-Some-Group-clause-same c = on_ok c.push_all.result _ _ c.push_all.ensures
+    (λ now_is. group_visited c.args.terms.now c.args.row c.args.elements.now.items _ _ _ (there _ _ _ c.in-Some-Group.ensures.row c.in-Some-Group.field-0-is)
+    (below_group _ _ _ c.in-Some-Group.field-0-is c.in-Some-Group.ensures.nests) (now_is ∙ ap (λ xs. xs ++ c.args.left.now.items) c.as_slice.ensures))
+
+pub returns-in-Some-Group-clause-less : goal.returns-in-Some-Group-clause-less
+returns-in-Some-Group-clause-less c = on_ok c.push_all.result _ _ c.push_all.ensures
+    (λ now_is. group_less c.args.terms.now c.args.row [] _ _ _ (there _ _ _ c.in-Some-Group.ensures.row c.in-Some-Group.field-0-is)
+    (below_group _ _ _ c.in-Some-Group.field-0-is c.in-Some-Group.ensures.nests) (now_is ∙ ap (λ xs. xs ++ c.args.left.now.items) c.as_slice.ensures))
+
+pub returns-in-Some-Leaf-clause-same : goal.returns-in-Some-Leaf-clause-same
+returns-in-Some-Leaf-clause-same c =
+    leaf_visited c.args.terms.now c.args.row _ _ _ (there _ _ _ c.in-Some-Leaf.ensures.row c.in-Some-Leaf.field-0-is)
+
+pub returns-in-Some-Leaf-clause-less : goal.returns-in-Some-Leaf-clause-less
+returns-in-Some-Leaf-clause-less c =
+    leaf_less c.args.terms.now c.args.row [] _ _ (there _ _ _ c.in-Some-Leaf.ensures.row c.in-Some-Leaf.field-0-is)
+
+pub returns-in-None-clause-same : goal.returns-in-None-clause-same
+returns-in-None-clause-same c = no_row_visited c.args.terms.now c.args.row _ _ (sym c.in-None.ensures.row)
+
+pub returns-in-None-clause-less : goal.returns-in-None-clause-less
+returns-in-None-clause-less c = no_row_less c.args.terms.now c.args.row [] _ (sym c.in-None.ensures.row)

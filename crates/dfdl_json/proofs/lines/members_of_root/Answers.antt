@@ -1,0 +1,17 @@
+use Rattle.std.proofs.Common.{◌-◌, drop, arith}
+use Rattle.dfdl_json.specs.Lines.{members_of}
+use Rattle.dfdl_json.proofs.Inner.{counted_up, node_put}
+use Rattle.dfdl_json.proofs.lines.members_of_root.Goals as goal
+
+pub loop-at-preserved : goal.loop-at-preserved
+loop-at-preserved c =
+    let t = c.args.terms.now in
+    let nodes = c.args.nodes.now in
+    let at = c.loop-at.at in
+    let before = c.loop-at.invariant in
+    record {
+      some = omega (arith, c.loop-at-test.true);
+      within = omega (arith, before.within);
+      objects = node_put t nodes at c.index-nodes-at.result c.put_node.new.objects.items before.some before.within c.index-nodes-at.is
+          (c.in_ok-put_node.ensures (λ j. members_of t at (drop at nodes) j) (at - 1) (counted_up c.loop-at.objects.items at (λ j. members_of t at (drop at nodes) j) before.some before.objects));
+    }

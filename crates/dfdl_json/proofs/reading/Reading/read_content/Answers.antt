@@ -1,0 +1,65 @@
+use Rattle.std.proofs.Common.{◌≡◌, ◌∙◌, ◌∷◌, ◌++◌, List, ℕ, Option, ap, sym, fold}
+use Rattle.serde_json.specs.View.{view}
+use Rattle.dfdl_terms.specs.declared.row.Row.TheVariants.{Elem}
+use Rattle.dfdl_json.specs.Children.{elements_in}
+use Rattle.dfdl_json.specs.Found.{noted}
+use Rattle.dfdl_json.specs.Infosets.{simple_findings, complex_findings, findings, value_in}
+use Rattle.dfdl_json.specs.Reading.{coming, data_at}
+use Rattle.dfdl_json.proofs.Declares.{there, on_ok, on_ok_four, below_elem}
+use Rattle.dfdl_json.proofs.Contents.{left_same, simple_less, complex_less, simple_comes, complex_comes, leaf_comes, group_comes, no_row_comes, less_left}
+use Rattle.dfdl_json.proofs.reading.Reading.read_content.Goals as goal
+
+pub returns-in-Some-clause-same : goal.returns-in-Some-clause-same
+returns-in-Some-clause-same c =
+    let old = c.args.self.now in
+    let new = c.read_simple.new.self in
+    on_ok_four c.read_simple.result _ _ _ _ _ c.read_simple.ensures.tasks c.read_simple.ensures.contents c.read_simple.ensures.names c.read_simple.ensures.found
+    (λ tasks contents names found. left_same c.args.terms.now new.found old.tasks.items new.tasks.items old.contents.items new.contents.items old.around new.around tasks contents names
+    ∙ simple_comes c.args.terms.now c.args.row (view c.args.content.now) old.around old.found old.tasks.items (data_at old.contents.items)
+    c.in-Some-Elem.name c.in-Some.kind c.in-Some-Elem.body new.found
+    (there _ _ _ c.in-Some-Elem.ensures.row (c.in-Some-Elem.field-0-is ∙ ap (λ s. Elem c.in-Some-Elem.name s c.in-Some-Elem.body) c.in-Some.is))
+    (found ∙ ap (λ n. fold noted old.found (simple_findings c.args.row (n ∷ old.around) (value_in c.in-Some.kind (view c.args.content.now)))) c.as_str.ensures))
+
+pub returns-in-None-simple-clause-same : goal.returns-in-None-simple-clause-same
+returns-in-None-simple-clause-same c =
+    let old = c.args.self.now in
+    on_ok c.read_complex.result _ _ c.read_complex.ensures.same
+    (λ same. complex_comes c.args.terms.now c.args.row (view c.args.content.now) old.around old.found old.tasks.items (data_at old.contents.items)
+    c.in-Some-Elem.name c.in-Some-Elem.body _
+    (there _ _ _ c.in-Some-Elem.ensures.row (c.in-Some-Elem.field-0-is ∙ ap (λ s. Elem c.in-Some-Elem.name s c.in-Some-Elem.body) c.in-None-simple.is))
+    (below_elem _ _ _ _ _ c.in-Some-Elem.field-0-is c.in-Some-Elem.ensures.nests)
+    (same ∙ ap (λ n. fold noted old.found (complex_findings c.args.terms.now (findings c.args.terms.now) c.args.row (elements_in c.args.terms.now c.in-Some-Elem.body) (n ∷ old.around)
+    (view c.args.content.now) ++ coming c.args.terms.now old.tasks.items (data_at old.contents.items) old.around)) c.as_str-in-None-simple.ensures))
+
+pub returns-in-Some-clause-less : goal.returns-in-Some-clause-less
+returns-in-Some-clause-less c = on_ok c.read_simple.result _ _ c.read_simple.ensures.tasks
+    (λ tasks. simple_less c.args.terms.now c.args.row c.args.self.now.tasks.items c.read_simple.new.self.tasks.items tasks)
+
+pub returns-in-None-simple-clause-less : goal.returns-in-None-simple-clause-less
+returns-in-None-simple-clause-less c = on_ok c.read_complex.result _ _ c.read_complex.ensures.less
+    (λ less. complex_less c.args.terms.now c.args.row _ _ c.in-Some-Elem.body c.args.self.now.tasks.items c.read_complex.new.self.tasks.items (there _ _ _ c.in-Some-Elem.ensures.row c.in-Some-Elem.field-0-is)
+    (below_elem _ _ _ _ _ c.in-Some-Elem.field-0-is c.in-Some-Elem.ensures.nests) less)
+
+pub returns-in-Some-Leaf-clause-same : goal.returns-in-Some-Leaf-clause-same
+returns-in-Some-Leaf-clause-same c =
+    leaf_comes c.args.terms.now c.args.row (view c.args.content.now) c.args.self.now.around c.args.self.now.found c.args.self.now.tasks.items
+    (data_at c.args.self.now.contents.items) _ (there _ _ _ c.in-Some-Leaf.ensures.row c.in-Some-Leaf.field-0-is)
+
+pub returns-in-Some-Leaf-clause-less : goal.returns-in-Some-Leaf-clause-less
+returns-in-Some-Leaf-clause-less c = less_left c.args.terms.now c.args.row c.args.self.now.tasks.items
+
+pub returns-in-Some-Group-clause-same : goal.returns-in-Some-Group-clause-same
+returns-in-Some-Group-clause-same c =
+    group_comes c.args.terms.now c.args.row (view c.args.content.now) c.args.self.now.around c.args.self.now.found c.args.self.now.tasks.items
+    (data_at c.args.self.now.contents.items) _ (there _ _ _ c.in-Some-Group.ensures.row c.in-Some-Group.field-0-is)
+
+pub returns-in-Some-Group-clause-less : goal.returns-in-Some-Group-clause-less
+returns-in-Some-Group-clause-less c = less_left c.args.terms.now c.args.row c.args.self.now.tasks.items
+
+pub returns-in-None-clause-same : goal.returns-in-None-clause-same
+returns-in-None-clause-same c =
+    no_row_comes c.args.terms.now c.args.row (view c.args.content.now) c.args.self.now.around c.args.self.now.found c.args.self.now.tasks.items
+    (data_at c.args.self.now.contents.items) (sym c.in-None.ensures.row)
+
+pub returns-in-None-clause-less : goal.returns-in-None-clause-less
+returns-in-None-clause-less c = less_left c.args.terms.now c.args.row c.args.self.now.tasks.items

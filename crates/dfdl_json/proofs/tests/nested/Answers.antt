@@ -1,0 +1,47 @@
+use Rattle.std.proofs.Common.{◌≡◌, ℕ, List, [], ◌∷◌, Option, Some, All, refl, ap, ◌∙◌, length, lit<, slice_get}
+use Rattle.std.proofs.lemmas.List.Elements.{All-cons, All-nil, All-from_recursion}
+use Rattle.dfdl_forms.specs.declared.simple.Simple.{Simple}
+use Rattle.dfdl_terms.specs.declared.row.Primitive.{Primitive}
+use Rattle.dfdl_terms.specs.declared.row.Row.{Row}
+use Rattle.dfdl_terms.specs.declared.row.Row.TheVariants.{Leaf, Elem, Group}
+use Rattle.dfdl_terms.specs.Rows.{Table, IsPrimitive, NamesWithin}
+use Rattle.dfdl_json.specs.Children.{HasElementLast}
+use Rattle.dfdl_json.proofs.tests.nested.Goals as goal
+
+element_named : (n : ℕ) (row : Row) (x : List ℕ) (s : Option Simple) (i : ℕ) → row ≡ Elem x s i → NamesWithin n row
+element_named n row x s i is = rw is tt
+
+group_named : (n : ℕ) (row : Row) (children : List ℕ) → row ≡ Group children → NamesWithin n row
+group_named n row children is = rw is tt
+
+-- what is said of a list is said of an equal one
+all_at : {A : Type 0} (P : A → Type 0) (xs ys : List A) → xs ≡ ys → All P ys → All P xs
+all_at P xs ys same all = rw same all
+
+last_there : (t : Table) (rows : List Row) (forms : List Primitive) (q0 q1 q2 q3 q4 q5 q6 q7 r : Row) (x : List ℕ) (s : Option Simple) (i : ℕ)
+    → t ≡ record { rows = rows; primitives = forms } → rows ≡ q0 ∷ q1 ∷ q2 ∷ q3 ∷ q4 ∷ q5 ∷ q6 ∷ q7 ∷ r ∷ [] → r ≡ Elem x s i → HasElementLast t
+last_there t rows forms q0 q1 q2 q3 q4 q5 q6 q7 r x s i t_is rows_are r_is = rw (t_is, rows_are, r_is) tt
+
+all_nine : (P : Row → Type 0) (a b c d e f g h i : Row) → P a → P b → P c → P d → P e → P f → P g → P h → P i
+    → All P (a ∷ b ∷ c ∷ d ∷ e ∷ f ∷ g ∷ h ∷ i ∷ [])
+all_nine P a b c d e f g h i at_a at_b at_c at_d at_e at_f at_g at_h at_i =
+    All-cons P a (b ∷ c ∷ d ∷ e ∷ f ∷ g ∷ h ∷ i ∷ []) at_a (All-cons P b (c ∷ d ∷ e ∷ f ∷ g ∷ h ∷ i ∷ []) at_b (All-cons P c (d ∷ e ∷ f ∷ g ∷ h ∷ i ∷ []) at_c
+    (All-cons P d (e ∷ f ∷ g ∷ h ∷ i ∷ []) at_d (All-cons P e (f ∷ g ∷ h ∷ i ∷ []) at_e (All-cons P f (g ∷ h ∷ i ∷ []) at_f
+    (All-cons P g (h ∷ i ∷ []) at_g (All-cons P h (i ∷ []) at_h (All-cons P i [] at_i (All-nil P)))))))))
+
+pub build-requires-clause-named : goal.build-requires-clause-named
+build-requires-clause-named c =
+    let P : Row → Type 0 = NamesWithin (length c.new-6.result) in
+    let one : length c.new-6.result ≡ 1 = ap length (c.new-6.ensures ∙ c.in_ok-forms.ensures.items) in
+    all_at P c.in_ok-rows.rows.items _ c.in_ok-rows.ensures.items
+    (all_nine P _ _ _ _ _ _ _ _ _ (rw one (lit< tt)) (element_named _ _ _ _ _ c.in_ok-element.ensures) (element_named _ _ _ _ _ c.in_ok-element-2.ensures)
+    (group_named _ _ _ c.in_ok-group.ensures) (group_named _ _ _ c.in_ok-group-2.ensures) (element_named _ _ _ _ _ c.in_ok-element-3.ensures)
+    (element_named _ _ _ _ _ c.in_ok-element-4.ensures) (group_named _ _ _ c.in_ok-group-3.ensures) (element_named _ _ _ _ _ c.in_ok-element-5.ensures))
+
+pub build-requires-clause-bounded : goal.build-requires-clause-bounded
+build-requires-clause-bounded c =
+    all_at IsPrimitive c.new-6.result (c.form.result ∷ []) (c.new-6.ensures ∙ c.in_ok-forms.ensures.items)
+    (All-cons IsPrimitive c.form.result [] c.form.ensures (All-nil IsPrimitive))
+
+pub returns : goal.returns
+returns c = last_there _ c.in_ok-rows.rows.items _ _ _ _ _ _ _ _ _ _ _ _ _ c.in_ok-build.ensures.ok c.in_ok-rows.ensures.items c.in_ok-element-5.ensures

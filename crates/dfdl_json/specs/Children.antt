@@ -1,0 +1,44 @@
+-- The elements that a schema declares: their names, and which of them stand in one another.
+use Rattle.std.specs.Prelude.{ℕ, ◌-◌, List, [], ◌∷◌, length, Option, Some, None, slice_get}
+use Rattle.std.specs.List.{flat_map}
+use Rattle.dfdl_forms.specs.declared.simple.Simple.{Simple}
+use Rattle.dfdl_terms.specs.declared.row.Row.{Row}
+use Rattle.dfdl_terms.specs.declared.row.Row.TheVariants.{Leaf, Elem, Group}
+use Rattle.dfdl_terms.specs.Rows.{Table}
+use Rattle.dfdl_json.specs.ByRows.{by_rows}
+
+-- the row of the root element
+abbrev pub root_row : Table → ℕ
+root_row t = length t.rows - 1
+
+-- the row is an element
+abbrev pub IsElementRow : Option Row → Type 0
+IsElementRow (Some (Elem name simple body)) = Unit {0}
+IsElementRow (Some (Leaf prim)) = ⊥
+IsElementRow (Some (Group children)) = ⊥
+IsElementRow None = ⊥
+
+-- the last row is an element, as that of a schema is
+abbrev pub HasElementLast : Table → Type 0
+HasElementLast t = IsElementRow (slice_get t.rows (root_row t))
+
+-- the local name of a row's element; other rows have none
+abbrev pub name_in : Option Row → List ℕ
+name_in (Some (Elem name simple body)) = name
+name_in _ = []
+
+-- the local name of the element of this row
+abbrev pub name_of : Table → ℕ → List ℕ
+name_of t row = name_in (slice_get t.rows row)
+
+-- the elements that a row declares, where `inside` has those of the rows below it: an element declares itself, and a
+-- group what its children declare
+abbrev pub declared_by : (ℕ → List ℕ) → ℕ → Option Row → List ℕ
+declared_by inside row (Some (Elem name simple body)) = row ∷ []
+declared_by inside row (Some (Group children)) = flat_map inside children
+declared_by inside row (Some (Leaf prim)) = []
+declared_by inside row None = []
+
+-- the elements that the content of this row declares, through groups in groups, in schema order
+abbrev pub elements_in : Table → ℕ → List ℕ
+elements_in t row = by_rows declared_by [] t.rows row

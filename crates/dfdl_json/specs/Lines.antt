@@ -1,0 +1,34 @@
+-- The infoset of parsed data, and its text: compact JSON and one line feed ('The DFDL Information Set').
+use Rattle.std.specs.Prelude.{ℕ, ◌+◌, nat_eq, if◌then◌else◌, List, [], ◌∷◌, ◌++◌, decimal}
+use Rattle.serde_json.specs.Data.{Data, string, object, Members, no_members, put}
+use Rattle.serde_json.specs.Written.{compact_text}
+use Rattle.dfdl_terms.specs.Rows.{Table}
+use Rattle.dfdl_region.specs.declared.node.Node.{Node}
+use Rattle.dfdl_region.specs.declared.node.Content.{Content}
+use Rattle.dfdl_region.specs.declared.node.Content.TheVariants.{Begun, Complex, Unsigned}
+use Rattle.dfdl_json.specs.Children.{name_of}
+
+-- the data of an element with this content: a number is its decimal digits, and another element, read to its end or
+-- not, has a member for each element in it
+abbrev pub data_of : Content → Members → Data
+data_of (Unsigned number) entries = string (decimal number)
+data_of Complex entries = object entries
+data_of Begun entries = object entries
+
+-- the members that the element of a number has of these nodes, the first of which has the number `from`: one for each
+-- that stands in it, whose own members are of the nodes behind it
+abbrev pub members_of : Table → ℕ → List Node → ℕ → Members
+members_of t from [] number = no_members
+members_of t from (node ∷ nodes) number =
+    if nat_eq node.parent number
+    then put (name_of t node.element) (data_of node.content (members_of t (from + 1) nodes from)) (members_of t (from + 1) nodes number)
+    else members_of t (from + 1) nodes number
+
+-- the infoset of nodes, the first of which is the root element: an object with one member, which has its name
+abbrev pub infoset_of : Table → List Node → Data
+infoset_of t [] = object no_members
+infoset_of t (root ∷ nodes) = object (put (name_of t root.element) (data_of root.content (members_of t 1 nodes 0)) no_members)
+
+-- the line of an infoset
+abbrev pub line_of : Table → List Node → List ℕ
+line_of t nodes = compact_text (infoset_of t nodes) ++ 10 ∷ []

@@ -1,0 +1,22 @@
+-- Mirror for the prover: how many steps a walk over a row takes.
+use Rattle.std.specs.Prelude.{ℕ, ◌+◌, List, [], ◌∷◌, map, Option, None, Some}
+use Rattle.dfdl_terms.specs.Rows.{Table}
+use Rattle.dfdl_terms.specs.declared.row.Row.{Row}
+use Rattle.dfdl_terms.specs.declared.row.Row.TheVariants.{Leaf, Elem, Group}
+use Rattle.dfdl_json.specs.ByRows.{by_rows}
+
+-- numbers added up
+abbrev pub total : List ℕ → ℕ
+total [] = 0
+total (n ∷ others) = n + total others
+
+-- how many steps a row takes, where `inside` has those of the rows below it
+abbrev pub steps_by : (ℕ → ℕ) → ℕ → Option Row → ℕ
+steps_by inside row None = 1
+steps_by inside row (Some (Leaf prim)) = 1
+steps_by inside row (Some (Elem name simple body)) = 2 + inside body
+steps_by inside row (Some (Group children)) = 1 + total (map inside children)
+
+-- how many steps the row of this number takes
+abbrev pub steps_of : Table → ℕ → ℕ
+steps_of t row = by_rows steps_by 0 t.rows row

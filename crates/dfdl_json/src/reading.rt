@@ -1,0 +1,284 @@
+// The reading of an infoset, element by element in schema order.
+ghost use Rattle.std.specs.Prelude.{◌≡◌, ◌<◌, ◌≤◌, ◌+◌, ◌++◌, ◌∷◌, [], None, IfOk, OnOk, drop, fold, map};
+ghost use Rattle.serde_json.specs.View.{view, members_view};
+ghost use Rattle.dfdl_terms.specs.Rows.{Table};
+ghost use Rattle.dfdl_terms.specs.declared.event.Event.TheVariants.{Start, Simple as SimpleElement, End};
+ghost use Rattle.dfdl_json.specs.declared.reading.Task.TheVariants.{Read};
+ghost use Rattle.dfdl_json.specs.Children as children;
+ghost use Rattle.dfdl_json.specs.Found.{noted};
+ghost use Rattle.dfdl_json.specs.Infosets.{Says, findings, complex_findings, children_findings, unknown_findings, simple_findings, refused, value_in};
+ghost use Rattle.dfdl_json.specs.Paths.{Names};
+ghost use Rattle.dfdl_json.specs.Reading.{all_found, coming, data_at, steps_left};
+ghost use Rattle.dfdl_json.specs.Steps.{steps_of, total};
+
+use crate::children::{elements_in, name_of, row_at};
+use crate::found::Found;
+use crate::members::{are_known, member_of, read_member};
+use crate::path::OpenElements;
+use dfdl_report::InfosetCause;
+use dfdl_terms::{Event, Row, RowId, Terms};
+use dfdl_value::{Simple, Value};
+use serde_json::{Map, Value as Json};
+use std::alloc::{AllocError, Global};
+use std::collections::VecDeque;
+
+// What is to be done next: the element of this row is read, or the innermost open element ends.
+#[derive(Clone, Copy, Drop)]
+pub(crate) enum Task {
+    Read(RowId),
+    Close,
+}
+
+// What is left to be read, with the content of each element that is, the elements around it, and what was found so far.
+#[derive(Drop)]
+pub(crate) struct Reading<'t, 'v> {
+    tasks: VecDeque<Task>,
+    contents: VecDeque<&'v Json>,
+    around: OpenElements<'t>,
+    found: Found,
+}
+
+impl<'t, 'v> Reading<'t, 'v> {
+    // The reading of the root element, whose row this is.
+    pub(crate) fn new(
+        alloc: Global,
+        row: RowId,
+        content: &'v Json,
+    ) -> Result<Reading<'t, 'v>, AllocError>
+        ensures { IfOk result (λ reading. (t : Table) → all_found t reading
+            ≡ fold noted (record { events = []; refused = None }) (findings t row (view content.now) [] ++ [])) }
+    {
+        let mut tasks = VecDeque::new(alloc);
+        tasks.push_front(Task::Read(row))?;
+        let mut contents = VecDeque::new(alloc);
+        contents.push_front(content)?;
+        Ok(Reading {
+            tasks,
+            contents,
+            around: OpenElements::new(alloc),
+            found: Found::new(alloc),
+        })
+    }
+
+    // Reads all that is left.
+    pub(crate) fn run(&mut self, alloc: Global, terms: &'t Terms) -> Result<(), AllocError>
+        ensures { OnOk result (self.new.found ≡ all_found terms.now self.old) }
+    {
+        while let Some(task) = self.tasks.pop_front() {
+            self.perform(alloc, terms, task)?;
+        }
+        Ok(())
+    }
+
+    // What was found.
+    pub(crate) fn found(self) -> Found
+        ensures { result ≡ self.entry.found }
+    {
+        self.found
+    }
+
+    // Does a task that stood before the others, or puts others in its place.
+    fn perform(&mut self, alloc: Global, terms: &'t Terms, task: Task) -> Result<(), AllocError>
+        ensures same { OnOk result (all_found terms.now self.new
+            ≡ fold noted self.old.found (coming terms.now (task ∷ self.old.tasks.items) (data_at self.old.contents.items) self.old.around)) }
+        ensures less { OnOk result (steps_left terms.now self.new.tasks.items
+            < steps_left terms.now (task ∷ self.old.tasks.items)) }
+    {
+        match task {
+            Task::Read(row) => self.read(alloc, terms, row),
+            Task::Close => self.close(),
+        }
+    }
+
+    // The innermost open element ends.
+    fn close(&mut self) -> Result<(), AllocError>
+        ensures tasks { OnOk result (self.new.tasks.items ≡ self.old.tasks.items) }
+        ensures contents { OnOk result (self.new.contents.items ≡ self.old.contents.items) }
+        ensures names { OnOk result (self.new.around ≡ drop 1 self.old.around) }
+        ensures found { OnOk result (self.new.found ≡ noted self.old.found (Says End)) }
+    {
+        self.around.pop();
+        self.found.say(Event::End)
+    }
+
+    // Reads the element of this row, whose content is the next one.
+    fn read(&mut self, alloc: Global, terms: &'t Terms, row: RowId) -> Result<(), AllocError>
+        ensures same { OnOk result (all_found terms.now self.new
+            ≡ fold noted self.old.found (coming terms.now (Read row ∷ self.old.tasks.items) (data_at self.old.contents.items) self.old.around)) }
+        ensures less { OnOk result (steps_left terms.now self.new.tasks.items
+            < steps_of terms.now row + steps_left terms.now self.old.tasks.items) }
+    {
+        match self.contents.pop_front() {
+            Some(content) => self.read_content(alloc, terms, row, content),
+            None => Ok(()),
+        }
+    }
+
+    // Reads this content of the element of this row.
+    fn read_content(
+        &mut self,
+        alloc: Global,
+        terms: &'t Terms,
+        row: RowId,
+        content: &'v Json,
+    ) -> Result<(), AllocError>
+        ensures same { OnOk result (all_found terms.now self.new
+            ≡ fold noted self.old.found (findings terms.now row (view content.now) self.old.around
+            ++ coming terms.now self.old.tasks.items (data_at self.old.contents.items) self.old.around)) }
+        ensures less { OnOk result (steps_left terms.now self.new.tasks.items
+            < steps_of terms.now row + steps_left terms.now self.old.tasks.items) }
+    {
+        match row_at(terms, row) {
+            Some(Row::Elem { name, simple, body }) => match simple {
+                Some(kind) => self.read_simple(alloc, row, name.as_str(), *kind, content),
+                None => self.read_complex(alloc, terms, row, name.as_str(), *body, content),
+            },
+            Some(Row::Leaf { .. }) => Ok(()),
+            Some(Row::Group { .. }) => Ok(()),
+            None => Ok(()),
+        }
+    }
+
+    // Reads a simple element.
+    fn read_simple(
+        &mut self,
+        alloc: Global,
+        row: RowId,
+        name: &'t str,
+        kind: Simple,
+        content: &Json,
+    ) -> Result<(), AllocError>
+        ensures tasks { OnOk result (self.new.tasks.items ≡ self.old.tasks.items) }
+        ensures contents { OnOk result (self.new.contents.items ≡ self.old.contents.items) }
+        ensures names { OnOk result (self.new.around ≡ self.old.around) }
+        ensures found { OnOk result (self.new.found ≡ fold noted self.old.found
+            (simple_findings row (name.now ∷ self.old.around) (value_in kind (view content.now)))) }
+    {
+        self.around.push(name)?;
+        match read_member(alloc, kind, content)? {
+            Ok(value) => self.end_simple(row, value),
+            Err(cause) => self.end_refused(alloc, cause),
+        }
+    }
+
+    // The innermost open element has this value, and ends.
+    fn end_simple(&mut self, row: RowId, value: Value) -> Result<(), AllocError>
+        ensures tasks { OnOk result (self.new.tasks.items ≡ self.old.tasks.items) }
+        ensures contents { OnOk result (self.new.contents.items ≡ self.old.contents.items) }
+        ensures names { OnOk result (self.new.around ≡ drop 1 self.old.around) }
+        ensures found { OnOk result (self.new.found ≡ noted self.old.found (Says (SimpleElement row value))) }
+    {
+        self.around.pop();
+        self.found.say(Event::Simple { elem: row, value })
+    }
+
+    // The innermost open element is refused, and ends.
+    fn end_refused(&mut self, alloc: Global, cause: InfosetCause) -> Result<(), AllocError>
+        ensures tasks { OnOk result (self.new.tasks.items ≡ self.old.tasks.items) }
+        ensures contents { OnOk result (self.new.contents.items ≡ self.old.contents.items) }
+        ensures names { OnOk result (self.new.around ≡ drop 1 self.old.around) }
+        ensures found { OnOk result (self.new.found ≡ noted self.old.found (refused cause self.old.around)) }
+    {
+        let level = self.around.depth().saturating_sub(1);
+        self.found.refuse(alloc, level, cause, &self.around)?;
+        self.around.pop();
+        Ok(())
+    }
+
+    // Reads a complex element.
+    fn read_complex(
+        &mut self,
+        alloc: Global,
+        terms: &'t Terms,
+        row: RowId,
+        name: &'t str,
+        body: RowId,
+        content: &'v Json,
+    ) -> Result<(), AllocError>
+        ensures same { OnOk result (all_found terms.now self.new
+            ≡ fold noted self.old.found (complex_findings terms.now (findings terms.now) row
+            (children.elements_in terms.now body) (name.now ∷ self.old.around) (view content.now)
+            ++ coming terms.now self.old.tasks.items (data_at self.old.contents.items) self.old.around)) }
+        ensures less { OnOk result (steps_left terms.now self.new.tasks.items
+            < 2 + steps_of terms.now body + steps_left terms.now self.old.tasks.items) }
+    {
+        self.around.push(name)?;
+        match content {
+            Json::Object(members) => self.begin(alloc, terms, row, body, members),
+            Json::Null => self.end_refused(alloc, InfosetCause::NullNotAllowed),
+            _ => self.end_refused(alloc, InfosetCause::ObjectExpected),
+        }
+    }
+
+    // The innermost open element begins, and its members are read next.
+    fn begin(
+        &mut self,
+        alloc: Global,
+        terms: &Terms,
+        row: RowId,
+        body: RowId,
+        members: &'v Map<String, Json>,
+    ) -> Result<(), AllocError>
+        ensures names { OnOk result (self.new.around ≡ self.old.around) }
+        ensures found { OnOk result (self.new.found ≡ fold noted self.old.found (Says (Start row)
+            ∷ unknown_findings terms.now (children.elements_in terms.now body) self.old.around (members_view members.now.entries))) }
+        ensures coming { OnOk result ((names : Names) → coming terms.now self.new.tasks.items (data_at self.new.contents.items) names
+            ≡ children_findings terms.now (findings terms.now) (children.elements_in terms.now body) names (members_view members.now.entries)
+            ++ Says End ∷ coming terms.now self.old.tasks.items (data_at self.old.contents.items) (drop 1 names)) }
+        ensures less { OnOk result (steps_left terms.now self.new.tasks.items
+            < 2 + steps_of terms.now body + steps_left terms.now self.old.tasks.items) }
+    {
+        self.found.say(Event::Start { elem: row })?;
+        let elements = elements_in(alloc, terms, body)?;
+        self.check_known(alloc, terms, &elements, members)?;
+        self.tasks.push_front(Task::Close)?;
+        self.push_members(terms, &elements, members)
+    }
+
+    // The innermost open element is refused where a member has the name of none of these elements.
+    fn check_known(
+        &mut self,
+        alloc: Global,
+        terms: &Terms,
+        elements: &[RowId],
+        members: &Map<String, Json>,
+    ) -> Result<(), AllocError>
+        ensures tasks { OnOk result (self.new.tasks.items ≡ self.old.tasks.items) }
+        ensures contents { OnOk result (self.new.contents.items ≡ self.old.contents.items) }
+        ensures names { OnOk result (self.new.around ≡ self.old.around) }
+        ensures found { OnOk result (self.new.found ≡ fold noted self.old.found
+            (unknown_findings terms.now elements.now self.old.around (members_view members.now.entries))) }
+    {
+        if are_known(alloc, terms, elements, members)? {
+            return Ok(());
+        }
+        let level = self.around.depth();
+        self.found
+            .refuse(alloc, level, InfosetCause::UnknownMember, &self.around)
+    }
+
+    // Puts those of these elements that have a member before the other tasks.
+    fn push_members(
+        &mut self,
+        terms: &Terms,
+        elements: &[RowId],
+        members: &'v Map<String, Json>,
+    ) -> Result<(), AllocError>
+        ensures names { OnOk result (self.new.around ≡ self.old.around) }
+        ensures found { OnOk result (self.new.found ≡ self.old.found) }
+        ensures coming { OnOk result ((names : Names) → coming terms.now self.new.tasks.items (data_at self.new.contents.items) names
+            ≡ children_findings terms.now (findings terms.now) elements.now names (members_view members.now.entries)
+            ++ coming terms.now self.old.tasks.items (data_at self.old.contents.items) names) }
+        ensures few { OnOk result (steps_left terms.now self.new.tasks.items
+            ≤ total (map (steps_of terms.now) elements.now) + steps_left terms.now self.old.tasks.items) }
+    {
+        for at in (0..elements.len()).rev() {
+            let row = elements[at];
+            if let Some(content) = member_of(members, name_of(terms, row)) {
+                self.tasks.push_front(Task::Read(row))?;
+                self.contents.push_front(content)?;
+            }
+        }
+        Ok(())
+    }
+}

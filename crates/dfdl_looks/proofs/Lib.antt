@@ -1,0 +1,6 @@
+pub mod Seeing
+pub mod Resumed
+pub mod Stretches
+pub mod Costs
+pub mod Waiting
+pub mod Stretched

@@ -1,0 +1,192 @@
+-- Steps of the parser, one after another, over all data at once.
+use Rattle.std.proofs.Common.{◌≡◌, ℕ, ◌+◌, ◌-◌, ◌*◌, ◌/◌, ◌<◌, ◌≤◌, max, refl, List, ◌++◌, length, get_or, Bool, true, false, ap, sym, subst, ◌∙◌, arith, length-append}
+use Rattle.std.specs.Prelude.{replicate}
+use Rattle.std.proofs.lemmas.List.{length-replicate, get_or-append-add}
+use Rattle.dfdl_bits.specs.Window.{Held, end_of, room_of}
+use Rattle.dfdl_terms.specs.Rows.{Table, Nests}
+use Rattle.dfdl_looks.specs.Looks.{Agrees}
+use Rattle.dfdl_looks.specs.Tallies.{first_of, plus}
+use Rattle.dfdl_grammar.specs.States.{Input}
+use Rattle.dfdl_grammar.specs.Outcomes.{Outcome, spend}
+use Rattle.dfdl_grammar.proofs.Spending.{spend-spend}
+use Rattle.dfdl_parse.specs.declared.parser.Parser.{Parser}
+use Rattle.dfdl_parse.specs.Machines.{HasEnded, Machine, Move, step}
+use Rattle.dfdl_parse.specs.Ahead.{ahead}
+use Rattle.dfdl_parse.specs.Shown.{shown, state_of}
+use Rattle.dfdl_parse.specs.Steps.{Moved}
+use Rattle.dfdl_parse.specs.Runs.{Runs}
+use Rattle.dfdl_parse.specs.Running.{Advanced, Slid, Waited}
+use Rattle.dfdl_parse.proofs.Ahead.{Does, Fits, step-ahead}
+use Rattle.dfdl_parse.proofs.Advances.{Keeps, step-keeps, step-waits}
+use Rattle.dfdl_parse.proofs.Falls.{measure, smaller}
+
+tail_none : (a b : ℕ) → a ≡ 0 → b ≡ 0 → first_of a b ≡ 0
+tail_none a b first second = ap (λ (n : ℕ). first_of n b) first ∙ second
+
+tail_last : (a b c : ℕ) → a ≡ 0 → b ≡ c → first_of a b ≡ c
+tail_last a b c first second = ap (λ (n : ℕ). first_of n b) first ∙ second
+
+within : (at end : ℕ) → at ≤ 8 * end → at / 8 ≤ end
+within at end few = omega arith
+
+same_number : (n : ℕ) → n ≤ n
+same_number n = omega arith
+
+module _ (table : Table) (nests : Nests table.rows) (old new : Parser) (before after : Held) (looks_made : ℕ)
+    (low : before.base ≤ old.at / 8) (at : old.at ≤ 8 * end_of before) where
+  abbrev move : Move
+  move = step old.region.most table before old.focus old.stack (state_of old)
+
+  fits : (input : Input) → Agrees before input.bytes → before.size ≡ input.limits.window → Fits before input (state_of old)
+  fits input agrees size = record { agrees = agrees; size = size; base = low; end = within old.at (end_of before) at; low = same_number (old.at / 8) }
+
+  does : (input : Input) → input.limits.nodes ≡ old.region.most → Fits before input (state_of old) → move.waits ≡ false
+      → Does input table (ahead input table (shown old)) move
+  does input most fit =
+      subst (λ (n : ℕ). (step n table before old.focus old.stack (state_of old)).waits ≡ false
+      → Does input table (ahead input table (shown old)) (step n table before old.focus old.stack (state_of old))) most
+      (step-ahead input table nests before old.focus old.stack (state_of old) fit)
+
+  keeps : Keeps before move
+  keeps = step-keeps before (state_of old) low (within old.at (end_of before) at) (same_number (old.at / 8)) old.region.most table old.focus old.stack
+
+  pub advance : Moved move false old.far new after looks_made → Advanced table old new before after looks_made
+  advance moved =
+      let slid : Slid before after = subst (λ (h : Held). Slid before h) (sym moved.held) keeps.slid in
+      record {
+        slid = slid;
+        runs = λ input root spent most runs.
+            let fit : Fits before input (state_of old) = fits input runs.agrees runs.size in
+            let done : ahead input table (shown old) ≡ spend move.tally (ahead input table move.machine) = does input most fit (sym moved.waits) in
+            let looks = runs.looks in
+            let far = runs.far in
+            let grows : new.far ≡ max old.far move.tally.far = moved.far refl in
+            let made : looks_made ≡ move.tally.looks = moved.looks in
+            record {
+              spent = plus runs.spent move.tally;
+              same = runs.same ∙ ap (spend runs.spent) done ∙ spend-spend runs.spent move.tally (ahead input table move.machine)
+                  ∙ ap (λ (m : Machine). spend (plus runs.spent move.tally) (ahead input table m)) (sym moved.machine);
+              looks = omega arith;
+              far = omega arith;
+              found = λ on.
+                  let on_before : before.ended ≡ false = sym slid.ended ∙ on in
+                  let found = runs.found on_before in
+                  let seen : move.tally.far ≤ end_of before = keeps.far on_before in
+                  let ends : end_of after ≡ end_of before = slid.end in
+                  let most_far : old.far ≤ end_of before = found.1 in
+                  (tail_none runs.spent.tail move.tally.tail found.0 (keeps.tail on_before), omega arith);
+              agrees = subst (λ (h : Held). Agrees h input.bytes) (sym moved.held) (keeps.agrees input.bytes runs.agrees);
+              size = slid.size ∙ runs.size;
+            };
+      }
+
+  pub still_agrees : (waited : Bool) → Moved move waited old.far new after looks_made → (whole : List ℕ) → Agrees before whole → Agrees after whole
+  still_agrees waited moved whole agrees = subst (λ (h : Held). Agrees h whole) (sym moved.held) (keeps.agrees whole agrees)
+
+  pub wait : Moved move true old.far new after looks_made → Waited table old new before after looks_made
+  wait moved =
+      let slid : Slid before after = subst (λ (h : Held). Slid before h) (sym moved.held) keeps.slid in
+      let waits = step-waits table old.region.most before (state_of old) low (within old.at (end_of before) at) (same_number (old.at / 8)) old.focus old.stack (sym moved.waits) in
+      let same_machine : shown new ≡ shown old = moved.machine ∙ waits.machine in
+      let stays : new.far ≡ old.far = moved.stays refl in
+      record {
+        vain = looks_made;
+        few = same_number looks_made;
+        ended = waits.on;
+        room = subst (λ (h : Held). 0 < room_of h) (sym moved.held) waits.room;
+        advanced = record {
+          slid = slid;
+          runs = λ input root spent most runs.
+              let looks = runs.looks in
+              record {
+                spent = runs.spent;
+                same = runs.same ∙ ap (λ (m : Machine). spend runs.spent (ahead input table m)) (sym same_machine);
+                looks = omega arith;
+                far = runs.far ∙ sym stays;
+                found = λ on.
+                    let found = runs.found waits.on in
+                    let ends : end_of after ≡ end_of before = slid.end in
+                    let most_far : old.far ≤ end_of before = found.1 in
+                    (found.0, omega arith);
+                agrees = subst (λ (h : Held). Agrees h input.bytes) (sym moved.held) (keeps.agrees input.bytes runs.agrees);
+                size = slid.size ∙ runs.size;
+              };
+        };
+        missed = λ input root spent most runs all.
+            let lost = waits.missed input (fits input runs.agrees runs.size) all in
+            let found = runs.found waits.on in
+            let far_is : root.tally.far ≡ max runs.spent.far (ahead input table (shown old)).tally.far = ap (λ (o : Outcome). o.tally.far) runs.same in
+            let far : end_of before < (ahead input table (shown old)).tally.far = lost.1 in (
+              omega arith,
+              ap (λ (o : Outcome). o.tally.tail) runs.same
+                  ∙ tail_last runs.spent.tail (ahead input table (shown old)).tally.tail move.tally.looks found.0 lost.0 ∙ sym moved.looks,
+            );
+      }
+
+pub stay : (table : Table) (p : Parser) (held : Held) (n : ℕ) → Advanced table p p held held (n - n)
+stay table p held n = record {
+  slid = record { size = refl; ended = refl; end = refl; base = omega arith };
+  runs = λ input root spent most runs. let none : spent ≡ spent + (n - n) = omega arith in
+      subst (λ (m : ℕ). Runs input table root (shown p) held m p.far) none runs;
+}
+
+both_slid : (first second third : Held) → Slid first second → Slid second third → Slid first third
+both_slid first second third one two =
+    let low = one.base in
+    let more = two.base in
+    record { size = two.size ∙ one.size; ended = two.ended ∙ one.ended; end = two.end ∙ one.end; base = omega arith }
+
+-- one part and then another, where the looks are those of both
+pub go_further : (table : Table) (a b c : Parser) (first second third : Held) (n m all : ℕ) → b.region.most ≡ a.region.most → all ≡ n + m
+    → Advanced table a b first second n → Advanced table b c second third m → Advanced table a c first third all
+go_further table a b c first second third n m all most sum one two = record {
+  slid = both_slid first second third one.slid two.slid;
+  runs = λ input root spent nodes runs.
+      let place : spent + n + m ≡ spent + all = omega arith in
+      subst (λ (looks : ℕ). Runs input table root (shown c) third looks c.far) place
+      (two.runs input root (spent + n) (nodes ∙ sym most) (one.runs input root spent nodes runs));
+}
+
+-- and then a part that waits
+pub go_and_wait : (table : Table) (a b c : Parser) (first second third : Held) (n m all : ℕ) → b.region.most ≡ a.region.most → all ≡ n + m
+    → Advanced table a b first second n → Waited table b c second third m → Waited table a c first third all
+go_and_wait table a b c first second third n m all most sum one two =
+    let few = two.few in
+    record {
+      vain = two.vain;
+      few = omega arith;
+      advanced = go_further table a b c first second third n (m - two.vain) (all - two.vain) most (omega arith) one two.advanced;
+      ended = sym one.slid.ended ∙ two.ended;
+      room = two.room;
+      missed = λ input root spent nodes runs whole.
+          let lost = two.missed input root (spent + n) (nodes ∙ sym most) (one.runs input root spent nodes runs) (whole ∙ sym one.slid.end) in
+          (subst (λ (e : ℕ). e < root.tally.far) one.slid.end lost.0, lost.1);
+    }
+
+-- some data that the window agrees with: the bytes that it gave up are zeros
+abbrev pub padded : Held → List ℕ
+padded held = replicate held.base 0 ++ held.bytes
+
+pub agrees_padded : (held : Held) → Agrees held (padded held)
+agrees_padded held =
+    let zeros : length (replicate held.base 0) ≡ held.base = length-replicate held.base 0 in
+    let size = length-append (replicate held.base 0) held.bytes in
+    record {
+      bytes = λ i less. sym (subst (λ (b : ℕ). get_or (padded held) (b + i) 0 ≡ get_or held.bytes i 0) zeros (get_or-append-add (replicate held.base 0) held.bytes i 0));
+      within = omega (arith, zeros, size);
+      all = λ ended. omega (arith, zeros, size);
+    }
+
+-- a step over the data of the window leaves less to be done
+pub step-smaller : (table : Table) → Nests table.rows → (old new : Parser) (before after : Held) (looks_made : ℕ) (input : Input)
+    → before.base ≤ old.at / 8 → old.at ≤ 8 * end_of before → input.limits.nodes ≡ old.region.most → before.size ≡ input.limits.window → Agrees before input.bytes
+    → (HasEnded old.focus old.stack → ⊥)
+    → Moved (step old.region.most table before old.focus old.stack (state_of old)) false old.far new after looks_made
+    → measure input table (shown new) < measure input table (shown old)
+step-smaller table nests old new before after looks_made input low at most size agrees on moved =
+    let fit : Fits before input (state_of old) =
+    record { agrees = agrees; size = size; base = low; end = within old.at (end_of before) at; low = same_number (old.at / 8) } in
+    let less = subst (λ (n : ℕ). (step n table before old.focus old.stack (state_of old)).waits ≡ false
+    → measure input table (step n table before old.focus old.stack (state_of old)).machine < measure input table (shown old)) most
+    (smaller input table nests before old.focus old.stack (state_of old) fit on) in
+    subst (λ (m : Machine). measure input table m < measure input table (shown old)) (sym moved.machine) (less (sym moved.waits))

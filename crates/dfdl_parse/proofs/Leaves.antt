@@ -1,0 +1,101 @@
+-- The reading of an integer's leaf, by a run of bytes that are seen.
+use Rattle.std.proofs.Common.{◌≡◌, ℕ, zero, suc, ◌+◌, ◌-◌, ◌/◌, ◌%◌, ◌<◌, ◌≤◌, refl, List, [], ◌∷◌, ◌++◌, length, get_or, max, Option, None, Some, ap, sym, ◌∙◌, arith, zero-add}
+use Rattle.std.proofs.lemmas.List.{append-nil}
+use Rattle.dfdl_bits.specs.declared.window.Seen.{Seen}
+use Rattle.dfdl_bits.specs.declared.window.Seen.TheVariants.{Byte, End, NotYet, Over}
+use Rattle.dfdl_forms.specs.declared.binary.IntForm.{IntForm}
+use Rattle.dfdl_terms.specs.declared.row.Primitive.TheVariants.{Integer}
+use Rattle.dfdl_region.specs.declared.node.Content.{Content}
+use Rattle.dfdl_region.specs.declared.node.Content.TheVariants.{Unsigned}
+use Rattle.dfdl_forms.specs.Types.{form_of}
+use Rattle.dfdl_forms.specs.declared.simple.Form.{Form}
+use Rattle.dfdl_int_binary.specs.Integers.{field_of, value_in}
+use Rattle.dfdl_looks.specs.Asks.{Ask, Answer, ask, look_at, Reading, Told}
+use Rattle.dfdl_looks.specs.Tallies.{nothing, Tally, saw_end}
+use Rattle.dfdl_looks.proofs.Resumed.{on_seen}
+use Rattle.dfdl_looks.proofs.Stretches.{after, after-looks, after-far, ask-stretch}
+use Rattle.dfdl_grammar.specs.Leaves.{IsUnsignedForm, Find, DataEnd, Finds, bytes_spanned, content_of, integer_in, program}
+use Rattle.dfdl_parse.specs.declared.leaf.Found.TheVariants.{Reads}
+use Rattle.dfdl_parse.specs.declared.leaf.Glance.{Glance}
+use Rattle.dfdl_parse.specs.Steps.{Answers, CutShort, far_of_run, found_shown}
+
+-- a stretch from the first byte on has seen as far as its last byte
+stretch-far : (k : ℕ) (bytes : List ℕ) → (after k bytes nothing).far ≡ far_of_run k (length bytes)
+stretch-far k [] = refl
+stretch-far k (byte ∷ bytes) = let far = after-far k byte bytes nothing in omega arith
+
+-- it has seen no further than its end
+far-most : (k n : ℕ) → far_of_run k n ≤ k + n
+far-most k zero = omega arith
+far-most k (suc n) = omega arith
+
+-- the readings of a leaf, and what they are told by
+told : (reading : Reading Find) (bits k n looks : ℕ) (t : Tally) (glance : Glance) (s : Seen) (go : Option ℕ → Ask Find) (look : ℕ → Seen)
+    → go None ≡ Answer DataEnd → t.looks ≡ n → t.far ≡ far_of_run k n → looks ≡ n + 1 → CutShort s k n glance
+    → reading ≡ on_seen look go (k + n) t s → Answers reading bits glance looks
+told reading bits k n looks t glance (Byte byte) go look none count far cost short is = absurd short
+told reading bits k n looks t glance End go look none count far cost short is =
+    let whole : reading ≡ record { reached = Told DataEnd; tally = saw_end (k + n) t } = is ∙ ap (λ (a : Ask Find). ask look a (saw_end (k + n) t)) none in
+    let most = far-most k n in
+    let looks_are : reading.tally.looks ≡ t.looks + 1 = ap (λ (r : Reading Find). r.tally.looks) whole in
+    let far_is : reading.tally.far ≡ max t.far (k + n + 1) = ap (λ (r : Reading Find). r.tally.far) whole in
+    let glance_far : glance.far ≡ k + n + 1 = short.1 in
+    record {
+      reached = ap (λ (r : Reading Find). r.reached) whole ∙ sym (ap (found_shown bits) short.0);
+      looks = omega arith;
+      far = omega arith;
+    }
+told reading bits k n looks t glance NotYet go look none count far cost short is =
+    let looks_are : reading.tally.looks ≡ t.looks + 1 = ap (λ (r : Reading Find). r.tally.looks) is in
+    record {
+      reached = ap (λ (r : Reading Find). r.reached) is ∙ sym (ap (found_shown bits) short.0);
+      looks = omega arith;
+      far = ap (λ (r : Reading Find). r.tally.far) is ∙ far ∙ sym short.1;
+    }
+told reading bits k n looks t glance Over go look none count far cost short is =
+    let looks_are : reading.tally.looks ≡ t.looks + 1 = ap (λ (r : Reading Find). r.tally.looks) is in
+    record {
+      reached = ap (λ (r : Reading Find). r.reached) is ∙ sym (ap (found_shown bits) short.0);
+      looks = omega arith;
+      far = ap (λ (r : Reading Find). r.tally.far) is ∙ far ∙ sym short.1;
+    }
+
+module _ (look : ℕ → Seen) (form : IntForm) (bit : ℕ) (bytes : List ℕ)
+    (seen : (i : ℕ) → i < length bytes → look (bit / 8 + i) ≡ Byte (get_or bytes i 0)) where
+  -- the looks of the leaf behind the stretch
+  pub cut_read : length bytes < bytes_spanned bit form.bits → (glance : Glance) → CutShort (look (bit / 8 + length bytes)) (bit / 8) (length bytes) glance
+      → (looks : ℕ) → looks ≡ length bytes + 1
+      → Answers (ask look (program (Integer form) bit) nothing) form.bits glance looks
+  cut_read fewer glance short looks cost =
+      let go : List ℕ → Find = integer_in form bit in
+      let rest : ℕ = bytes_spanned bit form.bits - length bytes - 1 in
+      let all : bytes_spanned bit form.bits ≡ length bytes + suc rest = omega arith in
+      let next : ℕ = bit / 8 + length bytes in
+      told (ask look (program (Integer form) bit) nothing) form.bits (bit / 8) (length bytes) looks (after (bit / 8) bytes nothing) glance (look next)
+      (λ o. elim o [ None ↦ Answer DataEnd | Some b ↦ look_at rest (next + 1) DataEnd (λ more. go (bytes ++ (b ∷ more))) ]) look
+      refl (after-looks (bit / 8) bytes nothing ∙ zero-add (length bytes)) (stretch-far (bit / 8) bytes) cost short
+      (ask-stretch look bytes (bytes_spanned bit form.bits) (suc rest) (bit / 8) next DataEnd go nothing seen all refl)
+
+  -- the leaf whose bytes are the stretch
+  pub whole_read : IsUnsignedForm form → bytes_spanned bit form.bits ≡ length bytes → (number : ℕ) → number ≡ field_of form bytes (bit % 8)
+      → (far : ℕ) → far ≡ bit / 8 + length bytes → (looks : ℕ) → looks ≡ length bytes
+      → Answers (ask look (program (Integer form) bit) nothing) form.bits (record { found = Reads (Unsigned number); far = far }) looks
+  whole_read unsigned all number number_is far far_is looks cost =
+      let go : List ℕ → Find = integer_in form bit in
+      let none : bytes_spanned bit form.bits ≡ length bytes + 0 = omega arith in
+      let ends : ask look (program (Integer form) bit) nothing ≡ record { reached = Told (go (bytes ++ [])); tally = after (bit / 8) bytes nothing } =
+      ask-stretch look bytes (bytes_spanned bit form.bits) 0 (bit / 8) (bit / 8 + length bytes) DataEnd go nothing seen none refl in
+      let some = unsigned.some in
+      let longer : 0 < length bytes = omega arith in
+      let content : content_of (value_in (form_of form.kind) form.bits form.point (field_of form bytes (bit % 8))) ≡ Unsigned number =
+      ap (λ (f : Form). content_of (value_in f form.bits form.point (field_of form bytes (bit % 8)))) unsigned.kind ∙ ap Unsigned (sym number_is) in
+      record {
+        reached = ap (λ (r : Reading Find). r.reached) ends ∙ ap (λ (bs : List ℕ). Told (go bs)) (append-nil bytes)
+            ∙ ap (λ (c : Content). Told (Finds c form.bits)) content;
+        looks = ap (λ (r : Reading Find). r.tally.looks) ends ∙ after-looks (bit / 8) bytes nothing ∙ zero-add (length bytes) ∙ sym cost;
+        far = ap (λ (r : Reading Find). r.tally.far) ends ∙ stretch-far (bit / 8) bytes ∙ far-some (bit / 8) (length bytes) longer ∙ sym far_is;
+      }
+    where
+      far-some : (k n : ℕ) → 0 < n → far_of_run k n ≡ k + n
+      far-some k zero some = absurd (omega arith)
+      far-some k (suc n) some = refl

@@ -1,0 +1,11 @@
+pub mod Windows
+pub mod Leaves
+pub mod Lists
+pub mod Ahead
+pub mod Falls
+pub mod Advances
+pub mod Goes
+pub mod Feeds
+pub mod Fed
+pub mod Unsigned
+pub mod Paths

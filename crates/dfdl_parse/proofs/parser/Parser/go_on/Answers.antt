@@ -1,0 +1,11 @@
+use Rattle.std.proofs.Common.{false, subst, sym}
+use Rattle.dfdl_parse.specs.Machines.{leave_done}
+use Rattle.dfdl_parse.specs.Steps.{Moved}
+use Rattle.dfdl_parse.specs.Shown.{state_of}
+use Rattle.dfdl_parse.specs.declared.frame.Frame.{Frame}
+use Rattle.dfdl_parse.proofs.parser.Parser.go_on.Goals as goal
+
+pub returns-in-Element-clause-moved : goal.returns-in-Element-clause-moved
+returns-in-Element-clause-moved c held =
+    subst (λ (f : Frame). Moved (leave_done c.args.terms.now held f c.args.self.now.stack (state_of c.args.self.now)) false c.args.self.now.far c.close.new.self held 0)
+    (sym c.in-Element.is) (c.close.ensures.moved held)

@@ -1,0 +1,23 @@
+use Rattle.std.proofs.Common.{◌≡◌, ◌-◌, ◌*◌, ◌/◌, ◌≤◌}
+use Rattle.dfdl_bits.specs.Window.{end_of}
+use Rattle.dfdl_looks.specs.Looks.{Agrees}
+use Rattle.dfdl_parse.specs.Running.{Advanced}
+use Rattle.dfdl_parse.specs.Shown.{shown}
+use Rattle.dfdl_parse.proofs.Falls.{measure}
+use Rattle.dfdl_parse.proofs.Goes.{padded}
+use Rattle.dfdl_parse.proofs.run.run.Given as goal
+
+abbrev pub invariant-steps : goal.invariant-steps
+invariant-steps g l = record {
+  low : l.sight.base ≤ l.parser.at / 8;
+  at : l.parser.at ≤ 8 * end_of l.sight;
+  most : l.parser.region.most ≡ l.fn.parser.region.most;
+  steps : l.fn.steps ≤ l.steps;
+  gone : Advanced l.terms l.fn.parser l.parser l.fn.sight l.sight (l.steps - l.fn.steps);
+  agrees : Agrees l.sight (padded l.fn.sight);
+}
+
+abbrev pub decreases-steps : goal.decreases-steps
+decreases-steps g l = measure
+    (record { bytes = padded l.fn.sight; limits = record { window = l.fn.sight.size; nodes = l.fn.parser.region.most } })
+    l.terms (shown l.parser)

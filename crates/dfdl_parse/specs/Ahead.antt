@@ -1,0 +1,31 @@
+-- What is still ahead of the machine over whole data.
+use Rattle.std.specs.Prelude.{List, [], ◌∷◌, drop, slice_get}
+use Rattle.dfdl_terms.specs.Rows.{Table}
+use Rattle.dfdl_grammar.specs.States.{Input, State}
+use Rattle.dfdl_grammar.specs.Outcomes.{Outcome, ended, then_do}
+use Rattle.dfdl_grammar.specs.Elements.{close}
+use Rattle.dfdl_grammar.specs.Rows.{below, group, meaning}
+use Rattle.dfdl_parse.specs.declared.frame.Frame.{Frame}
+use Rattle.dfdl_parse.specs.declared.frame.Frame.TheVariants.{Rest, Element}
+use Rattle.dfdl_parse.specs.declared.frame.Focus.{Focus}
+use Rattle.dfdl_parse.specs.declared.frame.Focus.TheVariants.{Enter, Leave}
+use Rattle.dfdl_parse.specs.Machines.{Machine, children_of}
+
+-- what a frame makes of the outcome of the row before it
+abbrev pub resume : Input → Table → Frame → Outcome → Outcome
+resume input table (Rest id next) o = then_do o (group (below input table id) (drop next (children_of (slice_get table.rows id))))
+resume input table (Element outer complex) o = close o.end outer complex o
+
+-- what a stack makes of the outcome of the row before it
+unfoldable pub finish : Input → Table → List Frame → Outcome → Outcome
+finish input table [] o = o
+finish input table (frame ∷ k) o = finish input table k (resume input table frame o)
+
+-- the outcome of what is done next
+abbrev pub focused : Input → Table → Focus → State → Outcome
+focused input table (Enter id) s = meaning input table id s
+focused input table (Leave end) s = ended end s
+
+-- the outcome of the whole
+abbrev pub ahead : Input → Table → Machine → Outcome
+ahead input table m = finish input table m.stack (focused input table m.focus m.state)

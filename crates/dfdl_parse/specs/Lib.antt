@@ -1,0 +1,10 @@
+pub mod Reads
+pub mod Machines
+pub mod Answers
+pub mod Shown
+pub mod Steps
+pub mod Ahead
+pub mod Runs
+pub mod Running
+pub mod Sessions
+pub mod Named

@@ -1,0 +1,20 @@
+use dfdl_grammar::End;
+use dfdl_terms::RowId;
+
+/// What is left to be done behind a row.
+#[derive(Debug, Clone, Copy, PartialEq, Eq)]
+pub enum Frame {
+    /// The children of a group from this one on.
+    Rest { group: RowId, next: usize },
+    /// An element ends, and the one of this number is the innermost open one again.
+    Element { outer: u32, complex: bool },
+}
+
+/// What is done next.
+#[derive(Debug, Clone, Copy, PartialEq, Eq)]
+pub enum Focus {
+    /// A row begins.
+    Enter(RowId),
+    /// A row has ended.
+    Leave(End),
+}

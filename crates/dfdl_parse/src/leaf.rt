@@ -1,0 +1,108 @@
+// The content of a leaf, by looks at the bytes that its bits lie in.
+ghost use Rattle.std.specs.Prelude.{◌≡◌, ℕ, ◌+◌, ◌-◌, ◌*◌, ◌/◌, ◌%◌, ◌^◌, ◌<◌, ◌≤◌, length};
+ghost use Rattle.dfdl_bits.specs.Window.{end_of, seen_at};
+ghost use Rattle.dfdl_forms.specs.declared.binary.IntForm.{IntForm};
+ghost use Rattle.dfdl_terms.specs.declared.row.Primitive.TheVariants.{Integer};
+ghost use Rattle.dfdl_grammar.specs.Leaves.{IsUnsignedForm, bytes_spanned, program};
+ghost use Rattle.dfdl_looks.specs.Asks.{ask};
+ghost use Rattle.dfdl_looks.specs.Tallies.{nothing};
+ghost use Rattle.dfdl_bits.specs.declared.window.Seen.TheVariants.{Byte};
+ghost use Rattle.dfdl_parse.specs.Steps.{Answers, CutShort, IsWithin, far_of_run};
+
+use dfdl_bits::{Seen, Steps, Window, number_at};
+use dfdl_forms::IntForm;
+use dfdl_region::Content;
+use std::sync::ledger::Ledger;
+
+/// What a leaf comes to.
+#[derive(Debug, Clone, Copy, PartialEq, Eq)]
+pub(crate) enum Found {
+    /// Its content.
+    Reads(Content),
+    /// The data end in it.
+    Ends,
+    /// A byte of it is too far from the first that is still needed.
+    Past,
+    /// A byte of it hasn't come.
+    NotYet,
+}
+
+/// What a leaf comes to, and the greatest byte that it has seen or missed, plus one.
+#[derive(Debug, Clone, Copy, PartialEq, Eq)]
+pub(crate) struct Glance {
+    pub(crate) found: Found,
+    pub(crate) far: u64,
+}
+
+/// Reads an unsigned integer of at most 128 bits that begins at a bit.
+pub(crate) fn read_integer<L: Ledger>(
+    form: &IntForm,
+    bit: u64,
+    sight: &Window,
+    steps: &mut Steps<L>,
+) -> Glance
+    requires base { sight.now.base ≤ bit / 8 }
+    requires at { bit ≤ 8 * end_of sight.now }
+    requires bound { end_of sight.now ≤ 2 ^ 60 }
+    requires unsigned { IsUnsignedForm form.now }
+    requires few { form.now.bits ≤ 128 }
+    ensures answers { Answers (ask (seen_at sight.now) (program (Integer form.now) bit) nothing) form.now.bits result (steps.new - steps.old) }
+    ensures steps { steps.old ≤ steps.new }
+    ensures within { IsWithin result.found (bit + form.now.bits) (end_of sight.now) }
+{
+    let first = bit / 8;
+    let count = spanned(bit, form.bits);
+    let run = sight.run(first, count, steps);
+    if run.len() < count {
+        return cut(first, run.len(), sight, steps);
+    }
+    let number = number_at(run, bit % 8, form.bits, form.bytes_by, form.bits_by);
+    Glance {
+        found: Found::Reads(Content::Unsigned(number)),
+        far: first + count as u64,
+    }
+}
+
+// What the look behind so many bytes of a leaf makes of it.
+fn cut<L: Ledger>(first: u64, count: usize, sight: &Window, steps: &mut Steps<L>) -> Glance
+    requires base { sight.now.base ≤ first }
+    requires bound { first + count ≤ 2 ^ 61 }
+    requires whole { (byte : ℕ) → seen_at sight.now (first + count) ≡ Byte byte → ⊥ }
+    ensures cut { CutShort (seen_at sight.now (first + count)) first count result }
+    ensures cost { steps.new ≡ steps.old + 1 }
+    ensures read { IsWithin result.found 1 0 }
+{
+    let next = first + count as u64;
+    match sight.look(next, steps) {
+        Seen::Byte(_) => unreachable!(),
+        Seen::End => Glance {
+            found: Found::Ends,
+            far: next + 1,
+        },
+        Seen::NotYet => Glance {
+            found: Found::NotYet,
+            far: far_of_run(first, count),
+        },
+        Seen::Over => Glance {
+            found: Found::Past,
+            far: far_of_run(first, count),
+        },
+    }
+}
+
+// How far a run of so many bytes has seen.
+fn far_of_run(first: u64, count: usize) -> u64
+    requires { first + count ≤ 2 ^ 61 }
+    ensures { result ≡ far_of_run first count }
+{
+    if count == 0 { 0 } else { first + count as u64 }
+}
+
+// How many bytes the bits of a leaf lie in.
+fn spanned(bit: u64, bits: u32) -> usize
+    requires { bits ≤ 128 }
+    ensures count { result ≡ bytes_spanned bit bits }
+    ensures few { result ≤ 17 }
+{
+    (bit % 8 + u64::from(bits)).div_ceil(8) as usize
+}

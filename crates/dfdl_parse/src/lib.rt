@@ -1,0 +1,24 @@
+//! The parser: a machine with a stack of its own, which reads the data while they come in pieces.
+//!
+//! The contracts of `Session` cite `document` of dfdl_grammar, what the rows of a schema mean over whole data: `feed`
+//! answers that it needs more exactly where the meaning of the bytes so far looks past their end, and comes to the meaning
+//! else. `StandsFor`, `Ends` and `Finished` (`specs/Sessions.antt`) say so. Serves 'Parsing Algorithm'.
+#![tactic(auto)]
+
+pub mod frame;
+mod leaf;
+mod outcome;
+pub mod parser;
+mod path;
+mod reads;
+mod run;
+pub mod session;
+pub mod stack;
+#[cfg(test)]
+mod tests;
+
+pub use dfdl_grammar::Limits;
+pub use dfdl_region::{Content, Node};
+pub use outcome::Outcome;
+pub use reads::reads_all;
+pub use session::Session;

@@ -1,0 +1,392 @@
+// The machine: what is done next, the stack, and the state.
+ghost use Rattle.std.specs.Prelude.{◌≡◌, length, ◌+◌, ◌-◌, ◌*◌, ◌/◌, ◌^◌, ◌<◌, ◌≤◌, ◌↔◌, ◌∷◌, [], ℕ, List, true, false, All, IfOk, IfSome, OnOk, IsTrue, Some, slice_get};
+ghost use Rattle.dfdl_bits.specs.Window.{Held, end_of};
+ghost use Rattle.dfdl_grammar.specs.Leaves.{IsUnsigned};
+ghost use Rattle.dfdl_terms.specs.Rows.{IsPrimitive};
+ghost use Rattle.dfdl_grammar.specs.declared.end.End.TheVariants.{Done};
+ghost use Rattle.dfdl_grammar.specs.Elements.{left};
+ghost use Rattle.dfdl_grammar.specs.Leaves.{Find};
+ghost use Rattle.dfdl_looks.specs.Asks.{Reading};
+ghost use Rattle.dfdl_looks.specs.Tallies.{nothing};
+ghost use Rattle.dfdl_parse.specs.Machines.{HasEnded, children_of, step, enter, enter_group, enter_element, read_leaf, read_move, leave, leave_done, go_on, pass};
+ghost use Rattle.dfdl_parse.specs.Answers.{answer_at, answer_of};
+ghost use Rattle.dfdl_parse.specs.Steps.{Answers, IsWithin, Moved};
+ghost use Rattle.dfdl_parse.specs.Shown.{state_of};
+
+use crate::frame::{Focus, Frame};
+use crate::leaf::{Found, Glance, read_integer};
+use crate::outcome::Outcome;
+use crate::stack::Stack;
+use dfdl_bits::{Steps, Window};
+use dfdl_forms::IntForm;
+use dfdl_grammar::End;
+use dfdl_region::{Content, Node, NodeRegion};
+use dfdl_report::{LimitCause, ParseCause};
+use dfdl_terms::{Primitive, Row, RowId, Terms};
+use std::alloc::{AllocError, Global};
+use std::sync::ledger::Ledger;
+
+// How many frames the stack has room for at first.
+const FRAMES: usize = 64;
+
+/// The machine over one document.
+#[derive(Drop)]
+pub struct Parser {
+    pub(crate) focus: Focus,
+    pub(crate) stack: Stack,
+    pub(crate) at: u64,
+    pub(crate) inside: u32,
+    pub(crate) region: NodeRegion,
+    pub(crate) far: u64,
+}
+
+impl Parser {
+    /// The machine before the root element's row, with the memory for so many elements.
+    pub(crate) fn open(alloc: Global, terms: &Terms, nodes: u32) -> Result<Parser, AllocError>
+        ensures focus { IfOk result (λ p. p.focus ≡ Focus.Enter (length terms.now.rows - 1)) }
+        ensures stack { IfOk result (λ p. p.stack ≡ []) }
+        ensures front { IfOk result (λ p. (p.at ≡ 0) × (p.inside ≡ 0) × (p.far ≡ 0)) }
+        ensures region { IfOk result (λ p. p.region ≡ record { nodes = []; most = nodes }) }
+    {
+        Ok(Parser {
+            focus: Focus::Enter(RowId::new(terms.rows() - 1)),
+            stack: Stack::open(alloc, FRAMES)?,
+            at: 0,
+            inside: 0,
+            region: NodeRegion::open(alloc, nodes)?,
+            far: 0,
+        })
+    }
+
+    /// What the machine has come to.
+    pub(crate) fn outcome(&self) -> Outcome
+        ensures { result ≡ answer_at self.now.focus self.now.stack }
+    {
+        let focus = self.focus;
+        match focus {
+            Focus::Enter(_) => Outcome::Open,
+            Focus::Leave(end) => {
+                if self.stack.is_empty() {
+                    answer_of(end)
+                } else {
+                    Outcome::Open
+                }
+            }
+        }
+    }
+
+    /// Whether nothing is left to be done.
+    pub(crate) fn has_ended(&self) -> bool
+        ensures { IsTrue result ↔ HasEnded self.now.focus self.now.stack }
+    {
+        match self.focus {
+            Focus::Enter(_) => false,
+            Focus::Leave(_) => self.stack.is_empty(),
+        }
+    }
+
+    /// Makes one step, and answers whether it waits for a byte.
+    pub(crate) fn step<L: Ledger>(
+        &mut self,
+        terms: &Terms,
+        sight: &mut Window,
+        steps: &mut Steps<L>,
+    ) -> Result<bool, AllocError>
+        requires base { sight.old.base ≤ self.old.at / 8 }
+        requires at { self.old.at ≤ 8 * end_of sight.old }
+        requires unsigned { All IsUnsigned terms.now.primitives }
+        ensures moved { IfOk result (λ waits. Moved
+            (step self.old.region.most terms.now sight.old self.old.focus self.old.stack (state_of self.old))
+            waits self.old.far self.new sight.new (steps.new - steps.old)) }
+        ensures steps { steps.old ≤ steps.new }
+        ensures most { OnOk result (self.new.region.most ≡ self.old.region.most) }
+        ensures low { OnOk result (sight.new.base ≤ self.new.at / 8) }
+        ensures at { OnOk result (self.new.at ≤ 8 * end_of sight.new) }
+    {
+        let focus = self.focus;
+        match focus {
+            Focus::Enter(id) => {
+                let waits = self.enter(terms, id, sight, steps)?;
+                Ok(waits)
+            }
+            Focus::Leave(end) => {
+                self.leave(terms, end)?;
+                Ok(false)
+            }
+        }
+    }
+
+    // A row begins.
+    fn enter<L: Ledger>(
+        &mut self,
+        terms: &Terms,
+        id: RowId,
+        sight: &mut Window,
+        steps: &mut Steps<L>,
+    ) -> Result<bool, AllocError>
+        requires focus { self.old.focus ≡ Focus.Enter id }
+        requires base { sight.old.base ≤ self.old.at / 8 }
+        requires at { self.old.at ≤ 8 * end_of sight.old }
+        requires unsigned { All IsUnsigned terms.now.primitives }
+        ensures moved { IfOk result (λ waits. Moved
+            (enter self.old.region.most terms.now sight.old id (slice_get terms.now.rows id) self.old.stack (state_of self.old))
+            waits self.old.far self.new sight.new (steps.new - steps.old)) }
+        ensures steps { steps.old ≤ steps.new }
+        ensures most { OnOk result (self.new.region.most ≡ self.old.region.most) }
+        ensures low { OnOk result (sight.new.base ≤ self.new.at / 8) }
+        ensures at { OnOk result (self.new.at ≤ 8 * end_of sight.new) }
+    {
+        if id.number() >= terms.rows() {
+            self.focus = Focus::Leave(End::Done);
+            return Ok(false);
+        }
+        match terms.row(id) {
+            Row::Leaf { prim } => {
+                let primitive = terms.tables().primitives()[*prim as usize];
+                Ok(self.read(primitive, id, sight, steps))
+            }
+            Row::Elem { simple, body, .. } => {
+                self.begin(id, simple.is_none(), *body)?;
+                Ok(false)
+            }
+            Row::Group { children } => {
+                self.first_child(id, children.as_slice())?;
+                Ok(false)
+            }
+        }
+    }
+
+    // A leaf is read.
+    #[tactic(auto, using(crate::proofs::Windows::end_from))]
+    fn read<L: Ledger>(
+        &mut self,
+        primitive: Primitive,
+        id: RowId,
+        sight: &mut Window,
+        steps: &mut Steps<L>,
+    ) -> bool
+        requires focus { self.old.focus ≡ Focus.Enter id }
+        requires base { sight.old.base ≤ self.old.at / 8 }
+        requires at { self.old.at ≤ 8 * end_of sight.old }
+        requires unsigned { IsUnsigned primitive }
+        requires few { IsPrimitive primitive }
+        ensures moved { Moved (read_leaf sight.old id (Some primitive) self.old.stack (state_of self.old))
+            result self.old.far self.new sight.new (steps.new - steps.old) }
+        ensures steps { steps.old ≤ steps.new }
+        ensures most { self.new.region.most ≡ self.old.region.most }
+        ensures low { sight.new.base ≤ self.new.at / 8 }
+        ensures at { self.new.at ≤ 8 * end_of sight.new }
+    {
+        let form = integer_of(primitive);
+        let _end = sight.end();
+        sight.drop_before(self.at / 8);
+        let glance = read_integer(&form, self.at, sight, steps);
+        self.land(glance, form.bits, sight.size() as u64)
+    }
+
+    // The reading of a leaf of so many bits is taken.
+    fn land(&mut self, glance: Glance, bits: u32, window: u64) -> bool
+        requires few { bits ≤ 128 }
+        requires bound { self.old.at ≤ 2 ^ 63 }
+        ensures moved { (sight : Held) (id looks : ℕ) (reading : Reading Find) → self.old.focus ≡ Focus.Enter id
+            → Answers reading bits glance looks
+            → Moved (read_move window sight id reading self.old.stack (state_of self.old)) result self.old.far self.new sight looks }
+        ensures most { self.new.region.most ≡ self.old.region.most }
+        ensures low { self.old.at ≤ self.new.at }
+        ensures at { (end : ℕ) → self.old.at ≤ 8 * end → IsWithin glance.found (self.old.at + bits) end → self.new.at ≤ 8 * end }
+    {
+        match glance.found {
+            Found::NotYet => return true,
+            Found::Reads(content) => {
+                self.region.set_content(self.inside, content);
+                self.at += u64::from(bits);
+                self.focus = Focus::Leave(End::Done);
+            }
+            Found::Ends => {
+                self.focus = Focus::Leave(End::Failed {
+                    cause: ParseCause::DataEnds,
+                    bit: self.at,
+                });
+            }
+            Found::Past => {
+                self.focus = Focus::Leave(End::Stopped {
+                    cause: LimitCause::Window,
+                    quantity: window,
+                });
+            }
+        }
+        self.far = self.far.max(glance.far);
+        false
+    }
+
+    // An element begins, and its content is done next.
+    fn begin(&mut self, id: RowId, complex: bool, body: RowId) -> Result<(), AllocError>
+        ensures moved { (held : Held) → OnOk result (Moved
+            (enter_element self.old.region.most held id complex body self.old.stack (state_of self.old))
+            false self.old.far self.new held 0) }
+        ensures most { OnOk result (self.new.region.most ≡ self.old.region.most) }
+        ensures at { OnOk result (self.new.at ≡ self.old.at) }
+    {
+        let outer = self.inside;
+        let node = Node {
+            element: id,
+            parent: outer,
+            content: Content::Begun,
+        };
+        match self.region.add(node) {
+            Ok(number) => {
+                self.stack.push(Frame::Element { outer, complex })?;
+                self.inside = number;
+                self.focus = Focus::Enter(body);
+            }
+            Err(_) => {
+                self.focus = Focus::Leave(End::Stopped {
+                    cause: LimitCause::Nodes,
+                    quantity: u64::from(self.region.most()),
+                });
+            }
+        }
+        Ok(())
+    }
+
+    // A group begins.
+    fn first_child(&mut self, id: RowId, children: &[RowId]) -> Result<(), AllocError>
+        ensures moved { (held : Held) → OnOk result (Moved
+            (enter_group held id children.now self.old.stack (state_of self.old)) false self.old.far self.new held 0) }
+        ensures most { OnOk result (self.new.region.most ≡ self.old.region.most) }
+        ensures at { OnOk result (self.new.at ≡ self.old.at) }
+    {
+        match children {
+            [] => {
+                self.focus = Focus::Leave(End::Done);
+            }
+            [child, ..] => {
+                self.stack.push(Frame::Rest { group: id, next: 1 })?;
+                self.focus = Focus::Enter(*child);
+            }
+        }
+        Ok(())
+    }
+
+    // What stands on the stack takes the end of the row before it.
+    fn leave(&mut self, terms: &Terms, end: End) -> Result<(), AllocError>
+        requires focus { self.old.focus ≡ Focus.Leave end }
+        ensures moved { (held : Held) → OnOk result (Moved
+            (step self.old.region.most terms.now held (Focus.Leave end) self.old.stack (state_of self.old))
+            false self.old.far self.new held 0) }
+        ensures most { OnOk result (self.new.region.most ≡ self.old.region.most) }
+        ensures at { OnOk result (self.new.at ≡ self.old.at) }
+    {
+        match self.stack.pop() {
+            None => Ok(()),
+            Some(frame) => self.resume(terms, frame, end),
+        }
+    }
+
+    // A frame takes the end of the row before it.
+    fn resume(&mut self, terms: &Terms, frame: Frame, end: End) -> Result<(), AllocError>
+        ensures moved { (held : Held) → OnOk result (Moved
+            (leave terms.now held frame end self.old.stack (state_of self.old)) false self.old.far self.new held 0) }
+        ensures most { OnOk result (self.new.region.most ≡ self.old.region.most) }
+        ensures at { OnOk result (self.new.at ≡ self.old.at) }
+    {
+        match end {
+            End::Done => self.go_on(terms, frame),
+            End::Failed { .. } => {
+                self.focus = Focus::Leave(end);
+                Ok(())
+            }
+            End::Stopped { .. } => {
+                self.focus = Focus::Leave(end);
+                Ok(())
+            }
+        }
+    }
+
+    // What stands on the stack goes on behind a row that is done.
+    fn go_on(&mut self, terms: &Terms, frame: Frame) -> Result<(), AllocError>
+        ensures moved { (held : Held) → OnOk result (Moved
+            (leave_done terms.now held frame self.old.stack (state_of self.old)) false self.old.far self.new held 0) }
+        ensures most { OnOk result (self.new.region.most ≡ self.old.region.most) }
+        ensures at { OnOk result (self.new.at ≡ self.old.at) }
+    {
+        match frame {
+            Frame::Rest { group, next } => self.next_child(terms, group, next),
+            Frame::Element { outer, complex } => {
+                self.close(outer, complex);
+                Ok(())
+            }
+        }
+    }
+
+    // The next child of a group is done next, if there is one.
+    fn next_child(&mut self, terms: &Terms, group: RowId, next: usize) -> Result<(), AllocError>
+        ensures moved { (held : Held) → OnOk result (Moved
+            (go_on held group next (slice_get (children_of (slice_get terms.now.rows group)) next) self.old.stack (state_of self.old))
+            false self.old.far self.new held 0) }
+        ensures most { OnOk result (self.new.region.most ≡ self.old.region.most) }
+        ensures at { OnOk result (self.new.at ≡ self.old.at) }
+    {
+        match child_of(terms, group, next) {
+            None => {
+                self.focus = Focus::Leave(End::Done);
+            }
+            Some(child) => {
+                self.stack.push(Frame::Rest {
+                    group,
+                    next: next + 1,
+                })?;
+                self.focus = Focus::Enter(child);
+            }
+        }
+        Ok(())
+    }
+
+    // The innermost open element ends.
+    fn close(&mut self, outer: u32, complex: bool)
+        ensures moved { (held : Held) → Moved
+            (pass nothing held (Focus.Leave Done) self.old.stack (left outer complex (state_of self.old))) false self.old.far self.new held 0 }
+        ensures most { self.new.region.most ≡ self.old.region.most }
+        ensures at { self.new.at ≡ self.old.at }
+    {
+        if complex {
+            self.region.set_content(self.inside, Content::Complex);
+        }
+        self.inside = outer;
+        self.focus = Focus::Leave(End::Done);
+    }
+}
+
+// The child of this place in a group.
+fn child_of(terms: &Terms, group: RowId, place: usize) -> Option<RowId>
+    ensures child { result ≡ slice_get (children_of (slice_get terms.now.rows group)) place }
+    ensures few { IfSome result (λ _. place < 2 ^ 63) }
+{
+    if group.number() >= terms.rows() {
+        return None;
+    }
+    match terms.row(group) {
+        Row::Group { children } => children.as_slice().get(place).copied(),
+        Row::Leaf { .. } => None,
+        Row::Elem { .. } => None,
+    }
+}
+
+// The answer of an end.
+fn answer_of(end: End) -> Outcome
+    ensures { result ≡ answer_of end }
+{
+    match end {
+        End::Done => Outcome::Done,
+        End::Failed { cause, bit } => Outcome::Failed { cause, bit },
+        End::Stopped { cause, quantity } => Outcome::Limit { cause, quantity },
+    }
+}
+
+// The form of an integer.
+pub(crate) fn integer_of(primitive: Primitive) -> IntForm
+    ensures { primitive ≡ Primitive.Integer result }
+{
+    let Primitive::Integer(form) = primitive;
+    form
+}

@@ -1,0 +1,44 @@
+// The machine runs until it has ended or waits for a byte.
+ghost use Rattle.std.specs.Prelude.{◌≡◌, ◌*◌, ◌/◌, ◌≤◌, ◌-◌, All, IfOk, OnOk, true, false};
+ghost use Rattle.dfdl_bits.specs.Window.{end_of};
+ghost use Rattle.dfdl_grammar.specs.Leaves.{IsUnsigned};
+ghost use Rattle.dfdl_parse.specs.Machines.{HasEnded};
+ghost use Rattle.dfdl_parse.specs.Running.{Advanced, Waited};
+
+use crate::parser::Parser;
+use dfdl_bits::{Steps, Window};
+use dfdl_terms::Terms;
+use std::alloc::AllocError;
+use std::sync::ledger::Ledger;
+
+/// Makes steps, and answers whether the machine waits for a byte, or has ended.
+pub(crate) fn run<L: Ledger>(
+    terms: &Terms,
+    parser: &mut Parser,
+    sight: &mut Window,
+    steps: &mut Steps<L>,
+) -> Result<bool, AllocError>
+    requires base { sight.old.base ≤ parser.old.at / 8 }
+    requires at { parser.old.at ≤ 8 * end_of sight.old }
+    requires unsigned { All IsUnsigned terms.now.primitives }
+    ensures waits { IfOk result (λ waits. waits ≡ true
+        → Waited terms.now parser.old parser.new sight.old sight.new (steps.new - steps.old)) }
+    ensures ended { IfOk result (λ waits. waits ≡ false
+        → Advanced terms.now parser.old parser.new sight.old sight.new (steps.new - steps.old)) }
+    ensures over { IfOk result (λ waits. waits ≡ false → HasEnded parser.new.focus parser.new.stack) }
+    ensures steps { steps.old ≤ steps.new }
+    ensures most { OnOk result (parser.new.region.most ≡ parser.old.region.most) }
+    ensures low { OnOk result (sight.new.base ≤ parser.new.at / 8) }
+    ensures at { OnOk result (parser.new.at ≤ 8 * end_of sight.new) }
+{
+    let _rows = terms.rows();
+    'steps: loop {
+        if parser.has_ended() {
+            return Ok(false);
+        }
+        let waits = parser.step(terms, sight, steps)?;
+        if waits {
+            return Ok(true);
+        }
+    }
+}

@@ -1,0 +1,4 @@
+mod ByteLists
+mod Layings
+mod Moving
+mod TypedEvents

@@ -1,0 +1,96 @@
+use Rattle.std.proofs.Common.{◌≡◌, ◌∙◌, ◌∷◌, ◌++◌, ◌+◌, Some, None, ap, sym, refl, map, slice_get}
+use Rattle.dfdl_json.proofs.Declares.{there, below_elem, below_group}
+use Rattle.dfdl_terms.specs.declared.row.Row.TheVariants.{Elem}
+use Rattle.dfdl_pieces.specs.declared.unparsing.Task.TheVariants.{Lay}
+use Rattle.dfdl_pieces.specs.Laying.{Laying, Takes, begins, begun_laying, form_at, laying, value_for, value_laying}
+use Rattle.dfdl_pieces.specs.Unparsing.{left, outcome, steps_left}
+use Rattle.dfdl_json.specs.Steps.{steps_of}
+use Rattle.dfdl_pieces.proofs.Layings.{laid_simple, laid_complex, laid_group, laid_leaf, laid_no_row, same_less, group_less, complex_less}
+use Rattle.dfdl_pieces.proofs.Moving.{if_ok, if_ok_both, if_ok_any, is_less, less_too, moves_too, moves_same, moves_group}
+use Rattle.dfdl_pieces.proofs.unparsing.Unparser.lay.Goals as goal
+
+pub lay_simple-requires-clause-row : goal.lay_simple-requires-clause-row
+lay_simple-requires-clause-row c =
+    there _ _ _ c.in-Some-Elem.ensures.row (c.in-Some-Elem.field-0-is ∙ (ap (λ s. Elem c.in-Some-Elem.name s c.in-Some-Elem.body) c.in-Some.is
+    ∙ ap (λ n. Elem n (Some c.in-Some.kind) c.in-Some-Elem.body) (sym c.as_str.ensures)))
+
+pub returns-in-Some-clause-moves : goal.returns-in-Some-clause-moves
+returns-in-Some-clause-moves c =
+    let old = c.args.self.now in
+    let t = c.args.terms.now in
+    let more = left t old.tasks.items old.around in
+    if_ok_both c.lay_simple.result _ _ _ c.lay_simple.ensures.moves c.lay_simple.ensures.names
+    (λ missing moves names. moves_same t c.args.events.now old c.lay_simple.new.self
+    (Takes (λ event. value_laying (c.as_str.result.now ∷ old.around) (form_at t c.in-Some-Elem.body) more (value_for c.args.row event))) (laying t c.args.row old.around more) missing
+    (laid_simple t c.args.row old.around more c.as_str.result.now c.in-Some.kind c.in-Some-Elem.body
+    (there _ _ _ c.in-Some-Elem.ensures.row (c.in-Some-Elem.field-0-is ∙ (ap (λ s. Elem c.in-Some-Elem.name s c.in-Some-Elem.body) c.in-Some.is
+    ∙ ap (λ n. Elem n (Some c.in-Some.kind) c.in-Some-Elem.body) (sym c.as_str.ensures)))))
+    c.lay_simple.ensures.tasks names (moves more))
+
+pub returns-in-Some-clause-less : goal.returns-in-Some-clause-less
+returns-in-Some-clause-less c = if_ok_any c.lay_simple.result _
+    (λ missing. is_less c.args.terms.now (steps_of c.args.terms.now c.args.row + steps_left c.args.terms.now c.args.self.now.tasks.items) c.lay_simple.new.self missing
+    (same_less c.args.terms.now c.args.row c.args.self.now.tasks.items c.lay_simple.new.self.tasks.items c.lay_simple.ensures.tasks))
+
+pub returns-in-None-simple-clause-moves : goal.returns-in-None-simple-clause-moves
+returns-in-None-simple-clause-moves c =
+    let old = c.args.self.now in
+    let t = c.args.terms.now in
+    let more = left t old.tasks.items old.around in
+    let new = c.lay_complex.new.self in
+    if_ok c.lay_complex.result _ _ c.lay_complex.ensures.moves
+    (λ missing moves. moves_too c.args.events.now old new
+    (Takes (λ event. begun_laying (c.as_str-in-None-simple.result.now ∷ old.around) (laying t c.in-Some-Elem.body (c.as_str-in-None-simple.result.now ∷ old.around) (Takes (λ end. more))) (begins c.args.row event)))
+    (laying t c.args.row old.around more) (left t new.tasks.items new.around) missing
+    (laid_complex t c.args.row old.around more c.as_str-in-None-simple.result.now c.in-Some-Elem.body
+    (there _ _ _ c.in-Some-Elem.ensures.row (c.in-Some-Elem.field-0-is ∙ (ap (λ s. Elem c.in-Some-Elem.name s c.in-Some-Elem.body) c.in-None-simple.is
+    ∙ ap (λ n. Elem n None c.in-Some-Elem.body) (sym c.as_str-in-None-simple.ensures))))
+    (below_elem _ _ _ _ _ c.in-Some-Elem.field-0-is c.in-Some-Elem.ensures.nests)) moves)
+
+pub returns-in-None-simple-clause-less : goal.returns-in-None-simple-clause-less
+returns-in-None-simple-clause-less c =
+    let t = c.args.terms.now in
+    let old = c.args.self.now in
+    if_ok c.lay_complex.result _ _ c.lay_complex.ensures.less
+    (λ missing less. less_too t (2 + steps_of t c.in-Some-Elem.body + steps_left t old.tasks.items) (steps_of t c.args.row + steps_left t old.tasks.items) c.lay_complex.new.self missing
+    (complex_less t c.args.row old.tasks.items c.lay_complex.new.self.tasks.items c.in-Some-Elem.name c.in-Some-Elem.body
+    (there _ _ _ c.in-Some-Elem.ensures.row (c.in-Some-Elem.field-0-is ∙ ap (λ s. Elem c.in-Some-Elem.name s c.in-Some-Elem.body) c.in-None-simple.is))
+    (below_elem _ _ _ _ _ c.in-Some-Elem.field-0-is c.in-Some-Elem.ensures.nests)) less)
+
+pub returns-in-Some-Group-clause-moves : goal.returns-in-Some-Group-clause-moves
+returns-in-Some-Group-clause-moves c =
+    let old = c.args.self.now in
+    let t = c.args.terms.now in
+    let more = left t old.tasks.items old.around in
+    if_ok_both c.lay_group.result _ _ _ c.lay_group.ensures.none c.lay_group.ensures.tasks
+    (λ missing none tasks. moves_group t c.args.events.now old c.lay_group.new.self (laying t c.args.row old.around more) c.in-Some-Group.children missing none
+    (laid_group t c.args.row old.around more c.in-Some-Group.children (there _ _ _ c.in-Some-Group.ensures.row c.in-Some-Group.field-0-is)
+    (below_group _ _ _ c.in-Some-Group.field-0-is c.in-Some-Group.ensures.nests))
+    (tasks ∙ ap (λ rows. map Lay rows ++ old.tasks.items) c.as_slice.ensures) c.lay_group.ensures.names c.lay_group.ensures.at c.lay_group.ensures.pieces)
+
+pub returns-in-Some-Group-clause-less : goal.returns-in-Some-Group-clause-less
+returns-in-Some-Group-clause-less c =
+    let t = c.args.terms.now in
+    let old = c.args.self.now in
+    if_ok c.lay_group.result _ _ c.lay_group.ensures.tasks
+    (λ missing tasks. is_less t (steps_of t c.args.row + steps_left t old.tasks.items) c.lay_group.new.self missing
+    (group_less t c.args.row old.tasks.items c.lay_group.new.self.tasks.items c.in-Some-Group.children (there _ _ _ c.in-Some-Group.ensures.row c.in-Some-Group.field-0-is)
+    (below_group _ _ _ c.in-Some-Group.field-0-is c.in-Some-Group.ensures.nests) (tasks ∙ ap (λ rows. map Lay rows ++ old.tasks.items) c.as_slice.ensures)))
+
+pub returns-in-Some-Leaf-clause-moves : goal.returns-in-Some-Leaf-clause-moves
+returns-in-Some-Leaf-clause-moves c =
+    let old = c.args.self.now in
+    let t = c.args.terms.now in
+    ap (outcome old c.args.events.now) (sym (laid_leaf t c.args.row old.around (left t old.tasks.items old.around) _ (there _ _ _ c.in-Some-Leaf.ensures.row c.in-Some-Leaf.field-0-is)))
+
+pub returns-in-Some-Leaf-clause-less : goal.returns-in-Some-Leaf-clause-less
+returns-in-Some-Leaf-clause-less c = same_less c.args.terms.now c.args.row c.args.self.now.tasks.items c.args.self.now.tasks.items refl
+
+pub returns-in-None-clause-moves : goal.returns-in-None-clause-moves
+returns-in-None-clause-moves c =
+    let old = c.args.self.now in
+    let t = c.args.terms.now in
+    ap (outcome old c.args.events.now) (sym (laid_no_row t c.args.row old.around (left t old.tasks.items old.around) (sym c.in-None.ensures.row)))
+
+pub returns-in-None-clause-less : goal.returns-in-None-clause-less
+returns-in-None-clause-less c = same_less c.args.terms.now c.args.row c.args.self.now.tasks.items c.args.self.now.tasks.items refl

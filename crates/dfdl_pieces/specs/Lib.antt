@@ -1,0 +1,4 @@
+pub mod Laying
+pub mod Pieces
+pub mod Unparsing
+pub mod Whole

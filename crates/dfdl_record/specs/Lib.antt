@@ -1,4 +1,0 @@
-pub mod Outcomes
-pub mod Pieces
-pub mod RoundTrip
-pub mod Shown

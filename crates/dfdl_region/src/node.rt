@@ -1,0 +1,22 @@
+use dfdl_terms::RowId;
+
+/// What an element of the infoset has.
+#[derive(Debug, Clone, Copy, PartialEq, Eq)]
+pub enum Content {
+    /// It has begun, and isn't read yet.
+    Begun,
+    /// Elements.
+    Complex,
+    /// The value of an unsigned integer.
+    Unsigned(u128),
+}
+
+/// One element of the infoset.
+#[derive(Debug, Clone, Copy, PartialEq, Eq)]
+pub struct Node {
+    /// the row of the element
+    pub element: RowId,
+    /// the number of the element that it stands in; the root's is its own, 0
+    pub parent: u32,
+    pub content: Content,
+}

@@ -1,0 +1,29 @@
+// The elements of a small document, by hand.
+use crate::*;
+use std::test::Fail;
+
+#[test]
+fn nodes_are_added_and_read(rt: HostRuntime) -> Result<(), Fail> {
+    let mut region = NodeRegion::open(rt.alloc(), 2)?;
+    let root = Node {
+        element: RowId::new(4),
+        parent: 0,
+        content: Content::Begun,
+    };
+    let child = Node {
+        element: RowId::new(1),
+        parent: 0,
+        content: Content::Unsigned(7),
+    };
+    assert_eq!(rt; (region.count(), region.most()), (0, 2));
+    assert_eq!(rt; region.add(root), Ok(0));
+    assert_eq!(rt; region.add(child), Ok(1));
+    assert_eq!(rt; region.add(child), Err(Full));
+    assert_eq!(rt; region.count(), 2);
+    region.set_content(0, Content::Complex);
+    assert_eq!(rt; region.get(0).content, Content::Complex);
+    assert_eq!(rt; region.nodes()[1], child);
+    region.clear();
+    assert_eq!(rt; region.count(), 0);
+    Ok(())
+}

@@ -1,13 +1,13 @@
 -- The numbers and texts of causes and limits, as the program prints them.
 use Rattle.std.specs.Prelude.{ℕ, List, codes}
 use Rattle.dfdl_report.specs.declared.cause.ParseCause.{ParseCause}
-use Rattle.dfdl_report.specs.declared.cause.ParseCause.TheVariants.{DataEnds}
+use Rattle.dfdl_report.specs.declared.cause.ParseCause.TheVariants.{DataEnds, BadNibble, PastType, UnknownBoolean}
 use Rattle.dfdl_report.specs.declared.cause.UnparseCause.{UnparseCause}
 use Rattle.dfdl_report.specs.declared.cause.UnparseCause.TheVariants.{WrongOccurrences}
 use Rattle.dfdl_report.specs.declared.cause.SchemaCause.{SchemaCause}
 use Rattle.dfdl_report.specs.declared.cause.SchemaCause.TheVariants.{NameNotFound, GlobalTwice, OutsideSubset, ValueNotAllowed, Recursive}
 use Rattle.dfdl_report.specs.declared.cause.SchemaCause.TheVariants.{PropertyTwice, PropertyMissing, UnknownAnnotation, PropertyNotCarried, ExpressionNotAllowed}
-use Rattle.dfdl_report.specs.declared.cause.SchemaCause.TheVariants.{TypeNotCarried, LengthKind, LengthUnits, ElementTwice}
+use Rattle.dfdl_report.specs.declared.cause.SchemaCause.TheVariants.{TypeNotCarried, LengthKind, LengthUnits, ConstantLength, SignCodes, BooleanRepresentations, ElementTwice}
 use Rattle.dfdl_report.specs.declared.cause.DocCause.{DocCause}
 use Rattle.dfdl_report.specs.declared.cause.DocCause.TheVariants.{NotUtf8, CharacterNotAllowed, Malformed, EndTagMismatch, AttributeTwice}
 use Rattle.dfdl_report.specs.declared.cause.DocCause.TheVariants.{UnknownReference, PrefixNotDeclared, DocumentType, EncodingRefused, OneRoot, TooDeep, DocumentEnds}
@@ -19,10 +19,16 @@ use Rattle.dfdl_report.specs.declared.cause.LimitCause.TheVariants.{Input, Windo
 -- processing errors, P
 abbrev pub parse_number : ParseCause → ℕ
 parse_number DataEnds = 4
+parse_number BadNibble = 7
+parse_number PastType = 9
+parse_number UnknownBoolean = 17
 
 -- what a processing error is told as
 abbrev pub parse_text : ParseCause → List ℕ
 parse_text DataEnds = codes "data ends"
+parse_text BadNibble = codes "bad nibble or zone"
+parse_text PastType = codes "value past its type"
+parse_text UnknownBoolean = codes "unknown boolean"
 
 -- unparse errors, U
 abbrev pub unparse_number : UnparseCause → ℕ
@@ -47,6 +53,9 @@ schema_number ExpressionNotAllowed = 10
 schema_number TypeNotCarried = 13
 schema_number LengthKind = 15
 schema_number LengthUnits = 16
+schema_number ConstantLength = 17
+schema_number SignCodes = 26
+schema_number BooleanRepresentations = 27
 schema_number ElementTwice = 40
 
 -- what a refusal of a schema is told as
@@ -64,6 +73,9 @@ schema_text ExpressionNotAllowed = codes "expression not allowed here"
 schema_text TypeNotCarried = codes "simple type not carried"
 schema_text LengthKind = codes "length kind not allowed"
 schema_text LengthUnits = codes "length units not allowed"
+schema_text ConstantLength = codes "constant length out of range"
+schema_text SignCodes = codes "sign codes malformed"
+schema_text BooleanRepresentations = codes "boolean representations malformed"
 schema_text ElementTwice = codes "element name twice"
 
 -- refusals of documents, X

@@ -10,6 +10,12 @@ ghost use Rattle.dfdl_report.specs.Causes.{unparse_number, unparse_text};
 pub enum ParseCause {
     /// A leaf's bits pass the end of the data.
     DataEnds,
+    /// A nibble that can't stand where it stands in a packed number.
+    BadNibble,
+    /// A number that is no value of its type.
+    PastType,
+    /// A binary boolean whose number is neither that of true nor that of false.
+    UnknownBoolean,
 }
 
 /// Why unparsing failed: the numbers U of unparse errors ('DFDL Processing Introduction').
@@ -48,6 +54,12 @@ pub enum SchemaCause {
     LengthKind,
     /// Length units that the type does not have.
     LengthUnits,
+    /// A constant length that the type does not have.
+    ConstantLength,
+    /// Sign codes of packed numbers that are not the four that may stand there.
+    SignCodes,
+    /// Numbers or texts that can't stand for true and false.
+    BooleanRepresentations,
     /// An element has the name of an earlier one of its group.
     ElementTwice,
 }
@@ -131,6 +143,9 @@ impl ParseCause {
     {
         match self {
             ParseCause::DataEnds => 4,
+            ParseCause::BadNibble => 7,
+            ParseCause::PastType => 9,
+            ParseCause::UnknownBoolean => 17,
         }
     }
 
@@ -139,6 +154,9 @@ impl ParseCause {
     {
         match self {
             ParseCause::DataEnds => "data ends",
+            ParseCause::BadNibble => "bad nibble or zone",
+            ParseCause::PastType => "value past its type",
+            ParseCause::UnknownBoolean => "unknown boolean",
         }
     }
 }
@@ -181,6 +199,9 @@ impl SchemaCause {
             SchemaCause::TypeNotCarried => 13,
             SchemaCause::LengthKind => 15,
             SchemaCause::LengthUnits => 16,
+            SchemaCause::ConstantLength => 17,
+            SchemaCause::SignCodes => 26,
+            SchemaCause::BooleanRepresentations => 27,
             SchemaCause::ElementTwice => 40,
         }
     }
@@ -202,6 +223,9 @@ impl SchemaCause {
             SchemaCause::TypeNotCarried => "simple type not carried",
             SchemaCause::LengthKind => "length kind not allowed",
             SchemaCause::LengthUnits => "length units not allowed",
+            SchemaCause::ConstantLength => "constant length out of range",
+            SchemaCause::SignCodes => "sign codes malformed",
+            SchemaCause::BooleanRepresentations => "boolean representations malformed",
             SchemaCause::ElementTwice => "element name twice",
         }
     }

@@ -8,12 +8,10 @@
 
 pub mod cause;
 pub mod line;
-pub mod path;
 pub mod place;
 pub mod status;
 
 pub use cause::{DocCause, InfosetCause, LimitCause, ParseCause, SchemaCause, UnparseCause};
-pub use path::{path_of_field, path_of_root};
 pub use place::Place;
 pub use status::Status;
 

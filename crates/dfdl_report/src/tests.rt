@@ -1,17 +1,14 @@
 // The lines as they are printed.
-use crate::{
-    DocCause, InfosetCause, LimitCause, ParseCause, SchemaCause, UnparseCause, line, path_of_field,
-};
+use crate::{DocCause, InfosetCause, LimitCause, ParseCause, SchemaCause, UnparseCause, line};
 use std::test::Fail;
 
 // Each kind of line once, in the form that users match on.
 #[test]
 fn lines_are_told(rt: HostRuntime) -> Result<(), Fail> {
     let alloc = rt.alloc();
-    let path = path_of_field(alloc, "r", "b")?;
-    let told = line::of_parse(alloc, ParseCause::DataEnds, 8, path.as_str())?;
+    let told = line::of_parse(alloc, ParseCause::DataEnds, 8, "/r/b")?;
     assert_eq!(rt; told.as_str(), "error P4 at bit 8 in /r/b: data ends\n");
-    let told = line::of_unparse(alloc, UnparseCause::WrongOccurrences, path.as_str())?;
+    let told = line::of_unparse(alloc, UnparseCause::WrongOccurrences, "/r/b")?;
     assert_eq!(rt;
         told.as_str(),
         "error U10 in /r/b: wrong number of occurrences\n"

@@ -1,5 +1,6 @@
 -- Tables of rows: each row's children stand below it.
-use Rattle.std.specs.Prelude.{◌≡◌, ℕ, ◌<◌, ◌≤◌, List, length, All, slice_get, Some}
+use Rattle.std.specs.Prelude.{◌≡◌, ℕ, ◌<◌, ◌≤◌, ◌-◌, List, length, All, slice_get, Option, None, Some}
+use Rattle.dfdl_forms.specs.BinaryNumbers.{IsIntForm}
 use Rattle.dfdl_terms.specs.declared.row.Primitive.{Primitive}
 use Rattle.dfdl_terms.specs.declared.row.Primitive.TheVariants.{Integer}
 use Rattle.dfdl_terms.specs.declared.row.Row.{Row}
@@ -41,9 +42,20 @@ NamesWithin primitives (Leaf prim) = prim < primitives
 NamesWithin primitives (Elem name simple body) = Unit {0}
 NamesWithin primitives (Group children) = Unit {0}
 
--- the form of a primitive keeps its bounds: a number has at most 128 bits
+-- the form of a primitive keeps the bounds of its type
 abbrev pub IsPrimitive : Primitive → Type 0
-IsPrimitive (Integer form) = form.bits ≤ 128
+IsPrimitive (Integer form) = IsIntForm form
+
+-- the row is an element
+abbrev pub IsElementRow : Option Row → Type 0
+IsElementRow (Some (Elem name simple body)) = Unit {0}
+IsElementRow (Some (Leaf prim)) = ⊥
+IsElementRow (Some (Group children)) = ⊥
+IsElementRow None = ⊥
+
+-- the last row is an element
+abbrev pub HasElementLast : Table → Type 0
+HasElementLast t = IsElementRow (slice_get t.rows (length t.rows - 1))
 
 -- rows that can be a schema's
 pub record IsTable (t : Table) : Type 0 where

@@ -65,7 +65,7 @@ impl RowList {
 /// How the content of a simple element lies in its box.
 #[derive(Debug, Clone, Copy, PartialEq, Eq)]
 pub enum Primitive {
-    /// A binary integer ('Simple Types').
+    /// A binary integer or decimal ('Simple Types').
     Integer(IntForm),
 }
 

@@ -1,30 +1,24 @@
--- Which leaves the simple elements of rows have, by a test of a type and the number of a primitive.
-use Rattle.std.specs.Prelude.{◌≡◌, ℕ, Bool, IsTrue, List, Option, None, Some, slice_get}
+-- The leaves that the simple elements of rows have.
+use Rattle.std.specs.Prelude.{◌≡◌, ℕ, List, Option, None, Some, slice_get}
 use Rattle.dfdl_forms.specs.declared.simple.Simple.{Simple}
 use Rattle.dfdl_terms.specs.declared.row.Row.{Row}
 use Rattle.dfdl_terms.specs.declared.row.Row.TheVariants.{Leaf, Elem, Group}
 use Rattle.dfdl_rows.specs.declared.component.Component.{Component}
-use Rattle.dfdl_rows.specs.declared.component.Component.TheVariants.{Sequence, Reference, ComplexElement, SimpleElement}
+use Rattle.dfdl_rows.specs.declared.component.Component.TheVariants.{SimpleElement}
 
--- a test of which primitives a type takes
-abbrev pub Takes : Type 0
-Takes = Simple → ℕ → Bool
+-- one of the components is a simple element of this type, read by the primitive of this number
+abbrev pub IsAmong : List Component → Simple → ℕ → Type 0
+IsAmong components simple prim =
+    (number : ℕ) × (name : List ℕ) × (slice_get components number ≡ Some (SimpleElement name simple prim))
 
--- the primitive of a simple element is one that its type takes
-abbrev pub TakesPrimitive : Takes → Component → Type 0
-TakesPrimitive takes Sequence = Unit {0}
-TakesPrimitive takes Reference = Unit {0}
-TakesPrimitive takes (ComplexElement name) = Unit {0}
-TakesPrimitive takes (SimpleElement name simple prim) = IsTrue (takes simple prim)
+-- there is a row, and it is a leaf of the primitive of a component of the type
+abbrev pub IsLeafOf : List Component → Simple → Option Row → Type 0
+IsLeafOf components simple (Some (Leaf prim)) = IsAmong components simple prim
+IsLeafOf components simple (Some (Elem name other body)) = ⊥
+IsLeafOf components simple (Some (Group children)) = ⊥
+IsLeafOf components simple None = ⊥
 
--- there is a row, and it is a leaf of a primitive that the type takes
-abbrev pub IsLeafOf : Takes → Simple → Option Row → Type 0
-IsLeafOf takes simple (Some (Leaf prim)) = IsTrue (takes simple prim)
-IsLeafOf takes simple (Some (Elem name other body)) = ⊥
-IsLeafOf takes simple (Some (Group children)) = ⊥
-IsLeafOf takes simple None = ⊥
-
--- the body of each simple element is a leaf of a primitive that its type takes
-abbrev pub HaveLeaves : Takes → List Row → Type 0
-HaveLeaves takes rows = (row : ℕ) (name : List ℕ) (simple : Simple) (body : ℕ)
-    → slice_get rows row ≡ Some (Elem name (Some simple) body) → IsLeafOf takes simple (slice_get rows body)
+-- the body of each simple element is the leaf of a component of its type
+abbrev pub HaveLeaves : List Component → List Row → Type 0
+HaveLeaves components rows = (row : ℕ) (name : List ℕ) (simple : Simple) (body : ℕ)
+    → slice_get rows row ≡ Some (Elem name (Some simple) body) → IsLeafOf components simple (slice_get rows body)

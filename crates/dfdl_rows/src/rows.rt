@@ -2,7 +2,7 @@
 ghost use Rattle.std.specs.Prelude.{◌≡◌, ◌<◌, ◌≤◌, ℕ, length, All, IfOk, IfErr, vec_len};
 ghost use Rattle.dfdl_terms.specs.Rows.{most_rows as table_rows, Nests, NamesWithin, IsPrimitive};
 ghost use Rattle.dfdl_rows.specs.Components.{component_at, HasPrimitive};
-ghost use Rattle.dfdl_rows.specs.Leaves.{Takes, TakesPrimitive, HaveLeaves};
+ghost use Rattle.dfdl_rows.specs.Leaves.{HaveLeaves};
 ghost use Rattle.dfdl_rows.specs.Answers.{asked, AreRowsOf, IsFaultOf, EndsWith};
 
 use crate::depths::depth;
@@ -32,8 +32,7 @@ pub fn rows_of(
     ensures root { IfOk result (λ made. EndsWith (component_at components.now.components root) made.items) }
     ensures named { (count : ℕ) → All (HasPrimitive count) components.now.components
         → IfOk result (λ made. All (NamesWithin count) made.items) }
-    ensures leaves { (takes : Takes) → All (TakesPrimitive takes) components.now.components
-        → IfOk result (λ made. HaveLeaves takes made.items) }
+    ensures leaves { IfOk result (λ made. HaveLeaves components.now.components made.items) }
 {
     components.facts();
     if depth(alloc, components, root)? > u64::from(most_depth) {
@@ -71,8 +70,7 @@ pub fn terms_of(
     ensures tables { IfOk result (λ made. made.primitives ≡ tables) }
     ensures fault { IfErr result (IsFaultOf (asked components.now root most_depth most_rows)) }
     ensures root { IfOk result (λ made. EndsWith (component_at components.now.components root) made.rows) }
-    ensures leaves { (takes : Takes) → All (TakesPrimitive takes) components.now.components
-        → IfOk result (λ made. HaveLeaves takes made.rows) }
+    ensures leaves { IfOk result (λ made. HaveLeaves components.now.components made.rows) }
 {
     match rows_of(alloc, components, root, most_depth, most_rows) {
         Ok(rows) => Ok(built(alloc, rows, tables)),

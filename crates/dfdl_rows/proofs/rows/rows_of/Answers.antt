@@ -46,6 +46,6 @@ returns-clause-named c = λ count has.
     (rows_named c.args.components.now c.facts.ensures.ordered c.facts.ensures.of_one count has c.args.root c.requires 0)
 
 pub returns-clause-leaves : goal.returns-clause-leaves
-returns-clause-leaves c = λ takes taken.
-    subst (λ (rows : List Row). HaveLeaves takes rows) (sym c.in_ok-all_rows.ensures)
-    (rows_have_leaves takes c.args.components.now c.facts.ensures.ordered c.facts.ensures.of_one taken c.args.root c.requires)
+returns-clause-leaves c =
+    subst (λ (rows : List Row). HaveLeaves c.args.components.now.components rows) (sym c.in_ok-all_rows.ensures)
+    (rows_have_leaves c.args.components.now c.facts.ensures.ordered c.facts.ensures.of_one c.args.root c.requires)

@@ -7,5 +7,5 @@ pub built-requires-clause-named : goal.built-requires-clause-named
 built-requires-clause-named c = c.in-Ok.ensures.named (length c.args.tables) c.requires.named
 
 pub returns-in-Ok-clause-leaves : goal.returns-in-Ok-clause-leaves
-returns-in-Ok-clause-leaves c = λ takes taken.
-    subst (λ (t : Table). HaveLeaves takes t.rows) (sym c.built.ensures) (c.in-Ok.ensures.leaves takes taken)
+returns-in-Ok-clause-leaves c =
+    subst (λ (t : Table). HaveLeaves c.args.components.now.components t.rows) (sym c.built.ensures) c.in-Ok.ensures.leaves

@@ -1,3 +1,4 @@
+use dfdl_decimal::Fixed;
 use dfdl_terms::RowId;
 
 /// What an element of the infoset has.
@@ -7,8 +8,12 @@ pub enum Content {
     Begun,
     /// Elements.
     Complex,
+    /// The value of a signed integer.
+    Signed(i128),
     /// The value of an unsigned integer.
     Unsigned(u128),
+    /// The value of a decimal.
+    Decimal(Fixed),
 }
 
 /// One element of the infoset.

@@ -3,6 +3,7 @@ ghost use Rattle.std.specs.Prelude.{◌≡◌, ◌<◌, ◌≤◌, ◌↔◌, �
 ghost use Rattle.dfdl_region.specs.Nodes.{with_node, with_content};
 
 use crate::node::{Content, Node};
+use dfdl_terms::RowId;
 use std::alloc::{AllocError, Global};
 use std::marker::Model;
 use thiserror::Error;
@@ -53,7 +54,7 @@ impl NodeRegion {
         if number >= self.most {
             return Err(Full);
         }
-        put(&mut self.nodes, node);
+        put(&mut self.nodes, node.element, node.parent, node.content);
         Ok(number)
     }
 
@@ -113,11 +114,16 @@ impl NodeRegion {
 }
 
 // Puts a node behind those of a list that has room for it.
-fn put(nodes: &mut Vec<Node>, node: Node)
+fn put(nodes: &mut Vec<Node>, element: RowId, parent: u32, content: Content)
     requires { length nodes.old.items < vec_capacity nodes.old }
-    ensures items { nodes.new.items ≡ nodes.old.items ++ node ∷ [] }
+    ensures items { nodes.new.items ≡ nodes.old.items ++ record { element = element; parent = parent; content = content } ∷ [] }
     ensures capacity { vec_capacity nodes.old ≤ vec_capacity nodes.new }
 {
+    let node = Node {
+        element,
+        parent,
+        content,
+    };
     match nodes.push(node) {
         Ok(()) => (),
         Err(_) => unreachable!(),

@@ -22,6 +22,8 @@ fn nodes_are_added_and_read(rt: HostRuntime) -> Result<(), Fail> {
     assert_eq!(rt; region.count(), 2);
     region.set_content(0, Content::Complex);
     assert_eq!(rt; region.get(0).content, Content::Complex);
+    region.set_content(0, Content::Signed(-2));
+    assert_eq!(rt; region.get(0).content, Content::Signed(-2));
     assert_eq!(rt; region.nodes()[1], child);
     region.clear();
     assert_eq!(rt; region.count(), 0);

@@ -1,12 +1,13 @@
 -- Where a row is done, the elements that began in it are read.
-use Rattle.std.proofs.Common.{◌≡◌, ℕ, zero, suc, ◌+◌, ◌/◌, ◌%◌, ◌<◌, ◌≤◌, ◌⊎◌, inl, inr, refl, List, [], ◌∷◌, ◌++◌, length, get_or, Bool, true, false, cond, leb, ltb, ◌-◌, nat_eq, nat_lt, Option, Some, None, All, ap, sym, subst, ◌∙◌, arith, length-append}
+use Rattle.std.proofs.Common.{◌≡◌, ℕ, zero, suc, ◌+◌, ◌/◌, ◌%◌, ◌<◌, ◌≤◌, ◌⊎◌, inl, inr, refl, List, [], ◌∷◌, ◌++◌, length, get_or, Bool, true, false, cond, leb, ltb, ◌-◌, nat_eq, nat_lt, Option, Some, None, ap, sym, subst, ◌∙◌, arith, length-append}
 use Rattle.std.specs.Prelude.{slice_get}
-use Rattle.std.proofs.lemmas.Option.{get_or_from_slice_get, slice_get_within}
+use Rattle.std.proofs.lemmas.Option.{slice_get_within}
 use Rattle.dfdl_bits.specs.declared.window.Seen.{Seen}
 use Rattle.dfdl_bits.specs.declared.window.Seen.TheVariants.{Byte, End as DataEnded, NotYet, Over}
-use Rattle.dfdl_forms.specs.Types.{form_of}
-use Rattle.dfdl_forms.specs.declared.simple.Form.{Form}
-use Rattle.dfdl_int_binary.specs.Integers.{field_of, value_in}
+use Rattle.dfdl_int_binary.specs.Integers.{field_of, integer_reading}
+use Rattle.dfdl_value.specs.declared.value.Value.{Value}
+use Rattle.dfdl_value.specs.declared.value.Value.TheVariants.{Int, Uns, Dec, Text, Truth, Bytes}
+use Rattle.dfdl_report.specs.declared.cause.ParseCause.TheVariants.{DataEnds}
 use Rattle.dfdl_report.specs.declared.cause.LimitCause.TheVariants.{Nodes}
 use Rattle.dfdl_terms.specs.declared.row.Primitive.{Primitive}
 use Rattle.dfdl_terms.specs.declared.row.Primitive.TheVariants.{Integer}
@@ -15,7 +16,7 @@ use Rattle.dfdl_terms.specs.declared.row.Row.TheVariants.{Leaf, Elem, Group}
 use Rattle.dfdl_terms.specs.Rows.{Table, Nests}
 use Rattle.dfdl_region.specs.declared.node.Node.{Node}
 use Rattle.dfdl_region.specs.declared.node.Content.{Content}
-use Rattle.dfdl_region.specs.declared.node.Content.TheVariants.{Begun, Complex, Unsigned}
+use Rattle.dfdl_region.specs.declared.node.Content.TheVariants.{Begun, Complex}
 use Rattle.dfdl_region.specs.Nodes.{with_content}
 use Rattle.dfdl_looks.specs.Asks.{Ask, Answer, Look, Reached, Told, TooFar, Missing, ask, look_at}
 use Rattle.dfdl_looks.specs.Looks.{seen_in}
@@ -25,7 +26,7 @@ use Rattle.dfdl_grammar.specs.declared.end.End.{End}
 use Rattle.dfdl_grammar.specs.declared.end.End.TheVariants.{Done, Failed, Stopped}
 use Rattle.dfdl_grammar.specs.States.{Input, State, anchor, front}
 use Rattle.dfdl_grammar.specs.Outcomes.{Outcome, ended, follow, spend, then_do}
-use Rattle.dfdl_grammar.specs.Leaves.{Find, DataEnd, Finds, IsUnsigned, bytes_spanned, content_of, integer_in, land, leaf, program}
+use Rattle.dfdl_grammar.specs.Leaves.{Find, Fails, Finds, bytes_spanned, find_of, integer_in, land, leaf, program}
 use Rattle.dfdl_grammar.specs.Elements.{begun, close, left}
 use Rattle.dfdl_grammar.specs.Rows.{below, group, meaning, row, row_at}
 use Rattle.dfdl_grammar.specs.Trees.{AreRead, HasLeaves}
@@ -114,9 +115,9 @@ record Made (go : List ℕ → Find) (found : Find) : Type 0 where
   is : go bytes ≡ found
 
 step-made : (look : ℕ → Seen) (count k : ℕ) (go : List ℕ → Find) (t : Tally) (content : Content) (bits : ℕ)
-    → ((more : List ℕ → Find) (u : Tally) → (ask look (look_at count (k + 1) DataEnd more) u).reached ≡ Told (Finds content bits) → Made more (Finds content bits))
+    → ((more : List ℕ → Find) (u : Tally) → (ask look (look_at count (k + 1) (Fails DataEnds) more) u).reached ≡ Told (Finds content bits) → Made more (Finds content bits))
     → (s : Seen)
-    → (on_seen look (λ o. elim o as (λ _. Ask Find) [ None ↦ Answer DataEnd | Some b ↦ look_at count (k + 1) DataEnd (λ bytes. go (b ∷ bytes)) ]) k t s).reached ≡ Told (Finds content bits)
+    → (on_seen look (λ o. elim o as (λ _. Ask Find) [ None ↦ Answer (Fails DataEnds) | Some b ↦ look_at count (k + 1) (Fails DataEnds) (λ bytes. go (b ∷ bytes)) ]) k t s).reached ≡ Told (Finds content bits)
     → Made go (Finds content bits)
 step-made look count k go t content bits more (Byte b) is =
     let made = more (λ bytes. go (b ∷ bytes)) (saw_byte k t) is in record { bytes = b ∷ made.bytes; is = made.is }
@@ -125,21 +126,27 @@ step-made look count k go t content bits more NotYet is = absurd (cc)
 step-made look count k go t content bits more Over is = absurd (cc)
 
 made : (look : ℕ → Seen) (count k : ℕ) (go : List ℕ → Find) (t : Tally) (content : Content) (bits : ℕ)
-    → (ask look (look_at count k DataEnd go) t).reached ≡ Told (Finds content bits) → Made go (Finds content bits)
+    → (ask look (look_at count k (Fails DataEnds) go) t).reached ≡ Told (Finds content bits) → Made go (Finds content bits)
 made look zero k go t content bits is = let same : go [] ≡ Finds content bits = cc in record { bytes = []; is = same }
 made look (suc count) k go t content bits is =
     step-made look count k go t content bits (λ more u found. made look count (k + 1) more u content bits found) (look k) is
 
--- what is found of an unsigned integer is a value
-value : (look : ℕ → Seen) (primitive : Primitive) (bit : ℕ) (content : Content) (bits : ℕ) → IsUnsigned primitive
+-- what a value is found as isn't a beginning
+read_of : (bits : ℕ) (v : Option Value) (content : Content) (n : ℕ) → find_of bits v ≡ Finds content n → content ≡ Begun → ⊥
+read_of bits None content n is unread = absurd (cc)
+read_of bits (Some (Int z)) content n is unread = absurd (cc)
+read_of bits (Some (Uns number)) content n is unread = absurd (cc)
+read_of bits (Some (Dec d)) content n is unread = absurd (cc)
+read_of bits (Some (Text text)) content n is unread = absurd (cc)
+read_of bits (Some (Truth truth)) content n is unread = absurd (cc)
+read_of bits (Some (Bytes bytes)) content n is unread = absurd (cc)
+
+-- what is found of a primitive is a value
+value : (look : ℕ → Seen) (primitive : Primitive) (bit : ℕ) (content : Content) (bits : ℕ)
     → (ask look (program primitive bit) nothing).reached ≡ Told (Finds content bits) → content ≡ Begun → ⊥
-value look (Integer form) bit content bits unsigned is unread =
+value look (Integer form) bit content bits is unread =
     let here = made look (bytes_spanned bit form.bits) (bit / 8) (integer_in form bit) nothing content bits is in
-    let number : ℕ = field_of form here.bytes (bit % 8) in
-    let same : content_of (value_in (form_of form.kind) form.bits form.point number) ≡ content = cc (here.is) in
-    let told : content_of (value_in (form_of form.kind) form.bits form.point number) ≡ Unsigned number =
-    ap (λ (f : Form). content_of (value_in f form.bits form.point number)) unsigned.kind in
-    absurd (cc)
+    read_of form.bits (integer_reading form (field_of form here.bytes (bit % 8))) content bits here.is unread
 
 -- whole data have no byte that hasn't come
 no-missing : {F : Type 0} (bytes : List ℕ) (size low : ℕ) (go : Option ℕ → Ask F) (k : ℕ) (t : Tally)
@@ -158,12 +165,7 @@ whole-told bytes size low (Look k go) t missing =
 abbrev Fills : (State → Outcome) → Type 0
 Fills f = (s : State) → (f s).end ≡ Done → Fine s (f s).state
 
-module _ (input : Input) (table : Table) (unsigned : All IsUnsigned table.primitives) (leaves : HasLeaves table) where
-  integer_at : (prim : ℕ) (primitive : Primitive) → slice_get table.primitives prim ≡ Some primitive → IsUnsigned primitive
-  integer_at prim primitive is =
-      subst (λ (p : Primitive). IsUnsigned p) (get_or_from_slice_get table.primitives prim primitive primitive is)
-      (unsigned prim primitive (slice_get_within table.primitives prim primitive is))
-
+module _ (input : Input) (table : Table) (leaves : HasLeaves table) where
   -- a leaf that is done has put a value into the open element
   record Puts (s t : State) : Type 0 where
     at : ℕ
@@ -173,21 +175,21 @@ module _ (input : Input) (table : Table) (unsigned : All IsUnsigned table.primit
 
   land-puts : (reached : Reached Find) (s : State) → ((content : Content) (bits : ℕ) → reached ≡ Told (Finds content bits) → content ≡ Begun → ⊥)
       → (reached ≡ Missing → ⊥) → (land input.limits.window reached s).end ≡ Done → Puts s (land input.limits.window reached s).state
-  land-puts (Told DataEnd) s read here done = absurd (cc)
+  land-puts (Told (Fails cause)) s read here done = absurd (cc)
   land-puts (Told (Finds content bits)) s read here done = record { at = s.at + bits; content = content; read = read content bits refl; is = refl }
   land-puts TooFar s read here done = absurd (cc)
   land-puts Missing s read here done = absurd (here refl)
 
-  leaf-puts : (primitive : Primitive) → IsUnsigned primitive → (s : State) → (leaf input (Some primitive) s).end ≡ Done → Puts s (leaf input (Some primitive) s).state
-  leaf-puts primitive integer s done =
+  leaf-puts : (primitive : Primitive) (s : State) → (leaf input (Some primitive) s).end ≡ Done → Puts s (leaf input (Some primitive) s).state
+  leaf-puts primitive s done =
       land-puts (ask (seen_in input.bytes input.limits.window (anchor s)) (program primitive s.at) nothing).reached s
-      (λ content bits is. value (seen_in input.bytes input.limits.window (anchor s)) primitive s.at content bits integer is)
+      (λ content bits is. value (seen_in input.bytes input.limits.window (anchor s)) primitive s.at content bits is)
       (λ missing. whole-told input.bytes input.limits.window (anchor s) (program primitive s.at) nothing missing) done
 
-  leaf-fills : (prim : ℕ) (primitive : Option Primitive) → slice_get table.primitives prim ≡ primitive → Fills (leaf input primitive)
-  leaf-fills prim None is s done = fine s
-  leaf-fills prim (Some primitive) is s done =
-      let puts = leaf-puts primitive (integer_at prim primitive is) s done in
+  leaf-fills : (primitive : Option Primitive) → Fills (leaf input primitive)
+  leaf-fills None s done = fine s
+  leaf-fills (Some primitive) s done =
+      let puts = leaf-puts primitive s done in
       subst (λ (t : State). Fine s t) (sym puts.is) (put s puts.at puts.content puts.read)
 
   front_at : (nodes : List Node) (last : Node) (at : ℕ) (node : Node) → at < length nodes → slice_get (nodes ++ last ∷ []) at ≡ Some node → slice_get nodes at ≡ Some node
@@ -276,11 +278,11 @@ module _ (input : Input) (table : Table) (unsigned : All IsUnsigned table.primit
         ∙ ap (λ (r : Option Row). spend one_row (row input table (below input table id) id r s)) row_is
         ∙ ap (λ (p : Option Primitive). spend one_row (leaf input p s)) primitive_is in
         subst (λ (o : Outcome). Puts s o.state) (sym same)
-        (leaf-puts primitive (integer_at prim primitive primitive_is) s (ap (λ (o : Outcome). o.end) (sym same) ∙ done))
+        (leaf-puts primitive s (ap (λ (o : Outcome). o.end) (sym same) ∙ done))
 
     row-fills : (id : ℕ) → ((i : ℕ) → Fills (below input table id i)) → (r : Option Row) → slice_get table.rows id ≡ r → Fills (row input table (below input table id) id r)
     row-fills id fills None is s done = fine s
-    row-fills id fills (Some (Leaf prim)) is s done = leaf-fills prim (slice_get table.primitives prim) refl s done
+    row-fills id fills (Some (Leaf prim)) is s done = leaf-fills (slice_get table.primitives prim) s done
     row-fills id fills (Some (Elem name None body)) is s done =
         complex-fills id (below input table id body) (fills body) s (nat_lt (length s.nodes) input.limits.nodes) done
     row-fills id fills (Some (Elem name (Some simple) body)) is s done =

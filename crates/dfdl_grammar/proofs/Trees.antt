@@ -5,7 +5,7 @@ use Rattle.dfdl_report.specs.declared.cause.LimitCause.TheVariants.{Nodes}
 use Rattle.dfdl_terms.specs.declared.row.Primitive.{Primitive}
 use Rattle.dfdl_terms.specs.declared.row.Row.{Row}
 use Rattle.dfdl_terms.specs.declared.row.Row.TheVariants.{Leaf, Elem, Group}
-use Rattle.dfdl_terms.specs.Rows.{Table}
+use Rattle.dfdl_terms.specs.Rows.{IsElementRow, Table}
 use Rattle.dfdl_region.specs.declared.node.Node.{Node}
 use Rattle.dfdl_region.specs.declared.node.Content.{Content}
 use Rattle.dfdl_region.specs.declared.node.Content.TheVariants.{Begun, Complex}
@@ -17,10 +17,10 @@ use Rattle.dfdl_grammar.specs.declared.end.End.{End}
 use Rattle.dfdl_grammar.specs.declared.end.End.TheVariants.{Done, Failed, Stopped}
 use Rattle.dfdl_grammar.specs.States.{Input, State, anchor, front}
 use Rattle.dfdl_grammar.specs.Outcomes.{Outcome, ended, follow}
-use Rattle.dfdl_grammar.specs.Leaves.{Find, DataEnd, Finds, land, leaf, program}
+use Rattle.dfdl_grammar.specs.Leaves.{Find, Fails, Finds, land, leaf, program}
 use Rattle.dfdl_grammar.specs.Elements.{begun, close, has_elements, left}
 use Rattle.dfdl_grammar.specs.Rows.{below, group, meaning, row, row_at}
-use Rattle.dfdl_grammar.specs.Trees.{IsElem, IsNode, IsTree}
+use Rattle.dfdl_grammar.specs.Trees.{IsNode, IsTree}
 
 -- the elements are a tree, and the innermost open one is among them, where there are any
 record Grows (table : Table) (s : State) : Type 0 where
@@ -60,7 +60,7 @@ content-tree table nodes number content tree at node is =
     record {
       parent = omega arith;
       earlier = λ some. let less = good.earlier some in omega arith;
-      element = subst (λ (id : ℕ). IsElem (slice_get table.rows id)) one.element good.element;
+      element = subst (λ (id : ℕ). IsElementRow (slice_get table.rows id)) one.element good.element;
     }
 
 last-tree : (table : Table) (nodes : List Node) (last : Node) → (all : ℕ) → ((number : ℕ) (node : Node) → slice_get nodes number ≡ Some node → IsNode table (all + number) node)
@@ -103,7 +103,7 @@ module _ (input : Input) (table : Table) where
       )
 
   land-keeps : (reached : Reached Find) → Keeps (land input.limits.window reached)
-  land-keeps (Told DataEnd) s good = (good, same_length (length s.nodes))
+  land-keeps (Told (Fails cause)) s good = (good, same_length (length s.nodes))
   land-keeps (Told (Finds content bits)) s good = content-grows s s.inside (s.at + bits) s.inside content good good.few good.open_one
   land-keeps TooFar s good = (good, same_length (length s.nodes))
   land-keeps Missing s good = (good, same_length (length s.nodes))
@@ -116,7 +116,7 @@ module _ (input : Input) (table : Table) where
   begun-longer : (id : ℕ) (s : State) → length (begun id s).nodes ≡ length s.nodes + 1
   begun-longer id s = length-append s.nodes (record { element = id; parent = s.inside; content = Begun } ∷ [])
 
-  begun-grows : (id : ℕ) (s : State) → IsElem (slice_get table.rows id) → Grows table s → Grows table (begun id s)
+  begun-grows : (id : ℕ) (s : State) → IsElementRow (slice_get table.rows id) → Grows table s → Grows table (begun id s)
   begun-grows id s elem good =
       let node : Node = record { element = id; parent = s.inside; content = Begun } in
       let size = begun-longer id s in
@@ -140,7 +140,7 @@ module _ (input : Input) (table : Table) where
   close-follows (Failed cause bit) outer complex o good less = (good, same_length (length o.state.nodes))
   close-follows (Stopped cause quantity) outer complex o good less = (good, same_length (length o.state.nodes))
 
-  element-keeps : (id : ℕ) (complex : Bool) (body : State → Outcome) → IsElem (slice_get table.rows id) → Keeps body → (s : State) → Grows table s → (room : Bool)
+  element-keeps : (id : ℕ) (complex : Bool) (body : State → Outcome) → IsElementRow (slice_get table.rows id) → Keeps body → (s : State) → Grows table s → (room : Bool)
       → Follows s (cond room (let o : Outcome = body (begun id s) in close o.end s.inside complex o) (ended (Stopped Nodes input.limits.nodes) s)).state
   element-keeps id complex body elem keeps s good true =
       let inner = keeps (begun id s) (begun-grows id s elem good) in
@@ -170,7 +170,7 @@ module _ (input : Input) (table : Table) where
   row-keeps child keeps id None is s good = (good, same_length (length s.nodes))
   row-keeps child keeps id (Some (Leaf prim)) is s good = leaf-keeps (slice_get table.primitives prim) s good
   row-keeps child keeps id (Some (Elem name simple body)) is s good =
-      element-keeps id (has_elements simple) (child body) (subst (λ (r : Option Row). IsElem r) (sym is) tt) (keeps body) s good
+      element-keeps id (has_elements simple) (child body) (subst (λ (r : Option Row). IsElementRow r) (sym is) tt) (keeps body) s good
       (nat_lt (length s.nodes) input.limits.nodes)
   row-keeps child keeps id (Some (Group children)) is s good = group-keeps child keeps children s good
 

@@ -1,25 +1,17 @@
 -- The elements of a document are a tree of the schema's elements.
-use Rattle.std.specs.Prelude.{◌≡◌, ◌<◌, ◌≤◌, ℕ, List, Option, Some, None, slice_get}
+use Rattle.std.specs.Prelude.{◌≡◌, ◌<◌, ◌≤◌, ℕ, List, Some, slice_get}
 use Rattle.dfdl_forms.specs.declared.simple.Simple.{Simple}
 use Rattle.dfdl_terms.specs.declared.row.Primitive.{Primitive}
-use Rattle.dfdl_terms.specs.declared.row.Row.{Row}
-use Rattle.dfdl_terms.specs.declared.row.Row.TheVariants.{Leaf, Elem, Group}
-use Rattle.dfdl_terms.specs.Rows.{Table}
+use Rattle.dfdl_terms.specs.declared.row.Row.TheVariants.{Leaf, Elem}
+use Rattle.dfdl_terms.specs.Rows.{IsElementRow, Table}
 use Rattle.dfdl_region.specs.declared.node.Node.{Node}
 use Rattle.dfdl_region.specs.declared.node.Content.TheVariants.{Begun}
-
--- the row is an element's
-abbrev pub IsElem : Option Row → Type 0
-IsElem None = ⊥
-IsElem (Some (Leaf prim)) = ⊥
-IsElem (Some (Elem name simple body)) = Unit {0}
-IsElem (Some (Group children)) = ⊥
 
 -- the element of this number begins inside of an earlier one, or is the first and its own parent, and its row is an element's
 pub record IsNode (table : Table) (number : ℕ) (node : Node) : Type 0 where
   pub parent : node.parent ≤ number
   pub earlier : 0 < number → node.parent < number
-  pub element : IsElem (slice_get table.rows node.element)
+  pub element : IsElementRow (slice_get table.rows node.element)
 
 -- each of the elements is so
 abbrev pub IsTree : Table → List Node → Type 0

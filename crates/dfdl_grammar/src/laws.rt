@@ -1,11 +1,10 @@
 // Laws of the definitions that the contracts cite. The calls do nothing.
-ghost use Rattle.std.specs.Prelude.{◌≡◌, ◌<◌, ℕ, List, All};
+ghost use Rattle.std.specs.Prelude.{◌≡◌, ◌<◌, ℕ, List};
 ghost use Rattle.dfdl_looks.specs.Tallies.{Tally};
 ghost use Rattle.dfdl_terms.specs.Rows.{Nests, Table};
 ghost use Rattle.dfdl_grammar.specs.declared.limits.Limits.{Limits};
 ghost use Rattle.dfdl_grammar.specs.Documents.{document};
 ghost use Rattle.dfdl_grammar.specs.Trees.{AreRead, HasLeaves, IsTree};
-ghost use Rattle.dfdl_grammar.specs.Leaves.{IsUnsigned};
 ghost use Rattle.dfdl_grammar.specs.declared.end.End.TheVariants.{Done};
 ghost use Rattle.dfdl_grammar.specs.Outcomes.{Outcome, spend, then_do};
 ghost use Rattle.dfdl_grammar.specs.Rows.{below, meaning};
@@ -27,6 +26,6 @@ pub fn documents_are_trees()
 
 /// Where a document is done, each of its elements is read.
 pub fn documents_are_read()
-    ensures { (limits : Limits) (table : Table) (bytes : List ℕ) → Nests table.rows → All IsUnsigned table.primitives → HasLeaves table
+    ensures { (limits : Limits) (table : Table) (bytes : List ℕ) → Nests table.rows → HasLeaves table
         → (document limits table bytes).end ≡ Done → AreRead (document limits table bytes).state.nodes }
 {}

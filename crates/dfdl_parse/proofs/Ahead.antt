@@ -18,7 +18,8 @@ use Rattle.dfdl_grammar.specs.declared.end.End.{End}
 use Rattle.dfdl_grammar.specs.declared.end.End.TheVariants.{Done, Failed, Stopped}
 use Rattle.dfdl_grammar.specs.States.{Input, State, anchor}
 use Rattle.dfdl_grammar.specs.Outcomes.{Outcome, ended, spend, then_do}
-use Rattle.dfdl_grammar.specs.Leaves.{Find, DataEnd, Finds, land, leaf, program, bytes_spanned, integer_in}
+use Rattle.dfdl_report.specs.declared.cause.ParseCause.TheVariants.{DataEnds}
+use Rattle.dfdl_grammar.specs.Leaves.{Find, Fails, Finds, land, leaf, program, bytes_spanned, integer_in}
 use Rattle.dfdl_grammar.specs.Elements.{begun, close, has_elements, left}
 use Rattle.dfdl_grammar.specs.Rows.{below, group, meaning, row}
 use Rattle.dfdl_grammar.proofs.Spending.{spend-spend, spend-nothing, follow-spend, close-spend}
@@ -49,7 +50,7 @@ abbrev pub Does : Input → Table → Outcome → Move → Type 0
 Does input table o move = o ≡ spend move.tally (ahead input table move.machine)
 
 pub program-from : (low : ℕ) (primitive : Primitive) (bit : ℕ) → low ≤ bit / 8 → AsksFrom low (program primitive bit)
-program-from low (Integer form) bit base = look_at-from (bytes_spanned bit form.bits) low (bit / 8) DataEnd (integer_in form bit) base
+program-from low (Integer form) bit base = look_at-from (bytes_spanned bit form.bits) low (bit / 8) (Fails DataEnds) (integer_in form bit) base
 
 found : (reached : Reached Find) → is_missing reached ≡ false → reached ≡ Missing → ⊥
 found (Told f) is missing = absurd (cc)
@@ -72,7 +73,7 @@ module _ (input : Input) (table : Table) where
 
   land-ahead : (id : ℕ) (reached : Reached Find) (k : List Frame) (s : State) → is_missing reached ≡ false
       → finish input table k (land input.limits.window reached s) ≡ ahead input table (landed input.limits.window id reached k s)
-  land-ahead id (Told DataEnd) k s is = refl
+  land-ahead id (Told (Fails cause)) k s is = refl
   land-ahead id (Told (Finds content bits)) k s is = refl
   land-ahead id TooFar k s is = refl
   land-ahead id Missing k s is = absurd (cc)

@@ -13,7 +13,7 @@ use Rattle.dfdl_grammar.specs.declared.end.End.{End}
 use Rattle.dfdl_grammar.specs.declared.end.End.TheVariants.{Done, Failed, Stopped}
 use Rattle.dfdl_grammar.specs.States.{Input, State, anchor}
 use Rattle.dfdl_grammar.specs.Outcomes.{Outcome}
-use Rattle.dfdl_grammar.specs.Leaves.{Find, DataEnd, Finds, program}
+use Rattle.dfdl_grammar.specs.Leaves.{Find, Fails, Finds, program}
 use Rattle.dfdl_grammar.specs.Elements.{begun, has_elements}
 use Rattle.dfdl_parse.specs.declared.frame.Frame.{Frame}
 use Rattle.dfdl_parse.specs.declared.frame.Frame.TheVariants.{Rest, Element}
@@ -38,7 +38,7 @@ Falls focus k move = 2 * length move.machine.stack + mode move.machine.focus < 4
 
 landed-falls : (window id rows : ℕ) (reached : Reached Find) (k : List Frame) (s : State) → is_missing reached ≡ false
     → 2 * length (landed window id reached k s).stack + mode (landed window id reached k s).focus < 4 * (1 + rows) + (2 * length k + 0)
-landed-falls window id rows (Told DataEnd) k s going = omega arith
+landed-falls window id rows (Told (Fails cause)) k s going = omega arith
 landed-falls window id rows (Told (Finds content bits)) k s going = omega arith
 landed-falls window id rows TooFar k s going = omega arith
 landed-falls window id rows Missing k s going = absurd (cc)

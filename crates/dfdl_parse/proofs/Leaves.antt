@@ -1,21 +1,17 @@
 -- The reading of an integer's leaf, by a run of bytes that are seen.
-use Rattle.std.proofs.Common.{◌≡◌, ℕ, zero, suc, ◌+◌, ◌-◌, ◌/◌, ◌%◌, ◌<◌, ◌≤◌, refl, List, [], ◌∷◌, ◌++◌, length, get_or, max, Option, None, Some, ap, sym, ◌∙◌, arith, zero-add}
+use Rattle.std.proofs.Common.{◌≡◌, ℕ, zero, suc, ◌+◌, ◌-◌, ◌/◌, ◌<◌, ◌≤◌, refl, List, [], ◌∷◌, ◌++◌, length, get_or, max, Option, None, Some, ap, sym, ◌∙◌, arith, zero-add}
 use Rattle.std.proofs.lemmas.List.{append-nil}
 use Rattle.dfdl_bits.specs.declared.window.Seen.{Seen}
 use Rattle.dfdl_bits.specs.declared.window.Seen.TheVariants.{Byte, End, NotYet, Over}
 use Rattle.dfdl_forms.specs.declared.binary.IntForm.{IntForm}
 use Rattle.dfdl_terms.specs.declared.row.Primitive.TheVariants.{Integer}
-use Rattle.dfdl_region.specs.declared.node.Content.{Content}
-use Rattle.dfdl_region.specs.declared.node.Content.TheVariants.{Unsigned}
-use Rattle.dfdl_forms.specs.Types.{form_of}
-use Rattle.dfdl_forms.specs.declared.simple.Form.{Form}
-use Rattle.dfdl_int_binary.specs.Integers.{field_of, value_in}
+use Rattle.dfdl_report.specs.declared.cause.ParseCause.TheVariants.{DataEnds}
 use Rattle.dfdl_looks.specs.Asks.{Ask, Answer, ask, look_at, Reading, Told}
 use Rattle.dfdl_looks.specs.Tallies.{nothing, Tally, saw_end}
 use Rattle.dfdl_looks.proofs.Resumed.{on_seen}
 use Rattle.dfdl_looks.proofs.Stretches.{after, after-looks, after-far, ask-stretch}
-use Rattle.dfdl_grammar.specs.Leaves.{IsUnsignedForm, Find, DataEnd, Finds, bytes_spanned, content_of, integer_in, program}
-use Rattle.dfdl_parse.specs.declared.leaf.Found.TheVariants.{Reads}
+use Rattle.dfdl_grammar.specs.Leaves.{Find, Fails, bytes_spanned, integer_in, program}
+use Rattle.dfdl_parse.specs.declared.leaf.Found.{Found}
 use Rattle.dfdl_parse.specs.declared.leaf.Glance.{Glance}
 use Rattle.dfdl_parse.specs.Steps.{Answers, CutShort, far_of_run, found_shown}
 
@@ -31,11 +27,11 @@ far-most k (suc n) = omega arith
 
 -- the readings of a leaf, and what they are told by
 told : (reading : Reading Find) (bits k n looks : ℕ) (t : Tally) (glance : Glance) (s : Seen) (go : Option ℕ → Ask Find) (look : ℕ → Seen)
-    → go None ≡ Answer DataEnd → t.looks ≡ n → t.far ≡ far_of_run k n → looks ≡ n + 1 → CutShort s k n glance
+    → go None ≡ Answer (Fails DataEnds) → t.looks ≡ n → t.far ≡ far_of_run k n → looks ≡ n + 1 → CutShort s k n glance
     → reading ≡ on_seen look go (k + n) t s → Answers reading bits glance looks
 told reading bits k n looks t glance (Byte byte) go look none count far cost short is = absurd short
 told reading bits k n looks t glance End go look none count far cost short is =
-    let whole : reading ≡ record { reached = Told DataEnd; tally = saw_end (k + n) t } = is ∙ ap (λ (a : Ask Find). ask look a (saw_end (k + n) t)) none in
+    let whole : reading ≡ record { reached = Told (Fails DataEnds); tally = saw_end (k + n) t } = is ∙ ap (λ (a : Ask Find). ask look a (saw_end (k + n) t)) none in
     let most = far-most k n in
     let looks_are : reading.tally.looks ≡ t.looks + 1 = ap (λ (r : Reading Find). r.tally.looks) whole in
     let far_is : reading.tally.far ≡ max t.far (k + n + 1) = ap (λ (r : Reading Find). r.tally.far) whole in
@@ -72,26 +68,23 @@ module _ (look : ℕ → Seen) (form : IntForm) (bit : ℕ) (bytes : List ℕ)
       let all : bytes_spanned bit form.bits ≡ length bytes + suc rest = omega arith in
       let next : ℕ = bit / 8 + length bytes in
       told (ask look (program (Integer form) bit) nothing) form.bits (bit / 8) (length bytes) looks (after (bit / 8) bytes nothing) glance (look next)
-      (λ o. elim o [ None ↦ Answer DataEnd | Some b ↦ look_at rest (next + 1) DataEnd (λ more. go (bytes ++ (b ∷ more))) ]) look
+      (λ o. elim o [ None ↦ Answer (Fails DataEnds) | Some b ↦ look_at rest (next + 1) (Fails DataEnds) (λ more. go (bytes ++ (b ∷ more))) ]) look
       refl (after-looks (bit / 8) bytes nothing ∙ zero-add (length bytes)) (stretch-far (bit / 8) bytes) cost short
-      (ask-stretch look bytes (bytes_spanned bit form.bits) (suc rest) (bit / 8) next DataEnd go nothing seen all refl)
+      (ask-stretch look bytes (bytes_spanned bit form.bits) (suc rest) (bit / 8) next (Fails DataEnds) go nothing seen all refl)
 
   -- the leaf whose bytes are the stretch
-  pub whole_read : IsUnsignedForm form → bytes_spanned bit form.bits ≡ length bytes → (number : ℕ) → number ≡ field_of form bytes (bit % 8)
+  pub whole_read : 1 ≤ form.bits → bytes_spanned bit form.bits ≡ length bytes
+      → (found : Found) → found_shown form.bits found ≡ Told (integer_in form bit bytes)
       → (far : ℕ) → far ≡ bit / 8 + length bytes → (looks : ℕ) → looks ≡ length bytes
-      → Answers (ask look (program (Integer form) bit) nothing) form.bits (record { found = Reads (Unsigned number); far = far }) looks
-  whole_read unsigned all number number_is far far_is looks cost =
+      → Answers (ask look (program (Integer form) bit) nothing) form.bits (record { found = found; far = far }) looks
+  whole_read some all found found_is far far_is looks cost =
       let go : List ℕ → Find = integer_in form bit in
       let none : bytes_spanned bit form.bits ≡ length bytes + 0 = omega arith in
       let ends : ask look (program (Integer form) bit) nothing ≡ record { reached = Told (go (bytes ++ [])); tally = after (bit / 8) bytes nothing } =
-      ask-stretch look bytes (bytes_spanned bit form.bits) 0 (bit / 8) (bit / 8 + length bytes) DataEnd go nothing seen none refl in
-      let some = unsigned.some in
+      ask-stretch look bytes (bytes_spanned bit form.bits) 0 (bit / 8) (bit / 8 + length bytes) (Fails DataEnds) go nothing seen none refl in
       let longer : 0 < length bytes = omega arith in
-      let content : content_of (value_in (form_of form.kind) form.bits form.point (field_of form bytes (bit % 8))) ≡ Unsigned number =
-      ap (λ (f : Form). content_of (value_in f form.bits form.point (field_of form bytes (bit % 8)))) unsigned.kind ∙ ap Unsigned (sym number_is) in
       record {
-        reached = ap (λ (r : Reading Find). r.reached) ends ∙ ap (λ (bs : List ℕ). Told (go bs)) (append-nil bytes)
-            ∙ ap (λ (c : Content). Told (Finds c form.bits)) content;
+        reached = ap (λ (r : Reading Find). r.reached) ends ∙ ap (λ (bs : List ℕ). Told (go bs)) (append-nil bytes) ∙ sym found_is;
         looks = ap (λ (r : Reading Find). r.tally.looks) ends ∙ after-looks (bit / 8) bytes nothing ∙ zero-add (length bytes) ∙ sym cost;
         far = ap (λ (r : Reading Find). r.tally.far) ends ∙ stretch-far (bit / 8) bytes ∙ far-some (bit / 8) (length bytes) longer ∙ sym far_is;
       }

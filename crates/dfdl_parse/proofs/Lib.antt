@@ -7,5 +7,4 @@ pub mod Advances
 pub mod Goes
 pub mod Feeds
 pub mod Fed
-pub mod Unsigned
 pub mod Paths

@@ -1,4 +1,3 @@
-pub mod Reads
 pub mod Machines
 pub mod Answers
 pub mod Shown

@@ -1,9 +1,8 @@
 -- What a session is over a stream of data that comes in pieces.
-use Rattle.std.specs.Prelude.{◌≡◌, ◌<◌, ◌≤◌, ℕ, ◌+◌, ◌*◌, ◌/◌, false, List, [], ◌++◌, length, All}
+use Rattle.std.specs.Prelude.{◌≡◌, ◌<◌, ◌≤◌, ℕ, ◌+◌, ◌*◌, ◌/◌, false, List, [], ◌++◌, length}
 use Rattle.dfdl_bits.specs.Window.{end_of, room_of}
 use Rattle.dfdl_grammar.specs.States.{Input}
 use Rattle.dfdl_grammar.specs.Outcomes.{Outcome}
-use Rattle.dfdl_grammar.specs.Leaves.{IsUnsigned}
 use Rattle.dfdl_grammar.specs.Documents.{document}
 use Rattle.dfdl_parse.specs.declared.frame.Focus.TheVariants.{Leave}
 use Rattle.dfdl_parse.specs.declared.session.Session.{Session}
@@ -32,7 +31,6 @@ pub record IsReady (s : Session) : Type 0 where
   pub room : 0 < room_of s.sight
   pub low : s.sight.base ≤ s.parser.at / 8
   pub at : s.parser.at ≤ 8 * end_of s.sight
-  pub unsigned : All IsUnsigned s.terms.now.primitives
   pub window : s.sight.size ≡ s.limits.window
   pub nodes : s.parser.region.most ≡ s.limits.nodes
   pub memory : s.lost ≡ false

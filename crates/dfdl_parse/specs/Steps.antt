@@ -3,10 +3,11 @@ use Rattle.std.specs.Prelude.{◌≡◌, ◌≤◌, ℕ, zero, suc, ◌+◌, ◌
 use Rattle.dfdl_bits.specs.Window.{Held}
 use Rattle.dfdl_bits.specs.declared.window.Seen.{Seen}
 use Rattle.dfdl_bits.specs.declared.window.Seen.TheVariants.{Byte, End, Over, NotYet as NotSeen}
+use Rattle.dfdl_report.specs.declared.cause.ParseCause.TheVariants.{DataEnds}
 use Rattle.dfdl_looks.specs.Asks.{Reached, Told, TooFar, Missing, Reading}
-use Rattle.dfdl_grammar.specs.Leaves.{Find, DataEnd, Finds}
+use Rattle.dfdl_grammar.specs.Leaves.{Find, Fails, Finds}
 use Rattle.dfdl_parse.specs.declared.leaf.Found.{Found}
-use Rattle.dfdl_parse.specs.declared.leaf.Found.TheVariants.{Reads, Ends, Past, NotYet}
+use Rattle.dfdl_parse.specs.declared.leaf.Found.TheVariants.{Reads, Fails as HasFailed, Past, NotYet}
 use Rattle.dfdl_parse.specs.declared.leaf.Glance.{Glance}
 use Rattle.dfdl_parse.specs.declared.parser.Parser.{Parser}
 use Rattle.dfdl_parse.specs.Machines.{Move}
@@ -15,7 +16,7 @@ use Rattle.dfdl_parse.specs.Shown.{shown}
 -- what is found in a leaf of so many bits
 abbrev pub found_shown : ℕ → Found → Reached Find
 found_shown bits (Reads content) = Told (Finds content bits)
-found_shown bits Ends = Told DataEnd
+found_shown bits (HasFailed cause) = Told (Fails cause)
 found_shown bits Past = TooFar
 found_shown bits NotYet = Missing
 
@@ -27,14 +28,14 @@ far_of_run first (suc count) = first + suc count
 -- what a look behind so many bytes of a leaf makes of it, where it sees no byte
 abbrev pub CutShort : Seen → ℕ → ℕ → Glance → Type 0
 CutShort (Byte byte) first count glance = ⊥
-CutShort End first count glance = (glance.found ≡ Ends) × (glance.far ≡ first + count + 1)
+CutShort End first count glance = (glance.found ≡ HasFailed DataEnds) × (glance.far ≡ first + count + 1)
 CutShort NotSeen first count glance = (glance.found ≡ NotYet) × (glance.far ≡ far_of_run first count)
 CutShort Over first count glance = (glance.found ≡ Past) × (glance.far ≡ far_of_run first count)
 
 -- a leaf that is read lies in the bytes before this one
 abbrev pub IsWithin : Found → ℕ → ℕ → Type 0
 IsWithin (Reads content) behind end = behind ≤ 8 * end
-IsWithin Ends behind end = Unit {0}
+IsWithin (HasFailed cause) behind end = Unit {0}
 IsWithin Past behind end = Unit {0}
 IsWithin NotYet behind end = Unit {0}
 

@@ -1,17 +1,21 @@
 // The content of a leaf, by looks at the bytes that its bits lie in.
-ghost use Rattle.std.specs.Prelude.{◌≡◌, ℕ, ◌+◌, ◌-◌, ◌*◌, ◌/◌, ◌%◌, ◌^◌, ◌<◌, ◌≤◌, length};
+ghost use Rattle.std.specs.Prelude.{◌≡◌, ℕ, ◌+◌, ◌-◌, ◌*◌, ◌/◌, ◌%◌, ◌^◌, ◌<◌, ◌≤◌, Some, length};
 ghost use Rattle.dfdl_bits.specs.Window.{end_of, seen_at};
 ghost use Rattle.dfdl_forms.specs.declared.binary.IntForm.{IntForm};
 ghost use Rattle.dfdl_terms.specs.declared.row.Primitive.TheVariants.{Integer};
-ghost use Rattle.dfdl_grammar.specs.Leaves.{IsUnsignedForm, bytes_spanned, program};
-ghost use Rattle.dfdl_looks.specs.Asks.{ask};
+ghost use Rattle.dfdl_forms.specs.BinaryNumbers.{IsIntForm};
+ghost use Rattle.dfdl_grammar.specs.Leaves.{bytes_spanned, find_of, integer_in, program};
+ghost use Rattle.dfdl_looks.specs.Asks.{Told, ask};
 ghost use Rattle.dfdl_looks.specs.Tallies.{nothing};
 ghost use Rattle.dfdl_bits.specs.declared.window.Seen.TheVariants.{Byte};
-ghost use Rattle.dfdl_parse.specs.Steps.{Answers, CutShort, IsWithin, far_of_run};
+ghost use Rattle.dfdl_parse.specs.Steps.{Answers, CutShort, IsWithin, far_of_run, found_shown};
 
 use dfdl_bits::{Seen, Steps, Window, number_at};
-use dfdl_forms::IntForm;
+use dfdl_forms::{Form, IntForm};
+use dfdl_int_binary::read;
 use dfdl_region::Content;
+use dfdl_report::ParseCause;
+use dfdl_value::Value;
 use std::sync::ledger::Ledger;
 
 /// What a leaf comes to.
@@ -19,8 +23,8 @@ use std::sync::ledger::Ledger;
 pub(crate) enum Found {
     /// Its content.
     Reads(Content),
-    /// The data end in it.
-    Ends,
+    /// It has none, for this cause.
+    Fails(ParseCause),
     /// A byte of it is too far from the first that is still needed.
     Past,
     /// A byte of it hasn't come.
@@ -34,7 +38,7 @@ pub(crate) struct Glance {
     pub(crate) far: u64,
 }
 
-/// Reads an unsigned integer of at most 128 bits that begins at a bit.
+/// Reads an integer or a decimal that begins at a bit.
 pub(crate) fn read_integer<L: Ledger>(
     form: &IntForm,
     bit: u64,
@@ -44,8 +48,7 @@ pub(crate) fn read_integer<L: Ledger>(
     requires base { sight.now.base ≤ bit / 8 }
     requires at { bit ≤ 8 * end_of sight.now }
     requires bound { end_of sight.now ≤ 2 ^ 60 }
-    requires unsigned { IsUnsignedForm form.now }
-    requires few { form.now.bits ≤ 128 }
+    requires form { IsIntForm form.now }
     ensures answers { Answers (ask (seen_at sight.now) (program (Integer form.now) bit) nothing) form.now.bits result (steps.new - steps.old) }
     ensures steps { steps.old ≤ steps.new }
     ensures within { IsWithin result.found (bit + form.now.bits) (end_of sight.now) }
@@ -56,10 +59,40 @@ pub(crate) fn read_integer<L: Ledger>(
     if run.len() < count {
         return cut(first, run.len(), sight, steps);
     }
-    let number = number_at(run, bit % 8, form.bits, form.bytes_by, form.bits_by);
+    let found = found_in(form, bit, run);
     Glance {
-        found: Found::Reads(Content::Unsigned(number)),
+        found,
         far: first + count as u64,
+    }
+}
+
+// What a number is found as in the bytes that its bits lie in.
+fn found_in(form: &IntForm, bit: u64, bytes: &[u8]) -> Found
+    requires form { IsIntForm form.now }
+    requires inside { bit % 8 + form.now.bits ≤ 8 * length bytes.now }
+    ensures { found_shown form.now.bits result ≡ Told (integer_in form.now bit bytes.now) }
+{
+    if let Form::Unsigned { .. } = form.kind.form() {
+        let number = number_at(bytes, bit % 8, form.bits, form.bytes_by, form.bits_by);
+        return Found::Reads(Content::Unsigned(number));
+    }
+    match read(bytes, bit % 8, form) {
+        Ok(value) => found_of(&value),
+        Err(_) => Found::Fails(ParseCause::PastType),
+    }
+}
+
+// What a value is found as.
+fn found_of(value: &Value) -> Found
+    ensures { (bits : ℕ) → found_shown bits result ≡ Told (find_of bits (Some value.now)) }
+{
+    match value {
+        Value::Int(number) => Found::Reads(Content::Signed(*number)),
+        Value::Uns(number) => Found::Reads(Content::Unsigned(*number)),
+        Value::Dec(number) => Found::Reads(Content::Decimal(*number)),
+        Value::Text(_) => Found::Fails(ParseCause::PastType),
+        Value::Truth(_) => Found::Fails(ParseCause::PastType),
+        Value::Bytes(_) => Found::Fails(ParseCause::PastType),
     }
 }
 
@@ -76,7 +109,7 @@ fn cut<L: Ledger>(first: u64, count: usize, sight: &Window, steps: &mut Steps<L>
     match sight.look(next, steps) {
         Seen::Byte(_) => unreachable!(),
         Seen::End => Glance {
-            found: Found::Ends,
+            found: Found::Fails(ParseCause::DataEnds),
             far: next + 1,
         },
         Seen::NotYet => Glance {

@@ -1,7 +1,6 @@
 // The machine: what is done next, the stack, and the state.
-ghost use Rattle.std.specs.Prelude.{◌≡◌, length, ◌+◌, ◌-◌, ◌*◌, ◌/◌, ◌^◌, ◌<◌, ◌≤◌, ◌↔◌, ◌∷◌, [], ℕ, List, true, false, All, IfOk, IfSome, OnOk, IsTrue, Some, slice_get};
+ghost use Rattle.std.specs.Prelude.{◌≡◌, length, ◌+◌, ◌-◌, ◌*◌, ◌/◌, ◌^◌, ◌<◌, ◌≤◌, ◌↔◌, ◌∷◌, [], ℕ, List, true, false, IfOk, IfSome, OnOk, IsTrue, Some, slice_get};
 ghost use Rattle.dfdl_bits.specs.Window.{Held, end_of};
-ghost use Rattle.dfdl_grammar.specs.Leaves.{IsUnsigned};
 ghost use Rattle.dfdl_terms.specs.Rows.{IsPrimitive};
 ghost use Rattle.dfdl_grammar.specs.declared.end.End.TheVariants.{Done};
 ghost use Rattle.dfdl_grammar.specs.Elements.{left};
@@ -21,7 +20,7 @@ use dfdl_bits::{Steps, Window};
 use dfdl_forms::IntForm;
 use dfdl_grammar::End;
 use dfdl_region::{Content, Node, NodeRegion};
-use dfdl_report::{LimitCause, ParseCause};
+use dfdl_report::LimitCause;
 use dfdl_terms::{Primitive, Row, RowId, Terms};
 use std::alloc::{AllocError, Global};
 use std::sync::ledger::Ledger;
@@ -94,7 +93,6 @@ impl Parser {
     ) -> Result<bool, AllocError>
         requires base { sight.old.base ≤ self.old.at / 8 }
         requires at { self.old.at ≤ 8 * end_of sight.old }
-        requires unsigned { All IsUnsigned terms.now.primitives }
         ensures moved { IfOk result (λ waits. Moved
             (step self.old.region.most terms.now sight.old self.old.focus self.old.stack (state_of self.old))
             waits self.old.far self.new sight.new (steps.new - steps.old)) }
@@ -127,7 +125,6 @@ impl Parser {
         requires focus { self.old.focus ≡ Focus.Enter id }
         requires base { sight.old.base ≤ self.old.at / 8 }
         requires at { self.old.at ≤ 8 * end_of sight.old }
-        requires unsigned { All IsUnsigned terms.now.primitives }
         ensures moved { IfOk result (λ waits. Moved
             (enter self.old.region.most terms.now sight.old id (slice_get terms.now.rows id) self.old.stack (state_of self.old))
             waits self.old.far self.new sight.new (steps.new - steps.old)) }
@@ -168,8 +165,7 @@ impl Parser {
         requires focus { self.old.focus ≡ Focus.Enter id }
         requires base { sight.old.base ≤ self.old.at / 8 }
         requires at { self.old.at ≤ 8 * end_of sight.old }
-        requires unsigned { IsUnsigned primitive }
-        requires few { IsPrimitive primitive }
+        requires primitive { IsPrimitive primitive }
         ensures moved { Moved (read_leaf sight.old id (Some primitive) self.old.stack (state_of self.old))
             result self.old.far self.new sight.new (steps.new - steps.old) }
         ensures steps { steps.old ≤ steps.new }
@@ -195,16 +191,16 @@ impl Parser {
         ensures low { self.old.at ≤ self.new.at }
         ensures at { (end : ℕ) → self.old.at ≤ 8 * end → IsWithin glance.found (self.old.at + bits) end → self.new.at ≤ 8 * end }
     {
-        match glance.found {
+        match &glance.found {
             Found::NotYet => return true,
             Found::Reads(content) => {
-                self.region.set_content(self.inside, content);
+                self.region.set_content(self.inside, *content);
                 self.at += u64::from(bits);
                 self.focus = Focus::Leave(End::Done);
             }
-            Found::Ends => {
+            Found::Fails(cause) => {
                 self.focus = Focus::Leave(End::Failed {
-                    cause: ParseCause::DataEnds,
+                    cause: *cause,
                     bit: self.at,
                 });
             }
@@ -384,7 +380,7 @@ fn answer_of(end: End) -> Outcome
 }
 
 // The form of an integer.
-pub(crate) fn integer_of(primitive: Primitive) -> IntForm
+fn integer_of(primitive: Primitive) -> IntForm
     ensures { primitive ≡ Primitive.Integer result }
 {
     let Primitive::Integer(form) = primitive;

@@ -1,7 +1,6 @@
 // The machine runs until it has ended or waits for a byte.
-ghost use Rattle.std.specs.Prelude.{◌≡◌, ◌*◌, ◌/◌, ◌≤◌, ◌-◌, All, IfOk, OnOk, true, false};
+ghost use Rattle.std.specs.Prelude.{◌≡◌, ◌*◌, ◌/◌, ◌≤◌, ◌-◌, IfOk, OnOk, true, false};
 ghost use Rattle.dfdl_bits.specs.Window.{end_of};
-ghost use Rattle.dfdl_grammar.specs.Leaves.{IsUnsigned};
 ghost use Rattle.dfdl_parse.specs.Machines.{HasEnded};
 ghost use Rattle.dfdl_parse.specs.Running.{Advanced, Waited};
 
@@ -20,7 +19,6 @@ pub(crate) fn run<L: Ledger>(
 ) -> Result<bool, AllocError>
     requires base { sight.old.base ≤ parser.old.at / 8 }
     requires at { parser.old.at ≤ 8 * end_of sight.old }
-    requires unsigned { All IsUnsigned terms.now.primitives }
     ensures waits { IfOk result (λ waits. waits ≡ true
         → Waited terms.now parser.old parser.new sight.old sight.new (steps.new - steps.old)) }
     ensures ended { IfOk result (λ waits. waits ≡ false

@@ -1,7 +1,6 @@
 // A document that is parsed while its data come.
-ghost use Rattle.std.specs.Prelude.{◌≡◌, ◌+◌, ◌-◌, ◌*◌, ◌/◌, ◌^◌, ◌<◌, ◌≤◌, ℕ, List, [], ◌++◌, true, false, All, IfOk, OnErr, OnOk, if◌then◌else◌, length, string_bytes};
+ghost use Rattle.std.specs.Prelude.{◌≡◌, ◌+◌, ◌-◌, ◌*◌, ◌/◌, ◌^◌, ◌<◌, ◌≤◌, ℕ, List, [], ◌++◌, true, false, IfOk, OnErr, OnOk, if◌then◌else◌, length, string_bytes};
 ghost use Rattle.dfdl_bits.specs.Window.{end_of, room_of};
-ghost use Rattle.dfdl_grammar.specs.Leaves.{IsUnsigned};
 ghost use Rattle.dfdl_grammar.specs.Paths.{path_of};
 ghost use Rattle.dfdl_parse.specs.Machines.{HasEnded};
 ghost use Rattle.dfdl_parse.specs.Running.{Advanced, Waited};
@@ -33,7 +32,6 @@ pub struct Session<'t> {
 impl<'t> Session<'t> {
     /// A session over no data yet, with the memory for the window and the elements.
     pub fn open(alloc: Global, terms: &'t Terms, limits: Limits) -> Result<Session<'t>, AllocError>
-        requires unsigned { All IsUnsigned terms.now.primitives }
         requires window { 1 ≤ limits.window }
         requires nodes { 1 ≤ limits.nodes }
         ensures ready { IfOk result (λ s. IsReady s) }
@@ -79,7 +77,6 @@ impl<'t> Session<'t> {
     fn run<L: Ledger>(&mut self, steps: &mut Steps<L>) -> Result<bool, AllocError>
         requires base { self.old.sight.base ≤ self.old.parser.at / 8 }
         requires at { self.old.parser.at ≤ 8 * end_of self.old.sight }
-        requires unsigned { All IsUnsigned self.old.terms.now.primitives }
         ensures waits { IfOk result (λ waits. waits ≡ true
             → Waited self.old.terms.now self.old.parser self.new.parser self.old.sight self.new.sight (steps.new - steps.old)) }
         ensures ended { IfOk result (λ waits. waits ≡ false

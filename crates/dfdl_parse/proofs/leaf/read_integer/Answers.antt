@@ -13,6 +13,6 @@ returns-then-run-count-clause-answers g c =
 pub returns-clause-answers : goal.returns-clause-answers
 returns-clause-answers g c =
     let all : bytes_spanned c.args.bit c.args.form.now.bits ≡ length c.run-run.result.now = omega arith in
-    whole_read (seen_at c.args.sight.now) c.args.form.now c.args.bit c.run-run.result.now c.run-run.ensures.seen c.requires.unsigned all
-    c.number_at-number.result c.number_at-number.ensures.number (c.args.bit / 8 + c.spanned-count.result) (omega arith)
+    whole_read (seen_at c.args.sight.now) c.args.form.now c.args.bit c.run-run.result.now c.run-run.ensures.seen c.requires.form.some all
+    c.found_in-found.result c.found_in-found.ensures (c.args.bit / 8 + c.spanned-count.result) (omega arith)
     (c.run-run.new.steps - c.args.steps.now) (omega arith)

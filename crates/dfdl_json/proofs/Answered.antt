@@ -1,12 +1,11 @@
 -- The answer that follows from what was found in the content of the root element.
-use Rattle.std.proofs.Common.{◌≡◌, ℕ, Vec, Global, List, [], ◌++◌, fold, Option, None, Some, Result, Ok, Err, IfOk, sym, ap, subst, ◌∙◌}
+use Rattle.std.proofs.Common.{◌≡◌, ℕ, Vec, Global, List, [], ◌++◌, fold, None, Some, Result, Ok, Err, IfOk, sym, ap, subst, ◌∙◌}
 use Rattle.serde_json.specs.Data.{Data}
 use Rattle.dfdl_terms.specs.declared.event.Event.{Event}
-use Rattle.dfdl_terms.specs.Rows.{Table, Nests}
+use Rattle.dfdl_terms.specs.Rows.{HasElementLast, Nests, Table}
 use Rattle.dfdl_json.specs.declared.fault.InfosetFault.{InfosetFault}
-use Rattle.dfdl_json.specs.declared.fault.InfosetFault.TheVariants.{Bad, OutOfMemory}
 use Rattle.dfdl_json.specs.Answers.{Answers}
-use Rattle.dfdl_json.specs.Children.{HasElementLast, name_of, root_row}
+use Rattle.dfdl_json.specs.Children.{name_of, root_row}
 use Rattle.dfdl_json.specs.Fitting.{Fits}
 use Rattle.dfdl_json.specs.Found.{Found, noted}
 use Rattle.dfdl_json.specs.Infosets.{Refusal, answer_of, content_in, events_in, findings, root_findings, unless_refused}

@@ -1,14 +1,13 @@
 -- The elements that a row declares are it or below it, and take no more steps than it.
-use Rattle.std.proofs.Common.{◌≡◌, ℕ, suc, ◌+◌, ◌<◌, ◌≤◌, List, [], ◌∷◌, ◌++◌, length, All, map, get_or, Option, None, Some, slice_get, refl, sym, ap, subst, ◌∙◌, arith, inl, inr}
+use Rattle.std.proofs.Common.{◌≡◌, ℕ, suc, ◌<◌, ◌≤◌, List, [], ◌∷◌, All, map, Option, None, Some, slice_get, refl, sym, subst, arith, inl, inr}
 use Rattle.std.specs.List.{flat_map}
 use Rattle.std.proofs.lemmas.Bool.{cases_lt}
 use Rattle.std.proofs.lemmas.List.Elements.{All-cons, All-nil, All-append}
-use Rattle.dfdl_forms.specs.declared.simple.Simple.{Simple}
 use Rattle.dfdl_terms.specs.declared.row.Row.{Row}
 use Rattle.dfdl_terms.specs.declared.row.Row.TheVariants.{Leaf, Elem, Group}
-use Rattle.dfdl_terms.specs.Rows.{Table}
-use Rattle.dfdl_json.specs.ByRows.{below, by_rows}
-use Rattle.dfdl_json.specs.Children.{IsElementRow, declared_by, elements_in}
+use Rattle.dfdl_terms.specs.Rows.{IsElementRow, Table}
+use Rattle.dfdl_json.specs.ByRows.{below}
+use Rattle.dfdl_json.specs.Children.{declared_by, elements_in}
 use Rattle.dfdl_json.specs.Steps.{steps_by, steps_of, total}
 use Rattle.dfdl_json.proofs.RowValues.{row_is, below_is, below_past, by_numbers}
 use Rattle.dfdl_json.proofs.Declares.{total_both}

@@ -1,5 +1,5 @@
 -- Where nothing is refused, the events that are said fit the terms.
-use Rattle.std.proofs.Common.{◌≡◌, ℕ, suc, ◌<◌, ◌≤◌, Bool, true, false, cond, List, [], ◌∷◌, ◌++◌, All, Option, None, Some, Result, Ok, Err, slice_get, refl, sym, ap, subst, ◌∙◌, arith, append_assoc, inl, inr}
+use Rattle.std.proofs.Common.{◌≡◌, ℕ, suc, ◌<◌, List, [], ◌∷◌, ◌++◌, All, Option, None, Some, Result, Ok, Err, slice_get, refl, sym, ap, subst, ◌∙◌, arith, inl, inr}
 use Rattle.std.proofs.lemmas.Bool.{cases_Bool}
 use Rattle.std.proofs.lemmas.Option.{slice_get_within}
 use Rattle.dfdl_value.specs.Types.{IsOfType}
@@ -11,12 +11,12 @@ use Rattle.dfdl_value.specs.declared.value.Value.{Value}
 use Rattle.dfdl_terms.specs.declared.row.Row.{Row}
 use Rattle.dfdl_terms.specs.declared.row.Row.TheVariants.{Leaf, Elem, Group}
 use Rattle.dfdl_terms.specs.declared.event.Event.{Event}
-use Rattle.dfdl_terms.specs.declared.event.Event.TheVariants.{Start, Simple as SimpleElement, End}
-use Rattle.dfdl_terms.specs.Rows.{Table, ChildrenBelow, Nests}
+use Rattle.dfdl_terms.specs.declared.event.Event.TheVariants.{Start, End}
+use Rattle.dfdl_terms.specs.Rows.{HasElementLast, IsElementRow, Nests, Table}
 use Rattle.dfdl_report.specs.declared.cause.InfosetCause.{InfosetCause}
-use Rattle.dfdl_json.specs.Children.{HasElementLast, IsElementRow, elements_in, name_of, root_row}
+use Rattle.dfdl_json.specs.Children.{elements_in, name_of, root_row}
 use Rattle.dfdl_json.specs.Fitting.{IsElement, AreInside, simple, complex, nothing, absent, present, Fits}
-use Rattle.dfdl_json.specs.Infosets.{Finding, Says, Refuses, Placed, Refusal, answer_of, are_known, children_findings, complex_findings, content_in, counting, events_in, events_said, findings, member_findings, root_findings, simple_findings, unknown_findings, unless_refused, value_in}
+use Rattle.dfdl_json.specs.Infosets.{Finding, Says, Refuses, Placed, answer_of, are_known, children_findings, complex_findings, content_in, counting, events_in, events_said, findings, member_findings, root_findings, simple_findings, unknown_findings, unless_refused, value_in}
 use Rattle.dfdl_json.specs.Paths.{Names}
 use Rattle.dfdl_json.proofs.Below.{are_below}
 use Rattle.dfdl_json.proofs.Contents.{simple_says, complex_says}

@@ -1,19 +1,19 @@
 -- One more node of an infoset, and that the infoset has no float.
-use Rattle.std.proofs.Common.{◌≡◌, ℕ, suc, ◌+◌, ◌-◌, ◌<◌, ◌≤◌, Bool, true, false, cond, ◌||◌, nat_eq, List, [], ◌∷◌, ◌++◌, length, drop, get_or, refl, sym, ap, subst, ◌∙◌, arith, nat_cmp, String, Global, drop-cons, inl, inr}
+use Rattle.std.proofs.Common.{◌≡◌, ℕ, suc, ◌+◌, ◌-◌, ◌≤◌, Bool, true, false, ◌||◌, nat_eq, List, [], ◌∷◌, ◌++◌, length, drop, get_or, refl, sym, ap, subst, ◌∙◌, arith, nat_cmp, String, Global, drop-cons}
 use Rattle.std.specs.BTreeMap.{BTreeMap}
 use Rattle.std.specs.declared.cmp.Ordering.TheVariants.{Less, Equal, Greater}
 use Rattle.std.specs.Ordering.{match_ordering}
 use Rattle.std.specs.Cmp.Lexicographic.{slice_cmp}
-use Rattle.std.proofs.lemmas.Bool.{cases_Bool, cond_both, or_parts, or_from}
-use Rattle.serde_json.specs.Data.{Data, Members, no_members, member, put, string, object}
+use Rattle.std.proofs.lemmas.Bool.{or_parts, or_from}
+use Rattle.serde_json.specs.Data.{Data, Members, no_members, member, put}
 use Rattle.serde_json.specs.Written.{has_float, members_have_float, compact_text}
 use Rattle.serde_json.specs.declared.value.Value.{Value}
 use Rattle.dfdl_region.specs.declared.node.Node.{Node}
 use Rattle.dfdl_region.specs.declared.node.Content.{Content}
-use Rattle.dfdl_region.specs.declared.node.Content.TheVariants.{Begun, Complex, Unsigned}
+use Rattle.dfdl_region.specs.declared.node.Content.TheVariants.{Begun, Complex, Signed, Unsigned, Decimal}
 use Rattle.dfdl_terms.specs.Rows.{Table}
 use Rattle.dfdl_json.specs.Children.{name_of}
-use Rattle.dfdl_json.specs.Inside.{HaveMembers, put_if, shown}
+use Rattle.dfdl_json.specs.Inside.{HaveMembers, put_if}
 use Rattle.dfdl_json.specs.Lines.{data_of, infoset_of, line_of, members_of}
 
 -- the members by a node and those behind it
@@ -53,7 +53,9 @@ put-no_float k d (member l e ms) plain none =
     ]
 
 data-no_float : (content : Content) (entries : Members) → members_have_float entries ≡ false → has_float (data_of content entries) ≡ false
+data-no_float (Signed z) entries none = refl
 data-no_float (Unsigned n) entries none = refl
+data-no_float (Decimal d) entries none = refl
 data-no_float Complex entries none = none
 data-no_float Begun entries none = none
 

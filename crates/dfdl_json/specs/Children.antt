@@ -1,7 +1,6 @@
 -- The elements that a schema declares: their names, and which of them stand in one another.
 use Rattle.std.specs.Prelude.{ℕ, ◌-◌, List, [], ◌∷◌, length, Option, Some, None, slice_get}
 use Rattle.std.specs.List.{flat_map}
-use Rattle.dfdl_forms.specs.declared.simple.Simple.{Simple}
 use Rattle.dfdl_terms.specs.declared.row.Row.{Row}
 use Rattle.dfdl_terms.specs.declared.row.Row.TheVariants.{Leaf, Elem, Group}
 use Rattle.dfdl_terms.specs.Rows.{Table}
@@ -10,17 +9,6 @@ use Rattle.dfdl_json.specs.ByRows.{by_rows}
 -- the row of the root element
 abbrev pub root_row : Table → ℕ
 root_row t = length t.rows - 1
-
--- the row is an element
-abbrev pub IsElementRow : Option Row → Type 0
-IsElementRow (Some (Elem name simple body)) = Unit {0}
-IsElementRow (Some (Leaf prim)) = ⊥
-IsElementRow (Some (Group children)) = ⊥
-IsElementRow None = ⊥
-
--- the last row is an element, as that of a schema is
-abbrev pub HasElementLast : Table → Type 0
-HasElementLast t = IsElementRow (slice_get t.rows (root_row t))
 
 -- the local name of a row's element; other rows have none
 abbrev pub name_in : Option Row → List ℕ

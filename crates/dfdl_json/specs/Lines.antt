@@ -1,17 +1,21 @@
 -- The infoset of parsed data, and its text: compact JSON and one line feed ('The DFDL Information Set').
-use Rattle.std.specs.Prelude.{ℕ, ◌+◌, nat_eq, if◌then◌else◌, List, [], ◌∷◌, ◌++◌, decimal}
+use Rattle.std.specs.Prelude.{ℕ, ◌+◌, nat_eq, if◌then◌else◌, List, [], ◌∷◌, ◌++◌}
 use Rattle.serde_json.specs.Data.{Data, string, object, Members, no_members, put}
 use Rattle.serde_json.specs.Written.{compact_text}
+use Rattle.dfdl_value.specs.declared.value.Value.TheVariants.{Int, Uns, Dec}
+use Rattle.dfdl_value.specs.Writing.{text_of}
 use Rattle.dfdl_terms.specs.Rows.{Table}
 use Rattle.dfdl_region.specs.declared.node.Node.{Node}
 use Rattle.dfdl_region.specs.declared.node.Content.{Content}
-use Rattle.dfdl_region.specs.declared.node.Content.TheVariants.{Begun, Complex, Unsigned}
+use Rattle.dfdl_region.specs.declared.node.Content.TheVariants.{Begun, Complex, Signed, Unsigned, Decimal}
 use Rattle.dfdl_json.specs.Children.{name_of}
 
--- the data of an element with this content: a number is its decimal digits, and another element, read to its end or
--- not, has a member for each element in it
+-- the data of an element with this content: a value is its text, and another element, read to its end or not, has a
+-- member for each element in it
 abbrev pub data_of : Content → Members → Data
-data_of (Unsigned number) entries = string (decimal number)
+data_of (Signed number) entries = string (text_of (Int number))
+data_of (Unsigned number) entries = string (text_of (Uns number))
+data_of (Decimal number) entries = string (text_of (Dec number))
 data_of Complex entries = object entries
 data_of Begun entries = object entries
 

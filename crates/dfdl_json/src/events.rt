@@ -2,7 +2,7 @@
 ghost use Rattle.std.specs.Prelude.{IfOk};
 ghost use Rattle.serde_json.specs.View.{view};
 ghost use Rattle.dfdl_json.specs.Answers.{Answers};
-ghost use Rattle.dfdl_json.specs.Children.{HasElementLast};
+ghost use Rattle.dfdl_terms.specs.Rows.{HasElementLast};
 ghost use Rattle.dfdl_json.specs.Fitting.{Fits};
 ghost use Rattle.dfdl_json.specs.Infosets.{events_in};
 

@@ -1,5 +1,6 @@
 // The line of the infoset of parsed data.
-ghost use Rattle.std.specs.Prelude.{◌≡◌, ◌≤◌, ℕ, suc, nat_eq, IfOk, OnOk, length, drop};
+ghost use Rattle.std.specs.Prelude.{◌≡◌, ◌≤◌, ℕ, suc, nat_eq, IfOk, OnOk, length, drop, string_bytes};
+ghost use Rattle.dfdl_value.specs.Writing.{text_of};
 ghost use Rattle.serde_json.specs.Data.{Members, no_members};
 ghost use Rattle.serde_json.specs.View.{view};
 ghost use Rattle.dfdl_json.specs.Inside.{HaveMembers, IsPut, put_if, shown};
@@ -7,9 +8,10 @@ ghost use Rattle.dfdl_json.specs.Children as children;
 ghost use Rattle.dfdl_json.specs.Lines as lines;
 
 use crate::children::name_of;
+use dfdl_decimal::Fixed;
 use dfdl_region::{Content, Node};
 use dfdl_terms::Terms;
-use dfdl_value::TextValue;
+use dfdl_value::{TextValue, Value};
 use serde_json::{Map, Value as Json};
 use std::alloc::{AllocError, Global};
 
@@ -121,8 +123,18 @@ fn value_with(
     ensures { IfOk result (λ value. view value ≡ lines.data_of content (shown members)) }
 {
     match content {
+        Content::Signed(number) => Ok(Json::String(number.to_string(alloc)?)),
         Content::Unsigned(number) => Ok(Json::String(number.to_string(alloc)?)),
+        Content::Decimal(number) => Ok(Json::String(decimal_text(alloc, number)?)),
         Content::Complex => Ok(Json::Object(members)),
         Content::Begun => Ok(Json::Object(members)),
     }
+}
+
+// The text of a decimal.
+fn decimal_text(alloc: Global, number: Fixed) -> Result<String, AllocError>
+    ensures { IfOk result (λ text. string_bytes text ≡ text_of (Value.Dec number)) }
+{
+    let text = Value::Dec(number).text(alloc)?;
+    Ok(String::from_str(alloc, text.as_str())?)
 }

@@ -1,10 +1,12 @@
 // Infosets of `r`, which has `a` with `x` and, in a group inside, `y`, and behind `a` the number `b`.
 ghost use Rattle.std.specs.Prelude.{◌≡◌, ◌≤◌, IfOk};
-ghost use Rattle.dfdl_terms.specs.Rows.{IsPrimitive};
+ghost use Rattle.dfdl_forms.specs.Types.{form_of};
+ghost use Rattle.dfdl_forms.specs.Binary.{most_bits};
+ghost use Rattle.dfdl_terms.specs.Rows.{HasElementLast, IsPrimitive};
 ghost use Rattle.dfdl_terms.specs.declared.row.Row.TheVariants.{Elem, Group};
-ghost use Rattle.dfdl_json.specs.Children.{HasElementLast};
 
 use crate::{InfosetFault, OpenElements, events_of, events_of_json, line_of, name_of};
+use dfdl_decimal::Fixed;
 use dfdl_forms::{BitOrder, ByteOrder, IntForm};
 use dfdl_region::{Content, Node};
 use dfdl_terms::{Event, Primitive, Row, RowId, RowList, Tables, Terms};
@@ -13,7 +15,9 @@ use std::alloc::{AllocError, Global};
 use std::test::Fail;
 
 fn form(bits: u32, kind: Simple) -> Primitive
-    requires { bits ≤ 128 }
+    requires some { 1 ≤ bits }
+    requires few { bits ≤ most_bits (form_of kind) }
+    requires short { bits ≤ 128 }
     ensures { IsPrimitive result }
 {
     Primitive::Integer(IntForm {
@@ -163,6 +167,24 @@ fn the_members_of_a_line_are_in_the_order_of_their_names(rt: HostRuntime) -> Res
     assert_eq!(rt;
         line.as_str(),
         "{\"r\":{\"a\":{\"x\":\"1\",\"y\":\"2\"},\"b\":\"3\"}}\n"
+    );
+    Ok(())
+}
+
+#[test]
+fn numbers_of_a_line_are_in_plain_decimal_digits(rt: HostRuntime) -> Result<(), Fail> {
+    let terms = nested(rt.alloc())?;
+    let nodes = [
+        node(8, 0, Content::Complex),
+        node(5, 0, Content::Complex),
+        node(1, 1, Content::Signed(-2)),
+        node(2, 1, Content::Decimal(Fixed::new(-1234, 2))),
+        node(6, 0, Content::Decimal(Fixed::new(5, 0))),
+    ];
+    let line = line_of(rt.alloc(), &terms, &nodes)?;
+    assert_eq!(rt;
+        line.as_str(),
+        "{\"r\":{\"a\":{\"x\":\"-2\",\"y\":\"-12.34\"},\"b\":\"5\"}}\n"
     );
     Ok(())
 }

@@ -4,8 +4,7 @@ use Rattle.dfdl_forms.specs.declared.simple.Simple.{Simple}
 use Rattle.dfdl_terms.specs.declared.row.Primitive.{Primitive}
 use Rattle.dfdl_terms.specs.declared.row.Row.{Row}
 use Rattle.dfdl_terms.specs.declared.row.Row.TheVariants.{Leaf, Elem, Group}
-use Rattle.dfdl_terms.specs.Rows.{Table, IsPrimitive, NamesWithin}
-use Rattle.dfdl_json.specs.Children.{HasElementLast}
+use Rattle.dfdl_terms.specs.Rows.{HasElementLast, IsPrimitive, NamesWithin, Table}
 use Rattle.dfdl_json.proofs.tests.nested.Goals as goal
 
 element_named : (n : ℕ) (row : Row) (x : List ℕ) (s : Option Simple) (i : ℕ) → row ≡ Elem x s i → NamesWithin n row

@@ -1,23 +1,20 @@
 -- What content says of an element, and what is left to be read.
-use Rattle.std.proofs.Common.{◌≡◌, ℕ, suc, ◌+◌, ◌<◌, ◌≤◌, List, [], ◌∷◌, ◌++◌, length, drop, fold, All, map, get_or, Option, None, Some, slice_get, option_map, refl, sym, ap, subst, ◌∙◌, arith, append_assoc, drop-cons, Bor}
-use Rattle.std.specs.List.{flat_map}
+use Rattle.std.proofs.Common.{◌≡◌, ℕ, suc, ◌+◌, ◌<◌, ◌≤◌, List, [], ◌∷◌, ◌++◌, length, drop, fold, All, map, get_or, Option, None, Some, slice_get, refl, sym, ap, ◌∙◌, arith, append_assoc, drop-cons, Bor}
 use Rattle.std.proofs.Math.ListN.{drop_of_length-le}
 use Rattle.std.proofs.lemmas.Grind.{fold-append}
 use Rattle.serde_json.specs.Data.{Data, null, boolean, number, string, array, object, Members}
 use Rattle.serde_json.specs.Find.{get_member}
-use Rattle.serde_json.specs.View.{view}
 use Rattle.serde_json.specs.declared.value.Value.{Value}
 use Rattle.dfdl_forms.specs.declared.simple.Simple.{Simple}
-use Rattle.dfdl_terms.specs.declared.row.Row.{Row}
 use Rattle.dfdl_terms.specs.declared.row.Row.TheVariants.{Leaf, Elem, Group}
 use Rattle.dfdl_terms.specs.declared.event.Event.TheVariants.{Start, End}
 use Rattle.dfdl_terms.specs.Rows.{Table}
-use Rattle.dfdl_json.specs.ByRows.{below, by_rows}
+use Rattle.dfdl_json.specs.ByRows.{below}
 use Rattle.dfdl_json.specs.Children.{elements_in, name_of}
 use Rattle.dfdl_json.specs.Found.{Found, noted}
 use Rattle.dfdl_json.specs.Paths.{Names}
-use Rattle.dfdl_json.specs.Infosets.{Finding, Says, Refuses, findings_by, findings, value_in, simple_findings, complex_findings, children_findings, member_findings, unknown_findings}
-use Rattle.dfdl_json.specs.Reading.{coming, data_at, steps_left, task_steps}
+use Rattle.dfdl_json.specs.Infosets.{Finding, Says, findings_by, findings, value_in, simple_findings, complex_findings, children_findings, member_findings, unknown_findings}
+use Rattle.dfdl_json.specs.Reading.{coming, data_at, steps_left}
 use Rattle.dfdl_json.specs.Steps.{steps_of, total}
 use Rattle.dfdl_json.specs.declared.reading.Task.{Task}
 use Rattle.dfdl_json.specs.declared.reading.Task.TheVariants.{Read, Close}

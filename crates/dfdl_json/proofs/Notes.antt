@@ -1,11 +1,10 @@
 -- What is noted of findings one after another is their events and the refusal that counts.
-use Rattle.std.proofs.Common.{◌≡◌, ℕ, ◌<◌, ◌≤◌, Bool, true, false, cond, nat_lt, List, [], ◌∷◌, ◌++◌, fold, Option, None, Some, Result, refl, sym, ap, ◌∙◌, append_assoc, arith, inl, inr}
+use Rattle.std.proofs.Common.{◌≡◌, ◌<◌, ◌≤◌, cond, nat_lt, List, [], ◌∷◌, ◌++◌, fold, Option, None, Some, refl, sym, ap, ◌∙◌, append_assoc, arith, inl, inr}
 use Rattle.std.proofs.lemmas.Bool.{cases_Bool, cond-true, cond-false}
 use Rattle.std.proofs.lemmas.Bool.Decides.{nat_tests}
 use Rattle.std.proofs.lemmas.List.{append-nil}
-use Rattle.dfdl_terms.specs.declared.event.Event.{Event}
 use Rattle.dfdl_json.specs.Found.{Found, kept, noted}
-use Rattle.dfdl_json.specs.Infosets.{Finding, Says, Refuses, Placed, Refusal, answer_of, counting, events_said, outer, unless_refused}
+use Rattle.dfdl_json.specs.Infosets.{Finding, Says, Refuses, Placed, answer_of, counting, events_said, outer, unless_refused}
 
 -- what counts of those so far and those behind them
 abbrev pub merged : Option Placed → Option Placed → Option Placed

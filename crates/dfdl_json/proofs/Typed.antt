@@ -1,7 +1,7 @@
 -- What a text or a member is read as is a value of its type.
 use Rattle.std.proofs.Common.{◌≡◌, ℕ, zero, suc, ◌<◌, Bool, true, false, cond, ◌==◌, ◌%◌, List, Option, None, Some, Result, Ok, Err, refl, sym, ap, subst, ◌∙◌, arith}
-use Rattle.std.specs.Prelude.{◌≢◌, ◌^◌, nat_lt, ℤ, pos, int_div, unsigned_abs, if◌then◌else◌}
-use Rattle.std.proofs.lemmas.Bool.{cond_both, cases_Bool, and_parts}
+use Rattle.std.specs.Prelude.{◌≢◌, ◌^◌, nat_lt, ℤ, pos, int_div, unsigned_abs}
+use Rattle.std.proofs.lemmas.Bool.{cases_Bool, and_parts}
 use Rattle.std.proofs.Common.{eq-eqb, inl, inr}
 use Rattle.std.proofs.lemmas.Bool.Decides.{nat_tests}
 use Rattle.hex.specs.declared.error.FromHexError.{FromHexError}
@@ -16,7 +16,7 @@ use Rattle.dfdl_value.specs.ReadValues.{Reading, bytes_reading, decimal_reading,
 use Rattle.dfdl_value.specs.Texts.{decimal_of, integer_of, trimmed, truth_of}
 use Rattle.dfdl_value.specs.Types.{HasForm, IsOfType}
 use Rattle.dfdl_value.specs.declared.value.Value.{Value}
-use Rattle.dfdl_value.specs.declared.value.Value.TheVariants.{Int, Uns, Dec, Text, Truth, Bytes}
+use Rattle.dfdl_value.specs.declared.value.Value.TheVariants.{Dec, Text, Truth, Bytes}
 use Rattle.dfdl_value.proofs.RangeLemmas.{HasForm-signed, HasForm-unsigned}
 use Rattle.dfdl_json.specs.Infosets.{value_if, value_in}
 

@@ -1,5 +1,5 @@
 -- Mirror for the prover: the events that were found so far, and the refusal that counts.
-use Rattle.std.specs.Prelude.{ℕ, nat_lt, if◌then◌else◌, List, [], ◌∷◌, ◌++◌, Option, None, Some}
+use Rattle.std.specs.Prelude.{nat_lt, if◌then◌else◌, List, [], ◌∷◌, ◌++◌, Option, None, Some}
 use Rattle.dfdl_terms.specs.declared.event.Event.{Event}
 use Rattle.dfdl_json.specs.Infosets.{Placed, Finding, Says, Refuses}
 

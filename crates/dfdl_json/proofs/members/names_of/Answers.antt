@@ -1,4 +1,3 @@
-use Rattle.std.proofs.Common.{refl}
 use Rattle.dfdl_json.proofs.ElementNames.{more_names}
 use Rattle.dfdl_json.proofs.members.names_of.Goals as goal
 

@@ -1,9 +1,6 @@
-use Rattle.std.proofs.Common.{◌≡◌, ◌+◌, ◌≤◌, ◌<◌, ◌∷◌, ◌∙◌, ap, map, arith}
-use Rattle.dfdl_json.specs.Children.{elements_in}
+use Rattle.std.proofs.Common.{◌∷◌, ◌∙◌, ap}
 use Rattle.dfdl_json.specs.declared.reading.Task.TheVariants.{Close}
-use Rattle.dfdl_json.specs.Steps.{steps_of, total}
 use Rattle.dfdl_json.proofs.Declares.{on_ok}
-use Rattle.dfdl_json.proofs.Below.{are_below}
 use Rattle.dfdl_json.proofs.Contents.{begun_less}
 use Rattle.dfdl_json.proofs.reading.Reading.begin.Goals as goal
 

@@ -1,4 +1,4 @@
-use Rattle.std.proofs.Common.{◌≡◌, ◌∙◌, ◌∷◌, ◌++◌, List, ℕ, Option, ap, sym, fold}
+use Rattle.std.proofs.Common.{◌∙◌, ◌∷◌, ◌++◌, ap, sym, fold}
 use Rattle.serde_json.specs.View.{view}
 use Rattle.dfdl_terms.specs.declared.row.Row.TheVariants.{Elem}
 use Rattle.dfdl_json.specs.Children.{elements_in}

@@ -8,13 +8,12 @@ use Rattle.std.specs.String.{string_bytes}
 use Rattle.std.specs.BTreeMap.{BTreeMap, get_by_text}
 use Rattle.std.specs.BTreeSet.{BTreeSet, contains_text}
 use Rattle.std.proofs.Common.{refl, sym, ap, ◌∙◌}
-use Rattle.std.proofs.lemmas.List.{map-append}
 use Rattle.std.proofs.lemmas.List.Folds.{list_any-append}
-use Rattle.dfdl_markup.specs.Grammar.{Name, Plain, Prefixed, name_characters}
+use Rattle.dfdl_markup.specs.Grammar.{Name, name_characters}
 use Rattle.dfdl_markup.specs.Values as values
 use Rattle.dfdl_markup.specs.Values.{found}
 use Rattle.dfdl_xml_names.specs.Shown.{text_of}
-use Rattle.dfdl_xml_names.specs.Kept.{HasFirst, HasNames, HasPrefixes, has_prefix}
+use Rattle.dfdl_xml_names.specs.Kept.{HasFirst, HasNames}
 use Rattle.dfdl_xml_names.proofs.Texts.{same_chars}
 
 abbrev the_binding : List ℕ → List ℕ → values.Binding
@@ -83,32 +82,6 @@ same_binding p n q m e f = ap (λ l. the_binding (chars l) (chars n)) e ∙ ap (
 -- what an attribute declares
 abbrev pub bound_by : Name → List ℕ → List values.Binding
 bound_by name value = values.bindings_of (record { name = name; value = value } ∷ [])
-
--- one attribute more, and the set of the prefixes
-pub with_plain : {A : Type 0} (prefixes : BTreeSet (String A)) (attributes : List values.Attribute) (part value : List ℕ)
-    → HasPrefixes prefixes attributes → HasPrefixes prefixes (attributes ++ record { name = Plain part; value = value } ∷ [])
-with_plain prefixes attributes part value kept = λ q u.
-    let more : values.Attribute = record { name = Plain part; value = value } in
-    kept q u
-    ∙ sym (ap (list_any (has_prefix (chars q))) (map-append (λ (a : values.Attribute). a.name) attributes (more ∷ []))
-    ∙ (list_any-append (has_prefix (chars q)) (values.names_of attributes) (Plain part ∷ [])
-    ∙ or_false (list_any (has_prefix (chars q)) (values.names_of attributes))))
-  where
-    or_false : (b : Bool) → (b || false) ≡ b
-    or_false true = refl
-    or_false false = refl
-
-pub with_prefix : {A : Type 0} (old new : BTreeSet (String A)) (attributes : List values.Attribute) (prefix part value : List ℕ) → IsUtf8 prefix
-    → ((q : List ℕ) → contains_text new q ≡ (if bytes_eq prefix q then true else contains_text old q))
-    → HasPrefixes old attributes → HasPrefixes new (attributes ++ record { name = Prefixed (chars prefix) part; value = value } ∷ [])
-with_prefix old new attributes prefix part value utf8 step kept = λ q u.
-    let more : values.Attribute = record { name = Prefixed (chars prefix) part; value = value } in
-    step q
-    ∙ (ap (λ b. if b then true else contains_text old q) (sym (same_chars prefix q utf8 u))
-    ∙ (ap (λ b. if bytes_eq (chars prefix) (chars q) then true else b) (kept q u)
-    ∙ (or_last (bytes_eq (chars prefix) (chars q)) (list_any (has_prefix (chars q)) (values.names_of attributes))
-    ∙ sym (ap (list_any (has_prefix (chars q))) (map-append (λ (a : values.Attribute). a.name) attributes (more ∷ []))
-    ∙ list_any-append (has_prefix (chars q)) (values.names_of attributes) (Prefixed (chars prefix) part ∷ [])))))
 
 -- an attribute's name that declares nothing, and one that declares a prefix
 pub bound_none : (name : Name) (value : List ℕ) → values.declares name ≡ None → bound_by name value ≡ []

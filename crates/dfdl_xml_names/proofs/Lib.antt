@@ -2,6 +2,8 @@ pub mod Texts
 mod Kept
 mod Opened
 mod Lists
+mod Parts
 mod Expanded
+mod Bound
 mod Rules
 mod Written

@@ -1,6 +1,6 @@
 -- Texts as characters: they are alike exactly where their bytes are.
 use Rattle.std.specs.Prelude.{◌≡◌, ℕ, Bool, true, false, List, ◌++◌, ◌∷◌, [], String, encode_utf8}
-use Rattle.std.specs.Prelude.{Result, Ok, Err, OnOk, length, ◌==◌, suc}
+use Rattle.std.specs.Prelude.{Result, Ok, Err, IfOk, OnOk, length, ◌==◌, suc}
 use Rattle.std.specs.Str.{bytes_eq, chars, IsUtf8, encode_utf8_all}
 use Rattle.std.specs.String.{string_bytes}
 use Rattle.dfdl_markup.specs.Values.{xml_prefix, xmlns_prefix}
@@ -79,6 +79,10 @@ on_ok (Err e) p f = tt
 pub on_both : {T E : Type 0} {P Q R : Type 0} (r : Result T E) → OnOk r P → OnOk r Q → (P → Q → R) → OnOk r R
 on_both (Ok x) p q f = f p q
 on_both (Err e) p q f = tt
+
+pub if_ok : {T E : Type 0} {P Q : T → Type 0} (r : Result T E) → IfOk r P → ((x : T) → P x → Q x) → IfOk r Q
+if_ok (Ok x) p f = f x p
+if_ok (Err e) p f = tt
 
 pub not_none : (n : ℕ) → (suc n == 0) ≡ false
 not_none n = grind (arith, nat_tests)

@@ -2,14 +2,13 @@
 use Rattle.std.specs.Prelude.{List, Option, IfSome}
 use Rattle.dfdl_markup.specs.Values as values
 use Rattle.dfdl_markup.specs.Values.{names_of}
-use Rattle.dfdl_xml_names.specs.Kept.{HasNames, HasPrefixes}
+use Rattle.dfdl_xml_names.specs.Kept.{HasNames}
 use Rattle.dfdl_xml_names.specs.Expanded.{IsResolved}
 use Rattle.dfdl_xml_names.specs.declared.index.Index.{Index}
 
--- the sets are those of the attributes, and their names are resolved by the scope
+-- the set is that of the attributes, and their names are resolved by the scope
 pub record IsIndexOf (index : Index) (scope : List values.Binding) (attributes : List values.Attribute) : Type 0 where
   pub names : HasNames index.written attributes
-  pub prefixes : HasPrefixes index.prefixes attributes
   pub resolved : IsResolved index.resolved scope (names_of attributes)
 
 -- the index, if there is one, is that of the attributes

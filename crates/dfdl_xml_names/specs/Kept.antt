@@ -1,10 +1,10 @@
 -- Mirror for the prover: what the sets and maps beside a list answer.
-use Rattle.std.specs.Prelude.{◌≡◌, ℕ, List, Bool, false, option_map, chars, IsUtf8, String}
+use Rattle.std.specs.Prelude.{◌≡◌, ℕ, List, option_map, chars, IsUtf8, String}
 use Rattle.std.specs.BTreeMap.{BTreeMap, get_by_text}
 use Rattle.std.specs.BTreeSet.{BTreeSet, contains_text}
 use Rattle.std.specs.List.{list_any}
 use Rattle.std.specs.Str.{bytes_eq}
-use Rattle.dfdl_markup.specs.Grammar.{Name, Plain, Prefixed, name_characters}
+use Rattle.dfdl_markup.specs.Grammar.{name_characters}
 use Rattle.dfdl_markup.specs.Values as values
 use Rattle.dfdl_markup.specs.Values.{found}
 use Rattle.dfdl_xml_names.specs.Shown.{text_of}
@@ -28,14 +28,3 @@ abbrev pub HasNames : {A : Type 0} → BTreeSet (String A) → List values.Attri
 HasNames names attributes =
     (q : List ℕ) → IsUtf8 q
     → contains_text names q ≡ list_any (λ a. bytes_eq (name_characters a.name) (chars q)) attributes
-
--- the name has this prefix
-abbrev pub has_prefix : List ℕ → Name → Bool
-has_prefix prefix (Plain name) = false
-has_prefix prefix (Prefixed other name) = bytes_eq other prefix
-
--- the set has the prefixes of the attributes' names, and no other
-abbrev pub HasPrefixes : {A : Type 0} → BTreeSet (String A) → List values.Attribute → Type 0
-HasPrefixes prefixes attributes =
-    (q : List ℕ) → IsUtf8 q
-    → contains_text prefixes q ≡ list_any (has_prefix (chars q)) (values.names_of attributes)

@@ -7,7 +7,7 @@ ghost use Rattle.dfdl_markup.specs.Grammar.{name_characters};
 ghost use Rattle.dfdl_markup.specs.Values.{Attribute as Attributed, Binding, bindings_of, names_of, same_expanded, same_name};
 ghost use Rattle.dfdl_xml_names.specs.Shown.{attribute_of, name_of};
 ghost use Rattle.dfdl_xml_names.specs.Scoped.{scope_seen};
-ghost use Rattle.dfdl_xml_names.specs.Kept.{HasNames, HasPrefixes};
+ghost use Rattle.dfdl_xml_names.specs.Kept.{HasNames};
 ghost use Rattle.dfdl_xml_names.specs.Indexed.{IsIndexOf};
 
 use crate::name::{Attribute, Name};
@@ -16,12 +16,11 @@ use crate::scope::Scope;
 use std::alloc::{AllocError, Global};
 use std::collections::BTreeSet;
 
-/// The names of attributes as they are written and the prefixes of these, in ordered sets, and what
-/// they are by the namespaces of a scope.
+/// The names of attributes as they are written, in an ordered set, and what they are by the namespaces
+/// of a scope.
 #[derive(Debug, Drop)]
 pub(crate) struct Index {
     pub(crate) written: BTreeSet<String>,
-    pub(crate) prefixes: BTreeSet<String>,
     pub(crate) resolved: Resolved,
 }
 
@@ -36,7 +35,6 @@ impl Index {
     {
         Ok(Index {
             written: names_written(alloc, attributes)?,
-            prefixes: prefixes_of(alloc, attributes)?,
             resolved: Resolved::of(alloc, scope, attributes)?,
         })
     }
@@ -47,29 +45,21 @@ impl Index {
         self,
         alloc: Global,
         scope: &Scope<'_>,
-        attributes: &[Attribute],
         name: &Name,
     ) -> Result<Index, AllocError>
-        ensures { IfOk result (λ index. (old : List Binding) (value : List ℕ)
+        ensures { IfOk result (λ index. (old : List Binding) (value : List ℕ) (attributes : List Attributed)
             → scope_seen scope.now ≡ old ++ bindings_of (record { name = name_of name.now; value = value } ∷ [])
-            → IsIndexOf self old (map attribute_of attributes.now)
-            → IsIndexOf index (scope_seen scope.now)
-            (map attribute_of attributes.now ++ record { name = name_of name.now; value = value } ∷ [])) }
+            → IsIndexOf self old attributes
+            → IsIndexOf index (scope_seen scope.now) (attributes ++ record { name = name_of name.now; value = value } ∷ [])) }
     {
         let Index {
             mut written,
-            mut prefixes,
             resolved,
         } = self;
-        let mut resolved = resolved.within(alloc, scope, attributes, &prefixes, name)?;
+        let mut resolved = resolved.within(alloc, scope, name)?;
         resolved.add(alloc, scope, name)?;
         add(&mut written, name.text()?)?;
-        add_prefix(&mut prefixes, name)?;
-        Ok(Index {
-            written,
-            prefixes,
-            resolved,
-        })
+        Ok(Index { written, resolved })
     }
 
     /// An attribute has this name, or one that is the same by the namespaces of the scope.
@@ -106,17 +96,6 @@ fn names_written(alloc: Global, attributes: &[Attribute]) -> Result<BTreeSet<Str
     Ok(names)
 }
 
-/// The prefixes of the names of attributes.
-fn prefixes_of(alloc: Global, attributes: &[Attribute]) -> Result<BTreeSet<String>, AllocError>
-    ensures { IfOk result (λ prefixes. HasPrefixes prefixes (map attribute_of attributes.now)) }
-{
-    let mut prefixes = BTreeSet::new(alloc);
-    for attribute in attributes {
-        add_prefix(&mut prefixes, &attribute.name)?;
-    }
-    Ok(prefixes)
-}
-
 /// Adds a name.
 fn add(names: &mut BTreeSet<String>, name: String) -> Result<(), AllocError>
     ensures { OnOk result ((q : List ℕ) → contains_text names.new q
@@ -124,27 +103,4 @@ fn add(names: &mut BTreeSet<String>, name: String) -> Result<(), AllocError>
 {
     names.insert(name)?;
     Ok(())
-}
-
-/// Adds a name, unless it is there.
-fn add_once(names: &mut BTreeSet<String>, name: &String) -> Result<(), AllocError>
-    ensures { OnOk result ((q : List ℕ) → contains_text names.new q
-        ≡ (if bytes_eq (string_bytes name.now) q then true else contains_text names.old q)) }
-{
-    if names.contains(name.as_str()) {
-        return Ok(());
-    }
-    add(names, name.clone()?)
-}
-
-/// Adds the prefix of a name, if it has one.
-fn add_prefix(prefixes: &mut BTreeSet<String>, name: &Name) -> Result<(), AllocError>
-    ensures { OnOk result ((attributes : List Attributed) (value : List ℕ)
-        → HasPrefixes prefixes.old attributes
-        → HasPrefixes prefixes.new (attributes ++ record { name = name_of name.now; value = value } ∷ [])) }
-{
-    match name {
-        Name::Plain(_) => Ok(()),
-        Name::Prefixed { prefix, .. } => add_once(prefixes, prefix),
-    }
 }

@@ -18,6 +18,7 @@ mod scope;
 mod tag;
 #[cfg(test)]
 mod tests;
+mod waiting;
 
 pub use binding_rules::{may_bind, may_close};
 pub use bindings::Bindings;

@@ -1,7 +1,7 @@
 // A start tag as far as it was read.
 ghost use Rattle.std.specs.Prelude.{◌≡◌, ◌++◌, ◌∷◌, [], ℕ, List, IfOk, None, OnOk, map, true};
 ghost use Rattle.std.specs.List.{list_all};
-ghost use Rattle.dfdl_markup.specs.Values.{Binding, bindings_of, declares, scope_in, is_found};
+ghost use Rattle.dfdl_markup.specs.Values.{Attribute as Attributed, Binding, bindings_of, declares, scope_in, is_found};
 ghost use Rattle.dfdl_markup.specs.Values.{same_expanded, have_same, names_of};
 ghost use Rattle.dfdl_markup.specs.Machine.{tag_of, is_given, has_sure_clash, have_clash, all_found, scope_of};
 ghost use Rattle.dfdl_xml_names.specs.Shown.{name_of, text_of, tag_with, attribute_of};
@@ -185,7 +185,7 @@ impl StartTag {
             index,
         } = self;
         let declared = declare(declared, &name, value.as_str())?;
-        let index = extended(alloc, index, &own(&declared), attributes.as_slice(), &name)?;
+        let index = extended(alloc, index, &own(&declared), &name)?;
         attributes.push(Attribute { name, value })?;
         let index = begun(alloc, index, &own(&declared), attributes.as_slice())?;
         Ok(StartTag {
@@ -217,17 +217,15 @@ fn extended(
     alloc: Global,
     index: Option<Index>,
     scope: &Scope<'_>,
-    attributes: &[Attribute],
     name: &Name,
 ) -> Result<Option<Index>, AllocError>
-    ensures { IfOk result (λ more. (old : List Binding) (value : List ℕ)
+    ensures { IfOk result (λ more. (old : List Binding) (value : List ℕ) (attributes : List Attributed)
         → scope_seen scope.now ≡ old ++ bindings_of (record { name = name_of name.now; value = value } ∷ [])
-        → IsKept index old (map attribute_of attributes.now)
-        → IsKept more (scope_seen scope.now)
-        (map attribute_of attributes.now ++ record { name = name_of name.now; value = value } ∷ [])) }
+        → IsKept index old attributes
+        → IsKept more (scope_seen scope.now) (attributes ++ record { name = name_of name.now; value = value } ∷ [])) }
 {
     match index {
-        Some(index) => Ok(Some(index.more(alloc, scope, attributes, name)?)),
+        Some(index) => Ok(Some(index.more(alloc, scope, name)?)),
         None => Ok(None),
     }
 }

@@ -7,7 +7,7 @@ use Rattle.dfdl_xml_names.specs.Scoped.{scope_seen}
 use Rattle.dfdl_xml_names.specs.Expanded.{IsResolved}
 use Rattle.dfdl_markup.specs.Grammar.{Prefixed}
 use Rattle.dfdl_xml_names.proofs.Texts.{on_ok}
-use Rattle.dfdl_xml_names.proofs.Expanded.{add_plain, add_unfound}
+use Rattle.dfdl_xml_names.proofs.Expanded.{add_plain}
 use Rattle.dfdl_xml_names.proofs.resolved.Resolved.add.Goals as goal
 
 pub returns-in-Plain : goal.returns-in-Plain
@@ -16,11 +16,15 @@ returns-in-Plain c = λ names kept.
     (add_plain c.args.self.now (scope_seen c.args.scope.now) names (text_of c.in-Plain.field-0) kept)
 
 pub returns-in-None : goal.returns-in-None
-returns-in-None c = λ names kept.
+returns-in-None c =
     let scope = scope_seen c.args.scope.now in
-    subst (λ n. IsResolved c.args.self.now scope (names ++ name_of n ∷ [])) (sym c.in-Prefixed.is)
-    (add_unfound c.args.self.now scope names (text_of c.in-Prefixed.prefix) (text_of c.in-Prefixed.part)
-    (sym (c.in-None.ensures ∙ ap (λ l. found scope (chars l)) c.as_str.ensures.value)) kept)
+    let none = sym (c.in-None.ensures ∙ ap (λ l. found scope (chars l)) c.as_str.ensures.value) in
+    on_ok c.wait.result c.wait.ensures
+    (λ more names kept.
+    subst (λ n. IsResolved c.wait.new.self scope (names ++ name_of n ∷ [])) (sym c.in-Prefixed.is)
+    (subst (λ l. IsResolved c.wait.new.self scope (names ++ Prefixed (chars l) (text_of c.in-Prefixed.part) ∷ [])) c.as_str-in-None.ensures.value
+    (subst (λ l. IsResolved c.wait.new.self scope (names ++ Prefixed (chars c.as_str-in-None.result.now) (chars l) ∷ [])) c.as_str-in-None-2.ensures.value
+    (more scope names (ap (λ l. found scope (chars l)) c.as_str-in-None.ensures.value ∙ none) kept))))
 
 pub returns-in-Some : goal.returns-in-Some
 returns-in-Some c =

@@ -6,4 +6,4 @@ pub returns : goal.returns
 returns c =
     on_both c.insert.result c.insert.ensures.pairs c.insert.ensures.clash
     (λ pairs clash scope names prefix is kept.
-    add_found c.args.self.now c.insert.new.self scope names prefix c.args.namespace.now c.args.part.now c.utf8.namespace c.utf8.part is pairs clash kept)
+    add_found c.args.self.now c.insert.new.self scope names prefix c.args.namespace.now c.args.part.now c.utf8.namespace c.utf8.part is pairs c.insert.ensures.waiting clash kept)

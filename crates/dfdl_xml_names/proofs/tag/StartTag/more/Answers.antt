@@ -23,14 +23,12 @@ invariant_of-result c =
     ∙ (ap (λ bs. bs ++ bound_by name (chars c.as_str.result.now)) c.self.invariant.0
     ∙ ap (λ v. bindings_of old ++ bound_by name (chars v)) c.as_str.ensures.value) in
     let all = declared ∙ (sym (filter_map-append binding_of old (more ∷ [])) ∙ ap bindings_of (sym pushed)) in
-    let before = ap (map attribute_of) c.as_slice.ensures.value in
-    let behind = ap (map attribute_of) c.as_slice-2.ensures.value in
+    let behind = ap (map attribute_of) c.as_slice.ensures.value in
     let extended =
-    c.in_ok-index.ensures (bindings_of old) (text_of c.args.value) (c.own.ensures ∙ declared)
-    (subst (IsKept c.self.inside.index (bindings_of old)) (sym before) c.self.invariant.1) in
+    c.in_ok-index.ensures (bindings_of old) (text_of c.args.value) old (c.own.ensures ∙ declared) c.self.invariant.1 in
     let kept =
-    subst (λ s. IsKept c.in_ok-index.index s (map attribute_of c.as_slice-2.result.now)) (c.own.ensures ∙ sym c.own-2.ensures)
-    (subst (IsKept c.in_ok-index.index (scope_seen c.own.result)) (ap (λ l. l ++ more ∷ []) before ∙ (sym pushed ∙ sym behind)) extended) in (
+    subst (λ s. IsKept c.in_ok-index.index s (map attribute_of c.as_slice.result.now)) (c.own.ensures ∙ sym c.own-2.ensures)
+    (subst (IsKept c.in_ok-index.index (scope_seen c.own.result)) (sym pushed ∙ sym behind) extended) in (
       all,
       subst (λ s. IsKept c.in_ok-index-2.index s (map attribute_of c.push.new.self.items)) (c.own-2.ensures ∙ all)
           (subst (IsKept c.in_ok-index-2.index (scope_seen c.own-2.result)) behind (c.in_ok-index-2.ensures kept)),

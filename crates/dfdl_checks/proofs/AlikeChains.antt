@@ -1,14 +1,18 @@
 -- What is told of properties by chains that are alike.
-use Rattle.std.proofs.Common.{◌≡◌, refl, sym, ap, ◌∙◌, ℕ, List, ◌∷◌, [], Option, Some, None, Bool, if◌then◌else◌, ◌||◌, ◌&&◌, is_some}
+use Rattle.std.proofs.Common.{◌≡◌, refl, ap, ◌∙◌, ℕ, List, ◌∷◌, [], Option, Some, Bool, if◌then◌else◌, ◌||◌, ◌&&◌, is_some}
 use Rattle.std.specs.List.{list_any}
 use Rattle.std.specs.Option.{option_or, option_map_or}
 use Rattle.dfdl_report.specs.declared.place.Place.{Place}
-use Rattle.dfdl_scope.specs.Scoping.{Element, Told, Value, Absent, Twice, alone, explicit, is_again, is_explicit, told, told_explicitly, default_value, is_repeated, repeated_at}
+use Rattle.dfdl_scope.specs.Scoping.{Element, Told, Value, Absent, Twice, explicit, is_again, is_explicit, told, told_explicitly, default_value, is_repeated, repeated_at}
 use Rattle.dfdl_checks.specs.Alike.{AreAlikeChains, IsAlikeElement}
 
 -- two equations at once
 pub both : {A B C : Type 0} (f : A → B → C) {a x : A} {b y : B} → a ≡ x → b ≡ y → f a b ≡ f x y
 both f {a} {x} {b} {y} first second = ap (λ v. f v b) first ∙ ap (f x) second
+
+-- three equations at once
+pub three : {A B C D : Type 0} (f : A → B → C → D) {a x : A} {b y : B} {c z : C} → a ≡ x → b ≡ y → c ≡ z → f a b c ≡ f x y z
+three f {a} {x} {b} {y} {c} {z} first second third = ap (λ v. f v b c) first ∙ both (f x) second third
 
 -- tests that agree agree on lists
 pub same-any : {X : Type 0} (test other : X → Bool) → ((x : X) → test x ≡ other x) → (xs : List X) → list_any test xs ≡ list_any other xs

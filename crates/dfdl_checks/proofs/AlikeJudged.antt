@@ -1,43 +1,51 @@
 -- Components that are alike keep and break the same rules.
-use Rattle.std.proofs.Common.{◌≡◌, refl, sym, ap, subst, ◌∙◌, ℕ, List, ◌∷◌, [], Option, Some, None, Bool, if◌then◌else◌, ◌||◌, ◌&&◌, not, nat_lt, codes, false}
-use Rattle.std.specs.List.{list_any}
+use Rattle.std.proofs.Common.{◌≡◌, refl, ap, ◌∙◌, ℕ, List, Option, Some, None, Bool, if◌then◌else◌, ◌||◌, ◌&&◌, not, nat_lt, codes, false, is_some}
 use Rattle.std.specs.Option.{option_map_or}
 use Rattle.dfdl_report.specs.declared.cause.SchemaCause.{SchemaCause}
 use Rattle.dfdl_report.specs.declared.cause.SchemaCause.TheVariants as causes
 use Rattle.dfdl_report.specs.declared.place.Place.{Place}
 use Rattle.dfdl_scope.specs.Scoping.{Element}
-use Rattle.dfdl_scope.specs.Table.{Row, names_of, property_table, row_named}
-use Rattle.dfdl_checks.proofs.AlikeChains.{both, same-any, told-alike, repeated-alike}
+use Rattle.dfdl_scope.specs.Table.{names_of, property_table, row_named}
+use Rattle.dfdl_checks.proofs.AlikeChains.{both, three, same-any, told-alike, repeated-alike}
 use Rattle.dfdl_checks.specs.Alike.{AreAlikeChains, IsAlike}
 use Rattle.dfdl_checks.specs.Applying.{is_bearer}
 use Rattle.dfdl_checks.specs.Flaws.{has_flaw, is_flawed, is_flawed_at}
 use Rattle.dfdl_checks.specs.Judged.{Judged}
-use Rattle.dfdl_checks.specs.Numbers.{byte_order, integer_form_of, number_of_kind}
-use Rattle.dfdl_checks.specs.Rules.{breach_of, first_breach, rules, is_length_by_content, is_length_kind_not_allowed, is_later_component, is_type_not_carried, is_unbuilt}
-use Rattle.dfdl_checks.specs.Subjects.{is_binary_number, is_element, is_word, number_bits, told_at}
-use Rattle.dfdl_checks.specs.Table.{Applicability, applicability_table}
+use Rattle.dfdl_checks.specs.Numbers.{byte_order, field_bits, number_by, own_size, places_of, primitive_of, primitive_of_kind, primitive_of_type}
+use Rattle.dfdl_checks.specs.Lengths.{length_in, number_told, size_within, unit_bits, constant_length}
+use Rattle.dfdl_checks.specs.Rules.{breach_of, first_breach, rules, is_built_type, is_length_by_content, is_length_in_characters, is_length_without_size, is_later_component, is_no_size, is_type_not_carried, is_unsized}
+use Rattle.dfdl_checks.specs.Subjects.{is_binary_number, is_decimal, is_element, is_explicit_number, is_word, number_bits}
+use Rattle.dfdl_checks.specs.Table.{Applicability, built_for, applicability_table}
 use Rattle.dfdl_checks.specs.declared.applicability.Bearers.{Bearers}
 use Rattle.dfdl_checks.specs.declared.applicability.Bearers.TheVariants as bearers
 use Rattle.dfdl_checks.specs.declared.flaw.Flaw.{Flaw}
 use Rattle.dfdl_checks.specs.declared.flaw.Flaw.TheVariants as flaws
 use Rattle.dfdl_checks.specs.declared.subject.Breach.{Breach}
 use Rattle.dfdl_checks.specs.declared.subject.Facts.{Facts}
+use Rattle.dfdl_checks.specs.declared.purpose.Purpose.{Purpose}
 use Rattle.dfdl_checks.specs.declared.subject.Kind.{Kind}
+use Rattle.dfdl_checks.specs.declared.subject.Kind.TheVariants.{ComplexElement, SimpleElement, UncarriedElement, Sequence, Choice}
+use Rattle.dfdl_forms.specs.Binary.{most_bits}
+use Rattle.dfdl_forms.specs.Types.{form_of}
+use Rattle.dfdl_forms.specs.declared.simple.Simple.{Simple}
 
 -- a component of this chain
-abbrev pub with : Kind → Place → Facts → List Element → Judged
-with kind place facts chain = record { kind = kind; place = place; chain = chain; facts = facts }
+abbrev pub with : Purpose → Kind → Place → Facts → List Element → Judged
+with purpose kind place facts chain = record { purpose = purpose; kind = kind; place = place; chain = chain; facts = facts }
 
-module _ (kind : Kind) (place : Place) (facts : Facts) (xs ys : List Element) (alike : AreAlikeChains xs ys) where
+module _ (purpose : Purpose) (kind : Kind) (place : Place) (facts : Facts) (xs ys : List Element) (alike : AreAlikeChains xs ys) where
   -- both components
   abbrev one : Judged
-  one = with kind place facts xs
+  one = with purpose kind place facts xs
 
   abbrev other : Judged
-  other = with kind place facts ys
+  other = with purpose kind place facts ys
 
   binary-alike : is_binary_number one ≡ is_binary_number other
   binary-alike = ap (λ t. nat_lt 0 (number_bits kind) && is_word (codes "binary") t) (told-alike xs ys alike (codes "representation"))
+
+  explicit-alike : is_explicit_number one ≡ is_explicit_number other
+  explicit-alike = both (λ b t. b && is_word (codes "explicit") t) binary-alike (told-alike xs ys alike (codes "lengthKind"))
 
   bearer-alike : (b : Bearers) → is_bearer b one ≡ is_bearer b other
   bearer-alike bearers.EveryComponent = refl
@@ -47,6 +55,8 @@ module _ (kind : Kind) (place : Place) (facts : Facts) (xs ys : List Element) (a
   bearer-alike bearers.RepresentedElements = refl
   bearer-alike bearers.BinaryNumbers = binary-alike
   bearer-alike bearers.WideBinaryNumbers = ap (λ b. nat_lt 8 (number_bits kind) && b) binary-alike
+  bearer-alike bearers.ExplicitNumbers = explicit-alike
+  bearer-alike bearers.BinaryDecimals = ap (λ b. is_decimal kind && b) binary-alike
   bearer-alike bearers.PatternElements =
       ap (λ t. is_element kind && is_word (codes "pattern") t) (told-alike xs ys alike (codes "lengthKind"))
   bearer-alike bearers.Groups = refl
@@ -56,7 +66,7 @@ module _ (kind : Kind) (place : Place) (facts : Facts) (xs ys : List Element) (a
   flawed-alike : (flaw : Flaw) (a : Applicability) → is_flawed_at flaw one a ≡ is_flawed_at flaw other a
   unfolding is_flawed_at
   flawed-alike flaw a =
-      both (λ b t. b && option_map_or (λ row. is_flawed flaw row a.built t) (row_named property_table a.name) false) (bearer-alike a.bearers)
+      both (λ b t. b && option_map_or (λ row. is_flawed flaw row (built_for purpose a) t) (row_named property_table a.name) false) (bearer-alike a.bearers)
       (told-alike xs ys alike a.name)
 
   flaw-alike : (flaw : Flaw) → has_flaw flaw one ≡ has_flaw flaw other
@@ -64,6 +74,20 @@ module _ (kind : Kind) (place : Place) (facts : Facts) (xs ys : List Element) (a
 
   content-alike : is_length_by_content one ≡ is_length_by_content other
   content-alike = ap (λ t. is_word (codes "delimited") t || is_word (codes "pattern") t) (told-alike xs ys alike (codes "lengthKind"))
+
+  without-size-alike : is_length_without_size one ≡ is_length_without_size other
+  without-size-alike = ap (λ t. is_unsized kind && is_word (codes "implicit") t) (told-alike xs ys alike (codes "lengthKind"))
+
+  constant-alike : constant_length one ≡ constant_length other
+  constant-alike =
+      both (λ units length. length_in (unit_bits units) (number_told length)) (told-alike xs ys alike (codes "lengthUnits"))
+      (told-alike xs ys alike (codes "length"))
+
+  no-size-alike : is_no_size one ≡ is_no_size other
+  no-size-alike = ap (λ length. is_some length && not (is_some (size_within (number_bits kind) length))) constant-alike
+
+  characters-alike : is_length_in_characters one ≡ is_length_in_characters other
+  characters-alike = both (λ b t. b && is_word (codes "characters") t) explicit-alike (told-alike xs ys alike (codes "lengthUnits"))
 
   -- a rule that is told at the component, and those behind it
   itself-alike : (cause : SchemaCause) {x y : Bool} {r s : Option Breach} → x ≡ y → r ≡ s
@@ -80,21 +104,40 @@ module _ (kind : Kind) (place : Place) (facts : Facts) (xs ys : List Element) (a
       (itself-alike causes.PropertyNotCarried (flaw-alike flaws.NotCarried)
       (itself-alike causes.ExpressionNotAllowed (flaw-alike flaws.Expression)
       (itself-alike causes.TypeNotCarried {x = is_type_not_carried kind} refl
-      (itself-alike causes.LengthKind (both (λ x y. x && y) binary-alike content-alike) refl))))))
+      (itself-alike causes.LengthKind (both (λ x y. x && y) binary-alike (both (λ x y. x || y) content-alike without-size-alike))
+      (itself-alike causes.LengthUnits characters-alike
+      (itself-alike causes.ConstantLength (both (λ x y. x && y) explicit-alike no-size-alike) refl))))))))
 
-  form-alike : integer_form_of one ≡ integer_form_of other
-  form-alike = ap (λ t. number_of_kind kind (byte_order t)) (told-alike xs ys alike (codes "byteOrder"))
+  size-alike : (most : ℕ) → field_bits one most ≡ field_bits other most
+  size-alike most =
+      both (λ t length. if is_word (codes "explicit") t then own_size purpose most length else Some most)
+      (told-alike xs ys alike (codes "lengthKind")) constant-alike
+
+  type-alike : (simple : Simple) → primitive_of_type one simple ≡ primitive_of_type other simple
+  type-alike simple =
+      three (λ order bits places. if is_built_type purpose simple then number_by simple order bits places else None)
+      (ap byte_order (told-alike xs ys alike (codes "byteOrder"))) (size-alike (most_bits (form_of simple)))
+      (ap (places_of simple) (told-alike xs ys alike (codes "binaryDecimalVirtualPoint")))
+
+  kind-alike : (k : Kind) → primitive_of_kind one k ≡ primitive_of_kind other k
+  kind-alike ComplexElement = refl
+  kind-alike (SimpleElement simple) = type-alike simple
+  kind-alike UncarriedElement = refl
+  kind-alike Sequence = refl
+  kind-alike Choice = refl
 
 -- what is so of two components that differ in their chains alone is so of components that are alike
-by-chains : {X : Type 0} (f : Judged → X) (a b : Judged) → IsAlike a b → f (with a.kind a.place a.facts a.chain) ≡ f (with a.kind a.place a.facts b.chain) → f a ≡ f b
+by-chains : {X : Type 0} (f : Judged → X) (a b : Judged) → IsAlike a b
+    → f (with a.purpose a.kind a.place a.facts a.chain) ≡ f (with a.purpose a.kind a.place a.facts b.chain) → f a ≡ f b
 by-chains f a b alike same =
     same
-    ∙ ap (λ kind. f (with kind a.place a.facts b.chain)) alike.kind
-    ∙ ap (λ place. f (with b.kind place a.facts b.chain)) alike.place
-    ∙ ap (λ facts. f (with b.kind b.place facts b.chain)) alike.facts
+    ∙ ap (λ purpose. f (with purpose a.kind a.place a.facts b.chain)) alike.purpose
+    ∙ ap (λ kind. f (with b.purpose kind a.place a.facts b.chain)) alike.kind
+    ∙ ap (λ place. f (with b.purpose b.kind place a.facts b.chain)) alike.place
+    ∙ ap (λ facts. f (with b.purpose b.kind b.place facts b.chain)) alike.facts
 
 pub same-breach : (a b : Judged) → IsAlike a b → first_breach rules a ≡ first_breach rules b
-same-breach a b alike = by-chains (first_breach rules) a b alike (breach-alike a.kind a.place a.facts a.chain b.chain alike.chain)
+same-breach a b alike = by-chains (first_breach rules) a b alike (breach-alike a.purpose a.kind a.place a.facts a.chain b.chain alike.chain)
 
-pub same-form : (a b : Judged) → IsAlike a b → integer_form_of a ≡ integer_form_of b
-same-form a b alike = by-chains integer_form_of a b alike (form-alike a.kind a.place a.facts a.chain b.chain alike.chain)
+pub same-primitive : (a b : Judged) → IsAlike a b → primitive_of a ≡ primitive_of b
+same-primitive a b alike = by-chains primitive_of a b alike (kind-alike a.purpose a.kind a.place a.facts a.chain b.chain alike.chain a.kind)

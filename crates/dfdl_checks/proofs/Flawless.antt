@@ -9,7 +9,7 @@ use Rattle.dfdl_checks.proofs.Once.{is_twice}
 use Rattle.dfdl_checks.specs.Applying.{is_bearer}
 use Rattle.dfdl_checks.specs.Flaws.{has_flaw, is_flawed, is_flawed_at, is_absence_flawed}
 use Rattle.dfdl_checks.specs.Subjects.{told_at}
-use Rattle.dfdl_checks.specs.Table.{Applicability, Built, is_built, applicability_table}
+use Rattle.dfdl_checks.specs.Table.{Applicability, Built, built_for, is_built, applicability_table}
 use Rattle.dfdl_checks.specs.Values.{is_among, is_value, is_plain_value, takes_expressions}
 use Rattle.dfdl_checks.specs.declared.flaw.Flaw.{Flaw}
 use Rattle.dfdl_checks.specs.declared.flaw.Flaw.TheVariants as flaws
@@ -27,10 +27,10 @@ at-place test (y ∷ ys) (suc i) x there none = at-place test ys i x there (rest
 -- a component without a flaw has none at a property that applies to it
 pub flawless : (flaw : Flaw) (s : Judged) → has_flaw flaw s ≡ false → (i : ℕ) (a : Applicability) → slice_get applicability_table i ≡ Some a
     → is_bearer a.bearers s ≡ true → (row : Row) → row_named property_table a.name ≡ Some row
-    → is_flawed flaw row a.built (told_at s a.name) ≡ false
+    → is_flawed flaw row (built_for s.purpose a) (told_at s a.name) ≡ false
 unfolding is_flawed_at
 flawless flaw s none i a there bearer row named =
-    both (is_bearer a.bearers s) _ bearer (sym (ap (λ o. option_map_or (λ r. is_flawed flaw r a.built (told_at s a.name)) o false) named))
+    both (is_bearer a.bearers s) _ bearer (sym (ap (λ o. option_map_or (λ r. is_flawed flaw r (built_for s.purpose a) (told_at s a.name)) o false) named))
     (at-place (is_flawed_at flaw s) applicability_table i a there none)
   where
     both : (b x : Bool) {y : Bool} → b ≡ true → x ≡ y → (b && y) ≡ false → x ≡ false

@@ -1,15 +1,10 @@
 -- Components that break no rule.
-use Rattle.std.proofs.Common.{◌≡◌, refl, Option, Some, None, Bool, true, false, not, if◌then◌else◌, ◌||◌, IsTrue, IsSome, arith}
+use Rattle.std.proofs.Common.{◌≡◌, refl, Option, Some, None, Bool, true, false, if◌then◌else◌, ◌||◌, arith}
 use Rattle.std.specs.Option.{option_map_or}
-use Rattle.dfdl_forms.specs.declared.order.ByteOrder.{ByteOrder}
 use Rattle.dfdl_report.specs.declared.cause.SchemaCause.{SchemaCause}
 use Rattle.dfdl_report.specs.declared.cause.SchemaCause.TheVariants as causes
 use Rattle.dfdl_report.specs.declared.place.Place.{Place}
-use Rattle.dfdl_checks.specs.Numbers.{number_of, number_of_kind, integer_form_of}
-use Rattle.dfdl_checks.specs.Rules.{breach_of, first_breach, rules, is_built_type, has_later_type, is_unbuilt, property_twice, is_property_missing, is_value_not_carried, is_expression_not_allowed, is_type_not_carried, is_length_kind_not_allowed}
-use Rattle.dfdl_checks.specs.Subjects.{is_simple, is_choice}
-use Rattle.dfdl_checks.specs.declared.subject.Kind.{Kind}
-use Rattle.dfdl_checks.specs.declared.subject.Kind.TheVariants.{ComplexElement, SimpleElement, UncarriedElement, Sequence, Choice}
+use Rattle.dfdl_checks.specs.Rules.{breach_of, first_breach, rules, is_unbuilt, property_twice, is_property_missing, is_value_not_carried, is_expression_not_allowed, is_type_not_carried, is_length_kind_not_allowed, is_length_in_characters, is_length_out_of_range}
 use Rattle.dfdl_checks.specs.Judged.{Judged}
 use Rattle.dfdl_checks.specs.declared.subject.Breach.{Breach}
 
@@ -22,6 +17,8 @@ pub record IsKept (s : Judged) : Type 0 where
   pub allowed : is_expression_not_allowed s ≡ false
   pub typed : is_type_not_carried s.kind ≡ false
   pub length_kind : is_length_kind_not_allowed s ≡ false
+  pub length_units : is_length_in_characters s ≡ false
+  pub length : is_length_out_of_range s ≡ false
 
 -- no rule of some is broken: neither the first one nor another
 first-kept : (cause : SchemaCause) (at : Option Place) (rest : Option Breach)
@@ -45,6 +42,8 @@ keeps-all s none =
     let e = first-kept causes.ExpressionNotAllowed _ _ d.1 in
     let f = first-kept causes.TypeNotCarried _ _ e.1 in
     let g = first-kept causes.LengthKind _ _ f.1 in
+    let h = first-kept causes.LengthUnits _ _ g.1 in
+    let i = first-kept causes.ConstantLength _ _ h.1 in
     record {
       built = itself-kept _ s.place a.0;
       once = b.0;
@@ -53,27 +52,10 @@ keeps-all s none =
       allowed = itself-kept _ s.place e.0;
       typed = itself-kept _ s.place f.0;
       length_kind = itself-kept _ s.place g.0;
+      length_units = itself-kept _ s.place h.0;
+      length = itself-kept _ s.place i.0;
     }
 
 -- where none of some holds, the second doesn't
 pub second-fails : (a b c d e : Bool) → (a || b || c || d || e) ≡ false → b ≡ false
 second-fails a b c d e none = grind (arith, none)
-
--- a kind of element that is built has a form
-pub built-number : (kind : Kind) (order : ByteOrder) → has_later_type kind ≡ false → is_type_not_carried kind ≡ false
-    → IsTrue (is_simple kind) → IsSome (number_of_kind kind order)
-built-number ComplexElement order later typed simple = grind (arith, simple)
-built-number (SimpleElement simple) order later typed is = by (is_built_type simple) later
-  where
-    by : (b : Bool) → not b ≡ false → IsSome (if b then Some (number_of simple order) else None)
-    by true kept = refl
-    by false kept = grind (arith, kept)
-built-number UncarriedElement order later typed simple = grind (arith, typed)
-built-number Sequence order later typed simple = grind (arith, simple)
-built-number Choice order later typed simple = grind (arith, simple)
-
--- a simple element without a breach has a form
-pub has-form : (s : Judged) → first_breach rules s ≡ None → IsTrue (is_simple s.kind) → IsSome (integer_form_of s)
-has-form s none simple =
-    let kept = keeps-all s none in
-    built-number s.kind _ (second-fails (is_choice s.kind) (has_later_type s.kind) _ _ _ kept.built) kept.typed simple

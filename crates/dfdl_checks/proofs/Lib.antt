@@ -2,6 +2,10 @@ pub mod Digits
 pub mod Kept
 pub mod Flawless
 pub mod Once
-pub mod Integers
+pub mod Types
+pub mod Binary
+pub mod Sound
+pub mod Primitives
+pub mod Made
 pub mod AlikeChains
 pub mod AlikeJudged

@@ -18,6 +18,7 @@ AreAlikeChains xs ys = AllZip IsAlikeElement xs ys
 
 -- two components have alike chains, and are the same else
 pub record IsAlike (a b : Judged) : Type 0 where
+  pub purpose : a.purpose ≡ b.purpose
   pub kind : a.kind ≡ b.kind
   pub place : a.place ≡ b.place
   pub chain : AreAlikeChains a.chain b.chain

@@ -1,9 +1,9 @@
 -- Which components a property applies to.
 use Rattle.std.specs.Prelude.{Bool, true, not, nat_lt, ◌&&◌, codes}
-use Rattle.dfdl_checks.specs.Subjects.{is_element, is_simple, is_sequence, is_group, is_represented, number_bits, is_binary_number, is_word, told_at}
+use Rattle.dfdl_checks.specs.Subjects.{is_element, is_simple, is_sequence, is_group, is_represented, is_decimal, number_bits, is_binary_number, is_explicit_number, is_word, told_at}
 use Rattle.dfdl_checks.specs.Judged.{Judged}
 use Rattle.dfdl_checks.specs.declared.applicability.Bearers.{Bearers}
-use Rattle.dfdl_checks.specs.declared.applicability.Bearers.TheVariants.{EveryComponent, Elements, OtherElements, SimpleElements, RepresentedElements, BinaryNumbers, WideBinaryNumbers, PatternElements, Groups, Sequences, EmptySequences}
+use Rattle.dfdl_checks.specs.declared.applicability.Bearers.TheVariants.{EveryComponent, Elements, OtherElements, SimpleElements, RepresentedElements, BinaryNumbers, WideBinaryNumbers, ExplicitNumbers, BinaryDecimals, PatternElements, Groups, Sequences, EmptySequences}
 
 -- a component is one of these
 abbrev pub is_bearer : Bearers → Judged → Bool
@@ -14,6 +14,8 @@ is_bearer SimpleElements subject = is_simple subject.kind
 is_bearer RepresentedElements subject = is_represented subject.kind
 is_bearer BinaryNumbers subject = is_binary_number subject
 is_bearer WideBinaryNumbers subject = nat_lt 8 (number_bits subject.kind) && is_binary_number subject
+is_bearer ExplicitNumbers subject = is_explicit_number subject
+is_bearer BinaryDecimals subject = is_decimal subject.kind && is_binary_number subject
 is_bearer PatternElements subject = is_element subject.kind && is_word (codes "pattern") (told_at subject (codes "lengthKind"))
 is_bearer Groups subject = is_group subject.kind
 is_bearer Sequences subject = is_sequence subject.kind

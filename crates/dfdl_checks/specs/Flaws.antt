@@ -9,7 +9,7 @@ use Rattle.dfdl_scope.specs.Table.{Row, Absence, Else, Missing, MissingKey, Noth
 use Rattle.dfdl_checks.specs.Subjects.{told_at}
 use Rattle.dfdl_checks.specs.Values.{is_value, takes_expressions}
 use Rattle.dfdl_checks.specs.Applying.{is_bearer}
-use Rattle.dfdl_checks.specs.Table.{Applicability, Built, is_built, applicability_table}
+use Rattle.dfdl_checks.specs.Table.{Applicability, Built, built_for, is_built, applicability_table}
 use Rattle.dfdl_checks.specs.Judged.{Judged}
 use Rattle.dfdl_checks.specs.declared.flaw.Flaw.{Flaw}
 use Rattle.dfdl_checks.specs.declared.flaw.Flaw.TheVariants as flaws
@@ -45,7 +45,7 @@ is_flawed flaw row built (Twice place) = false
 unfoldable pub is_flawed_at : Flaw → Judged → Applicability → Bool
 is_flawed_at flaw subject a =
     is_bearer a.bearers subject
-    && option_map_or (λ row. is_flawed flaw row a.built (told_at subject a.name)) (row_named property_table a.name) false
+    && option_map_or (λ row. is_flawed flaw row (built_for subject.purpose a) (told_at subject a.name)) (row_named property_table a.name) false
 
 -- some property that applies to the component has the flaw there
 abbrev pub has_flaw : Flaw → Judged → Bool

@@ -6,6 +6,7 @@ use Rattle.dfdl_checks.specs.declared.subject.Subject.{Subject}
 -- a component with a chain that is lent
 abbrev pub judged_of : Subject → Judged
 judged_of subject = record {
+  purpose = subject.purpose;
   kind = subject.kind;
   place = subject.place;
   chain = chain_of subject.chain.now;

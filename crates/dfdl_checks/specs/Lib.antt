@@ -3,9 +3,11 @@ pub mod JudgedShown
 pub mod Alike
 pub mod Subjects
 pub mod Values
+pub mod Lengths
 pub mod Applying
 pub mod Table
 pub mod TableShown
 pub mod Flaws
 pub mod Rules
 pub mod Numbers
+pub mod Forms

@@ -61,6 +61,16 @@ abbrev pub number_bits : Kind → ℕ
 number_bits (SimpleElement simple) = most_bits (form_of simple)
 number_bits _ = 0
 
+-- values of this form have digits behind a point
+abbrev pub has_point : Form → Bool
+has_point Fixed = true
+has_point _ = false
+
+-- an element of type decimal
+abbrev pub is_decimal : Kind → Bool
+is_decimal (SimpleElement simple) = has_point (form_of simple)
+is_decimal _ = false
+
 -- what is told of a property at a component
 abbrev pub told_at : Judged → List ℕ → Told
 told_at subject name = told subject.chain name
@@ -74,3 +84,11 @@ is_word word (Twice place) = false
 -- a binary number: an element of an integer or decimal type whose representation is binary
 abbrev pub is_binary_number : Judged → Bool
 is_binary_number subject = nat_lt 0 (number_bits subject.kind) && is_word (codes "binary") (told_at subject (codes "representation"))
+
+-- what is told of a property at the component stands for this word
+abbrev pub is_told : Judged → List ℕ → List ℕ → Bool
+is_told subject name word = is_word word (told_at subject name)
+
+-- a binary number with a length of its own
+abbrev pub is_explicit_number : Judged → Bool
+is_explicit_number subject = is_binary_number subject && is_told subject (codes "lengthKind") (codes "explicit")

@@ -4,14 +4,17 @@
 -- numbers, and to binary decimals and booleans. Where the least significant bit comes first, which is a later form too,
 -- byteOrder will be asked of each binary number.
 use Rattle.std.specs.Prelude.{ℕ, List, [], ◌∷◌, Bool, true, false, codes}
-use Rattle.dfdl_checks.specs.Values.{is_among, is_within}
+use Rattle.dfdl_checks.specs.Values.{is_among, is_number, is_within}
 use Rattle.dfdl_checks.specs.declared.applicability.Bearers.{Bearers}
-use Rattle.dfdl_checks.specs.declared.applicability.Bearers.TheVariants.{EveryComponent, Elements, OtherElements, SimpleElements, RepresentedElements, BinaryNumbers, WideBinaryNumbers, PatternElements, Groups, Sequences, EmptySequences}
+use Rattle.dfdl_checks.specs.declared.applicability.Bearers.TheVariants.{EveryComponent, Elements, OtherElements, SimpleElements, RepresentedElements, BinaryNumbers, WideBinaryNumbers, ExplicitNumbers, BinaryDecimals, PatternElements, Groups, Sequences, EmptySequences}
+use Rattle.dfdl_checks.specs.declared.purpose.Purpose.{Purpose}
+use Rattle.dfdl_checks.specs.declared.purpose.Purpose.TheVariants.{Parsing, Unparsing}
 
 -- which values are built
 pub data Built : Type 0 where
   Words : List (List ℕ) → Built
   Number : ℕ → Built
+  EachNumber : Built
   EveryValue : Built
   NoValue : Built
 
@@ -19,38 +22,55 @@ pub data Built : Type 0 where
 abbrev pub is_built : Built → List ℕ → Bool
 is_built (Words words) text = is_among words text
 is_built (Number number) text = is_within number number text
+is_built EachNumber text = is_number text
 is_built EveryValue text = true
 is_built NoValue text = false
 
--- a property, some of the components that it applies to, and which of its values are built there
+-- a property, some of the components that it applies to, and which of its values are built there, for parsing and for
+-- unparsing
 pub record Applicability : Type 0 where
   pub name : List ℕ
   pub bearers : Bearers
-  pub built : Built
+  pub parsing : Built
+  pub unparsing : Built
+
+-- the values that are built for a purpose
+abbrev pub built_for : Purpose → Applicability → Built
+built_for Parsing a = a.parsing
+built_for Unparsing a = a.unparsing
 
 -- the property of this name
+abbrev pub applies_by : List ℕ → Bearers → Built → Built → Applicability
+applies_by name bearers parsing unparsing = record { name = name; bearers = bearers; parsing = parsing; unparsing = unparsing }
+
+-- the property of this name, where the same values are built for both
 abbrev pub applies : List ℕ → Bearers → Built → Applicability
-applies name bearers built = record { name = name; bearers = bearers; built = built }
+applies name bearers built = applies_by name bearers built built
 
 -- one word alone is built
 abbrev pub word : List ℕ → Built
 word text = Words (text ∷ [])
 
--- the properties, in the order of the profile. A binary number of delimited length or with a length by a pattern is
--- refused by a rule of its own, so these two values, and its pattern, are no forms that come later
+-- the properties, in the order of the profile. A binary number of delimited length, with a length by a pattern or with a
+-- length in characters is refused by a rule of its own, so these values, and its pattern, are no forms that come later. What
+-- is filled is only written
 unfoldable pub applicability_table : List Applicability
 applicability_table =
     applies (codes "representation") RepresentedElements (word (codes "binary"))
     ∷ applies (codes "byteOrder") WideBinaryNumbers EveryValue
     ∷ applies (codes "bitOrder") EveryComponent (word (codes "mostSignificantBitFirst"))
     ∷ applies (codes "lengthKind") OtherElements (word (codes "implicit"))
-    ∷ applies (codes "lengthKind") BinaryNumbers (Words (codes "implicit" ∷ codes "delimited" ∷ codes "pattern" ∷ []))
+    ∷ applies_by (codes "lengthKind") BinaryNumbers
+    (Words (codes "implicit" ∷ codes "explicit" ∷ codes "delimited" ∷ codes "pattern" ∷ []))
+    (Words (codes "implicit" ∷ codes "delimited" ∷ codes "pattern" ∷ []))
+    ∷ applies (codes "length") ExplicitNumbers EachNumber
+    ∷ applies (codes "lengthUnits") ExplicitNumbers EveryValue
     ∷ applies (codes "lengthPattern") PatternElements EveryValue
     ∷ applies (codes "alignment") EveryComponent (Number 1)
     ∷ applies (codes "alignmentUnits") EveryComponent (word (codes "bits"))
     ∷ applies (codes "leadingSkip") EveryComponent (Number 0)
     ∷ applies (codes "trailingSkip") EveryComponent (Number 0)
-    ∷ applies (codes "fillByte") EveryComponent (word (codes "%#r00;"))
+    ∷ applies_by (codes "fillByte") EveryComponent EveryValue (word (codes "%#r00;"))
     ∷ applies (codes "initiator") EveryComponent (word (codes ""))
     ∷ applies (codes "terminator") EveryComponent (word (codes ""))
     ∷ applies (codes "separator") Groups (word (codes ""))
@@ -58,6 +78,7 @@ applicability_table =
     ∷ applies (codes "sequenceKind") Sequences (word (codes "ordered"))
     ∷ applies (codes "hiddenGroupRef") EmptySequences NoValue
     ∷ applies (codes "binaryNumberRep") BinaryNumbers (word (codes "binary"))
+    ∷ applies (codes "binaryDecimalVirtualPoint") BinaryDecimals EveryValue
     ∷ applies (codes "nilValueDelimiterPolicy") SimpleElements EveryValue
     ∷ applies (codes "emptyValueDelimiterPolicy") SimpleElements EveryValue
     ∷ applies (codes "inputValueCalc") Elements NoValue

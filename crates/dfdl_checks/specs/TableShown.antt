@@ -9,9 +9,10 @@ use Rattle.dfdl_checks.specs.declared.applicability.Applicability.{Applicability
 abbrev pub built_shown : Built → table.Built
 built_shown (values.Words words) = table.Words (map (λ word. word.now) words.now)
 built_shown (values.Number number) = table.Number number
+built_shown values.EachNumber = table.EachNumber
 built_shown values.EveryValue = table.EveryValue
 built_shown values.NoValue = table.NoValue
 
 -- a row
 abbrev pub applicability_shown : Applicability → table.Applicability
-applicability_shown row = table.applies row.name.now row.bearers (built_shown row.built)
+applicability_shown row = table.applies_by row.name.now row.bearers (built_shown row.parsing) (built_shown row.unparsing)

@@ -14,6 +14,10 @@ pub enum Bearers {
     BinaryNumbers,
     /// Binary numbers of a type with more than 8 bits.
     WideBinaryNumbers,
+    /// Binary numbers of lengthKind explicit.
+    ExplicitNumbers,
+    /// Binary numbers of type decimal.
+    BinaryDecimals,
     /// Elements whose length is by a pattern.
     PatternElements,
     /// Sequences and choices.
@@ -29,14 +33,18 @@ pub enum Built {
     Words(&'static [&'static str]),
     /// This number.
     Number(u64),
+    /// Each number.
+    EachNumber,
     EveryValue,
     NoValue,
 }
 
-/// A property, some of the components that it applies to, and which of its values are built there.
+/// A property, some of the components that it applies to, and which of its values are built there, for
+/// parsing and for unparsing.
 #[derive(Debug, Clone, Copy)]
 pub struct Applicability {
     pub name: &'static str,
     pub bearers: Bearers,
-    pub built: Built,
+    pub parsing: Built,
+    pub unparsing: Built,
 }

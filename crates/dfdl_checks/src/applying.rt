@@ -26,6 +26,8 @@ pub(crate) fn is_bearer(bearers: Bearers, subject: &Subject<'_, '_, '_>) -> bool
         Bearers::RepresentedElements => is_represented(kind),
         Bearers::BinaryNumbers => is_binary_number(subject),
         Bearers::WideBinaryNumbers => number_bits(kind) > 8 && is_binary_number(subject),
+        Bearers::ExplicitNumbers => is_explicit_number(subject),
+        Bearers::BinaryDecimals => is_decimal(kind) && is_binary_number(subject),
         Bearers::PatternElements => {
             is_element(kind) && is_word(subject.chain, "lengthKind", "pattern")
         }
@@ -103,8 +105,35 @@ pub(crate) fn is_binary_number(subject: &Subject<'_, '_, '_>) -> bool
     number_bits(subject.kind) > 0 && is_word(subject.chain, "representation", "binary")
 }
 
+/// Whether it is a binary number with a length of its own.
+pub(crate) fn is_explicit_number(subject: &Subject<'_, '_, '_>) -> bool
+    ensures { result ≡ subjects.is_explicit_number (judged_of subject.now) }
+{
+    is_binary_number(subject) && is_word(subject.chain, "lengthKind", "explicit")
+}
+
+/// Whether it is an element of type decimal.
+fn is_decimal(kind: Kind) -> bool
+    ensures { result ≡ subjects.is_decimal kind }
+{
+    match kind {
+        Kind::SimpleElement(simple) => has_point(simple),
+        _ => false,
+    }
+}
+
+/// Whether values of a type have digits behind a point.
+pub(crate) fn has_point(simple: Simple) -> bool
+    ensures { result ≡ subjects.has_point (form_of simple) }
+{
+    match simple.form() {
+        Form::Fixed => true,
+        _ => false,
+    }
+}
+
 /// How many bits an element of an integer or decimal type has at most in binary, else 0.
-fn number_bits(kind: Kind) -> u32
+pub(crate) fn number_bits(kind: Kind) -> u32
     ensures { result ≡ subjects.number_bits kind }
 {
     match kind {

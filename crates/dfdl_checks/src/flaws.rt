@@ -3,7 +3,7 @@ ghost use Rattle.std.specs.Prelude.{◌≡◌, map};
 ghost use Rattle.std.specs.List.{list_any};
 ghost use Rattle.dfdl_checks.specs.JudgedShown.{judged_of};
 ghost use Rattle.dfdl_checks.specs.Flaws as flaws;
-ghost use Rattle.dfdl_checks.specs.Table.{is_built};
+ghost use Rattle.dfdl_checks.specs.Table.{built_for, is_built};
 ghost use Rattle.dfdl_checks.specs.TableShown.{applicability_shown, built_shown};
 ghost use Rattle.dfdl_scope.specs.TableShown.{row_shown};
 ghost use Rattle.dfdl_scope.specs.Told.{told_by};
@@ -11,9 +11,10 @@ ghost use Rattle.dfdl_scope.specs.Told.{told_by};
 use crate::applicability::{Applicability, Built};
 use crate::applying::is_bearer;
 use crate::flaw::Flaw;
+use crate::purpose::Purpose;
 use crate::subject::Subject;
 use crate::table::applicabilities;
-use crate::values::{is_among, is_value, is_within, takes_expressions};
+use crate::values::{is_among, is_number, is_value, is_within, takes_expressions};
 use dfdl_scope::{Absence, Asked, PropertyRow, is_expression, literal, property, property_row};
 
 /// Whether some property that applies to a component has the flaw there.
@@ -47,10 +48,20 @@ fn is_flawed_at(flaw: Flaw, subject: &Subject<'_, '_, '_>, row: &Applicability) 
         Some(of_profile) => is_flawed(
             flaw,
             of_profile,
-            row.built,
+            built_for(subject.purpose, row),
             property(subject.chain, row.name),
         ),
         None => false,
+    }
+}
+
+/// The values that are built for a purpose.
+fn built_for(purpose: Purpose, row: &Applicability) -> Built
+    ensures { built_shown result ≡ built_for purpose (applicability_shown row.now) }
+{
+    match purpose {
+        Purpose::Parsing => row.parsing,
+        Purpose::Unparsing => row.unparsing,
     }
 }
 
@@ -106,6 +117,7 @@ fn is_built(built: Built, text: &str) -> bool
     match built {
         Built::Words(words) => is_among(words, text),
         Built::Number(number) => is_within(number, number, text),
+        Built::EachNumber => is_number(text),
         Built::EveryValue => true,
         Built::NoValue => false,
     }

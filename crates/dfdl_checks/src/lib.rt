@@ -3,8 +3,8 @@
 //!
 //! A component comes as a `Subject`: what kind it is, what it states, and the chain that its properties are asked of.
 //! `breach` gives the first rule that it breaks; its contract cites `specs/Rules.antt`, and the table of the properties
-//! that apply to components is `specs/Table.antt`. `integer_form` says how the values of a simple element without a
-//! breach lie in the data, by `specs/Numbers.antt`. The chapters are 'Property Scoping and DFDL Schema Checking' and
+//! that apply to components is `specs/Table.antt`. `primitive` says how the values of a simple element without a breach
+//! lie in the data, by `specs/Numbers.antt`. The chapters are 'Property Scoping and DFDL Schema Checking' and
 //! 'Simple Types'.
 #![tactic(auto)]
 
@@ -13,13 +13,16 @@ mod applying;
 mod flaw;
 mod flaws;
 pub mod laws;
+mod lengths;
 mod number;
+mod purpose;
 mod rules;
 mod subject;
 mod table;
 mod values;
 
-pub use number::integer_form;
+pub use number::primitive;
+pub use purpose::Purpose;
 pub use rules::breach;
 pub use subject::{Breach, Facts, Kind, Subject};
 

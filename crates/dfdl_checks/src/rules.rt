@@ -3,9 +3,13 @@ ghost use Rattle.std.specs.Prelude.{◌≡◌, Some};
 ghost use Rattle.dfdl_checks.specs.JudgedShown.{judged_of};
 ghost use Rattle.dfdl_checks.specs.Rules as spec;
 
-use crate::applying::{is_binary_number, is_choice, is_element, is_word};
+use crate::applying::{
+    is_binary_number, is_choice, is_element, is_explicit_number, is_word, most_bits, number_bits,
+};
 use crate::flaw::Flaw;
 use crate::flaws::has_flaw;
+use crate::lengths::{constant_size, has_constant_length};
+use crate::purpose::Purpose;
 use crate::subject::{Breach, Facts, Kind, Subject};
 use dfdl_forms::Simple;
 use dfdl_report::SchemaCause;
@@ -41,6 +45,12 @@ pub fn breach(subject: &Subject<'_, '_, '_>) -> Option<Breach>
     if is_length_kind_not_allowed(subject) {
         return told_here(SchemaCause::LengthKind, subject);
     }
+    if is_length_in_characters(subject) {
+        return told_here(SchemaCause::LengthUnits, subject);
+    }
+    if is_length_out_of_range(subject) {
+        return told_here(SchemaCause::ConstantLength, subject);
+    }
     None
 }
 
@@ -67,24 +77,34 @@ fn is_later_component(subject: &Subject<'_, '_, '_>) -> bool
 {
     let kind = subject.kind;
     is_choice(kind)
-        || has_later_type(kind)
+        || has_later_type(subject.purpose, kind)
         || subject.facts.has_statements
         || (is_element(kind) && is_later_element(subject.facts))
 }
 
 /// Whether it is an element of a simple type that is built later.
-fn has_later_type(kind: Kind) -> bool
-    ensures { result ≡ spec.has_later_type kind }
+fn has_later_type(purpose: Purpose, kind: Kind) -> bool
+    ensures { result ≡ spec.has_later_type purpose kind }
 {
     match kind {
-        Kind::SimpleElement(simple) => !is_built_type(simple),
+        Kind::SimpleElement(simple) => !is_built_type(purpose, simple),
         _ => false,
     }
 }
 
 /// Whether elements of a type are built.
-pub(crate) fn is_built_type(simple: Simple) -> bool
-    ensures { result ≡ spec.is_built_type simple }
+pub(crate) fn is_built_type(purpose: Purpose, simple: Simple) -> bool
+    ensures { result ≡ spec.is_built_type purpose simple }
+{
+    match purpose {
+        Purpose::Parsing => most_bits(simple) > 0,
+        Purpose::Unparsing => is_whole_type(simple),
+    }
+}
+
+/// Whether a type is one of unsigned integers whose values have whole bytes.
+fn is_whole_type(simple: Simple) -> bool
+    ensures { result ≡ spec.is_whole_type simple }
 {
     match simple {
         Simple::UnsignedByte | Simple::UnsignedShort | Simple::UnsignedInt | Simple::UnsignedLong =>
@@ -110,11 +130,12 @@ fn is_type_not_carried(kind: Kind) -> bool
     }
 }
 
-/// Whether it is a binary number of delimited length, or with a length by a pattern.
+/// Whether it is a binary number of delimited length, with a length by a pattern, or with the length
+/// of a type that has none.
 fn is_length_kind_not_allowed(subject: &Subject<'_, '_, '_>) -> bool
     ensures { result ≡ spec.is_length_kind_not_allowed (judged_of subject.now) }
 {
-    is_binary_number(subject) && is_length_by_content(subject)
+    is_binary_number(subject) && (is_length_by_content(subject) || is_length_without_size(subject))
 }
 
 /// Whether the length is delimited or by a pattern.
@@ -123,4 +144,43 @@ fn is_length_by_content(subject: &Subject<'_, '_, '_>) -> bool
 {
     is_word(subject.chain, "lengthKind", "delimited")
         || is_word(subject.chain, "lengthKind", "pattern")
+}
+
+/// Whether the length is that of the type, and the type has none.
+fn is_length_without_size(subject: &Subject<'_, '_, '_>) -> bool
+    ensures { result ≡ spec.is_length_without_size (judged_of subject.now) }
+{
+    is_unsized(subject.kind) && is_word(subject.chain, "lengthKind", "implicit")
+}
+
+/// Whether numbers of an element's type have no size of their own.
+fn is_unsized(kind: Kind) -> bool
+    ensures { result ≡ spec.is_unsized kind }
+{
+    match kind {
+        Kind::SimpleElement(Simple::Integer | Simple::NonNegativeInteger | Simple::Decimal) => true,
+        _ => false,
+    }
+}
+
+/// Whether it is a binary number whose length is counted in characters.
+fn is_length_in_characters(subject: &Subject<'_, '_, '_>) -> bool
+    ensures { result ≡ spec.is_length_in_characters (judged_of subject.now) }
+{
+    is_explicit_number(subject) && is_word(subject.chain, "lengthUnits", "characters")
+}
+
+/// Whether it is a binary number with a constant length that its type does not have.
+fn is_length_out_of_range(subject: &Subject<'_, '_, '_>) -> bool
+    ensures { result ≡ spec.is_length_out_of_range (judged_of subject.now) }
+{
+    is_explicit_number(subject) && is_no_size(subject)
+}
+
+/// Whether the length is constant, and no number of the type has so few or so many bits.
+fn is_no_size(subject: &Subject<'_, '_, '_>) -> bool
+    ensures { result ≡ spec.is_no_size (judged_of subject.now) }
+{
+    has_constant_length(subject.chain)
+        && constant_size(number_bits(subject.kind), subject.chain).is_none()
 }

@@ -1,4 +1,5 @@
 // A component as the rules see it.
+use crate::purpose::Purpose;
 use dfdl_forms::Simple;
 use dfdl_report::{Place, SchemaCause};
 use dfdl_scope::Component;
@@ -34,6 +35,8 @@ pub struct Facts {
 /// A component of a schema, with what the rules ask of it.
 #[derive(Clone, Copy)]
 pub struct Subject<'s, 'e, 'c> {
+    /// What its rows are made for.
+    pub purpose: Purpose,
     pub kind: Kind,
     /// Its start tag.
     pub place: Place,

@@ -1,8 +1,9 @@
 // The first breach at a component, by its kind, its chain and what it states.
-use super::{Facts, Kind, Subject, breach, integer_form};
+use super::{Facts, Kind, Purpose, Subject, breach, primitive};
 use dfdl_forms::{BitOrder, ByteOrder, IntForm, Simple};
 use dfdl_report::Place;
 use dfdl_scope::{Component, Element, Format, Properties};
+use dfdl_terms::Primitive;
 use std::alloc::{AllocError, AllocGlobal, Global};
 use std::process::Abort;
 use std::test::Fail;
@@ -19,6 +20,10 @@ const PLAIN: Facts = Facts {
 const BYTE: Kind = Kind::SimpleElement(Simple::UnsignedByte);
 
 const SHORT: Kind = Kind::SimpleElement(Simple::UnsignedShort);
+
+const INT: Kind = Kind::SimpleElement(Simple::Int);
+
+const DECIMAL: Kind = Kind::SimpleElement(Simple::Decimal);
 
 /// A kind of component, a property of its own beside those of integers, and the number of its first
 /// breach, 0 where it has none.
@@ -55,6 +60,63 @@ const NUMBERS: [Judged; 8] = [
     (Kind::Sequence, "leadingSkip", "", 9),
 ];
 
+/// Which types are built for parsing, of implicit length.
+const TYPES: [Judged; 8] = [
+    (INT, "byteOrder", "bigEndian", 0),
+    (INT, "binaryDecimalVirtualPoint", "39", 7),
+    (DECIMAL, "byteOrder", "bigEndian", 15),
+    (
+        Kind::SimpleElement(Simple::Integer),
+        "byteOrder",
+        "bigEndian",
+        15,
+    ),
+    (
+        Kind::SimpleElement(Simple::NonNegativeInteger),
+        "byteOrder",
+        "bigEndian",
+        15,
+    ),
+    (Kind::SimpleElement(Simple::Boolean), "alignment", "1", 3),
+    (Kind::SimpleElement(Simple::String), "alignment", "1", 3),
+    (BYTE, "fillByte", "x", 0),
+];
+
+/// What is built for unparsing.
+const UNPARSED: [Judged; 6] = [
+    (BYTE, "alignment", "1", 0),
+    (SHORT, "byteOrder", "bigEndian", 0),
+    (Kind::SimpleElement(Simple::Byte), "alignment", "1", 3),
+    (DECIMAL, "byteOrder", "bigEndian", 3),
+    (BYTE, "lengthKind", "explicit", 3),
+    (BYTE, "fillByte", "x", 3),
+];
+
+/// A kind of number, its length and its units, and the number of its first breach.
+const LENGTHS: [Judged; 21] = [
+    (INT, "32", "bits", 0),
+    (INT, "33", "bits", 17),
+    (INT, "1", "bits", 0),
+    (INT, "0", "bits", 17),
+    (INT, "4", "bytes", 0),
+    (INT, "5", "bytes", 17),
+    (INT, "0004", "bytes", 0),
+    (INT, "4", "characters", 16),
+    (INT, "5", "characters", 16),
+    (INT, "4", "words", 9),
+    (INT, "four", "bytes", 9),
+    (INT, "", "bytes", 9),
+    (INT, "{4}", "bytes", 3),
+    (SHORT, "17", "bits", 17),
+    (BYTE, "8", "bits", 0),
+    (DECIMAL, "128", "bits", 0),
+    (DECIMAL, "129", "bits", 17),
+    (DECIMAL, "16", "bytes", 0),
+    (DECIMAL, "17", "bytes", 17),
+    (INT, "18446744073709551617", "bits", 17),
+    (INT, "2305843009213693953", "bytes", 17),
+];
+
 /// A place in the first document.
 fn at(byte: u64) -> Place {
     Place {
@@ -72,26 +134,50 @@ fn integers(alloc: Global) -> Result<Properties<'static>, AllocError> {
     Ok(properties)
 }
 
-/// The number of the first breach of a component with one property of its own, over those of
-/// integers, 0 where there is none.
-fn number(
+/// One property.
+fn one(
     alloc: Global,
-    kind: Kind,
     name: &'static str,
     value: &'static str,
-) -> Result<u8, AllocError> {
+) -> Result<Properties<'static>, AllocError> {
     let mut own = Properties::new(alloc);
     own.add(name, value)?;
+    Ok(own)
+}
+
+/// What a number with a length of its own is given.
+fn explicit(
+    alloc: Global,
+    length: &'static str,
+    units: &'static str,
+) -> Result<Properties<'static>, AllocError> {
+    let mut own = Properties::new(alloc);
+    own.add("byteOrder", "bigEndian")?;
+    own.add("lengthKind", "explicit")?;
+    own.add("length", length)?;
+    own.add("lengthUnits", units)?;
+    Ok(own)
+}
+
+/// The number of the first breach of a component with properties of its own, over those of integers,
+/// 0 where there is none.
+fn number(
+    alloc: Global,
+    purpose: Purpose,
+    kind: Kind,
+    own: &Properties<'static>,
+) -> Result<u8, AllocError> {
     let format = Format::new(integers(alloc)?);
     let nothing = Format::new(Properties::new(alloc));
     let mut chain = Component::new(alloc);
     chain.push_element(Element {
         place: at(40),
-        own: &own,
+        own,
         format: Some(&format),
         default: Some(&nothing),
     })?;
     let subject = Subject {
+        purpose,
         kind,
         place: at(40),
         chain: &chain,
@@ -103,17 +189,26 @@ fn number(
     }
 }
 
-fn is_told<R: Abort + AllocGlobal>(rt: &R, judged: Judged) -> Result<(), Fail> {
+fn is_told<R: Abort + AllocGlobal>(rt: &R, purpose: Purpose, judged: Judged) -> Result<(), Fail> {
     let (kind, name, value, wanted) = judged;
-    let told = number(rt.alloc(), kind, name, value)?;
+    let own = one(rt.alloc(), name, value)?;
+    let told = number(rt.alloc(), purpose, kind, &own)?;
     assert_eq!(rt; told, wanted, "{name} {value}");
+    Ok(())
+}
+
+fn is_sized<R: Abort + AllocGlobal>(rt: &R, judged: Judged) -> Result<(), Fail> {
+    let (kind, length, units, wanted) = judged;
+    let own = explicit(rt.alloc(), length, units)?;
+    let told = number(rt.alloc(), Purpose::Parsing, kind, &own)?;
+    assert_eq!(rt; told, wanted, "{length} {units}");
     Ok(())
 }
 
 #[test]
 fn a_property_is_judged_by_what_it_applies_to(rt: HostRuntime) -> Result<(), Fail> {
     for judged in PROPERTIES.iter() {
-        is_told(&rt, *judged)?;
+        is_told(&rt, Purpose::Parsing, *judged)?;
     }
     Ok(())
 }
@@ -121,7 +216,31 @@ fn a_property_is_judged_by_what_it_applies_to(rt: HostRuntime) -> Result<(), Fai
 #[test]
 fn numbers_are_read_by_their_digits(rt: HostRuntime) -> Result<(), Fail> {
     for judged in NUMBERS.iter() {
-        is_told(&rt, *judged)?;
+        is_told(&rt, Purpose::Parsing, *judged)?;
+    }
+    Ok(())
+}
+
+#[test]
+fn types_of_numbers_are_built_for_parsing(rt: HostRuntime) -> Result<(), Fail> {
+    for judged in TYPES.iter() {
+        is_told(&rt, Purpose::Parsing, *judged)?;
+    }
+    Ok(())
+}
+
+#[test]
+fn fewer_forms_are_built_for_unparsing(rt: HostRuntime) -> Result<(), Fail> {
+    for judged in UNPARSED.iter() {
+        is_told(&rt, Purpose::Unparsing, *judged)?;
+    }
+    Ok(())
+}
+
+#[test]
+fn constant_lengths_are_sizes_of_the_type(rt: HostRuntime) -> Result<(), Fail> {
+    for judged in LENGTHS.iter() {
+        is_sized(&rt, *judged)?;
     }
     Ok(())
 }
@@ -149,6 +268,7 @@ fn a_property_given_twice_is_told_where_it_is_given_first(rt: HostRuntime) -> Re
         default: Some(&nothing),
     })?;
     let told = breach(&Subject {
+        purpose: Purpose::Unparsing,
         kind: SHORT,
         place: at(40),
         chain: &chain,
@@ -159,32 +279,64 @@ fn a_property_given_twice_is_told_where_it_is_given_first(rt: HostRuntime) -> Re
     Ok(())
 }
 
-#[test]
-fn an_integer_lies_as_its_properties_say(rt: HostRuntime) -> Result<(), Fail> {
-    let alloc = rt.alloc();
-    let mut own = integers(alloc)?;
-    own.add("byteOrder", "littleEndian")?;
+/// How a number with properties of its own lies in the data, over those of integers.
+fn primitive_by(
+    alloc: Global,
+    purpose: Purpose,
+    kind: Kind,
+    own: &Properties<'static>,
+) -> Result<Option<Primitive>, AllocError> {
+    let format = Format::new(integers(alloc)?);
     let nothing = Format::new(Properties::new(alloc));
     let mut chain = Component::new(alloc);
     chain.push_element(Element {
         place: at(40),
-        own: &own,
-        format: Some(&nothing),
+        own,
+        format: Some(&format),
         default: Some(&nothing),
     })?;
-    let form = integer_form(&Subject {
-        kind: SHORT,
+    Ok(primitive(&Subject {
+        purpose,
+        kind,
         place: at(40),
         chain: &chain,
         facts: PLAIN,
-    });
-    let wanted = IntForm {
+    }))
+}
+
+#[test]
+fn an_integer_lies_as_its_properties_say(rt: HostRuntime) -> Result<(), Fail> {
+    let alloc = rt.alloc();
+    let own = one(alloc, "byteOrder", "littleEndian")?;
+    let wanted = Primitive::Integer(IntForm {
         bits: 16,
         bytes_by: ByteOrder::Little,
         bits_by: BitOrder::MostFirst,
         point: 0,
         kind: Simple::UnsignedShort,
-    };
-    assert!(rt; form == Some(wanted));
+    });
+    let parsed = primitive_by(alloc, Purpose::Parsing, SHORT, &own)?;
+    assert!(rt; parsed == Some(wanted));
+    let unparsed = primitive_by(alloc, Purpose::Unparsing, SHORT, &own)?;
+    assert!(rt; unparsed == Some(wanted));
+    Ok(())
+}
+
+#[test]
+fn a_decimal_has_the_length_and_the_point_that_it_is_given(rt: HostRuntime) -> Result<(), Fail> {
+    let alloc = rt.alloc();
+    let mut own = explicit(alloc, "3", "bytes")?;
+    own.add("binaryDecimalVirtualPoint", "2")?;
+    let wanted = Primitive::Integer(IntForm {
+        bits: 24,
+        bytes_by: ByteOrder::Big,
+        bits_by: BitOrder::MostFirst,
+        point: 2,
+        kind: Simple::Decimal,
+    });
+    let parsed = primitive_by(alloc, Purpose::Parsing, DECIMAL, &own)?;
+    assert!(rt; parsed == Some(wanted));
+    let unparsed = primitive_by(alloc, Purpose::Unparsing, DECIMAL, &own)?;
+    assert!(rt; unparsed.is_none());
     Ok(())
 }

@@ -1,8 +1,8 @@
-use Rattle.dfdl_checks.proofs.AlikeJudged.{same-breach, same-form}
+use Rattle.dfdl_checks.proofs.AlikeJudged.{same-breach, same-primitive}
 use Rattle.dfdl_checks.proofs.laws.alike_components_are_judged_alike.Goals as goal
 
 pub returns-clause-breach : goal.returns-clause-breach
 returns-clause-breach c = same-breach
 
-pub returns-clause-form : goal.returns-clause-form
-returns-clause-form c = same-form
+pub returns-clause-primitive : goal.returns-clause-primitive
+returns-clause-primitive c = same-primitive

@@ -99,8 +99,9 @@ same_place place document at one other =
 -- a component whose parts are those of the documents
 pub alike_judged : (documents : List SchemaDocument) (own : Site) (sites : List Site) (j : Judged) → j.kind ≡ kind_at documents own
     → j.place.document ≡ (place_of documents own).document → j.place.at ≡ (place_of documents own).at → sites ≡ chain_sites documents own
-    → AreAlikeChains j.chain (map (element_at documents) sites) → j.facts ≡ facts_at documents own → IsAlike j (judged_at documents own)
+    → AreAlikeChains j.chain (map (element_at documents) sites) → j.facts ≡ facts_at documents own → IsAlike j (judged_at j.purpose documents own)
 alike_judged documents own sites j kind document at is chain facts = record {
+  purpose = refl;
   kind = kind;
   place = same_place j.place (place_of documents own).document (place_of documents own).at document at;
   chain = subst (λ (xs : List Site). AreAlikeChains j.chain (map (element_at documents) xs)) is chain;

@@ -1,23 +1,25 @@
 -- What is wrong at each component of a schema by itself, and how the values of its simple elements lie in the data.
 use Rattle.std.specs.Prelude.{List, map, Option, None, if◌then◌else◌}
-use Rattle.dfdl_forms.specs.declared.binary.IntForm.{IntForm}
 use Rattle.dfdl_documents.specs.Documents.{SchemaDocument}
 use Rattle.dfdl_components.specs.declared.site.Site.{Site}
 use Rattle.dfdl_components.specs.Sites.{role_of}
 use Rattle.dfdl_checks.specs.Judged.{Judged}
 use Rattle.dfdl_checks.specs.Rules.{first_breach, rules}
-use Rattle.dfdl_checks.specs.Numbers.{integer_form_of}
+use Rattle.dfdl_checks.specs.Numbers.{primitive_of}
+use Rattle.dfdl_checks.specs.declared.purpose.Purpose.{Purpose}
 use Rattle.dfdl_checks.specs.declared.subject.Breach.{Breach}
 use Rattle.dfdl_chains.specs.Chains.{chain_sites}
 use Rattle.dfdl_chains.specs.Facts.{facts_at}
 use Rattle.dfdl_chains.specs.Kinds.{kind_at}
 use Rattle.dfdl_chains.specs.Parts.{is_component}
+use Rattle.dfdl_terms.specs.declared.row.Primitive.{Primitive}
 use Rattle.dfdl_breaches.specs.Elements.{place_of, element_at}
 use Rattle.dfdl_breaches.specs.declared.judgement.Judgement.{Judgement}
 
 -- a component as the rules see it
-abbrev pub judged_at : List SchemaDocument → Site → Judged
-judged_at documents own = record {
+abbrev pub judged_at : Purpose → List SchemaDocument → Site → Judged
+judged_at purpose documents own = record {
+  purpose = purpose;
   kind = kind_at documents own;
   place = place_of documents own;
   chain = map (element_at documents) (chain_sites documents own);
@@ -25,19 +27,20 @@ judged_at documents own = record {
 }
 
 -- the first rule that a component breaks
-abbrev pub breach_at : List SchemaDocument → Site → Option Breach
-breach_at documents own = first_breach rules (judged_at documents own)
+abbrev pub breach_at : Purpose → List SchemaDocument → Site → Option Breach
+breach_at purpose documents own = first_breach rules (judged_at purpose documents own)
 
--- how the values of a component lie in the data, where they are integers of a type that is built
-abbrev pub form_at : List SchemaDocument → Site → Option IntForm
-form_at documents own = integer_form_of (judged_at documents own)
+-- how the values of a component lie in the data, where they are numbers of a type and of a size that are built
+abbrev pub primitive_at : Purpose → List SchemaDocument → Site → Option Primitive
+primitive_at purpose documents own = primitive_of (judged_at purpose documents own)
 
 -- nothing is told of what is no component
 abbrev pub no_judgement : Judgement
-no_judgement = record { breach = None; form = None }
+no_judgement = record { breach = None; primitive = None }
 
 -- what is told of an element of the documents
-unfoldable pub judgement_at : List SchemaDocument → Site → Judgement
-judgement_at documents own =
-    if is_component (role_of documents own) then record { breach = breach_at documents own; form = form_at documents own }
+unfoldable pub judgement_at : Purpose → List SchemaDocument → Site → Judgement
+judgement_at purpose documents own =
+    if is_component (role_of documents own) then
+    record { breach = breach_at purpose documents own; primitive = primitive_at purpose documents own }
     else no_judgement

@@ -2,7 +2,6 @@ pub mod References
 pub mod Formats
 pub mod Elements
 pub mod Judging
-pub mod Forms
 pub mod Numbered
 pub mod Tabled
 pub mod KeptShown

@@ -1,21 +1,38 @@
 // Laws of the definitions that the contracts cite. The calls do nothing.
 ghost use Rattle.std.specs.Prelude.{◌≡◌, List, Some, None, IsTrue, IsSome};
 ghost use Rattle.dfdl_forms.specs.declared.binary.IntForm.{IntForm};
+ghost use Rattle.dfdl_terms.specs.Rows.{IsPrimitive};
+ghost use Rattle.dfdl_terms.specs.declared.row.Primitive.{Primitive};
+ghost use Rattle.dfdl_terms.specs.declared.row.Primitive.TheVariants.{Integer};
 ghost use Rattle.dfdl_documents.specs.Documents.{SchemaDocument};
 ghost use Rattle.dfdl_components.specs.declared.site.Site.{Site};
+ghost use Rattle.dfdl_checks.specs.Forms.{IsWholeUnsigned};
+ghost use Rattle.dfdl_checks.specs.Numbers.{type_of};
 ghost use Rattle.dfdl_checks.specs.Subjects.{is_simple};
+ghost use Rattle.dfdl_checks.specs.declared.purpose.Purpose.{Purpose};
+ghost use Rattle.dfdl_checks.specs.declared.purpose.Purpose.TheVariants.{Unparsing};
+ghost use Rattle.dfdl_checks.specs.declared.subject.Kind.TheVariants.{SimpleElement};
 ghost use Rattle.dfdl_chains.specs.Kinds.{kind_at};
-ghost use Rattle.dfdl_breaches.specs.Forms.{IsWholeUnsigned};
-ghost use Rattle.dfdl_breaches.specs.Judging.{breach_at, form_at};
+ghost use Rattle.dfdl_breaches.specs.Judging.{breach_at, primitive_at};
 
-use dfdl_checks::laws::sound_elements_are_integers;
+use dfdl_checks::laws::{
+    primitives_are_bounded, primitives_for_unparsing_are_whole, sound_elements_have_primitives,
+};
 
-/// A simple element without a breach has a form, and each form is that of a whole unsigned integer.
-pub fn sound_elements_have_whole_forms()
-    ensures sound { (documents : List SchemaDocument) (own : Site) → breach_at documents own ≡ None
-        → IsTrue (is_simple (kind_at documents own)) → IsSome (form_at documents own) }
-    ensures whole { (documents : List SchemaDocument) (own : Site) (form : IntForm) → form_at documents own ≡ Some form
-        → IsWholeUnsigned form }
+/// A simple element without a breach has a primitive. Each primitive, of an element with breaches too,
+/// keeps the bounds of its type, which is that of the element, and each one for unparsing is a whole
+/// unsigned integer.
+pub fn sound_elements_have_bounded_primitives()
+    ensures sound { (purpose : Purpose) (documents : List SchemaDocument) (own : Site) → breach_at purpose documents own ≡ None
+        → IsTrue (is_simple (kind_at documents own)) → IsSome (primitive_at purpose documents own) }
+    ensures bounded { (purpose : Purpose) (documents : List SchemaDocument) (own : Site) (p : Primitive)
+        → primitive_at purpose documents own ≡ Some p → IsPrimitive p }
+    ensures kind { (purpose : Purpose) (documents : List SchemaDocument) (own : Site) (p : Primitive)
+        → primitive_at purpose documents own ≡ Some p → kind_at documents own ≡ SimpleElement (type_of p) }
+    ensures whole { (documents : List SchemaDocument) (own : Site) (form : IntForm)
+        → primitive_at Unparsing documents own ≡ Some (Integer form) → IsWholeUnsigned form }
 {
-    sound_elements_are_integers();
+    sound_elements_have_primitives();
+    primitives_are_bounded();
+    primitives_for_unparsing_are_whole();
 }

@@ -8,7 +8,7 @@ ghost use Rattle.dfdl_chains.specs.Everywhere.{for_each};
 ghost use Rattle.dfdl_chains.specs.Parts.{is_component};
 ghost use Rattle.dfdl_scope.specs.Shown.{chain_of};
 ghost use Rattle.dfdl_breaches.specs.Elements.{element_at};
-ghost use Rattle.dfdl_breaches.specs.Judging.{breach_at, form_at, judgement_at};
+ghost use Rattle.dfdl_breaches.specs.Judging.{breach_at, judgement_at, primitive_at};
 ghost use Rattle.dfdl_breaches.specs.KeptShown.{AreKept};
 
 use crate::entries::entries_of;
@@ -18,7 +18,7 @@ use crate::kept::{Kept, element_at};
 use crate::sites::sites_of;
 use dfdl_chains::{chain_sites, facts_at, is_component, kind_at};
 use dfdl_checks::laws::alike_components_are_judged_alike;
-use dfdl_checks::{Subject, breach, integer_form};
+use dfdl_checks::{Purpose, Subject, breach, primitive};
 use dfdl_components::{Schema, Site};
 use dfdl_scope::Component;
 use std::alloc::{AllocError, Global};
@@ -46,6 +46,7 @@ fn judged(
     alloc: Global,
     kept: &Kept<'_, '_>,
     schema: &Schema,
+    purpose: Purpose,
     site: Site,
     sites: &[Site],
 ) -> Result<Judgement, AllocError>
@@ -53,12 +54,13 @@ fn judged(
     requires site { IsSite schema.now site }
     requires chain { sites.now ≡ chain_sites schema.now site }
     requires within { All (IsSite schema.now) sites.now }
-    ensures breach { IfOk result (λ judgement. judgement.breach ≡ breach_at schema.now site) }
-    ensures form { IfOk result (λ judgement. judgement.form ≡ form_at schema.now site) }
+    ensures breach { IfOk result (λ judgement. judgement.breach ≡ breach_at purpose schema.now site) }
+    ensures primitive { IfOk result (λ judgement. judgement.primitive ≡ primitive_at purpose schema.now site) }
 {
     alike_components_are_judged_alike();
     let chain = chain_at(alloc, kept, schema, sites)?;
     let subject = Subject {
+        purpose,
         kind: kind_at(schema, &kept.sites.numbers, site),
         place: schema.place(site),
         chain: &chain,
@@ -66,7 +68,7 @@ fn judged(
     };
     Ok(Judgement {
         breach: breach(&subject),
-        form: integer_form(&subject),
+        primitive: primitive(&subject),
     })
 }
 
@@ -76,21 +78,22 @@ fn judgement(
     alloc: Global,
     kept: &Kept<'_, '_>,
     schema: &Schema,
+    purpose: Purpose,
     site: Site,
     chain: &mut Vec<Site>,
 ) -> Result<Judgement, AllocError>
     requires kept { AreKept schema.now kept.now }
     requires site { IsSite schema.now site }
-    ensures { IfOk result (λ judgement. judgement ≡ judgement_at schema.now site) }
+    ensures { IfOk result (λ judgement. judgement ≡ judgement_at purpose schema.now site) }
 {
     if !is_component(schema.role(site)) {
         return Ok(Judgement {
             breach: None,
-            form: None,
+            primitive: None,
         });
     }
     chain_sites(schema, &kept.sites.numbers, site, chain)?;
-    judged(alloc, kept, schema, site, chain.as_slice())
+    judged(alloc, kept, schema, purpose, site, chain.as_slice())
 }
 
 // What is told of all elements.
@@ -98,14 +101,15 @@ fn judgements(
     alloc: Global,
     kept: &Kept<'_, '_>,
     schema: &Schema,
+    purpose: Purpose,
 ) -> Result<Vec<Judgement>, AllocError>
     requires kept { AreKept schema.now kept.now }
-    ensures { IfOk result (λ judgements. judgements.items ≡ for_each schema.now (judgement_at schema.now)) }
+    ensures { IfOk result (λ judgements. judgements.items ≡ for_each schema.now (judgement_at purpose schema.now)) }
 {
     let mut judgements = Vec::new(alloc);
     let mut chain = Vec::new(alloc);
     for site in kept.sites.all.as_slice() {
-        judgements.push(judgement(alloc, kept, schema, *site, &mut chain)?)?;
+        judgements.push(judgement(alloc, kept, schema, purpose, *site, &mut chain)?)?;
     }
     Ok(judgements)
 }
@@ -113,10 +117,14 @@ fn judgements(
 /// What is told of each element of a schema's documents, in the order of their numbers: of a component
 /// the first rule that it breaks, and how its values lie in the data; of every other element nothing.
 ///
-/// The properties of each element are collected once, and each format is joined once.
-pub fn breaches(alloc: Global, schema: &Schema) -> Result<Vec<Judgement>, AllocError>
+/// What its rows are made for decides which forms are built. The properties of each element are collected once, and each format is joined once.
+pub fn breaches(
+    alloc: Global,
+    schema: &Schema,
+    purpose: Purpose,
+) -> Result<Vec<Judgement>, AllocError>
     requires { AllKeep (loading_rules schema.now) schema.now }
-    ensures { IfOk result (λ judgements. judgements.items ≡ for_each schema.now (judgement_at schema.now)) }
+    ensures { IfOk result (λ judgements. judgements.items ≡ for_each schema.now (judgement_at purpose schema.now)) }
 {
     let sites = sites_of(alloc, schema)?;
     let formats = formats_of(alloc, schema, &sites)?;
@@ -126,5 +134,5 @@ pub fn breaches(alloc: Global, schema: &Schema) -> Result<Vec<Judgement>, AllocE
         entries: entries.as_slice(),
         formats: formats.as_slice(),
     };
-    judgements(alloc, &kept, schema)
+    judgements(alloc, &kept, schema, purpose)
 }

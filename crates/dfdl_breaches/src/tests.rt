@@ -1,9 +1,11 @@
 // What is told of schemas in memory.
-use crate::laws::sound_elements_have_whole_forms;
+use crate::laws::sound_elements_have_bounded_primitives;
 use crate::{Judgement, breaches};
+use dfdl_checks::Purpose;
 use dfdl_components::{Schema, load};
 use dfdl_edge::{MemoryFile, MemoryFiles};
 use dfdl_forms::ByteOrder;
+use dfdl_terms::Primitive;
 use std::alloc::{AllocError, Global};
 use std::test::Fail;
 
@@ -38,15 +40,15 @@ fn file_of(
     })
 }
 
-/// What is told of the elements of some files that have a breach or a form, as a line: the number of
-/// the cause, or the bits and the order of bytes.
-fn told(alloc: Global, files: Vec<MemoryFile>) -> Result<String, AllocError> {
+/// What is told of the elements of some files that have a breach or a primitive, as a line: the number
+/// of the cause, or the bits and the order of bytes.
+fn told(alloc: Global, purpose: Purpose, files: Vec<MemoryFile>) -> Result<String, AllocError> {
     let mut files = MemoryFiles::new(files, Vec::new(alloc));
     let Ok(schema) = load(alloc, &mut files, "a", 10_000, 2) else {
         return String::from_str(alloc, "refused");
     };
     let mut line = String::new(alloc);
-    for judgement in breaches(alloc, &schema)? {
+    for judgement in breaches(alloc, &schema, purpose)? {
         let piece = told_of(alloc, judgement)?;
         line.push_str(piece.as_str())?;
     }
@@ -58,12 +60,12 @@ fn told_of(alloc: Global, judgement: Judgement) -> Result<String, AllocError> {
     if let Some(breach) = judgement.breach {
         return format!(in alloc; "C{}@{} ", breach.cause.number(), breach.place.document);
     }
-    match judgement.form {
-        Some(form) if form.bytes_by == ByteOrder::Little => format!(in alloc;
+    match judgement.primitive {
+        Some(Primitive::Integer(form)) if form.bytes_by == ByteOrder::Little => format!(in alloc;
             "little{} ",
             form.bits
         ),
-        Some(form) => format!(in alloc; "big{} ", form.bits),
+        Some(Primitive::Integer(form)) => format!(in alloc; "big{} ", form.bits),
         None => Ok(String::new(alloc)),
     }
 }
@@ -71,6 +73,7 @@ fn told_of(alloc: Global, judgement: Judgement) -> Result<String, AllocError> {
 /// One document.
 fn one(
     alloc: Global,
+    purpose: Purpose,
     default: &str,
     formats: &str,
     components: &str,
@@ -78,7 +81,7 @@ fn one(
     let mut files = Vec::new(alloc);
     let with = format!(in alloc; "{INTEGERS} {default}")?;
     files.push(file_of(alloc, "a", with.as_str(), formats, components)?)?;
-    told(alloc, files)
+    told(alloc, purpose, files)
 }
 
 #[test]
@@ -89,7 +92,13 @@ fn a_referenced_format_wins_over_the_default(rt: HostRuntime) -> Result<(), Fail
         <d:defineFormat name=\"g\"><d:format byteOrder=\"littleEndian\"/></d:defineFormat>";
     let components = "<x:element name=\"r\" type=\"x:unsignedShort\" d:ref=\"f\"/>\
         <x:element name=\"s\" type=\"x:unsignedShort\"/>";
-    let line = one(alloc, "byteOrder=\"bigEndian\"", formats, components)?;
+    let line = one(
+        alloc,
+        Purpose::Parsing,
+        "byteOrder=\"bigEndian\"",
+        formats,
+        components,
+    )?;
     assert_eq!(rt; line.as_str(), "little16 big16 ");
     Ok(())
 }
@@ -106,7 +115,7 @@ fn properties_are_taken_in_each_form(rt: HostRuntime) -> Result<(), Fail> {
         <x:element name=\"s\" type=\"x:unsignedLong\">{inside}</x:element>\
         <x:element name=\"t\" type=\"x:unsignedByte\"/>"
     )?;
-    let line = one(alloc, "", "", components.as_str())?;
+    let line = one(alloc, Purpose::Parsing, "", "", components.as_str())?;
     assert_eq!(rt; line.as_str(), "little32 little64 big8 ");
     Ok(())
 }
@@ -132,9 +141,24 @@ fn breaches_are_told_by_their_numbers(rt: HostRuntime) -> Result<(), Fail> {
         ("<x:element name=\"r\" type=\"x:string\"/>", "C3@0 "),
     ];
     for (components, expected) in cases {
-        let line = one(alloc, "", "", components)?;
+        let line = one(alloc, Purpose::Parsing, "", "", components)?;
         assert_eq!(rt; line.as_str(), expected);
     }
+    Ok(())
+}
+
+#[test]
+fn more_is_built_for_parsing_than_for_unparsing(rt: HostRuntime) -> Result<(), Fail> {
+    let alloc = rt.alloc();
+    let components = "<x:element name=\"r\" type=\"x:unsignedByte\"/>\
+        <x:element name=\"s\" type=\"x:byte\"/>\
+        <x:element name=\"t\" type=\"x:decimal\" d:lengthKind=\"explicit\" d:length=\"3\"/>\
+        <x:element name=\"u\" type=\"x:byte\" d:lengthKind=\"explicit\" d:length=\"2\"/>";
+    let order = "byteOrder=\"bigEndian\"";
+    let parsed = one(alloc, Purpose::Parsing, order, "", components)?;
+    assert_eq!(rt; parsed.as_str(), "big8 big8 big24 C17@0 ");
+    let unparsed = one(alloc, Purpose::Unparsing, order, "", components)?;
+    assert_eq!(rt; unparsed.as_str(), "big8 C3@0 C3@0 C3@0 ");
     Ok(())
 }
 
@@ -151,7 +175,7 @@ fn two(alloc: Global, element: &str, simple: &str) -> Result<String, AllocError>
     let mut files = Vec::new(alloc);
     files.push(file_of(alloc, "a", big.as_str(), "", here.as_str())?)?;
     files.push(file_of(alloc, "b", little.as_str(), "", there.as_str())?)?;
-    told(alloc, files)
+    told(alloc, Purpose::Unparsing, files)
 }
 
 #[test]
@@ -173,6 +197,6 @@ fn what_an_element_and_its_type_give_is_joined(rt: HostRuntime) -> Result<(), Fa
 
 #[test]
 fn laws_take_no_input(_rt: HostRuntime) -> Result<(), Fail> {
-    sound_elements_have_whole_forms();
+    sound_elements_have_bounded_primitives();
     Ok(())
 }

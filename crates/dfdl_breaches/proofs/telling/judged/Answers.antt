@@ -8,18 +8,18 @@ pub returns-clause-breach : goal.returns-clause-breach
 returns-clause-breach c =
     c.breach.ensures
     ∙ c.alike_components_are_judged_alike.ensures.breach
-    (record { kind = c.kind_at.result; place = c.place.result; chain = chain_of c.in_ok-chain.chain; facts = c.facts_at.result })
-    (judged_at c.args.schema.now c.args.site)
+    (record { purpose = c.args.purpose; kind = c.kind_at.result; place = c.place.result; chain = chain_of c.in_ok-chain.chain; facts = c.facts_at.result })
+    (judged_at c.args.purpose c.args.schema.now c.args.site)
     (alike_judged c.args.schema.now c.args.site c.args.sites.now
-    (record { kind = c.kind_at.result; place = c.place.result; chain = chain_of c.in_ok-chain.chain; facts = c.facts_at.result })
+    (record { purpose = c.args.purpose; kind = c.kind_at.result; place = c.place.result; chain = chain_of c.in_ok-chain.chain; facts = c.facts_at.result })
     c.kind_at.ensures c.place.ensures.document c.place.ensures.at c.requires.chain c.in_ok-chain.ensures c.facts_at.ensures)
 
-pub returns-clause-form : goal.returns-clause-form
-returns-clause-form c =
-    c.integer_form.ensures.form
-    ∙ c.alike_components_are_judged_alike.ensures.form
-    (record { kind = c.kind_at.result; place = c.place.result; chain = chain_of c.in_ok-chain.chain; facts = c.facts_at.result })
-    (judged_at c.args.schema.now c.args.site)
+pub returns-clause-primitive : goal.returns-clause-primitive
+returns-clause-primitive c =
+    c.primitive.ensures.form
+    ∙ c.alike_components_are_judged_alike.ensures.primitive
+    (record { purpose = c.args.purpose; kind = c.kind_at.result; place = c.place.result; chain = chain_of c.in_ok-chain.chain; facts = c.facts_at.result })
+    (judged_at c.args.purpose c.args.schema.now c.args.site)
     (alike_judged c.args.schema.now c.args.site c.args.sites.now
-    (record { kind = c.kind_at.result; place = c.place.result; chain = chain_of c.in_ok-chain.chain; facts = c.facts_at.result })
+    (record { purpose = c.args.purpose; kind = c.kind_at.result; place = c.place.result; chain = chain_of c.in_ok-chain.chain; facts = c.facts_at.result })
     c.kind_at.ensures c.place.ensures.document c.place.ensures.at c.requires.chain c.in_ok-chain.ensures c.facts_at.ensures)

@@ -4,7 +4,6 @@ use Rattle.std.proofs.lemmas.List.{length-map}
 use Rattle.std.proofs.lemmas.List.Elements.{All-nil, All-append, All-push, All-cons}
 use Rattle.dfdl_constructs.specs.declared.role.Role.{Role}
 use Rattle.dfdl_constructs.specs.declared.role.Role.TheVariants as role
-use Rattle.dfdl_forms.specs.declared.binary.IntForm.{IntForm}
 use Rattle.dfdl_documents.specs.Documents.{SchemaDocument}
 use Rattle.dfdl_order.specs.Parts.{IsClosed, uses_of}
 use Rattle.dfdl_components.specs.declared.kind.ComponentKind.TheVariants as names
@@ -12,6 +11,7 @@ use Rattle.dfdl_components.specs.declared.site.Site.{Site}
 use Rattle.dfdl_components.specs.Globals.{site}
 use Rattle.dfdl_components.specs.Sites.{IsSite, nodes_of, role_of}
 use Rattle.dfdl_components.specs.Recursion.{count_of, number_of}
+use Rattle.dfdl_checks.specs.declared.purpose.Purpose.{Purpose}
 use Rattle.dfdl_checks.specs.declared.subject.Kind.{Kind}
 use Rattle.dfdl_chains.specs.declared.typed.Typed.{Typed}
 use Rattle.dfdl_chains.specs.declared.typed.Typed.TheVariants.{Carried, NotCarried, Defined}
@@ -24,6 +24,7 @@ use Rattle.dfdl_chains.specs.Parts.{contents, parts_by, parts_at}
 use Rattle.dfdl_chains.proofs.Numbering.{number_below, length_all}
 use Rattle.dfdl_chains.proofs.Within.{parts_are_within}
 use Rattle.dfdl_breaches.specs.Judging.{judgement_at}
+use Rattle.dfdl_compile.specs.Primitives.{primitive_by}
 use Rattle.dfdl_rows.specs.Components.{Schema, AreOfOne, CanHave, component_at as part_at}
 use Rattle.dfdl_rows.specs.declared.component.Component.{Component}
 use Rattle.dfdl_rows.specs.declared.component.Component.TheVariants.{Sequence}
@@ -31,6 +32,11 @@ use Rattle.dfdl_rows.specs.declared.refusal.Refusal.{Refusal}
 use Rattle.dfdl_report.specs.declared.place.Place.{Place}
 use Rattle.dfdl_breaches.specs.Elements.{place_of}
 use Rattle.dfdl_compile.specs.Components.{refusal_at, component_by, reference_by, component_of, component_at, element_name, part_numbers, components_of}
+
+-- a list that is made from one that is made
+pub twice : {X Y Z : Type 0} (g : Y → Z) (f : X → Y) (xs : List X) → map g (map f xs) ≡ map (λ x. g (f x)) xs
+twice g f [] = refl
+twice {X} {Y} {Z} g f (x ∷ xs) = ap (λ (zs : List Z). g (f x) ∷ zs) (twice g f xs)
 
 length_of : {X Y : Type 0} (f : X → Y) (xs : List X) → length (map f xs) ≡ length xs
 length_of f xs = length-map xs f
@@ -59,21 +65,21 @@ pub sites_within : (documents : List SchemaDocument) (sites : List Site) → sit
 sites_within documents sites are = subst (λ (xs : List Site). All (IsSite documents) xs) (sym are) (all_within documents)
 
 -- there are as many components as elements
-pub length_uses : (documents : List SchemaDocument) → length (components_of documents).uses ≡ count_of documents
+pub length_uses : (purpose : Purpose) (documents : List SchemaDocument) → length (components_of purpose documents).uses ≡ count_of documents
 unfolding components_of
-length_uses documents = length_of (part_numbers documents) (all_sites documents) ∙ length_all documents
+length_uses purpose documents = length_of (part_numbers documents) (all_sites documents) ∙ length_all documents
 
 parts_below : (documents : List SchemaDocument) (own : Site) → IsSite documents own → All (λ p. p < count_of documents) (part_numbers documents own)
 parts_below documents own within = each (IsSite documents) (λ p. p < count_of documents) (number_of documents) (number_below documents) (parts_at documents own) (parts_are_within documents own within)
 
-uses_below : (documents : List SchemaDocument) → All (λ parts. All (λ p. p < count_of documents) parts) (components_of documents).uses
+uses_below : (purpose : Purpose) (documents : List SchemaDocument) → All (λ parts. All (λ p. p < count_of documents) parts) (components_of purpose documents).uses
 unfolding components_of
-uses_below documents = each (IsSite documents) (λ parts. All (λ p. p < count_of documents) parts) (part_numbers documents) (parts_below documents) (all_sites documents) (all_within documents)
+uses_below purpose documents = each (IsSite documents) (λ parts. All (λ p. p < count_of documents) parts) (part_numbers documents) (parts_below documents) (all_sites documents) (all_within documents)
 
 -- each part is a component
-pub closed : (documents : List SchemaDocument) (uses : List (List ℕ)) → uses ≡ (components_of documents).uses → IsClosed uses
-closed documents uses are = subst IsClosed (sym are)
-    (subst (λ (n : ℕ). All (λ parts. All (λ p. p < n) parts) (components_of documents).uses) (sym (length_uses documents)) (uses_below documents))
+pub closed : (purpose : Purpose) (documents : List SchemaDocument) (uses : List (List ℕ)) → uses ≡ (components_of purpose documents).uses → IsClosed uses
+closed purpose documents uses are = subst IsClosed (sym are)
+    (subst (λ (n : ℕ). All (λ parts. All (λ p. p < n) parts) (components_of purpose documents).uses) (sym (length_uses purpose documents)) (uses_below purpose documents))
 
 -- what two lists have at one place
 fits : {X A B : Type 0} (P : A → B → Type 0) (f : X → A) (g : X → B) → ((x : X) → P (f x) (g x)) → (a : A) (b : B) (xs : List X) (c : ℕ) → c < length xs
@@ -82,17 +88,17 @@ fits P f g holds a b [] c less = absurd (omega (arith, less))
 fits P f g holds a b (x ∷ xs) zero less = holds x
 fits P f g holds a b (x ∷ xs) (suc c) less = fits P f g holds a b xs c (omega (arith, less))
 
-module _ (documents : List SchemaDocument) (own : Site) where
+module _ (purpose : Purpose) (documents : List SchemaDocument) (own : Site) where
   abbrev pub made : Role → Component
   made role.GroupReference = reference_by (referred documents own names.Group)
-  made r = component_by (element_name documents own) (judgement_at documents own).form (kind_by documents own r)
+  made r = component_by (element_name documents own) (primitive_by (judgement_at purpose documents own)) (number_of documents own) (kind_by documents own r)
 
-  pub made_is : (r : Role) → r ≡ role_of documents own → component_of documents own r ≡ made r
+  pub made_is : (r : Role) → r ≡ role_of documents own → component_of documents own (judgement_at purpose documents own) r ≡ made r
   unfolding kind_at
   made_is role.GroupReference is = refl
-  made_is r is = ap (λ (q : Role). component_by (element_name documents own) (judgement_at documents own).form (kind_by documents own q)) (sym is)
+  made_is r is = ap (λ (q : Role). component_by (element_name documents own) (primitive_by (judgement_at purpose documents own)) (number_of documents own) (kind_by documents own q)) (sym is)
 
-  typed_fits : (t : Typed) → CanHave (component_by (element_name documents own) (judgement_at documents own).form (kind_of_type t)) (map (number_of documents) (contents documents t))
+  typed_fits : (t : Typed) → CanHave (component_by (element_name documents own) (primitive_by (judgement_at purpose documents own)) (number_of documents own) (kind_of_type t)) (map (number_of documents) (contents documents t))
   typed_fits (Carried simple) = refl
   typed_fits NotCarried = refl
   typed_fits (Defined type) = refl
@@ -108,36 +114,36 @@ module _ (documents : List SchemaDocument) (own : Site) where
   role_fits role.GroupReference = reference_fits (referred documents own names.Group)
   role_fits _ = tt
 
-  pub can_have : CanHave (component_at documents own) (part_numbers documents own)
+  pub can_have : CanHave (component_at purpose documents own) (part_numbers documents own)
   unfolding parts_at
   can_have = subst (λ (component : Component). CanHave component (part_numbers documents own)) (sym (made_is (role_of documents own) refl)) (role_fits (role_of documents own))
 
 -- the lists of the components are those of one schema
-of_one : (documents : List SchemaDocument) → AreOfOne (components_of documents).uses (components_of documents).components (components_of documents).refusals (components_of documents).places
+of_one : (purpose : Purpose) (documents : List SchemaDocument) → AreOfOne (components_of purpose documents).uses (components_of purpose documents).components (components_of purpose documents).refusals (components_of purpose documents).places
 unfolding components_of
-of_one documents = record {
-  counted = length_of (component_at documents) (all_sites documents) ∙ sym (length_of (part_numbers documents) (all_sites documents));
-  judged = length_of (refusal_at documents) (all_sites documents) ∙ sym (length_of (part_numbers documents) (all_sites documents));
+of_one purpose documents = record {
+  counted = length_of (component_at purpose documents) (all_sites documents) ∙ sym (length_of (part_numbers documents) (all_sites documents));
+  judged = length_of (refusal_at purpose documents) (all_sites documents) ∙ sym (length_of (part_numbers documents) (all_sites documents));
   placed = length_of (place_of documents) (all_sites documents) ∙ sym (length_of (part_numbers documents) (all_sites documents));
-  fit = λ c less. fits CanHave (component_at documents) (part_numbers documents) (can_have documents) Sequence [] (all_sites documents) c
+  fit = λ c less. fits CanHave (component_at purpose documents) (part_numbers documents) (can_have purpose documents) Sequence [] (all_sites documents) c
       (omega (arith, less, length_of (part_numbers documents) (all_sites documents)));
 }
 
-pub are_of_one : (documents : List SchemaDocument) (uses : List (List ℕ)) (components : List Component) (refusals : List (Option Refusal)) (places : List Place)
-    → uses ≡ (components_of documents).uses → components ≡ (components_of documents).components → refusals ≡ (components_of documents).refusals
-    → places ≡ (components_of documents).places → AreOfOne uses components refusals places
-are_of_one documents uses components refusals places a b c d = rw (a, b, c, d) (of_one documents)
+pub are_of_one : (purpose : Purpose) (documents : List SchemaDocument) (uses : List (List ℕ)) (components : List Component) (refusals : List (Option Refusal)) (places : List Place)
+    → uses ≡ (components_of purpose documents).uses → components ≡ (components_of purpose documents).components → refusals ≡ (components_of purpose documents).refusals
+    → places ≡ (components_of purpose documents).places → AreOfOne uses components refusals places
+are_of_one purpose documents uses components refusals places a b c d = rw (a, b, c, d) (of_one purpose documents)
 
 -- the components are those of the documents
 made_of : List (List ℕ) → List Component → List (Option Refusal) → List Place → Schema
 made_of uses components refusals places = record { uses = uses; components = components; refusals = refusals; places = places }
 
-pub whole : (documents : List SchemaDocument) (uses : List (List ℕ)) (components : List Component) (refusals : List (Option Refusal)) (places : List Place)
-    → uses ≡ (components_of documents).uses → components ≡ (components_of documents).components → refusals ≡ (components_of documents).refusals
-    → places ≡ (components_of documents).places → record { uses = uses; components = components; refusals = refusals; places = places } ≡ components_of documents
+pub whole : (purpose : Purpose) (documents : List SchemaDocument) (uses : List (List ℕ)) (components : List Component) (refusals : List (Option Refusal)) (places : List Place)
+    → uses ≡ (components_of purpose documents).uses → components ≡ (components_of purpose documents).components → refusals ≡ (components_of purpose documents).refusals
+    → places ≡ (components_of purpose documents).places → record { uses = uses; components = components; refusals = refusals; places = places } ≡ components_of purpose documents
 unfolding made_of
-whole documents uses components refusals places a b c d =
+whole purpose documents uses components refusals places a b c d =
     ap (λ (u : List (List ℕ)). made_of u components refusals places) a
-    ∙ (ap (λ (k : List Component). made_of (components_of documents).uses k refusals places) b
-    ∙ (ap (λ (r : List (Option Refusal)). made_of (components_of documents).uses (components_of documents).components r places) c
-    ∙ ap (λ (p : List Place). made_of (components_of documents).uses (components_of documents).components (components_of documents).refusals p) d))
+    ∙ (ap (λ (k : List Component). made_of (components_of purpose documents).uses k refusals places) b
+    ∙ (ap (λ (r : List (Option Refusal)). made_of (components_of purpose documents).uses (components_of purpose documents).components r places) c
+    ∙ ap (λ (p : List Place). made_of (components_of purpose documents).uses (components_of purpose documents).components (components_of purpose documents).refusals p) d))

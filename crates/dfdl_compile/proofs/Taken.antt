@@ -1,131 +1,233 @@
--- The types of simple elements take their primitives, and the last row is the root's.
-use Rattle.std.proofs.Common.{◌≡◌, ℕ, ◌-◌, Bool, true, false, IsTrue, List, length, map, slice_get, get_or, All, Option, None, Some, ap, sym, subst, ◌∙◌, refl, if◌then◌else◌}
+-- Each simple element is read by a primitive of its type, and the last row is the root's.
+use Rattle.std.proofs.Common.{◌≡◌, ℕ, ◌<◌, ◌-◌, Bool, true, false, List, length, map, slice_get, get_or, All, Option, None, Some, option_map, unwrap_or, ap, sym, subst, ◌∙◌, refl, arith, if◌then◌else◌}
+use Rattle.std.proofs.lemmas.List.{length-map}
+use Rattle.std.proofs.lemmas.Option.{slice_get-map, slice_get-get_or, slice_get_within}
 use Rattle.dfdl_forms.specs.declared.binary.IntForm.{IntForm}
-use Rattle.dfdl_forms.specs.declared.order.ByteOrder.{ByteOrder}
-use Rattle.dfdl_forms.specs.declared.order.ByteOrder.TheVariants.{Big, Little}
 use Rattle.dfdl_forms.specs.declared.simple.Simple.{Simple}
-use Rattle.dfdl_forms.specs.declared.simple.Simple.TheVariants.{UnsignedByte, UnsignedShort, UnsignedInt, UnsignedLong}
 use Rattle.dfdl_constructs.specs.declared.role.Role.{Role}
 use Rattle.dfdl_constructs.specs.declared.role.Role.TheVariants as role
 use Rattle.dfdl_documents.specs.Documents.{SchemaDocument}
 use Rattle.dfdl_components.specs.declared.kind.ComponentKind.TheVariants as names
 use Rattle.dfdl_components.specs.declared.site.Site.{Site}
+use Rattle.dfdl_components.specs.Globals.{site}
 use Rattle.dfdl_components.specs.Sites.{IsSite, role_of}
-use Rattle.dfdl_components.specs.Recursion.{number_of}
-use Rattle.dfdl_checks.specs.Judged.{Judged}
-use Rattle.dfdl_checks.specs.Numbers.{number_of_kind, integer_form_of}
+use Rattle.dfdl_components.specs.Recursion.{count_of, number_of}
+use Rattle.dfdl_checks.specs.Forms.{IsWholeUnsigned}
+use Rattle.dfdl_checks.specs.Numbers.{type_of}
+use Rattle.dfdl_checks.specs.declared.purpose.Purpose.{Purpose}
+use Rattle.dfdl_checks.specs.declared.purpose.Purpose.TheVariants.{Unparsing}
 use Rattle.dfdl_checks.specs.declared.subject.Kind.{Kind}
 use Rattle.dfdl_checks.specs.declared.subject.Kind.TheVariants as kind
 use Rattle.dfdl_chains.specs.declared.typed.Typed.{Typed}
 use Rattle.dfdl_chains.specs.declared.typed.Typed.TheVariants.{Carried, NotCarried, Defined}
 use Rattle.dfdl_chains.specs.Declarations.{referred}
-use Rattle.dfdl_chains.specs.Derivation.{type_of}
-use Rattle.dfdl_chains.specs.Everywhere.{all_sites}
-use Rattle.dfdl_chains.specs.Kinds.{kind_at, kind_of_type, kind_by}
+use Rattle.dfdl_chains.specs.Derivation.{type_of as element_type}
+use Rattle.dfdl_chains.specs.Everywhere.{all_sites, for_each}
+use Rattle.dfdl_chains.specs.Kinds.{kind_at, kind_of_type}
 use Rattle.dfdl_chains.specs.Parts.{is_component}
-use Rattle.dfdl_breaches.specs.Judging.{breach_at, form_at, judged_at, judgement_at, no_judgement}
+use Rattle.dfdl_chains.proofs.Numbering.{number_below, length_all}
+use Rattle.dfdl_breaches.specs.Judging.{breach_at, primitive_at as judged, judgement_at, no_judgement}
 use Rattle.dfdl_breaches.specs.declared.judgement.Judgement.{Judgement}
 use Rattle.dfdl_breaches.proofs.Numbering.{value-at}
-use Rattle.dfdl_terms.specs.Rows.{Table}
+use Rattle.dfdl_terms.specs.Rows.{HasElementLast, IsElementRow, IsPrimitive, Table}
+use Rattle.dfdl_terms.specs.declared.row.Primitive.{Primitive}
+use Rattle.dfdl_terms.specs.declared.row.Primitive.TheVariants.{Integer}
 use Rattle.dfdl_terms.specs.declared.row.Row.{Row}
+use Rattle.dfdl_terms.specs.declared.row.Row.TheVariants.{Leaf, Elem, Group}
 use Rattle.dfdl_rows.specs.Answers.{EndsWith}
-use Rattle.dfdl_rows.specs.Components.{Schema, component_at as part_at}
-use Rattle.dfdl_rows.specs.Leaves.{TakesPrimitive}
+use Rattle.dfdl_rows.specs.Components.{Schema, HasPrimitive, component_at as part_at}
+use Rattle.dfdl_rows.specs.Leaves.{HaveLeaves, IsAmong, IsLeafOf}
 use Rattle.dfdl_rows.specs.declared.component.Component.{Component}
-use Rattle.dfdl_rows.specs.declared.component.Component.TheVariants.{Sequence, ComplexElement, SimpleElement}
-use Rattle.dfdl_compile.specs.Components.{component_by, reference_by, component_of, component_at, components_of, element_name, is_global_element}
-use Rattle.dfdl_compile.specs.Primitives.{HasElementLast, IsElementRow, primitive_number, simple_of, takes_primitive}
-use Rattle.dfdl_compile.proofs.Fitting.{all_within, each, made_is}
+use Rattle.dfdl_rows.specs.declared.component.Component.TheVariants.{Sequence, SimpleElement}
+use Rattle.dfdl_compile.specs.Components.{component_by, reference_by, component_of, component_at, components_of, element_name, is_global_element, primitive_at, primitives_of}
+use Rattle.dfdl_compile.specs.Primitives.{HasTypedLeaves, IsLeafOfType, IsOfType, IsWhole, a_byte, primitive_by}
+use Rattle.dfdl_compile.proofs.Fitting.{all_within, each, made, made_is, twice}
 
--- the type of a form takes its primitive
-abbrev IsTaken : Option IntForm → Type 0
-IsTaken form = IsTrue (takes_primitive (simple_of form) (primitive_number form))
+-- what holds of a byte and of each primitive that is judged holds of that of an element
+module _ (P : Primitive → Type 0) (byte : P a_byte) (purpose : Purpose) (documents : List SchemaDocument) where
+  by_some : (own : Site) (o : Option Primitive) → ((p : Primitive) → o ≡ Some p → P p) → P (unwrap_or o a_byte)
+  by_some own None holds = byte
+  by_some own (Some p) holds = holds p refl
 
-kind_taken : (k : Kind) (order : ByteOrder) → IsTaken (number_of_kind k order)
-kind_taken (kind.SimpleElement UnsignedByte) Big = refl
-kind_taken (kind.SimpleElement UnsignedByte) Little = refl
-kind_taken (kind.SimpleElement UnsignedShort) Big = refl
-kind_taken (kind.SimpleElement UnsignedShort) Little = refl
-kind_taken (kind.SimpleElement UnsignedInt) Big = refl
-kind_taken (kind.SimpleElement UnsignedInt) Little = refl
-kind_taken (kind.SimpleElement UnsignedLong) Big = refl
-kind_taken (kind.SimpleElement UnsignedLong) Little = refl
-kind_taken (kind.SimpleElement _) order = refl
-kind_taken kind.ComplexElement order = refl
-kind_taken kind.UncarriedElement order = refl
-kind_taken kind.Sequence order = refl
-kind_taken kind.Choice order = refl
+  by_component : (own : Site) (b : Bool) → ((p : Primitive) → judged purpose documents own ≡ Some p → P p)
+      → P (primitive_by (if b then record { breach = breach_at purpose documents own; primitive = judged purpose documents own } else no_judgement))
+  by_component own true holds = by_some own (judged purpose documents own) holds
+  by_component own false holds = byte
 
-form_taken : (judged : Judged) → IsTaken (integer_form_of judged)
-form_taken judged = kind_taken judged.kind _
+  holds_at : (own : Site) → ((p : Primitive) → judged purpose documents own ≡ Some p → P p) → P (primitive_at purpose documents own)
+  unfolding judgement_at
+  holds_at own holds = by_component own (is_component (role_of documents own)) holds
 
-judgement_taken : (documents : List SchemaDocument) (own : Site) → IsTaken (judgement_at documents own).form
-unfolding judgement_at
-judgement_taken documents own =
-    elim (is_component (role_of documents own)) as (λ (b : Bool).
-    IsTaken (let j : Judgement = (if b then record { breach = breach_at documents own; form = form_at documents own } else no_judgement) in j.form)) [
-      | true ↦ form_taken (judged_at documents own)
-      | false ↦ refl
-    ]
+  holds_of : ((own : Site) (p : Primitive) → judged purpose documents own ≡ Some p → P p) → (tables : List Primitive)
+      → tables ≡ primitives_of purpose documents → All P tables
+  unfolding primitives_of
+  holds_of holds tables are = subst (λ (ps : List Primitive). All P ps) (sym are)
+      (each (IsSite documents) P (primitive_at purpose documents) (λ own within. holds_at own (holds own)) (all_sites documents) (all_within documents))
 
-by_taken : (name : List ℕ) (form : Option IntForm) (k : Kind) → IsTaken form → TakesPrimitive takes_primitive (component_by name form k)
-by_taken name form kind.ComplexElement taken = tt
-by_taken name form (kind.SimpleElement simple) taken = taken
-by_taken name form kind.UncarriedElement taken = taken
-by_taken name form kind.Sequence taken = tt
-by_taken name form kind.Choice taken = tt
+-- the table is that of the documents
+pub tables_are : (purpose : Purpose) (documents : List SchemaDocument) (judgements : List Judgement) (tables : List Primitive)
+    → judgements ≡ for_each documents (judgement_at purpose documents) → tables ≡ map primitive_by judgements → tables ≡ primitives_of purpose documents
+unfolding primitives_of
+tables_are purpose documents judgements tables judged are =
+    are ∙ (ap (map primitive_by) judged ∙ twice primitive_by (judgement_at purpose documents) (all_sites documents))
 
-component_taken : (documents : List SchemaDocument) (own : Site) → TakesPrimitive takes_primitive (component_at documents own)
-component_taken documents own = by_role (role_of documents own)
+-- each keeps the bounds of its type
+pub bounded : (purpose : Purpose) (documents : List SchemaDocument)
+    → ((purpose : Purpose) (documents : List SchemaDocument) (own : Site) (p : Primitive) → judged purpose documents own ≡ Some p → IsPrimitive p)
+    → (tables : List Primitive) → tables ≡ primitives_of purpose documents → All IsPrimitive tables
+bounded purpose documents law = holds_of IsPrimitive
+    (record { some = omega arith; few = omega arith; short = omega arith; places = omega arith })
+    purpose documents (law purpose documents)
+
+-- each for unparsing is a whole unsigned integer
+pub wholes : (purpose : Purpose) (documents : List SchemaDocument) → purpose ≡ Unparsing
+    → ((documents : List SchemaDocument) (own : Site) (form : IntForm) → judged Unparsing documents own ≡ Some (Integer form) → IsWholeUnsigned form)
+    → (tables : List Primitive) → tables ≡ primitives_of purpose documents → All IsWhole tables
+wholes purpose documents unparsing law tables are =
+    holds_of IsWhole (record { bits = refl; kind = refl; bits_by = refl; point = refl }) Unparsing documents whole_at tables
+    (are ∙ ap (λ (q : Purpose). primitives_of q documents) unparsing)
   where
-    by_group : (o : Option Site) → TakesPrimitive takes_primitive (reference_by o)
-    by_group None = tt
-    by_group (Some group) = tt
+    whole_at : (own : Site) (p : Primitive) → judged Unparsing documents own ≡ Some p → IsWhole p
+    whole_at own (Integer form) is = law documents own form is
 
-    by_role : (r : Role) → TakesPrimitive takes_primitive (component_of documents own r)
-    by_role role.GroupReference = by_group (referred documents own names.Group)
-    by_role _ = by_taken (element_name documents own) (judgement_at documents own).form (kind_at documents own) (judgement_taken documents own)
+-- there are as many primitives as elements
+length_primitives : (purpose : Purpose) (documents : List SchemaDocument) → length (primitives_of purpose documents) ≡ count_of documents
+unfolding primitives_of
+length_primitives purpose documents = length-map (all_sites documents) (primitive_at purpose documents) ∙ length_all documents
 
--- those of all components
-pub all_take : (documents : List SchemaDocument) (schema : Schema) → schema ≡ components_of documents
-    → All (TakesPrimitive takes_primitive) schema.components
-unfolding components_of
-all_take documents schema is =
-    subst (λ (s : Schema). All (TakesPrimitive takes_primitive) s.components) (sym is)
-    (each (IsSite documents) (TakesPrimitive takes_primitive) (component_at documents) (λ own within. component_taken documents own) (all_sites documents) (all_within documents))
+module _ (purpose : Purpose) (documents : List SchemaDocument) where
+  has_number : (own : Site) → IsSite documents own → HasPrimitive (count_of documents) (component_at purpose documents own)
+  has_number own within = by_role (role_of documents own)
+    where
+      by_group : (o : Option Site) → HasPrimitive (count_of documents) (reference_by o)
+      by_group None = tt
+      by_group (Some group) = tt
+
+      by_kind : (k : Kind) → HasPrimitive (count_of documents)
+          (component_by (element_name documents own) (primitive_at purpose documents own) (number_of documents own) k)
+      by_kind kind.ComplexElement = tt
+      by_kind (kind.SimpleElement simple) = number_below documents own within
+      by_kind kind.UncarriedElement = number_below documents own within
+      by_kind kind.Sequence = tt
+      by_kind kind.Choice = tt
+
+      by_role : (r : Role) → HasPrimitive (count_of documents) (component_of documents own (judgement_at purpose documents own) r)
+      by_role role.GroupReference = by_group (referred documents own names.Group)
+      by_role _ = by_kind (kind_at documents own)
+
+  -- the primitive of each simple element is in the table
+  pub have : (schema : Schema) (tables : List Primitive) → schema ≡ components_of purpose documents
+      → tables ≡ primitives_of purpose documents → All (HasPrimitive (length tables)) schema.components
+  unfolding components_of
+  have schema tables schema_is tables_are =
+      subst (λ (n : ℕ). All (HasPrimitive n) schema.components)
+      (sym (ap (λ (ps : List Primitive). length ps) tables_are ∙ length_primitives purpose documents))
+      (subst (λ (s : Schema). All (HasPrimitive (count_of documents)) s.components) (sym schema_is)
+      (each (IsSite documents) (HasPrimitive (count_of documents)) (component_at purpose documents) has_number (all_sites documents) (all_within documents)))
+
+  -- a component that is a simple element has the type of its primitive, and the primitive's number
+  typed_component : (own : Site) (name : List ℕ) (simple : Simple) (prim : ℕ)
+      → component_at purpose documents own ≡ SimpleElement name simple prim
+      → (type_of (primitive_at purpose documents own) ≡ simple) × (number_of documents own ≡ prim)
+  typed_component own name simple prim = by_role (role_of documents own)
+    where
+      by_group : (o : Option Site) → reference_by o ≡ SimpleElement name simple prim
+          → (type_of (primitive_at purpose documents own) ≡ simple) × (number_of documents own ≡ prim)
+      by_group None is = absurd (cc)
+      by_group (Some group) is = absurd (cc)
+
+      by_kind : (k : Kind)
+          → component_by (element_name documents own) (primitive_at purpose documents own) (number_of documents own) k ≡ SimpleElement name simple prim
+          → (type_of (primitive_at purpose documents own) ≡ simple) × (number_of documents own ≡ prim)
+      by_kind kind.ComplexElement is = absurd (cc)
+      by_kind (kind.SimpleElement other) is = (cc, cc)
+      by_kind kind.UncarriedElement is = (cc, cc)
+      by_kind kind.Sequence is = absurd (cc)
+      by_kind kind.Choice is = absurd (cc)
+
+      by_role : (r : Role) → component_of documents own (judgement_at purpose documents own) r ≡ SimpleElement name simple prim
+          → (type_of (primitive_at purpose documents own) ≡ simple) × (number_of documents own ≡ prim)
+      by_role role.GroupReference is = by_group (referred documents own names.Group) is
+      by_role _ is = by_kind (kind_at documents own) is
+
+  -- the primitive of an element stands at the element's number
+  there : (own : Site) → IsSite documents own
+      → slice_get (primitives_of purpose documents) (number_of documents own) ≡ Some (primitive_at purpose documents own)
+  unfolding primitives_of
+  there own within =
+      let below = number_below documents own within in
+      let long = length-map (all_sites documents) (primitive_at purpose documents) ∙ length_all documents in
+      slice_get-get_or (map (primitive_at purpose documents) (all_sites documents)) (number_of documents own) a_byte (omega (arith, below, long))
+      ∙ ap Some (value-at documents (primitive_at purpose documents) own a_byte within)
+
+  -- the leaf of a simple element among the components has the element's type
+  among_typed : (simple : Simple) (prim : ℕ) → IsAmong (map (component_at purpose documents) (all_sites documents)) simple prim
+      → IsOfType simple (slice_get (primitives_of purpose documents) prim)
+  among_typed simple prim (number, name, is) =
+      let less : number < length (all_sites documents) = omega (
+        arith,
+        slice_get_within (map (component_at purpose documents) (all_sites documents)) number (SimpleElement name simple prim) is,
+        length-map (all_sites documents) (component_at purpose documents),
+      ) in
+      let own : Site = get_or (all_sites documents) number (site 0 0) in
+      let found : Some (component_at purpose documents own) ≡ Some (SimpleElement name simple prim) =
+      sym (slice_get-map (component_at purpose documents) (all_sites documents) number
+      ∙ ap (option_map (component_at purpose documents)) (slice_get-get_or (all_sites documents) number (site 0 0) less)) ∙ is in
+      let same : component_at purpose documents own ≡ SimpleElement name simple prim = cc in
+      let both = typed_component own name simple prim same in
+      subst (λ (n : ℕ). IsOfType simple (slice_get (primitives_of purpose documents) n)) both.1
+      (subst (λ (o : Option Primitive). IsOfType simple o) (sym (there own (all_within documents number (site 0 0) less))) both.0)
+
+  leaf_typed : (simple : Simple) (o : Option Row) → IsLeafOf (map (component_at purpose documents) (all_sites documents)) simple o
+      → IsLeafOfType (primitives_of purpose documents) simple o
+  leaf_typed simple (Some (Leaf prim)) leaf = among_typed simple prim leaf
+  leaf_typed simple (Some (Elem name other body)) leaf = absurd leaf
+  leaf_typed simple (Some (Group children)) leaf = absurd leaf
+  leaf_typed simple None leaf = absurd leaf
+
+  -- each simple element is read by a primitive of its type
+  pub leaves_typed : (schema : Schema) (t : Table) → schema ≡ components_of purpose documents → t.primitives ≡ primitives_of purpose documents
+      → HaveLeaves schema.components t.rows → HasTypedLeaves t
+  unfolding components_of
+  leaves_typed schema t schema_is primitives_are leaves row name simple body is =
+      subst (λ (ps : List Primitive). IsLeafOfType ps simple (slice_get t.rows body)) (sym primitives_are)
+      (leaf_typed simple (slice_get t.rows body)
+      (subst (λ (s : Schema). IsLeafOf s.components simple (slice_get t.rows body)) schema_is (leaves row name simple body is)))
 
 -- the row of an element of a type is an element
-typed_last : (t : Table) (name : List ℕ) (form : Option IntForm) (typed : Typed) → EndsWith (component_by name form (kind_of_type typed)) t.rows
-    → HasElementLast t
-typed_last t name form (Carried simple) ends = subst IsElementRow (sym ends) tt
-typed_last t name form NotCarried ends = subst IsElementRow (sym ends) tt
-typed_last t name form (Defined own) ends = subst IsElementRow (sym ends) tt
+typed_last : (t : Table) (name : List ℕ) (primitive : Primitive) (number : ℕ) (typed : Typed)
+    → EndsWith (component_by name primitive number (kind_of_type typed)) t.rows → HasElementLast t
+typed_last t name primitive number (Carried simple) ends = subst IsElementRow (sym ends) tt
+typed_last t name primitive number NotCarried ends = subst IsElementRow (sym ends) tt
+typed_last t name primitive number (Defined own) ends = subst IsElementRow (sym ends) tt
 
 global_role : (r : Role) → is_global_element r ≡ true → r ≡ role.GlobalElement
 global_role role.GlobalElement is = refl
 global_role _ is = absurd (cc)
 
 -- a global element is that of its type
-global_is : (documents : List SchemaDocument) (own : Site) → is_global_element (role_of documents own) ≡ true
-    → component_at documents own ≡ component_by (element_name documents own) (judgement_at documents own).form (kind_of_type (type_of documents own))
-global_is documents own global =
+global_is : (purpose : Purpose) (documents : List SchemaDocument) (own : Site) → is_global_element (role_of documents own) ≡ true
+    → component_at purpose documents own
+    ≡ component_by (element_name documents own) (primitive_at purpose documents own) (number_of documents own) (kind_of_type (element_type documents own))
+global_is purpose documents own global =
     let is : role_of documents own ≡ role.GlobalElement = global_role (role_of documents own) global in
-    made_is documents own (role_of documents own) refl
-    ∙ ap (λ (r : Role). Rattle.dfdl_compile.proofs.Fitting.made documents own r) is
+    made_is purpose documents own (role_of documents own) refl
+    ∙ ap (λ (r : Role). made purpose documents own r) is
 
 -- the component of a root's number
-at_root : (documents : List SchemaDocument) (root : Site) → IsSite documents root
-    → part_at (components_of documents).components (number_of documents root) ≡ component_at documents root
+at_root : (purpose : Purpose) (documents : List SchemaDocument) (root : Site) → IsSite documents root
+    → part_at (components_of purpose documents).components (number_of documents root) ≡ component_at purpose documents root
 unfolding components_of
-at_root documents root within = value-at documents (component_at documents) root Sequence within
+at_root purpose documents root within = value-at documents (component_at purpose documents) root Sequence within
 
 -- the last row is an element, where the root is one
-pub root_element : (documents : List SchemaDocument) (root : Site) (schema : Schema) (number : ℕ) (t : Table) → schema ≡ components_of documents
+pub root_element : (purpose : Purpose) (documents : List SchemaDocument) (root : Site) (schema : Schema) (number : ℕ) (t : Table)
+    → schema ≡ components_of purpose documents
     → number ≡ number_of documents root → IsSite documents root → is_global_element (role_of documents root) ≡ true
     → EndsWith (part_at schema.components number) t.rows → HasElementLast t
-root_element documents root schema number t schema_is number_is within global ends =
-    typed_last t (element_name documents root) (judgement_at documents root).form (type_of documents root)
+root_element purpose documents root schema number t schema_is number_is within global ends =
+    typed_last t (element_name documents root) (primitive_at purpose documents root) (number_of documents root) (element_type documents root)
     (subst (λ (k : Component). EndsWith k t.rows)
     (ap (λ (s : Schema). part_at s.components number) schema_is
-    ∙ (ap (λ (n : ℕ). part_at (components_of documents).components n) number_is
-    ∙ (at_root documents root within ∙ global_is documents root global))) ends)
+    ∙ (ap (λ (n : ℕ). part_at (components_of purpose documents).components n) number_is
+    ∙ (at_root purpose documents root within ∙ global_is purpose documents root global))) ends)

@@ -19,30 +19,31 @@ use Rattle.dfdl_rows.specs.Refusals.{first_refusal}
 use Rattle.dfdl_rows.specs.RowLists.{rows_of}
 use Rattle.dfdl_rows.specs.Sizes.{size_of}
 use Rattle.dfdl_rows.specs.declared.refusal.Refusal.{Refusal}
-use Rattle.dfdl_compile.specs.Components.{components_of, root_of}
-use Rattle.dfdl_compile.specs.Primitives.{primitives}
+use Rattle.dfdl_checks.specs.declared.purpose.Purpose.{Purpose}
+use Rattle.dfdl_terms.specs.declared.row.Primitive.{Primitive}
+use Rattle.dfdl_compile.specs.Components.{components_of, primitives_of, root_of}
 
 -- why a schema has no rows: a rule is broken, told at a place, or a limit of this number is reached
 pub data CompileEnd : Type 0 where
   Refused : SchemaCause → Place → CompileEnd
   Limit : LimitCause → ℕ → CompileEnd
 
--- the rows of a root, where there are no more than the limit allows
-abbrev pub by_rows : Asked → Result Table CompileEnd
-by_rows a =
+-- the rows of a root with these primitives, where there are no more than the limit allows
+abbrev pub by_rows : List Primitive → Asked → Result Table CompileEnd
+by_rows primitives a =
     if nat_lt a.rows (size_of a.schema a.root) then Err (Limit Rows a.rows)
     else Ok (record { rows = rows_of a.schema a.root; primitives = primitives })
 
 -- the same, where no component that is reached is refused
-abbrev pub by_refusal : Asked → Option Refusal → Result Table CompileEnd
-by_refusal a None = by_rows a
-by_refusal a (Some refusal) = Err (Refused refusal.cause refusal.place)
+abbrev pub by_refusal : List Primitive → Asked → Option Refusal → Result Table CompileEnd
+by_refusal primitives a None = by_rows primitives a
+by_refusal primitives a (Some refusal) = Err (Refused refusal.cause refusal.place)
 
 -- the same, where elements are nested no deeper than the limit allows
-unfoldable pub by_depth : Asked → Result Table CompileEnd
-by_depth a =
+unfoldable pub by_depth : List Primitive → Asked → Result Table CompileEnd
+by_depth primitives a =
     if nat_lt a.depth (depth_of a.schema a.root) then Err (Limit Depth a.depth)
-    else by_refusal a (first_refusal a.schema a.root)
+    else by_refusal primitives a (first_refusal a.schema a.root)
 
 -- the component, if it reaches itself through its parts
 abbrev pub if_recursive : List (List ℕ) → ℕ → Option ℕ
@@ -52,22 +53,22 @@ if_recursive uses c = if reaches_itself uses c then Some c else None
 unfoldable pub first_recursive : List (List ℕ) → Option ℕ
 first_recursive uses = first_below (if_recursive uses) (length uses)
 
--- what a root comes to, where no component reaches itself. None does in documents that were loaded
-abbrev pub by_recursion : List SchemaDocument → Asked → Option ℕ → Result Table CompileEnd
-by_recursion documents a None = by_depth a
-by_recursion documents a (Some c) = Err (Refused Recursive (place_of documents (site_at documents c)))
+-- what a root comes to with these primitives, where no component reaches itself, else the first one that does
+abbrev pub by_recursion : List SchemaDocument → List Primitive → Asked → Option ℕ → Result Table CompileEnd
+by_recursion documents primitives a None = by_depth primitives a
+by_recursion documents primitives a (Some c) = Err (Refused Recursive (place_of documents (site_at documents c)))
 
 -- the first byte of the first document
 abbrev pub first_place : Place
 first_place = record { document = 0; at = 0 }
 
 -- what documents with this root come to
-abbrev pub by_root : List SchemaDocument → ℕ → ℕ → Option Site → Result Table CompileEnd
-by_root documents depth rows None = Err (Refused NameNotFound first_place)
-by_root documents depth rows (Some root) =
-    by_recursion documents (asked (components_of documents) (number_of documents root) depth rows)
-    (first_recursive (components_of documents).uses)
+abbrev pub by_root : Purpose → List SchemaDocument → ℕ → ℕ → Option Site → Result Table CompileEnd
+by_root purpose documents depth rows None = Err (Refused NameNotFound first_place)
+by_root purpose documents depth rows (Some root) =
+    by_recursion documents (primitives_of purpose documents) (asked (components_of purpose documents) (number_of documents root) depth rows)
+    (first_recursive (components_of purpose documents).uses)
 
--- what documents come to, where elements may be nested so deep, and there may be so many rows
-unfoldable pub compiled : List SchemaDocument → ℕ → ℕ → Result Table CompileEnd
-compiled documents depth rows = by_root documents depth rows (root_of documents)
+-- what documents come to for a purpose, where elements may be nested so deep, and there may be so many rows
+unfoldable pub compiled : Purpose → List SchemaDocument → ℕ → ℕ → Result Table CompileEnd
+compiled purpose documents depth rows = by_root purpose documents depth rows (root_of documents)

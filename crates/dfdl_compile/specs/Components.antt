@@ -3,7 +3,6 @@
 -- Model').
 use Rattle.std.specs.Prelude.{ℕ, List, [], map, length, Option, None, Some, option_map, codes, if◌then◌else◌, Bool, true, false}
 use Rattle.std.specs.Option.{unwrap_or}
-use Rattle.dfdl_forms.specs.declared.binary.IntForm.{IntForm}
 use Rattle.dfdl_markup.specs.Trees.{Node}
 use Rattle.dfdl_constructs.specs.declared.role.Role.{Role}
 use Rattle.dfdl_constructs.specs.declared.role.Role.TheVariants as role
@@ -15,6 +14,8 @@ use Rattle.dfdl_components.specs.Globals.{site}
 use Rattle.dfdl_components.specs.Recursion.{number_of}
 use Rattle.dfdl_components.specs.Searching.{first_below}
 use Rattle.dfdl_components.specs.Sites.{nodes_of, role_of}
+use Rattle.dfdl_checks.specs.Numbers.{type_of}
+use Rattle.dfdl_checks.specs.declared.purpose.Purpose.{Purpose}
 use Rattle.dfdl_checks.specs.declared.subject.Breach.{Breach}
 use Rattle.dfdl_checks.specs.declared.subject.Kind.{Kind}
 use Rattle.dfdl_checks.specs.declared.subject.Kind.TheVariants as kind
@@ -25,38 +26,43 @@ use Rattle.dfdl_chains.specs.Parts.{parts_at}
 use Rattle.dfdl_breaches.specs.declared.judgement.Judgement.{Judgement}
 use Rattle.dfdl_breaches.specs.Elements.{place_of}
 use Rattle.dfdl_breaches.specs.Judging.{judgement_at}
+use Rattle.dfdl_terms.specs.declared.row.Primitive.{Primitive}
 use Rattle.dfdl_rows.specs.Components.{Schema}
 use Rattle.dfdl_rows.specs.declared.component.Component.{Component}
 use Rattle.dfdl_rows.specs.declared.component.Component.TheVariants.{Sequence, Reference, ComplexElement, SimpleElement}
 use Rattle.dfdl_rows.specs.declared.refusal.Refusal.{Refusal}
-use Rattle.dfdl_compile.specs.Primitives.{primitive_number, simple_of}
+use Rattle.dfdl_compile.specs.Primitives.{primitive_by}
 
 -- the local name of an element
 abbrev pub element_name : List SchemaDocument → Site → List ℕ
 element_name documents own = unwrap_or (attribute_of documents (declaration documents own) (codes "name")) []
 
--- an element or a group, of which this is its name and how its values lie in the data
-abbrev pub component_by : List ℕ → Option IntForm → Kind → Component
-component_by name form kind.ComplexElement = ComplexElement name
-component_by name form (kind.SimpleElement simple) = SimpleElement name (simple_of form) (primitive_number form)
-component_by name form kind.UncarriedElement = SimpleElement name (simple_of form) (primitive_number form)
-component_by name form kind.Sequence = Sequence
-component_by name form kind.Choice = Sequence
+-- an element or a group, of which this is its name, how its values lie in the data, and its number
+abbrev pub component_by : List ℕ → Primitive → ℕ → Kind → Component
+component_by name primitive number kind.ComplexElement = ComplexElement name
+component_by name primitive number (kind.SimpleElement simple) = SimpleElement name (type_of primitive) number
+component_by name primitive number kind.UncarriedElement = SimpleElement name (type_of primitive) number
+component_by name primitive number kind.Sequence = Sequence
+component_by name primitive number kind.Choice = Sequence
 
 -- a group reference stands for the group that it names
 abbrev pub reference_by : Option Site → Component
 reference_by None = Sequence
 reference_by (Some own) = Reference
 
--- what an element of the documents is, by its role
-abbrev pub component_of : List SchemaDocument → Site → Role → Component
-component_of documents own role.GroupReference = reference_by (referred documents own names.Group)
-component_of documents own _ =
-    component_by (element_name documents own) (judgement_at documents own).form (kind_at documents own)
+-- what an element of the documents is, by its role and what is told of it
+abbrev pub component_of : List SchemaDocument → Site → Judgement → Role → Component
+component_of documents own judgement role.GroupReference = reference_by (referred documents own names.Group)
+component_of documents own judgement _ =
+    component_by (element_name documents own) (primitive_by judgement) (number_of documents own) (kind_at documents own)
+
+-- what an element of the documents is, of which this is told
+abbrev pub component_with : List SchemaDocument → Site → Judgement → Component
+component_with documents own judgement = component_of documents own judgement (role_of documents own)
 
 -- what an element of the documents is
-abbrev pub component_at : List SchemaDocument → Site → Component
-component_at documents own = component_of documents own (role_of documents own)
+abbrev pub component_at : Purpose → List SchemaDocument → Site → Component
+component_at purpose documents own = component_with documents own (judgement_at purpose documents own)
 
 -- the numbers of the parts of a component
 abbrev pub part_numbers : List SchemaDocument → Site → List ℕ
@@ -67,17 +73,25 @@ abbrev pub refusal_of : Breach → Refusal
 refusal_of breach = record { cause = breach.cause; place = breach.place }
 
 -- the refusal of a component's own: the first rule that it breaks by itself
-abbrev pub refusal_at : List SchemaDocument → Site → Option Refusal
-refusal_at documents own = option_map refusal_of (judgement_at documents own).breach
+abbrev pub refusal_at : Purpose → List SchemaDocument → Site → Option Refusal
+refusal_at purpose documents own = option_map refusal_of (judgement_at purpose documents own).breach
 
 -- the components of the documents
-unfoldable pub components_of : List SchemaDocument → Schema
-components_of documents = record {
+unfoldable pub components_of : Purpose → List SchemaDocument → Schema
+components_of purpose documents = record {
   uses = for_each documents (part_numbers documents);
-  components = for_each documents (component_at documents);
-  refusals = for_each documents (refusal_at documents);
+  components = for_each documents (component_at purpose documents);
+  refusals = for_each documents (refusal_at purpose documents);
   places = for_each documents (place_of documents);
 }
+
+-- the primitive of an element of the documents
+abbrev pub primitive_at : Purpose → List SchemaDocument → Site → Primitive
+primitive_at purpose documents own = primitive_by (judgement_at purpose documents own)
+
+-- the primitives of the documents, by the numbers of their elements
+unfoldable pub primitives_of : Purpose → List SchemaDocument → List Primitive
+primitives_of purpose documents = for_each documents (primitive_at purpose documents)
 
 -- a global element
 abbrev pub is_global_element : Role → Bool

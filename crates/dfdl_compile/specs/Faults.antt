@@ -2,6 +2,7 @@
 use Rattle.std.specs.Prelude.{◌≡◌, ℕ, List, Some, Result, Err}
 use Rattle.dfdl_report.specs.declared.cause.SchemaCause.TheVariants.{Recursive}
 use Rattle.dfdl_documents.specs.Documents.{SchemaDocument}
+use Rattle.dfdl_checks.specs.declared.purpose.Purpose.{Purpose}
 use Rattle.dfdl_chains.specs.Everywhere.{site_at}
 use Rattle.dfdl_breaches.specs.Elements.{place_of}
 use Rattle.dfdl_terms.specs.Rows.{Table}
@@ -18,9 +19,9 @@ IsFaultOf answer (Limit cause quantity) = answer ≡ Err (ends.Limit cause quant
 IsFaultOf answer OutOfMemory = Unit {0}
 
 -- a component of the documents reaches itself, and this is told of the first one
-abbrev pub IsRecursionFault : List SchemaDocument → CompileFault → Type 0
-IsRecursionFault documents (Refused cause place) =
-    (c : ℕ) × (first_recursive (components_of documents).uses ≡ Some c) × (cause ≡ Recursive)
+abbrev pub IsRecursionFault : Purpose → List SchemaDocument → CompileFault → Type 0
+IsRecursionFault purpose documents (Refused cause place) =
+    (c : ℕ) × (first_recursive (components_of purpose documents).uses ≡ Some c) × (cause ≡ Recursive)
     × (place ≡ place_of documents (site_at documents c))
-IsRecursionFault documents (Limit cause quantity) = ⊥
-IsRecursionFault documents OutOfMemory = Unit {0}
+IsRecursionFault purpose documents (Limit cause quantity) = ⊥
+IsRecursionFault purpose documents OutOfMemory = Unit {0}

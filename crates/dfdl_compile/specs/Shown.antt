@@ -8,7 +8,7 @@ use Rattle.dfdl_compile.specs.declared.compiling.Gathered.{Gathered}
 -- these are the components of the documents, and the elements that they are
 pub record AreGathered (documents : List SchemaDocument) (gathered : Gathered) : Type 0 where
   pub sites : gathered.sites.items ≡ all_sites documents
-  pub uses : gathered.uses ≡ (components_of documents).uses
-  pub components : gathered.components.items ≡ (components_of documents).components
-  pub refusals : gathered.refusals.items ≡ (components_of documents).refusals
-  pub places : gathered.places.items ≡ (components_of documents).places
+  pub uses : gathered.uses ≡ (components_of gathered.purpose documents).uses
+  pub components : gathered.components.items ≡ (components_of gathered.purpose documents).components
+  pub refusals : gathered.refusals.items ≡ (components_of gathered.purpose documents).refusals
+  pub places : gathered.places.items ≡ (components_of gathered.purpose documents).places

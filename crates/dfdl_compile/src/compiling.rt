@@ -1,6 +1,6 @@
 // The terms of a schema, or why it has none.
-ghost use Rattle.std.specs.Prelude.{◌≡◌, ◌<◌, ◌≤◌, true, length, Ok, Some, None, IfOk, IfErr};
-ghost use Rattle.dfdl_terms.specs.Rows.{most_rows};
+ghost use Rattle.std.specs.Prelude.{◌≡◌, ◌<◌, ◌≤◌, true, length, All, Ok, Some, None, IfOk, IfErr};
+ghost use Rattle.dfdl_terms.specs.Rows.{HasElementLast, most_rows};
 ghost use Rattle.dfdl_report.specs.declared.cause.SchemaCause.TheVariants.{Recursive};
 ghost use Rattle.dfdl_components.specs.Rules.{AllKeep, loading_rules};
 ghost use Rattle.dfdl_components.specs.Sites.{IsSite, role_of};
@@ -10,8 +10,10 @@ ghost use Rattle.dfdl_breaches.specs.Elements.{place_of};
 ghost use Rattle.dfdl_compile.specs.declared.fault.CompileFault.TheVariants.{Refused, OutOfMemory};
 ghost use Rattle.dfdl_compile.specs.Components.{components_of, is_global_element};
 ghost use Rattle.dfdl_compile.specs.Compiled.{by_root, compiled, first_recursive};
-ghost use Rattle.dfdl_compile.specs.Primitives.{HasElementLast, primitives, takes_primitive};
-ghost use Rattle.dfdl_rows.specs.Leaves.{HaveLeaves};
+ghost use Rattle.dfdl_compile.specs.Primitives.{HasTypedLeaves, IsWhole};
+ghost use Rattle.dfdl_checks.specs.declared.purpose.Purpose.TheVariants.{Parsing, Unparsing};
+ghost use Rattle.dfdl_chains.specs.Everywhere.{for_each};
+ghost use Rattle.dfdl_breaches.specs.Judging.{judgement_at};
 ghost use Rattle.dfdl_compile.specs.Faults.{IsFaultOf, IsRecursionFault};
 ghost use Rattle.dfdl_compile.specs.FaultsShown.{fault_of};
 ghost use Rattle.dfdl_compile.specs.Shown.{AreGathered};
@@ -20,8 +22,10 @@ use crate::fault::CompileFault;
 use crate::gathering::{components, place_at, places, refusals, uses};
 use crate::primitives::tables;
 use crate::root::root_of;
-use dfdl_breaches::breaches;
+use dfdl_breaches::laws::sound_elements_have_bounded_primitives;
+use dfdl_breaches::{Judgement, breaches};
 use dfdl_chains::{Numbers, all_sites};
+use dfdl_checks::Purpose;
 use dfdl_components::{Schema, Site};
 use dfdl_order::laws::nothing_in_an_order_reaches_itself;
 use dfdl_order::{OrderFault, Uses, order_of};
@@ -44,9 +48,10 @@ fn fault_of(fault: RowsFault) -> CompileFault
     }
 }
 
-// The components of a schema, and the elements that they are.
+// The components of a schema for a purpose, and the elements that they are.
 #[derive(Drop)]
 struct Gathered {
+    purpose: Purpose,
     sites: Vec<Site>,
     uses: Uses,
     components: Vec<Component>,
@@ -54,28 +59,29 @@ struct Gathered {
     places: Vec<Place>,
 }
 
-// What each element of the documents is as a component.
-fn gather(alloc: Global, schema: &Schema, numbers: &Numbers) -> Result<Gathered, CompileFault>
-    requires keeps { AllKeep (loading_rules schema.now) schema.now }
+// What each element of the documents is as a component, of which this is told.
+fn gather(
+    alloc: Global,
+    schema: &Schema,
+    numbers: &Numbers,
+    purpose: Purpose,
+    judgements: &[Judgement],
+) -> Result<Gathered, CompileFault>
     requires numbers { AreNumbers schema.now numbers.now }
+    requires judgements { judgements.now ≡ for_each schema.now (judgement_at purpose schema.now) }
     ensures gathered { IfOk result (AreGathered schema.now) }
+    ensures purpose { IfOk result (λ g. g.purpose ≡ purpose) }
     ensures only_memory { IfErr result (λ e. e ≡ OutOfMemory) }
 {
     let sites = all_sites(alloc, schema)?;
-    let judgements = breaches(alloc, schema)?;
-    let components = components(
-        alloc,
-        schema,
-        numbers,
-        sites.as_slice(),
-        judgements.as_slice(),
-    )?;
-    let refusals = refusals(alloc, judgements.as_slice())?;
+    let components = components(alloc, schema, numbers, sites.as_slice(), judgements)?;
+    let refusals = refusals(alloc, judgements)?;
     let places = places(alloc, schema, sites.as_slice())?;
     let Ok(uses) = uses(alloc, schema, numbers, sites.as_slice()) else {
         return Err(CompileFault::OutOfMemory);
     };
     Ok(Gathered {
+        purpose,
         sites,
         uses,
         components,
@@ -99,8 +105,9 @@ fn recursive(schema: &Schema, sites: &[Site], component: u32) -> CompileFault
 // The components in an order, or the fault of one that reaches itself.
 fn ordered(alloc: Global, schema: &Schema, gathered: Gathered) -> Result<Components, CompileFault>
     requires { AreGathered schema.now gathered }
-    ensures components { IfOk result (λ made. (made ≡ components_of schema.now) × (first_recursive (components_of schema.now).uses ≡ None)) }
-    ensures fault { IfErr result (IsRecursionFault schema.now) }
+    ensures components { IfOk result (λ made. made ≡ components_of gathered.purpose schema.now) }
+    ensures none { IfOk result (λ made. first_recursive (components_of gathered.purpose schema.now).uses ≡ None) }
+    ensures fault { IfErr result (IsRecursionFault gathered.purpose schema.now) }
 {
     nothing_in_an_order_reaches_itself();
     let Gathered {
@@ -109,6 +116,7 @@ fn ordered(alloc: Global, schema: &Schema, gathered: Gathered) -> Result<Compone
         components,
         refusals,
         places,
+        ..
     } = gathered;
     match order_of(alloc, &uses) {
         Ok(order) => Ok(Components::new(uses, order, components, refusals, places)),
@@ -123,6 +131,7 @@ fn ordered(alloc: Global, schema: &Schema, gathered: Gathered) -> Result<Compone
 fn compile_root(
     alloc: Global,
     schema: &Schema,
+    purpose: Purpose,
     root: Site,
     depth: u32,
     rows: u32,
@@ -131,16 +140,18 @@ fn compile_root(
     requires within { IsSite schema.now root }
     requires global { is_global_element (role_of schema.now root) ≡ true }
     requires few { rows ≤ most_rows }
-    ensures rows { IfOk result (λ t. by_root schema.now depth rows (Some root) ≡ Ok t) }
-    ensures fault { IfErr result (IsFaultOf (by_root schema.now depth rows (Some root))) }
-    ensures tables { IfOk result (λ t. t.primitives ≡ primitives) }
+    ensures rows { IfOk result (λ t. by_root purpose schema.now depth rows (Some root) ≡ Ok t) }
+    ensures fault { IfErr result (IsFaultOf (by_root purpose schema.now depth rows (Some root))) }
     ensures element { IfOk result HasElementLast }
-    ensures leaves { IfOk result (λ t. HaveLeaves takes_primitive t.rows) }
+    ensures leaves { IfOk result HasTypedLeaves }
+    ensures whole { purpose ≡ Unparsing → IfOk result (λ t. All IsWhole t.primitives) }
 {
+    sound_elements_have_bounded_primitives();
     let numbers = Numbers::of(alloc, schema)?;
-    let gathered = gather(alloc, schema, &numbers)?;
+    let judgements = breaches(alloc, schema, purpose)?;
+    let gathered = gather(alloc, schema, &numbers, purpose, judgements.as_slice())?;
     let components = ordered(alloc, schema, gathered)?;
-    let tables = tables(alloc)?;
+    let tables = tables(alloc, judgements.as_slice())?;
     let number = numbers.number(schema, root);
     match terms_of(alloc, &components, number, depth, rows, tables) {
         Ok(terms) => Ok(terms),
@@ -148,23 +159,60 @@ fn compile_root(
     }
 }
 
-/// The terms of a schema whose documents keep the rules of loading. Elements may be nested in one another
-/// `depth` deep, and there may be `rows` rows.
+// The terms of a schema for a purpose.
 #[tactic(auto, unfolding(crate::specs::Compiled::compiled))]
-pub fn compile(alloc: Global, schema: &Schema, depth: u32, rows: u32) -> Result<Terms, CompileFault>
+fn compile_for(
+    alloc: Global,
+    schema: &Schema,
+    purpose: Purpose,
+    depth: u32,
+    rows: u32,
+) -> Result<Terms, CompileFault>
     requires keeps { AllKeep (loading_rules schema.now) schema.now }
     requires few { rows ≤ most_rows }
-    ensures rows { IfOk result (λ t. compiled schema.now depth rows ≡ Ok t) }
-    ensures fault { IfErr result (IsFaultOf (compiled schema.now depth rows)) }
-    ensures tables { IfOk result (λ t. t.primitives ≡ primitives) }
+    ensures rows { IfOk result (λ t. compiled purpose schema.now depth rows ≡ Ok t) }
+    ensures fault { IfErr result (IsFaultOf (compiled purpose schema.now depth rows)) }
     ensures element { IfOk result HasElementLast }
-    ensures leaves { IfOk result (λ t. HaveLeaves takes_primitive t.rows) }
+    ensures leaves { IfOk result HasTypedLeaves }
+    ensures whole { purpose ≡ Unparsing → IfOk result (λ t. All IsWhole t.primitives) }
 {
     match root_of(schema) {
-        Some(root) => compile_root(alloc, schema, root, depth, rows),
+        Some(root) => compile_root(alloc, schema, purpose, root, depth, rows),
         None => Err(CompileFault::Refused {
             cause: SchemaCause::NameNotFound,
             place: Place { document: 0, at: 0 },
         }),
     }
+}
+
+/// The terms by which data of a schema are parsed, whose documents keep the rules of loading. Elements may be nested in
+/// one another `depth` deep, and there may be `rows` rows.
+pub fn compile(alloc: Global, schema: &Schema, depth: u32, rows: u32) -> Result<Terms, CompileFault>
+    requires keeps { AllKeep (loading_rules schema.now) schema.now }
+    requires few { rows ≤ most_rows }
+    ensures rows { IfOk result (λ t. compiled Parsing schema.now depth rows ≡ Ok t) }
+    ensures fault { IfErr result (IsFaultOf (compiled Parsing schema.now depth rows)) }
+    ensures element { IfOk result HasElementLast }
+    ensures leaves { IfOk result HasTypedLeaves }
+{
+    compile_for(alloc, schema, Purpose::Parsing, depth, rows)
+}
+
+/// The terms by which infosets of a schema are unparsed, under the same conditions. Fewer forms are built for unparsing:
+/// each leaf is a whole unsigned integer.
+pub fn compile_for_unparse(
+    alloc: Global,
+    schema: &Schema,
+    depth: u32,
+    rows: u32,
+) -> Result<Terms, CompileFault>
+    requires keeps { AllKeep (loading_rules schema.now) schema.now }
+    requires few { rows ≤ most_rows }
+    ensures rows { IfOk result (λ t. compiled Unparsing schema.now depth rows ≡ Ok t) }
+    ensures fault { IfErr result (IsFaultOf (compiled Unparsing schema.now depth rows)) }
+    ensures element { IfOk result HasElementLast }
+    ensures leaves { IfOk result HasTypedLeaves }
+    ensures whole { IfOk result (λ t. All IsWhole t.primitives) }
+{
+    compile_for(alloc, schema, Purpose::Unparsing, depth, rows)
 }

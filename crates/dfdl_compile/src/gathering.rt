@@ -9,18 +9,19 @@ ghost use Rattle.dfdl_chains.specs.Kinds.{kind_at};
 ghost use Rattle.dfdl_chains.specs.Shown.{AreNumbers};
 ghost use Rattle.dfdl_breaches.specs.Elements.{place_of};
 ghost use Rattle.dfdl_breaches.specs.Judging.{judgement_at};
+ghost use Rattle.dfdl_checks.specs.declared.purpose.Purpose as declared_purpose;
 ghost use Rattle.dfdl_compile.specs.Components as spec;
 
-use crate::primitives::{primitive_number, simple_of};
+use crate::primitives::{primitive_by, type_of};
 use dfdl_breaches::Judgement;
 use dfdl_chains::{Numbers, declaration, kind_at, parts_at, referred};
 use dfdl_checks::{Breach, Kind};
 use dfdl_components::{ComponentKind, Schema, Site};
 use dfdl_constructs::{Role, plain};
-use dfdl_forms::IntForm;
 use dfdl_order::{OrderFault, Uses};
 use dfdl_report::Place;
 use dfdl_rows::{Component, Refusal};
+use dfdl_terms::Primitive;
 use dfdl_value::TextValue;
 use std::alloc::{AllocError, Global};
 
@@ -34,12 +35,11 @@ fn element_name(alloc: Global, schema: &Schema, site: Site) -> Result<TextValue,
     TextValue::from_str(alloc, name.unwrap_or(""))
 }
 
-// An element or a group of this name and form.
-fn component_by(name: TextValue, form: Option<IntForm>, kind: Kind) -> Component
-    ensures { result ≡ spec.component_by name form kind }
+// An element or a group of this name, with its primitive and its number.
+fn component_by(name: TextValue, primitive: Primitive, prim: u32, kind: Kind) -> Component
+    ensures { result ≡ spec.component_by name primitive prim kind }
 {
-    let simple = simple_of(form);
-    let prim = primitive_number(form);
+    let simple = type_of(primitive);
     match kind {
         Kind::ComplexElement => Component::ComplexElement { name },
         Kind::SimpleElement(_) => Component::SimpleElement { name, simple, prim },
@@ -70,20 +70,22 @@ fn component_of(
 ) -> Result<Component, AllocError>
     requires site { IsSite schema.now site }
     requires numbers { AreNumbers schema.now numbers.now }
-    requires judgement { judgement ≡ judgement_at schema.now site }
-    ensures { IfOk result (λ component. component ≡ spec.component_of schema.now site role) }
+    ensures { IfOk result (λ component. component ≡ spec.component_of schema.now site judgement role) }
 {
     match role {
         Role::GroupReference => Ok(reference_by(referred(schema, site, ComponentKind::Group))),
         _ => {
             let name = element_name(alloc, schema, site)?;
-            Ok(component_by(name, judgement.form, kind_at(schema, numbers, site)))
+            let primitive = primitive_by(judgement);
+            let number = numbers.number(schema, site);
+            let kind = kind_at(schema, numbers, site);
+            Ok(component_by(name, primitive, number, kind))
         }
     }
 }
 
-// What an element of the documents is.
-fn component_at(
+// What an element of the documents is, of which this is told.
+fn component_with(
     alloc: Global,
     schema: &Schema,
     numbers: &Numbers,
@@ -92,8 +94,7 @@ fn component_at(
 ) -> Result<Component, AllocError>
     requires site { IsSite schema.now site }
     requires numbers { AreNumbers schema.now numbers.now }
-    requires judgement { judgement ≡ judgement_at schema.now site }
-    ensures { IfOk result (λ component. component ≡ spec.component_at schema.now site) }
+    ensures { IfOk result (λ component. component ≡ spec.component_with schema.now site judgement) }
 {
     let role = schema.role(site);
     component_of(alloc, schema, numbers, site, role, judgement)
@@ -109,13 +110,14 @@ pub(crate) fn components(
 ) -> Result<Vec<Component>, AllocError>
     requires sites { All (IsSite schema.now) sites.now }
     requires numbers { AreNumbers schema.now numbers.now }
-    requires judgements { judgements.now ≡ map (judgement_at schema.now) sites.now }
-    ensures { IfOk result (λ made. made.items ≡ map (spec.component_at schema.now) sites.now) }
+    requires told { length judgements.now ≡ length sites.now }
+    ensures { (purpose : declared_purpose.Purpose) → judgements.now ≡ map (judgement_at purpose schema.now) sites.now
+        → IfOk result (λ made. made.items ≡ map (spec.component_at purpose schema.now) sites.now) }
 {
     let mut made = Vec::new(alloc);
     for at in 0..sites.len() {
         let site = sites[at];
-        made.push(component_at(alloc, schema, numbers, site, judgements[at])?)?;
+        made.push(component_with(alloc, schema, numbers, site, judgements[at])?)?;
     }
     Ok(made)
 }

@@ -1,7 +1,7 @@
 //! The terms of a schema: its documents' components in rows, from the root on.
 //!
 //! `specs/Components.antt` says which components the elements of the documents are, and `specs/Compiled.antt` what a
-//! schema comes to, which the contract of `compile` cites: its rows, or the first reason why it has none. The chapters
+//! schema comes to, which the contracts of `compile` and `compile_for_unparse` cite: its rows, or the first reason why it has none. The chapters
 //! are 'DFDL Schema Component Model' and 'DFDL Data Syntax Grammar'.
 #![tactic(auto)]
 
@@ -11,5 +11,5 @@ mod gathering;
 mod primitives;
 mod root;
 
-pub use compiling::compile;
+pub use compiling::{compile, compile_for_unparse};
 pub use fault::CompileFault;

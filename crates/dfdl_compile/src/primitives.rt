@@ -1,87 +1,51 @@
 // The primitives that the leaves of a schema are read by.
-ghost use Rattle.std.specs.Prelude.{◌≡◌, ◌<◌, IfOk, All, length};
-ghost use Rattle.dfdl_forms.specs.declared.order.BitOrder.TheVariants.{MostFirst};
-ghost use Rattle.dfdl_terms.specs.declared.row.Primitive.TheVariants.{Integer};
-ghost use Rattle.dfdl_terms.specs.Rows.{IsPrimitive};
+ghost use Rattle.std.specs.Prelude.{◌≡◌, IfOk, map};
 ghost use Rattle.dfdl_checks.specs.Numbers as numbers;
 ghost use Rattle.dfdl_compile.specs.Primitives as spec;
 
+use dfdl_breaches::Judgement;
 use dfdl_forms::{BitOrder, ByteOrder, IntForm, Simple};
 use dfdl_terms::{Primitive, Tables};
 use std::alloc::{AllocError, Global};
 
-// The unsigned integer of a type with these bits, in an order of bytes.
-fn integer(simple: Simple, bits: u32, order: ByteOrder) -> Primitive
-    ensures { result ≡ Integer (record { bits = bits; bytes_by = order; bits_by = MostFirst; point = 0; kind = simple }) }
+// The primitive that stands for an element without one of its own.
+fn a_byte() -> Primitive
+    ensures { result ≡ spec.a_byte }
 {
     Primitive::Integer(IntForm {
-        bits,
-        bytes_by: order,
+        bits: 8,
+        bytes_by: ByteOrder::Big,
         bits_by: BitOrder::MostFirst,
         point: 0,
-        kind: simple,
+        kind: Simple::UnsignedByte,
     })
 }
 
-/// The table of every schema.
-#[tactic(auto, unfolding(crate::specs::Primitives::primitives))]
-pub(crate) fn tables(alloc: Global) -> Result<Tables, AllocError>
-    ensures { IfOk result (λ tables. tables ≡ spec.primitives) }
+/// The primitive of an element of which this is told.
+pub(crate) fn primitive_by(judgement: Judgement) -> Primitive
+    ensures { result ≡ spec.primitive_by judgement }
 {
-    let primitives = vec![in alloc;
-        integer(Simple::UnsignedByte, 8, ByteOrder::Big),
-        integer(Simple::UnsignedByte, 8, ByteOrder::Little),
-        integer(Simple::UnsignedShort, 16, ByteOrder::Big),
-        integer(Simple::UnsignedShort, 16, ByteOrder::Little),
-        integer(Simple::UnsignedInt, 32, ByteOrder::Big),
-        integer(Simple::UnsignedInt, 32, ByteOrder::Little),
-        integer(Simple::UnsignedLong, 64, ByteOrder::Big),
-        integer(Simple::UnsignedLong, 64, ByteOrder::Little),
-    ]?;
+    match judgement.primitive {
+        Some(primitive) => primitive,
+        None => a_byte(),
+    }
+}
+
+/// The type of a primitive's values.
+pub(crate) fn type_of(primitive: Primitive) -> Simple
+    ensures { result ≡ numbers.type_of primitive }
+{
+    let Primitive::Integer(form) = primitive;
+    form.kind
+}
+
+/// The primitives of elements of which this is told.
+pub(crate) fn tables(alloc: Global, judgements: &[Judgement]) -> Result<Tables, AllocError>
+    ensures { IfOk result (λ tables. tables ≡ map spec.primitive_by judgements.now) }
+{
+    let mut primitives = Vec::new(alloc);
+    for judgement in judgements {
+        primitives.push(primitive_by(*judgement))?;
+    }
     Ok(Tables::new(primitives))
-}
-
-// The number of a type's first row in the table.
-fn number_of_type(simple: Simple) -> u32
-    ensures number { result ≡ spec.number_of_type simple }
-    ensures within { result < 7 }
-{
-    match simple {
-        Simple::UnsignedShort => 2,
-        Simple::UnsignedInt => 4,
-        Simple::UnsignedLong => 6,
-        _ => 0,
-    }
-}
-
-// How many rows further one stands with this order of bytes.
-fn number_of_order(order: ByteOrder) -> u32
-    ensures number { result ≡ spec.number_of_order order }
-    ensures within { result < 2 }
-{
-    match order {
-        ByteOrder::Big => 0,
-        ByteOrder::Little => 1,
-    }
-}
-
-/// The type of a form's values, and some type where there is none.
-pub(crate) fn simple_of(form: Option<IntForm>) -> Simple
-    ensures { result ≡ spec.simple_of form }
-{
-    match form {
-        Some(form) => form.kind,
-        None => Simple::UnsignedByte,
-    }
-}
-
-/// The number of a form in the table.
-pub(crate) fn primitive_number(form: Option<IntForm>) -> u32
-    ensures number { result ≡ spec.primitive_number form }
-    ensures within { result < 8 }
-{
-    match form {
-        Some(form) => number_of_type(form.kind) + number_of_order(form.bytes_by),
-        None => 0,
-    }
 }

@@ -159,14 +159,21 @@ fn explicit(
     Ok(own)
 }
 
-/// The number of the first breach of a component with properties of its own, over those of integers,
-/// 0 where there is none.
-fn number(
+/// What is told of a component: the number of its first breach, 0 where there is none, and how its values
+/// lie in the data.
+#[derive(Drop)]
+struct Told {
+    number: u8,
+    primitive: Option<Primitive>,
+}
+
+/// What is told of a component with properties of its own, over those of integers.
+fn told_of(
     alloc: Global,
     purpose: Purpose,
     kind: Kind,
     own: &Properties<'static>,
-) -> Result<u8, AllocError> {
+) -> Result<Told, AllocError> {
     let format = Format::new(integers(alloc)?);
     let nothing = Format::new(Properties::new(alloc));
     let mut chain = Component::new(alloc);
@@ -183,64 +190,67 @@ fn number(
         chain: &chain,
         facts: PLAIN,
     };
-    match breach(&subject) {
-        Some(breach) => Ok(breach.cause.number()),
-        None => Ok(0),
-    }
+    let number = match breach(&subject) {
+        Some(breach) => breach.cause.number(),
+        None => 0,
+    };
+    Ok(Told {
+        number,
+        primitive: primitive(&subject),
+    })
 }
 
-fn is_told<R: Abort + AllocGlobal>(rt: &R, purpose: Purpose, judged: Judged) -> Result<(), Fail> {
-    let (kind, name, value, wanted) = judged;
+fn is_told<R: Abort + AllocGlobal>(rt: &R, purpose: Purpose, case: Judged) -> Result<(), Fail> {
+    let (kind, name, value, wanted) = case;
     let own = one(rt.alloc(), name, value)?;
-    let told = number(rt.alloc(), purpose, kind, &own)?;
-    assert_eq!(rt; told, wanted, "{name} {value}");
+    let told = told_of(rt.alloc(), purpose, kind, &own)?;
+    assert_eq!(rt; told.number, wanted, "{name} {value}");
     Ok(())
 }
 
-fn is_sized<R: Abort + AllocGlobal>(rt: &R, judged: Judged) -> Result<(), Fail> {
-    let (kind, length, units, wanted) = judged;
+fn are_told<R: Abort + AllocGlobal>(
+    rt: &R,
+    purpose: Purpose,
+    cases: &[Judged],
+) -> Result<(), Fail> {
+    for case in cases {
+        is_told(rt, purpose, *case)?;
+    }
+    Ok(())
+}
+
+fn is_sized<R: Abort + AllocGlobal>(rt: &R, case: Judged) -> Result<(), Fail> {
+    let (kind, length, units, wanted) = case;
     let own = explicit(rt.alloc(), length, units)?;
-    let told = number(rt.alloc(), Purpose::Parsing, kind, &own)?;
-    assert_eq!(rt; told, wanted, "{length} {units}");
+    let told = told_of(rt.alloc(), Purpose::Parsing, kind, &own)?;
+    assert_eq!(rt; told.number, wanted, "{length} {units}");
     Ok(())
 }
 
 #[test]
 fn a_property_is_judged_by_what_it_applies_to(rt: HostRuntime) -> Result<(), Fail> {
-    for judged in PROPERTIES.iter() {
-        is_told(&rt, Purpose::Parsing, *judged)?;
-    }
-    Ok(())
+    are_told(&rt, Purpose::Parsing, &PROPERTIES)
 }
 
 #[test]
 fn numbers_are_read_by_their_digits(rt: HostRuntime) -> Result<(), Fail> {
-    for judged in NUMBERS.iter() {
-        is_told(&rt, Purpose::Parsing, *judged)?;
-    }
-    Ok(())
+    are_told(&rt, Purpose::Parsing, &NUMBERS)
 }
 
 #[test]
 fn types_of_numbers_are_built_for_parsing(rt: HostRuntime) -> Result<(), Fail> {
-    for judged in TYPES.iter() {
-        is_told(&rt, Purpose::Parsing, *judged)?;
-    }
-    Ok(())
+    are_told(&rt, Purpose::Parsing, &TYPES)
 }
 
 #[test]
 fn fewer_forms_are_built_for_unparsing(rt: HostRuntime) -> Result<(), Fail> {
-    for judged in UNPARSED.iter() {
-        is_told(&rt, Purpose::Unparsing, *judged)?;
-    }
-    Ok(())
+    are_told(&rt, Purpose::Unparsing, &UNPARSED)
 }
 
 #[test]
 fn constant_lengths_are_sizes_of_the_type(rt: HostRuntime) -> Result<(), Fail> {
-    for judged in LENGTHS.iter() {
-        is_sized(&rt, *judged)?;
+    for case in LENGTHS.iter() {
+        is_sized(&rt, *case)?;
     }
     Ok(())
 }
@@ -279,28 +289,14 @@ fn a_property_given_twice_is_told_where_it_is_given_first(rt: HostRuntime) -> Re
     Ok(())
 }
 
-/// How a number with properties of its own lies in the data, over those of integers.
-fn primitive_by(
-    alloc: Global,
-    purpose: Purpose,
-    kind: Kind,
-    own: &Properties<'static>,
-) -> Result<Option<Primitive>, AllocError> {
-    let format = Format::new(integers(alloc)?);
-    let nothing = Format::new(Properties::new(alloc));
-    let mut chain = Component::new(alloc);
-    chain.push_element(Element {
-        place: at(40),
-        own,
-        format: Some(&format),
-        default: Some(&nothing),
-    })?;
-    Ok(primitive(&Subject {
-        purpose,
+/// A number whose most significant bits come first.
+fn number_of(kind: Simple, bits: u32, bytes_by: ByteOrder, point: u8) -> Option<Primitive> {
+    Some(Primitive::Integer(IntForm {
+        bits,
+        bytes_by,
+        bits_by: BitOrder::MostFirst,
+        point,
         kind,
-        place: at(40),
-        chain: &chain,
-        facts: PLAIN,
     }))
 }
 
@@ -308,17 +304,11 @@ fn primitive_by(
 fn an_integer_lies_as_its_properties_say(rt: HostRuntime) -> Result<(), Fail> {
     let alloc = rt.alloc();
     let own = one(alloc, "byteOrder", "littleEndian")?;
-    let wanted = Primitive::Integer(IntForm {
-        bits: 16,
-        bytes_by: ByteOrder::Little,
-        bits_by: BitOrder::MostFirst,
-        point: 0,
-        kind: Simple::UnsignedShort,
-    });
-    let parsed = primitive_by(alloc, Purpose::Parsing, SHORT, &own)?;
-    assert!(rt; parsed == Some(wanted));
-    let unparsed = primitive_by(alloc, Purpose::Unparsing, SHORT, &own)?;
-    assert!(rt; unparsed == Some(wanted));
+    let wanted = number_of(Simple::UnsignedShort, 16, ByteOrder::Little, 0);
+    let parsed = told_of(alloc, Purpose::Parsing, SHORT, &own)?;
+    assert!(rt; parsed.primitive == wanted);
+    let unparsed = told_of(alloc, Purpose::Unparsing, SHORT, &own)?;
+    assert!(rt; unparsed.primitive == wanted);
     Ok(())
 }
 
@@ -327,16 +317,10 @@ fn a_decimal_has_the_length_and_the_point_that_it_is_given(rt: HostRuntime) -> R
     let alloc = rt.alloc();
     let mut own = explicit(alloc, "3", "bytes")?;
     own.add("binaryDecimalVirtualPoint", "2")?;
-    let wanted = Primitive::Integer(IntForm {
-        bits: 24,
-        bytes_by: ByteOrder::Big,
-        bits_by: BitOrder::MostFirst,
-        point: 2,
-        kind: Simple::Decimal,
-    });
-    let parsed = primitive_by(alloc, Purpose::Parsing, DECIMAL, &own)?;
-    assert!(rt; parsed == Some(wanted));
-    let unparsed = primitive_by(alloc, Purpose::Unparsing, DECIMAL, &own)?;
-    assert!(rt; unparsed.is_none());
+    let wanted = number_of(Simple::Decimal, 24, ByteOrder::Big, 2);
+    let parsed = told_of(alloc, Purpose::Parsing, DECIMAL, &own)?;
+    assert!(rt; parsed.primitive == wanted);
+    let unparsed = told_of(alloc, Purpose::Unparsing, DECIMAL, &own)?;
+    assert!(rt; unparsed.primitive.is_none());
     Ok(())
 }

@@ -26,13 +26,20 @@ none_first : (o : Option (List ℕ)) → same_found None o ≡ false
 none_first None = refl
 none_first (Some x) = refl
 
+-- a name whose prefix is not found is the same as none
+pub unfound_first : (scope : List Binding) (p x : List ℕ) → found scope p ≡ None → (y : Name) → same_expanded scope (Prefixed p x) y ≡ false
+unfound_first scope p x none (Plain y) = refl
+unfound_first scope p x none (Prefixed q y) =
+    ap (λ o. bytes_eq x y && same_found o (found scope q)) none
+    ∙ (ap (λ b. bytes_eq x y && b) (none_first (found scope q)) ∙ and_none (bytes_eq x y))
+
 found_turned : (a b : Option (List ℕ)) → same_found a b ≡ same_found b a
 found_turned None None = refl
 found_turned None (Some b) = refl
 found_turned (Some a) None = refl
 found_turned (Some a) (Some b) = turned a b
 
-same_turned : (scope : List Binding) (x y : Name) → same_expanded scope x y ≡ same_expanded scope y x
+pub same_turned : (scope : List Binding) (x y : Name) → same_expanded scope x y ≡ same_expanded scope y x
 same_turned scope (Plain a) (Plain b) = refl
 same_turned scope (Plain a) (Prefixed q b) = refl
 same_turned scope (Prefixed p a) (Plain b) = refl
@@ -138,12 +145,6 @@ module _ (scope : List Binding) (p n : List ℕ) where
         ∙ (ap (λ b. bytes_eq x part && b) (none_found (found scope r)) ∙ and_none (bytes_eq x part)))
         names
 
-    alone : (r x : List ℕ) → found scope r ≡ None → (y : Name) → same_expanded scope (Prefixed r x) y ≡ false
-    alone r x apart (Plain y) = refl
-    alone r x apart (Prefixed q y) =
-        ap (λ o. bytes_eq x y && same_found o (found scope q)) apart
-        ∙ (ap (λ b. bytes_eq x y && b) (none_first (found scope q)) ∙ and_none (bytes_eq x y))
-
     same_left : (names : List Name) → have_same (same_expanded scope) names ≡ have_same (same_expanded more) (without p names)
     same_left [] = refl
     same_left (Plain x ∷ names) =
@@ -151,7 +152,7 @@ module _ (scope : List Binding) (p n : List ℕ) where
         ∙ ap (λ b. list_any (same_expanded more (Plain x)) (without p names) || b) (same_left names)
     same_left (Prefixed r x ∷ names) = elim (cases_Bool (bytes_eq r p)) [
       | inl is ↦ ap (λ b. b || have_same (same_expanded scope) names)
-          (any_none (same_expanded scope (Prefixed r x)) (alone r x (unfound r is)) names)
+          (any_none (same_expanded scope (Prefixed r x)) (unfound_first scope r x (unfound r is)) names)
           ∙ (same_left names
           ∙ sym (ap (λ b. have_same (same_expanded more) (if b then without p names else Prefixed r x ∷ without p names)) is))
       | inr apart ↦ ap (λ b. b || have_same (same_expanded scope) names) (prefixed_left r x names apart)

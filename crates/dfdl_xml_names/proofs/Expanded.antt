@@ -18,7 +18,7 @@ pub or_none : (b : Bool) → (b || false) ≡ b
 or_none true = refl
 or_none false = refl
 
-or_apart : (a b c : Bool) → (a || (b || c)) ≡ ((a || b) || c)
+pub or_apart : (a b c : Bool) → (a || (b || c)) ≡ ((a || b) || c)
 or_apart true b c = refl
 or_apart false b c = refl
 

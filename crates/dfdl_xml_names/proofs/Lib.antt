@@ -5,5 +5,6 @@ mod Lists
 mod Parts
 mod Expanded
 mod Bound
+mod Split
 mod Rules
 mod Written

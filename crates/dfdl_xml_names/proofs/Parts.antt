@@ -18,7 +18,7 @@ or_between false true true d = refl
 or_between false true false d = refl
 or_between false false c d = refl
 
-or_turned : (a b c : Bool) → (a || (b || c)) ≡ (b || (a || c))
+pub or_turned : (a b c : Bool) → (a || (b || c)) ≡ (b || (a || c))
 or_turned true true c = refl
 or_turned true false c = refl
 or_turned false b c = refl

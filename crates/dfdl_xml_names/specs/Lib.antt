@@ -6,3 +6,4 @@ pub mod Paired
 pub mod Waiting
 pub mod Expanded
 pub mod Indexed
+pub mod Beyond

@@ -5,6 +5,7 @@
 #![tactic(auto)]
 
 mod alike;
+mod beyond;
 mod binding_rules;
 mod bindings;
 mod declared;

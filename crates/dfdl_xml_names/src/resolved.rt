@@ -7,7 +7,7 @@ ghost use Rattle.dfdl_markup.specs.Values.{Attribute as Attributed, Binding, bin
 ghost use Rattle.dfdl_xml_names.specs.Shown.{name_of, text_of, attribute_of};
 ghost use Rattle.dfdl_xml_names.specs.Scoped.{scope_seen};
 ghost use Rattle.dfdl_xml_names.specs.Paired.{has_pair};
-ghost use Rattle.dfdl_xml_names.specs.Expanded.{IsResolved, is_in};
+ghost use Rattle.dfdl_xml_names.specs.Expanded.{IsPaired, IsResolved, is_in};
 
 use crate::name::{Attribute, Name};
 use crate::pairs::Pairs;
@@ -85,7 +85,7 @@ impl Resolved {
 
     /// A name is the same as this one.
     pub(crate) fn has(&self, scope: &Scope<'_>, name: &Name) -> bool
-        ensures { (names : List Named) → IsResolved self.now (scope_seen scope.now) names
+        ensures { (names : List Named) → IsPaired self.now.pairs (scope_seen scope.now) names
             → result ≡ list_any (λ other. same_expanded (scope_seen scope.now) other (name_of name.now)) names }
     {
         match name {
@@ -99,7 +99,7 @@ impl Resolved {
 
     /// A name has this local part, and a prefix that stands for this namespace.
     fn holds(&self, namespace: &str, part: &str) -> bool
-        ensures { (scope : List Binding) (names : List Named) → IsResolved self.now scope names
+        ensures { (scope : List Binding) (names : List Named) → IsPaired self.now.pairs scope names
             → result ≡ list_any (is_in scope (chars namespace.now) (chars part.now)) names }
     {
         self.pairs.has(namespace, part)

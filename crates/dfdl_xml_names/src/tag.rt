@@ -13,7 +13,6 @@ use crate::declared::{declare, declared_by};
 use crate::frames::Frames;
 use crate::index::Index;
 use crate::name::{Attribute, Name};
-use crate::resolved::Resolved;
 use crate::scope::Scope;
 use std::alloc::{AllocError, Global};
 use std::marker::Model;
@@ -131,11 +130,16 @@ impl StartTag {
         ensures { IfOk result (λ clash. clash ≡ have_clash (scope_of frames.now) self.now.attributes) }
     {
         let attributes = self.attributes.as_slice();
-        if attributes.len() <= FEW {
-            return Ok(self.inside(frames).have_same(attributes));
+        let scope = self.inside(frames);
+        match &self.index {
+            Some(index) => {
+                let own = own(&self.declared);
+                index
+                    .resolved
+                    .clashes_within(self.alloc, &own, &scope, attributes)
+            }
+            None => Ok(scope.have_same(attributes)),
         }
-        let resolved = Resolved::of(self.alloc, &self.inside(frames), attributes)?;
-        Ok(resolved.clash)
     }
 
     /// All prefixes of the tag are found inside of these elements.

@@ -30,4 +30,4 @@ returns c = λ attributes kept.
     ∙ (ap (λ l. list_any (λ (a : values.Attribute). bytes_eq (name_characters a.name) l) attributes)
     (ap chars c.as_str.ensures.value ∙ c.in_ok-text.ensures)
     ∙ sym (any_name (λ other. same_name other name) attributes)) in
-    c.has-2.ensures (names_of attributes) kept.resolved ∙ sym (ap (λ b. b || same) (sym written ∙ c.if-has.false))
+    c.has-2.ensures (names_of attributes) kept.resolved.pairs ∙ sym (ap (λ b. b || same) (sym written ∙ c.if-has.false))

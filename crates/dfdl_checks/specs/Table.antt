@@ -52,8 +52,7 @@ abbrev pub word : List ℕ → Built
 word text = Words (text ∷ [])
 
 -- the properties, in the order of the profile. A binary number of delimited length, with a length by a pattern or with a
--- length in characters is refused by a rule of its own, so these values, and its pattern, are no forms that come later. What
--- is filled is only written
+-- length in characters is refused by a rule of its own, so these values, and its pattern, are no forms that come later
 unfoldable pub applicability_table : List Applicability
 applicability_table =
     applies (codes "representation") RepresentedElements (word (codes "binary"))
@@ -70,7 +69,7 @@ applicability_table =
     ∷ applies (codes "alignmentUnits") EveryComponent (word (codes "bits"))
     ∷ applies (codes "leadingSkip") EveryComponent (Number 0)
     ∷ applies (codes "trailingSkip") EveryComponent (Number 0)
-    ∷ applies_by (codes "fillByte") EveryComponent EveryValue (word (codes "%#r00;"))
+    ∷ applies (codes "fillByte") EveryComponent (word (codes "%#r00;"))
     ∷ applies (codes "initiator") EveryComponent (word (codes ""))
     ∷ applies (codes "terminator") EveryComponent (word (codes ""))
     ∷ applies (codes "separator") Groups (word (codes ""))

@@ -89,7 +89,7 @@ static APPLICABILITIES: [Applicability; 25] = [
     Applicability {
         name: "fillByte",
         bearers: Bearers::EveryComponent,
-        parsing: Built::EveryValue,
+        parsing: Built::Words(&["%#r00;"]),
         unparsing: Built::Words(&["%#r00;"]),
     },
     Applicability {

@@ -79,7 +79,7 @@ const TYPES: [Judged; 8] = [
     ),
     (Kind::SimpleElement(Simple::Boolean), "alignment", "1", 3),
     (Kind::SimpleElement(Simple::String), "alignment", "1", 3),
-    (BYTE, "fillByte", "x", 0),
+    (BYTE, "fillByte", "x", 3),
 ];
 
 /// What is built for unparsing.

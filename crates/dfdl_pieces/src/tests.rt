@@ -1,7 +1,7 @@
 // Pieces of `r`, which has the unsignedShort `a`.
 ghost use Rattle.std.specs.Prelude.{◌≡◌, IfOk};
 ghost use Rattle.dfdl_terms.specs.declared.row.Row.TheVariants.{Elem, Group};
-ghost use Rattle.dfdl_json.specs.Children.{HasElementLast};
+ghost use Rattle.dfdl_terms.specs.Rows.{HasElementLast};
 ghost use Rattle.dfdl_pieces.specs.Whole.{AreWholeFields};
 
 use crate::{Unparsed, unparse};

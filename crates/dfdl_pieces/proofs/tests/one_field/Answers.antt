@@ -9,8 +9,7 @@ use Rattle.dfdl_terms.specs.declared.row.Primitive.{Primitive}
 use Rattle.dfdl_terms.specs.declared.row.Primitive.TheVariants.{Integer}
 use Rattle.dfdl_terms.specs.declared.row.Row.{Row}
 use Rattle.dfdl_terms.specs.declared.row.Row.TheVariants.{Leaf, Elem, Group}
-use Rattle.dfdl_terms.specs.Rows.{Table, IsPrimitive, NamesWithin}
-use Rattle.dfdl_json.specs.Children.{HasElementLast}
+use Rattle.dfdl_terms.specs.Rows.{HasElementLast, IsPrimitive, NamesWithin, Table}
 use Rattle.dfdl_pieces.specs.Laying.{form_at}
 use Rattle.dfdl_pieces.specs.Whole.{AreWholeFields, IsWholeForm}
 use Rattle.dfdl_pieces.proofs.tests.one_field.Goals as goal
@@ -22,7 +21,7 @@ group_named : (n : ℕ) (row : Row) (children : List ℕ) → row ≡ Group chil
 group_named n row children is = rw is tt
 
 primitive_bounded : (f : IntForm) (by : ByteOrder) → f ≡ record { bits = 16; bytes_by = by; bits_by = MostFirst; point = 0; kind = UnsignedShort } → IsPrimitive (Integer f)
-primitive_bounded f by is = rw is (omega arith)
+primitive_bounded f by is = rw is (record { some = omega arith; few = omega arith; short = omega arith; places = omega arith })
 
 all_at : {A : Type 0} (P : A → Type 0) (xs ys : List A) → xs ≡ ys → All P ys → All P xs
 all_at P xs ys same all = rw same all

@@ -181,33 +181,33 @@ read_still verb table before after (Err (NoDocument cause document at)) read wel
 read_still verb table before after (Err (Refused cause document at)) read well = absurd read
 
 -- no schema is no usage
-load_late : (before after : FilesSeen) (name : List ℕ) (stop : Stop)
-    → IsLoadFault before after name stop
+load_late : (verb : Verb) (before after : FilesSeen) (name : List ℕ) (stop : Stop)
+    → IsLoadFault verb before after name stop
     → status_of (Err stop) ≡ 4 → ⊥
-load_late before after name (Usage word) fault four = absurd fault
-load_late before after name (FilesFailed failed) fault four = cc
-load_late before after name (NoDocument cause document at) fault four = cc
-load_late before after name (Refused cause document at) fault four = cc
-load_late before after name SourceFailed fault four = absurd fault
-load_late before after name (Limit cause quantity) fault four = cc
-load_late before after name OutOfMemory fault four = cc
+load_late verb before after name (Usage word) fault four = absurd fault
+load_late verb before after name (FilesFailed failed) fault four = cc
+load_late verb before after name (NoDocument cause document at) fault four = cc
+load_late verb before after name (Refused cause document at) fault four = cc
+load_late verb before after name SourceFailed fault four = absurd fault
+load_late verb before after name (Limit cause quantity) fault four = cc
+load_late verb before after name OutOfMemory fault four = cc
 
 -- the count of faults of the files stands where no load failed
-load_still : (before after : FilesSeen) (name : List ℕ) (stop : Stop)
-    → IsLoadFault before after name stop
+load_still : (verb : Verb) (before after : FilesSeen) (name : List ℕ) (stop : Stop)
+    → IsLoadFault verb before after name stop
     → ((status_of (Err stop) ≡ 7) ⊎ (status_of (Err stop) ≡ 9) → ⊥) → after.faults ≡ before.faults
-load_still before after name (FilesFailed failed) fault well = absurd (well (inl refl))
-load_still before after name (NoDocument cause document at) fault well =
+load_still verb before after name (FilesFailed failed) fault well = absurd (well (inl refl))
+load_still verb before after name (NoDocument cause document at) fault well =
     ap (λ (f : FilesSeen). f.faults) fault.refused.seen
-load_still before after name (Refused cause document at) fault well =
+load_still verb before after name (Refused cause document at) fault well =
     ap (λ (f : FilesSeen). f.faults) fault.loaded.seen
-load_still before after name (Limit Schema quantity) (inl limit) well = ap (λ (f : FilesSeen). f.faults) limit.1.seen
-load_still before after name (Limit Schemas quantity) (inl limit) well = ap (λ (f : FilesSeen). f.faults) limit.1.seen
-load_still before after name (Limit cause quantity) (inl limit) well = absurd limit
-load_still before after name (Limit cause quantity) (inr past) well = ap (λ (f : FilesSeen). f.faults) past.loaded.seen
-load_still before after name OutOfMemory fault well = fault
-load_still before after name (Usage word) fault well = absurd fault
-load_still before after name SourceFailed fault well = absurd fault
+load_still verb before after name (Limit Schema quantity) (inl limit) well = ap (λ (f : FilesSeen). f.faults) limit.1.seen
+load_still verb before after name (Limit Schemas quantity) (inl limit) well = ap (λ (f : FilesSeen). f.faults) limit.1.seen
+load_still verb before after name (Limit cause quantity) (inl limit) well = absurd limit
+load_still verb before after name (Limit cause quantity) (inr past) well = ap (λ (f : FilesSeen). f.faults) past.loaded.seen
+load_still verb before after name OutOfMemory fault well = fault
+load_still verb before after name (Usage word) fault well = absurd fault
+load_still verb before after name SourceFailed fault well = absurd fault
 
 module _ (loading : LoadingIsOne) (words : List (List ℕ)) (before after : Outside) (status : ℕ) (a : End)
     (decided : Decided words before.inputs after.inputs a) (finished : Finished a before.outputs after.outputs status) where
@@ -309,7 +309,7 @@ module _ (loading : LoadingIsOne) (words : List (List ℕ)) (before after : Outs
   source_rises end (by_words at place is untouched) = absurd (let no = sym end ∙ is in cc)
   source_rises end (by_schema order stop orders is fault loads unread) =
       let same_stop : stop ≡ SourceFailed = let no = sym is ∙ end in cc in
-      absurd (subst (λ (s : Stop). IsLoadFault before.inputs.files after.inputs.files order.schema s) same_stop fault)
+      absurd (subst (λ (s : Stop). IsLoadFault order.verb before.inputs.files after.inputs.files order.schema s) same_stop fault)
   source_rises end (by_data order table orders found read) =
       subst (λ (e : End). IsReadEnd order.verb table before.inputs.source after.inputs.source e) end read
 
@@ -336,7 +336,7 @@ module _ (loading : LoadingIsOne) (words : List (List ℕ)) (before after : Outs
   names name end gives (by_schema order stop orders is fault loads unread) =
       let same_stop : stop ≡ FilesFailed name = let no = sym is ∙ end in cc in
       let failed : IsFailed before.inputs.files after.inputs.files (asked order.schema) name =
-      subst (λ (s : Stop). IsLoadFault before.inputs.files after.inputs.files order.schema s) same_stop fault in
+      subst (λ (s : Stop). IsLoadFault order.verb before.inputs.files after.inputs.files order.schema s) same_stop fault in
       record {
         rose = failed.rose;
         named = record {
@@ -407,7 +407,7 @@ module _ (loading : LoadingIsOne) (words : List (List ℕ)) (before after : Outs
     where
       no_usage : (status ≡ status_of (Err stop)) ⊎ (status ≡ 9) → ⊥
       no_usage (inl own) =
-          load_late before.inputs.files after.inputs.files order.schema stop fault (sym own ∙ four)
+          load_late order.verb before.inputs.files after.inputs.files order.schema stop fault (sym own ∙ four)
       no_usage (inr none) = absurd (omega arith)
   unloaded (all gives still) (by_data order table orders found read) four =
       absurd (read_late order.verb table before.inputs.source after.inputs.source a read
@@ -458,7 +458,7 @@ module _ (loading : LoadingIsOne) (words : List (List ℕ)) (before after : Outs
   files_still end (by_words at place is untouched) not_failed some =
       ap (λ (i : Inputs). i.files.faults) untouched
   files_still end (by_schema order stop orders is fault loads kept) not_failed some =
-      load_still before.inputs.files after.inputs.files order.schema stop fault
+      load_still order.verb before.inputs.files after.inputs.files order.schema stop fault
       (λ own. either (stopped stop is end) own)
     where
       either : (status ≡ status_of (Err stop)) ⊎ (status ≡ 9)

@@ -14,7 +14,7 @@ use Rattle.dfdl_grammar.specs.declared.end.End.TheVariants.{Done, Failed, Stoppe
 use Rattle.dfdl_grammar.specs.declared.limits.Limits.{Limits}
 use Rattle.dfdl_grammar.specs.States.{Input, State, anchor}
 use Rattle.dfdl_grammar.specs.Outcomes.{Outcome, ended, follow, then_do}
-use Rattle.dfdl_grammar.specs.Leaves.{Find, DataEnd, Finds, land, leaf, program}
+use Rattle.dfdl_grammar.specs.Leaves.{Find, Fails, Finds, land, leaf, program}
 use Rattle.dfdl_grammar.specs.Elements.{begun, close, element, has_elements}
 use Rattle.dfdl_grammar.specs.Rows.{below, group, meaning, row, row_at}
 use Rattle.dfdl_grammar.specs.Documents.{document}
@@ -33,7 +33,7 @@ StopsByData (Failed cause bit) = Unit {0}
 StopsByData (Stopped cause quantity) = IsOfData cause
 
 land-stops : (window : ℕ) (reached : Reached Find) (s : State) → StopsByData (land window reached s).end
-land-stops window (Told DataEnd) s = tt
+land-stops window (Told (Fails cause)) s = tt
 land-stops window (Told (Finds content bits)) s = tt
 land-stops window TooFar s = tt
 land-stops window Missing s = tt

@@ -34,24 +34,24 @@ pub record AreLoadedOnce (before after : FilesSeen) (name : List ℕ) (documents
   pub seen : after ≡ after_loads (length documents) before
 
 -- the documents are loaded, and a schema of these rows
-pub record IsDescribed (before after : FilesSeen) (name : List ℕ) (table : Table) : Type 0 where
+pub record IsDescribed (verb : Verb) (before after : FilesSeen) (name : List ℕ) (table : Table) : Type 0 where
   pub documents : List SchemaDocument
   pub loaded : AreLoadedOnce before after name documents
-  pub schema : IsSchemaOf documents table
+  pub schema : IsSchemaOf verb documents table
 
 -- the documents are loaded, and refused as a schema at this byte of the document of this name
-pub record IsRefusedSchema (before after : FilesSeen) (name : List ℕ) (cause : SchemaCause)
+pub record IsRefusedSchema (verb : Verb) (before after : FilesSeen) (name : List ℕ) (cause : SchemaCause)
     (document : List ℕ) (at : ℕ) : Type 0 where
   pub documents : List SchemaDocument
   pub loaded : AreLoadedOnce before after name documents
-  pub refused : IsNoSchema documents cause document at
+  pub refused : IsNoSchema verb documents cause document at
 
 -- the documents are loaded, and their components pass a limit
-pub record IsPastLimit (before after : FilesSeen) (name : List ℕ) (cause : LimitCause) (quantity : ℕ)
+pub record IsPastLimit (verb : Verb) (before after : FilesSeen) (name : List ℕ) (cause : LimitCause) (quantity : ℕ)
     : Type 0 where
   pub documents : List SchemaDocument
   pub loaded : AreLoadedOnce before after name documents
-  pub past : IsPast documents cause quantity
+  pub past : IsPast verb documents cause quantity
 
 -- the file of this name, the next one to be loaded, is no document from this byte on
 pub record IsUnreadable (before after : FilesSeen) (name : List ℕ) (cause : DocCause)
@@ -61,17 +61,17 @@ pub record IsUnreadable (before after : FilesSeen) (name : List ℕ) (cause : Do
   pub refused : IsNoDocument before after (asked name) cause place document
 
 -- there is no schema, for what stops the run
-abbrev pub IsLoadFault : FilesSeen → FilesSeen → List ℕ → Stop → Type 0
-IsLoadFault before after name (FilesFailed failed) = IsFailed before after (asked name) failed
-IsLoadFault before after name OutOfMemory = after.faults ≡ before.faults
-IsLoadFault before after name (Limit cause quantity) =
-    IsLimit before after (asked name) cause quantity ⊎ IsPastLimit before after name cause quantity
-IsLoadFault before after name (NoDocument cause document at) =
+abbrev pub IsLoadFault : Verb → FilesSeen → FilesSeen → List ℕ → Stop → Type 0
+IsLoadFault verb before after name (FilesFailed failed) = IsFailed before after (asked name) failed
+IsLoadFault verb before after name OutOfMemory = after.faults ≡ before.faults
+IsLoadFault verb before after name (Limit cause quantity) =
+    IsLimit before after (asked name) cause quantity ⊎ IsPastLimit verb before after name cause quantity
+IsLoadFault verb before after name (NoDocument cause document at) =
     IsUnreadable before after name cause document at
-IsLoadFault before after name (Refused cause document at) =
-    IsRefusedSchema before after name cause document at
-IsLoadFault before after name (Usage word) = ⊥
-IsLoadFault before after name SourceFailed = ⊥
+IsLoadFault verb before after name (Refused cause document at) =
+    IsRefusedSchema verb before after name cause document at
+IsLoadFault verb before after name (Usage word) = ⊥
+IsLoadFault verb before after name SourceFailed = ⊥
 
 -- files were loaded, no more than a schema may have documents
 abbrev pub AreFewLoads : FilesSeen → FilesSeen → Type 0
@@ -113,10 +113,10 @@ pub data Decided (words : List (List ℕ)) (before after : Inputs) (end : End) :
   by_words : (at : ℕ) → IsPlace IsCommand words at → end ≡ Err (Usage (at + 1)) → after ≡ before
       → Decided words before after end
   by_schema : (order : Order) (stop : Stop) → Orders words order → end ≡ Err stop
-      → IsLoadFault before.files after.files order.schema stop
+      → IsLoadFault order.verb before.files after.files order.schema stop
       → AreFewLoads before.files after.files
       → after.source ≡ before.source → Decided words before after end
   by_data : (order : Order) (table : Table) → Orders words order
-      → IsDescribed before.files after.files order.schema table
+      → IsDescribed order.verb before.files after.files order.schema table
       → IsReadEnd order.verb table before.source after.source end
       → Decided words before after end

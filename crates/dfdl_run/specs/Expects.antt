@@ -37,26 +37,26 @@ pub data Expects (words : List (List ℕ)) (told : Inputs) : End → Type 0 wher
   no_schema : (order : Order) (documents : List SchemaDocument) (cause : SchemaCause)
       (document : List ℕ) (at : ℕ) → Orders words order
       → AreTold told.files documents → AreDocuments told.files order.schema documents
-      → IsNoSchema documents cause document at
+      → IsNoSchema order.verb documents cause document at
       → Expects words told (Err (Refused cause document at))
   -- the components of the documents pass a limit
   no_rows : (order : Order) (documents : List SchemaDocument) (cause : LimitCause) (quantity : ℕ)
       → Orders words order
       → AreTold told.files documents → AreDocuments told.files order.schema documents
-      → IsPast documents cause quantity
+      → IsPast order.verb documents cause quantity
       → Expects words told (Err (Limit cause quantity))
   -- the source gives a byte past the limit
   long_input : (order : Order) (documents : List SchemaDocument) (table : Table)
       (bytes : List ℕ) → Orders words order
       → AreTold told.files documents → AreDocuments told.files order.schema documents
-      → IsSchemaOf documents table
+      → IsSchemaOf order.verb documents table
       → told.source.left ≡ Some bytes → most_input < length bytes
       → Expects words told (Err (Limit Input most_input))
   -- the bytes are parsed or unparsed
   meant : (order : Order) (documents : List SchemaDocument) (table : Table) (bytes : List ℕ)
       → Orders words order
       → AreTold told.files documents → AreDocuments told.files order.schema documents
-      → IsSchemaOf documents table
+      → IsSchemaOf order.verb documents table
       → told.source.left ≡ Some bytes → length bytes ≤ most_input
       → Expects words told (end_of order.verb table bytes)
 

@@ -14,6 +14,10 @@ use Rattle.dfdl_components.specs.declared.fault.SchemaFault.TheVariants as schem
 use Rattle.dfdl_components.specs.Rules.{AllKeep, loading_rules}
 use Rattle.dfdl_components.specs.Faults.{IsRefused}
 use Rattle.dfdl_terms.specs.Rows.{Table}
+use Rattle.dfdl_checks.specs.declared.purpose.Purpose.{Purpose}
+use Rattle.dfdl_checks.specs.declared.purpose.Purpose.TheVariants.{Parsing, Unparsing}
+use Rattle.dfdl_run.specs.declared.command.Verb.{Verb}
+use Rattle.dfdl_run.specs.declared.command.Verb.TheVariants.{Parse, Unparse}
 use Rattle.dfdl_compile.specs.Compiled.{compiled, Refused as Refuses, Limit as Passes}
 use Rattle.dfdl_run.specs.declared.stop.Stop.{Stop}
 use Rattle.dfdl_run.specs.declared.stop.Stop.TheVariants.{FilesFailed, NoDocument, Refused, Limit, OutOfMemory}
@@ -57,22 +61,27 @@ schema_stop (schema.Schema cause place name) = Refused cause name place.at
 schema_stop (schema.Limit cause quantity) = Limit cause quantity
 schema_stop schema.OutOfMemory = OutOfMemory
 
+-- what a verb makes the rows of a schema for
+abbrev pub purpose_of : Verb → Purpose
+purpose_of Parse = Parsing
+purpose_of Unparse = Unparsing
+
 -- the documents are a schema of these rows: they keep all rules, and their components come to the rows
-pub record IsSchemaOf (documents : List SchemaDocument) (table : Table) : Type 0 where
+pub record IsSchemaOf (verb : Verb) (documents : List SchemaDocument) (table : Table) : Type 0 where
   pub keeps : AllKeep (loading_rules documents) documents
-  pub compiled_is : compiled documents most_depth most_rows ≡ Ok table
+  pub compiled_is : compiled (purpose_of verb) documents most_depth most_rows ≡ Ok table
 
 -- Why documents are no schema, with the name of a document and a byte of it.
-pub data IsNoSchema (documents : List SchemaDocument) : SchemaCause → List ℕ → ℕ → Type 0 where
+pub data IsNoSchema (verb : Verb) (documents : List SchemaDocument) : SchemaCause → List ℕ → ℕ → Type 0 where
   -- an element that begins there breaks a rule of loading, the first one that does
   breaks : (cause : SchemaCause) (place : Place) (name : List ℕ) → IsRefused documents cause place name
-      → IsNoSchema documents cause name place.at
+      → IsNoSchema verb documents cause name place.at
   -- they keep all of these, and a component that begins there is refused
   refuses : (cause : SchemaCause) (place : Place) → AllKeep (loading_rules documents) documents
-      → compiled documents most_depth most_rows ≡ Err (Refuses cause place)
-      → IsNoSchema documents cause (document_at documents place.document).name place.at
+      → compiled (purpose_of verb) documents most_depth most_rows ≡ Err (Refuses cause place)
+      → IsNoSchema verb documents cause (document_at documents place.document).name place.at
 
 -- Which limit on components documents pass that keep all rules of loading.
-pub record IsPast (documents : List SchemaDocument) (cause : LimitCause) (quantity : ℕ) : Type 0 where
+pub record IsPast (verb : Verb) (documents : List SchemaDocument) (cause : LimitCause) (quantity : ℕ) : Type 0 where
   pub keeps : AllKeep (loading_rules documents) documents
-  pub compiled_is : compiled documents most_depth most_rows ≡ Err (Passes cause quantity)
+  pub compiled_is : compiled (purpose_of verb) documents most_depth most_rows ≡ Err (Passes cause quantity)

@@ -1,11 +1,11 @@
 // What a run comes to, before anything is written.
-ghost use Rattle.std.specs.Prelude.{◌≡◌, ◌⊎◌, ◌<◌, ◌+◌, ◌^◌, ◌≤◌, All, Err, length, map};
+ghost use Rattle.std.specs.Prelude.{◌≡◌, ◌⊎◌, ◌<◌, ◌+◌, ◌^◌, ◌≤◌, Err, length, map};
 ghost use Rattle.std.specs.Prelude.{string_bytes};
-ghost use Rattle.dfdl_grammar.specs.Leaves.{IsUnsigned};
-ghost use Rattle.dfdl_json.specs.Children.{HasElementLast};
+ghost use Rattle.dfdl_terms.specs.Rows.{HasElementLast};
 ghost use Rattle.dfdl_pieces.specs.Whole.{AreWholeFields};
 ghost use Rattle.dfdl_run.specs.Decided.{Decided, IsReadEnd};
 ghost use Rattle.dfdl_run.specs.Meaning.{end_of};
+ghost use Rattle.dfdl_run.specs.declared.command.Verb.TheVariants.{Unparse};
 ghost use Rattle.dfdl_run.specs.declared.stop.Stop.TheVariants.{OutOfMemory};
 
 use crate::answer::Answer;
@@ -26,8 +26,7 @@ pub const MOST_INPUT: u64 = 1 << 30;
 fn meaning(alloc: Global, verb: Verb, terms: &Terms, bytes: &[u8]) -> Result<Answer, Stop>
     requires small { length bytes.now ≤ 2 ^ 60 }
     requires element { HasElementLast terms.now }
-    requires unsigned { All IsUnsigned terms.now.primitives }
-    requires whole { AreWholeFields terms.now }
+    requires whole { verb ≡ Unparse → AreWholeFields terms.now }
     ensures { (result ≡ Err OutOfMemory) ⊎ (result ≡ end_of verb terms.now bytes.now) }
 {
     match verb {
@@ -44,8 +43,7 @@ fn read_answer<S: Source>(
     terms: &Terms,
 ) -> Result<Answer, Stop>
     requires element { HasElementLast terms.now }
-    requires unsigned { All IsUnsigned terms.now.primitives }
-    requires whole { AreWholeFields terms.now }
+    requires whole { verb ≡ Unparse → AreWholeFields terms.now }
     ensures { IsReadEnd verb terms.now (S.seen source.old) (S.seen source.new) result }
 {
     match read_to_limit(alloc, source, MOST_INPUT) {
@@ -71,7 +69,7 @@ pub(crate) fn decide<S: Source, F: Files>(
         Ok(command) => command,
         Err(at) => return Err(usage(at)),
     };
-    match load_terms(alloc, files, command.schema) {
+    match load_terms(alloc, files, command.verb, command.schema) {
         Ok(terms) => read_answer(alloc, source, command.verb, &terms),
         Err(stop) => Err(stop),
     }

@@ -1,15 +1,18 @@
 // The loading of a schema.
-ghost use Rattle.std.specs.Prelude.{◌≡◌, ◌⊎◌, All, IfOk, IfErr};
+ghost use Rattle.std.specs.Prelude.{◌≡◌, ◌⊎◌, Ok, IfOk, IfErr};
 ghost use Rattle.dfdl_components.specs.Rules.{AllKeep, loading_rules};
 ghost use Rattle.dfdl_documents.specs.Loading.{document_at};
-ghost use Rattle.dfdl_grammar.specs.Leaves.{IsUnsigned};
-ghost use Rattle.dfdl_json.specs.Children.{HasElementLast};
+ghost use Rattle.dfdl_terms.specs.Rows.{HasElementLast};
+ghost use Rattle.dfdl_compile.specs.Compiled as compiler;
+ghost use Rattle.dfdl_compile.specs.Faults.{IsFaultOf};
 ghost use Rattle.dfdl_pieces.specs.Whole.{AreWholeFields};
 ghost use Rattle.dfdl_run.specs.Decided.{AreFewLoads, IsDescribed, IsLoadFault};
-ghost use Rattle.dfdl_run.specs.Schemas.{schema_stop};
+ghost use Rattle.dfdl_run.specs.Schemas.{most_depth, most_rows, purpose_of, schema_stop};
+ghost use Rattle.dfdl_run.specs.declared.command.Verb.TheVariants.{Unparse};
 
+use crate::command::Verb;
 use crate::stop::Stop;
-use dfdl_compile::{CompileFault, compile};
+use dfdl_compile::{CompileFault, compile, compile_for_unparse};
 use dfdl_components::{Schema, SchemaFault, load};
 use dfdl_edge::Files;
 use dfdl_report::{LimitCause, Place, SchemaCause};
@@ -82,20 +85,38 @@ pub(crate) fn limit(cause: LimitCause, quantity: u64) -> Stop
     Stop::Limit { cause, quantity }
 }
 
-// The terms of the schema whose first document has this name, or what stops the run in their place.
-pub(crate) fn load_terms<F: Files>(alloc: Global, files: &mut F, name: &str) -> Result<Terms, Stop>
+// The terms of a loaded schema for a verb.
+fn compiled(alloc: Global, verb: Verb, schema: &Schema) -> Result<Terms, CompileFault>
+    requires keeps { AllKeep (loading_rules schema.now) schema.now }
+    ensures rows { IfOk result (λ t. compiler.compiled (purpose_of verb) schema.now most_depth most_rows ≡ Ok t) }
+    ensures fault { IfErr result (IsFaultOf (compiler.compiled (purpose_of verb) schema.now most_depth most_rows)) }
     ensures element { IfOk result HasElementLast }
-    ensures unsigned { IfOk result (λ t. All IsUnsigned t.primitives) }
-    ensures whole { IfOk result AreWholeFields }
-    ensures ok { IfOk result (IsDescribed (F.seen files.old) (F.seen files.new) name.now) }
-    ensures err { IfErr result (IsLoadFault (F.seen files.old) (F.seen files.new) name.now) }
+    ensures whole { verb ≡ Unparse → IfOk result AreWholeFields }
+{
+    match verb {
+        Verb::Parse => compile(alloc, schema, MOST_DEPTH, MOST_ROWS),
+        Verb::Unparse => compile_for_unparse(alloc, schema, MOST_DEPTH, MOST_ROWS),
+    }
+}
+
+// The terms for a verb of the schema whose first document has this name, or what stops the run in their place.
+pub(crate) fn load_terms<F: Files>(
+    alloc: Global,
+    files: &mut F,
+    verb: Verb,
+    name: &str,
+) -> Result<Terms, Stop>
+    ensures element { IfOk result HasElementLast }
+    ensures whole { verb ≡ Unparse → IfOk result AreWholeFields }
+    ensures ok { IfOk result (IsDescribed verb (F.seen files.old) (F.seen files.new) name.now) }
+    ensures err { IfErr result (IsLoadFault verb (F.seen files.old) (F.seen files.new) name.now) }
     ensures few { AreFewLoads (F.seen files.old) (F.seen files.new) }
 {
     let schema = match load(alloc, files, name, MOST_SCHEMA, MOST_SCHEMAS) {
         Ok(schema) => schema,
         Err(fault) => return Err(stop_of(fault)),
     };
-    match compile(alloc, &schema, MOST_DEPTH, MOST_ROWS) {
+    match compiled(alloc, verb, &schema) {
         Ok(terms) => Ok(terms),
         Err(CompileFault::Refused { cause, place }) => Err(refused(alloc, &schema, cause, place)),
         Err(CompileFault::Limit { cause, quantity }) => Err(limit(cause, u64::from(quantity))),

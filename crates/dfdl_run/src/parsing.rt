@@ -1,7 +1,6 @@
 // The parsing of data.
-ghost use Rattle.std.specs.Prelude.{◌≡◌, ◌⊎◌, ◌<◌, ◌+◌, ◌*◌, ◌^◌, ◌≤◌, nat_le, if◌then◌else◌, Err, All, IfOk, length, take, drop, string_bytes};
+ghost use Rattle.std.specs.Prelude.{◌≡◌, ◌⊎◌, ◌<◌, ◌+◌, ◌*◌, ◌^◌, ◌≤◌, nat_le, if◌then◌else◌, Err, IfOk, length, take, drop, string_bytes};
 ghost use Rattle.dfdl_grammar.specs.Documents.{document};
-ghost use Rattle.dfdl_grammar.specs.Leaves.{IsUnsigned};
 ghost use Rattle.dfdl_run.specs.Meaning.{limits, parse_end};
 ghost use Rattle.dfdl_run.specs.Parsed.{HasParsed};
 ghost use Rattle.dfdl_run.specs.declared.answer.Answer.TheVariants.{Done, LeftOver};
@@ -50,7 +49,6 @@ fn parsed<'t, L: Ledger>(
     requires parts { blank.parts ≡ L.parts }
     requires some { 0 < L.parts }
     requires small { length bytes.now ≤ 2 ^ 60 }
-    requires unsigned { All IsUnsigned terms.now.primitives }
     ensures terms { IfOk result (λ session. session.terms.now ≡ terms.now) }
     ensures ended { IfOk result (λ session. HasParsed session (document limits terms.now bytes.now)) }
 {
@@ -85,7 +83,6 @@ fn answer_of(line: TextValue, bit: u64, bytes: usize) -> Answer
 // What parsing data comes to.
 pub(crate) fn parse(alloc: Global, terms: &Terms, bytes: &[u8]) -> Result<Answer, Stop>
     requires small { length bytes.now ≤ 2 ^ 60 }
-    requires unsigned { All IsUnsigned terms.now.primitives }
     ensures { (result ≡ Err OutOfMemory) ⊎ (result ≡ parse_end terms.now bytes.now) }
 {
     let Ok(session) = parsed::<Brand>(alloc, terms, bytes, Blank::new(1)) else {

@@ -1,5 +1,6 @@
 // Runs over the implementations in memory.
 mod nested;
+mod numbers;
 mod schemas;
 mod sizes;
 
@@ -13,8 +14,6 @@ const SCHEMA: &str =
     "<xs:schema xmlns:xs=\"http://www.w3.org/2001/XMLSchema\" xmlns:dfdl=\"http://www.ogf.org/dfdl/dfdl-1.0/\">\n<xs:element name=\"r\" dfdl:lengthKind=\"implicit\"><xs:complexType><xs:sequence>\n<xs:element name=\"a\" type=\"xs:unsignedByte\" dfdl:representation=\"binary\" dfdl:binaryNumberRep=\"binary\" dfdl:lengthKind=\"implicit\"/>\n<xs:element name=\"b\" type=\"xs:unsignedShort\" dfdl:representation=\"binary\" dfdl:binaryNumberRep=\"binary\" dfdl:lengthKind=\"implicit\" dfdl:byteOrder=\"bigEndian\"/>\n</xs:sequence></xs:complexType></xs:element>\n</xs:schema>\n";
 
 const LINE: &str = "{\"r\":{\"a\":\"1\",\"b\":\"515\"}}\n";
-
-const NO_SCHEMA: &str = "error C3 at s.xsd:0: construct outside the subset\n";
 
 // What a run is given: its words, the file `s.xsd`, the data with the cuts of its reads, and the
 // numbers of the reads and writes that fail.
@@ -388,7 +387,7 @@ fn the_outside_fails(rt: HostRuntime) -> Result<(), Fail> {
         },
         2,
         "",
-        NO_SCHEMA,
+        "error C3 at s.xsd:0: construct outside the subset\n",
     )
 }
 

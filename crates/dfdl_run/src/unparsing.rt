@@ -1,6 +1,6 @@
 // The unparsing of an infoset.
 ghost use Rattle.std.specs.Prelude.{◌≡◌, ◌⊎◌, Err, IfOk};
-ghost use Rattle.dfdl_json.specs.Children.{HasElementLast};
+ghost use Rattle.dfdl_terms.specs.Rows.{HasElementLast};
 ghost use Rattle.dfdl_pieces.specs.Whole.{AreWholeFields};
 ghost use Rattle.dfdl_run.specs.Meaning.{laid_answer, unparse_end};
 ghost use Rattle.dfdl_run.specs.declared.stop.Stop.TheVariants.{OutOfMemory};

@@ -101,13 +101,13 @@ fn ends<R: Abort + AllocGlobal>(
 }
 
 // A text with a part written otherwise.
-fn with_part(rt: &HostRuntime, text: &str, part: &str, other: &str) -> Result<String, Fail> {
+fn with_part<R: AllocGlobal>(rt: &R, text: &str, part: &str, other: &str) -> Result<String, Fail> {
     let (front, back) = text.split_once(part).ok_or("no such part")?;
     Ok(format!(in rt.alloc(); "{front}{other}{back}")?)
 }
 
 // The schema with a part written otherwise.
-fn schema_with(rt: &HostRuntime, part: &str, other: &str) -> Result<String, Fail> {
+fn schema_with<R: AllocGlobal>(rt: &R, part: &str, other: &str) -> Result<String, Fail> {
     with_part(rt, SCHEMA, part, other)
 }
 

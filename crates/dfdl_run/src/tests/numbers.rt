@@ -13,8 +13,8 @@ const NUMBERS_PARSE: Given<'static> = Given {
 };
 
 // A run of `parse` over this schema with a part written otherwise ends so.
-fn parses(
-    rt: &HostRuntime,
+fn parses<R: Abort + AllocGlobal>(
+    rt: &R,
     part: &str,
     other: &str,
     data: &[u8],

@@ -2,8 +2,8 @@
 use super::*;
 
 // A run of `parse` over the schema with a part written otherwise ends so.
-fn parses(
-    rt: &HostRuntime,
+fn parses<R: Abort + AllocGlobal>(
+    rt: &R,
     part: &str,
     other: &str,
     status: u8,

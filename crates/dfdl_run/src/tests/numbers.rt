@@ -17,7 +17,7 @@ fn parses<R: Abort + AllocGlobal>(
     rt: &R,
     part: &str,
     other: &str,
-    data: &[u8],
+    data: &'static [u8],
     status: u8,
     out: &str,
     note: &str,
@@ -89,12 +89,11 @@ fn numbers_in_other_forms(rt: HostRuntime) -> Result<(), Fail> {
 
 #[test]
 fn a_decimal_has_at_most_38_digits(rt: HostRuntime) -> Result<(), Fail> {
-    let data = [0x7F; 18];
     parses(
         &rt,
         "dfdl:length=\"16\"",
         "dfdl:length=\"128\"",
-        &data,
+        &[0x7F; 18],
         1,
         "",
         "error P9 at bit 16 in /r/c: value past its type\n",

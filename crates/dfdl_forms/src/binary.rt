@@ -1,5 +1,5 @@
 // Binary integers, binary decimals and binary booleans.
-ghost use Rattle.std.specs.Prelude.{◌≡◌, ◌≤◌};
+ghost use Rattle.std.specs.Prelude.{◌≡◌};
 ghost use Rattle.dfdl_forms.specs.Binary.{most_bits, IsNumberSize, IsTruthSize};
 ghost use Rattle.dfdl_forms.specs.Types.{form_of};
 
@@ -29,8 +29,6 @@ pub struct BitTruthForm {
     pub truth: Option<u32>,
     /// the number of false
     pub falsity: u32,
-    pub ghost some: { 1 ≤ bits },
-    pub ghost few: { bits ≤ 32 },
 }
 
 impl IntForm {

@@ -1,8 +1,6 @@
 // Packed decimal, BCD, IBM 4690 packed and zoned numbers.
-ghost use Rattle.std.specs.Prelude.{◌≡◌, ◌≤◌, IsTrue};
-ghost use Rattle.dfdl_forms.specs.Binary.{most_places};
-ghost use Rattle.dfdl_forms.specs.Packed.{most_nibbles, are_allowed, IsPackedSize};
-ghost use Rattle.dfdl_forms.specs.Types.{form_of};
+ghost use Rattle.std.specs.Prelude.{◌≡◌, ◌≤◌};
+ghost use Rattle.dfdl_forms.specs.Packed.{most_nibbles, IsPackedSize};
 
 use crate::order::{BitOrder, ByteOrder};
 use crate::simple::Simple;
@@ -33,11 +31,6 @@ pub struct PackedForm {
     pub kind: Simple,
     pub bytes_by: ByteOrder,
     pub bits_by: BitOrder,
-    pub ghost some: { 1 ≤ nibbles },
-    pub ghost few: { nibbles ≤ most_nibbles rep },
-    pub ghost short: { nibbles ≤ 39 },
-    pub ghost allowed: { IsTrue (are_allowed codes) },
-    pub ghost places: { point ≤ most_places (form_of kind) },
 }
 
 /// Which characters carry the sign of a zoned number.

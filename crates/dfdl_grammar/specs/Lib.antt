@@ -1,6 +1,7 @@
 pub mod States
 pub mod Outcomes
 pub mod Leaves
+pub mod Framing
 pub mod Elements
 pub mod Rows
 pub mod Documents

@@ -1,7 +1,7 @@
 -- The path of an element: the names of the elements from the root down to it, each behind a `/`.
 use Rattle.std.specs.Prelude.{ℕ, zero, suc, List, [], ◌++◌, codes, Option, Some, None, slice_get}
 use Rattle.dfdl_terms.specs.declared.row.Row.{Row}
-use Rattle.dfdl_terms.specs.declared.row.Row.TheVariants.{Leaf, Elem, Group}
+use Rattle.dfdl_terms.specs.declared.row.Row.TheVariants.{Leaf, Elem, Group, Skip, Align}
 use Rattle.dfdl_terms.specs.Rows.{Table}
 use Rattle.dfdl_region.specs.declared.node.Node.{Node}
 
@@ -11,6 +11,8 @@ name_of None = []
 name_of (Some (Leaf prim)) = []
 name_of (Some (Elem name simple body)) = name
 name_of (Some (Group children)) = []
+name_of (Some (Skip bits)) = []
+name_of (Some (Align bits)) = []
 
 -- the local name of an element
 abbrev pub node_name : Table → Option Node → List ℕ

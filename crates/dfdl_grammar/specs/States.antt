@@ -34,6 +34,10 @@ abbrev pub held_from : List Mark → ℕ → ℕ
 held_from [] at = at
 held_from (mark ∷ outer) at = held_from outer (if mark.is_resolved then at else mark.at)
 
+-- the first byte that is still needed where this bit comes next
+abbrev pub anchor_at : State → ℕ → ℕ
+anchor_at s bit = held_from s.marks bit / 8
+
 -- the first byte that is still needed
 abbrev pub anchor : State → ℕ
-anchor s = held_from s.marks s.at / 8
+anchor s = anchor_at s s.at

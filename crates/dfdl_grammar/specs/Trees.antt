@@ -2,7 +2,8 @@
 use Rattle.std.specs.Prelude.{◌≡◌, ◌<◌, ◌≤◌, ℕ, List, Some, slice_get}
 use Rattle.dfdl_forms.specs.declared.simple.Simple.{Simple}
 use Rattle.dfdl_terms.specs.declared.row.Primitive.{Primitive}
-use Rattle.dfdl_terms.specs.declared.row.Row.TheVariants.{Leaf, Elem}
+use Rattle.dfdl_terms.specs.declared.row.Row.TheVariants.{Elem}
+use Rattle.dfdl_terms.specs.Leaves.{ReadsBy}
 use Rattle.dfdl_terms.specs.Rows.{IsElementRow, Table}
 use Rattle.dfdl_region.specs.declared.node.Node.{Node}
 use Rattle.dfdl_region.specs.declared.node.Content.TheVariants.{Begun}
@@ -17,10 +18,14 @@ pub record IsNode (table : Table) (number : ℕ) (node : Node) : Type 0 where
 abbrev pub IsTree : Table → List Node → Type 0
 IsTree table nodes = (number : ℕ) (node : Node) → slice_get nodes number ≡ Some node → IsNode table number node
 
--- the content of each element of a simple type is a leaf, whose primitive is in the tables
+-- the primitive of this number is in the tables
+abbrev pub IsInTables : Table → ℕ → Type 0
+IsInTables table prim = (primitive : Primitive) × (slice_get table.primitives prim ≡ Some primitive)
+
+-- the body of each element of a simple type reads a value by a primitive of the tables
 abbrev pub HasLeaves : Table → Type 0
 HasLeaves table = (id : ℕ) (name : List ℕ) (simple : Simple) (body : ℕ) → slice_get table.rows id ≡ Some (Elem name (Some simple) body)
-    → (prim : ℕ) × (primitive : Primitive) × (slice_get table.rows body ≡ Some (Leaf prim)) × (slice_get table.primitives prim ≡ Some primitive)
+    → ReadsBy table.rows (IsInTables table) body
 
 -- each of the elements is read
 abbrev pub AreRead : List Node → Type 0

@@ -14,6 +14,8 @@ pub enum Content {
     Unsigned(u128),
     /// The value of a decimal.
     Decimal(Fixed),
+    /// The value of a boolean.
+    Truth(bool),
 }
 
 /// One element of the infoset.

@@ -1,10 +1,10 @@
 -- Tables of rows: each row's children stand below it.
 use Rattle.std.specs.Prelude.{◌≡◌, ℕ, ◌<◌, ◌≤◌, ◌-◌, List, length, All, slice_get, Option, None, Some}
-use Rattle.dfdl_forms.specs.BinaryNumbers.{IsIntForm}
+use Rattle.dfdl_forms.specs.BinaryNumbers.{IsIntForm, IsPackedForm, IsTruthForm}
 use Rattle.dfdl_terms.specs.declared.row.Primitive.{Primitive}
-use Rattle.dfdl_terms.specs.declared.row.Primitive.TheVariants.{Integer}
+use Rattle.dfdl_terms.specs.declared.row.Primitive.TheVariants.{Integer, Packed, Truth}
 use Rattle.dfdl_terms.specs.declared.row.Row.{Row}
-use Rattle.dfdl_terms.specs.declared.row.Row.TheVariants.{Leaf, Elem, Group}
+use Rattle.dfdl_terms.specs.declared.row.Row.TheVariants.{Leaf, Elem, Group, Skip, Align}
 
 -- the rows of a schema, and what they name by numbers
 pub record Table : Type 0 where
@@ -20,6 +20,8 @@ abbrev pub ChildrenBelow : ℕ → Row → Type 0
 ChildrenBelow bound (Leaf prim) = Unit {0}
 ChildrenBelow bound (Elem name simple body) = body < bound
 ChildrenBelow bound (Group children) = All (λ c. c < bound) children
+ChildrenBelow bound (Skip bits) = Unit {0}
+ChildrenBelow bound (Align bits) = Unit {0}
 
 -- each child is below its row, for the first so many rows
 abbrev pub NestsBelow : ℕ → List Row → Type 0
@@ -41,16 +43,22 @@ abbrev pub NamesWithin : ℕ → Row → Type 0
 NamesWithin primitives (Leaf prim) = prim < primitives
 NamesWithin primitives (Elem name simple body) = Unit {0}
 NamesWithin primitives (Group children) = Unit {0}
+NamesWithin primitives (Skip bits) = Unit {0}
+NamesWithin primitives (Align bits) = Unit {0}
 
 -- the form of a primitive keeps the bounds of its type
 abbrev pub IsPrimitive : Primitive → Type 0
 IsPrimitive (Integer form) = IsIntForm form
+IsPrimitive (Packed form) = IsPackedForm form
+IsPrimitive (Truth form) = IsTruthForm form
 
 -- the row is an element
 abbrev pub IsElementRow : Option Row → Type 0
 IsElementRow (Some (Elem name simple body)) = Unit {0}
 IsElementRow (Some (Leaf prim)) = ⊥
 IsElementRow (Some (Group children)) = ⊥
+IsElementRow (Some (Skip bits)) = ⊥
+IsElementRow (Some (Align bits)) = ⊥
 IsElementRow None = ⊥
 
 -- the last row is an element

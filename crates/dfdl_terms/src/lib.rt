@@ -5,9 +5,11 @@
 #![tactic(auto)]
 
 pub mod event;
+pub mod framing;
 pub mod row;
 pub mod terms;
 
 pub use event::Event;
+pub use framing::Framing;
 pub use row::{Primitive, Row, RowId, RowList, Tables};
 pub use terms::{TermFault, Terms};

@@ -1,6 +1,6 @@
 ghost use Rattle.std.specs.Prelude.{◌≡◌, ◌<◌, List};
 
-use dfdl_forms::IntForm;
+use dfdl_forms::{BitTruthForm, IntForm, PackedForm};
 use dfdl_value::{Simple, TextValue};
 use std::marker::Model;
 
@@ -67,6 +67,10 @@ impl RowList {
 pub enum Primitive {
     /// A binary integer or decimal ('Simple Types').
     Integer(IntForm),
+    /// A packed decimal, BCD or IBM 4690 packed number ('Simple Types').
+    Packed(PackedForm),
+    /// A binary boolean ('Simple Types').
+    Truth(BitTruthForm),
 }
 
 /// One step of the data syntax grammar.
@@ -85,6 +89,14 @@ pub enum Row {
     /// A sequence of rows.
     Group {
         children: RowList,
+    },
+    /// Passes over so many bits of fill ('Framing').
+    Skip {
+        bits: u32,
+    },
+    /// Passes over fill up to the next multiple of so many bits from the start of the data ('Framing').
+    Align {
+        bits: u32,
     },
 }
 

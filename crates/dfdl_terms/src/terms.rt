@@ -66,6 +66,8 @@ fn has_children_below(row: &Row, bound: RowId) -> bool
             .as_slice()
             .iter()
             .all(|child| child.number() < bound.number()),
+        Row::Skip { .. } => true,
+        Row::Align { .. } => true,
     }
 }
 

@@ -7,7 +7,7 @@ use Rattle.dfdl_report.specs.declared.cause.UnparseCause.TheVariants.{WrongOccur
 use Rattle.dfdl_report.specs.declared.cause.SchemaCause.{SchemaCause}
 use Rattle.dfdl_report.specs.declared.cause.SchemaCause.TheVariants.{NameNotFound, GlobalTwice, OutsideSubset, ValueNotAllowed, Recursive}
 use Rattle.dfdl_report.specs.declared.cause.SchemaCause.TheVariants.{PropertyTwice, PropertyMissing, UnknownAnnotation, PropertyNotCarried, ExpressionNotAllowed}
-use Rattle.dfdl_report.specs.declared.cause.SchemaCause.TheVariants.{TypeNotCarried, LengthKind, LengthUnits, ConstantLength, SignCodes, BooleanRepresentations, ElementTwice}
+use Rattle.dfdl_report.specs.declared.cause.SchemaCause.TheVariants.{TypeNotCarried, LengthKind, LengthUnits, ConstantLength, Alignment, SignCodes, BooleanRepresentations, ElementTwice}
 use Rattle.dfdl_report.specs.declared.cause.DocCause.{DocCause}
 use Rattle.dfdl_report.specs.declared.cause.DocCause.TheVariants.{NotUtf8, CharacterNotAllowed, Malformed, EndTagMismatch, AttributeTwice}
 use Rattle.dfdl_report.specs.declared.cause.DocCause.TheVariants.{UnknownReference, PrefixNotDeclared, DocumentType, EncodingRefused, OneRoot, TooDeep, DocumentEnds}
@@ -54,6 +54,7 @@ schema_number TypeNotCarried = 13
 schema_number LengthKind = 15
 schema_number LengthUnits = 16
 schema_number ConstantLength = 17
+schema_number Alignment = 24
 schema_number SignCodes = 26
 schema_number BooleanRepresentations = 27
 schema_number ElementTwice = 40
@@ -74,6 +75,7 @@ schema_text TypeNotCarried = codes "simple type not carried"
 schema_text LengthKind = codes "length kind not allowed"
 schema_text LengthUnits = codes "length units not allowed"
 schema_text ConstantLength = codes "constant length out of range"
+schema_text Alignment = codes "alignment not allowed"
 schema_text SignCodes = codes "sign codes malformed"
 schema_text BooleanRepresentations = codes "boolean representations malformed"
 schema_text ElementTwice = codes "element name twice"

@@ -56,6 +56,8 @@ pub enum SchemaCause {
     LengthUnits,
     /// A constant length that the type does not have.
     ConstantLength,
+    /// Implicit alignment of a component that has no size of its own: a complex element or a group.
+    Alignment,
     /// Sign codes of packed numbers that are not the four that may stand there.
     SignCodes,
     /// Numbers or texts that can't stand for true and false.
@@ -200,6 +202,7 @@ impl SchemaCause {
             SchemaCause::LengthKind => 15,
             SchemaCause::LengthUnits => 16,
             SchemaCause::ConstantLength => 17,
+            SchemaCause::Alignment => 24,
             SchemaCause::SignCodes => 26,
             SchemaCause::BooleanRepresentations => 27,
             SchemaCause::ElementTwice => 40,
@@ -224,6 +227,7 @@ impl SchemaCause {
             SchemaCause::LengthKind => "length kind not allowed",
             SchemaCause::LengthUnits => "length units not allowed",
             SchemaCause::ConstantLength => "constant length out of range",
+            SchemaCause::Alignment => "alignment not allowed",
             SchemaCause::SignCodes => "sign codes malformed",
             SchemaCause::BooleanRepresentations => "boolean representations malformed",
             SchemaCause::ElementTwice => "element name twice",

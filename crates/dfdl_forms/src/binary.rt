@@ -33,6 +33,7 @@ pub struct BitTruthForm {
 
 impl IntForm {
     ghost use Rattle.std.specs.Prelude.{◌↔◌, IfSome, IsSome};
+    ghost use Rattle.dfdl_forms.specs.BinaryNumbers.{IsIntForm};
 
     /// The form with a field of `bits` bits, if a field of its type can have so many.
     pub fn with_bits(self, bits: u64) -> Option<IntForm>
@@ -41,6 +42,7 @@ impl IntForm {
         ensures kind { IfSome result (λ form. (form.kind ≡ self.kind) × (form.point ≡ self.point)) }
         ensures order { IfSome result (λ form. (form.bytes_by ≡ self.bytes_by)
             × (form.bits_by ≡ self.bits_by)) }
+        ensures form { IsIntForm self → IfSome result IsIntForm }
     {
         if bits < 1 || bits > u64::from(most_bits(self.kind)) {
             return None;
@@ -57,6 +59,7 @@ impl IntForm {
 
 impl BitTruthForm {
     ghost use Rattle.std.specs.Prelude.{◌↔◌, IfSome, IsSome};
+    ghost use Rattle.dfdl_forms.specs.BinaryNumbers.{IsTruthForm};
 
     /// The form with a field of `bits` bits, if a boolean's field can have so many.
     pub fn with_bits(self, bits: u64) -> Option<BitTruthForm>
@@ -66,6 +69,7 @@ impl BitTruthForm {
             × (form.falsity ≡ self.falsity)) }
         ensures order { IfSome result (λ form. (form.bytes_by ≡ self.bytes_by)
             × (form.bits_by ≡ self.bits_by)) }
+        ensures form { IfSome result IsTruthForm }
     {
         if bits < 1 || bits > 32 {
             return None;

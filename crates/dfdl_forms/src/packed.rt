@@ -59,6 +59,7 @@ pub struct ZonedForm {
 
 impl PackedForm {
     ghost use Rattle.std.specs.Prelude.{◌↔◌, ◌*◌, IfSome, IsSome};
+    ghost use Rattle.dfdl_forms.specs.BinaryNumbers.{IsPackedForm};
 
     /// The form with a field of `bits` bits, if a field of its kind can have so many.
     pub fn with_bits(self, bits: u64) -> Option<PackedForm>
@@ -70,6 +71,7 @@ impl PackedForm {
             × (form.strict ≡ self.strict)) }
         ensures order { IfSome result (λ form. (form.bytes_by ≡ self.bytes_by)
             × (form.bits_by ≡ self.bits_by)) }
+        ensures form { IsPackedForm self → IfSome result IsPackedForm }
     {
         let nibbles = bits / 4;
         if bits % 4 != 0 || nibbles < 1 || nibbles > u64::from(most_nibbles(self.rep)) {

@@ -12,6 +12,7 @@ use Rattle.dfdl_value.specs.declared.value.Value.{Value}
 use Rattle.dfdl_value.specs.declared.value.Value.TheVariants.{Int, Uns, Dec}
 use Rattle.dfdl_int_binary.specs.Signed.{signed_of, pattern_of}
 use Rattle.dfdl_forms.specs.Binary.{IsNumberSize}
+use Rattle.dfdl_forms.specs.BinaryNumbers.{IsTruthForm}
 use Rattle.dfdl_int_binary.specs.Integers.{scaled_of, pattern_if, value_in, number_in}
 use Rattle.dfdl_forms.specs.declared.binary.BitTruthForm.{BitTruthForm}
 use Rattle.dfdl_int_binary.specs.Truths.{DiffersInNumber, truth_reading, truth_writing, true_number, held_in, inverted_in}
@@ -89,17 +90,17 @@ inverted_back bits m n some e =
     let whole : 2 ^ bits ≡ 2 ^ (bits - 1) + 2 ^ (bits - 1) = halves bits some in
     λ same. omega (arith, held.1)
 
-pub truth_back : (form : BitTruthForm) (truth : Bool) (n : ℕ) → DiffersInNumber form
+pub truth_back : (form : BitTruthForm) (truth : Bool) (n : ℕ) → IsTruthForm form → DiffersInNumber form
     → truth_writing form truth ≡ Some n → truth_reading form n ≡ Some truth
-truth_back form false n differs e =
+truth_back form false n is differs e =
     let same : nat_eq n form.falsity ≡ true = eq-eqb _ _ (sym (held_back form.bits form.falsity n e)) in
     rw same refl
-truth_back form true n differs e = by_number form.truth refl e
+truth_back form true n is differs e = by_number form.truth refl e
   where
     by_number : (number : Option ℕ) → form.truth ≡ number → true_number number form.bits form.falsity ≡ Some n
         → truth_reading form n ≡ Some true
     by_number None told h =
-        let other : nat_eq n form.falsity ≡ false = ne_eqb _ _ (inverted_back form.bits form.falsity n form.some h) in
+        let other : nat_eq n form.falsity ≡ false = ne_eqb _ _ (inverted_back form.bits form.falsity n is.0 h) in
         rw (other, told) refl
     by_number (Some t) told h =
         let same : t ≡ n = held_back form.bits t n h in

@@ -2,6 +2,7 @@
 ghost use Rattle.std.specs.Prelude.{◌≡◌, ◌+◌, ◌-◌, ◌*◌, ◌^◌, ◌<◌, ◌≤◌, ◌↔◌, Some, None, length, IfSome, IsErr, OnOk, OnErr};
 ghost use Rattle.std.specs.Option.{SomeIff};
 ghost use Rattle.std.specs.Result.{result_ok};
+ghost use Rattle.dfdl_forms.specs.BinaryNumbers.{IsTruthForm};
 ghost use Rattle.dfdl_bits.specs.Bits.{KeepsOutside};
 ghost use Rattle.dfdl_int_binary.specs.Truths.{truth_field_of, truth_reading, truth_writing, held_in, inverted_in};
 
@@ -11,6 +12,7 @@ use dfdl_forms::{BitTruthForm, NoFit, NoTruth};
 
 /// Reads the boolean whose field begins at bit `bit`.
 pub fn read_truth(bytes: &[u8], bit: u64, form: &BitTruthForm) -> Result<bool, NoTruth>
+    requires form { IsTruthForm form.now }
     requires inside { bit + form.now.bits ≤ 8 * length bytes.now }
     ensures { result_ok result ≡ truth_reading form.now (truth_field_of form.now bytes.now bit) }
 {
@@ -33,6 +35,7 @@ pub fn write_truth(
     bytes: &mut [u8],
     bit: u64,
 ) -> Result<(), NoFit>
+    requires form { IsTruthForm form.now }
     requires inside { bit + form.now.bits ≤ 8 * length bytes.old }
     ensures no_fit { IsErr result ↔ (truth_writing form.now truth ≡ None) }
     ensures number { OnOk result (truth_writing form.now truth ≡ Some (truth_field_of form.now bytes.new bit)) }
@@ -57,6 +60,7 @@ pub fn write_truth(
 
 // The number that a boolean is written as.
 fn number_of_truth(truth: bool, form: &BitTruthForm) -> Option<u32>
+    requires form { IsTruthForm form.now }
     ensures number { result ≡ truth_writing form.now truth }
     ensures fits { IfSome result (λ number. number < 2 ^ form.now.bits) }
 {

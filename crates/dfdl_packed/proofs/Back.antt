@@ -2,6 +2,7 @@
 use Rattle.std.proofs.Common.{◌≡◌, ℕ, ◌+◌, ◌-◌, ◌*◌, ◌^◌, ◌<◌, ◌≤◌, max, ℤ, pos, negsuc, ◌*ℤ◌, unsigned_abs, Bool, true, false, cond, nat_le, List, Option, Some, None, Ok, refl, ap, sym, ◌∙◌, arith}
 use Rattle.std.proofs.lemmas.Int.{unsigned_abs-mul, ints}
 use Rattle.std.proofs.Math.Nat.{le_trans, pow-le-pow_right}
+use Rattle.dfdl_forms.specs.BinaryNumbers.{IsPackedForm}
 use Rattle.dfdl_forms.specs.Types.{form_of, HasFewBits}
 use Rattle.dfdl_forms.proofs.KindLemmas.{few_bits}
 use Rattle.dfdl_value.specs.Types.{IsOfType, HasForm}
@@ -22,21 +23,21 @@ use Rattle.dfdl_packed.proofs.PackedBack.{FitsKind, fits_kind, packed_back, bcd_
 use Rattle.dfdl_packed.proofs.ScaledLemmas.{small_product}
 use Rattle.dfdl_packed.proofs.ZonedBack.{zoned_back}
 
-number_back : (form : PackedForm) (rep : PackedRep) (z : ℤ) (nibbles : List ℕ) → FitsKind (form_of form.kind) z
+number_back : (form : PackedForm) (rep : PackedRep) (z : ℤ) (nibbles : List ℕ) → IsPackedForm form → FitsKind (form_of form.kind) z
     → nibbles_by rep form z ≡ Some nibbles → number_by rep form nibbles ≡ Some (is_negative z, unsigned_abs z)
-number_back form Packed z nibbles fits e = packed_back form z nibbles form.allowed fits e
-number_back form Bcd z nibbles fits e = bcd_back form.nibbles z nibbles form.some e
-number_back form Ibm4690 z nibbles fits e = ibm_back form.nibbles z nibbles e
+number_back form Packed z nibbles is fits e = packed_back form z nibbles is.allowed fits e
+number_back form Bcd z nibbles is fits e = bcd_back form.nibbles z nibbles is.some e
+number_back form Ibm4690 z nibbles is fits e = ibm_back form.nibbles z nibbles e
 
-pub packed_law : (form : PackedForm) (value : Value) (nibbles : List ℕ) → IsOfType form.kind value
+pub packed_law : (form : PackedForm) (value : Value) (nibbles : List ℕ) → IsPackedForm form → IsOfType form.kind value
     → packed_writing form value ≡ Some nibbles → packed_reading form nibbles ≡ Ok value
-packed_law form value nibbles of e = by (integer_in (form_of form.kind) form.point value) refl e
+packed_law form value nibbles is of e = by (integer_in (form_of form.kind) form.point value) refl e
   where
     by : (o : Option ℤ) → integer_in (form_of form.kind) form.point value ≡ o → nibbles_if form o ≡ Some nibbles → packed_reading form nibbles ≡ Ok value
     by None held h = absurd cc
     by (Some z) held h =
         let fits : FitsKind (form_of form.kind) z = fits_kind (form_of form.kind) form.point value z held in
-        ap (value_if form) (number_back form form.rep z nibbles fits h)
+        ap (value_if form) (number_back form form.rep z nibbles is fits h)
         ∙ value_back (form_of form.kind) form.point value z of held
 
 -- ---- zoned

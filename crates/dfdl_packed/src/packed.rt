@@ -1,5 +1,6 @@
 // Packed decimal, BCD and IBM 4690 packed numbers.
 ghost use Rattle.std.specs.Prelude.{◌≡◌, ◌+◌, ◌*◌, ◌≤◌, ◌↔◌, Some, None, length, IsErr, OnOk, OnErr};
+ghost use Rattle.dfdl_forms.specs.BinaryNumbers.{IsPackedForm};
 ghost use Rattle.dfdl_bits.specs.Bits.{KeepsOutside};
 ghost use Rattle.dfdl_packed.specs.Packed.{nibbles_in, packed_reading, packed_writing};
 
@@ -13,6 +14,7 @@ use dfdl_value::Value;
 
 /// Reads the field that begins at bit `bit`.
 pub fn read(bytes: &[u8], bit: u64, form: &PackedForm) -> Result<Value, PackedFault>
+    requires form { IsPackedForm form.now }
     requires inside { bit + 4 * form.now.nibbles ≤ 8 * length bytes.now }
     ensures { result ≡ packed_reading form.now (nibbles_in form.now bytes.now bit) }
 {
@@ -25,6 +27,7 @@ pub fn read(bytes: &[u8], bit: u64, form: &PackedForm) -> Result<Value, PackedFa
 
 /// Writes a value into the field that begins at bit `bit`. A value that is not of the field's type doesn't fit.
 pub fn write(value: &Value, form: &PackedForm, bytes: &mut [u8], bit: u64) -> Result<(), NoFit>
+    requires form { IsPackedForm form.now }
     requires inside { bit + 4 * form.now.nibbles ≤ 8 * length bytes.old }
     ensures no_fit { IsErr result ↔ (packed_writing form.now value.now ≡ None) }
     ensures nibbles { OnOk result (packed_writing form.now value.now ≡ Some (nibbles_in form.now bytes.new bit)) }

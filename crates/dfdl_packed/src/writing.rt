@@ -1,5 +1,6 @@
 // The nibbles that a value is written as.
 ghost use Rattle.std.specs.Prelude.{◌≡◌, ◌+◌, ◌-◌, ◌^◌, ◌<◌, ◌≤◌, nat_lt, Some, ℕ, ℤ, length, IfSome, slice_index, take, drop, replicate, ◌++◌, [], ◌∷◌, ◌==◌, unsigned_abs};
+ghost use Rattle.dfdl_forms.specs.BinaryNumbers.{IsPackedForm};
 ghost use Rattle.dfdl_forms.specs.Types.{form_of};
 ghost use Rattle.dfdl_packed.specs.Digits.{padded_digits};
 ghost use Rattle.dfdl_packed.specs.Packed.{packed_writing, is_negative, nibbles_by, ibm_filled, code_in};
@@ -13,6 +14,7 @@ use dfdl_value::{Form, Value};
 
 /// The nibbles that a value is written as, at the front of the array.
 pub fn nibbles_for(value: &Value, form: &PackedForm) -> Option<[u8; MOST]>
+    requires form { IsPackedForm form.now }
     ensures nibbles { ShowsNibbles result form.now.nibbles (packed_writing form.now value.now) }
     ensures fit { IfSome result (λ nibbles. (k : ℕ) → k < form.now.nibbles → slice_index nibbles k < 16) }
 {
@@ -28,6 +30,7 @@ pub fn nibbles_for(value: &Value, form: &PackedForm) -> Option<[u8; MOST]>
 
 // Digits, and a sign in the last nibble.
 fn packed(number: Scaled, form: &PackedForm) -> Option<[u8; MOST]>
+    requires form { IsPackedForm form.now }
     ensures nibbles { (z : ℤ) → number.negative ≡ is_negative z → number.size ≡ unsigned_abs z
         → ShowsNibbles result form.now.nibbles (nibbles_by Packed form.now z) }
     ensures fit { IfSome result (λ nibbles. (k : ℕ) → slice_index nibbles k < 16) }
@@ -43,6 +46,7 @@ fn packed(number: Scaled, form: &PackedForm) -> Option<[u8; MOST]>
 
 // Digits alone.
 fn bcd(number: Scaled, form: &PackedForm) -> Option<[u8; MOST]>
+    requires form { IsPackedForm form.now }
     ensures nibbles { (z : ℤ) → number.negative ≡ is_negative z → number.size ≡ unsigned_abs z
         → ShowsNibbles result form.now.nibbles (nibbles_by Bcd form.now z) }
     ensures fit { IfSome result (λ nibbles. (k : ℕ) → slice_index nibbles k < 16) }
@@ -56,6 +60,7 @@ fn bcd(number: Scaled, form: &PackedForm) -> Option<[u8; MOST]>
 
 // Nibbles F, then a nibble D for a negative number, then digits.
 fn ibm(number: Scaled, form: &PackedForm) -> Option<[u8; MOST]>
+    requires form { IsPackedForm form.now }
     ensures nibbles { (z : ℤ) → number.negative ≡ is_negative z → number.size ≡ unsigned_abs z
         → ShowsNibbles result form.now.nibbles (nibbles_by Ibm4690 form.now z) }
     ensures fit { IfSome result (λ nibbles. (k : ℕ) → slice_index nibbles k < 16) }
@@ -108,6 +113,7 @@ fn places_of(nibble: u8) -> [u8; MOST]
 
 #[tactic(auto, using(crate::proofs::CodeLemmas::positive_low, crate::proofs::CodeLemmas::negative_low, crate::proofs::CodeLemmas::unsigned_low, crate::proofs::CodeLemmas::zero_low,))]
 fn code(form: &PackedForm, negative: bool, is_zero: bool) -> u8
+    requires form { IsPackedForm form.now }
     ensures low { result < 16 }
     ensures code { (z : ℤ) → negative ≡ is_negative z → is_zero ≡ (unsigned_abs z == 0)
         → result ≡ code_in (form_of form.now.kind) form.now.codes z }

@@ -10,9 +10,9 @@ returns-clause-nibbles c = λ z negative size.
     let count : ℕ = c.args.form.now.nibbles in
     let len : ℕ = count - 1 in
     let places : List ℕ = set c.places_of-nibbles.result len c.code.result in
-    let all : len + 1 ≡ count = omega (arith, c.args.form.now.some) in
+    let all : len + 1 ≡ count = omega (arith, c.requires.form.some) in
     let none : len - 0 ≡ len = omega arith in
-    let inside : len < length c.places_of-nibbles.result = omega (arith, c.args.form.now.short, c.places_of-nibbles.ensures.long) in
+    let inside : len < length c.places_of-nibbles.result = omega (arith, c.requires.form.short, c.places_of-nibbles.ensures.long) in
     let within : len < length places = omega (arith, length-set c.places_of-nibbles.result len c.code.result) in
     let room : nat_lt (unsigned_abs z) (10 ^ len) ≡ true = rw (← size, ← none) (sym c.fill.ensures.all ∙ c.if-not-fill.false) in
     let code : c.code.result ≡ code_in (form_of c.args.form.now.kind) c.args.form.now.codes z = c.code.ensures.code z negative (c.is_zero.ensures ∙ rw size refl) in
@@ -26,5 +26,5 @@ returns-clause-nibbles c = λ z negative size.
 
 pub returns-clause-fit : goal.returns-clause-fit
 returns-clause-fit c = λ k.
-    let inside : c.args.form.now.nibbles - 1 < length c.places_of-nibbles.result = omega (arith, c.args.form.now.short, c.args.form.now.some, c.places_of-nibbles.ensures.long) in
+    let inside : c.args.form.now.nibbles - 1 < length c.places_of-nibbles.result = omega (arith, c.requires.form.short, c.requires.form.some, c.places_of-nibbles.ensures.long) in
     c.fill.ensures.low k (set_low c.places_of-nibbles.result (c.args.form.now.nibbles - 1) c.code.result k inside c.code.ensures.low (c.places_of-nibbles.ensures.low k))

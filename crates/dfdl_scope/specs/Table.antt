@@ -88,7 +88,7 @@ property_table =
     ∷ row (codes "textBooleanTrueRep") (Formed form.Literals) (Else (codes "true"))
     ∷ row (codes "textBooleanFalseRep") (Formed form.Literals) (Else (codes "false"))
     ∷ row (codes "binaryBooleanTrueRep") (Formed form.NumberOrEmpty) (Else (codes ""))
-    ∷ row (codes "binaryBooleanFalseRep") (Formed form.Number) (Else (codes "0"))
+    ∷ row (codes "binaryBooleanFalseRep") (Formed form.NumberOrEmpty) (Else (codes "0"))
     ∷ row (codes "binaryNumberRep") (Words (codes "binary" ∷ codes "packed" ∷ codes "bcd" ∷ codes "ibm4690Packed" ∷ [])) Missing
     ∷ row (codes "binaryPackedSignCodes") (Formed form.SignCodes) (Else (codes "C D F C"))
     ∷ row (codes "binaryNumberCheckPolicy") (Words (codes "strict" ∷ codes "lax" ∷ [])) (Else (codes "lax"))

@@ -291,7 +291,7 @@ static PROPERTIES: [PropertyRow; 63] = [
     },
     PropertyRow {
         name: "binaryBooleanFalseRep",
-        values: Values::Form(Form::Number),
+        values: Values::Form(Form::NumberOrEmpty),
         absent: Absence::Value("0"),
     },
     PropertyRow {

@@ -2,6 +2,7 @@
 // Numbers, nibbles and characters were made by Python: `random.Random(20261127)`, and
 // `str(abs(value)).rjust(..)` with the sign added.
 ghost use Rattle.std.specs.Prelude.{◌≡◌, ◌≤◌, IfSome};
+ghost use Rattle.dfdl_forms.specs.BinaryNumbers.{IsPackedForm};
 
 use crate::slow_digits::{digit_char, digit_of, followed, front};
 use PackedRep::{Bcd, Ibm4690, Packed};
@@ -206,7 +207,8 @@ fn slow_char(rep: PackedRep, negative: bool, size: u128, behind: usize) -> u8 {
 }
 
 fn form_of(rep: PackedRep, nibbles: u8) -> Option<PackedForm>
-    ensures { IfSome result (λ form. form.nibbles ≡ nibbles) }
+    ensures form { IfSome result IsPackedForm }
+    ensures nibbles { IfSome result (λ form. form.nibbles ≡ nibbles) }
 {
     let one = PackedForm {
         nibbles: 1,

@@ -1,5 +1,6 @@
 // Fields written by a COBOL compiler, and fields that say what is refused.
 ghost use Rattle.std.specs.Prelude.{◌≡◌, ◌≤◌};
+ghost use Rattle.dfdl_forms.specs.BinaryNumbers.{IsPackedForm};
 ghost use Rattle.dfdl_forms.specs.Packed.{most_nibbles};
 
 use crate::size::{long_size_of, size_of};
@@ -121,6 +122,7 @@ fn packed(nibbles: u32, rep: PackedRep, strict: bool, kind: Simple) -> PackedFor
     requires some { 1 ≤ nibbles }
     requires few { nibbles ≤ most_nibbles rep }
     requires short { nibbles ≤ 39 }
+    ensures form { IsPackedForm result }
     ensures nibbles { result.nibbles ≡ nibbles }
     ensures kind { result.kind ≡ kind }
 {

@@ -24,6 +24,9 @@ fn nodes_are_added_and_read(rt: HostRuntime) -> Result<(), Fail> {
     assert_eq!(rt; region.get(0).content, Content::Complex);
     region.set_content(0, Content::Signed(-2));
     assert_eq!(rt; region.get(0).content, Content::Signed(-2));
+    region.set_content(1, Content::Truth(true));
+    assert_eq!(rt; region.get(1).content, Content::Truth(true));
+    region.set_content(1, child.content);
     assert_eq!(rt; region.nodes()[1], child);
     region.clear();
     assert_eq!(rt; region.count(), 0);

@@ -4,7 +4,7 @@ use Rattle.std.specs.List.{flat_map}
 use Rattle.std.proofs.lemmas.Bool.{cases_lt}
 use Rattle.std.proofs.lemmas.List.Elements.{All-cons, All-nil, All-append}
 use Rattle.dfdl_terms.specs.declared.row.Row.{Row}
-use Rattle.dfdl_terms.specs.declared.row.Row.TheVariants.{Leaf, Elem, Group}
+use Rattle.dfdl_terms.specs.declared.row.Row.TheVariants.{Leaf, Elem, Group, Skip, Align}
 use Rattle.dfdl_terms.specs.Rows.{IsElementRow, Table}
 use Rattle.dfdl_json.specs.ByRows.{below}
 use Rattle.dfdl_json.specs.Children.{declared_by, elements_in}
@@ -54,6 +54,8 @@ by_kind : (t : Table) (row : ℕ) (r : Option Row) → slice_get t.rows row ≡ 
     → AreBelow t row (declared_by (below declared_by [] t.rows row) row r) (steps_by (below steps_by 0 t.rows row) row r)
 by_kind t row None is each = record { within = All-nil (λ c. c < suc row); few = omega arith; elements = All-nil (λ c. IsElementRow (slice_get t.rows c)) }
 by_kind t row (Some (Leaf prim)) is each = record { within = All-nil (λ c. c < suc row); few = omega arith; elements = All-nil (λ c. IsElementRow (slice_get t.rows c)) }
+by_kind t row (Some (Skip bits)) is each = record { within = All-nil (λ c. c < suc row); few = omega arith; elements = All-nil (λ c. IsElementRow (slice_get t.rows c)) }
+by_kind t row (Some (Align bits)) is each = record { within = All-nil (λ c. c < suc row); few = omega arith; elements = All-nil (λ c. IsElementRow (slice_get t.rows c)) }
 by_kind t row (Some (Elem name simple body)) is each = record {
   within = All-cons (λ c. c < suc row) row [] (omega arith) (All-nil (λ c. c < suc row));
   few = omega (arith, row_is steps_by 0 t.rows row (Some (Elem name simple body)) is);
@@ -77,6 +79,8 @@ are_below t row =
 some_by : (inside : ℕ → ℕ) (row : ℕ) (r : Option Row) → 1 ≤ steps_by inside row r
 some_by inside row None = omega arith
 some_by inside row (Some (Leaf prim)) = omega arith
+some_by inside row (Some (Skip bits)) = omega arith
+some_by inside row (Some (Align bits)) = omega arith
 some_by inside row (Some (Elem name simple body)) = omega arith
 some_by inside row (Some (Group children)) = omega arith
 

@@ -6,7 +6,7 @@ use Rattle.serde_json.specs.Data.{Data, null, boolean, number, string, array, ob
 use Rattle.serde_json.specs.Find.{get_member}
 use Rattle.serde_json.specs.declared.value.Value.{Value}
 use Rattle.dfdl_forms.specs.declared.simple.Simple.{Simple}
-use Rattle.dfdl_terms.specs.declared.row.Row.TheVariants.{Leaf, Elem, Group}
+use Rattle.dfdl_terms.specs.declared.row.Row.TheVariants.{Leaf, Elem, Group, Skip, Align}
 use Rattle.dfdl_terms.specs.declared.event.Event.TheVariants.{Start, End}
 use Rattle.dfdl_terms.specs.Rows.{Table}
 use Rattle.dfdl_json.specs.ByRows.{below}
@@ -57,6 +57,12 @@ module _ (t : Table) (row : ℕ) (content : Data) (around : Names) where
 
   pub leaf_says : (prim : ℕ) → slice_get t.rows row ≡ Some (Leaf prim) → findings t row content around ≡ []
   leaf_says prim is = ap (λ f. f content around) (row_is (findings_by t) (λ c a. []) t.rows row (Some (Leaf prim)) is)
+
+  pub skip_says : (bits : ℕ) → slice_get t.rows row ≡ Some (Skip bits) → findings t row content around ≡ []
+  skip_says bits is = ap (λ f. f content around) (row_is (findings_by t) (λ c a. []) t.rows row (Some (Skip bits)) is)
+
+  pub align_says : (bits : ℕ) → slice_get t.rows row ≡ Some (Align bits) → findings t row content around ≡ []
+  align_says bits is = ap (λ f. f content around) (row_is (findings_by t) (λ c a. []) t.rows row (Some (Align bits)) is)
 
   pub group_says : (children : List ℕ) → slice_get t.rows row ≡ Some (Group children) → findings t row content around ≡ []
   group_says children is = ap (λ f. f content around) (row_is (findings_by t) (λ c a. []) t.rows row (Some (Group children)) is)
@@ -137,14 +143,9 @@ module _ (t : Table) (row : ℕ) (content : Data) (around : Names) (found : Foun
   complex_comes name body now is less now_is =
       now_is ∙ says_then (complex_findings t (findings t) row (elements_in t body) (name ∷ around) content) (complex_says t row content around name body is less)
 
-  pub leaf_comes : (prim : ℕ) → slice_get t.rows row ≡ Some (Leaf prim) → Comes (fold noted found (coming t tasks contents around))
-  leaf_comes prim is = says_then [] (leaf_says t row content around prim is)
-
-  pub group_comes : (children : List ℕ) → slice_get t.rows row ≡ Some (Group children) → Comes (fold noted found (coming t tasks contents around))
-  group_comes children is = says_then [] (group_says t row content around children is)
-
-  pub no_row_comes : slice_get t.rows row ≡ None → Comes (fold noted found (coming t tasks contents around))
-  no_row_comes is = says_then [] (no_row_says t row content around is)
+  -- of a row that says nothing
+  pub bare_comes : findings t row content around ≡ [] → Comes (fold noted found (coming t tasks contents around))
+  bare_comes none = says_then [] none
 
 -- the same tasks are left, and a row less
 pub less_left : (t : Table) (row : ℕ) (tasks : List Task) → steps_left t tasks < steps_of t row + steps_left t tasks

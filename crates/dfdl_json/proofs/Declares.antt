@@ -5,7 +5,7 @@ use Rattle.std.proofs.lemmas.Grind.{flat_map-append}
 use Rattle.std.proofs.lemmas.List.{append-nil}
 use Rattle.dfdl_forms.specs.declared.simple.Simple.{Simple}
 use Rattle.dfdl_terms.specs.declared.row.Row.{Row}
-use Rattle.dfdl_terms.specs.declared.row.Row.TheVariants.{Leaf, Elem, Group}
+use Rattle.dfdl_terms.specs.declared.row.Row.TheVariants.{Leaf, Elem, Group, Skip, Align}
 use Rattle.dfdl_terms.specs.Rows.{Table, ChildrenBelow}
 use Rattle.dfdl_json.specs.ByRows.{below}
 use Rattle.dfdl_json.specs.Children.{declared_by, elements_in}
@@ -18,6 +18,12 @@ module _ (t : Table) (row : ℕ) where
 
   pub leaf_declares : (prim : ℕ) → slice_get t.rows row ≡ Some (Leaf prim) → elements_in t row ≡ []
   leaf_declares prim is = row_is declared_by [] t.rows row (Some (Leaf prim)) is
+
+  pub skip_declares : (bits : ℕ) → slice_get t.rows row ≡ Some (Skip bits) → elements_in t row ≡ []
+  skip_declares bits is = row_is declared_by [] t.rows row (Some (Skip bits)) is
+
+  pub align_declares : (bits : ℕ) → slice_get t.rows row ≡ Some (Align bits) → elements_in t row ≡ []
+  align_declares bits is = row_is declared_by [] t.rows row (Some (Align bits)) is
 
   pub elem_declares : (name : List ℕ) (simple : Option Simple) (body : ℕ) → slice_get t.rows row ≡ Some (Elem name simple body) → elements_in t row ≡ row ∷ []
   elem_declares name simple body is = row_is declared_by [] t.rows row (Some (Elem name simple body)) is
@@ -33,6 +39,12 @@ module _ (t : Table) (row : ℕ) where
 
   pub leaf_steps : (prim : ℕ) → slice_get t.rows row ≡ Some (Leaf prim) → steps_of t row ≡ 1
   leaf_steps prim is = row_is steps_by 0 t.rows row (Some (Leaf prim)) is
+
+  pub skip_steps : (bits : ℕ) → slice_get t.rows row ≡ Some (Skip bits) → steps_of t row ≡ 1
+  skip_steps bits is = row_is steps_by 0 t.rows row (Some (Skip bits)) is
+
+  pub align_steps : (bits : ℕ) → slice_get t.rows row ≡ Some (Align bits) → steps_of t row ≡ 1
+  align_steps bits is = row_is steps_by 0 t.rows row (Some (Align bits)) is
 
   pub elem_steps : (name : List ℕ) (simple : Option Simple) (body : ℕ) → slice_get t.rows row ≡ Some (Elem name simple body) → body < row
       → steps_of t row ≡ 2 + steps_of t body
@@ -103,19 +115,12 @@ module _ (t : Table) (row : ℕ) (elements left : List ℕ) where
       = ap (λ xs. total (map (steps_of t) xs)) now_is ∙ total_both (steps_of t) children left in
       omega (arith, both, group_steps t row children is below_row)
 
-  pub leaf_visited : (prim : ℕ) → slice_get t.rows row ≡ Some (Leaf prim)
-      → elements ++ flat_map (elements_in t) left ≡ elements ++ (elements_in t row ++ flat_map (elements_in t) left)
-  leaf_visited prim is = ap (λ xs. elements ++ (xs ++ flat_map (elements_in t) left)) (sym (leaf_declares t row prim is))
+  -- of a row that declares nothing
+  pub bare_visited : elements_in t row ≡ [] → elements ++ flat_map (elements_in t) left ≡ elements ++ (elements_in t row ++ flat_map (elements_in t) left)
+  bare_visited none = ap (λ xs. elements ++ (xs ++ flat_map (elements_in t) left)) (sym none)
 
-  pub no_row_visited : slice_get t.rows row ≡ None
-      → elements ++ flat_map (elements_in t) left ≡ elements ++ (elements_in t row ++ flat_map (elements_in t) left)
-  no_row_visited is = ap (λ xs. elements ++ (xs ++ flat_map (elements_in t) left)) (sym (no_row_declares t row is))
-
-  pub leaf_less : (prim : ℕ) → slice_get t.rows row ≡ Some (Leaf prim) → total (map (steps_of t) left) < steps_of t row + total (map (steps_of t) left)
-  leaf_less prim is = omega (arith, leaf_steps t row prim is)
-
-  pub no_row_less : slice_get t.rows row ≡ None → total (map (steps_of t) left) < steps_of t row + total (map (steps_of t) left)
-  no_row_less is = omega (arith, no_row_steps t row is)
+  pub bare_less : steps_of t row ≡ 1 → total (map (steps_of t) left) < steps_of t row + total (map (steps_of t) left)
+  bare_less one = omega (arith, one)
 
 -- the begin of the walk
 pub walk_begins : (t : Table) (id : ℕ) (elements left : List ℕ) → elements ≡ [] → left ≡ id ∷ []

@@ -10,7 +10,7 @@ use Rattle.serde_json.specs.Written.{has_float, members_have_float, compact_text
 use Rattle.serde_json.specs.declared.value.Value.{Value}
 use Rattle.dfdl_region.specs.declared.node.Node.{Node}
 use Rattle.dfdl_region.specs.declared.node.Content.{Content}
-use Rattle.dfdl_region.specs.declared.node.Content.TheVariants.{Begun, Complex, Signed, Unsigned, Decimal}
+use Rattle.dfdl_region.specs.declared.node.Content.TheVariants.{Begun, Complex, Signed, Unsigned, Decimal, Truth}
 use Rattle.dfdl_terms.specs.Rows.{Table}
 use Rattle.dfdl_json.specs.Children.{name_of}
 use Rattle.dfdl_json.specs.Inside.{HaveMembers, put_if}
@@ -56,6 +56,7 @@ data-no_float : (content : Content) (entries : Members) → members_have_float e
 data-no_float (Signed z) entries none = refl
 data-no_float (Unsigned n) entries none = refl
 data-no_float (Decimal d) entries none = refl
+data-no_float (Truth truth) entries none = refl
 data-no_float Complex entries none = none
 data-no_float Begun entries none = none
 

@@ -2,12 +2,12 @@
 use Rattle.std.specs.Prelude.{ℕ, ◌+◌, nat_eq, if◌then◌else◌, List, [], ◌∷◌, ◌++◌}
 use Rattle.serde_json.specs.Data.{Data, string, object, Members, no_members, put}
 use Rattle.serde_json.specs.Written.{compact_text}
-use Rattle.dfdl_value.specs.declared.value.Value.TheVariants.{Int, Uns, Dec}
+use Rattle.dfdl_value.specs.declared.value.Value.TheVariants.{Int, Uns, Dec, Truth as TruthValue}
 use Rattle.dfdl_value.specs.Writing.{text_of}
 use Rattle.dfdl_terms.specs.Rows.{Table}
 use Rattle.dfdl_region.specs.declared.node.Node.{Node}
 use Rattle.dfdl_region.specs.declared.node.Content.{Content}
-use Rattle.dfdl_region.specs.declared.node.Content.TheVariants.{Begun, Complex, Signed, Unsigned, Decimal}
+use Rattle.dfdl_region.specs.declared.node.Content.TheVariants.{Begun, Complex, Signed, Unsigned, Decimal, Truth}
 use Rattle.dfdl_json.specs.Children.{name_of}
 
 -- the data of an element with this content: a value is its text, and another element, read to its end or not, has a
@@ -16,6 +16,7 @@ abbrev pub data_of : Content → Members → Data
 data_of (Signed number) entries = string (text_of (Int number))
 data_of (Unsigned number) entries = string (text_of (Uns number))
 data_of (Decimal number) entries = string (text_of (Dec number))
+data_of (Truth truth) entries = string (text_of (TruthValue truth))
 data_of Complex entries = object entries
 data_of Begun entries = object entries
 

@@ -71,6 +71,8 @@ fn visit(
         }
         Some(Row::Group { children }) => push_all(left, children.as_slice()),
         Some(Row::Leaf { .. }) => Ok(()),
+        Some(Row::Skip { .. }) => Ok(()),
+        Some(Row::Align { .. }) => Ok(()),
         None => Ok(()),
     }
 }

@@ -126,6 +126,7 @@ fn value_with(
         Content::Signed(number) => Ok(Json::String(number.to_string(alloc)?)),
         Content::Unsigned(number) => Ok(Json::String(number.to_string(alloc)?)),
         Content::Decimal(number) => Ok(Json::String(decimal_text(alloc, number)?)),
+        Content::Truth(truth) => Ok(Json::String(truth.to_string(alloc)?)),
         Content::Complex => Ok(Json::Object(members)),
         Content::Begun => Ok(Json::Object(members)),
     }

@@ -135,6 +135,8 @@ impl<'t, 'v> Reading<'t, 'v> {
             },
             Some(Row::Leaf { .. }) => Ok(()),
             Some(Row::Group { .. }) => Ok(()),
+            Some(Row::Skip { .. }) => Ok(()),
+            Some(Row::Align { .. }) => Ok(()),
             None => Ok(()),
         }
     }

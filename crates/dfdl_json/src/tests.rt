@@ -1,4 +1,4 @@
-// Infosets of `r`, which has `a` with `x` and, in a group inside, `y`, and behind `a` the number `b`.
+// Infosets of `r`, which has `a` with `x` and, in a group inside, `y`, and behind `a` and fill the number `b`.
 ghost use Rattle.std.specs.Prelude.{◌≡◌, ◌≤◌, IfOk};
 ghost use Rattle.dfdl_forms.specs.Types.{form_of};
 ghost use Rattle.dfdl_forms.specs.Binary.{most_bits};
@@ -47,7 +47,7 @@ fn group(alloc: Global, children: &[RowId]) -> Result<Row, AllocError>
     })
 }
 
-// The row 8 is the root element.
+// The row 9 is the root element.
 fn nested(alloc: Global) -> Result<Terms, Fail>
     ensures { IfOk result HasElementLast }
 {
@@ -60,8 +60,9 @@ fn nested(alloc: Global) -> Result<Terms, Fail>
         group(alloc, &[RowId::new(1), RowId::new(3)])?,
         element(alloc, "a", None, 4)?,
         element(alloc, "b", byte, 0)?,
-        group(alloc, &[RowId::new(5), RowId::new(6)])?,
-        element(alloc, "r", None, 7)?,
+        Row::Skip { bits: 8 },
+        group(alloc, &[RowId::new(5), RowId::new(7), RowId::new(6)])?,
+        element(alloc, "r", None, 8)?,
     ]?;
     let forms = vec![in alloc; form(8, Simple::UnsignedByte)]?;
     Ok(Terms::build(alloc, rows, Tables::new(forms))?)
@@ -157,7 +158,7 @@ fn node(element: u32, parent: u32, content: Content) -> Node {
 fn the_members_of_a_line_are_in_the_order_of_their_names(rt: HostRuntime) -> Result<(), Fail> {
     let terms = nested(rt.alloc())?;
     let nodes = [
-        node(8, 0, Content::Complex),
+        node(9, 0, Content::Complex),
         node(6, 0, Content::Unsigned(3)),
         node(5, 0, Content::Complex),
         node(2, 2, Content::Unsigned(2)),
@@ -175,7 +176,7 @@ fn the_members_of_a_line_are_in_the_order_of_their_names(rt: HostRuntime) -> Res
 fn numbers_of_a_line_are_in_plain_decimal_digits(rt: HostRuntime) -> Result<(), Fail> {
     let terms = nested(rt.alloc())?;
     let nodes = [
-        node(8, 0, Content::Complex),
+        node(9, 0, Content::Complex),
         node(5, 0, Content::Complex),
         node(1, 1, Content::Signed(-2)),
         node(2, 1, Content::Decimal(Fixed::new(-1234, 2))),
@@ -185,6 +186,23 @@ fn numbers_of_a_line_are_in_plain_decimal_digits(rt: HostRuntime) -> Result<(), 
     assert_eq!(rt;
         line.as_str(),
         "{\"r\":{\"a\":{\"x\":\"-2\",\"y\":\"-12.34\"},\"b\":\"5\"}}\n"
+    );
+    Ok(())
+}
+
+#[test]
+fn booleans_of_a_line_are_true_and_false(rt: HostRuntime) -> Result<(), Fail> {
+    let terms = nested(rt.alloc())?;
+    let nodes = [
+        node(9, 0, Content::Complex),
+        node(5, 0, Content::Complex),
+        node(1, 1, Content::Truth(true)),
+        node(2, 1, Content::Truth(false)),
+    ];
+    let line = line_of(rt.alloc(), &terms, &nodes)?;
+    assert_eq!(rt;
+        line.as_str(),
+        "{\"r\":{\"a\":{\"x\":\"true\",\"y\":\"false\"}}}\n"
     );
     Ok(())
 }

@@ -1,4 +1,4 @@
-use Rattle.dfdl_json.proofs.Declares.{there, on_ok, below_elem, below_group, elem_visited, elem_less, group_visited, group_less, leaf_visited, leaf_less, no_row_visited, no_row_less}
+use Rattle.dfdl_json.proofs.Declares.{there, on_ok, below_elem, below_group, elem_visited, elem_less, group_visited, group_less, bare_visited, bare_less, leaf_declares, leaf_steps, skip_declares, skip_steps, align_declares, align_steps, no_row_declares, no_row_steps}
 use Rattle.std.proofs.Common.{sym, ◌∙◌, ap, [], ◌++◌}
 use Rattle.dfdl_json.proofs.children.visit.Goals as goal
 
@@ -22,14 +22,30 @@ returns-in-Some-Group-clause-less c = on_ok c.push_all.result _ _ c.push_all.ens
 
 pub returns-in-Some-Leaf-clause-same : goal.returns-in-Some-Leaf-clause-same
 returns-in-Some-Leaf-clause-same c =
-    leaf_visited c.args.terms.now c.args.row _ _ _ (there _ _ _ c.in-Some-Leaf.ensures.row c.in-Some-Leaf.field-0-is)
+    bare_visited c.args.terms.now c.args.row _ _ (leaf_declares c.args.terms.now c.args.row _ (there _ _ _ c.in-Some-Leaf.ensures.row c.in-Some-Leaf.field-0-is))
 
 pub returns-in-Some-Leaf-clause-less : goal.returns-in-Some-Leaf-clause-less
 returns-in-Some-Leaf-clause-less c =
-    leaf_less c.args.terms.now c.args.row [] _ _ (there _ _ _ c.in-Some-Leaf.ensures.row c.in-Some-Leaf.field-0-is)
+    bare_less c.args.terms.now c.args.row [] _ (leaf_steps c.args.terms.now c.args.row _ (there _ _ _ c.in-Some-Leaf.ensures.row c.in-Some-Leaf.field-0-is))
+
+pub returns-in-Some-Skip-clause-same : goal.returns-in-Some-Skip-clause-same
+returns-in-Some-Skip-clause-same c =
+    bare_visited c.args.terms.now c.args.row _ _ (skip_declares c.args.terms.now c.args.row _ (there _ _ _ c.in-Some-Skip.ensures.row c.in-Some-Skip.field-0-is))
+
+pub returns-in-Some-Skip-clause-less : goal.returns-in-Some-Skip-clause-less
+returns-in-Some-Skip-clause-less c =
+    bare_less c.args.terms.now c.args.row [] _ (skip_steps c.args.terms.now c.args.row _ (there _ _ _ c.in-Some-Skip.ensures.row c.in-Some-Skip.field-0-is))
+
+pub returns-in-Some-Align-clause-same : goal.returns-in-Some-Align-clause-same
+returns-in-Some-Align-clause-same c =
+    bare_visited c.args.terms.now c.args.row _ _ (align_declares c.args.terms.now c.args.row _ (there _ _ _ c.in-Some-Align.ensures.row c.in-Some-Align.field-0-is))
+
+pub returns-in-Some-Align-clause-less : goal.returns-in-Some-Align-clause-less
+returns-in-Some-Align-clause-less c =
+    bare_less c.args.terms.now c.args.row [] _ (align_steps c.args.terms.now c.args.row _ (there _ _ _ c.in-Some-Align.ensures.row c.in-Some-Align.field-0-is))
 
 pub returns-in-None-clause-same : goal.returns-in-None-clause-same
-returns-in-None-clause-same c = no_row_visited c.args.terms.now c.args.row _ _ (sym c.in-None.ensures.row)
+returns-in-None-clause-same c = bare_visited c.args.terms.now c.args.row _ _ (no_row_declares c.args.terms.now c.args.row (sym c.in-None.ensures.row))
 
 pub returns-in-None-clause-less : goal.returns-in-None-clause-less
-returns-in-None-clause-less c = no_row_less c.args.terms.now c.args.row [] _ (sym c.in-None.ensures.row)
+returns-in-None-clause-less c = bare_less c.args.terms.now c.args.row [] _ (no_row_steps c.args.terms.now c.args.row (sym c.in-None.ensures.row))

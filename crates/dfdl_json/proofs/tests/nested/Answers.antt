@@ -17,25 +17,26 @@ group_named n row children is = rw is tt
 all_at : {A : Type 0} (P : A → Type 0) (xs ys : List A) → xs ≡ ys → All P ys → All P xs
 all_at P xs ys same all = rw same all
 
-last_there : (t : Table) (rows : List Row) (forms : List Primitive) (q0 q1 q2 q3 q4 q5 q6 q7 r : Row) (x : List ℕ) (s : Option Simple) (i : ℕ)
-    → t ≡ record { rows = rows; primitives = forms } → rows ≡ q0 ∷ q1 ∷ q2 ∷ q3 ∷ q4 ∷ q5 ∷ q6 ∷ q7 ∷ r ∷ [] → r ≡ Elem x s i → HasElementLast t
-last_there t rows forms q0 q1 q2 q3 q4 q5 q6 q7 r x s i t_is rows_are r_is = rw (t_is, rows_are, r_is) tt
+last_there : (t : Table) (rows : List Row) (forms : List Primitive) (q0 q1 q2 q3 q4 q5 q6 q7 q8 r : Row) (x : List ℕ) (s : Option Simple) (i : ℕ)
+    → t ≡ record { rows = rows; primitives = forms } → rows ≡ q0 ∷ q1 ∷ q2 ∷ q3 ∷ q4 ∷ q5 ∷ q6 ∷ q7 ∷ q8 ∷ r ∷ [] → r ≡ Elem x s i → HasElementLast t
+last_there t rows forms q0 q1 q2 q3 q4 q5 q6 q7 q8 r x s i t_is rows_are r_is = rw (t_is, rows_are, r_is) tt
 
-all_nine : (P : Row → Type 0) (a b c d e f g h i : Row) → P a → P b → P c → P d → P e → P f → P g → P h → P i
-    → All P (a ∷ b ∷ c ∷ d ∷ e ∷ f ∷ g ∷ h ∷ i ∷ [])
-all_nine P a b c d e f g h i at_a at_b at_c at_d at_e at_f at_g at_h at_i =
-    All-cons P a (b ∷ c ∷ d ∷ e ∷ f ∷ g ∷ h ∷ i ∷ []) at_a (All-cons P b (c ∷ d ∷ e ∷ f ∷ g ∷ h ∷ i ∷ []) at_b (All-cons P c (d ∷ e ∷ f ∷ g ∷ h ∷ i ∷ []) at_c
-    (All-cons P d (e ∷ f ∷ g ∷ h ∷ i ∷ []) at_d (All-cons P e (f ∷ g ∷ h ∷ i ∷ []) at_e (All-cons P f (g ∷ h ∷ i ∷ []) at_f
-    (All-cons P g (h ∷ i ∷ []) at_g (All-cons P h (i ∷ []) at_h (All-cons P i [] at_i (All-nil P)))))))))
+all_ten : (P : Row → Type 0) (a b c d e f g h i j : Row) → P a → P b → P c → P d → P e → P f → P g → P h → P i → P j
+    → All P (a ∷ b ∷ c ∷ d ∷ e ∷ f ∷ g ∷ h ∷ i ∷ j ∷ [])
+all_ten P a b c d e f g h i j at_a at_b at_c at_d at_e at_f at_g at_h at_i at_j =
+    All-cons P a (b ∷ c ∷ d ∷ e ∷ f ∷ g ∷ h ∷ i ∷ j ∷ []) at_a (All-cons P b (c ∷ d ∷ e ∷ f ∷ g ∷ h ∷ i ∷ j ∷ []) at_b
+    (All-cons P c (d ∷ e ∷ f ∷ g ∷ h ∷ i ∷ j ∷ []) at_c (All-cons P d (e ∷ f ∷ g ∷ h ∷ i ∷ j ∷ []) at_d
+    (All-cons P e (f ∷ g ∷ h ∷ i ∷ j ∷ []) at_e (All-cons P f (g ∷ h ∷ i ∷ j ∷ []) at_f (All-cons P g (h ∷ i ∷ j ∷ []) at_g
+    (All-cons P h (i ∷ j ∷ []) at_h (All-cons P i (j ∷ []) at_i (All-cons P j [] at_j (All-nil P))))))))))
 
 pub build-requires-clause-named : goal.build-requires-clause-named
 build-requires-clause-named c =
     let P : Row → Type 0 = NamesWithin (length c.new-6.result) in
     let one : length c.new-6.result ≡ 1 = ap length (c.new-6.ensures ∙ c.in_ok-forms.ensures.items) in
     all_at P c.in_ok-rows.rows.items _ c.in_ok-rows.ensures.items
-    (all_nine P _ _ _ _ _ _ _ _ _ (rw one (lit< tt)) (element_named _ _ _ _ _ c.in_ok-element.ensures) (element_named _ _ _ _ _ c.in_ok-element-2.ensures)
+    (all_ten P _ _ _ _ _ _ _ _ _ _ (rw one (lit< tt)) (element_named _ _ _ _ _ c.in_ok-element.ensures) (element_named _ _ _ _ _ c.in_ok-element-2.ensures)
     (group_named _ _ _ c.in_ok-group.ensures) (group_named _ _ _ c.in_ok-group-2.ensures) (element_named _ _ _ _ _ c.in_ok-element-3.ensures)
-    (element_named _ _ _ _ _ c.in_ok-element-4.ensures) (group_named _ _ _ c.in_ok-group-3.ensures) (element_named _ _ _ _ _ c.in_ok-element-5.ensures))
+    (element_named _ _ _ _ _ c.in_ok-element-4.ensures) tt (group_named _ _ _ c.in_ok-group-3.ensures) (element_named _ _ _ _ _ c.in_ok-element-5.ensures))
 
 pub build-requires-clause-bounded : goal.build-requires-clause-bounded
 build-requires-clause-bounded c =
@@ -43,4 +44,4 @@ build-requires-clause-bounded c =
     (All-cons IsPrimitive c.form.result [] c.form.ensures (All-nil IsPrimitive))
 
 pub returns : goal.returns
-returns c = last_there _ c.in_ok-rows.rows.items _ _ _ _ _ _ _ _ _ _ _ _ _ c.in_ok-build.ensures.ok c.in_ok-rows.ensures.items c.in_ok-element-5.ensures
+returns c = last_there _ c.in_ok-rows.rows.items _ _ _ _ _ _ _ _ _ _ _ _ _ _ c.in_ok-build.ensures.ok c.in_ok-rows.ensures.items c.in_ok-element-5.ensures

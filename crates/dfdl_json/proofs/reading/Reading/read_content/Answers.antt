@@ -6,7 +6,7 @@ use Rattle.dfdl_json.specs.Found.{noted}
 use Rattle.dfdl_json.specs.Infosets.{simple_findings, complex_findings, findings, value_in}
 use Rattle.dfdl_json.specs.Reading.{coming, data_at}
 use Rattle.dfdl_json.proofs.Declares.{there, on_ok, on_ok_four, below_elem}
-use Rattle.dfdl_json.proofs.Contents.{left_same, simple_less, complex_less, simple_comes, complex_comes, leaf_comes, group_comes, no_row_comes, less_left}
+use Rattle.dfdl_json.proofs.Contents.{left_same, simple_less, complex_less, simple_comes, complex_comes, bare_comes, leaf_says, group_says, skip_says, align_says, no_row_says, less_left}
 use Rattle.dfdl_json.proofs.reading.Reading.read_content.Goals as goal
 
 pub returns-in-Some-clause-same : goal.returns-in-Some-clause-same
@@ -42,24 +42,45 @@ returns-in-None-simple-clause-less c = on_ok c.read_complex.result _ _ c.read_co
 
 pub returns-in-Some-Leaf-clause-same : goal.returns-in-Some-Leaf-clause-same
 returns-in-Some-Leaf-clause-same c =
-    leaf_comes c.args.terms.now c.args.row (view c.args.content.now) c.args.self.now.around c.args.self.now.found c.args.self.now.tasks.items
-    (data_at c.args.self.now.contents.items) _ (there _ _ _ c.in-Some-Leaf.ensures.row c.in-Some-Leaf.field-0-is)
+    bare_comes c.args.terms.now c.args.row (view c.args.content.now) c.args.self.now.around c.args.self.now.found c.args.self.now.tasks.items
+    (data_at c.args.self.now.contents.items)
+    (leaf_says c.args.terms.now c.args.row (view c.args.content.now) c.args.self.now.around _ (there _ _ _ c.in-Some-Leaf.ensures.row c.in-Some-Leaf.field-0-is))
 
 pub returns-in-Some-Leaf-clause-less : goal.returns-in-Some-Leaf-clause-less
 returns-in-Some-Leaf-clause-less c = less_left c.args.terms.now c.args.row c.args.self.now.tasks.items
 
 pub returns-in-Some-Group-clause-same : goal.returns-in-Some-Group-clause-same
 returns-in-Some-Group-clause-same c =
-    group_comes c.args.terms.now c.args.row (view c.args.content.now) c.args.self.now.around c.args.self.now.found c.args.self.now.tasks.items
-    (data_at c.args.self.now.contents.items) _ (there _ _ _ c.in-Some-Group.ensures.row c.in-Some-Group.field-0-is)
+    bare_comes c.args.terms.now c.args.row (view c.args.content.now) c.args.self.now.around c.args.self.now.found c.args.self.now.tasks.items
+    (data_at c.args.self.now.contents.items)
+    (group_says c.args.terms.now c.args.row (view c.args.content.now) c.args.self.now.around _ (there _ _ _ c.in-Some-Group.ensures.row c.in-Some-Group.field-0-is))
 
 pub returns-in-Some-Group-clause-less : goal.returns-in-Some-Group-clause-less
 returns-in-Some-Group-clause-less c = less_left c.args.terms.now c.args.row c.args.self.now.tasks.items
 
+pub returns-in-Some-Skip-clause-same : goal.returns-in-Some-Skip-clause-same
+returns-in-Some-Skip-clause-same c =
+    bare_comes c.args.terms.now c.args.row (view c.args.content.now) c.args.self.now.around c.args.self.now.found c.args.self.now.tasks.items
+    (data_at c.args.self.now.contents.items)
+    (skip_says c.args.terms.now c.args.row (view c.args.content.now) c.args.self.now.around _ (there _ _ _ c.in-Some-Skip.ensures.row c.in-Some-Skip.field-0-is))
+
+pub returns-in-Some-Skip-clause-less : goal.returns-in-Some-Skip-clause-less
+returns-in-Some-Skip-clause-less c = less_left c.args.terms.now c.args.row c.args.self.now.tasks.items
+
+pub returns-in-Some-Align-clause-same : goal.returns-in-Some-Align-clause-same
+returns-in-Some-Align-clause-same c =
+    bare_comes c.args.terms.now c.args.row (view c.args.content.now) c.args.self.now.around c.args.self.now.found c.args.self.now.tasks.items
+    (data_at c.args.self.now.contents.items)
+    (align_says c.args.terms.now c.args.row (view c.args.content.now) c.args.self.now.around _ (there _ _ _ c.in-Some-Align.ensures.row c.in-Some-Align.field-0-is))
+
+pub returns-in-Some-Align-clause-less : goal.returns-in-Some-Align-clause-less
+returns-in-Some-Align-clause-less c = less_left c.args.terms.now c.args.row c.args.self.now.tasks.items
+
 pub returns-in-None-clause-same : goal.returns-in-None-clause-same
 returns-in-None-clause-same c =
-    no_row_comes c.args.terms.now c.args.row (view c.args.content.now) c.args.self.now.around c.args.self.now.found c.args.self.now.tasks.items
-    (data_at c.args.self.now.contents.items) (sym c.in-None.ensures.row)
+    bare_comes c.args.terms.now c.args.row (view c.args.content.now) c.args.self.now.around c.args.self.now.found c.args.self.now.tasks.items
+    (data_at c.args.self.now.contents.items)
+    (no_row_says c.args.terms.now c.args.row (view c.args.content.now) c.args.self.now.around (sym c.in-None.ensures.row))
 
 pub returns-in-None-clause-less : goal.returns-in-None-clause-less
 returns-in-None-clause-less c = less_left c.args.terms.now c.args.row c.args.self.now.tasks.items

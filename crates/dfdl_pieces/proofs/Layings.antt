@@ -4,7 +4,7 @@ use Rattle.std.proofs.lemmas.List.Elements.{All-head, All-tail}
 use Rattle.dfdl_forms.specs.declared.simple.Simple.{Simple as SimpleType}
 use Rattle.dfdl_terms.specs.Rows.{Table}
 use Rattle.dfdl_terms.specs.declared.event.Event.{Event}
-use Rattle.dfdl_terms.specs.declared.row.Row.TheVariants.{Leaf, Elem, Group}
+use Rattle.dfdl_terms.specs.declared.row.Row.TheVariants.{Leaf, Elem, Group, Skip, Align}
 use Rattle.dfdl_json.specs.ByRows.{below}
 use Rattle.dfdl_json.specs.Paths.{Names}
 use Rattle.dfdl_json.specs.Steps.{steps_of, total}
@@ -43,6 +43,12 @@ module _ (t : Table) (row : ℕ) (around : Names) (more : Laying) where
 
   pub laid_leaf : (prim : ℕ) → slice_get t.rows row ≡ Some (Leaf prim) → laying t row around more ≡ more
   laid_leaf prim is = ap (λ (h : Names → Laying → Laying). h around more) (row_is (laying_by t) (λ a m. m) t.rows row (Some (Leaf prim)) is)
+
+  pub laid_skip : (bits : ℕ) → slice_get t.rows row ≡ Some (Skip bits) → laying t row around more ≡ more
+  laid_skip bits is = ap (λ (h : Names → Laying → Laying). h around more) (row_is (laying_by t) (λ a m. m) t.rows row (Some (Skip bits)) is)
+
+  pub laid_align : (bits : ℕ) → slice_get t.rows row ≡ Some (Align bits) → laying t row around more ≡ more
+  laid_align bits is = ap (λ (h : Names → Laying → Laying). h around more) (row_is (laying_by t) (λ a m. m) t.rows row (Some (Align bits)) is)
 
   pub laid_no_row : slice_get t.rows row ≡ None → laying t row around more ≡ more
   laid_no_row is = ap (λ (h : Names → Laying → Laying). h around more) (row_is (laying_by t) (λ a m. m) t.rows row None is)

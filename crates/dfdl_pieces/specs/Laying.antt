@@ -1,13 +1,14 @@
 -- How the pieces of the data are laid while the events of an infoset come ('DFDL Data Syntax Grammar').
-use Rattle.std.specs.Prelude.{ℕ, Bool, false, nat_eq, if◌then◌else◌, List, [], ◌∷◌, Option, None, Some, slice_get, option_map}
+use Rattle.std.specs.Prelude.{ℕ, Bool, false, nat_eq, if◌then◌else◌, List, [], ◌∷◌, Option, None, Some, slice_get}
+use Rattle.std.specs.Option.{option_and_then}
 use Rattle.dfdl_forms.specs.declared.binary.IntForm.{IntForm}
 use Rattle.dfdl_value.specs.declared.value.Value.{Value}
 use Rattle.dfdl_terms.specs.declared.event.Event.{Event}
 use Rattle.dfdl_terms.specs.declared.event.Event.TheVariants.{Start, Simple, Nil, End}
 use Rattle.dfdl_terms.specs.declared.row.Primitive.{Primitive}
-use Rattle.dfdl_terms.specs.declared.row.Primitive.TheVariants.{Integer}
+use Rattle.dfdl_terms.specs.declared.row.Primitive.TheVariants.{Integer, Packed, Truth}
 use Rattle.dfdl_terms.specs.declared.row.Row.{Row}
-use Rattle.dfdl_terms.specs.declared.row.Row.TheVariants.{Leaf, Elem, Group}
+use Rattle.dfdl_terms.specs.declared.row.Row.TheVariants.{Leaf, Elem, Group, Skip, Align}
 use Rattle.dfdl_terms.specs.Rows.{Table}
 use Rattle.dfdl_json.specs.ByRows.{by_rows}
 use Rattle.dfdl_json.specs.Children.{root_row}
@@ -26,15 +27,19 @@ pub data Laying : Type 0 where
   -- the required element of this path has no event, and no more is written
   Misses : List ℕ → Laying
 
--- the form of a primitive
-abbrev pub integer_form : Primitive → IntForm
-integer_form (Integer form) = form
+-- the form of a primitive that is a binary integer
+abbrev pub integer_form : Primitive → Option IntForm
+integer_form (Integer form) = Some form
+integer_form (Packed form) = None
+integer_form (Truth form) = None
 
 -- the form of the binary integer that a row writes
 abbrev pub form_in : Table → Option Row → Option IntForm
-form_in t (Some (Leaf prim)) = option_map integer_form (slice_get t.primitives prim)
+form_in t (Some (Leaf prim)) = option_and_then integer_form (slice_get t.primitives prim)
 form_in t (Some (Elem name simple body)) = None
 form_in t (Some (Group children)) = None
+form_in t (Some (Skip bits)) = None
+form_in t (Some (Align bits)) = None
 form_in t None = None
 
 -- the form of the binary integer that the row of this number writes
@@ -85,6 +90,8 @@ laying_by t inside row (Some (Elem name None body)) around more =
     Takes (λ event. begun_laying (name ∷ around) (inside body (name ∷ around) (Takes (λ end. more))) (begins row event))
 laying_by t inside row (Some (Group children)) around more = in_turn inside children around more
 laying_by t inside row (Some (Leaf prim)) around more = more
+laying_by t inside row (Some (Skip bits)) around more = more
+laying_by t inside row (Some (Align bits)) around more = more
 laying_by t inside row None around more = more
 
 -- how the row of this number is laid before others

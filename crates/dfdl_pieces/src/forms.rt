@@ -15,6 +15,8 @@ pub(crate) fn form_at(terms: &Terms, row: RowId) -> Option<&IntForm>
     };
     match terms.tables().primitives().get(*prim as usize) {
         Some(Primitive::Integer(form)) => Some(form),
+        Some(Primitive::Packed(_)) => None,
+        Some(Primitive::Truth(_)) => None,
         None => None,
     }
 }

@@ -2,7 +2,7 @@
 ghost use Rattle.std.specs.Prelude.{◌≡◌, IfOk};
 ghost use Rattle.dfdl_terms.specs.declared.row.Row.TheVariants.{Elem, Group};
 ghost use Rattle.dfdl_terms.specs.Rows.{HasElementLast};
-ghost use Rattle.dfdl_pieces.specs.Whole.{AreWholeFields};
+ghost use Rattle.dfdl_pieces.specs.Whole.{AreWholeFields, HasNoFill};
 
 use crate::{Unparsed, unparse};
 use dfdl_forms::{BitOrder, ByteOrder, IntForm};
@@ -46,6 +46,7 @@ fn group(alloc: Global, children: &[RowId]) -> Result<Row, AllocError>
 fn one_field(alloc: Global, bytes_by: ByteOrder) -> Result<Terms, Fail>
     ensures last { IfOk result HasElementLast }
     ensures whole { IfOk result AreWholeFields }
+    ensures no_fill { IfOk result HasNoFill }
 {
     let rows = vec![in alloc;
         Row::Leaf { prim: 0 },

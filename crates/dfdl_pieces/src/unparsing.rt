@@ -8,7 +8,7 @@ ghost use Rattle.dfdl_pieces.specs.Laying as lays;
 ghost use Rattle.dfdl_pieces.specs.Laying.{Laying, Takes};
 ghost use Rattle.dfdl_pieces.specs.declared.unparsing.Task.TheVariants.{Lay};
 ghost use Rattle.dfdl_pieces.specs.Unparsing.{IsLess, IsTyped, Moves, left, outcome, steps_left};
-ghost use Rattle.dfdl_pieces.specs.Whole.{AreWholeFields};
+ghost use Rattle.dfdl_pieces.specs.Whole.{AreWholeFields, HasNoFill};
 
 use crate::bytes::piece;
 use crate::events::{begins, next_event, value_for};
@@ -47,6 +47,7 @@ pub(crate) struct Unparser<'t> {
 /// The pieces of the values that these events of an infoset have.
 pub fn unparse(alloc: Global, terms: &Terms, events: &[Event]) -> Result<Unparsed, AllocError>
     requires whole { AreWholeFields terms.now }
+    requires no_fill { HasNoFill terms.now }
     requires fits { Fits terms.now events.now }
     ensures { IfOk result (λ unparsed. unparsed ≡ lays.unparsed_of terms.now events.now) }
 {
@@ -158,6 +159,8 @@ impl<'t> Unparser<'t> {
             },
             Some(Row::Group { children }) => self.lay_group(children.as_slice()),
             Some(Row::Leaf { .. }) => Ok(None),
+            Some(Row::Skip { .. }) => Ok(None),
+            Some(Row::Align { .. }) => Ok(None),
             None => Ok(None),
         }
     }

@@ -11,7 +11,7 @@ use Rattle.dfdl_terms.specs.declared.row.Row.{Row}
 use Rattle.dfdl_terms.specs.declared.row.Row.TheVariants.{Leaf, Elem, Group}
 use Rattle.dfdl_terms.specs.Rows.{HasElementLast, IsPrimitive, NamesWithin, Table}
 use Rattle.dfdl_pieces.specs.Laying.{form_at}
-use Rattle.dfdl_pieces.specs.Whole.{AreWholeFields, IsWholeForm}
+use Rattle.dfdl_pieces.specs.Whole.{AreWholeFields, HasNoFill, IsNoFill, IsWholeForm}
 use Rattle.dfdl_pieces.proofs.tests.one_field.Goals as goal
 
 element_named : (n : ℕ) (row : Row) (x : List ℕ) (s : Option Simple) (i : ℕ) → row ≡ Elem x s i → NamesWithin n row
@@ -61,6 +61,16 @@ whole_there : (t : Table) (rows : List Row) (forms : List Primitive) (f : IntFor
 whole_there t rows forms f by a g r x y children t_is rows_are forms_are f_is a_is g_is r_is =
     rw (t_is, rows_are, forms_are, f_is, a_is, g_is, r_is) (whole_at by x y children)
 
+element_no_fill : (row : Row) (x : List ℕ) (s : Option Simple) (i : ℕ) → row ≡ Elem x s i → IsNoFill row
+element_no_fill row x s i is = rw is tt
+
+group_no_fill : (row : Row) (children : List ℕ) → row ≡ Group children → IsNoFill row
+group_no_fill row children is = rw is tt
+
+no_fill_there : (t : Table) (rows : List Row) (forms : List Primitive) (a g r : Row)
+    → t ≡ record { rows = rows; primitives = forms } → rows ≡ Leaf 0 ∷ a ∷ g ∷ r ∷ [] → IsNoFill a → IsNoFill g → IsNoFill r → HasNoFill t
+no_fill_there t rows forms a g r t_is rows_are at_a at_g at_r = rw (t_is, rows_are) (all_four IsNoFill (Leaf 0) a g r tt at_a at_g at_r)
+
 pub build-requires-clause-named : goal.build-requires-clause-named
 build-requires-clause-named c =
     let P : Row → Type 0 = NamesWithin (length c.new-2.result) in
@@ -80,3 +90,8 @@ pub returns-clause-whole : goal.returns-clause-whole
 returns-clause-whole c =
     whole_there _ c.in_ok-rows.rows.items _ c.form.result c.args.bytes_by _ _ _ _ _ _ c.in_ok-build.ensures.ok c.in_ok-rows.ensures.items
     (c.new-2.ensures ∙ c.in_ok-forms.ensures.items) c.form.ensures c.in_ok-element.ensures c.in_ok-group.ensures c.in_ok-element-2.ensures
+
+pub returns-clause-no_fill : goal.returns-clause-no_fill
+returns-clause-no_fill c =
+    no_fill_there _ c.in_ok-rows.rows.items _ _ _ _ c.in_ok-build.ensures.ok c.in_ok-rows.ensures.items
+    (element_no_fill _ _ _ _ c.in_ok-element.ensures) (group_no_fill _ _ c.in_ok-group.ensures) (element_no_fill _ _ _ _ c.in_ok-element-2.ensures)

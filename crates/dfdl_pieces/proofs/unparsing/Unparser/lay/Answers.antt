@@ -5,7 +5,7 @@ use Rattle.dfdl_pieces.specs.declared.unparsing.Task.TheVariants.{Lay}
 use Rattle.dfdl_pieces.specs.Laying.{Laying, Takes, begins, begun_laying, form_at, laying, value_for, value_laying}
 use Rattle.dfdl_pieces.specs.Unparsing.{left, outcome, steps_left}
 use Rattle.dfdl_json.specs.Steps.{steps_of}
-use Rattle.dfdl_pieces.proofs.Layings.{laid_simple, laid_complex, laid_group, laid_leaf, laid_no_row, same_less, group_less, complex_less}
+use Rattle.dfdl_pieces.proofs.Layings.{laid_simple, laid_complex, laid_group, laid_leaf, laid_skip, laid_align, laid_no_row, same_less, group_less, complex_less}
 use Rattle.dfdl_pieces.proofs.Moving.{if_ok, if_ok_both, if_ok_any, is_less, less_too, moves_too, moves_same, moves_group}
 use Rattle.dfdl_pieces.proofs.unparsing.Unparser.lay.Goals as goal
 
@@ -85,6 +85,24 @@ returns-in-Some-Leaf-clause-moves c =
 
 pub returns-in-Some-Leaf-clause-less : goal.returns-in-Some-Leaf-clause-less
 returns-in-Some-Leaf-clause-less c = same_less c.args.terms.now c.args.row c.args.self.now.tasks.items c.args.self.now.tasks.items refl
+
+pub returns-in-Some-Skip-clause-moves : goal.returns-in-Some-Skip-clause-moves
+returns-in-Some-Skip-clause-moves c =
+    let old = c.args.self.now in
+    let t = c.args.terms.now in
+    ap (outcome old c.args.events.now) (sym (laid_skip t c.args.row old.around (left t old.tasks.items old.around) _ (there _ _ _ c.in-Some-Skip.ensures.row c.in-Some-Skip.field-0-is)))
+
+pub returns-in-Some-Skip-clause-less : goal.returns-in-Some-Skip-clause-less
+returns-in-Some-Skip-clause-less c = same_less c.args.terms.now c.args.row c.args.self.now.tasks.items c.args.self.now.tasks.items refl
+
+pub returns-in-Some-Align-clause-moves : goal.returns-in-Some-Align-clause-moves
+returns-in-Some-Align-clause-moves c =
+    let old = c.args.self.now in
+    let t = c.args.terms.now in
+    ap (outcome old c.args.events.now) (sym (laid_align t c.args.row old.around (left t old.tasks.items old.around) _ (there _ _ _ c.in-Some-Align.ensures.row c.in-Some-Align.field-0-is)))
+
+pub returns-in-Some-Align-clause-less : goal.returns-in-Some-Align-clause-less
+returns-in-Some-Align-clause-less c = same_less c.args.terms.now c.args.row c.args.self.now.tasks.items c.args.self.now.tasks.items refl
 
 pub returns-in-None-clause-moves : goal.returns-in-None-clause-moves
 returns-in-None-clause-moves c =

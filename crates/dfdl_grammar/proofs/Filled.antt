@@ -1,18 +1,23 @@
 -- Where a row is done, the elements that began in it are read.
-use Rattle.std.proofs.Common.{◌≡◌, ℕ, zero, suc, ◌+◌, ◌/◌, ◌%◌, ◌<◌, ◌≤◌, ◌⊎◌, inl, inr, refl, List, [], ◌∷◌, ◌++◌, length, get_or, Bool, true, false, cond, leb, ltb, ◌-◌, nat_eq, nat_lt, Option, Some, None, ap, sym, subst, ◌∙◌, arith, length-append}
+use Rattle.std.proofs.Common.{◌≡◌, ℕ, zero, suc, ◌+◌, ◌*◌, ◌/◌, ◌%◌, ◌<◌, ◌≤◌, ◌⊎◌, inl, inr, refl, List, [], ◌∷◌, ◌++◌, length, get_or, Bool, true, false, cond, leb, ltb, ◌-◌, nat_eq, nat_lt, Option, Some, None, Result, Ok, Err, All, nat_le, ap, sym, subst, ◌∙◌, arith, length-append}
 use Rattle.std.specs.Prelude.{slice_get}
-use Rattle.std.proofs.lemmas.Option.{slice_get_within}
+use Rattle.std.proofs.lemmas.Option.{get_or_from_slice_get, slice_get_within}
 use Rattle.dfdl_bits.specs.declared.window.Seen.{Seen}
 use Rattle.dfdl_bits.specs.declared.window.Seen.TheVariants.{Byte, End as DataEnded, NotYet, Over}
 use Rattle.dfdl_int_binary.specs.Integers.{field_of, integer_reading}
+use Rattle.dfdl_int_binary.specs.Truths.{truth_field_of, truth_reading}
+use Rattle.dfdl_packed.specs.Packed.{nibbles_in, packed_reading}
+use Rattle.dfdl_packed.specs.declared.fault.PackedFault.{PackedFault}
+use Rattle.dfdl_packed.specs.declared.fault.PackedFault.TheVariants.{BadNibble, PastType}
 use Rattle.dfdl_value.specs.declared.value.Value.{Value}
-use Rattle.dfdl_value.specs.declared.value.Value.TheVariants.{Int, Uns, Dec, Text, Truth, Bytes}
+use Rattle.dfdl_value.specs.declared.value.Value.TheVariants.{Int, Uns, Dec, Text, Truth as TruthValue, Bytes}
 use Rattle.dfdl_report.specs.declared.cause.ParseCause.TheVariants.{DataEnds}
 use Rattle.dfdl_report.specs.declared.cause.LimitCause.TheVariants.{Nodes}
 use Rattle.dfdl_terms.specs.declared.row.Primitive.{Primitive}
-use Rattle.dfdl_terms.specs.declared.row.Primitive.TheVariants.{Integer}
+use Rattle.dfdl_terms.specs.declared.row.Primitive.TheVariants.{Integer, Packed, Truth}
 use Rattle.dfdl_terms.specs.declared.row.Row.{Row}
-use Rattle.dfdl_terms.specs.declared.row.Row.TheVariants.{Leaf, Elem, Group}
+use Rattle.dfdl_terms.specs.declared.row.Row.TheVariants.{Leaf, Elem, Group, Skip, Align}
+use Rattle.dfdl_terms.specs.Leaves.{ReadsBy, leaf as by_leaf, grouped}
 use Rattle.dfdl_terms.specs.Rows.{Table, Nests}
 use Rattle.dfdl_region.specs.declared.node.Node.{Node}
 use Rattle.dfdl_region.specs.declared.node.Content.{Content}
@@ -24,12 +29,13 @@ use Rattle.dfdl_looks.specs.Tallies.{Tally, nothing, one_row, saw_byte, saw_end}
 use Rattle.dfdl_looks.proofs.Resumed.{on_seen}
 use Rattle.dfdl_grammar.specs.declared.end.End.{End}
 use Rattle.dfdl_grammar.specs.declared.end.End.TheVariants.{Done, Failed, Stopped}
-use Rattle.dfdl_grammar.specs.States.{Input, State, anchor, front}
+use Rattle.dfdl_grammar.specs.States.{Input, State, anchor, anchor_at, front}
 use Rattle.dfdl_grammar.specs.Outcomes.{Outcome, ended, follow, spend, then_do}
-use Rattle.dfdl_grammar.specs.Leaves.{Find, Fails, Finds, bytes_spanned, find_of, integer_in, land, leaf, program}
+use Rattle.dfdl_grammar.specs.Leaves.{Find, Fails, Finds, bits_of, bytes_spanned, find_in, find_of, land, leaf, packed_find, program, truth_find}
+use Rattle.dfdl_grammar.specs.Framing.{aligned, fill_to, has_byte, passed}
 use Rattle.dfdl_grammar.specs.Elements.{begun, close, left}
 use Rattle.dfdl_grammar.specs.Rows.{below, group, meaning, row, row_at}
-use Rattle.dfdl_grammar.specs.Trees.{AreRead, HasLeaves}
+use Rattle.dfdl_grammar.specs.Trees.{AreRead, HasLeaves, IsInTables}
 use Rattle.dfdl_grammar.proofs.Towers.{below-meaning}
 use Rattle.dfdl_grammar.proofs.Trees.{content-length}
 
@@ -138,15 +144,29 @@ read_of bits (Some (Int z)) content n is unread = absurd (cc)
 read_of bits (Some (Uns number)) content n is unread = absurd (cc)
 read_of bits (Some (Dec d)) content n is unread = absurd (cc)
 read_of bits (Some (Text text)) content n is unread = absurd (cc)
-read_of bits (Some (Truth truth)) content n is unread = absurd (cc)
+read_of bits (Some (TruthValue truth)) content n is unread = absurd (cc)
 read_of bits (Some (Bytes bytes)) content n is unread = absurd (cc)
+
+packed_read : (bits : ℕ) (r : Result Value PackedFault) (content : Content) (n : ℕ) → packed_find bits r ≡ Finds content n → content ≡ Begun → ⊥
+packed_read bits (Ok v) content n is unread = read_of bits (Some v) content n is unread
+packed_read bits (Err BadNibble) content n is unread = absurd (cc)
+packed_read bits (Err PastType) content n is unread = absurd (cc)
+
+truth_read : (bits : ℕ) (r : Option Bool) (content : Content) (n : ℕ) → truth_find bits r ≡ Finds content n → content ≡ Begun → ⊥
+truth_read bits (Some truth) content n is unread = absurd (cc)
+truth_read bits None content n is unread = absurd (cc)
+
+found_read : (primitive : Primitive) (before : ℕ) (bytes : List ℕ) (content : Content) (n : ℕ) → find_in primitive before bytes ≡ Finds content n → content ≡ Begun → ⊥
+found_read (Integer form) before bytes content n is unread = read_of form.bits (integer_reading form (field_of form bytes before)) content n is unread
+found_read (Packed form) before bytes content n is unread = packed_read (4 * form.nibbles) (packed_reading form (nibbles_in form bytes before)) content n is unread
+found_read (Truth form) before bytes content n is unread = truth_read form.bits (truth_reading form (truth_field_of form bytes before)) content n is unread
 
 -- what is found of a primitive is a value
 value : (look : ℕ → Seen) (primitive : Primitive) (bit : ℕ) (content : Content) (bits : ℕ)
     → (ask look (program primitive bit) nothing).reached ≡ Told (Finds content bits) → content ≡ Begun → ⊥
-value look (Integer form) bit content bits is unread =
-    let here = made look (bytes_spanned bit form.bits) (bit / 8) (integer_in form bit) nothing content bits is in
-    read_of form.bits (integer_reading form (field_of form here.bytes (bit % 8))) content bits here.is unread
+value look primitive bit content bits is unread =
+    let here = made look (bytes_spanned bit (bits_of primitive)) (bit / 8) (find_in primitive (bit % 8)) nothing content bits is in
+    found_read primitive (bit % 8) here.bytes content bits here.is unread
 
 -- whole data have no byte that hasn't come
 no-missing : {F : Type 0} (bytes : List ℕ) (size low : ℕ) (go : Option ℕ → Ask F) (k : ℕ) (t : Tally)
@@ -165,63 +185,100 @@ whole-told bytes size low (Look k go) t missing =
 abbrev Fills : (State → Outcome) → Type 0
 Fills f = (s : State) → (f s).end ≡ Done → Fine s (f s).state
 
+-- a state that follows another, in which the element that was open is read
+record IsRead (s t : State) : Type 0 where
+  fine : Fine s t
+  read : (node : Node) → slice_get t.nodes s.inside ≡ Some node → node.content ≡ Begun → ⊥
+
+-- what a row does that reads a value, where it is done
+abbrev Reads : (State → Outcome) → Type 0
+Reads f = (s : State) → (f s).end ≡ Done → IsRead s (f s).state
+
+-- a content that is put into the open element
+put_read : (s : State) (at : ℕ) (content : Content) → (content ≡ Begun → ⊥) → IsRead s (record s { at = at; nodes = with_content s.nodes s.inside content })
+put_read s at content read = record {
+  fine = put s at content read;
+  read = λ node is unread. read (sym (same_at s.nodes s.inside content node is) ∙ unread);
+}
+
+-- what is read stays read
+read_before : (s t u : State) → IsRead s t → Fine t u → IsRead s u
+read_before s t u one two = record {
+  fine = both s t u one.fine two;
+  read = λ node is unread. elim (below_or s.inside (length t.nodes)) [
+    | inl few ↦ (let was = two.kept s.inside node few is unread in one.read was.old was.there was.unread)
+    | inr most ↦ two.fresh s.inside node most is unread
+  ];
+}
+
+read_behind : (s t u : State) → Fine s t → IsRead t u → IsRead s u
+read_behind s t u one two = record {
+  fine = both s t u one two.fine;
+  read = λ node is unread. two.read node (subst (λ (i : ℕ). slice_get u.nodes i ≡ Some node) (sym one.inside) is) unread;
+}
+
+-- fill that is passed over changes no element
+moved : (s : State) (to : ℕ) → Fine s (record s { at = to })
+moved s to = let same = fine s in record { inside = refl; longer = same.longer; fresh = same.fresh; kept = same.kept }
+
+front_at : (nodes : List Node) (last : Node) (at : ℕ) (node : Node) → at < length nodes → slice_get (nodes ++ last ∷ []) at ≡ Some node → slice_get nodes at ≡ Some node
+front_at [] last at node few is = absurd (omega arith)
+front_at (first ∷ rest) last zero node few is = is
+front_at (first ∷ rest) last (suc at) node few is = front_at rest last at node (omega arith) is
+
+-- an element that has begun, and what is in it, which reads it, and then the outer one is open
+element-ends : (id : ℕ) (s t u : State) → IsRead (begun id s) t → u.nodes ≡ t.nodes → u.inside ≡ s.inside → Fine s u
+element-ends id s t u inner nodes_are inside_is =
+    let last : Node = record { element = id; parent = s.inside; content = Begun } in
+    let one_more : length (s.nodes ++ last ∷ []) ≡ length s.nodes + 1 = length-append s.nodes (last ∷ []) in
+    let longer = inner.fine.longer in
+    let size : length u.nodes ≡ length t.nodes = ap (λ (ns : List Node). length ns) nodes_are in
+    record {
+      inside = inside_is;
+      longer = omega arith;
+      fresh = λ at node past is unread.
+          let there : slice_get t.nodes at ≡ Some node = subst (λ (ns : List Node). slice_get ns at ≡ Some node) nodes_are is in
+          elim (same_or at (length s.nodes)) [
+            | inl same ↦ inner.read node (subst (λ (j : ℕ). slice_get t.nodes j ≡ Some node) same there) unread
+            | inr apart ↦ inner.fine.fresh at node (omega arith) there unread
+          ];
+      kept = λ at node few is unread.
+          let there : slice_get t.nodes at ≡ Some node = subst (λ (ns : List Node). slice_get ns at ≡ Some node) nodes_are is in
+          let within : at < length (begun id s).nodes = omega arith in
+          let was = inner.fine.kept at node within there unread in
+          record { old = was.old; there = front_at s.nodes last at was.old few was.there; unread = was.unread };
+    }
+
 module _ (input : Input) (table : Table) (leaves : HasLeaves table) where
-  -- a leaf that is done has put a value into the open element
-  record Puts (s t : State) : Type 0 where
-    at : ℕ
-    content : Content
-    read : content ≡ Begun → ⊥
-    is : t ≡ record s { at = at; nodes = with_content s.nodes s.inside content }
+  land-reads : (reached : Reached Find) (s : State) → ((content : Content) (bits : ℕ) → reached ≡ Told (Finds content bits) → content ≡ Begun → ⊥)
+      → (reached ≡ Missing → ⊥) → (land input.limits.window reached s).end ≡ Done → IsRead s (land input.limits.window reached s).state
+  land-reads (Told (Fails cause)) s read here done = absurd (cc)
+  land-reads (Told (Finds content bits)) s read here done = put_read s (s.at + bits) content (read content bits refl)
+  land-reads TooFar s read here done = absurd (cc)
+  land-reads Missing s read here done = absurd (here refl)
 
-  land-puts : (reached : Reached Find) (s : State) → ((content : Content) (bits : ℕ) → reached ≡ Told (Finds content bits) → content ≡ Begun → ⊥)
-      → (reached ≡ Missing → ⊥) → (land input.limits.window reached s).end ≡ Done → Puts s (land input.limits.window reached s).state
-  land-puts (Told (Fails cause)) s read here done = absurd (cc)
-  land-puts (Told (Finds content bits)) s read here done = record { at = s.at + bits; content = content; read = read content bits refl; is = refl }
-  land-puts TooFar s read here done = absurd (cc)
-  land-puts Missing s read here done = absurd (here refl)
-
-  leaf-puts : (primitive : Primitive) (s : State) → (leaf input (Some primitive) s).end ≡ Done → Puts s (leaf input (Some primitive) s).state
-  leaf-puts primitive s done =
-      land-puts (ask (seen_in input.bytes input.limits.window (anchor s)) (program primitive s.at) nothing).reached s
+  leaf-reads : (primitive : Primitive) → Reads (leaf input (Some primitive))
+  leaf-reads primitive s done =
+      land-reads (ask (seen_in input.bytes input.limits.window (anchor s)) (program primitive s.at) nothing).reached s
       (λ content bits is. value (seen_in input.bytes input.limits.window (anchor s)) primitive s.at content bits is)
       (λ missing. whole-told input.bytes input.limits.window (anchor s) (program primitive s.at) nothing missing) done
 
   leaf-fills : (primitive : Option Primitive) → Fills (leaf input primitive)
   leaf-fills None s done = fine s
-  leaf-fills (Some primitive) s done =
-      let puts = leaf-puts primitive s done in
-      subst (λ (t : State). Fine s t) (sym puts.is) (put s puts.at puts.content puts.read)
+  leaf-fills (Some primitive) s done = (leaf-reads primitive s done).fine
 
-  front_at : (nodes : List Node) (last : Node) (at : ℕ) (node : Node) → at < length nodes → slice_get (nodes ++ last ∷ []) at ≡ Some node → slice_get nodes at ≡ Some node
-  front_at [] last at node few is = absurd (omega arith)
-  front_at (first ∷ rest) last zero node few is = is
-  front_at (first ∷ rest) last (suc at) node few is = front_at rest last at node (omega arith) is
+  passed-fills : (to : ℕ) (reached : Reached Bool) (s : State) → (passed input.limits.window to reached s).end ≡ Done
+      → Fine s (passed input.limits.window to reached s).state
+  passed-fills to (Told true) s done = moved s to
+  passed-fills to (Told false) s done = absurd (cc)
+  passed-fills to TooFar s done = absurd (cc)
+  passed-fills to Missing s done = fine s
 
-  -- an element that has begun, and what is in it, and then has a content
-  element-ends : (id : ℕ) (s c t : State) (content : Content) → (content ≡ Begun → ⊥) → Fine (begun id s) c
-      → t.nodes ≡ with_content c.nodes (length s.nodes) content → t.inside ≡ s.inside → Fine s t
-  element-ends id s c t content read inner nodes_are inside_is =
-      let last : Node = record { element = id; parent = s.inside; content = Begun } in
-      let one_more : length (s.nodes ++ last ∷ []) ≡ length s.nodes + 1 = length-append s.nodes (last ∷ []) in
-      let longer = inner.longer in
-      let size : length t.nodes ≡ length c.nodes = ap (λ (ns : List Node). length ns) nodes_are ∙ content-length c.nodes (length s.nodes) content in
-      record {
-        inside = inside_is;
-        longer = omega arith;
-        fresh = λ at node past is unread.
-            let there : slice_get (with_content c.nodes (length s.nodes) content) at ≡ Some node = subst (λ (ns : List Node). slice_get ns at ≡ Some node) nodes_are is in
-            elim (same_or at (length s.nodes)) [
-              | inl same ↦ read (sym (same_at c.nodes (length s.nodes) content node
-                  (subst (λ (j : ℕ). slice_get (with_content c.nodes (length s.nodes) content) j ≡ Some node) same there)) ∙ unread)
-              | inr apart ↦ inner.fresh at node (omega arith) (other_at c.nodes (length s.nodes) at content node apart there) unread
-            ];
-        kept = λ at node few is unread.
-            let there : slice_get (with_content c.nodes (length s.nodes) content) at ≡ Some node = subst (λ (ns : List Node). slice_get ns at ≡ Some node) nodes_are is in
-            let apart : at ≡ length s.nodes → ⊥ = λ same. omega arith in
-            let within : at < length (begun id s).nodes = omega arith in
-            let was = inner.kept at node within (other_at c.nodes (length s.nodes) at content node apart there) unread in
-            record { old = was.old; there = front_at s.nodes last at was.old few was.there; unread = was.unread };
-      }
+  pass-fills : (to : ℕ) (s : State) (over : Bool) → (cond over (ended Done s) (fill_to input to s)).end ≡ Done
+      → Fine s (cond over (ended Done s) (fill_to input to s)).state
+  pass-fills to s true done = fine s
+  pass-fills to s false done =
+      passed-fills to (ask (seen_in input.bytes input.limits.window (anchor_at s (to - 1))) (has_byte ((to - 1) / 8)) nothing).reached s done
 
   close-done : (end : End) (outer : ℕ) (complex : Bool) (o : Outcome) → end ≡ o.end → (close end outer complex o).end ≡ Done → end ≡ Done
   close-done Done outer complex o is done = refl
@@ -239,25 +296,22 @@ module _ (input : Input) (table : Table) (leaves : HasLeaves table) where
   complex-fills id body fills s true done =
       let o : Outcome = body (begun id s) in
       let over : o.end ≡ Done = close-done o.end s.inside true o refl done in
-      let inner : Fine (begun id s) o.state = fills (begun id s) over in
+      let full : State = record o.state { at = o.state.at; nodes = with_content o.state.nodes o.state.inside Complex } in
+      let inner : IsRead (begun id s) full =
+      read_behind (begun id s) o.state full (fills (begun id s) over) (put_read o.state o.state.at Complex (λ same. absurd (cc))) in
       let closed : (close o.end s.inside true o).state ≡ left s.inside true o.state = ap (λ (e : End). (close e s.inside true o).state) over in
-      subst (λ (t : State). Fine s t) (sym closed)
-      (element-ends id s o.state (left s.inside true o.state) Complex (λ same. absurd (cc)) inner
-      (ap (λ (k : ℕ). with_content o.state.nodes k Complex) inner.inside) refl)
+      subst (λ (t : State). Fine s t) (sym closed) (element-ends id s full (left s.inside true o.state) inner refl refl)
   complex-fills id body fills s false done = absurd (cc)
 
-  simple-fills : (id : ℕ) (body : State → Outcome) → ((s : State) → (body s).end ≡ Done → Puts s (body s).state) → (s : State) (room : Bool)
+  simple-fills : (id : ℕ) (body : State → Outcome) → Reads body → (s : State) (room : Bool)
       → (cond room (let o : Outcome = body (begun id s) in close o.end s.inside false o) (ended (Stopped Nodes input.limits.nodes) s)).end ≡ Done
       → Fine s (cond room (let o : Outcome = body (begun id s) in close o.end s.inside false o) (ended (Stopped Nodes input.limits.nodes) s)).state
-  simple-fills id body puts s true done =
+  simple-fills id body reads s true done =
       let o : Outcome = body (begun id s) in
       let over : o.end ≡ Done = close-done o.end s.inside false o refl done in
-      let inner = puts (begun id s) over in
       let closed : (close o.end s.inside false o).state ≡ left s.inside false o.state = ap (λ (e : End). (close e s.inside false o).state) over in
-      subst (λ (t : State). Fine s t) (sym closed)
-      (element-ends id s (begun id s) (left s.inside false o.state) inner.content inner.read (fine (begun id s))
-      (ap (λ (t : State). t.nodes) inner.is) refl)
-  simple-fills id body puts s false done = absurd (cc)
+      subst (λ (t : State). Fine s t) (sym closed) (element-ends id s o.state (left s.inside false o.state) (reads (begun id s) over) refl refl)
+  simple-fills id body reads s false done = absurd (cc)
 
   group-fills : (child : ℕ → State → Outcome) → ((id : ℕ) → Fills (child id)) → (children : List ℕ) → Fills (group child children)
   group-fills child fills [] s done = fine s
@@ -268,41 +322,85 @@ module _ (input : Input) (table : Table) (leaves : HasLeaves table) where
       subst (λ (t : State). Fine s t) (sym after)
       (both s (child id s).state (group child rest (child id s).state).state (fills id s parts.0) (group-fills child fills rest (child id s).state parts.1))
 
-  module _ (nests : Nests table.rows) where
-    leaf-below : (n id prim : ℕ) (primitive : Primitive) → id < n → slice_get table.rows id ≡ Some (Leaf prim) → slice_get table.primitives prim ≡ Some primitive
-        → (s : State) → (below input table n id s).end ≡ Done → Puts s (below input table n id s).state
-    unfolding meaning
-    leaf-below n id prim primitive less row_is primitive_is s done =
-        let same : below input table n id s ≡ spend one_row (leaf input (Some primitive) s) =
-        below-meaning input table n id s less
-        ∙ ap (λ (r : Option Row). spend one_row (row input table (below input table id) id r s)) row_is
-        ∙ ap (λ (p : Option Primitive). spend one_row (leaf input p s)) primitive_is in
-        subst (λ (o : Outcome). Puts s o.state) (sym same)
-        (leaf-puts primitive s (ap (λ (o : Outcome). o.end) (sym same) ∙ done))
+  group-reads : (child : ℕ → State → Outcome) → ((id : ℕ) → Fills (child id)) → (children : List ℕ) (at id : ℕ) → slice_get children at ≡ Some id → Reads (child id)
+      → Reads (group child children)
+  group-reads child fills [] at id is reads s done = absurd (cc)
+  group-reads child fills (first ∷ rest) zero id is reads s done =
+      let same : first ≡ id = cc in
+      let parts = follow-done (child first s).end (child first s) (group child rest) refl done in
+      let after : (then_do (child first s) (group child rest)).state ≡ (group child rest (child first s).state).state =
+      ap (λ (e : End). (follow e (child first s) (group child rest)).state) parts.0 in
+      subst (λ (t : State). IsRead s t) (sym after)
+      (read_before s (child first s).state (group child rest (child first s).state).state
+      (subst (λ (i : ℕ). Reads (child i)) (sym same) reads s parts.0) (group-fills child fills rest (child first s).state parts.1))
+  group-reads child fills (first ∷ rest) (suc at) id is reads s done =
+      let parts = follow-done (child first s).end (child first s) (group child rest) refl done in
+      let after : (then_do (child first s) (group child rest)).state ≡ (group child rest (child first s).state).state =
+      ap (λ (e : End). (follow e (child first s) (group child rest)).state) parts.0 in
+      subst (λ (t : State). IsRead s t) (sym after)
+      (read_behind s (child first s).state (group child rest (child first s).state).state (fills first s parts.0)
+      (group-reads child fills rest at id is reads (child first s).state parts.1))
 
-    row-fills : (id : ℕ) → ((i : ℕ) → Fills (below input table id i)) → (r : Option Row) → slice_get table.rows id ≡ r → Fills (row input table (below input table id) id r)
+  module _ (nests : Nests table.rows) where
+    -- the rows below each of the first so many rows
+    abbrev FillBelow : ℕ → Type 0
+    FillBelow most = (n : ℕ) → n ≤ most → (id : ℕ) → Fills (below input table n id)
+
+    row-below : (n id : ℕ) (r : Option Row) → id < n → slice_get table.rows id ≡ r → (s : State)
+        → below input table n id s ≡ spend one_row (row input table (below input table id) id r s)
+    unfolding meaning
+    row-below n id r less is s =
+        below-meaning input table n id s less ∙ ap (λ (r : Option Row). spend one_row (row input table (below input table id) id r s)) is
+
+    -- a row that reads a value
+    reads-below : (n : ℕ) → FillBelow n → (id : ℕ) → id < n → ReadsBy table.rows (IsInTables table) id → Reads (below input table n id)
+    reads-below n fills _ less (by_leaf id prim row_is (primitive, primitive_is)) s done =
+        let same : below input table n id s ≡ spend one_row (leaf input (Some primitive) s) =
+        row-below n id (Some (Leaf prim)) less row_is s ∙ ap (λ (p : Option Primitive). spend one_row (leaf input p s)) primitive_is in
+        subst (λ (o : Outcome). IsRead s o.state) (sym same) (leaf-reads primitive s (ap (λ (o : Outcome). o.end) (sym same) ∙ done))
+    reads-below n fills _ less (grouped id at child children row_is at_is inner) s done =
+        let same : below input table n id s ≡ spend one_row (group (below input table id) children s) = row-below n id (Some (Group children)) less row_is s in
+        let all : All (λ c. c < id) children = nests id (Group children) (slice_get_within table.rows id (Group children) row_is) row_is in
+        let lower : child < id = subst (λ (c : ℕ). c < id) (get_or_from_slice_get children at child child at_is) (all at child (slice_get_within children at child at_is)) in
+        let few : FillBelow id = λ m most. fills m (omega arith) in
+        subst (λ (o : Outcome). IsRead s o.state) (sym same)
+        (group-reads (below input table id) (λ i. fills id (omega arith) i) children at child at_is (reads-below id few child lower inner) s
+        (ap (λ (o : Outcome). o.end) (sym same) ∙ done))
+
+    row-fills : (id : ℕ) → FillBelow id → (r : Option Row) → slice_get table.rows id ≡ r → Fills (row input table (below input table id) id r)
     row-fills id fills None is s done = fine s
     row-fills id fills (Some (Leaf prim)) is s done = leaf-fills (slice_get table.primitives prim) s done
     row-fills id fills (Some (Elem name None body)) is s done =
-        complex-fills id (below input table id body) (fills body) s (nat_lt (length s.nodes) input.limits.nodes) done
+        complex-fills id (below input table id body) (fills id (omega arith) body) s (nat_lt (length s.nodes) input.limits.nodes) done
     row-fills id fills (Some (Elem name (Some simple) body)) is s done =
-        let found = leaves id name simple body is in
         let less : body < id = nests id (Elem name (Some simple) body) (slice_get_within table.rows id (Elem name (Some simple) body) is) is in
-        simple-fills id (below input table id body) (leaf-below id body found.0 found.1 less found.2 found.3) s (nat_lt (length s.nodes) input.limits.nodes) done
-    row-fills id fills (Some (Group children)) is s done = group-fills (below input table id) fills children s done
+        simple-fills id (below input table id body) (reads-below id fills body less (leaves id name simple body is)) s
+        (nat_lt (length s.nodes) input.limits.nodes) done
+    row-fills id fills (Some (Group children)) is s done = group-fills (below input table id) (λ i. fills id (omega arith) i) children s done
+    row-fills id fills (Some (Skip bits)) is s done = pass-fills (s.at + bits) s (nat_le (s.at + bits) s.at) done
+    row-fills id fills (Some (Align bits)) is s done = pass-fills (aligned bits s.at) s (nat_le (aligned bits s.at) s.at) done
 
-    choice-fills : (n id : ℕ) → ((i : ℕ) → Fills (below input table n i)) → (s : State) (test : Bool)
+    choice-fills : (n id : ℕ) → FillBelow n → (s : State) (test : Bool)
         → (cond test (row_at input table (below input table n) n s) (below input table n id s)).end ≡ Done
         → Fine s (cond test (row_at input table (below input table n) n s) (below input table n id s)).state
     choice-fills n id fills s true done = row-fills n fills (slice_get table.rows n) refl s done
-    choice-fills n id fills s false done = fills id s done
+    choice-fills n id fills s false done = fills n (omega arith) id s done
 
-    below-fills : (n id : ℕ) → Fills (below input table n id)
+    one-more : (most : ℕ) → FillBelow most → (id : ℕ) → Fills (below input table (suc most) id)
     unfolding below
-    below-fills zero id s done = fine s
-    below-fills (suc n) id s done = choice-fills n id (below-fills n) s (nat_eq id n) done
+    one-more most fills id s done = choice-fills most id fills s (nat_eq id most) done
+
+    more-fill : (most n id : ℕ) → n ≤ suc most → FillBelow most → (n ≡ suc most) ⊎ (n ≡ suc most → ⊥) → Fills (below input table n id)
+    more-fill most n id few fills (inl same) = subst (λ (m : ℕ). Fills (below input table m id)) (sym same) (one-more most fills id)
+    more-fill most n id few fills (inr apart) = fills n (omega arith) id
+
+    all-fill : (most : ℕ) → FillBelow most
+    unfolding below
+    all-fill zero zero few id s done = fine s
+    all-fill zero (suc n) few id s done = absurd (omega arith)
+    all-fill (suc most) n few id s done = more-fill most n id few (all-fill most) (same_or n (suc most)) s done
 
     pub all-read : (id : ℕ) → (meaning input table id front).end ≡ Done → AreRead (meaning input table id front).state.nodes
     unfolding meaning
     all-read id done at node is =
-        (row-fills id (below-fills id) (slice_get table.rows id) refl front done).fresh at node (omega arith) is
+        (row-fills id (all-fill id) (slice_get table.rows id) refl front done).fresh at node (omega arith) is

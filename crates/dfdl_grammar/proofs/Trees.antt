@@ -1,10 +1,10 @@
 -- The elements stay a tree whatever the rows do.
-use Rattle.std.proofs.Common.{◌≡◌, ℕ, zero, suc, ◌+◌, ◌<◌, ◌≤◌, refl, List, [], ◌∷◌, ◌++◌, length, Bool, true, false, cond, nat_eq, nat_lt, Option, Some, None, ap, sym, subst, arith, length-append, zero-add}
+use Rattle.std.proofs.Common.{◌≡◌, ℕ, zero, suc, ◌+◌, ◌-◌, ◌/◌, ◌<◌, ◌≤◌, refl, List, [], ◌∷◌, ◌++◌, length, Bool, true, false, cond, nat_eq, nat_le, nat_lt, Option, Some, None, ap, sym, subst, arith, length-append, zero-add}
 use Rattle.std.specs.Prelude.{slice_get}
 use Rattle.dfdl_report.specs.declared.cause.LimitCause.TheVariants.{Nodes}
 use Rattle.dfdl_terms.specs.declared.row.Primitive.{Primitive}
 use Rattle.dfdl_terms.specs.declared.row.Row.{Row}
-use Rattle.dfdl_terms.specs.declared.row.Row.TheVariants.{Leaf, Elem, Group}
+use Rattle.dfdl_terms.specs.declared.row.Row.TheVariants.{Leaf, Elem, Group, Skip, Align}
 use Rattle.dfdl_terms.specs.Rows.{IsElementRow, Table}
 use Rattle.dfdl_region.specs.declared.node.Node.{Node}
 use Rattle.dfdl_region.specs.declared.node.Content.{Content}
@@ -15,9 +15,10 @@ use Rattle.dfdl_looks.specs.Looks.{seen_in}
 use Rattle.dfdl_looks.specs.Tallies.{nothing}
 use Rattle.dfdl_grammar.specs.declared.end.End.{End}
 use Rattle.dfdl_grammar.specs.declared.end.End.TheVariants.{Done, Failed, Stopped}
-use Rattle.dfdl_grammar.specs.States.{Input, State, anchor, front}
+use Rattle.dfdl_grammar.specs.States.{Input, State, anchor, anchor_at, front}
 use Rattle.dfdl_grammar.specs.Outcomes.{Outcome, ended, follow}
 use Rattle.dfdl_grammar.specs.Leaves.{Find, Fails, Finds, land, leaf, program}
+use Rattle.dfdl_grammar.specs.Framing.{aligned, fill_to, has_byte, passed}
 use Rattle.dfdl_grammar.specs.Elements.{begun, close, has_elements, left}
 use Rattle.dfdl_grammar.specs.Rows.{below, group, meaning, row, row_at}
 use Rattle.dfdl_grammar.specs.Trees.{IsNode, IsTree}
@@ -113,6 +114,17 @@ module _ (input : Input) (table : Table) where
   leaf-keeps (Some primitive) s good =
       land-keeps (ask (seen_in input.bytes input.limits.window (anchor s)) (program primitive s.at) nothing).reached s good
 
+  passed-keeps : (to : ℕ) (reached : Reached Bool) → Keeps (passed input.limits.window to reached)
+  passed-keeps to (Told true) s good = (record { tree = good.tree; few = good.few; open_one = good.open_one }, same_length (length s.nodes))
+  passed-keeps to (Told false) s good = (good, same_length (length s.nodes))
+  passed-keeps to TooFar s good = (good, same_length (length s.nodes))
+  passed-keeps to Missing s good = (good, same_length (length s.nodes))
+
+  pass-keeps : (to : ℕ) (s : State) → Grows table s → (over : Bool) → Follows s (cond over (ended Done s) (fill_to input to s)).state
+  pass-keeps to s good true = (good, same_length (length s.nodes))
+  pass-keeps to s good false =
+      passed-keeps to (ask (seen_in input.bytes input.limits.window (anchor_at s (to - 1))) (has_byte ((to - 1) / 8)) nothing).reached s good
+
   begun-longer : (id : ℕ) (s : State) → length (begun id s).nodes ≡ length s.nodes + 1
   begun-longer id s = length-append s.nodes (record { element = id; parent = s.inside; content = Begun } ∷ [])
 
@@ -173,6 +185,8 @@ module _ (input : Input) (table : Table) where
       element-keeps id (has_elements simple) (child body) (subst (λ (r : Option Row). IsElementRow r) (sym is) tt) (keeps body) s good
       (nat_lt (length s.nodes) input.limits.nodes)
   row-keeps child keeps id (Some (Group children)) is s good = group-keeps child keeps children s good
+  row-keeps child keeps id (Some (Skip bits)) is s good = pass-keeps (s.at + bits) s good (nat_le (s.at + bits) s.at)
+  row-keeps child keeps id (Some (Align bits)) is s good = pass-keeps (aligned bits s.at) s good (nat_le (aligned bits s.at) s.at)
 
   below-choice : (n id : ℕ) → ((i : ℕ) → Keeps (below input table n i)) → (s : State) → Grows table s → (test : Bool)
       → Follows s (cond test (row_at input table (below input table n) n s) (below input table n id s)).state

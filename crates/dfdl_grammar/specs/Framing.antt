@@ -26,13 +26,15 @@ passed window to (Told false) s = ended (Failed DataEnds s.at) s
 passed window to TooFar s = ended (Stopped Window window) s
 passed window to Missing s = ended Done s
 
--- Fill up to a bit. Where there is any, the byte of its last bit is looked at, and no other one.
+-- fill up to a bit: the byte of its last bit is looked at, and no other one
+abbrev pub fill_to : Input → ℕ → State → Outcome
+fill_to input to s =
+    let reading : Reading Bool = ask (seen_in input.bytes input.limits.window (anchor_at s (to - 1))) (has_byte ((to - 1) / 8)) nothing in
+    spend reading.tally (passed input.limits.window to reading.reached s)
+
+-- fill up to a bit, where there is any
 abbrev pub pass_to : Input → ℕ → State → Outcome
-pass_to input to s =
-    if nat_le to s.at then ended Done s
-    else (let reading : Reading Bool =
-        ask (seen_in input.bytes input.limits.window (anchor_at s (to - 1))) (has_byte ((to - 1) / 8)) nothing in
-    spend reading.tally (passed input.limits.window to reading.reached s))
+pass_to input to s = if nat_le to s.at then ended Done s else fill_to input to s
 
 -- so many bits of fill
 abbrev pub skip : Input → ℕ → State → Outcome

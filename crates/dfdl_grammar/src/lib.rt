@@ -5,6 +5,7 @@
 //! - States: what is known while data are parsed ('Parsing Algorithm').
 //! - Outcomes: what a row comes to, and how outcomes are put together ('Parsing Algorithm').
 //! - Leaves: what a simple element's content is read as ('Simple Types').
+//! - Framing: alignment and skips ('Framing').
 //! - Elements: an element begins, and ends ('The DFDL Information Set').
 //! - Rows: the meaning of each row, by those below it ('DFDL Data Syntax Grammar').
 //! - Documents: the meaning of the root element's row at the front of the data.

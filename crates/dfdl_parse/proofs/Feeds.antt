@@ -13,7 +13,7 @@ use Rattle.dfdl_grammar.specs.Documents.{document}
 use Rattle.dfdl_grammar.proofs.Spending.{spend-nothing}
 use Rattle.dfdl_parse.specs.declared.frame.Frame.{Frame}
 use Rattle.dfdl_parse.specs.declared.frame.Focus.{Focus}
-use Rattle.dfdl_parse.specs.declared.frame.Focus.TheVariants.{Enter, Leave}
+use Rattle.dfdl_parse.specs.declared.frame.Focus.TheVariants.{Enter, Pass, Leave}
 use Rattle.dfdl_parse.specs.declared.parser.Parser.{Parser}
 use Rattle.dfdl_parse.specs.Machines.{HasEnded, Machine}
 use Rattle.dfdl_parse.specs.Ahead.{ahead, finish}
@@ -102,6 +102,7 @@ over_at : (input : Input) (table : Table) (root : Outcome) (focus : Focus) (k : 
     → (focus ≡ Leave root.end) × (k ≡ []) × (s ≡ root.state) × (root.tally ≡ spent)
 unfolding finish
 over_at input table root (Enter id) k s spent ended_here same = absurd ended_here
+over_at input table root (Pass to) k s spent ended_here same = absurd ended_here
 over_at input table root (Leave end) k s spent ended_here same =
     let is : root ≡ spend spent (ended end s) =
     same ∙ ap (λ (k : List Frame). spend spent (ahead input table (record { focus = Leave end; stack = k; state = s }))) ended_here in (

@@ -10,14 +10,17 @@ use Rattle.dfdl_grammar.specs.States.{Input}
 use Rattle.dfdl_grammar.specs.Outcomes.{Outcome, spend}
 use Rattle.dfdl_grammar.proofs.Spending.{spend-spend}
 use Rattle.dfdl_parse.specs.declared.parser.Parser.{Parser}
-use Rattle.dfdl_parse.specs.Machines.{HasEnded, Machine, Move, step}
+use Rattle.dfdl_parse.specs.declared.frame.Focus.{Focus}
+use Rattle.dfdl_parse.specs.declared.frame.Focus.TheVariants.{Enter, Pass, Leave}
+use Rattle.dfdl_parse.specs.Machines.{HasEnded, Machine, Move, NeedsFrom, step}
 use Rattle.dfdl_parse.specs.Ahead.{ahead}
 use Rattle.dfdl_parse.specs.Shown.{shown, state_of}
 use Rattle.dfdl_parse.specs.Steps.{Moved}
 use Rattle.dfdl_parse.specs.Runs.{Runs}
 use Rattle.dfdl_parse.specs.Running.{Advanced, Slid, Waited}
-use Rattle.dfdl_parse.proofs.Ahead.{Does, Fits, step-ahead}
+use Rattle.dfdl_parse.proofs.Ahead.{Does, Fits, Stands, step-ahead}
 use Rattle.dfdl_parse.proofs.Advances.{Keeps, step-keeps, step-waits}
+use Rattle.dfdl_parse.proofs.Lows.{step-low}
 use Rattle.dfdl_parse.proofs.Falls.{measure, smaller}
 
 tail_none : (a b : ℕ) → a ≡ 0 → b ≡ 0 → first_of a b ≡ 0
@@ -32,15 +35,24 @@ within at end few = omega arith
 same_number : (n : ℕ) → n ≤ n
 same_number n = omega arith
 
+-- the window holds the bytes that are needed next
+stands_at : (held : Held) (p : Parser) (focus : Focus) → NeedsFrom held.base focus p.at → p.at ≤ 8 * end_of held → Stands held focus (state_of p)
+stands_at held p (Enter id) low at = record { base = low; end = within p.at (end_of held) at; low = same_number (p.at / 8) }
+stands_at held p (Pass to) low at = (low, refl)
+stands_at held p (Leave end) low at = tt
+
 module _ (table : Table) (nests : Nests table.rows) (old new : Parser) (before after : Held) (looks_made : ℕ)
-    (low : before.base ≤ old.at / 8) (at : old.at ≤ 8 * end_of before) where
+    (low : NeedsFrom before.base old.focus old.at) (at : old.at ≤ 8 * end_of before) where
   abbrev move : Move
   move = step old.region.most table before old.focus old.stack (state_of old)
 
-  fits : (input : Input) → Agrees before input.bytes → before.size ≡ input.limits.window → Fits before input (state_of old)
-  fits input agrees size = record { agrees = agrees; size = size; base = low; end = within old.at (end_of before) at; low = same_number (old.at / 8) }
+  stands : Stands before old.focus (state_of old)
+  stands = stands_at before old old.focus low at
 
-  does : (input : Input) → input.limits.nodes ≡ old.region.most → Fits before input (state_of old) → move.waits ≡ false
+  fits : (input : Input) → Agrees before input.bytes → before.size ≡ input.limits.window → Fits before input old.focus (state_of old)
+  fits input agrees size = record { agrees = agrees; size = size; stands = stands }
+
+  does : (input : Input) → input.limits.nodes ≡ old.region.most → Fits before input old.focus (state_of old) → move.waits ≡ false
       → Does input table (ahead input table (shown old)) move
   does input most fit =
       subst (λ (n : ℕ). (step n table before old.focus old.stack (state_of old)).waits ≡ false
@@ -48,7 +60,7 @@ module _ (table : Table) (nests : Nests table.rows) (old new : Parser) (before a
       (step-ahead input table nests before old.focus old.stack (state_of old) fit)
 
   keeps : Keeps before move
-  keeps = step-keeps before (state_of old) low (within old.at (end_of before) at) (same_number (old.at / 8)) old.region.most table old.focus old.stack
+  keeps = step-keeps before (state_of old) old.region.most table old.focus old.stack stands
 
   pub advance : Moved move false old.far new after looks_made → Advanced table old new before after looks_made
   advance moved =
@@ -56,7 +68,7 @@ module _ (table : Table) (nests : Nests table.rows) (old new : Parser) (before a
       record {
         slid = slid;
         runs = λ input root spent most runs.
-            let fit : Fits before input (state_of old) = fits input runs.agrees runs.size in
+            let fit : Fits before input old.focus (state_of old) = fits input runs.agrees runs.size in
             let done : ahead input table (shown old) ≡ spend move.tally (ahead input table move.machine) = does input most fit (sym moved.waits) in
             let looks = runs.looks in
             let far = runs.far in
@@ -80,13 +92,20 @@ module _ (table : Table) (nests : Nests table.rows) (old new : Parser) (before a
             };
       }
 
+  -- the window behind the step holds the bytes that are needed next
+  pub still_low : (waited : Bool) → Moved move waited old.far new after looks_made → NeedsFrom after.base new.focus new.at
+  still_low waited moved =
+      subst (λ (h : Held). NeedsFrom h.base new.focus new.at) (sym moved.held)
+      (subst (λ (m : Machine). NeedsFrom move.held.base m.focus m.state.at) (sym moved.machine)
+      (step-low before (state_of old) old.region.most table old.focus old.stack stands low))
+
   pub still_agrees : (waited : Bool) → Moved move waited old.far new after looks_made → (whole : List ℕ) → Agrees before whole → Agrees after whole
   still_agrees waited moved whole agrees = subst (λ (h : Held). Agrees h whole) (sym moved.held) (keeps.agrees whole agrees)
 
   pub wait : Moved move true old.far new after looks_made → Waited table old new before after looks_made
   wait moved =
       let slid : Slid before after = subst (λ (h : Held). Slid before h) (sym moved.held) keeps.slid in
-      let waits = step-waits table old.region.most before (state_of old) low (within old.at (end_of before) at) (same_number (old.at / 8)) old.focus old.stack (sym moved.waits) in
+      let waits = step-waits table old.region.most before (state_of old) old.focus old.stack (sym moved.waits) in
       let same_machine : shown new ≡ shown old = moved.machine ∙ waits.machine in
       let stays : new.far ≡ old.far = moved.stays refl in
       record {
@@ -179,13 +198,12 @@ agrees_padded held =
 
 -- a step over the data of the window leaves less to be done
 pub step-smaller : (table : Table) → Nests table.rows → (old new : Parser) (before after : Held) (looks_made : ℕ) (input : Input)
-    → before.base ≤ old.at / 8 → old.at ≤ 8 * end_of before → input.limits.nodes ≡ old.region.most → before.size ≡ input.limits.window → Agrees before input.bytes
+    → NeedsFrom before.base old.focus old.at → old.at ≤ 8 * end_of before → input.limits.nodes ≡ old.region.most → before.size ≡ input.limits.window → Agrees before input.bytes
     → (HasEnded old.focus old.stack → ⊥)
     → Moved (step old.region.most table before old.focus old.stack (state_of old)) false old.far new after looks_made
     → measure input table (shown new) < measure input table (shown old)
 step-smaller table nests old new before after looks_made input low at most size agrees on moved =
-    let fit : Fits before input (state_of old) =
-    record { agrees = agrees; size = size; base = low; end = within old.at (end_of before) at; low = same_number (old.at / 8) } in
+    let fit : Fits before input old.focus (state_of old) = record { agrees = agrees; size = size; stands = stands_at before old old.focus low at } in
     let less = subst (λ (n : ℕ). (step n table before old.focus old.stack (state_of old)).waits ≡ false
     → measure input table (step n table before old.focus old.stack (state_of old)).machine < measure input table (shown old)) most
     (smaller input table nests before old.focus old.stack (state_of old) fit on) in

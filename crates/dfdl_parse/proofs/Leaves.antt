@@ -1,16 +1,15 @@
--- The reading of an integer's leaf, by a run of bytes that are seen.
-use Rattle.std.proofs.Common.{◌≡◌, ℕ, zero, suc, ◌+◌, ◌-◌, ◌/◌, ◌<◌, ◌≤◌, refl, List, [], ◌∷◌, ◌++◌, length, get_or, max, Option, None, Some, ap, sym, ◌∙◌, arith, zero-add}
+-- The reading of a leaf, by a run of bytes that are seen.
+use Rattle.std.proofs.Common.{◌≡◌, ℕ, zero, suc, ◌+◌, ◌-◌, ◌/◌, ◌%◌, ◌<◌, ◌≤◌, refl, List, [], ◌∷◌, ◌++◌, length, get_or, max, Option, None, Some, ap, sym, ◌∙◌, arith, zero-add}
 use Rattle.std.proofs.lemmas.List.{append-nil}
 use Rattle.dfdl_bits.specs.declared.window.Seen.{Seen}
 use Rattle.dfdl_bits.specs.declared.window.Seen.TheVariants.{Byte, End, NotYet, Over}
-use Rattle.dfdl_forms.specs.declared.binary.IntForm.{IntForm}
-use Rattle.dfdl_terms.specs.declared.row.Primitive.TheVariants.{Integer}
+use Rattle.dfdl_terms.specs.declared.row.Primitive.{Primitive}
 use Rattle.dfdl_report.specs.declared.cause.ParseCause.TheVariants.{DataEnds}
 use Rattle.dfdl_looks.specs.Asks.{Ask, Answer, ask, look_at, Reading, Told}
 use Rattle.dfdl_looks.specs.Tallies.{nothing, Tally, saw_end}
 use Rattle.dfdl_looks.proofs.Resumed.{on_seen}
 use Rattle.dfdl_looks.proofs.Stretches.{after, after-looks, after-far, ask-stretch}
-use Rattle.dfdl_grammar.specs.Leaves.{Find, Fails, bytes_spanned, integer_in, program}
+use Rattle.dfdl_grammar.specs.Leaves.{Find, Fails, bits_of, bytes_spanned, find_in, program}
 use Rattle.dfdl_parse.specs.declared.leaf.Found.{Found}
 use Rattle.dfdl_parse.specs.declared.leaf.Glance.{Glance}
 use Rattle.dfdl_parse.specs.Steps.{Answers, CutShort, far_of_run, found_shown}
@@ -56,32 +55,32 @@ told reading bits k n looks t glance Over go look none count far cost short is =
       far = ap (λ (r : Reading Find). r.tally.far) is ∙ far ∙ sym short.1;
     }
 
-module _ (look : ℕ → Seen) (form : IntForm) (bit : ℕ) (bytes : List ℕ)
+module _ (look : ℕ → Seen) (primitive : Primitive) (bit : ℕ) (bytes : List ℕ)
     (seen : (i : ℕ) → i < length bytes → look (bit / 8 + i) ≡ Byte (get_or bytes i 0)) where
   -- the looks of the leaf behind the stretch
-  pub cut_read : length bytes < bytes_spanned bit form.bits → (glance : Glance) → CutShort (look (bit / 8 + length bytes)) (bit / 8) (length bytes) glance
+  pub cut_read : length bytes < bytes_spanned bit (bits_of primitive) → (glance : Glance) → CutShort (look (bit / 8 + length bytes)) (bit / 8) (length bytes) glance
       → (looks : ℕ) → looks ≡ length bytes + 1
-      → Answers (ask look (program (Integer form) bit) nothing) form.bits glance looks
+      → Answers (ask look (program primitive bit) nothing) (bits_of primitive) glance looks
   cut_read fewer glance short looks cost =
-      let go : List ℕ → Find = integer_in form bit in
-      let rest : ℕ = bytes_spanned bit form.bits - length bytes - 1 in
-      let all : bytes_spanned bit form.bits ≡ length bytes + suc rest = omega arith in
+      let go : List ℕ → Find = find_in primitive (bit % 8) in
+      let rest : ℕ = bytes_spanned bit (bits_of primitive) - length bytes - 1 in
+      let all : bytes_spanned bit (bits_of primitive) ≡ length bytes + suc rest = omega arith in
       let next : ℕ = bit / 8 + length bytes in
-      told (ask look (program (Integer form) bit) nothing) form.bits (bit / 8) (length bytes) looks (after (bit / 8) bytes nothing) glance (look next)
+      told (ask look (program primitive bit) nothing) (bits_of primitive) (bit / 8) (length bytes) looks (after (bit / 8) bytes nothing) glance (look next)
       (λ o. elim o [ None ↦ Answer (Fails DataEnds) | Some b ↦ look_at rest (next + 1) (Fails DataEnds) (λ more. go (bytes ++ (b ∷ more))) ]) look
       refl (after-looks (bit / 8) bytes nothing ∙ zero-add (length bytes)) (stretch-far (bit / 8) bytes) cost short
-      (ask-stretch look bytes (bytes_spanned bit form.bits) (suc rest) (bit / 8) next (Fails DataEnds) go nothing seen all refl)
+      (ask-stretch look bytes (bytes_spanned bit (bits_of primitive)) (suc rest) (bit / 8) next (Fails DataEnds) go nothing seen all refl)
 
   -- the leaf whose bytes are the stretch
-  pub whole_read : 1 ≤ form.bits → bytes_spanned bit form.bits ≡ length bytes
-      → (found : Found) → found_shown form.bits found ≡ Told (integer_in form bit bytes)
+  pub whole_read : 1 ≤ bits_of primitive → bytes_spanned bit (bits_of primitive) ≡ length bytes
+      → (found : Found) → found_shown (bits_of primitive) found ≡ Told (find_in primitive (bit % 8) bytes)
       → (far : ℕ) → far ≡ bit / 8 + length bytes → (looks : ℕ) → looks ≡ length bytes
-      → Answers (ask look (program (Integer form) bit) nothing) form.bits (record { found = found; far = far }) looks
+      → Answers (ask look (program primitive bit) nothing) (bits_of primitive) (record { found = found; far = far }) looks
   whole_read some all found found_is far far_is looks cost =
-      let go : List ℕ → Find = integer_in form bit in
-      let none : bytes_spanned bit form.bits ≡ length bytes + 0 = omega arith in
-      let ends : ask look (program (Integer form) bit) nothing ≡ record { reached = Told (go (bytes ++ [])); tally = after (bit / 8) bytes nothing } =
-      ask-stretch look bytes (bytes_spanned bit form.bits) 0 (bit / 8) (bit / 8 + length bytes) (Fails DataEnds) go nothing seen none refl in
+      let go : List ℕ → Find = find_in primitive (bit % 8) in
+      let none : bytes_spanned bit (bits_of primitive) ≡ length bytes + 0 = omega arith in
+      let ends : ask look (program primitive bit) nothing ≡ record { reached = Told (go (bytes ++ [])); tally = after (bit / 8) bytes nothing } =
+      ask-stretch look bytes (bytes_spanned bit (bits_of primitive)) 0 (bit / 8) (bit / 8 + length bytes) (Fails DataEnds) go nothing seen none refl in
       let longer : 0 < length bytes = omega arith in
       record {
         reached = ap (λ (r : Reading Find). r.reached) ends ∙ ap (λ (bs : List ℕ). Told (go bs)) (append-nil bytes) ∙ sym found_is;

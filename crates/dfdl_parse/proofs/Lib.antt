@@ -1,9 +1,11 @@
 pub mod Windows
+pub mod Beyond
 pub mod Leaves
 pub mod Lists
 pub mod Ahead
 pub mod Falls
 pub mod Advances
+pub mod Lows
 pub mod Goes
 pub mod Feeds
 pub mod Fed

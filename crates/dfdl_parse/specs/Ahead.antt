@@ -3,12 +3,13 @@ use Rattle.std.specs.Prelude.{List, [], ◌∷◌, drop, slice_get}
 use Rattle.dfdl_terms.specs.Rows.{Table}
 use Rattle.dfdl_grammar.specs.States.{Input, State}
 use Rattle.dfdl_grammar.specs.Outcomes.{Outcome, ended, then_do}
+use Rattle.dfdl_grammar.specs.Framing.{fill_to}
 use Rattle.dfdl_grammar.specs.Elements.{close}
 use Rattle.dfdl_grammar.specs.Rows.{below, group, meaning}
 use Rattle.dfdl_parse.specs.declared.frame.Frame.{Frame}
 use Rattle.dfdl_parse.specs.declared.frame.Frame.TheVariants.{Rest, Element}
 use Rattle.dfdl_parse.specs.declared.frame.Focus.{Focus}
-use Rattle.dfdl_parse.specs.declared.frame.Focus.TheVariants.{Enter, Leave}
+use Rattle.dfdl_parse.specs.declared.frame.Focus.TheVariants.{Enter, Pass, Leave}
 use Rattle.dfdl_parse.specs.Machines.{Machine, children_of}
 
 -- what a frame makes of the outcome of the row before it
@@ -24,6 +25,7 @@ finish input table (frame ∷ k) o = finish input table k (resume input table fr
 -- the outcome of what is done next
 abbrev pub focused : Input → Table → Focus → State → Outcome
 focused input table (Enter id) s = meaning input table id s
+focused input table (Pass to) s = fill_to input to s
 focused input table (Leave end) s = ended end s
 
 -- the outcome of the whole

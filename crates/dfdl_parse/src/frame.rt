@@ -15,6 +15,8 @@ pub enum Frame {
 pub enum Focus {
     /// A row begins.
     Enter(RowId),
+    /// Fill up to this bit is passed over.
+    Pass(u64),
     /// A row has ended.
     Leave(End),
 }

@@ -2,19 +2,22 @@
 ghost use Rattle.std.specs.Prelude.{◌≡◌, ℕ, ◌+◌, ◌-◌, ◌*◌, ◌/◌, ◌%◌, ◌^◌, ◌<◌, ◌≤◌, Some, length};
 ghost use Rattle.dfdl_bits.specs.Window.{end_of, seen_at};
 ghost use Rattle.dfdl_forms.specs.declared.binary.IntForm.{IntForm};
-ghost use Rattle.dfdl_terms.specs.declared.row.Primitive.TheVariants.{Integer};
-ghost use Rattle.dfdl_forms.specs.BinaryNumbers.{IsIntForm};
-ghost use Rattle.dfdl_grammar.specs.Leaves.{bytes_spanned, find_of, integer_in, program};
+ghost use Rattle.dfdl_forms.specs.BinaryNumbers.{IsIntForm, IsPackedForm, IsTruthForm};
+ghost use Rattle.dfdl_terms.specs.declared.row.Primitive.TheVariants.{Integer, Packed, Truth};
+ghost use Rattle.dfdl_terms.specs.Rows.{IsPrimitive};
+ghost use Rattle.dfdl_grammar.specs.Leaves.{bits_of, bytes_spanned, find_in, find_of, program};
 ghost use Rattle.dfdl_looks.specs.Asks.{Told, ask};
 ghost use Rattle.dfdl_looks.specs.Tallies.{nothing};
 ghost use Rattle.dfdl_bits.specs.declared.window.Seen.TheVariants.{Byte};
 ghost use Rattle.dfdl_parse.specs.Steps.{Answers, CutShort, IsWithin, far_of_run, found_shown};
 
 use dfdl_bits::{Seen, Steps, Window, number_at};
-use dfdl_forms::{Form, IntForm};
-use dfdl_int_binary::read;
+use dfdl_forms::{BitTruthForm, Form, IntForm, PackedForm};
+use dfdl_int_binary::{read, read_truth};
+use dfdl_packed::PackedFault;
 use dfdl_region::Content;
 use dfdl_report::ParseCause;
+use dfdl_terms::Primitive;
 use dfdl_value::Value;
 use std::sync::ledger::Ledger;
 
@@ -38,9 +41,9 @@ pub(crate) struct Glance {
     pub(crate) far: u64,
 }
 
-/// Reads an integer or a decimal that begins at a bit.
-pub(crate) fn read_integer<L: Ledger>(
-    form: &IntForm,
+/// Reads the leaf of a primitive that begins at a bit.
+pub(crate) fn read_leaf<L: Ledger>(
+    primitive: &Primitive,
     bit: u64,
     sight: &Window,
     steps: &mut Steps<L>,
@@ -48,37 +51,89 @@ pub(crate) fn read_integer<L: Ledger>(
     requires base { sight.now.base ≤ bit / 8 }
     requires at { bit ≤ 8 * end_of sight.now }
     requires bound { end_of sight.now ≤ 2 ^ 60 }
-    requires form { IsIntForm form.now }
-    ensures answers { Answers (ask (seen_at sight.now) (program (Integer form.now) bit) nothing) form.now.bits result (steps.new - steps.old) }
+    requires form { IsPrimitive primitive.now }
+    ensures answers { Answers (ask (seen_at sight.now) (program primitive.now bit) nothing) (bits_of primitive.now) result (steps.new - steps.old) }
     ensures steps { steps.old ≤ steps.new }
-    ensures within { IsWithin result.found (bit + form.now.bits) (end_of sight.now) }
+    ensures within { IsWithin result.found (bit + bits_of primitive.now) (end_of sight.now) }
 {
     let first = bit / 8;
-    let count = spanned(bit, form.bits);
+    let count = spanned(bit, bits_of(primitive));
     let run = sight.run(first, count, steps);
     if run.len() < count {
         return cut(first, run.len(), sight, steps);
     }
-    let found = found_in(form, bit, run);
+    let found = found_in(primitive, bit % 8, run);
     Glance {
         found,
         far: first + count as u64,
     }
 }
 
-// What a number is found as in the bytes that its bits lie in.
-fn found_in(form: &IntForm, bit: u64, bytes: &[u8]) -> Found
+/// How many bits the field of a primitive has.
+pub(crate) fn bits_of(primitive: &Primitive) -> u32
+    requires { IsPrimitive primitive.now }
+    ensures bits { result ≡ bits_of primitive.now }
+    ensures some { 1 ≤ result }
+    ensures few { result ≤ 156 }
+{
+    match primitive {
+        Primitive::Integer(form) => form.bits,
+        Primitive::Packed(form) => 4 * form.nibbles,
+        Primitive::Truth(form) => form.bits,
+    }
+}
+
+// What a leaf is found as in the bytes that its bits lie in, of which so many of the first byte come before it.
+fn found_in(primitive: &Primitive, before: u64, bytes: &[u8]) -> Found
+    requires form { IsPrimitive primitive.now }
+    requires inside { before + bits_of primitive.now ≤ 8 * length bytes.now }
+    ensures { found_shown (bits_of primitive.now) result ≡ Told (find_in primitive.now before bytes.now) }
+{
+    match primitive {
+        Primitive::Integer(form) => integer_in(form, before, bytes),
+        Primitive::Packed(form) => packed_in(form, before, bytes),
+        Primitive::Truth(form) => truth_in(form, before, bytes),
+    }
+}
+
+// What a binary number is found as.
+fn integer_in(form: &IntForm, before: u64, bytes: &[u8]) -> Found
     requires form { IsIntForm form.now }
-    requires inside { bit % 8 + form.now.bits ≤ 8 * length bytes.now }
-    ensures { found_shown form.now.bits result ≡ Told (integer_in form.now bit bytes.now) }
+    requires inside { before + form.now.bits ≤ 8 * length bytes.now }
+    ensures { found_shown form.now.bits result ≡ Told (find_in (Integer form.now) before bytes.now) }
 {
     if let Form::Unsigned { .. } = form.kind.form() {
-        let number = number_at(bytes, bit % 8, form.bits, form.bytes_by, form.bits_by);
+        let number = number_at(bytes, before, form.bits, form.bytes_by, form.bits_by);
         return Found::Reads(Content::Unsigned(number));
     }
-    match read(bytes, bit % 8, form) {
+    match read(bytes, before, form) {
         Ok(value) => found_of(&value),
         Err(_) => Found::Fails(ParseCause::PastType),
+    }
+}
+
+// What a packed number is found as.
+fn packed_in(form: &PackedForm, before: u64, bytes: &[u8]) -> Found
+    requires form { IsPackedForm form.now }
+    requires inside { before + 4 * form.now.nibbles ≤ 8 * length bytes.now }
+    ensures { found_shown (4 * form.now.nibbles) result ≡ Told (find_in (Packed form.now) before bytes.now) }
+{
+    match dfdl_packed::read(bytes, before, form) {
+        Ok(value) => found_of(&value),
+        Err(PackedFault::BadNibble) => Found::Fails(ParseCause::BadNibble),
+        Err(PackedFault::PastType) => Found::Fails(ParseCause::PastType),
+    }
+}
+
+// What a boolean is found as.
+fn truth_in(form: &BitTruthForm, before: u64, bytes: &[u8]) -> Found
+    requires form { IsTruthForm form.now }
+    requires inside { before + form.now.bits ≤ 8 * length bytes.now }
+    ensures { found_shown form.now.bits result ≡ Told (find_in (Truth form.now) before bytes.now) }
+{
+    match read_truth(bytes, before, form) {
+        Ok(truth) => Found::Reads(Content::Truth(truth)),
+        Err(_) => Found::Fails(ParseCause::UnknownBoolean),
     }
 }
 
@@ -133,9 +188,9 @@ fn far_of_run(first: u64, count: usize) -> u64
 
 // How many bytes the bits of a leaf lie in.
 fn spanned(bit: u64, bits: u32) -> usize
-    requires { bits ≤ 128 }
+    requires { bits ≤ 156 }
     ensures count { result ≡ bytes_spanned bit bits }
-    ensures few { result ≤ 17 }
+    ensures few { result ≤ 21 }
 {
     (bit % 8 + u64::from(bits)).div_ceil(8) as usize
 }

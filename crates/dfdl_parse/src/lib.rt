@@ -6,6 +6,7 @@
 #![tactic(auto)]
 
 pub mod frame;
+mod framing;
 mod leaf;
 mod outcome;
 pub mod parser;

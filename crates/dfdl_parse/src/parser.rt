@@ -7,20 +7,20 @@ ghost use Rattle.dfdl_grammar.specs.Elements.{left};
 ghost use Rattle.dfdl_grammar.specs.Leaves.{Find};
 ghost use Rattle.dfdl_looks.specs.Asks.{Reading};
 ghost use Rattle.dfdl_looks.specs.Tallies.{nothing};
-ghost use Rattle.dfdl_parse.specs.Machines.{HasEnded, children_of, step, enter, enter_group, enter_element, read_leaf, read_move, leave, leave_done, go_on, pass};
+ghost use Rattle.dfdl_parse.specs.Machines.{HasEnded, NeedsFrom, children_of, step, enter, enter_fill, enter_group, enter_element, fill, fill_move, read_leaf, read_move, leave, leave_done, go_on, pass};
 ghost use Rattle.dfdl_parse.specs.Answers.{answer_at, answer_of};
 ghost use Rattle.dfdl_parse.specs.Steps.{Answers, IsWithin, Moved};
 ghost use Rattle.dfdl_parse.specs.Shown.{state_of};
 
 use crate::frame::{Focus, Frame};
-use crate::leaf::{Found, Glance, read_integer};
+use crate::framing::{aligned, last_byte, look_beyond};
+use crate::leaf::{Found, Glance, bits_of, read_leaf};
 use crate::outcome::Outcome;
 use crate::stack::Stack;
-use dfdl_bits::{Steps, Window};
-use dfdl_forms::IntForm;
+use dfdl_bits::{Seen, Steps, Window};
 use dfdl_grammar::End;
 use dfdl_region::{Content, Node, NodeRegion};
-use dfdl_report::LimitCause;
+use dfdl_report::{LimitCause, ParseCause};
 use dfdl_terms::{Primitive, Row, RowId, Terms};
 use std::alloc::{AllocError, Global};
 use std::sync::ledger::Ledger;
@@ -64,6 +64,7 @@ impl Parser {
         let focus = self.focus;
         match focus {
             Focus::Enter(_) => Outcome::Open,
+            Focus::Pass(_) => Outcome::Open,
             Focus::Leave(end) => {
                 if self.stack.is_empty() {
                     answer_of(end)
@@ -80,6 +81,7 @@ impl Parser {
     {
         match self.focus {
             Focus::Enter(_) => false,
+            Focus::Pass(_) => false,
             Focus::Leave(_) => self.stack.is_empty(),
         }
     }
@@ -91,14 +93,13 @@ impl Parser {
         sight: &mut Window,
         steps: &mut Steps<L>,
     ) -> Result<bool, AllocError>
-        requires base { sight.old.base ≤ self.old.at / 8 }
+        requires base { NeedsFrom sight.old.base self.old.focus self.old.at }
         requires at { self.old.at ≤ 8 * end_of sight.old }
         ensures moved { IfOk result (λ waits. Moved
             (step self.old.region.most terms.now sight.old self.old.focus self.old.stack (state_of self.old))
             waits self.old.far self.new sight.new (steps.new - steps.old)) }
         ensures steps { steps.old ≤ steps.new }
         ensures most { OnOk result (self.new.region.most ≡ self.old.region.most) }
-        ensures low { OnOk result (sight.new.base ≤ self.new.at / 8) }
         ensures at { OnOk result (self.new.at ≤ 8 * end_of sight.new) }
     {
         let focus = self.focus;
@@ -107,6 +108,7 @@ impl Parser {
                 let waits = self.enter(terms, id, sight, steps)?;
                 Ok(waits)
             }
+            Focus::Pass(to) => Ok(self.pass(to, sight, steps)),
             Focus::Leave(end) => {
                 self.leave(terms, end)?;
                 Ok(false)
@@ -130,7 +132,6 @@ impl Parser {
             waits self.old.far self.new sight.new (steps.new - steps.old)) }
         ensures steps { steps.old ≤ steps.new }
         ensures most { OnOk result (self.new.region.most ≡ self.old.region.most) }
-        ensures low { OnOk result (sight.new.base ≤ self.new.at / 8) }
         ensures at { OnOk result (self.new.at ≤ 8 * end_of sight.new) }
     {
         if id.number() >= terms.rows() {
@@ -139,7 +140,7 @@ impl Parser {
         }
         match terms.row(id) {
             Row::Leaf { prim } => {
-                let primitive = terms.tables().primitives()[*prim as usize];
+                let primitive = &terms.tables().primitives()[*prim as usize];
                 Ok(self.read(primitive, id, sight, steps))
             }
             Row::Elem { simple, body, .. } => {
@@ -150,6 +151,16 @@ impl Parser {
                 self.first_child(id, children.as_slice())?;
                 Ok(false)
             }
+            Row::Skip { bits } => {
+                let _end = sight.end();
+                self.begin_fill(self.at + u64::from(*bits));
+                Ok(false)
+            }
+            Row::Align { bits } => {
+                let _end = sight.end();
+                self.begin_fill(aligned(*bits, self.at));
+                Ok(false)
+            }
         }
     }
 
@@ -157,7 +168,7 @@ impl Parser {
     #[tactic(auto, using(crate::proofs::Windows::end_from))]
     fn read<L: Ledger>(
         &mut self,
-        primitive: Primitive,
+        primitive: &Primitive,
         id: RowId,
         sight: &mut Window,
         steps: &mut Steps<L>,
@@ -165,30 +176,27 @@ impl Parser {
         requires focus { self.old.focus ≡ Focus.Enter id }
         requires base { sight.old.base ≤ self.old.at / 8 }
         requires at { self.old.at ≤ 8 * end_of sight.old }
-        requires primitive { IsPrimitive primitive }
-        ensures moved { Moved (read_leaf sight.old id (Some primitive) self.old.stack (state_of self.old))
+        requires primitive { IsPrimitive primitive.now }
+        ensures moved { Moved (read_leaf sight.old id (Some primitive.now) self.old.stack (state_of self.old))
             result self.old.far self.new sight.new (steps.new - steps.old) }
         ensures steps { steps.old ≤ steps.new }
         ensures most { self.new.region.most ≡ self.old.region.most }
-        ensures low { sight.new.base ≤ self.new.at / 8 }
         ensures at { self.new.at ≤ 8 * end_of sight.new }
     {
-        let form = integer_of(primitive);
         let _end = sight.end();
         sight.drop_before(self.at / 8);
-        let glance = read_integer(&form, self.at, sight, steps);
-        self.land(glance, form.bits, sight.size() as u64)
+        let glance = read_leaf(primitive, self.at, sight, steps);
+        self.land(glance, bits_of(primitive), sight.size() as u64)
     }
 
     // The reading of a leaf of so many bits is taken.
     fn land(&mut self, glance: Glance, bits: u32, window: u64) -> bool
-        requires few { bits ≤ 128 }
+        requires few { bits ≤ 156 }
         requires bound { self.old.at ≤ 2 ^ 63 }
         ensures moved { (sight : Held) (id looks : ℕ) (reading : Reading Find) → self.old.focus ≡ Focus.Enter id
             → Answers reading bits glance looks
             → Moved (read_move window sight id reading self.old.stack (state_of self.old)) result self.old.far self.new sight looks }
         ensures most { self.new.region.most ≡ self.old.region.most }
-        ensures low { self.old.at ≤ self.new.at }
         ensures at { (end : ℕ) → self.old.at ≤ 8 * end → IsWithin glance.found (self.old.at + bits) end → self.new.at ≤ 8 * end }
     {
         match &glance.found {
@@ -212,6 +220,69 @@ impl Parser {
             }
         }
         self.far = self.far.max(glance.far);
+        false
+    }
+
+    // Fill up to a bit begins, where there is any.
+    fn begin_fill(&mut self, to: u64)
+        ensures moved { (held : Held) → Moved
+            (enter_fill held to self.old.stack (state_of self.old)) false self.old.far self.new held 0 }
+        ensures most { self.new.region.most ≡ self.old.region.most }
+        ensures at { self.new.at ≡ self.old.at }
+    {
+        if to <= self.at {
+            self.focus = Focus::Leave(End::Done);
+        } else {
+            self.focus = Focus::Pass(to);
+        }
+    }
+
+    // Fill up to a bit is passed over.
+    fn pass<L: Ledger>(&mut self, to: u64, sight: &mut Window, steps: &mut Steps<L>) -> bool
+        requires focus { self.old.focus ≡ Focus.Pass to }
+        requires base { sight.old.base ≤ (to - 1) / 8 }
+        requires at { self.old.at ≤ 8 * end_of sight.old }
+        ensures moved { Moved (fill sight.old to self.old.stack (state_of self.old))
+            result self.old.far self.new sight.new (steps.new - steps.old) }
+        ensures steps { steps.old ≤ steps.new }
+        ensures most { self.new.region.most ≡ self.old.region.most }
+        ensures at { self.new.at ≤ 8 * end_of sight.new }
+    {
+        let window = sight.size() as u64;
+        let seen = look_beyond(last_byte(to), sight, steps);
+        self.fill(seen, to, window)
+    }
+
+    // The last byte of fill up to a bit is seen.
+    fn fill(&mut self, seen: Seen, to: u64, window: u64) -> bool
+        requires focus { self.old.focus ≡ Focus.Pass to }
+        ensures moved { (sight : Held) → Moved
+            (fill_move window sight to seen self.old.stack (state_of self.old)) result self.old.far self.new sight 1 }
+        ensures most { self.new.region.most ≡ self.old.region.most }
+    {
+        let first = self.at;
+        let far = self.far.max(last_byte(to) + 1);
+        match seen {
+            Seen::NotYet => return true,
+            Seen::Byte(_) => {
+                self.at = to;
+                self.focus = Focus::Leave(End::Done);
+                self.far = far;
+            }
+            Seen::End => {
+                self.focus = Focus::Leave(End::Failed {
+                    cause: ParseCause::DataEnds,
+                    bit: first,
+                });
+                self.far = far;
+            }
+            Seen::Over => {
+                self.focus = Focus::Leave(End::Stopped {
+                    cause: LimitCause::Window,
+                    quantity: window,
+                });
+            }
+        }
         false
     }
 
@@ -365,6 +436,8 @@ fn child_of(terms: &Terms, group: RowId, place: usize) -> Option<RowId>
         Row::Group { children } => children.as_slice().get(place).copied(),
         Row::Leaf { .. } => None,
         Row::Elem { .. } => None,
+        Row::Skip { .. } => None,
+        Row::Align { .. } => None,
     }
 }
 
@@ -377,12 +450,4 @@ fn answer_of(end: End) -> Outcome
         End::Failed { cause, bit } => Outcome::Failed { cause, bit },
         End::Stopped { cause, quantity } => Outcome::Limit { cause, quantity },
     }
-}
-
-// The form of an integer.
-fn integer_of(primitive: Primitive) -> IntForm
-    ensures { primitive ≡ Primitive.Integer result }
-{
-    let Primitive::Integer(form) = primitive;
-    form
 }

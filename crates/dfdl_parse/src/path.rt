@@ -72,6 +72,8 @@ fn push_name(
         }
         Row::Leaf { .. } => Ok(()),
         Row::Group { .. } => Ok(()),
+        Row::Skip { .. } => Ok(()),
+        Row::Align { .. } => Ok(()),
     }
 }
 

@@ -1,7 +1,7 @@
 // The machine runs until it has ended or waits for a byte.
-ghost use Rattle.std.specs.Prelude.{◌≡◌, ◌*◌, ◌/◌, ◌≤◌, ◌-◌, IfOk, OnOk, true, false};
+ghost use Rattle.std.specs.Prelude.{◌≡◌, ◌*◌, ◌≤◌, ◌-◌, IfOk, OnOk, true, false};
 ghost use Rattle.dfdl_bits.specs.Window.{end_of};
-ghost use Rattle.dfdl_parse.specs.Machines.{HasEnded};
+ghost use Rattle.dfdl_parse.specs.Machines.{HasEnded, NeedsFrom};
 ghost use Rattle.dfdl_parse.specs.Running.{Advanced, Waited};
 
 use crate::parser::Parser;
@@ -17,7 +17,7 @@ pub(crate) fn run<L: Ledger>(
     sight: &mut Window,
     steps: &mut Steps<L>,
 ) -> Result<bool, AllocError>
-    requires base { sight.old.base ≤ parser.old.at / 8 }
+    requires base { NeedsFrom sight.old.base parser.old.focus parser.old.at }
     requires at { parser.old.at ≤ 8 * end_of sight.old }
     ensures waits { IfOk result (λ waits. waits ≡ true
         → Waited terms.now parser.old parser.new sight.old sight.new (steps.new - steps.old)) }
@@ -26,7 +26,7 @@ pub(crate) fn run<L: Ledger>(
     ensures over { IfOk result (λ waits. waits ≡ false → HasEnded parser.new.focus parser.new.stack) }
     ensures steps { steps.old ≤ steps.new }
     ensures most { OnOk result (parser.new.region.most ≡ parser.old.region.most) }
-    ensures low { OnOk result (sight.new.base ≤ parser.new.at / 8) }
+    ensures low { OnOk result (NeedsFrom sight.new.base parser.new.focus parser.new.at) }
     ensures at { OnOk result (parser.new.at ≤ 8 * end_of sight.new) }
 {
     let _rows = terms.rows();

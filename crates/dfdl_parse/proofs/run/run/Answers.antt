@@ -2,7 +2,7 @@ use Rattle.std.proofs.Common.{◌-◌, Bool, false, refl, subst, sym, ◌∙◌,
 use Rattle.dfdl_parse.specs.Machines.{step}
 use Rattle.dfdl_parse.specs.Shown.{state_of}
 use Rattle.dfdl_parse.specs.Steps.{Moved}
-use Rattle.dfdl_parse.proofs.Goes.{advance, wait, stay, go_further, go_and_wait, agrees_padded, still_agrees, step-smaller, padded}
+use Rattle.dfdl_parse.proofs.Goes.{advance, wait, stay, go_further, go_and_wait, agrees_padded, still_agrees, still_low, step-smaller, padded}
 use Rattle.dfdl_parse.proofs.run.run.Goals as goal
 
 pub steps-init : goal.steps-init
@@ -27,6 +27,11 @@ returns-then-waits-clause-waits g c _ =
     w c.steps.parser.far c.step.new.self c.step.new.sight (c.step.new.steps - c.steps.steps))
     c.if-waits.true c.in_ok-waits.ensures.moved))
 
+pub returns-then-waits-clause-low : goal.returns-then-waits-clause-low
+returns-then-waits-clause-low g c =
+    still_low c.args.terms.now c.rows-rows.ensures.table.nests c.steps.parser c.step.new.self c.steps.sight c.step.new.sight
+    (c.step.new.steps - c.steps.steps) c.steps.invariant.low c.steps.invariant.at c.in_ok-waits.waits c.in_ok-waits.ensures.moved
+
 pub steps-preserved : goal.steps-preserved
 steps-preserved g c =
     let moved = subst (λ (w : Bool). Moved
@@ -34,7 +39,8 @@ steps-preserved g c =
     w c.steps.parser.far c.step.new.self c.step.new.sight (c.step.new.steps - c.steps.steps))
     c.if-waits.false c.in_ok-waits.ensures.moved in
     record {
-      low = c.in_ok-waits.ensures.low;
+      low = still_low c.args.terms.now c.rows-rows.ensures.table.nests c.steps.parser c.step.new.self c.steps.sight c.step.new.sight
+          (c.step.new.steps - c.steps.steps) c.steps.invariant.low c.steps.invariant.at false moved;
       at = c.in_ok-waits.ensures.at;
       most = c.in_ok-waits.ensures.most ∙ c.steps.invariant.most;
       steps = omega (arith, c.in_ok-waits.ensures.steps, c.steps.invariant.steps);

@@ -1,6 +1,7 @@
-use Rattle.std.proofs.Common.{◌≡◌, ◌-◌, ◌*◌, ◌/◌, ◌≤◌}
+use Rattle.std.proofs.Common.{◌≡◌, ◌-◌, ◌*◌, ◌≤◌}
 use Rattle.dfdl_bits.specs.Window.{end_of}
 use Rattle.dfdl_looks.specs.Looks.{Agrees}
+use Rattle.dfdl_parse.specs.Machines.{NeedsFrom}
 use Rattle.dfdl_parse.specs.Running.{Advanced}
 use Rattle.dfdl_parse.specs.Shown.{shown}
 use Rattle.dfdl_parse.proofs.Falls.{measure}
@@ -9,7 +10,7 @@ use Rattle.dfdl_parse.proofs.run.run.Given as goal
 
 abbrev pub invariant-steps : goal.invariant-steps
 invariant-steps g l = record {
-  low : l.sight.base ≤ l.parser.at / 8;
+  low : NeedsFrom l.sight.base l.parser.focus l.parser.at;
   at : l.parser.at ≤ 8 * end_of l.sight;
   most : l.parser.region.most ≡ l.fn.parser.region.most;
   steps : l.fn.steps ≤ l.steps;

@@ -1,0 +1,41 @@
+// Fill that is passed over.
+ghost use Rattle.std.specs.Prelude.{◌≡◌, ◌+◌, ◌-◌, ◌/◌, ◌^◌, ◌≤◌, min};
+ghost use Rattle.dfdl_bits.specs.Window.{end_of, from_byte};
+ghost use Rattle.dfdl_grammar.specs.Framing.{aligned};
+ghost use Rattle.dfdl_parse.specs.Machines.{seen_beyond};
+
+use dfdl_bits::{Seen, Steps, Window};
+use std::sync::ledger::Ledger;
+
+/// Gives up the bytes before a byte, and looks at it. Where it hasn't come, all bytes are given up, and this is a look at the
+/// first that hasn't come.
+pub(crate) fn look_beyond<L: Ledger>(k: u64, sight: &mut Window, steps: &mut Steps<L>) -> Seen
+    requires { sight.old.base ≤ k }
+    ensures seen { result ≡ seen_beyond sight.old k }
+    ensures held { sight.new ≡ from_byte sight.old (min k (end_of sight.old)) }
+    ensures cost { steps.new ≡ steps.old + 1 }
+{
+    let near = k.min(sight.end());
+    sight.drop_before(near);
+    sight.look(near, steps)
+}
+
+/// The byte of the last bit before a bit.
+pub(crate) fn last_byte(to: u64) -> u64
+    ensures last { result ≡ (to - 1) / 8 }
+    ensures few { result ≤ 2 ^ 61 }
+{
+    to.saturating_sub(1) / 8
+}
+
+/// The first multiple of so many bits that is no bit before this one; of no bits it is this one.
+pub(crate) fn aligned(bits: u32, bit: u64) -> u64
+    requires { bit ≤ 2 ^ 63 }
+    ensures { result ≡ aligned bits bit }
+{
+    if bits == 0 {
+        return bit;
+    }
+    let bits = u64::from(bits);
+    (bit + (bits - 1)) / bits * bits
+}

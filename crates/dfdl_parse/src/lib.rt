@@ -7,6 +7,8 @@
 
 pub mod frame;
 mod framing;
+#[cfg(test)]
+mod framing_tests;
 mod leaf;
 mod outcome;
 pub mod parser;

@@ -18,7 +18,7 @@ moved-at window size sight held same is P at =
 pub returns-clause-moved : goal.returns-clause-moved
 returns-clause-moved g c =
     let answers : Answers (ask (seen_at c.drop_before.new.self) (program c.args.primitive.now c.args.self.now.at) nothing) c.bits_of.result
-        c.read_leaf-glance.result (c.read_leaf-glance.new.steps - c.args.steps.now) =
+    c.read_leaf-glance.result (c.read_leaf-glance.new.steps - c.args.steps.now) =
     subst (λ (bits : ℕ). Answers (ask (seen_at c.drop_before.new.self) (program c.args.primitive.now c.args.self.now.at) nothing) bits
     c.read_leaf-glance.result (c.read_leaf-glance.new.steps - c.args.steps.now)) (sym c.bits_of.ensures.bits) c.read_leaf-glance.ensures.answers in
     moved-at c.size.result c.args.sight.now.size c.drop_before.new.self (from_byte c.args.sight.now (anchor (state_of c.args.self.now)))

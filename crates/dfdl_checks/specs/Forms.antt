@@ -4,6 +4,8 @@ use Rattle.dfdl_forms.specs.declared.binary.IntForm.{IntForm}
 use Rattle.dfdl_forms.specs.declared.order.BitOrder.TheVariants.{MostFirst}
 use Rattle.dfdl_forms.specs.declared.simple.Form.TheVariants.{Unsigned}
 use Rattle.dfdl_forms.specs.Types.{form_of}
+use Rattle.dfdl_terms.specs.declared.row.Primitive.{Primitive}
+use Rattle.dfdl_terms.specs.declared.row.Primitive.TheVariants.{Integer, Packed, Truth}
 
 -- one, two, four or eight bytes
 abbrev pub is_whole : ℕ → Bool
@@ -15,3 +17,9 @@ pub record IsWholeUnsigned (form : IntForm) : Type 0 where
   pub kind : form_of form.kind ≡ Unsigned form.bits
   pub bits_by : form.bits_by ≡ MostFirst
   pub point : form.point ≡ 0
+
+-- such an integer, and no other primitive
+abbrev pub IsWhole : Primitive → Type 0
+IsWhole (Integer form) = IsWholeUnsigned form
+IsWhole (Packed form) = ⊥
+IsWhole (Truth form) = ⊥

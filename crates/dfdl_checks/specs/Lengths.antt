@@ -1,4 +1,4 @@
--- Constant lengths of binary numbers, in bits ('Simple Types', on numbers with binary representation).
+-- Constant lengths of binary numbers and booleans, in bits ('Simple Types', on binary representation).
 use Rattle.std.specs.Prelude.{ℕ, Bool, nat_le, ◌&&◌, ◌*◌, List, Option, Some, None, codes, if◌then◌else◌, option_map}
 use Rattle.std.specs.Str.Parse.{digits_value}
 use Rattle.dfdl_scope.specs.Expressions.{literal}

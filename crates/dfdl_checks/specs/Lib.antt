@@ -4,10 +4,13 @@ pub mod Alike
 pub mod Subjects
 pub mod Values
 pub mod Lengths
+pub mod Packed
+pub mod Booleans
 pub mod Applying
 pub mod Table
 pub mod TableShown
 pub mod Flaws
 pub mod Rules
 pub mod Numbers
+pub mod Framing
 pub mod Forms

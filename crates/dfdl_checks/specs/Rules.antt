@@ -1,17 +1,19 @@
 -- The rules that a component has to keep, and the first that it breaks. The numbers are those of the causes.
-use Rattle.std.specs.Prelude.{List, [], ◌∷◌, Bool, true, false, not, nat_lt, ◌&&◌, ◌||◌, Option, Some, None, is_some, codes, if◌then◌else◌}
+use Rattle.std.specs.Prelude.{ℕ, List, [], ◌∷◌, Bool, true, false, not, nat_lt, ◌&&◌, ◌||◌, Option, Some, None, is_some, codes, if◌then◌else◌}
 use Rattle.std.specs.Option.{option_map_or}
-use Rattle.dfdl_forms.specs.declared.simple.Simple.{Simple}
-use Rattle.dfdl_forms.specs.Binary.{most_bits}
 use Rattle.dfdl_forms.specs.Types.{form_of}
+use Rattle.dfdl_forms.specs.declared.packed.PackedRep.{PackedRep}
+use Rattle.dfdl_forms.specs.declared.simple.Simple.{Simple}
 use Rattle.dfdl_forms.specs.declared.simple.Simple.TheVariants.{Decimal, Integer, NonNegativeInteger, UnsignedByte, UnsignedShort, UnsignedInt, UnsignedLong}
 use Rattle.dfdl_report.specs.declared.cause.SchemaCause.{SchemaCause}
 use Rattle.dfdl_report.specs.declared.cause.SchemaCause.TheVariants as causes
 use Rattle.dfdl_report.specs.declared.place.Place.{Place}
 use Rattle.dfdl_scope.specs.Scoping.{repeated_at}
 use Rattle.dfdl_scope.specs.Table.{names_of, property_table}
+use Rattle.dfdl_checks.specs.Booleans.{falsity_told, truth_told}
 use Rattle.dfdl_checks.specs.Lengths.{constant_length, size_within}
-use Rattle.dfdl_checks.specs.Subjects.{is_element, is_choice, is_binary_number, is_explicit_number, is_told, number_bits}
+use Rattle.dfdl_checks.specs.Packed.{codes_told, nibbles_within, rep_of}
+use Rattle.dfdl_checks.specs.Subjects.{binary_bits, is_element, is_choice, is_binary_boolean, is_binary_number, is_explicit_binary, is_packed, is_simple, is_told, told_at, value_bits}
 use Rattle.dfdl_checks.specs.Flaws.{has_flaw}
 use Rattle.dfdl_checks.specs.declared.flaw.Flaw.TheVariants as flaws
 use Rattle.dfdl_checks.specs.declared.purpose.Purpose.{Purpose}
@@ -30,9 +32,9 @@ is_whole_type UnsignedInt = true
 is_whole_type UnsignedLong = true
 is_whole_type _ = false
 
--- elements of these types are built: for parsing those of all numbers
+-- elements of these types are built: for parsing those of all numbers, and booleans
 abbrev pub is_built_type : Purpose → Simple → Bool
-is_built_type Parsing simple = nat_lt 0 (most_bits (form_of simple))
+is_built_type Parsing simple = nat_lt 0 (binary_bits (form_of simple))
 is_built_type Unparsing simple = is_whole_type simple
 
 -- an element of a simple type that is carried, and built later
@@ -87,26 +89,60 @@ is_unsized (SimpleElement NonNegativeInteger) = true
 is_unsized (SimpleElement Decimal) = true
 is_unsized _ = false
 
--- the length is that of the type, and the type has none
+-- the length is that of the type, and the type has none, or the number is packed
 abbrev pub is_length_without_size : Judged → Bool
-is_length_without_size subject = is_unsized subject.kind && is_told subject (codes "lengthKind") (codes "implicit")
+is_length_without_size subject =
+    (is_unsized subject.kind || is_some (rep_of subject)) && is_told subject (codes "lengthKind") (codes "implicit")
 
--- 15: a binary number of delimited length, with a length by a pattern, or with the length of a type that has none
+-- a binary number of delimited length, with a length by a pattern, or with the length of a type that has none
+abbrev pub is_number_length_not_allowed : Judged → Bool
+is_number_length_not_allowed subject = is_binary_number subject && (is_length_by_content subject || is_length_without_size subject)
+
+-- a binary boolean of delimited length
+abbrev pub is_delimited_boolean : Judged → Bool
+is_delimited_boolean subject = is_binary_boolean subject && is_told subject (codes "lengthKind") (codes "delimited")
+
+-- 15: a binary number or boolean with a kind of length that it can't have
 abbrev pub is_length_kind_not_allowed : Judged → Bool
-is_length_kind_not_allowed subject = is_binary_number subject && (is_length_by_content subject || is_length_without_size subject)
+is_length_kind_not_allowed subject = is_number_length_not_allowed subject || is_delimited_boolean subject
 
--- 16: a binary number whose length is counted in characters
+-- 16: a binary number or boolean whose length is counted in characters
 abbrev pub is_length_in_characters : Judged → Bool
-is_length_in_characters subject = is_explicit_number subject && is_told subject (codes "lengthUnits") (codes "characters")
+is_length_in_characters subject = is_explicit_binary subject && is_told subject (codes "lengthUnits") (codes "characters")
 
--- the length is constant, and no number of the type has so few or so many bits
+-- a length that a field can have: of a packed representation, else of a binary value of at most so many bits
+abbrev pub is_size : Option PackedRep → ℕ → Option ℕ → Bool
+is_size None most length = is_some (size_within most length)
+is_size (Some rep) most length = is_some (nibbles_within rep length)
+
+-- the length is constant, and the component's field can have it
+abbrev pub has_size : Judged → Bool
+has_size subject = is_size (rep_of subject) (value_bits subject.kind) (constant_length subject)
+
+-- the length is constant, and the component's field can't have it
 abbrev pub is_no_size : Judged → Bool
-is_no_size subject =
-    is_some (constant_length subject) && not (is_some (size_within (number_bits subject.kind) (constant_length subject)))
+is_no_size subject = is_some (constant_length subject) && not (has_size subject)
 
--- 17: a binary number with a constant length that its type does not have
+-- 17: a binary number or boolean with a constant length that its field can't have
 abbrev pub is_length_out_of_range : Judged → Bool
-is_length_out_of_range subject = is_explicit_number subject && is_no_size subject
+is_length_out_of_range subject = is_explicit_binary subject && is_no_size subject
+
+-- 24: an implicit alignment of what is no simple element
+abbrev pub is_alignment_not_allowed : Judged → Bool
+is_alignment_not_allowed subject = not (is_simple subject.kind) && is_told subject (codes "alignment") (codes "implicit")
+
+-- 26: a packed number whose sign codes aren't four that are allowed
+abbrev pub are_codes_malformed : Judged → Bool
+are_codes_malformed subject = is_packed subject && not (is_some (codes_told (told_at subject (codes "binaryPackedSignCodes"))))
+
+-- each number of a boolean is one of 32 bits, and only that of true may be lacking
+abbrev pub are_truths_told : Judged → Bool
+are_truths_told subject =
+    is_some (truth_told (told_at subject (codes "binaryBooleanTrueRep"))) && is_some (falsity_told (told_at subject (codes "binaryBooleanFalseRep")))
+
+-- 27: a binary boolean without a number of false, or with a number past 32 bits
+abbrev pub are_truths_malformed : Judged → Bool
+are_truths_malformed subject = is_binary_boolean subject && not (are_truths_told subject)
 
 -- a rule: its cause, and where a component breaks it, if it does
 pub record Rule : Type 0 where
@@ -129,6 +165,9 @@ rules =
     ∷ at_itself causes.LengthKind is_length_kind_not_allowed
     ∷ at_itself causes.LengthUnits is_length_in_characters
     ∷ at_itself causes.ConstantLength is_length_out_of_range
+    ∷ at_itself causes.Alignment is_alignment_not_allowed
+    ∷ at_itself causes.SignCodes are_codes_malformed
+    ∷ at_itself causes.BooleanRepresentations are_truths_malformed
     ∷ []
 
 -- a breach of a rule

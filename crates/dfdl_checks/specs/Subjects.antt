@@ -61,6 +61,26 @@ abbrev pub number_bits : Kind → ℕ
 number_bits (SimpleElement simple) = most_bits (form_of simple)
 number_bits _ = 0
 
+-- values of this form are true and false
+abbrev pub is_truths : Form → Bool
+is_truths Truths = true
+is_truths _ = false
+
+-- an element of type boolean
+abbrev pub is_boolean : Kind → Bool
+is_boolean (SimpleElement simple) = is_truths (form_of simple)
+is_boolean _ = false
+
+-- how many bits a value of this form has at most in binary: that of a number, and 32 for true and false; 0 for every other form
+abbrev pub binary_bits : Form → ℕ
+binary_bits Truths = 32
+binary_bits form = most_bits form
+
+-- the same of an element's values; 0 for every other component
+abbrev pub value_bits : Kind → ℕ
+value_bits (SimpleElement simple) = binary_bits (form_of simple)
+value_bits _ = 0
+
 -- values of this form have digits behind a point
 abbrev pub has_point : Form → Bool
 has_point Fixed = true
@@ -89,6 +109,18 @@ is_binary_number subject = nat_lt 0 (number_bits subject.kind) && is_word (codes
 abbrev pub is_told : Judged → List ℕ → List ℕ → Bool
 is_told subject name word = is_word word (told_at subject name)
 
--- a binary number with a length of its own
-abbrev pub is_explicit_number : Judged → Bool
-is_explicit_number subject = is_binary_number subject && is_told subject (codes "lengthKind") (codes "explicit")
+-- a binary boolean: an element of type boolean whose representation is binary
+abbrev pub is_binary_boolean : Judged → Bool
+is_binary_boolean subject = is_boolean subject.kind && is_told subject (codes "representation") (codes "binary")
+
+-- a binary number or boolean
+abbrev pub is_binary : Judged → Bool
+is_binary subject = nat_lt 0 (value_bits subject.kind) && is_told subject (codes "representation") (codes "binary")
+
+-- a binary number or boolean with a length of its own
+abbrev pub is_explicit_binary : Judged → Bool
+is_explicit_binary subject = is_binary subject && is_told subject (codes "lengthKind") (codes "explicit")
+
+-- a binary number with a sign behind its digits, of the representation packed
+abbrev pub is_packed : Judged → Bool
+is_packed subject = is_binary_number subject && is_told subject (codes "binaryNumberRep") (codes "packed")

@@ -1,12 +1,11 @@
 -- Which properties are asked of which components, and which of their values are built. Each property of the profile that
--- is not here applies to components of later forms alone: to text, to delimiters, to escapes, to elements of explicit or
--- prefixed length, to elements that may be nil or occur otherwise than once, to choices and their branches, to packed
--- numbers, and to binary decimals and booleans. Where the least significant bit comes first, which is a later form too,
--- byteOrder will be asked of each binary number.
+-- is not here applies to components of later forms alone: to text, to delimiters, to escapes, to elements of prefixed
+-- length, to elements that may be nil or occur otherwise than once, and to choices and their branches. Where the least
+-- significant bit comes first, which is a later form too, byteOrder will be asked of each binary number.
 use Rattle.std.specs.Prelude.{ℕ, List, [], ◌∷◌, Bool, true, false, codes}
 use Rattle.dfdl_checks.specs.Values.{is_among, is_number, is_within}
 use Rattle.dfdl_checks.specs.declared.applicability.Bearers.{Bearers}
-use Rattle.dfdl_checks.specs.declared.applicability.Bearers.TheVariants.{EveryComponent, Elements, OtherElements, SimpleElements, RepresentedElements, BinaryNumbers, WideBinaryNumbers, ExplicitNumbers, BinaryDecimals, PatternElements, Groups, Sequences, EmptySequences}
+use Rattle.dfdl_checks.specs.declared.applicability.Bearers.TheVariants.{EveryComponent, Elements, OtherElements, SimpleElements, RepresentedElements, BinaryNumbers, BinaryBooleans, WideBinaries, ExplicitBinaries, PackedNumbers, BinaryDecimals, PatternElements, Groups, Sequences, EmptySequences}
 use Rattle.dfdl_checks.specs.declared.purpose.Purpose.{Purpose}
 use Rattle.dfdl_checks.specs.declared.purpose.Purpose.TheVariants.{Parsing, Unparsing}
 
@@ -52,23 +51,25 @@ abbrev pub word : List ℕ → Built
 word text = Words (text ∷ [])
 
 -- the properties, in the order of the profile. A binary number of delimited length, with a length by a pattern or with a
--- length in characters is refused by a rule of its own, so these values, and its pattern, are no forms that come later
+-- length in characters is refused by a rule of its own, so these values, and its pattern, are no forms that come later; so is
+-- a binary boolean of delimited length or with a length in characters
 unfoldable pub applicability_table : List Applicability
 applicability_table =
     applies (codes "representation") RepresentedElements (word (codes "binary"))
-    ∷ applies (codes "byteOrder") WideBinaryNumbers EveryValue
+    ∷ applies (codes "byteOrder") WideBinaries EveryValue
     ∷ applies (codes "bitOrder") EveryComponent (word (codes "mostSignificantBitFirst"))
     ∷ applies (codes "lengthKind") OtherElements (word (codes "implicit"))
     ∷ applies_by (codes "lengthKind") BinaryNumbers
     (Words (codes "implicit" ∷ codes "explicit" ∷ codes "delimited" ∷ codes "pattern" ∷ []))
     (Words (codes "implicit" ∷ codes "delimited" ∷ codes "pattern" ∷ []))
-    ∷ applies (codes "length") ExplicitNumbers EachNumber
-    ∷ applies (codes "lengthUnits") ExplicitNumbers EveryValue
+    ∷ applies_by (codes "lengthKind") BinaryBooleans (Words (codes "implicit" ∷ codes "explicit" ∷ codes "delimited" ∷ [])) (word (codes "implicit"))
+    ∷ applies (codes "length") ExplicitBinaries EachNumber
+    ∷ applies (codes "lengthUnits") ExplicitBinaries EveryValue
     ∷ applies (codes "lengthPattern") PatternElements EveryValue
-    ∷ applies (codes "alignment") EveryComponent (Number 1)
-    ∷ applies (codes "alignmentUnits") EveryComponent (word (codes "bits"))
-    ∷ applies (codes "leadingSkip") EveryComponent (Number 0)
-    ∷ applies (codes "trailingSkip") EveryComponent (Number 0)
+    ∷ applies_by (codes "alignment") EveryComponent EveryValue (Number 1)
+    ∷ applies_by (codes "alignmentUnits") EveryComponent EveryValue (word (codes "bits"))
+    ∷ applies_by (codes "leadingSkip") EveryComponent EveryValue (Number 0)
+    ∷ applies_by (codes "trailingSkip") EveryComponent EveryValue (Number 0)
     ∷ applies (codes "fillByte") EveryComponent (word (codes "%#r00;"))
     ∷ applies (codes "initiator") EveryComponent (word (codes ""))
     ∷ applies (codes "terminator") EveryComponent (word (codes ""))
@@ -76,7 +77,11 @@ applicability_table =
     ∷ applies (codes "initiatedContent") Groups (word (codes "no"))
     ∷ applies (codes "sequenceKind") Sequences (word (codes "ordered"))
     ∷ applies (codes "hiddenGroupRef") EmptySequences NoValue
-    ∷ applies (codes "binaryNumberRep") BinaryNumbers (word (codes "binary"))
+    ∷ applies (codes "binaryBooleanTrueRep") BinaryBooleans EveryValue
+    ∷ applies (codes "binaryBooleanFalseRep") BinaryBooleans EveryValue
+    ∷ applies_by (codes "binaryNumberRep") BinaryNumbers EveryValue (word (codes "binary"))
+    ∷ applies (codes "binaryPackedSignCodes") PackedNumbers EveryValue
+    ∷ applies (codes "binaryNumberCheckPolicy") PackedNumbers EveryValue
     ∷ applies (codes "binaryDecimalVirtualPoint") BinaryDecimals EveryValue
     ∷ applies (codes "nilValueDelimiterPolicy") SimpleElements EveryValue
     ∷ applies (codes "emptyValueDelimiterPolicy") SimpleElements EveryValue

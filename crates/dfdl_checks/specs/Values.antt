@@ -1,5 +1,5 @@
 -- Whether a text is a value of a property: 'Property Scoping and DFDL Schema Checking', and the chapters on each property.
-use Rattle.std.specs.Prelude.{ℕ, List, Bool, true, false, not, nat_le, length, ◌==◌, ◌&&◌, ◌||◌, codes, if◌then◌else◌}
+use Rattle.std.specs.Prelude.{ℕ, List, Bool, true, false, not, nat_le, length, ◌==◌, ◌&&◌, ◌||◌, Option, Some, None, codes, if◌then◌else◌}
 use Rattle.std.specs.List.{list_any}
 use Rattle.std.specs.Str.{all_ascii_digits, bytes_eq}
 use Rattle.std.specs.Str.Parse.{digits_value}
@@ -23,6 +23,10 @@ is_number text = not (is_empty text) && all_ascii_digits text
 -- a number from the first to the second
 abbrev pub is_within : ℕ → ℕ → List ℕ → Bool
 is_within least most text = is_number text && (nat_le least (digits_value 10 text) && nat_le (digits_value 10 text) most)
+
+-- the number that digits stand for, if it is one from the first to the second
+abbrev pub number_within : ℕ → ℕ → List ℕ → Option ℕ
+number_within least most text = if is_within least most text then Some (digits_value 10 text) else None
 
 -- a text has the form. Those whose form is left to what takes them, as literals and names, are taken as they are here
 abbrev pub has_form : Form → List ℕ → Bool

@@ -5,17 +5,21 @@
 pub enum Bearers {
     EveryComponent,
     Elements,
-    /// Elements that are no binary numbers.
+    /// Elements that are neither binary numbers nor binary booleans.
     OtherElements,
     SimpleElements,
     /// Simple elements but those of type string and hexBinary.
     RepresentedElements,
     /// Simple elements of an integer or decimal type whose representation is binary.
     BinaryNumbers,
-    /// Binary numbers of a type with more than 8 bits.
-    WideBinaryNumbers,
-    /// Binary numbers of lengthKind explicit.
-    ExplicitNumbers,
+    /// Elements of type boolean whose representation is binary.
+    BinaryBooleans,
+    /// Binary numbers of a type with more than 8 bits, and binary booleans.
+    WideBinaries,
+    /// Binary numbers and booleans of lengthKind explicit.
+    ExplicitBinaries,
+    /// Binary numbers of the representation packed, which have a sign behind their digits.
+    PackedNumbers,
     /// Binary numbers of type decimal.
     BinaryDecimals,
     /// Elements whose length is by a pattern.

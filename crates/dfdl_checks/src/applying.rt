@@ -21,12 +21,14 @@ pub(crate) fn is_bearer(bearers: Bearers, subject: &Subject<'_, '_, '_>) -> bool
     match bearers {
         Bearers::EveryComponent => true,
         Bearers::Elements => is_element(kind),
-        Bearers::OtherElements => is_element(kind) && !is_binary_number(subject),
+        Bearers::OtherElements => is_element(kind) && !is_binary(subject),
         Bearers::SimpleElements => is_simple(kind),
         Bearers::RepresentedElements => is_represented(kind),
         Bearers::BinaryNumbers => is_binary_number(subject),
-        Bearers::WideBinaryNumbers => number_bits(kind) > 8 && is_binary_number(subject),
-        Bearers::ExplicitNumbers => is_explicit_number(subject),
+        Bearers::BinaryBooleans => is_binary_boolean(subject),
+        Bearers::WideBinaries => value_bits(kind) > 8 && is_binary(subject),
+        Bearers::ExplicitBinaries => is_explicit_binary(subject),
+        Bearers::PackedNumbers => is_packed(subject),
         Bearers::BinaryDecimals => is_decimal(kind) && is_binary_number(subject),
         Bearers::PatternElements => {
             is_element(kind) && is_word(subject.chain, "lengthKind", "pattern")
@@ -48,7 +50,7 @@ pub(crate) fn is_element(kind: Kind) -> bool
 }
 
 /// Whether it is an element of a simple type.
-fn is_simple(kind: Kind) -> bool
+pub(crate) fn is_simple(kind: Kind) -> bool
     ensures { result ≡ subjects.is_simple kind }
 {
     match kind {
@@ -105,11 +107,52 @@ pub(crate) fn is_binary_number(subject: &Subject<'_, '_, '_>) -> bool
     number_bits(subject.kind) > 0 && is_word(subject.chain, "representation", "binary")
 }
 
-/// Whether it is a binary number with a length of its own.
-pub(crate) fn is_explicit_number(subject: &Subject<'_, '_, '_>) -> bool
-    ensures { result ≡ subjects.is_explicit_number (judged_of subject.now) }
+/// Whether it is an element of type boolean whose representation is binary.
+pub(crate) fn is_binary_boolean(subject: &Subject<'_, '_, '_>) -> bool
+    ensures { result ≡ subjects.is_binary_boolean (judged_of subject.now) }
 {
-    is_binary_number(subject) && is_word(subject.chain, "lengthKind", "explicit")
+    is_boolean(subject.kind) && is_word(subject.chain, "representation", "binary")
+}
+
+/// Whether it is a binary number or boolean.
+pub(crate) fn is_binary(subject: &Subject<'_, '_, '_>) -> bool
+    ensures { result ≡ subjects.is_binary (judged_of subject.now) }
+{
+    value_bits(subject.kind) > 0 && is_word(subject.chain, "representation", "binary")
+}
+
+/// Whether it is a binary number or boolean with a length of its own.
+pub(crate) fn is_explicit_binary(subject: &Subject<'_, '_, '_>) -> bool
+    ensures { result ≡ subjects.is_explicit_binary (judged_of subject.now) }
+{
+    is_binary(subject) && is_word(subject.chain, "lengthKind", "explicit")
+}
+
+/// Whether it is a binary number with a sign behind its digits.
+pub(crate) fn is_packed(subject: &Subject<'_, '_, '_>) -> bool
+    ensures { result ≡ subjects.is_packed (judged_of subject.now) }
+{
+    is_binary_number(subject) && is_word(subject.chain, "binaryNumberRep", "packed")
+}
+
+/// Whether it is an element of type boolean.
+fn is_boolean(kind: Kind) -> bool
+    ensures { result ≡ subjects.is_boolean kind }
+{
+    match kind {
+        Kind::SimpleElement(simple) => is_truths(simple),
+        _ => false,
+    }
+}
+
+/// Whether values of a type are true and false.
+pub(crate) fn is_truths(simple: Simple) -> bool
+    ensures { result ≡ subjects.is_truths (form_of simple) }
+{
+    match simple.form() {
+        Form::Truths => true,
+        _ => false,
+    }
 }
 
 /// Whether it is an element of type decimal.
@@ -133,7 +176,7 @@ pub(crate) fn has_point(simple: Simple) -> bool
 }
 
 /// How many bits an element of an integer or decimal type has at most in binary, else 0.
-pub(crate) fn number_bits(kind: Kind) -> u32
+fn number_bits(kind: Kind) -> u32
     ensures { result ≡ subjects.number_bits kind }
 {
     match kind {
@@ -150,6 +193,28 @@ pub(crate) fn most_bits(simple: Simple) -> u32
         Form::Signed { bits } | Form::Unsigned { bits } => bits,
         Form::Fixed => 128,
         Form::Characters | Form::Truths | Form::Octets => 0,
+    }
+}
+
+/// How many bits a value of an element has at most in binary, 0 where it has no binary form.
+pub(crate) fn value_bits(kind: Kind) -> u32
+    ensures { result ≡ subjects.value_bits kind }
+{
+    match kind {
+        Kind::SimpleElement(simple) => binary_bits(simple),
+        _ => 0,
+    }
+}
+
+/// How many bits a value of the type has at most in binary, 0 where it has no binary form.
+pub(crate) fn binary_bits(simple: Simple) -> u32
+    ensures { result ≡ subjects.binary_bits (form_of simple) }
+{
+    match simple.form() {
+        Form::Signed { bits } | Form::Unsigned { bits } => bits,
+        Form::Fixed => 128,
+        Form::Truths => 32,
+        Form::Characters | Form::Octets => 0,
     }
 }
 

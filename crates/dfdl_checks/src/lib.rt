@@ -4,23 +4,27 @@
 //! A component comes as a `Subject`: what kind it is, what it states, and the chain that its properties are asked of.
 //! `breach` gives the first rule that it breaks; its contract cites `specs/Rules.antt`, and the table of the properties
 //! that apply to components is `specs/Table.antt`. `primitive` says how the values of a simple element without a breach
-//! lie in the data, by `specs/Numbers.antt`. The chapters are 'Property Scoping and DFDL Schema Checking' and
-//! 'Simple Types'.
+//! lie in the data, by `specs/Numbers.antt`, and `framing` which fill stands around a component, by `specs/Framing.antt`.
+//! The chapters are 'Property Scoping and DFDL Schema Checking', 'Framing' and 'Simple Types'.
 #![tactic(auto)]
 
 mod applicability;
 mod applying;
+mod booleans;
 mod flaw;
 mod flaws;
+mod fill;
 pub mod laws;
 mod lengths;
 mod number;
+mod packed;
 mod purpose;
 mod rules;
 mod subject;
 mod table;
 mod values;
 
+pub use fill::framing;
 pub use number::primitive;
 pub use purpose::Purpose;
 pub use rules::breach;

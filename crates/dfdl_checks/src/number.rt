@@ -2,24 +2,27 @@
 ghost use Rattle.std.specs.Prelude.{◌≡◌, None, IsTrue, IsSome, codes};
 ghost use Rattle.dfdl_checks.specs.JudgedShown.{judged_of};
 ghost use Rattle.dfdl_checks.specs.Numbers as numbers;
+ghost use Rattle.dfdl_forms.specs.Types.{form_of};
 ghost use Rattle.dfdl_checks.specs.Rules.{first_breach, rules};
 ghost use Rattle.dfdl_checks.specs.Subjects.{is_simple};
 ghost use Rattle.dfdl_scope.specs.Scoping.{told};
 ghost use Rattle.dfdl_scope.specs.Shown.{chain_of};
 ghost use Rattle.dfdl_scope.specs.Told.{told_by};
 
-use crate::applying::{has_point, is_word, most_bits};
+use crate::applying::{has_point, is_truths, is_word, most_bits};
+use crate::booleans::{falsity_told, truth_told};
 use crate::lengths::constant_size;
+use crate::packed::{codes_for, constant_nibbles, is_strict, rep_of};
 use crate::purpose::Purpose;
 use crate::rules::is_built_type;
 use crate::subject::{Kind, Subject};
 use crate::values::is_within;
-use dfdl_forms::{BitOrder, ByteOrder, IntForm, Simple};
+use dfdl_forms::{BitOrder, BitTruthForm, ByteOrder, IntForm, PackedForm, PackedRep, Simple};
 use dfdl_scope::{Asked, Component, literal, property};
 use dfdl_terms::Primitive;
 
-/// How the values of a component lie in the data, where they are numbers of a type and of a size that
-/// are built: each simple element without a breach is one. Takes no memory.
+/// How the values of a component lie in the data, where they are of a type and of a size that are built:
+/// each simple element without a breach has one. Takes no memory.
 pub fn primitive(subject: &Subject<'_, '_, '_>) -> Option<Primitive>
     ensures form { result ≡ numbers.primitive_of (judged_of subject.now) }
     ensures sound { first_breach rules (judged_of subject.now) ≡ None → IsTrue (is_simple subject.now.kind) → IsSome result }
@@ -44,6 +47,29 @@ fn of_type(simple: Simple, subject: &Subject<'_, '_, '_>) -> Option<Primitive>
     if !is_built_type(subject.purpose, simple) {
         return None;
     }
+    match subject.purpose {
+        Purpose::Parsing => for_parsing(simple, subject),
+        Purpose::Unparsing => number_of_type(simple, subject),
+    }
+}
+
+/// The values of a component as those of the type, as they are built for parsing.
+fn for_parsing(simple: Simple, subject: &Subject<'_, '_, '_>) -> Option<Primitive>
+    ensures { result ≡ numbers.primitive_parsed (judged_of subject.now) simple }
+{
+    if is_truths(simple) {
+        return truth_of(subject);
+    }
+    match rep_of(subject) {
+        Some(rep) => packed_of_type(simple, rep, subject),
+        None => number_of_type(simple, subject),
+    }
+}
+
+/// The values of a component as binary integers or decimals of the type.
+fn number_of_type(simple: Simple, subject: &Subject<'_, '_, '_>) -> Option<Primitive>
+    ensures { result ≡ numbers.number_of_type (judged_of subject.now) simple }
+{
     number_by(
         simple,
         byte_order(subject.chain),
@@ -68,6 +94,96 @@ fn number_by(
             bits_by: BitOrder::MostFirst,
             point,
             kind: simple,
+        })),
+        _ => None,
+    }
+}
+
+/// The values of a component as packed numbers of the type.
+fn packed_of_type(
+    simple: Simple,
+    rep: PackedRep,
+    subject: &Subject<'_, '_, '_>,
+) -> Option<Primitive>
+    ensures { result ≡ numbers.packed_of_type (judged_of subject.now) simple rep }
+{
+    packed_by(
+        simple,
+        rep,
+        byte_order(subject.chain),
+        is_strict(rep, subject.chain),
+        field_nibbles(rep, subject),
+        codes_for(rep, property(subject.chain, "binaryPackedSignCodes")),
+        places_of(simple, property(subject.chain, "binaryDecimalVirtualPoint")),
+    )
+}
+
+/// A packed number, with so many nibbles, these sign codes and so many digits behind its point.
+fn packed_by(
+    simple: Simple,
+    rep: PackedRep,
+    order: ByteOrder,
+    strict: bool,
+    nibbles: Option<u32>,
+    codes: Option<[u8; 4]>,
+    places: Option<u8>,
+) -> Option<Primitive>
+    ensures { result ≡ numbers.packed_by simple rep order strict nibbles codes places }
+{
+    match (nibbles, codes, places) {
+        (Some(nibbles), Some(codes), Some(point)) => Some(Primitive::Packed(PackedForm {
+            nibbles,
+            rep,
+            codes,
+            strict,
+            point,
+            kind: simple,
+            bytes_by: order,
+            bits_by: BitOrder::MostFirst,
+        })),
+        _ => None,
+    }
+}
+
+/// How many nibbles the field of a packed number has.
+fn field_nibbles(rep: PackedRep, subject: &Subject<'_, '_, '_>) -> Option<u32>
+    ensures { result ≡ numbers.field_nibbles (judged_of subject.now) rep }
+{
+    if is_word(subject.chain, "lengthKind", "explicit") {
+        constant_nibbles(rep, subject.chain)
+    } else {
+        None
+    }
+}
+
+/// The values of a component as booleans.
+fn truth_of(subject: &Subject<'_, '_, '_>) -> Option<Primitive>
+    ensures { result ≡ numbers.truth_of (judged_of subject.now) }
+{
+    truth_by(
+        byte_order(subject.chain),
+        field_bits(subject, 32),
+        truth_told(property(subject.chain, "binaryBooleanTrueRep")),
+        falsity_told(property(subject.chain, "binaryBooleanFalseRep")),
+    )
+}
+
+/// A boolean with so many bits, a number of true, if there is one, and a number of false.
+fn truth_by(
+    order: ByteOrder,
+    bits: Option<u32>,
+    truth: Option<Option<u32>>,
+    falsity: Option<u32>,
+) -> Option<Primitive>
+    ensures { result ≡ numbers.truth_by order bits truth falsity }
+{
+    match (bits, truth, falsity) {
+        (Some(bits), Some(truth), Some(falsity)) => Some(Primitive::Truth(BitTruthForm {
+            bits,
+            bytes_by: order,
+            bits_by: BitOrder::MostFirst,
+            truth,
+            falsity,
         })),
         _ => None,
     }

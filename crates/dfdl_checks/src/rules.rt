@@ -4,16 +4,19 @@ ghost use Rattle.dfdl_checks.specs.JudgedShown.{judged_of};
 ghost use Rattle.dfdl_checks.specs.Rules as spec;
 
 use crate::applying::{
-    is_binary_number, is_choice, is_element, is_explicit_number, is_word, most_bits, number_bits,
+    binary_bits, is_binary_boolean, is_binary_number, is_choice, is_element, is_explicit_binary,
+    is_packed, is_simple, is_word, value_bits,
 };
+use crate::booleans::{falsity_told, truth_told};
 use crate::flaw::Flaw;
 use crate::flaws::has_flaw;
 use crate::lengths::{constant_size, has_constant_length};
+use crate::packed::{codes_told, constant_nibbles, rep_of};
 use crate::purpose::Purpose;
 use crate::subject::{Breach, Facts, Kind, Subject};
 use dfdl_forms::Simple;
 use dfdl_report::SchemaCause;
-use dfdl_scope::first_repeated;
+use dfdl_scope::{first_repeated, property};
 
 /// The first rule that a component breaks, by the numbers of their causes, if it breaks one.
 /// Takes no memory.
@@ -50,6 +53,15 @@ pub fn breach(subject: &Subject<'_, '_, '_>) -> Option<Breach>
     }
     if is_length_out_of_range(subject) {
         return told_here(SchemaCause::ConstantLength, subject);
+    }
+    if is_alignment_not_allowed(subject) {
+        return told_here(SchemaCause::Alignment, subject);
+    }
+    if are_codes_malformed(subject) {
+        return told_here(SchemaCause::SignCodes, subject);
+    }
+    if are_truths_malformed(subject) {
+        return told_here(SchemaCause::BooleanRepresentations, subject);
     }
     None
 }
@@ -97,7 +109,7 @@ pub(crate) fn is_built_type(purpose: Purpose, simple: Simple) -> bool
     ensures { result ≡ spec.is_built_type purpose simple }
 {
     match purpose {
-        Purpose::Parsing => most_bits(simple) > 0,
+        Purpose::Parsing => binary_bits(simple) > 0,
         Purpose::Unparsing => is_whole_type(simple),
     }
 }
@@ -130,12 +142,26 @@ fn is_type_not_carried(kind: Kind) -> bool
     }
 }
 
-/// Whether it is a binary number of delimited length, with a length by a pattern, or with the length
-/// of a type that has none.
+/// Whether it is a binary number or boolean with a kind of length that it can't have.
 fn is_length_kind_not_allowed(subject: &Subject<'_, '_, '_>) -> bool
     ensures { result ≡ spec.is_length_kind_not_allowed (judged_of subject.now) }
 {
+    is_number_length_not_allowed(subject) || is_delimited_boolean(subject)
+}
+
+/// Whether it is a binary number of delimited length, with a length by a pattern, or with the length
+/// of a type that has none.
+fn is_number_length_not_allowed(subject: &Subject<'_, '_, '_>) -> bool
+    ensures { result ≡ spec.is_number_length_not_allowed (judged_of subject.now) }
+{
     is_binary_number(subject) && (is_length_by_content(subject) || is_length_without_size(subject))
+}
+
+/// Whether it is a binary boolean of delimited length.
+fn is_delimited_boolean(subject: &Subject<'_, '_, '_>) -> bool
+    ensures { result ≡ spec.is_delimited_boolean (judged_of subject.now) }
+{
+    is_binary_boolean(subject) && is_word(subject.chain, "lengthKind", "delimited")
 }
 
 /// Whether the length is delimited or by a pattern.
@@ -146,11 +172,12 @@ fn is_length_by_content(subject: &Subject<'_, '_, '_>) -> bool
         || is_word(subject.chain, "lengthKind", "pattern")
 }
 
-/// Whether the length is that of the type, and the type has none.
+/// Whether the length is that of the type, and the type has none or the number is packed.
 fn is_length_without_size(subject: &Subject<'_, '_, '_>) -> bool
     ensures { result ≡ spec.is_length_without_size (judged_of subject.now) }
 {
-    is_unsized(subject.kind) && is_word(subject.chain, "lengthKind", "implicit")
+    (is_unsized(subject.kind) || rep_of(subject).is_some())
+        && is_word(subject.chain, "lengthKind", "implicit")
 }
 
 /// Whether numbers of an element's type have no size of their own.
@@ -163,24 +190,62 @@ fn is_unsized(kind: Kind) -> bool
     }
 }
 
-/// Whether it is a binary number whose length is counted in characters.
+/// Whether it is a binary number or boolean whose length is counted in characters.
 fn is_length_in_characters(subject: &Subject<'_, '_, '_>) -> bool
     ensures { result ≡ spec.is_length_in_characters (judged_of subject.now) }
 {
-    is_explicit_number(subject) && is_word(subject.chain, "lengthUnits", "characters")
+    is_explicit_binary(subject) && is_word(subject.chain, "lengthUnits", "characters")
 }
 
-/// Whether it is a binary number with a constant length that its type does not have.
+/// Whether it is a binary number or boolean with a constant length that its field can't have.
 fn is_length_out_of_range(subject: &Subject<'_, '_, '_>) -> bool
     ensures { result ≡ spec.is_length_out_of_range (judged_of subject.now) }
 {
-    is_explicit_number(subject) && is_no_size(subject)
+    is_explicit_binary(subject) && is_no_size(subject)
 }
 
-/// Whether the length is constant, and no number of the type has so few or so many bits.
+/// Whether the length is constant, and the component's field can't have it.
 fn is_no_size(subject: &Subject<'_, '_, '_>) -> bool
     ensures { result ≡ spec.is_no_size (judged_of subject.now) }
 {
-    has_constant_length(subject.chain)
-        && constant_size(number_bits(subject.kind), subject.chain).is_none()
+    has_constant_length(subject.chain) && !has_size(subject)
+}
+
+/// Whether the length is constant, and the component's field can have it.
+fn has_size(subject: &Subject<'_, '_, '_>) -> bool
+    ensures { result ≡ spec.has_size (judged_of subject.now) }
+{
+    match rep_of(subject) {
+        Some(rep) => constant_nibbles(rep, subject.chain).is_some(),
+        None => constant_size(value_bits(subject.kind), subject.chain).is_some(),
+    }
+}
+
+/// Whether the alignment of what is no simple element is implicit.
+fn is_alignment_not_allowed(subject: &Subject<'_, '_, '_>) -> bool
+    ensures { result ≡ spec.is_alignment_not_allowed (judged_of subject.now) }
+{
+    !is_simple(subject.kind) && is_word(subject.chain, "alignment", "implicit")
+}
+
+/// Whether it is a packed number whose sign codes aren't four that are allowed.
+fn are_codes_malformed(subject: &Subject<'_, '_, '_>) -> bool
+    ensures { result ≡ spec.are_codes_malformed (judged_of subject.now) }
+{
+    is_packed(subject) && codes_told(property(subject.chain, "binaryPackedSignCodes")).is_none()
+}
+
+/// Whether each number of a boolean is one of 32 bits.
+fn are_truths_told(subject: &Subject<'_, '_, '_>) -> bool
+    ensures { result ≡ spec.are_truths_told (judged_of subject.now) }
+{
+    truth_told(property(subject.chain, "binaryBooleanTrueRep")).is_some()
+        && falsity_told(property(subject.chain, "binaryBooleanFalseRep")).is_some()
+}
+
+/// Whether it is a binary boolean with a number that is none of 32 bits.
+fn are_truths_malformed(subject: &Subject<'_, '_, '_>) -> bool
+    ensures { result ≡ spec.are_truths_malformed (judged_of subject.now) }
+{
+    is_binary_boolean(subject) && !are_truths_told(subject)
 }

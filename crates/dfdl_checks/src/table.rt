@@ -13,7 +13,7 @@ pub(crate) fn applicabilities() -> &'static [Applicability]
     &APPLICABILITIES
 }
 
-static APPLICABILITIES: [Applicability; 25] = [
+static APPLICABILITIES: [Applicability; 30] = [
     Applicability {
         name: "representation",
         bearers: Bearers::RepresentedElements,
@@ -22,7 +22,7 @@ static APPLICABILITIES: [Applicability; 25] = [
     },
     Applicability {
         name: "byteOrder",
-        bearers: Bearers::WideBinaryNumbers,
+        bearers: Bearers::WideBinaries,
         parsing: Built::EveryValue,
         unparsing: Built::EveryValue,
     },
@@ -45,14 +45,20 @@ static APPLICABILITIES: [Applicability; 25] = [
         unparsing: Built::Words(&["implicit", "delimited", "pattern"]),
     },
     Applicability {
+        name: "lengthKind",
+        bearers: Bearers::BinaryBooleans,
+        parsing: Built::Words(&["implicit", "explicit", "delimited"]),
+        unparsing: Built::Words(&["implicit"]),
+    },
+    Applicability {
         name: "length",
-        bearers: Bearers::ExplicitNumbers,
+        bearers: Bearers::ExplicitBinaries,
         parsing: Built::EachNumber,
         unparsing: Built::EachNumber,
     },
     Applicability {
         name: "lengthUnits",
-        bearers: Bearers::ExplicitNumbers,
+        bearers: Bearers::ExplicitBinaries,
         parsing: Built::EveryValue,
         unparsing: Built::EveryValue,
     },
@@ -65,25 +71,25 @@ static APPLICABILITIES: [Applicability; 25] = [
     Applicability {
         name: "alignment",
         bearers: Bearers::EveryComponent,
-        parsing: Built::Number(1),
+        parsing: Built::EveryValue,
         unparsing: Built::Number(1),
     },
     Applicability {
         name: "alignmentUnits",
         bearers: Bearers::EveryComponent,
-        parsing: Built::Words(&["bits"]),
+        parsing: Built::EveryValue,
         unparsing: Built::Words(&["bits"]),
     },
     Applicability {
         name: "leadingSkip",
         bearers: Bearers::EveryComponent,
-        parsing: Built::Number(0),
+        parsing: Built::EveryValue,
         unparsing: Built::Number(0),
     },
     Applicability {
         name: "trailingSkip",
         bearers: Bearers::EveryComponent,
-        parsing: Built::Number(0),
+        parsing: Built::EveryValue,
         unparsing: Built::Number(0),
     },
     Applicability {
@@ -129,10 +135,34 @@ static APPLICABILITIES: [Applicability; 25] = [
         unparsing: Built::NoValue,
     },
     Applicability {
+        name: "binaryBooleanTrueRep",
+        bearers: Bearers::BinaryBooleans,
+        parsing: Built::EveryValue,
+        unparsing: Built::EveryValue,
+    },
+    Applicability {
+        name: "binaryBooleanFalseRep",
+        bearers: Bearers::BinaryBooleans,
+        parsing: Built::EveryValue,
+        unparsing: Built::EveryValue,
+    },
+    Applicability {
         name: "binaryNumberRep",
         bearers: Bearers::BinaryNumbers,
-        parsing: Built::Words(&["binary"]),
+        parsing: Built::EveryValue,
         unparsing: Built::Words(&["binary"]),
+    },
+    Applicability {
+        name: "binaryPackedSignCodes",
+        bearers: Bearers::PackedNumbers,
+        parsing: Built::EveryValue,
+        unparsing: Built::EveryValue,
+    },
+    Applicability {
+        name: "binaryNumberCheckPolicy",
+        bearers: Bearers::PackedNumbers,
+        parsing: Built::EveryValue,
+        unparsing: Built::EveryValue,
     },
     Applicability {
         name: "binaryDecimalVirtualPoint",

@@ -106,3 +106,16 @@ pub(crate) fn is_within(least: u64, most: u64, text: &str) -> bool
         Err(_) => false,
     }
 }
+
+/// The number that digits stand for, if it is one from the first to the second.
+pub(crate) fn number_within(least: u32, most: u32, text: &str) -> Option<u32>
+    ensures { result ≡ values.number_within least most text.now }
+{
+    if !is_within(u64::from(least), u64::from(most), text) {
+        return None;
+    }
+    match text.parse::<u32>() {
+        Ok(number) => Some(number),
+        Err(_) => None,
+    }
+}

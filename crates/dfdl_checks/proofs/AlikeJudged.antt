@@ -1,5 +1,5 @@
 -- Components that are alike keep and break the same rules.
-use Rattle.std.proofs.Common.{◌≡◌, refl, ap, ◌∙◌, ℕ, List, Option, Some, None, Bool, if◌then◌else◌, ◌||◌, ◌&&◌, not, nat_lt, codes, false, is_some}
+use Rattle.std.proofs.Common.{◌≡◌, refl, ap, ◌∙◌, List, Option, Some, None, Bool, if◌then◌else◌, ◌||◌, ◌&&◌, not, nat_lt, codes, false, is_some}
 use Rattle.std.specs.Option.{option_map_or}
 use Rattle.dfdl_report.specs.declared.cause.SchemaCause.{SchemaCause}
 use Rattle.dfdl_report.specs.declared.cause.SchemaCause.TheVariants as causes
@@ -11,10 +11,11 @@ use Rattle.dfdl_checks.specs.Alike.{AreAlikeChains, IsAlike}
 use Rattle.dfdl_checks.specs.Applying.{is_bearer}
 use Rattle.dfdl_checks.specs.Flaws.{has_flaw, is_flawed, is_flawed_at}
 use Rattle.dfdl_checks.specs.Judged.{Judged}
-use Rattle.dfdl_checks.specs.Numbers.{byte_order, field_bits, number_by, own_size, places_of, primitive_of, primitive_of_kind, primitive_of_type}
-use Rattle.dfdl_checks.specs.Lengths.{length_in, number_told, size_within, unit_bits, constant_length}
-use Rattle.dfdl_checks.specs.Rules.{breach_of, first_breach, rules, is_built_type, is_length_by_content, is_length_in_characters, is_length_without_size, is_later_component, is_no_size, is_type_not_carried, is_unsized}
-use Rattle.dfdl_checks.specs.Subjects.{is_binary_number, is_decimal, is_element, is_explicit_number, is_word, number_bits}
+use Rattle.dfdl_checks.specs.Booleans.{falsity_told, truth_told}
+use Rattle.dfdl_checks.specs.Lengths.{length_in, number_told, unit_bits, constant_length}
+use Rattle.dfdl_checks.specs.Packed.{codes_told, rep_of, rep_told}
+use Rattle.dfdl_checks.specs.Rules.{are_codes_malformed, are_truths_malformed, breach_of, first_breach, rules, is_alignment_not_allowed, is_delimited_boolean, is_length_by_content, is_length_in_characters, is_length_without_size, is_later_component, is_no_size, is_number_length_not_allowed, is_size, is_type_not_carried, is_unsized}
+use Rattle.dfdl_checks.specs.Subjects.{is_binary, is_binary_boolean, is_binary_number, is_boolean, is_decimal, is_element, is_explicit_binary, is_packed, is_simple, is_word, number_bits, value_bits}
 use Rattle.dfdl_checks.specs.Table.{Applicability, built_for, applicability_table}
 use Rattle.dfdl_checks.specs.declared.applicability.Bearers.{Bearers}
 use Rattle.dfdl_checks.specs.declared.applicability.Bearers.TheVariants as bearers
@@ -24,10 +25,6 @@ use Rattle.dfdl_checks.specs.declared.subject.Breach.{Breach}
 use Rattle.dfdl_checks.specs.declared.subject.Facts.{Facts}
 use Rattle.dfdl_checks.specs.declared.purpose.Purpose.{Purpose}
 use Rattle.dfdl_checks.specs.declared.subject.Kind.{Kind}
-use Rattle.dfdl_checks.specs.declared.subject.Kind.TheVariants.{ComplexElement, SimpleElement, UncarriedElement, Sequence, Choice}
-use Rattle.dfdl_forms.specs.Binary.{most_bits}
-use Rattle.dfdl_forms.specs.Types.{form_of}
-use Rattle.dfdl_forms.specs.declared.simple.Simple.{Simple}
 
 -- a component of this chain
 abbrev pub with : Purpose → Kind → Place → Facts → List Element → Judged
@@ -41,21 +38,35 @@ module _ (purpose : Purpose) (kind : Kind) (place : Place) (facts : Facts) (xs y
   abbrev other : Judged
   other = with purpose kind place facts ys
 
-  binary-alike : is_binary_number one ≡ is_binary_number other
+  pub binary-alike : is_binary_number one ≡ is_binary_number other
   binary-alike = ap (λ t. nat_lt 0 (number_bits kind) && is_word (codes "binary") t) (told-alike xs ys alike (codes "representation"))
 
-  explicit-alike : is_explicit_number one ≡ is_explicit_number other
-  explicit-alike = both (λ b t. b && is_word (codes "explicit") t) binary-alike (told-alike xs ys alike (codes "lengthKind"))
+  boolean-alike : is_binary_boolean one ≡ is_binary_boolean other
+  boolean-alike = ap (λ t. is_boolean kind && is_word (codes "binary") t) (told-alike xs ys alike (codes "representation"))
+
+  pub value-alike : is_binary one ≡ is_binary other
+  value-alike = ap (λ t. nat_lt 0 (value_bits kind) && is_word (codes "binary") t) (told-alike xs ys alike (codes "representation"))
+
+  explicit-alike : is_explicit_binary one ≡ is_explicit_binary other
+  explicit-alike = both (λ b t. b && is_word (codes "explicit") t) value-alike (told-alike xs ys alike (codes "lengthKind"))
+
+  packed-alike : is_packed one ≡ is_packed other
+  packed-alike = both (λ b t. b && is_word (codes "packed") t) binary-alike (told-alike xs ys alike (codes "binaryNumberRep"))
+
+  pub rep-alike : rep_of one ≡ rep_of other
+  rep-alike = both (λ b t. if b then rep_told t else None) binary-alike (told-alike xs ys alike (codes "binaryNumberRep"))
 
   bearer-alike : (b : Bearers) → is_bearer b one ≡ is_bearer b other
   bearer-alike bearers.EveryComponent = refl
   bearer-alike bearers.Elements = refl
-  bearer-alike bearers.OtherElements = ap (λ b. is_element kind && not b) binary-alike
+  bearer-alike bearers.OtherElements = ap (λ b. is_element kind && not b) value-alike
   bearer-alike bearers.SimpleElements = refl
   bearer-alike bearers.RepresentedElements = refl
   bearer-alike bearers.BinaryNumbers = binary-alike
-  bearer-alike bearers.WideBinaryNumbers = ap (λ b. nat_lt 8 (number_bits kind) && b) binary-alike
-  bearer-alike bearers.ExplicitNumbers = explicit-alike
+  bearer-alike bearers.BinaryBooleans = boolean-alike
+  bearer-alike bearers.WideBinaries = ap (λ b. nat_lt 8 (value_bits kind) && b) value-alike
+  bearer-alike bearers.ExplicitBinaries = explicit-alike
+  bearer-alike bearers.PackedNumbers = packed-alike
   bearer-alike bearers.BinaryDecimals = ap (λ b. is_decimal kind && b) binary-alike
   bearer-alike bearers.PatternElements =
       ap (λ t. is_element kind && is_word (codes "pattern") t) (told-alike xs ys alike (codes "lengthKind"))
@@ -76,15 +87,34 @@ module _ (purpose : Purpose) (kind : Kind) (place : Place) (facts : Facts) (xs y
   content-alike = ap (λ t. is_word (codes "delimited") t || is_word (codes "pattern") t) (told-alike xs ys alike (codes "lengthKind"))
 
   without-size-alike : is_length_without_size one ≡ is_length_without_size other
-  without-size-alike = ap (λ t. is_unsized kind && is_word (codes "implicit") t) (told-alike xs ys alike (codes "lengthKind"))
+  without-size-alike =
+      both (λ r t. (is_unsized kind || is_some r) && is_word (codes "implicit") t) rep-alike (told-alike xs ys alike (codes "lengthKind"))
 
-  constant-alike : constant_length one ≡ constant_length other
+  number-length-alike : is_number_length_not_allowed one ≡ is_number_length_not_allowed other
+  number-length-alike = both (λ x y. x && y) binary-alike (both (λ x y. x || y) content-alike without-size-alike)
+
+  delimited-alike : is_delimited_boolean one ≡ is_delimited_boolean other
+  delimited-alike = both (λ b t. b && is_word (codes "delimited") t) boolean-alike (told-alike xs ys alike (codes "lengthKind"))
+
+  pub constant-alike : constant_length one ≡ constant_length other
   constant-alike =
       both (λ units length. length_in (unit_bits units) (number_told length)) (told-alike xs ys alike (codes "lengthUnits"))
       (told-alike xs ys alike (codes "length"))
 
   no-size-alike : is_no_size one ≡ is_no_size other
-  no-size-alike = ap (λ length. is_some length && not (is_some (size_within (number_bits kind) length))) constant-alike
+  no-size-alike =
+      both (λ rep length. is_some length && not (is_size rep (value_bits kind) length)) rep-alike constant-alike
+
+  alignment-alike : is_alignment_not_allowed one ≡ is_alignment_not_allowed other
+  alignment-alike = ap (λ t. not (is_simple kind) && is_word (codes "implicit") t) (told-alike xs ys alike (codes "alignment"))
+
+  codes-alike : are_codes_malformed one ≡ are_codes_malformed other
+  codes-alike = both (λ b t. b && not (is_some (codes_told t))) packed-alike (told-alike xs ys alike (codes "binaryPackedSignCodes"))
+
+  truths-alike : are_truths_malformed one ≡ are_truths_malformed other
+  truths-alike =
+      three (λ b t u. b && not (is_some (truth_told t) && is_some (falsity_told u))) boolean-alike
+      (told-alike xs ys alike (codes "binaryBooleanTrueRep")) (told-alike xs ys alike (codes "binaryBooleanFalseRep"))
 
   characters-alike : is_length_in_characters one ≡ is_length_in_characters other
   characters-alike = both (λ b t. b && is_word (codes "characters") t) explicit-alike (told-alike xs ys alike (codes "lengthUnits"))
@@ -104,30 +134,15 @@ module _ (purpose : Purpose) (kind : Kind) (place : Place) (facts : Facts) (xs y
       (itself-alike causes.PropertyNotCarried (flaw-alike flaws.NotCarried)
       (itself-alike causes.ExpressionNotAllowed (flaw-alike flaws.Expression)
       (itself-alike causes.TypeNotCarried {x = is_type_not_carried kind} refl
-      (itself-alike causes.LengthKind (both (λ x y. x && y) binary-alike (both (λ x y. x || y) content-alike without-size-alike))
+      (itself-alike causes.LengthKind (both (λ x y. x || y) number-length-alike delimited-alike)
       (itself-alike causes.LengthUnits characters-alike
-      (itself-alike causes.ConstantLength (both (λ x y. x && y) explicit-alike no-size-alike) refl))))))))
-
-  size-alike : (most : ℕ) → field_bits one most ≡ field_bits other most
-  size-alike most =
-      both (λ t length. if is_word (codes "explicit") t then own_size purpose most length else Some most)
-      (told-alike xs ys alike (codes "lengthKind")) constant-alike
-
-  type-alike : (simple : Simple) → primitive_of_type one simple ≡ primitive_of_type other simple
-  type-alike simple =
-      three (λ order bits places. if is_built_type purpose simple then number_by simple order bits places else None)
-      (ap byte_order (told-alike xs ys alike (codes "byteOrder"))) (size-alike (most_bits (form_of simple)))
-      (ap (places_of simple) (told-alike xs ys alike (codes "binaryDecimalVirtualPoint")))
-
-  kind-alike : (k : Kind) → primitive_of_kind one k ≡ primitive_of_kind other k
-  kind-alike ComplexElement = refl
-  kind-alike (SimpleElement simple) = type-alike simple
-  kind-alike UncarriedElement = refl
-  kind-alike Sequence = refl
-  kind-alike Choice = refl
+      (itself-alike causes.ConstantLength (both (λ x y. x && y) explicit-alike no-size-alike)
+      (itself-alike causes.Alignment alignment-alike
+      (itself-alike causes.SignCodes codes-alike
+      (itself-alike causes.BooleanRepresentations truths-alike refl)))))))))))
 
 -- what is so of two components that differ in their chains alone is so of components that are alike
-by-chains : {X : Type 0} (f : Judged → X) (a b : Judged) → IsAlike a b
+pub by-chains : {X : Type 0} (f : Judged → X) (a b : Judged) → IsAlike a b
     → f (with a.purpose a.kind a.place a.facts a.chain) ≡ f (with a.purpose a.kind a.place a.facts b.chain) → f a ≡ f b
 by-chains f a b alike same =
     same
@@ -138,6 +153,3 @@ by-chains f a b alike same =
 
 pub same-breach : (a b : Judged) → IsAlike a b → first_breach rules a ≡ first_breach rules b
 same-breach a b alike = by-chains (first_breach rules) a b alike (breach-alike a.purpose a.kind a.place a.facts a.chain b.chain alike.chain)
-
-pub same-primitive : (a b : Judged) → IsAlike a b → primitive_of a ≡ primitive_of b
-same-primitive a b alike = by-chains primitive_of a b alike (kind-alike a.purpose a.kind a.place a.facts a.chain b.chain alike.chain a.kind)

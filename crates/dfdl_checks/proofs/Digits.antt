@@ -9,7 +9,7 @@ use Rattle.std.proofs.Math.Bool.{and-false}
 use Rattle.std.proofs.Math.Nat.{le-mul_of_pos_right}
 use Rattle.dfdl_checks.specs.Lengths.{length_in, number_of_digits, size_within}
 use Rattle.dfdl_checks.specs.Numbers.{places_of_digits}
-use Rattle.dfdl_checks.specs.Values.{is_number, is_within}
+use Rattle.dfdl_checks.specs.Values.{is_number, is_within, number_within}
 
 -- a number has a digit, and digits alone
 pub number-digits : (text : List ℕ) → is_number text ≡ true → (0 < length text) × (all_ascii_digits text ≡ true)
@@ -47,6 +47,25 @@ too-many most unit text r e few some at h is =
     sym (ap (λ b. size_within most (length_in unit (if b then Some (digits_value 10 text) else None))) at
     ∙ ap (λ b. if b then Some (digits_value 10 text * unit) else None)
     (ap (λ b. nat_le 1 (digits_value 10 text * unit) && b) past ∙ and-false (nat_le 1 (digits_value 10 text * unit))))
+
+-- a number that is in a range is not past its end
+not-past : (least most : ℕ) (text : List ℕ) → is_within least most text ≡ true → (is_number text ≡ true) × (nat_le (digits_value 10 text) most ≡ true)
+not-past least most text at = both (is_number text) (nat_le least (digits_value 10 text)) (nat_le (digits_value 10 text) most) at
+  where
+    both : (a b c : Bool) → (a && (b && c)) ≡ true → (a ≡ true) × (c ≡ true)
+    both a b c h = (grind (arith, h), grind (arith, h))
+
+-- what is no number of 32 bits is in no range of these
+pub too-wide : {E : Type 0} (least most : ℕ) (text : List ℕ) (r : Result ℕ E) (e : E) → most < 2 ^ 32 → is_within least most text ≡ true
+    → ParsesUnsigned 32 10 text r → r ≡ Err e → None ≡ number_within least most text
+too-wide least most text r e few at h is =
+    let parts = not-past least most text at in
+    let long : 2 ^ 32 ≤ digits_value 10 text = long-number 32 text r e parts.0 h is in
+    let past : nat_le (digits_value 10 text) most ≡ false = lt-leb (digits_value 10 text) most (omega (arith, few, long)) in
+    absurd (true-not-false (sym parts.1 ∙ past))
+  where
+    true-not-false : true ≡ false → ⊥
+    true-not-false h = grind (arith, h)
 
 -- what is no number of eight bits is no number of digits behind a point
 pub too-deep : {E : Type 0} (text : List ℕ) (r : Result ℕ E) (e : E) → is_within 0 38 text ≡ true → ParsesUnsigned 8 10 text r → r ≡ Err e

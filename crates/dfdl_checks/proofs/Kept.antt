@@ -4,7 +4,7 @@ use Rattle.std.specs.Option.{option_map_or}
 use Rattle.dfdl_report.specs.declared.cause.SchemaCause.{SchemaCause}
 use Rattle.dfdl_report.specs.declared.cause.SchemaCause.TheVariants as causes
 use Rattle.dfdl_report.specs.declared.place.Place.{Place}
-use Rattle.dfdl_checks.specs.Rules.{breach_of, first_breach, rules, is_unbuilt, property_twice, is_property_missing, is_value_not_carried, is_expression_not_allowed, is_type_not_carried, is_length_kind_not_allowed, is_length_in_characters, is_length_out_of_range}
+use Rattle.dfdl_checks.specs.Rules.{breach_of, first_breach, rules, is_unbuilt, property_twice, is_property_missing, is_value_not_carried, is_expression_not_allowed, is_type_not_carried, is_length_kind_not_allowed, is_length_in_characters, is_length_out_of_range, is_alignment_not_allowed, are_codes_malformed, are_truths_malformed}
 use Rattle.dfdl_checks.specs.Judged.{Judged}
 use Rattle.dfdl_checks.specs.declared.subject.Breach.{Breach}
 
@@ -19,6 +19,9 @@ pub record IsKept (s : Judged) : Type 0 where
   pub length_kind : is_length_kind_not_allowed s ≡ false
   pub length_units : is_length_in_characters s ≡ false
   pub length : is_length_out_of_range s ≡ false
+  pub alignment : is_alignment_not_allowed s ≡ false
+  pub codes : are_codes_malformed s ≡ false
+  pub truths : are_truths_malformed s ≡ false
 
 -- no rule of some is broken: neither the first one nor another
 first-kept : (cause : SchemaCause) (at : Option Place) (rest : Option Breach)
@@ -44,6 +47,9 @@ keeps-all s none =
     let g = first-kept causes.LengthKind _ _ f.1 in
     let h = first-kept causes.LengthUnits _ _ g.1 in
     let i = first-kept causes.ConstantLength _ _ h.1 in
+    let j = first-kept causes.Alignment _ _ i.1 in
+    let k = first-kept causes.SignCodes _ _ j.1 in
+    let l = first-kept causes.BooleanRepresentations _ _ k.1 in
     record {
       built = itself-kept _ s.place a.0;
       once = b.0;
@@ -54,6 +60,9 @@ keeps-all s none =
       length_kind = itself-kept _ s.place g.0;
       length_units = itself-kept _ s.place h.0;
       length = itself-kept _ s.place i.0;
+      alignment = itself-kept _ s.place j.0;
+      codes = itself-kept _ s.place k.0;
+      truths = itself-kept _ s.place l.0;
     }
 
 -- where none of some holds, the second doesn't

@@ -4,8 +4,10 @@ pub mod Flawless
 pub mod Once
 pub mod Types
 pub mod Binary
-pub mod Sound
 pub mod Primitives
+pub mod Told
+pub mod Sound
 pub mod Made
 pub mod AlikeChains
 pub mod AlikeJudged
+pub mod AlikeForms

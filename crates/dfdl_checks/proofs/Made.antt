@@ -1,24 +1,48 @@
--- The number that is made of what is told of a component.
-use Rattle.std.proofs.Common.{◌≡◌, sym, ap, ◌∙◌, ℕ, Option, None, true, if◌then◌else◌, codes}
+-- The primitives that are made of what is told of a component.
+use Rattle.std.proofs.Common.{◌≡◌, ap, ◌∙◌, ℕ, List, Option, Bool, codes}
 use Rattle.dfdl_forms.specs.Binary.{most_bits}
 use Rattle.dfdl_forms.specs.Types.{form_of}
 use Rattle.dfdl_forms.specs.declared.order.ByteOrder.{ByteOrder}
+use Rattle.dfdl_forms.specs.declared.packed.PackedRep.{PackedRep}
 use Rattle.dfdl_forms.specs.declared.simple.Simple.{Simple}
 use Rattle.dfdl_scope.specs.Scoping.{Told}
 use Rattle.dfdl_terms.specs.declared.row.Primitive.{Primitive}
-use Rattle.dfdl_checks.specs.Numbers.{byte_order, field_bits, number_by, number_of_type, places_of, primitive_of_type}
-use Rattle.dfdl_checks.specs.Rules.{is_built_type}
+use Rattle.dfdl_checks.proofs.AlikeChains.{three}
+use Rattle.dfdl_checks.specs.Booleans.{falsity_told, truth_told}
+use Rattle.dfdl_checks.specs.Numbers.{byte_order, field_bits, field_nibbles, number_by, number_of_type, packed_by, packed_of_type, places_of, truth_by, truth_of}
+use Rattle.dfdl_checks.specs.Packed.{codes_for, is_strict}
 use Rattle.dfdl_checks.specs.Subjects.{told_at}
 use Rattle.dfdl_checks.specs.Judged.{Judged}
 
--- of a type that is built, the number with what is told
+-- the number with what is told
 pub made : (s : Judged) (simple : Simple) {order : ByteOrder} {most : ℕ} {bits places : Option ℕ} {t : Told} {result : Option Primitive}
-    → is_built_type s.purpose simple ≡ true → order ≡ byte_order (told_at s (codes "byteOrder")) → most ≡ most_bits (form_of simple)
+    → order ≡ byte_order (told_at s (codes "byteOrder")) → most ≡ most_bits (form_of simple)
     → bits ≡ field_bits s most → t ≡ told_at s (codes "binaryDecimalVirtualPoint") → places ≡ places_of simple t
-    → result ≡ number_by simple order bits places → result ≡ primitive_of_type s simple
-made s simple {order} {most} {bits} {places} {t} {result} built ordered most_is sized told placed is =
+    → result ≡ number_by simple order bits places → result ≡ number_of_type s simple
+made s simple ordered most_is sized told placed is =
+    is ∙ three (number_by simple) ordered (sized ∙ ap (field_bits s) most_is) (placed ∙ ap (places_of simple) told)
+
+-- the packed number with what is told
+pub packed-made : (s : Judged) (simple : Simple) (rep : PackedRep) {order : ByteOrder} {strict : Bool} {nibbles : Option ℕ} {signs : Option (List ℕ)}
+    {places : Option ℕ} {t u : Told} {result : Option Primitive}
+    → order ≡ byte_order (told_at s (codes "byteOrder")) → strict ≡ is_strict rep (told_at s (codes "binaryNumberCheckPolicy"))
+    → nibbles ≡ field_nibbles s rep → t ≡ told_at s (codes "binaryPackedSignCodes") → signs ≡ codes_for rep t
+    → u ≡ told_at s (codes "binaryDecimalVirtualPoint") → places ≡ places_of simple u
+    → result ≡ packed_by simple rep order strict nibbles signs places → result ≡ packed_of_type s simple rep
+packed-made s simple rep {order} {strict} {nibbles} {signs} {places} ordered policy sized told signed point placed is =
     is
-    ∙ ap (λ o. number_by simple o bits places) ordered
-    ∙ ap (λ b. number_by simple (byte_order (told_at s (codes "byteOrder"))) b places) (sized ∙ ap (field_bits s) most_is)
-    ∙ ap (λ p. number_by simple (byte_order (told_at s (codes "byteOrder"))) (field_bits s (most_bits (form_of simple))) p) (placed ∙ ap (places_of simple) told)
-    ∙ sym (ap (λ b. if b then number_of_type s simple else None) built)
+    ∙ ap (λ o. packed_by simple rep o strict nibbles signs places) ordered
+    ∙ ap (λ x. packed_by simple rep (byte_order (told_at s (codes "byteOrder"))) x nibbles signs places) policy
+    ∙ three (packed_by simple rep (byte_order (told_at s (codes "byteOrder"))) (is_strict rep (told_at s (codes "binaryNumberCheckPolicy"))))
+    sized (signed ∙ ap (codes_for rep) told) (placed ∙ ap (places_of simple) point)
+
+-- the boolean with what is told
+pub truth-made : (s : Judged) {order : ByteOrder} {bits falsity : Option ℕ} {truth : Option (Option ℕ)} {t u : Told} {result : Option Primitive}
+    → order ≡ byte_order (told_at s (codes "byteOrder")) → bits ≡ field_bits s 32
+    → t ≡ told_at s (codes "binaryBooleanTrueRep") → truth ≡ truth_told t
+    → u ≡ told_at s (codes "binaryBooleanFalseRep") → falsity ≡ falsity_told u
+    → result ≡ truth_by order bits truth falsity → result ≡ truth_of s
+truth-made s {order} {bits} {falsity} {truth} ordered sized told true_is other false_is is =
+    is
+    ∙ ap (λ o. truth_by o bits truth falsity) ordered
+    ∙ three (truth_by (byte_order (told_at s (codes "byteOrder")))) sized (true_is ∙ ap truth_told told) (false_is ∙ ap falsity_told other)

@@ -1,10 +1,14 @@
 -- What is known of each component with a primitive.
-use Rattle.std.proofs.Common.{◌≡◌, refl, sym, ap, subst, ◌∙◌, ℕ, ◌≤◌, Option, Some, None, Bool, true, false, if◌then◌else◌, ◌&&◌, nat_le, nat_lt, codes, IsTrue, arith}
+use Rattle.std.proofs.Common.{◌≡◌, refl, sym, ap, subst, ◌∙◌, ℕ, List, ◌≤◌, ◌*◌, ◌/◌, ◌%◌, ◌==◌, Option, Some, None, Bool, true, false, if◌then◌else◌, ◌&&◌, nat_le, nat_lt, codes, IsTrue, arith}
 use Rattle.std.specs.Str.Parse.{digits_value}
 use Rattle.dfdl_forms.specs.Binary.{most_bits, most_places}
 use Rattle.dfdl_forms.specs.Types.{form_of}
 use Rattle.dfdl_forms.specs.declared.binary.IntForm.{IntForm}
-use Rattle.dfdl_forms.specs.declared.order.ByteOrder.{ByteOrder}
+use Rattle.dfdl_forms.specs.declared.binary.BitTruthForm.{BitTruthForm}
+use Rattle.dfdl_forms.specs.declared.packed.PackedForm.{PackedForm}
+use Rattle.dfdl_forms.specs.declared.packed.PackedRep.{PackedRep}
+use Rattle.dfdl_forms.specs.declared.packed.PackedRep.TheVariants as reps
+use Rattle.dfdl_forms.specs.Packed.{are_allowed, most_nibbles}
 use Rattle.dfdl_forms.specs.declared.order.BitOrder.TheVariants.{MostFirst}
 use Rattle.dfdl_forms.specs.declared.simple.Form.{Form}
 use Rattle.dfdl_forms.specs.declared.simple.Form.TheVariants as forms
@@ -14,13 +18,16 @@ use Rattle.dfdl_scope.specs.Expressions.{literal}
 use Rattle.dfdl_scope.specs.Scoping.{Told, Value, Absent, Twice}
 use Rattle.dfdl_terms.specs.Rows.{IsPrimitive}
 use Rattle.dfdl_terms.specs.declared.row.Primitive.{Primitive}
-use Rattle.dfdl_terms.specs.declared.row.Primitive.TheVariants.{Integer}
-use Rattle.dfdl_checks.proofs.Types.{built-number, few-bits}
-use Rattle.dfdl_checks.specs.Forms.{IsWholeUnsigned, is_whole}
+use Rattle.dfdl_terms.specs.declared.row.Primitive.TheVariants.{Integer, Packed, Truth}
+use Rattle.dfdl_checks.proofs.Types.{boolean-type, built-value, few-bits, whole-number}
+use Rattle.dfdl_checks.proofs.Binary.{number-or-truth}
+use Rattle.dfdl_checks.specs.Booleans.{falsity_told, truth_told}
+use Rattle.dfdl_checks.specs.Forms.{IsWhole, IsWholeUnsigned, is_whole}
 use Rattle.dfdl_checks.specs.Lengths.{constant_length, size_within}
-use Rattle.dfdl_checks.specs.Numbers.{field_bits, number_by, number_of_type, own_size, places_of, places_told, primitive_of, primitive_of_kind, primitive_of_type, type_of}
+use Rattle.dfdl_checks.specs.Numbers.{byte_order, field_bits, field_nibbles, number_by, number_of_rep, number_of_type, own_size, packed_by, packed_of_type, places_of, places_told, primitive_for, primitive_of, primitive_of_kind, primitive_of_type, primitive_parsed, truth_by, truth_of, type_of}
+use Rattle.dfdl_checks.specs.Packed.{allowed_codes, codes_for, codes_in, codes_of_text, codes_told, is_strict, nibbles_in, nibbles_within, are_four, rep_of, usual_codes}
 use Rattle.dfdl_checks.specs.Rules.{is_built_type, is_whole_type}
-use Rattle.dfdl_checks.specs.Subjects.{has_point, is_told, told_at}
+use Rattle.dfdl_checks.specs.Subjects.{has_point, is_told, is_truths, told_at}
 use Rattle.dfdl_checks.specs.Values.{is_number}
 use Rattle.dfdl_checks.specs.declared.purpose.Purpose.{Purpose}
 use Rattle.dfdl_checks.specs.declared.purpose.Purpose.TheVariants.{Parsing, Unparsing}
@@ -29,76 +36,129 @@ use Rattle.dfdl_checks.specs.declared.subject.Kind.TheVariants.{ComplexElement, 
 use Rattle.dfdl_checks.specs.Judged.{Judged}
 
 -- what is there is one thing
-some-is : {A : Type 0} (a b : A) → Some a ≡ Some b → a ≡ b
+pub some-is : {A : Type 0} (a b : A) → Some a ≡ Some b → a ≡ b
 some-is a b is = cc
 
 -- what is there is not nothing
-none-some : {A : Type 0} (a : A) → None ≡ Some a → ⊥
+pub none-some : {A : Type 0} (a : A) → None ≡ Some a → ⊥
 none-some a is = cc
 
--- a number by its parts
-record IsNumber (simple : Simple) (bits places : Option ℕ) (form : IntForm) : Type 0 where
-  pub bits_is : bits ≡ Some form.bits
-  pub places_is : places ≡ Some form.point
-  pub bits_by : form.bits_by ≡ MostFirst
-  pub kind : form.kind ≡ simple
-
--- the form of what may be a number, else another one
-abbrev form-in : IntForm → Option Primitive → IntForm
-form-in other (Some (Integer form)) = form
-form-in other None = other
-
-is-number : (simple : Simple) (order : ByteOrder) (bits places : Option ℕ) (form : IntForm) → number_by simple order bits places ≡ Some (Integer form)
-    → IsNumber simple bits places form
-is-number simple order (Some b) (Some p) form is =
-    let same : record { bits = b; bytes_by = order; bits_by = MostFirst; point = p; kind = simple } ≡ form = ap (form-in form) is in
-    record {
-      bits_is = ap (λ (f : IntForm). Some f.bits) same;
-      places_is = ap (λ (f : IntForm). Some f.point) same;
-      bits_by = sym (ap (λ (f : IntForm). f.bits_by) same);
-      kind = sym (ap (λ (f : IntForm). f.kind) same);
-    }
-is-number simple order None p form is = absurd (none-some _ is)
-is-number simple order (Some b) None form is = absurd (none-some _ is)
-
--- the primitive of a component is a number of its type, by what is told of it
-pub record IsPrimitiveOf (s : Judged) (form : IntForm) : Type 0 where
+-- the primitive of a component is a binary integer or decimal of its type, by what is told of it
+pub record IsIntegerOf (s : Judged) (form : IntForm) : Type 0 where
   pub kind : s.kind ≡ SimpleElement form.kind
   pub built : is_built_type s.purpose form.kind ≡ true
+  pub some : nat_lt 0 (most_bits (form_of form.kind)) ≡ true
+  pub plain : s.purpose ≡ Parsing → rep_of s ≡ None
   pub bits : field_bits s (most_bits (form_of form.kind)) ≡ Some form.bits
   pub places : places_of form.kind (told_at s (codes "binaryDecimalVirtualPoint")) ≡ Some form.point
   pub bits_by : form.bits_by ≡ MostFirst
 
-by-type : (s : Judged) (simple : Simple) (form : IntForm) → s.kind ≡ SimpleElement simple → primitive_of_type s simple ≡ Some (Integer form)
-    → IsPrimitiveOf s form
-by-type s simple form kind is = by (is_built_type s.purpose simple) refl is
+-- it is a packed number
+pub record IsPackedOf (s : Judged) (form : PackedForm) : Type 0 where
+  pub kind : s.kind ≡ SimpleElement form.kind
+  pub parsing : s.purpose ≡ Parsing
+  pub rep : rep_of s ≡ Some form.rep
+  pub nibbles : field_nibbles s form.rep ≡ Some form.nibbles
+  pub signs : codes_for form.rep (told_at s (codes "binaryPackedSignCodes")) ≡ Some form.codes
+  pub places : places_of form.kind (told_at s (codes "binaryDecimalVirtualPoint")) ≡ Some form.point
+
+-- it is a boolean
+pub record IsTruthOf (s : Judged) (form : BitTruthForm) : Type 0 where
+  pub kind : s.kind ≡ SimpleElement types.Boolean
+  pub parsing : s.purpose ≡ Parsing
+  pub bits : field_bits s 32 ≡ Some form.bits
+
+-- what is known of the primitive of a component
+abbrev pub IsOf : Judged → Primitive → Type 0
+IsOf s (Integer form) = IsIntegerOf s form
+IsOf s (Packed form) = IsPackedOf s form
+IsOf s (Truth form) = IsTruthOf s form
+
+-- the same, where there is one
+abbrev IsOfIf : Judged → Option Primitive → Type 0
+IsOfIf s None = Unit {0}
+IsOfIf s (Some p) = IsOf s p
+
+number-of : (s : Judged) (simple : Simple) → s.kind ≡ SimpleElement simple → is_built_type s.purpose simple ≡ true
+    → nat_lt 0 (most_bits (form_of simple)) ≡ true → (s.purpose ≡ Parsing → rep_of s ≡ None) → IsOfIf s (number_of_type s simple)
+number-of s simple kind built some plain =
+    by (field_bits s (most_bits (form_of simple))) (places_of simple (told_at s (codes "binaryDecimalVirtualPoint"))) refl refl
   where
-    made : is_built_type s.purpose simple ≡ true
-        → IsNumber simple (field_bits s (most_bits (form_of simple))) (places_of simple (told_at s (codes "binaryDecimalVirtualPoint"))) form
-        → IsPrimitiveOf s form
-    made built number = record {
-      kind = kind ∙ ap SimpleElement (sym number.kind);
-      built = ap (is_built_type s.purpose) number.kind ∙ built;
-      bits = ap (λ t. field_bits s (most_bits (form_of t))) number.kind ∙ number.bits_is;
-      places = ap (λ t. places_of t (told_at s (codes "binaryDecimalVirtualPoint"))) number.kind ∙ number.places_is;
-      bits_by = number.bits_by;
-    }
+    by : (bits places : Option ℕ) → field_bits s (most_bits (form_of simple)) ≡ bits
+        → places_of simple (told_at s (codes "binaryDecimalVirtualPoint")) ≡ places
+        → IsOfIf s (number_by simple (byte_order (told_at s (codes "byteOrder"))) bits places)
+    by (Some b) (Some p) sized placed =
+        record { kind = kind; built = built; some = some; plain = plain; bits = sized; places = placed; bits_by = refl }
+    by None p sized placed = tt
+    by (Some b) None sized placed = tt
 
-    by : (b : Bool) → is_built_type s.purpose simple ≡ b
-        → (if b then number_of_type s simple else None) ≡ Some (Integer form)
-        → IsPrimitiveOf s form
-    by true built is = made built (is-number simple _ _ _ form is)
-    by false built is = absurd (none-some _ is)
+packed-of : (s : Judged) (simple : Simple) (rep : PackedRep) → s.kind ≡ SimpleElement simple → s.purpose ≡ Parsing → rep_of s ≡ Some rep
+    → IsOfIf s (packed_of_type s simple rep)
+packed-of s simple rep kind parsing rep_is =
+    by (field_nibbles s rep) (codes_for rep (told_at s (codes "binaryPackedSignCodes")))
+    (places_of simple (told_at s (codes "binaryDecimalVirtualPoint"))) refl refl refl
+  where
+    by : (nibbles : Option ℕ) (signs : Option (List ℕ)) (places : Option ℕ) → field_nibbles s rep ≡ nibbles
+        → codes_for rep (told_at s (codes "binaryPackedSignCodes")) ≡ signs
+        → places_of simple (told_at s (codes "binaryDecimalVirtualPoint")) ≡ places
+        → IsOfIf s (packed_by simple rep (byte_order (told_at s (codes "byteOrder"))) (is_strict rep (told_at s (codes "binaryNumberCheckPolicy"))) nibbles signs places)
+    by (Some n) (Some c) (Some p) sized signed placed =
+        record { kind = kind; parsing = parsing; rep = rep_is; nibbles = sized; signs = signed; places = placed }
+    by None c p sized signed placed = tt
+    by (Some n) None p sized signed placed = tt
+    by (Some n) (Some c) None sized signed placed = tt
 
-by-kind : (s : Judged) (kind : Kind) (form : IntForm) → s.kind ≡ kind → primitive_of_kind s kind ≡ Some (Integer form) → IsPrimitiveOf s form
-by-kind s ComplexElement form at is = absurd (none-some _ is)
-by-kind s (SimpleElement simple) form at is = by-type s simple form at is
-by-kind s UncarriedElement form at is = absurd (none-some _ is)
-by-kind s Sequence form at is = absurd (none-some _ is)
-by-kind s Choice form at is = absurd (none-some _ is)
+truth-of : (s : Judged) → s.kind ≡ SimpleElement types.Boolean → s.purpose ≡ Parsing → IsOfIf s (truth_of s)
+truth-of s kind parsing =
+    by (field_bits s 32) (truth_told (told_at s (codes "binaryBooleanTrueRep"))) (falsity_told (told_at s (codes "binaryBooleanFalseRep"))) refl
+  where
+    by : (bits : Option ℕ) (truth : Option (Option ℕ)) (falsity : Option ℕ) → field_bits s 32 ≡ bits
+        → IsOfIf s (truth_by (byte_order (told_at s (codes "byteOrder"))) bits truth falsity)
+    by (Some b) (Some t) (Some f) sized = record { kind = kind; parsing = parsing; bits = sized }
+    by None t f sized = tt
+    by (Some b) None f sized = tt
+    by (Some b) (Some t) None sized = tt
 
-pub of-component : (s : Judged) (form : IntForm) → primitive_of s ≡ Some (Integer form) → IsPrimitiveOf s form
-of-component s form is = by-kind s s.kind form refl is
+parsed-of : (s : Judged) (simple : Simple) → s.purpose ≡ Parsing → s.kind ≡ SimpleElement simple → is_built_type s.purpose simple ≡ true
+    → IsOfIf s (primitive_parsed s simple)
+parsed-of s simple parsing kind built = by (is_truths (form_of simple)) refl
+  where
+    by-rep : (o : Option PackedRep) → rep_of s ≡ o → is_truths (form_of simple) ≡ false → IsOfIf s (number_of_rep s simple o)
+    by-rep None none apart =
+        number-of s simple kind built (number-or-truth (form_of simple) (built-value s.purpose simple built) apart) (λ same. none)
+    by-rep (Some rep) is apart = packed-of s simple rep kind parsing is
+
+    by : (b : Bool) → is_truths (form_of simple) ≡ b → IsOfIf s (if b then truth_of s else number_of_rep s simple (rep_of s))
+    by true is = truth-of s (kind ∙ ap SimpleElement (boolean-type simple is)) parsing
+    by false apart = by-rep (rep_of s) refl apart
+
+-- a purpose is not the other one
+apart : Parsing ≡ Unparsing → ⊥
+apart same = cc
+
+for-of : (s : Judged) (simple : Simple) (purpose : Purpose) → s.purpose ≡ purpose → s.kind ≡ SimpleElement simple → is_built_type s.purpose simple ≡ true
+    → IsOfIf s (primitive_for purpose s simple)
+for-of s simple Parsing is kind built = parsed-of s simple is kind built
+for-of s simple Unparsing is kind built =
+    number-of s simple kind built (whole-number simple (sym (ap (λ p. is_built_type p simple) is) ∙ built)) (λ parsing. absurd (apart (sym parsing ∙ is)))
+
+type-of : (s : Judged) (simple : Simple) → s.kind ≡ SimpleElement simple → IsOfIf s (primitive_of_type s simple)
+type-of s simple kind = by (is_built_type s.purpose simple) refl
+  where
+    by : (b : Bool) → is_built_type s.purpose simple ≡ b → IsOfIf s (if b then primitive_for s.purpose s simple else None)
+    by true built = for-of s simple s.purpose refl kind built
+    by false built = tt
+
+kind-of : (s : Judged) (kind : Kind) → s.kind ≡ kind → IsOfIf s (primitive_of_kind s kind)
+kind-of s ComplexElement at = tt
+kind-of s (SimpleElement simple) at = type-of s simple at
+kind-of s UncarriedElement at = tt
+kind-of s Sequence at = tt
+kind-of s Choice at = tt
+
+-- what is known of the primitive of a component is so
+pub of-component : (s : Judged) (p : Primitive) → primitive_of s ≡ Some p → IsOf s p
+of-component s p is = subst (λ o. IsOfIf s o) is (kind-of s s.kind refl)
 
 -- a constant length that a field can have
 within : (most : ℕ) (length : Option ℕ) (bits : ℕ) → size_within most length ≡ Some bits → (1 ≤ bits) × (bits ≤ most)
@@ -154,11 +214,67 @@ places-within forms.Characters t places is = none-behind places is
 places-within forms.Truths t places is = none-behind places is
 places-within forms.Octets t places is = none-behind places is
 
+-- whole nibbles of no more than four times so many bits are no more
+quotient : (bits n most : ℕ) → 1 ≤ bits → bits ≤ 4 * most → bits % 4 ≡ 0 → bits / 4 ≡ n → (1 ≤ n) × (n ≤ most)
+quotient bits n most some few whole is = (omega (arith, some, whole, is), omega (arith, few, is))
+
+whole-within : (most : ℕ) (o : Option ℕ) (n : ℕ) → ((bits : ℕ) → o ≡ Some bits → (1 ≤ bits) × (bits ≤ 4 * most)) → nibbles_in o ≡ Some n
+    → (1 ≤ n) × (n ≤ most)
+whole-within most None n sizes is = absurd (none-some _ is)
+whole-within most (Some bits) n sizes is = by (bits % 4 == 0) refl is
+  where
+    by : (b : Bool) → (bits % 4 == 0) ≡ b → (if b then Some (bits / 4) else None) ≡ Some n → (1 ≤ n) × (n ≤ most)
+    by true whole is = let size = sizes bits refl in quotient bits n most size.0 size.1 (grind (arith, whole)) (some-is _ _ is)
+    by false whole is = absurd (none-some _ is)
+
+-- the nibbles of a field are as many as one of its representation can have
+nibbles-few : (s : Judged) (rep : PackedRep) (n : ℕ) → field_nibbles s rep ≡ Some n → (1 ≤ n) × (n ≤ most_nibbles rep)
+nibbles-few s rep n is = by (is_told s (codes "lengthKind") (codes "explicit")) is
+  where
+    by : (b : Bool) → (if b then nibbles_within rep (constant_length s) else None) ≡ Some n → (1 ≤ n) × (n ≤ most_nibbles rep)
+    by true is =
+        whole-within (most_nibbles rep) (size_within (4 * most_nibbles rep) (constant_length s)) n
+        (λ bits sized. within (4 * most_nibbles rep) (constant_length s) bits sized) is
+    by false is = absurd (none-some _ is)
+
+-- no field has more than 39 nibbles
+few-nibbles : (rep : PackedRep) → most_nibbles rep ≤ 39
+few-nibbles reps.Packed = omega arith
+few-nibbles reps.Bcd = omega arith
+few-nibbles reps.Ibm4690 = omega arith
+
+-- sign codes that are taken are allowed
+allowed-are : (four signs : List ℕ) → allowed_codes four ≡ Some signs → are_allowed signs ≡ true
+allowed-are four signs is = by (are_allowed four) refl is
+  where
+    by : (b : Bool) → are_allowed four ≡ b → (if b then Some four else None) ≡ Some signs → are_allowed signs ≡ true
+    by true allowed is = sym (ap are_allowed (some-is _ _ is)) ∙ allowed
+    by false allowed is = absurd (none-some _ is)
+
+text-allowed : (text signs : List ℕ) → codes_of_text text ≡ Some signs → are_allowed signs ≡ true
+text-allowed text signs is = by (are_four text) is
+  where
+    by : (b : Bool) → (if b then allowed_codes (codes_in text) else None) ≡ Some signs → are_allowed signs ≡ true
+    by true is = allowed-are (codes_in text) signs is
+    by false is = absurd (none-some _ is)
+
+usual-allowed : (signs : List ℕ) → Some usual_codes ≡ Some signs → are_allowed signs ≡ true
+usual-allowed signs is = sym (ap are_allowed (some-is _ _ is)) ∙ refl
+
+told-allowed : (t : Told) (signs : List ℕ) → codes_told t ≡ Some signs → are_allowed signs ≡ true
+told-allowed (Value w) signs is = text-allowed (literal w) signs is
+told-allowed Absent signs is = usual-allowed signs is
+told-allowed (Twice place) signs is = absurd (none-some _ is)
+
+signs-allowed : (rep : PackedRep) (t : Told) (signs : List ℕ) → codes_for rep t ≡ Some signs → are_allowed signs ≡ true
+signs-allowed reps.Packed t signs is = told-allowed t signs is
+signs-allowed reps.Bcd t signs is = usual-allowed signs is
+signs-allowed reps.Ibm4690 t signs is = usual-allowed signs is
+
 -- the primitive of a component keeps the bounds of its type
-pub bounded : (s : Judged) (p : Primitive) → primitive_of s ≡ Some p → IsPrimitive p
-bounded s (Integer form) is =
-    let of = of-component s form is in
-    let some : nat_lt 0 (most_bits (form_of form.kind)) ≡ true = built-number s.purpose form.kind of.built in
+integer-bounded : (s : Judged) (form : IntForm) → IsIntegerOf s form → IsPrimitive (Integer form)
+integer-bounded s form of =
+    let some = of.some in
     let size = field-within s (most_bits (form_of form.kind)) form.bits (grind (arith, some)) of.bits in
     let few : form.bits ≤ most_bits (form_of form.kind) = size.1 in
     let least : most_bits (form_of form.kind) ≤ 128 = few-bits form.kind in
@@ -169,9 +285,35 @@ bounded s (Integer form) is =
       places = places-within (form_of form.kind) (told_at s (codes "binaryDecimalVirtualPoint")) form.point of.places;
     }
 
+packed-bounded : (s : Judged) (form : PackedForm) → IsPackedOf s form → IsPrimitive (Packed form)
+packed-bounded s form of =
+    let size = nibbles-few s form.rep form.nibbles of.nibbles in
+    let few : form.nibbles ≤ most_nibbles form.rep = size.1 in
+    let least : most_nibbles form.rep ≤ 39 = few-nibbles form.rep in
+    record {
+      some = size.0;
+      few = few;
+      short = omega (arith, few, least);
+      allowed = signs-allowed form.rep (told_at s (codes "binaryPackedSignCodes")) form.codes of.signs;
+      places = places-within (form_of form.kind) (told_at s (codes "binaryDecimalVirtualPoint")) form.point of.places;
+    }
+
+pub bounded : (s : Judged) (p : Primitive) → primitive_of s ≡ Some p → IsPrimitive p
+bounded s (Integer form) is = integer-bounded s form (of-component s (Integer form) is)
+bounded s (Packed form) is = packed-bounded s form (of-component s (Packed form) is)
+bounded s (Truth form) is = truth-bounded (of-component s (Truth form) is)
+  where
+    truth-bounded : IsTruthOf s form → IsPrimitive (Truth form)
+    truth-bounded of = field-within s 32 form.bits (omega arith) of.bits
+
 -- the component is an element of the primitive's type
+kind-is : (s : Judged) (p : Primitive) → IsOf s p → s.kind ≡ SimpleElement (type_of p)
+kind-is s (Integer form) of = of.kind
+kind-is s (Packed form) of = of.kind
+kind-is s (Truth form) of = of.kind
+
 pub typed : (s : Judged) (p : Primitive) → primitive_of s ≡ Some p → s.kind ≡ SimpleElement (type_of p)
-typed s (Integer form) is = (of-component s form is).kind
+typed s p is = kind-is s p (of-component s p is)
 
 -- for unparsing, a field has the size of its type
 whole-field : (s : Judged) (most bits : ℕ) → s.purpose ≡ Unparsing → field_bits s most ≡ Some bits → bits ≡ most
@@ -185,9 +327,9 @@ whole-field s most bits purpose is = by (is_told s (codes "lengthKind") (codes "
     by false is = sym (some-is _ _ is)
 
 -- a number with the size of its type, whole bytes of them
-whole-number : (n : ℕ) (form : IntForm) → IsTrue (is_whole n) → form_of form.kind ≡ forms.Unsigned n → form.bits ≡ n → form.bits_by ≡ MostFirst
+whole-size : (n : ℕ) (form : IntForm) → IsTrue (is_whole n) → form_of form.kind ≡ forms.Unsigned n → form.bits ≡ n → form.bits_by ≡ MostFirst
     → form.point ≡ 0 → IsWholeUnsigned form
-whole-number n form whole kind bits bits_by point = record {
+whole-size n form whole kind bits bits_by point = record {
   bits = subst (λ n. IsTrue (is_whole n)) (sym bits) whole;
   kind = kind ∙ ap forms.Unsigned (sym bits);
   bits_by = bits_by;
@@ -197,10 +339,10 @@ whole-number n form whole kind bits bits_by point = record {
 -- the same of a type whose values have whole bytes
 by-whole-type : (simple : Simple) (form : IntForm) → is_whole_type simple ≡ true → form.kind ≡ simple → form.bits ≡ most_bits (form_of simple)
     → form.bits_by ≡ MostFirst → form.point ≡ 0 → IsWholeUnsigned form
-by-whole-type types.UnsignedByte form built kind = whole-number 8 form refl (ap form_of kind)
-by-whole-type types.UnsignedShort form built kind = whole-number 16 form refl (ap form_of kind)
-by-whole-type types.UnsignedInt form built kind = whole-number 32 form refl (ap form_of kind)
-by-whole-type types.UnsignedLong form built kind = whole-number 64 form refl (ap form_of kind)
+by-whole-type types.UnsignedByte form built kind = whole-size 8 form refl (ap form_of kind)
+by-whole-type types.UnsignedShort form built kind = whole-size 16 form refl (ap form_of kind)
+by-whole-type types.UnsignedInt form built kind = whole-size 32 form refl (ap form_of kind)
+by-whole-type types.UnsignedLong form built kind = whole-size 64 form refl (ap form_of kind)
 by-whole-type types.String form built kind = grind (arith, built)
 by-whole-type types.HexBinary form built kind = grind (arith, built)
 by-whole-type types.Boolean form built kind = grind (arith, built)
@@ -218,10 +360,17 @@ no-point types.Decimal built = grind (arith, built)
 no-point _ built = refl
 
 -- a primitive for unparsing is a whole unsigned integer
-pub whole : (s : Judged) (form : IntForm) → s.purpose ≡ Unparsing → primitive_of s ≡ Some (Integer form) → IsWholeUnsigned form
-whole s form purpose is =
-    let of = of-component s form is in
+whole-integer : (s : Judged) (form : IntForm) → s.purpose ≡ Unparsing → IsIntegerOf s form → IsWholeUnsigned form
+whole-integer s form purpose of =
     let built : is_whole_type form.kind ≡ true = sym (ap (λ p. is_built_type p form.kind) purpose) ∙ of.built in
     let without : Some 0 ≡ Some form.point =
     sym (ap (λ b. if b then places_told (told_at s (codes "binaryDecimalVirtualPoint")) else Some 0) (no-point form.kind built)) ∙ of.places in
     by-whole-type form.kind form built refl (whole-field s _ _ purpose of.bits) of.bits_by (sym (some-is _ _ without))
+
+whole-of : (s : Judged) (p : Primitive) → s.purpose ≡ Unparsing → IsOf s p → IsWhole p
+whole-of s (Integer form) purpose of = whole-integer s form purpose of
+whole-of s (Packed form) purpose of = apart (sym of.parsing ∙ purpose)
+whole-of s (Truth form) purpose of = apart (sym of.parsing ∙ purpose)
+
+pub whole : (s : Judged) (p : Primitive) → s.purpose ≡ Unparsing → primitive_of s ≡ Some p → IsWhole p
+whole s p purpose is = whole-of s p purpose (of-component s p is)

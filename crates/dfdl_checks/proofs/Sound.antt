@@ -1,5 +1,5 @@
 -- Simple elements without a breach have primitives.
-use Rattle.std.proofs.Common.{◌≡◌, refl, sym, ap, subst, ◌∙◌, ℕ, List, [], Option, Some, None, Bool, true, false, not, if◌then◌else◌, ◌&&◌, is_some, codes, IsTrue, IsSome, arith}
+use Rattle.std.proofs.Common.{◌≡◌, refl, sym, ap, subst, ◌∙◌, ℕ, List, [], Option, Some, None, Bool, true, false, not, if◌then◌else◌, ◌&&◌, ◌||◌, nat_lt, is_some, codes, IsTrue, IsSome, arith}
 use Rattle.std.specs.Str.Parse.{digits_value}
 use Rattle.dfdl_forms.specs.Binary.{most_bits}
 use Rattle.dfdl_forms.specs.Types.{form_of}
@@ -8,13 +8,19 @@ use Rattle.dfdl_forms.specs.declared.simple.Simple.{Simple}
 use Rattle.dfdl_scope.specs.Expressions.{is_expression, literal}
 use Rattle.dfdl_scope.specs.Scoping.{Told, Value, Absent, Twice}
 use Rattle.dfdl_scope.specs.Table.{Row, row, Range, Else, property_table}
-use Rattle.dfdl_checks.proofs.Binary.{IsSound, is-sound, no-flaw, built-at}
+use Rattle.dfdl_forms.specs.declared.packed.PackedRep.{PackedRep}
+use Rattle.dfdl_forms.specs.declared.packed.PackedRep.TheVariants as reps
+use Rattle.dfdl_checks.proofs.Binary.{IsSound, is-sound, no-flaw, built-at, both}
 use Rattle.dfdl_checks.proofs.Flawless.{HasNoFlaw, HasBuilt, value-built}
+use Rattle.dfdl_checks.proofs.Told.{rep-of, rep-word}
+use Rattle.dfdl_checks.proofs.Types.{boolean-type, number-bits, truth-bits, whole-apart}
 use Rattle.dfdl_checks.proofs.Once.{is_twice, told-once}
 use Rattle.dfdl_checks.specs.Lengths.{constant_length, length_in, number_told, size_within, unit_bits}
-use Rattle.dfdl_checks.specs.Numbers.{field_bits, number_by, number_of_type, own_size, places_of, places_told, primitive_of, primitive_of_kind}
-use Rattle.dfdl_checks.specs.Rules.{first_breach, rules}
-use Rattle.dfdl_checks.specs.Subjects.{has_point, is_simple, is_decimal, number_bits, is_explicit_number, is_told, told_at}
+use Rattle.dfdl_checks.specs.Booleans.{falsity_told, truth_told}
+use Rattle.dfdl_checks.specs.Numbers.{byte_order, field_bits, field_nibbles, number_by, number_of_rep, number_of_type, own_size, packed_by, packed_of_type, places_of, places_told, primitive_for, primitive_of, primitive_of_kind, primitive_parsed, truth_by, truth_of}
+use Rattle.dfdl_checks.specs.Packed.{codes_for, codes_told, is_strict, nibbles_within, rep_of, rep_told}
+use Rattle.dfdl_checks.specs.Rules.{first_breach, rules, has_falsity, has_size, has_truth, is_built_type, is_delimited_boolean, is_length_by_content, is_size, is_unsized}
+use Rattle.dfdl_checks.specs.Subjects.{binary_bits, has_point, is_binary_boolean, is_binary_number, is_explicit_binary, is_packed, is_simple, is_decimal, is_told, is_truths, number_bits, told_at, value_bits}
 use Rattle.dfdl_checks.specs.Table.{EachNumber, EveryValue, applicability_table}
 use Rattle.dfdl_checks.specs.Values.{is_value, is_within}
 use Rattle.dfdl_checks.specs.declared.applicability.Bearers.TheVariants as bearers
@@ -22,10 +28,6 @@ use Rattle.dfdl_checks.specs.declared.purpose.Purpose.{Purpose}
 use Rattle.dfdl_checks.specs.declared.purpose.Purpose.TheVariants.{Parsing, Unparsing}
 use Rattle.dfdl_checks.specs.declared.subject.Kind.TheVariants.{SimpleElement}
 use Rattle.dfdl_checks.specs.Judged.{Judged}
-
--- a test that holds is one of two
-both : (a b : Bool) → a ≡ true → b ≡ true → (a && b) ≡ true
-both a b x y = grind (arith, x, y)
 
 -- a number is told where a number is built
 number-told : (r : Row) (t : Told) → HasBuilt r EachNumber t → is_some (number_told t) ≡ true
@@ -37,35 +39,75 @@ some-length : (unit : ℕ) (number : Option ℕ) → is_some number ≡ true →
 some-length unit (Some n) some = refl
 some-length unit None some = grind (arith, some)
 
--- a number of explicit length has a constant one
-constant : (s : Judged) → IsSound s → is_explicit_number s ≡ true → is_some (constant_length s) ≡ true
+-- a value of explicit length has a constant one
+constant : (s : Judged) → IsSound s → is_explicit_binary s ≡ true → is_some (constant_length s) ≡ true
 unfolding applicability_table property_table
 constant s sound explicit =
     some-length (unit_bits (told_at s (codes "lengthUnits"))) _
-    (number-told _ _ (built-at s sound.kept 5 (codes "length") bearers.ExplicitNumbers EachNumber refl explicit _ refl refl))
+    (number-told _ _ (built-at s sound.kept 6 (codes "length") bearers.ExplicitBinaries EachNumber refl explicit _ refl refl))
 
--- it is one that the type has
-sized : (s : Judged) → IsSound s → is_explicit_number s ≡ true → is_some (size_within (number_bits s.kind) (constant_length s)) ≡ true
-sized s sound explicit =
-    third (is_explicit_number s) (is_some (constant_length s)) (is_some (size_within (number_bits s.kind) (constant_length s)))
-    explicit (constant s sound explicit) sound.kept.length
+-- its field can have it
+sized : (s : Judged) → IsSound s → is_told s (codes "lengthKind") (codes "explicit") ≡ true → has_size s ≡ true
+sized s sound told = third (is_explicit_binary s) (is_some (constant_length s)) (has_size s) explicit (constant s sound explicit) sound.kept.length
   where
+    explicit : is_explicit_binary s ≡ true
+    explicit = both _ _ sound.binary told
+
     third : (a b c : Bool) → a ≡ true → b ≡ true → (a && (b && not c)) ≡ false → c ≡ true
     third a b c x y z = grind (arith, x, y, z)
 
--- the field has a size
-some-size : (s : Judged) → IsSound s → is_some (field_bits s (number_bits s.kind)) ≡ true
-some-size s sound = by (is_told s (codes "lengthKind") (codes "explicit")) refl
+-- the field of a value that isn't packed has a size
+some-size : (s : Judged) → IsSound s → (s.purpose ≡ Parsing → rep_of s ≡ None) → is_some (field_bits s (value_bits s.kind)) ≡ true
+some-size s sound plain = by (is_told s (codes "lengthKind") (codes "explicit")) refl
   where
     own : (purpose : Purpose) → s.purpose ≡ purpose → is_told s (codes "lengthKind") (codes "explicit") ≡ true
-        → is_some (own_size purpose (number_bits s.kind) (constant_length s)) ≡ true
-    own Parsing is explicit = sized s sound (both _ _ sound.binary explicit)
-    own Unparsing is explicit = let apart : true ≡ false = sym explicit ∙ sound.implicit is in grind (arith, apart)
+        → is_some (own_size purpose (value_bits s.kind) (constant_length s)) ≡ true
+    own Parsing is explicit = sym (ap (λ r. is_size r (value_bits s.kind) (constant_length s)) (plain is)) ∙ sized s sound explicit
+    own Unparsing is explicit = let apart : true ≡ false = sym explicit ∙ sound.length.implicit is in grind (arith, apart)
 
     by : (b : Bool) → is_told s (codes "lengthKind") (codes "explicit") ≡ b
-        → is_some (if b then own_size s.purpose (number_bits s.kind) (constant_length s) else Some (number_bits s.kind)) ≡ true
+        → is_some (if b then own_size s.purpose (value_bits s.kind) (constant_length s) else Some (value_bits s.kind)) ≡ true
     by true explicit = own s.purpose refl explicit
     by false explicit = refl
+
+-- the same by the bits of the type
+size-of : (s : Judged) (most : ℕ) → IsSound s → (s.purpose ≡ Parsing → rep_of s ≡ None) → value_bits s.kind ≡ most → is_some (field_bits s most) ≡ true
+size-of s most sound plain is = subst (λ m. is_some (field_bits s m) ≡ true) is (some-size s sound plain)
+
+-- a packed number has a length of its own
+packed-explicit : (s : Judged) (rep : PackedRep) → IsSound s → is_binary_number s ≡ true → rep_of s ≡ Some rep
+    → is_told s (codes "lengthKind") (codes "explicit") ≡ true
+packed-explicit s rep sound number is =
+    own (is_told s (codes "lengthKind") (codes "implicit")) (is_told s (codes "lengthKind") (codes "explicit")) sound.length.kind
+    (sizeless (is_binary_number s) (is_length_by_content s) (is_unsized s.kind) (is_some (rep_of s)) _ (is_delimited_boolean s) number (ap is_some is)
+    sound.kept.length_kind)
+  where
+    own : (a b : Bool) → (a || b) ≡ true → a ≡ false → b ≡ true
+    own a b h k = grind (arith, h, k)
+
+    sizeless : (a b c d e f : Bool) → a ≡ true → d ≡ true → ((a && (b || ((c || d) && e))) || f) ≡ false → e ≡ false
+    sizeless a b c d e f x y z = grind (arith, x, y, z)
+
+-- its nibbles are whole
+some-nibbles : (s : Judged) (rep : PackedRep) → IsSound s → is_binary_number s ≡ true → rep_of s ≡ Some rep → is_some (field_nibbles s rep) ≡ true
+some-nibbles s rep sound number is =
+    ap (λ b. is_some (if b then nibbles_within rep (constant_length s) else None)) explicit
+    ∙ (sym (ap (λ r. is_size r (value_bits s.kind) (constant_length s)) is) ∙ sized s sound explicit)
+  where
+    explicit : is_told s (codes "lengthKind") (codes "explicit") ≡ true
+    explicit = packed-explicit s rep sound number is
+
+-- its sign codes are some that are allowed
+some-signs : (s : Judged) (rep : PackedRep) → IsSound s → is_binary_number s ≡ true → rep_of s ≡ Some rep
+    → is_some (codes_for rep (told_at s (codes "binaryPackedSignCodes"))) ≡ true
+some-signs s reps.Packed sound number is =
+    second (is_packed s) (is_some (codes_told (told_at s (codes "binaryPackedSignCodes"))))
+    (both _ _ number (rep-word (told_at s (codes "binaryNumberRep")) reps.Packed (rep-of s reps.Packed is).told)) sound.kept.codes
+  where
+    second : (a b : Bool) → a ≡ true → (a && not b) ≡ false → b ≡ true
+    second a b x y = grind (arith, x, y)
+some-signs s reps.Bcd sound number is = refl
+some-signs s reps.Ibm4690 sound number is = refl
 
 -- the value that is told, or nothing
 abbrev written-in : Told → List ℕ
@@ -89,16 +131,16 @@ some-places name Absent none once = refl
 some-places name (Twice place) none once = grind (arith, once)
 
 -- the number has digits behind its point, or none
-places : (s : Judged) (simple : Simple) → IsSound s → s.kind ≡ SimpleElement simple
+places : (s : Judged) (simple : Simple) → IsSound s → is_binary_number s ≡ true → s.kind ≡ SimpleElement simple
     → is_some (places_of simple (told_at s (codes "binaryDecimalVirtualPoint"))) ≡ true
 unfolding applicability_table property_table
-places s simple sound is = by (has_point (form_of simple)) refl
+places s simple sound number is = by (has_point (form_of simple)) refl
   where
     decimal : has_point (form_of simple) ≡ true → is_some (places_told (told_at s (codes "binaryDecimalVirtualPoint"))) ≡ true
     decimal point =
         some-places (codes "binaryDecimalVirtualPoint") _
-        (no-flaw s sound.kept 20 (codes "binaryDecimalVirtualPoint") bearers.BinaryDecimals EveryValue refl
-        (both _ _ (ap is_decimal is ∙ point) sound.binary) _ refl)
+        (no-flaw s sound.kept 25 (codes "binaryDecimalVirtualPoint") bearers.BinaryDecimals EveryValue refl
+        (both _ _ (ap is_decimal is ∙ point) number) _ refl)
         (told-once s.chain property_table (codes "binaryDecimalVirtualPoint") _ refl sound.kept.once)
 
     by : (b : Bool) → has_point (form_of simple) ≡ b
@@ -113,14 +155,92 @@ some-number simple order (Some b) (Some p) x y = refl
 some-number simple order None p x y = grind (arith, x)
 some-number simple order (Some b) None x y = grind (arith, y)
 
+some-packed : (simple : Simple) (rep : PackedRep) (order : ByteOrder) (strict : Bool) (nibbles : Option ℕ) (signs : Option (List ℕ)) (places : Option ℕ)
+    → is_some nibbles ≡ true → is_some signs ≡ true → is_some places ≡ true → is_some (packed_by simple rep order strict nibbles signs places) ≡ true
+some-packed simple rep order strict (Some n) (Some c) (Some p) x y z = refl
+some-packed simple rep order strict None c p x y z = grind (arith, x)
+some-packed simple rep order strict (Some n) None p x y z = grind (arith, y)
+some-packed simple rep order strict (Some n) (Some c) None x y z = grind (arith, z)
+
+some-truth : (order : ByteOrder) (bits : Option ℕ) (truth : Option (Option ℕ)) (falsity : Option ℕ) → is_some bits ≡ true → is_some truth ≡ true
+    → is_some falsity ≡ true → is_some (truth_by order bits truth falsity) ≡ true
+some-truth order (Some b) (Some t) (Some f) x y z = refl
+some-truth order None t f x y z = grind (arith, x)
+some-truth order (Some b) None f x y z = grind (arith, y)
+some-truth order (Some b) (Some t) None x y z = grind (arith, z)
+
+-- a boolean has its numbers
+truths : (s : Judged) → IsSound s → is_binary_boolean s ≡ true → (has_truth s ≡ true) × (has_falsity s ≡ true)
+truths s sound boolean = parts (is_binary_boolean s) (has_truth s) (has_falsity s) boolean sound.kept.truths
+  where
+    parts : (a b c : Bool) → a ≡ true → (a && not (b && c)) ≡ false → (b ≡ true) × (c ≡ true)
+    parts a b c x y = (grind (arith, x, y), grind (arith, x, y))
+
+-- a simple element without a breach has a primitive: as a boolean
+as-truth : (s : Judged) → IsSound s → is_binary_boolean s ≡ true → (s.purpose ≡ Parsing → rep_of s ≡ None) → value_bits s.kind ≡ 32
+    → is_some (truth_of s) ≡ true
+as-truth s sound boolean plain bits =
+    let numbers = truths s sound boolean in
+    some-truth (byte_order (told_at s (codes "byteOrder"))) _ _ _ (size-of s 32 sound plain bits) numbers.0 numbers.1
+
+-- as a number, packed where a packed representation is told
+as-number : (s : Judged) (simple : Simple) → IsSound s → is_binary_number s ≡ true → (s.purpose ≡ Parsing → rep_of s ≡ None) → s.kind ≡ SimpleElement simple
+    → value_bits s.kind ≡ most_bits (form_of simple) → is_some (number_of_type s simple) ≡ true
+as-number s simple sound number plain kind bits =
+    some-number simple (byte_order (told_at s (codes "byteOrder"))) _ _ (size-of s _ sound plain bits) (places s simple sound number kind)
+
+as-packed : (s : Judged) (simple : Simple) (rep : PackedRep) → IsSound s → is_binary_number s ≡ true → rep_of s ≡ Some rep → s.kind ≡ SimpleElement simple
+    → is_some (packed_of_type s simple rep) ≡ true
+as-packed s simple rep sound number is kind =
+    some-packed simple rep (byte_order (told_at s (codes "byteOrder"))) (is_strict rep (told_at s (codes "binaryNumberCheckPolicy"))) _ _ _
+    (some-nibbles s rep sound number is) (some-signs s rep sound number is) (places s simple sound number kind)
+
+as-rep : (s : Judged) (simple : Simple) (o : Option PackedRep) → IsSound s → is_binary_number s ≡ true → rep_of s ≡ o → s.kind ≡ SimpleElement simple
+    → value_bits s.kind ≡ most_bits (form_of simple) → is_some (number_of_rep s simple o) ≡ true
+as-rep s simple None sound number is kind bits = as-number s simple sound number (λ parsing. is) kind bits
+as-rep s simple (Some rep) sound number is kind bits = as-packed s simple rep sound number is kind
+
+-- what is no binary number has no packed representation
+no-rep : (s : Judged) → is_binary_number s ≡ false → rep_of s ≡ None
+no-rep s is = ap (λ b. if b then rep_told (told_at s (codes "binaryNumberRep")) else None) is
+
+-- no boolean is a number
+no-number : (s : Judged) (simple : Simple) → s.kind ≡ SimpleElement simple → is_truths (form_of simple) ≡ true → is_binary_number s ≡ false
+no-number s simple kind is =
+    ap (λ k. nat_lt 0 (number_bits k) && is_told s (codes "representation") (codes "binary")) (kind ∙ ap SimpleElement (boolean-type simple is))
+
+-- whether it is a boolean or a number, it has one
+by-truths : (s : Judged) (simple : Simple) → IsSound s → s.kind ≡ SimpleElement simple → (is_truths (form_of simple) ≡ true → is_binary_boolean s ≡ true)
+    → (is_truths (form_of simple) ≡ false → is_binary_number s ≡ true) → is_some (primitive_parsed s simple) ≡ true
+by-truths s simple sound kind boolean number = by (is_truths (form_of simple)) refl
+  where
+    bits : value_bits s.kind ≡ binary_bits (form_of simple)
+    bits = ap value_bits kind
+
+    by : (b : Bool) → is_truths (form_of simple) ≡ b → is_some (if b then truth_of s else number_of_rep s simple (rep_of s)) ≡ true
+    by true is =
+        as-truth s sound (boolean is) (λ parsing. no-rep s (no-number s simple kind is)) (bits ∙ truth-bits (form_of simple) is)
+    by false is = as-rep s simple (rep_of s) sound (number is) refl kind (bits ∙ number-bits (form_of simple) is)
+
+by-purpose : (s : Judged) (simple : Simple) (purpose : Purpose) → s.purpose ≡ purpose → IsSound s → s.kind ≡ SimpleElement simple
+    → is_built_type s.purpose simple ≡ true → (is_truths (form_of simple) ≡ true → is_binary_boolean s ≡ true)
+    → (is_truths (form_of simple) ≡ false → is_binary_number s ≡ true) → is_some (primitive_for purpose s simple) ≡ true
+by-purpose s simple Parsing is sound kind built boolean number = by-truths s simple sound kind boolean number
+by-purpose s simple Unparsing is sound kind built boolean number =
+    as-number s simple sound (number apart) (λ parsing. absurd (other (sym parsing ∙ is))) kind (ap value_bits kind ∙ number-bits (form_of simple) apart)
+  where
+    apart : is_truths (form_of simple) ≡ false
+    apart = whole-apart simple (sym (ap (λ p. is_built_type p simple) is) ∙ built)
+
+    other : Parsing ≡ Unparsing → ⊥
+    other same = cc
+
 -- a simple element without a breach has a primitive
 pub has-primitive : (s : Judged) → first_breach rules s ≡ None → IsTrue (is_simple s.kind) → IsSome (primitive_of s)
 has-primitive s none is =
     let sound = is-sound s none is in
     let simple = sound.element.simple in
     let kind : s.kind ≡ SimpleElement simple = sound.element.kind_is in
-    let size : is_some (field_bits s (most_bits (form_of simple))) ≡ true =
-    subst (λ k. is_some (field_bits s (number_bits k)) ≡ true) kind (some-size s sound) in
     ap (λ k. is_some (primitive_of_kind s k)) kind
-    ∙ (ap (λ b. is_some (if b then number_of_type s simple else None)) sound.element.built
-    ∙ some-number simple _ _ _ size (places s simple sound kind))
+    ∙ (ap (λ b. is_some (if b then primitive_for s.purpose s simple else None)) sound.element.built
+    ∙ by-purpose s simple s.purpose refl sound kind sound.element.built sound.truths sound.number)

@@ -7,23 +7,58 @@ use Rattle.dfdl_forms.specs.declared.simple.Form.TheVariants as forms
 use Rattle.dfdl_forms.specs.declared.simple.Simple.{Simple}
 use Rattle.dfdl_forms.specs.declared.simple.Simple.TheVariants as types
 use Rattle.dfdl_checks.specs.Rules.{is_built_type, is_whole_type, has_later_type, is_type_not_carried}
-use Rattle.dfdl_checks.specs.Subjects.{is_simple, is_represented, has_representation}
+use Rattle.dfdl_checks.specs.Subjects.{binary_bits, is_simple, is_represented, is_truths, has_representation}
 use Rattle.dfdl_checks.specs.declared.purpose.Purpose.{Purpose}
 use Rattle.dfdl_checks.specs.declared.purpose.Purpose.TheVariants.{Parsing, Unparsing}
 use Rattle.dfdl_checks.specs.declared.subject.Kind.{Kind}
 use Rattle.dfdl_checks.specs.declared.subject.Kind.TheVariants.{ComplexElement, SimpleElement, UncarriedElement, Sequence, Choice}
 
--- a number has a representation
-represented : (form : Form) → nat_lt 0 (most_bits form) ≡ true → has_representation form ≡ true
+-- a value with a binary form has a representation
+represented : (form : Form) → nat_lt 0 (binary_bits form) ≡ true → has_representation form ≡ true
 represented (forms.Signed bits) some = refl
 represented (forms.Unsigned bits) some = refl
 represented forms.Fixed some = refl
 represented forms.Characters some = grind (arith, some)
-represented forms.Truths some = grind (arith, some)
+represented forms.Truths some = refl
 represented forms.Octets some = grind (arith, some)
 
+-- what has a binary form and isn't true or false is a number, of as many bits
+pub number-bits : (form : Form) → is_truths form ≡ false → binary_bits form ≡ most_bits form
+number-bits (forms.Signed bits) apart = refl
+number-bits (forms.Unsigned bits) apart = refl
+number-bits forms.Fixed apart = refl
+number-bits forms.Characters apart = refl
+number-bits forms.Truths apart = grind (arith, apart)
+number-bits forms.Octets apart = refl
+
+-- true and false have 32 bits
+pub truth-bits : (form : Form) → is_truths form ≡ true → binary_bits form ≡ 32
+truth-bits (forms.Signed bits) is = grind (arith, is)
+truth-bits (forms.Unsigned bits) is = grind (arith, is)
+truth-bits forms.Fixed is = grind (arith, is)
+truth-bits forms.Characters is = grind (arith, is)
+truth-bits forms.Truths is = refl
+truth-bits forms.Octets is = grind (arith, is)
+
+-- the type of true and false is boolean
+pub boolean-type : (simple : Simple) → is_truths (form_of simple) ≡ true → simple ≡ types.Boolean
+boolean-type types.Boolean is = refl
+boolean-type types.UnsignedByte is = grind (arith, is)
+boolean-type types.UnsignedShort is = grind (arith, is)
+boolean-type types.UnsignedInt is = grind (arith, is)
+boolean-type types.UnsignedLong is = grind (arith, is)
+boolean-type types.String is = grind (arith, is)
+boolean-type types.HexBinary is = grind (arith, is)
+boolean-type types.Decimal is = grind (arith, is)
+boolean-type types.Integer is = grind (arith, is)
+boolean-type types.NonNegativeInteger is = grind (arith, is)
+boolean-type types.Byte is = grind (arith, is)
+boolean-type types.Short is = grind (arith, is)
+boolean-type types.Int is = grind (arith, is)
+boolean-type types.Long is = grind (arith, is)
+
 -- a type of whole bytes is one of numbers
-whole-number : (simple : Simple) → is_whole_type simple ≡ true → nat_lt 0 (most_bits (form_of simple)) ≡ true
+pub whole-number : (simple : Simple) → is_whole_type simple ≡ true → nat_lt 0 (most_bits (form_of simple)) ≡ true
 whole-number types.UnsignedByte whole = refl
 whole-number types.UnsignedShort whole = refl
 whole-number types.UnsignedInt whole = refl
@@ -39,10 +74,24 @@ whole-number types.Short whole = refl
 whole-number types.Int whole = refl
 whole-number types.Long whole = refl
 
--- a type that is built is one of numbers
-pub built-number : (purpose : Purpose) (simple : Simple) → is_built_type purpose simple ≡ true → nat_lt 0 (most_bits (form_of simple)) ≡ true
-built-number Parsing simple built = built
-built-number Unparsing simple built = whole-number simple built
+-- a type of whole bytes is not that of true and false
+pub whole-apart : (simple : Simple) → is_whole_type simple ≡ true → is_truths (form_of simple) ≡ false
+whole-apart types.Boolean whole = grind (arith, whole)
+whole-apart _ whole = refl
+
+-- a number has a binary form
+number-value : (form : Form) → nat_lt 0 (most_bits form) ≡ true → nat_lt 0 (binary_bits form) ≡ true
+number-value (forms.Signed bits) some = some
+number-value (forms.Unsigned bits) some = some
+number-value forms.Fixed some = refl
+number-value forms.Characters some = grind (arith, some)
+number-value forms.Truths some = refl
+number-value forms.Octets some = grind (arith, some)
+
+-- a type that is built is one whose values have a binary form
+pub built-value : (purpose : Purpose) (simple : Simple) → is_built_type purpose simple ≡ true → nat_lt 0 (binary_bits (form_of simple)) ≡ true
+built-value Parsing simple built = built
+built-value Unparsing simple built = number-value (form_of simple) (whole-number simple built)
 
 -- no type has more than 128 bits
 pub few-bits : (simple : Simple) → most_bits (form_of simple) ≤ 128
@@ -78,6 +127,6 @@ built-element purpose UncarriedElement later typed is = grind (arith, typed)
 built-element purpose Sequence later typed is = grind (arith, is)
 built-element purpose Choice later typed is = grind (arith, is)
 
--- such an element is a number with a representation
-pub element-number : (simple : Simple) → nat_lt 0 (most_bits (form_of simple)) ≡ true → is_represented (SimpleElement simple) ≡ true
-element-number simple some = represented (form_of simple) some
+-- such an element has a representation
+pub element-represented : (simple : Simple) → nat_lt 0 (binary_bits (form_of simple)) ≡ true → is_represented (SimpleElement simple) ≡ true
+element-represented simple some = represented (form_of simple) some

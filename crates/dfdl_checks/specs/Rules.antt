@@ -135,10 +135,17 @@ is_alignment_not_allowed subject = not (is_simple subject.kind) && is_told subje
 abbrev pub are_codes_malformed : Judged → Bool
 are_codes_malformed subject = is_packed subject && not (is_some (codes_told (told_at subject (codes "binaryPackedSignCodes"))))
 
+-- the number of true is one of 32 bits, or there is none
+abbrev pub has_truth : Judged → Bool
+has_truth subject = is_some (truth_told (told_at subject (codes "binaryBooleanTrueRep")))
+
+-- the number of false is one of 32 bits
+abbrev pub has_falsity : Judged → Bool
+has_falsity subject = is_some (falsity_told (told_at subject (codes "binaryBooleanFalseRep")))
+
 -- each number of a boolean is one of 32 bits, and only that of true may be lacking
 abbrev pub are_truths_told : Judged → Bool
-are_truths_told subject =
-    is_some (truth_told (told_at subject (codes "binaryBooleanTrueRep"))) && is_some (falsity_told (told_at subject (codes "binaryBooleanFalseRep")))
+are_truths_told subject = has_truth subject && has_falsity subject
 
 -- 27: a binary boolean without a number of false, or with a number past 32 bits
 abbrev pub are_truths_malformed : Judged → Bool

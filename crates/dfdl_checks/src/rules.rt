@@ -239,8 +239,21 @@ fn are_codes_malformed(subject: &Subject<'_, '_, '_>) -> bool
 fn are_truths_told(subject: &Subject<'_, '_, '_>) -> bool
     ensures { result ≡ spec.are_truths_told (judged_of subject.now) }
 {
+    has_truth(subject) && has_falsity(subject)
+}
+
+/// Whether the number of true is one of 32 bits, or there is none.
+fn has_truth(subject: &Subject<'_, '_, '_>) -> bool
+    ensures { result ≡ spec.has_truth (judged_of subject.now) }
+{
     truth_told(property(subject.chain, "binaryBooleanTrueRep")).is_some()
-        && falsity_told(property(subject.chain, "binaryBooleanFalseRep")).is_some()
+}
+
+/// Whether the number of false is one of 32 bits.
+fn has_falsity(subject: &Subject<'_, '_, '_>) -> bool
+    ensures { result ≡ spec.has_falsity (judged_of subject.now) }
+{
+    falsity_told(property(subject.chain, "binaryBooleanFalseRep")).is_some()
 }
 
 /// Whether it is a binary boolean with a number that is none of 32 bits.

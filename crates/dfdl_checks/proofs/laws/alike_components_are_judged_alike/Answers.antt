@@ -1,4 +1,5 @@
-use Rattle.dfdl_checks.proofs.AlikeJudged.{same-breach, same-primitive}
+use Rattle.dfdl_checks.proofs.AlikeForms.{same-framing, same-primitive}
+use Rattle.dfdl_checks.proofs.AlikeJudged.{same-breach}
 use Rattle.dfdl_checks.proofs.laws.alike_components_are_judged_alike.Goals as goal
 
 pub returns-clause-breach : goal.returns-clause-breach
@@ -6,3 +7,6 @@ returns-clause-breach c = same-breach
 
 pub returns-clause-primitive : goal.returns-clause-primitive
 returns-clause-primitive c = same-primitive
+
+pub returns-clause-framing : goal.returns-clause-framing
+returns-clause-framing c = same-framing

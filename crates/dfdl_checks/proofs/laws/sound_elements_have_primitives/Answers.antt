@@ -1,9 +1,9 @@
-use Rattle.dfdl_checks.proofs.Binary.{are-numbers}
 use Rattle.dfdl_checks.proofs.Sound.{has-primitive}
+use Rattle.dfdl_checks.proofs.Told.{are-values}
 use Rattle.dfdl_checks.proofs.laws.sound_elements_have_primitives.Goals as goal
 
 pub returns-clause-primitive : goal.returns-clause-primitive
 returns-clause-primitive c = has-primitive
 
 pub returns-clause-properties : goal.returns-clause-properties
-returns-clause-properties c = are-numbers
+returns-clause-properties c = are-values

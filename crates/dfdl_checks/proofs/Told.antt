@@ -112,11 +112,11 @@ are-values s none simple = record {
       where
         as-integer : IsIntegerOf s form → is_told s (codes "binaryNumberRep") (codes "binary") ≡ true
         as-integer of =
-            binary-word s.purpose _ (built-by s sound.kept 22 reps refl (is-number form of) _ refl refl)
+            binary-word s.purpose (told_at s (codes "binaryNumberRep")) (built-by s sound.kept 22 reps refl (is-number form of) rep_row refl refl)
             (λ parsing. none-told s (is-number form of) (of.plain parsing))
 
     packed : (form : PackedForm) → primitive_of s ≡ Some (primitives.Packed form) → IsTrue (is_told s (codes "binaryNumberRep") (rep_word form.rep))
     packed form is = as-packed (of-component s (primitives.Packed form) is)
       where
         as-packed : IsPackedOf s form → is_told s (codes "binaryNumberRep") (rep_word form.rep) ≡ true
-        as-packed of = rep-word _ form.rep (rep-of s form.rep of.rep).told
+        as-packed of = rep-word (told_at s (codes "binaryNumberRep")) form.rep (rep-of s form.rep of.rep).told

@@ -1,10 +1,12 @@
--- What is wrong at each component of a schema by itself, and how the values of its simple elements lie in the data.
+-- What is wrong at each component of a schema by itself, how the values of its simple elements lie in the data, and which
+-- fill stands around its content.
 use Rattle.std.specs.Prelude.{List, map, Option, None, if◌then◌else◌}
 use Rattle.dfdl_documents.specs.Documents.{SchemaDocument}
 use Rattle.dfdl_components.specs.declared.site.Site.{Site}
 use Rattle.dfdl_components.specs.Sites.{role_of}
 use Rattle.dfdl_checks.specs.Judged.{Judged}
 use Rattle.dfdl_checks.specs.Rules.{first_breach, rules}
+use Rattle.dfdl_checks.specs.Framing.{framing_of, no_fill}
 use Rattle.dfdl_checks.specs.Numbers.{primitive_of}
 use Rattle.dfdl_checks.specs.declared.purpose.Purpose.{Purpose}
 use Rattle.dfdl_checks.specs.declared.subject.Breach.{Breach}
@@ -12,6 +14,7 @@ use Rattle.dfdl_chains.specs.Chains.{chain_sites}
 use Rattle.dfdl_chains.specs.Facts.{facts_at}
 use Rattle.dfdl_chains.specs.Kinds.{kind_at}
 use Rattle.dfdl_chains.specs.Parts.{is_component}
+use Rattle.dfdl_terms.specs.declared.framing.Framing.{Framing}
 use Rattle.dfdl_terms.specs.declared.row.Primitive.{Primitive}
 use Rattle.dfdl_breaches.specs.Elements.{place_of, element_at}
 use Rattle.dfdl_breaches.specs.declared.judgement.Judgement.{Judgement}
@@ -30,17 +33,25 @@ judged_at purpose documents own = record {
 abbrev pub breach_at : Purpose → List SchemaDocument → Site → Option Breach
 breach_at purpose documents own = first_breach rules (judged_at purpose documents own)
 
--- how the values of a component lie in the data, where they are numbers of a type and of a size that are built
+-- how the values of a component lie in the data, where they are of a type and of a size that are built
 abbrev pub primitive_at : Purpose → List SchemaDocument → Site → Option Primitive
 primitive_at purpose documents own = primitive_of (judged_at purpose documents own)
 
+-- the fill around the content of a component
+abbrev pub framing_at : Purpose → List SchemaDocument → Site → Framing
+framing_at purpose documents own = framing_of (judged_at purpose documents own)
+
 -- nothing is told of what is no component
 abbrev pub no_judgement : Judgement
-no_judgement = record { breach = None; primitive = None }
+no_judgement = record { breach = None; primitive = None; framing = no_fill }
 
 -- what is told of an element of the documents
 unfoldable pub judgement_at : Purpose → List SchemaDocument → Site → Judgement
 judgement_at purpose documents own =
     if is_component (role_of documents own) then
-    record { breach = breach_at purpose documents own; primitive = primitive_at purpose documents own }
+    record {
+      breach = breach_at purpose documents own;
+      primitive = primitive_at purpose documents own;
+      framing = framing_at purpose documents own;
+    }
     else no_judgement

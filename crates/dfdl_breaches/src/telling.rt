@@ -8,7 +8,7 @@ ghost use Rattle.dfdl_chains.specs.Everywhere.{for_each};
 ghost use Rattle.dfdl_chains.specs.Parts.{is_component};
 ghost use Rattle.dfdl_scope.specs.Shown.{chain_of};
 ghost use Rattle.dfdl_breaches.specs.Elements.{element_at};
-ghost use Rattle.dfdl_breaches.specs.Judging.{breach_at, judgement_at, primitive_at};
+ghost use Rattle.dfdl_breaches.specs.Judging.{breach_at, framing_at, judgement_at, primitive_at};
 ghost use Rattle.dfdl_breaches.specs.KeptShown.{AreKept};
 
 use crate::entries::entries_of;
@@ -18,9 +18,10 @@ use crate::kept::{Kept, element_at};
 use crate::sites::sites_of;
 use dfdl_chains::{chain_sites, facts_at, is_component, kind_at};
 use dfdl_checks::laws::alike_components_are_judged_alike;
-use dfdl_checks::{Purpose, Subject, breach, primitive};
+use dfdl_checks::{Purpose, Subject, breach, framing, primitive};
 use dfdl_components::{Schema, Site};
 use dfdl_scope::Component;
+use dfdl_terms::Framing;
 use std::alloc::{AllocError, Global};
 
 // The chain of these elements.
@@ -56,6 +57,7 @@ fn judged(
     requires within { All (IsSite schema.now) sites.now }
     ensures breach { IfOk result (λ judgement. judgement.breach ≡ breach_at purpose schema.now site) }
     ensures primitive { IfOk result (λ judgement. judgement.primitive ≡ primitive_at purpose schema.now site) }
+    ensures framing { IfOk result (λ judgement. judgement.framing ≡ framing_at purpose schema.now site) }
 {
     alike_components_are_judged_alike();
     let chain = chain_at(alloc, kept, schema, sites)?;
@@ -69,6 +71,7 @@ fn judged(
     Ok(Judgement {
         breach: breach(&subject),
         primitive: primitive(&subject),
+        framing: framing(&subject),
     })
 }
 
@@ -90,6 +93,11 @@ fn judgement(
         return Ok(Judgement {
             breach: None,
             primitive: None,
+            framing: Framing {
+                leading_skip: 0,
+                alignment: 1,
+                trailing_skip: 0,
+            },
         });
     }
     chain_sites(schema, &kept.sites.numbers, site, chain)?;
@@ -115,7 +123,8 @@ fn judgements(
 }
 
 /// What is told of each element of a schema's documents, in the order of their numbers: of a component
-/// the first rule that it breaks, and how its values lie in the data; of every other element nothing.
+/// the first rule that it breaks, how its values lie in the data, and the fill around its content; of every
+/// other element nothing.
 ///
 /// What its rows are made for decides which forms are built. The properties of each element are collected once, and each format is joined once.
 pub fn breaches(

@@ -5,7 +5,7 @@ use dfdl_checks::Purpose;
 use dfdl_components::{Schema, load};
 use dfdl_edge::{MemoryFile, MemoryFiles};
 use dfdl_forms::ByteOrder;
-use dfdl_terms::Primitive;
+use dfdl_terms::{Framing, Primitive};
 use std::alloc::{AllocError, Global};
 use std::test::Fail;
 
@@ -41,7 +41,7 @@ fn file_of(
 }
 
 /// What is told of the elements of some files that have a breach or a primitive, as a line: the number
-/// of the cause, or the bits and the order of bytes.
+/// of the cause, or the fill where there is some, and the bits and the order of bytes.
 fn told(alloc: Global, purpose: Purpose, files: Vec<MemoryFile>) -> Result<String, AllocError> {
     let mut files = MemoryFiles::new(files, Vec::new(alloc));
     let Ok(schema) = load(alloc, &mut files, "a", 10_000, 2) else {
@@ -60,14 +60,30 @@ fn told_of(alloc: Global, judgement: Judgement) -> Result<String, AllocError> {
     if let Some(breach) = judgement.breach {
         return format!(in alloc; "C{}@{} ", breach.cause.number(), breach.place.document);
     }
+    let fill = fill_of(alloc, judgement.framing)?;
     match judgement.primitive {
+        Some(Primitive::Packed(form)) => format!(in alloc; "{fill}packed{} ", form.nibbles),
+        Some(Primitive::Truth(form)) => format!(in alloc; "{fill}truth{} ", form.bits),
         Some(Primitive::Integer(form)) if form.bytes_by == ByteOrder::Little => format!(in alloc;
-            "little{} ",
+            "{fill}little{} ",
             form.bits
         ),
-        Some(Primitive::Integer(form)) => format!(in alloc; "big{} ", form.bits),
+        Some(Primitive::Integer(form)) => format!(in alloc; "{fill}big{} ", form.bits),
         None => Ok(String::new(alloc)),
     }
+}
+
+/// The fill of one element, where there is some.
+fn fill_of(alloc: Global, framing: Framing) -> Result<String, AllocError> {
+    let Framing {
+        leading_skip,
+        alignment,
+        trailing_skip,
+    } = framing;
+    if leading_skip == 0 && alignment == 1 && trailing_skip == 0 {
+        return Ok(String::new(alloc));
+    }
+    format!(in alloc; "{leading_skip}/{alignment}/{trailing_skip}:")
 }
 
 /// One document.
@@ -159,6 +175,20 @@ fn more_is_built_for_parsing_than_for_unparsing(rt: HostRuntime) -> Result<(), F
     assert_eq!(rt; parsed.as_str(), "big8 big8 big24 C17@0 ");
     let unparsed = one(alloc, Purpose::Unparsing, order, "", components)?;
     assert_eq!(rt; unparsed.as_str(), "big8 C3@0 C3@0 C3@0 ");
+    Ok(())
+}
+
+#[test]
+fn packed_numbers_booleans_and_fill_are_told(rt: HostRuntime) -> Result<(), Fail> {
+    let alloc = rt.alloc();
+    let components = "<x:element name=\"r\" type=\"x:boolean\"/>\
+        <x:element name=\"s\" type=\"x:decimal\" d:binaryNumberRep=\"bcd\" d:lengthKind=\"explicit\" d:length=\"3\"/>\
+        <x:element name=\"t\" type=\"x:unsignedByte\" d:alignment=\"4\" d:leadingSkip=\"2\" d:trailingSkip=\"1\"/>";
+    let order = "byteOrder=\"bigEndian\"";
+    let parsed = one(alloc, Purpose::Parsing, order, "", components)?;
+    assert_eq!(rt; parsed.as_str(), "truth32 packed6 2/4/1:big8 ");
+    let unparsed = one(alloc, Purpose::Unparsing, order, "", components)?;
+    assert_eq!(rt; unparsed.as_str(), "C3@0 C3@0 C3@0 ");
     Ok(())
 }
 

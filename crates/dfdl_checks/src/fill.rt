@@ -72,7 +72,11 @@ fn unit_at(chain: &Component<'_, '_>) -> u32
     ensures unit { result ≡ framings.fill_unit (told (chain_of chain.now) (codes "alignmentUnits")) }
     ensures few { result ≤ 8 }
 {
-    if is_word(chain, "alignmentUnits", "bytes") { 8 } else { 1 }
+    if is_word(chain, "alignmentUnits", "bytes") {
+        8
+    } else {
+        1
+    }
 }
 
 /// The units of fill that are told, from the least number to 65536, else this number.

@@ -11,9 +11,9 @@
 mod applicability;
 mod applying;
 mod booleans;
+mod fill;
 mod flaw;
 mod flaws;
-mod fill;
 pub mod laws;
 mod lengths;
 mod number;
@@ -30,5 +30,7 @@ pub use purpose::Purpose;
 pub use rules::breach;
 pub use subject::{Breach, Facts, Kind, Subject};
 
+#[cfg(test)]
+mod binary_tests;
 #[cfg(test)]
 mod tests;

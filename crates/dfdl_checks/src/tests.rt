@@ -1,9 +1,9 @@
 // The first breach at a component, by its kind, its chain and what it states.
-use super::{Facts, Kind, Purpose, Subject, breach, primitive};
+use super::{Facts, Kind, Purpose, Subject, breach, framing, primitive};
 use dfdl_forms::{BitOrder, ByteOrder, IntForm, Simple};
 use dfdl_report::Place;
 use dfdl_scope::{Component, Element, Format, Properties};
-use dfdl_terms::Primitive;
+use dfdl_terms::{Framing, Primitive};
 use std::alloc::{AllocError, AllocGlobal, Global};
 use std::process::Abort;
 use std::test::Fail;
@@ -19,11 +19,13 @@ const PLAIN: Facts = Facts {
 
 const BYTE: Kind = Kind::SimpleElement(Simple::UnsignedByte);
 
-const SHORT: Kind = Kind::SimpleElement(Simple::UnsignedShort);
+pub(crate) const SHORT: Kind = Kind::SimpleElement(Simple::UnsignedShort);
 
-const INT: Kind = Kind::SimpleElement(Simple::Int);
+pub(crate) const INT: Kind = Kind::SimpleElement(Simple::Int);
 
-const DECIMAL: Kind = Kind::SimpleElement(Simple::Decimal);
+pub(crate) const BOOLEAN: Kind = Kind::SimpleElement(Simple::Boolean);
+
+pub(crate) const DECIMAL: Kind = Kind::SimpleElement(Simple::Decimal);
 
 /// A kind of component, a property of its own beside those of integers, and the number of its first
 /// breach, 0 where it has none.
@@ -49,19 +51,21 @@ const PROPERTIES: [Judged; 15] = [
 ];
 
 /// Numbers, by their digits.
-const NUMBERS: [Judged; 8] = [
+const NUMBERS: [Judged; 10] = [
     (Kind::Sequence, "alignment", "0001", 0),
-    (Kind::Sequence, "alignment", "65536", 3),
-    (Kind::Sequence, "alignment", "implicit", 3),
+    (Kind::Sequence, "alignment", "65536", 0),
+    (Kind::Sequence, "alignment", "implicit", 24),
     (Kind::Sequence, "alignment", "65537", 9),
     (Kind::Sequence, "alignment", "0", 9),
     (Kind::Sequence, "alignment", "+1", 9),
     (Kind::Sequence, "alignment", "18446744073709551617", 9),
     (Kind::Sequence, "leadingSkip", "", 9),
+    (Kind::Sequence, "leadingSkip", "65536", 0),
+    (Kind::Sequence, "trailingSkip", "65537", 9),
 ];
 
 /// Which types are built for parsing, of implicit length.
-const TYPES: [Judged; 8] = [
+const TYPES: [Judged; 11] = [
     (INT, "byteOrder", "bigEndian", 0),
     (INT, "binaryDecimalVirtualPoint", "39", 7),
     (DECIMAL, "byteOrder", "bigEndian", 15),
@@ -77,23 +81,32 @@ const TYPES: [Judged; 8] = [
         "bigEndian",
         15,
     ),
-    (Kind::SimpleElement(Simple::Boolean), "alignment", "1", 3),
+    (BOOLEAN, "alignment", "1", 7),
+    (BOOLEAN, "byteOrder", "bigEndian", 0),
+    (BOOLEAN, "representation", "text", 3),
+    (Kind::ComplexElement, "alignment", "implicit", 24),
     (Kind::SimpleElement(Simple::String), "alignment", "1", 3),
     (BYTE, "fillByte", "x", 3),
 ];
 
 /// What is built for unparsing.
-const UNPARSED: [Judged; 6] = [
+const UNPARSED: [Judged; 12] = [
     (BYTE, "alignment", "1", 0),
     (SHORT, "byteOrder", "bigEndian", 0),
     (Kind::SimpleElement(Simple::Byte), "alignment", "1", 3),
     (DECIMAL, "byteOrder", "bigEndian", 3),
     (BYTE, "lengthKind", "explicit", 3),
     (BYTE, "fillByte", "x", 3),
+    (BOOLEAN, "byteOrder", "bigEndian", 3),
+    (BYTE, "binaryNumberRep", "packed", 3),
+    (BYTE, "alignment", "8", 3),
+    (BYTE, "alignmentUnits", "bytes", 3),
+    (BYTE, "leadingSkip", "1", 3),
+    (Kind::Sequence, "trailingSkip", "1", 3),
 ];
 
 /// A kind of number, its length and its units, and the number of its first breach.
-const LENGTHS: [Judged; 21] = [
+const LENGTHS: [Judged; 26] = [
     (INT, "32", "bits", 0),
     (INT, "33", "bits", 17),
     (INT, "1", "bits", 0),
@@ -115,6 +128,11 @@ const LENGTHS: [Judged; 21] = [
     (DECIMAL, "17", "bytes", 17),
     (INT, "18446744073709551617", "bits", 17),
     (INT, "2305843009213693953", "bytes", 17),
+    (BOOLEAN, "32", "bits", 0),
+    (BOOLEAN, "33", "bits", 17),
+    (BOOLEAN, "0", "bytes", 17),
+    (BOOLEAN, "4", "bytes", 0),
+    (BOOLEAN, "1", "characters", 16),
 ];
 
 /// A place in the first document.
@@ -126,7 +144,7 @@ fn at(byte: u64) -> Place {
 }
 
 /// What binary integers of implicit length are given.
-fn integers(alloc: Global) -> Result<Properties<'static>, AllocError> {
+pub(crate) fn integers(alloc: Global) -> Result<Properties<'static>, AllocError> {
     let mut properties = Properties::new(alloc);
     properties.add("representation", "binary")?;
     properties.add("binaryNumberRep", "binary")?;
@@ -135,7 +153,7 @@ fn integers(alloc: Global) -> Result<Properties<'static>, AllocError> {
 }
 
 /// One property.
-fn one(
+pub(crate) fn one(
     alloc: Global,
     name: &'static str,
     value: &'static str,
@@ -146,7 +164,7 @@ fn one(
 }
 
 /// What a number with a length of its own is given.
-fn explicit(
+pub(crate) fn explicit(
     alloc: Global,
     length: &'static str,
     units: &'static str,
@@ -159,16 +177,17 @@ fn explicit(
     Ok(own)
 }
 
-/// What is told of a component: the number of its first breach, 0 where there is none, and how its values
-/// lie in the data.
+/// What is told of a component: the number of its first breach, 0 where there is none, how its values lie
+/// in the data, and the fill around its content.
 #[derive(Drop)]
-struct Told {
-    number: u8,
-    primitive: Option<Primitive>,
+pub(crate) struct Told {
+    pub(crate) number: u8,
+    pub(crate) primitive: Option<Primitive>,
+    pub(crate) framing: Framing,
 }
 
 /// What is told of a component with properties of its own, over those of integers.
-fn told_of(
+pub(crate) fn told_of(
     alloc: Global,
     purpose: Purpose,
     kind: Kind,
@@ -197,6 +216,7 @@ fn told_of(
     Ok(Told {
         number,
         primitive: primitive(&subject),
+        framing: framing(&subject),
     })
 }
 

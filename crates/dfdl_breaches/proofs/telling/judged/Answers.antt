@@ -23,3 +23,13 @@ returns-clause-primitive c =
     (alike_judged c.args.schema.now c.args.site c.args.sites.now
     (record { purpose = c.args.purpose; kind = c.kind_at.result; place = c.place.result; chain = chain_of c.in_ok-chain.chain; facts = c.facts_at.result })
     c.kind_at.ensures c.place.ensures.document c.place.ensures.at c.requires.chain c.in_ok-chain.ensures c.facts_at.ensures)
+
+pub returns-clause-framing : goal.returns-clause-framing
+returns-clause-framing c =
+    c.framing.ensures
+    ∙ c.alike_components_are_judged_alike.ensures.framing
+    (record { purpose = c.args.purpose; kind = c.kind_at.result; place = c.place.result; chain = chain_of c.in_ok-chain.chain; facts = c.facts_at.result })
+    (judged_at c.args.purpose c.args.schema.now c.args.site)
+    (alike_judged c.args.schema.now c.args.site c.args.sites.now
+    (record { purpose = c.args.purpose; kind = c.kind_at.result; place = c.place.result; chain = chain_of c.in_ok-chain.chain; facts = c.facts_at.result })
+    c.kind_at.ensures c.place.ensures.document c.place.ensures.at c.requires.chain c.in_ok-chain.ensures c.facts_at.ensures)

@@ -1,5 +1,5 @@
 -- Components that are alike have the same primitive and the same fill.
-use Rattle.std.proofs.Common.{◌≡◌, refl, ap, ◌∙◌, ℕ, List, Option, Some, None, Bool, ◌*◌, if◌then◌else◌, ◌&&◌, not, codes, is_some}
+use Rattle.std.proofs.Common.{◌≡◌, refl, ap, ◌∙◌, ℕ, List, Option, Some, None, ◌*◌, if◌then◌else◌, ◌&&◌, not, codes, is_some}
 use Rattle.dfdl_forms.specs.Binary.{most_bits}
 use Rattle.dfdl_forms.specs.Types.{form_of}
 use Rattle.dfdl_forms.specs.declared.packed.PackedRep.{PackedRep}
@@ -11,7 +11,7 @@ use Rattle.dfdl_checks.proofs.AlikeChains.{both, three, told-alike}
 use Rattle.dfdl_checks.proofs.AlikeJudged.{by-chains, constant-alike, rep-alike, value-alike, with}
 use Rattle.dfdl_checks.specs.Alike.{AreAlikeChains, IsAlike}
 use Rattle.dfdl_checks.specs.Booleans.{falsity_told, truth_told}
-use Rattle.dfdl_checks.specs.Framing.{amount_told, explicit_alignment, fill_for, fill_unit, framing_of, implicit_alignment, is_plain_binary, no_fill, skip_of, type_alignment, unit_at, alignment_of}
+use Rattle.dfdl_checks.specs.Framing.{amount_told, explicit_alignment, fill_for, fill_unit, framing_of, implicit_alignment, is_plain_binary, skip_of, type_alignment, alignment_of}
 use Rattle.dfdl_checks.specs.Judged.{Judged}
 use Rattle.dfdl_checks.specs.Numbers.{byte_order, field_bits, field_nibbles, number_by, number_of_rep, number_of_type, own_size, packed_by, packed_of_type, places_of, primitive_for, primitive_of, primitive_of_kind, primitive_parsed, truth_by, truth_of}
 use Rattle.dfdl_checks.specs.Packed.{codes_for, is_strict, nibbles_within, rep_of}

@@ -23,7 +23,6 @@ use Rattle.dfdl_checks.specs.declared.applicability.Bearers.TheVariants as beare
 use Rattle.dfdl_checks.specs.declared.flaw.Flaw.TheVariants as flaws
 use Rattle.dfdl_checks.specs.declared.purpose.Purpose.{Purpose}
 use Rattle.dfdl_checks.specs.declared.purpose.Purpose.TheVariants.{Parsing, Unparsing}
-use Rattle.dfdl_checks.specs.declared.subject.Kind.TheVariants.{SimpleElement}
 use Rattle.dfdl_checks.specs.Judged.{Judged}
 
 -- a property that applies to a component without a breach has no flaw

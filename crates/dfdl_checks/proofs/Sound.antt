@@ -15,8 +15,7 @@ use Rattle.dfdl_checks.proofs.Flawless.{HasNoFlaw, HasBuilt, value-built}
 use Rattle.dfdl_checks.proofs.Told.{rep-of, rep-word}
 use Rattle.dfdl_checks.proofs.Types.{boolean-type, number-bits, truth-bits, whole-apart}
 use Rattle.dfdl_checks.proofs.Once.{is_twice, told-once}
-use Rattle.dfdl_checks.specs.Lengths.{constant_length, length_in, number_told, size_within, unit_bits}
-use Rattle.dfdl_checks.specs.Booleans.{falsity_told, truth_told}
+use Rattle.dfdl_checks.specs.Lengths.{constant_length, length_in, number_told, unit_bits}
 use Rattle.dfdl_checks.specs.Numbers.{byte_order, field_bits, field_nibbles, number_by, number_of_rep, number_of_type, own_size, packed_by, packed_of_type, places_of, places_told, primitive_for, primitive_of, primitive_of_kind, primitive_parsed, truth_by, truth_of}
 use Rattle.dfdl_checks.specs.Packed.{codes_for, codes_told, is_strict, nibbles_within, rep_of, rep_told}
 use Rattle.dfdl_checks.specs.Rules.{first_breach, rules, has_falsity, has_size, has_truth, is_built_type, is_delimited_boolean, is_length_by_content, is_size, is_unsized}

@@ -1,5 +1,5 @@
 -- What the properties of a simple element without a breach say.
-use Rattle.std.proofs.Common.{◌≡◌, refl, sym, ap, subst, ◌∙◌, ℕ, List, ◌∷◌, [], Option, Some, None, Bool, true, false, ◌||◌, if◌then◌else◌, codes, nat_lt, IsTrue, arith}
+use Rattle.std.proofs.Common.{◌≡◌, refl, sym, ap, subst, ◌∙◌, ◌∷◌, [], Some, None, Bool, true, false, ◌||◌, if◌then◌else◌, codes, nat_lt, IsTrue, arith}
 use Rattle.std.specs.Str.{bytes_eq}
 use Rattle.std.proofs.lemmas.Bool.{lt-ltb}
 use Rattle.dfdl_forms.specs.declared.binary.IntForm.{IntForm}

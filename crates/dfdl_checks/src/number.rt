@@ -2,7 +2,6 @@
 ghost use Rattle.std.specs.Prelude.{◌≡◌, None, IsTrue, IsSome, codes};
 ghost use Rattle.dfdl_checks.specs.JudgedShown.{judged_of};
 ghost use Rattle.dfdl_checks.specs.Numbers as numbers;
-ghost use Rattle.dfdl_forms.specs.Types.{form_of};
 ghost use Rattle.dfdl_checks.specs.Rules.{first_breach, rules};
 ghost use Rattle.dfdl_checks.specs.Subjects.{is_simple};
 ghost use Rattle.dfdl_scope.specs.Scoping.{told};

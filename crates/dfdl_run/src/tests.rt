@@ -1,6 +1,8 @@
 // Runs over the implementations in memory.
+mod fill;
 mod nested;
 mod numbers;
+mod packed;
 mod schemas;
 mod sizes;
 

@@ -16,7 +16,7 @@ use Rattle.dfdl_xml_names.specs.Shown.{text_of}
 use Rattle.dfdl_xml_names.specs.Kept.{HasFirst, HasNames}
 use Rattle.dfdl_xml_names.proofs.Texts.{same_chars}
 
-abbrev the_binding : List ℕ → List ℕ → values.Binding
+abbrev pub the_binding : List ℕ → List ℕ → values.Binding
 the_binding prefix namespace = record { prefix = prefix; namespace = namespace }
 
 -- what is found in two lists, one behind the other
@@ -78,6 +78,19 @@ with_name old new attributes more text utf8 is step kept = λ q u.
 pub same_binding : (p n q m : List ℕ) → p ≡ q → n ≡ m
     → the_binding (chars p) (chars n) ≡ the_binding (chars q) (chars m)
 same_binding p n q m e f = ap (λ l. the_binding (chars l) (chars n)) e ∙ ap (λ l. the_binding (chars q) (chars l)) f
+
+-- a prefix that no binding has, with one binding more
+pub lacks_more : (old : List values.Binding) (more : values.Binding) (p : List ℕ) (has now : Bool)
+    → (has ≡ false → found old p ≡ None) → now ≡ (has || bytes_eq more.prefix p) → now ≡ false
+    → found (old ++ more ∷ []) p ≡ None
+lacks_more old more p has now before step none =
+    found_append old (more ∷ []) p ∙ both has (bytes_eq more.prefix p) before (sym step ∙ none)
+  where
+    both : (h b : Bool) → (h ≡ false → found old p ≡ None) → (h || b) ≡ false
+        → option_or (found old p) (if b then Some more.namespace else None) ≡ None
+    both true b before none = absurd (cc)
+    both false true before none = absurd (cc)
+    both false false before none = ap (λ o. option_or o None) (before refl)
 
 -- what an attribute declares
 abbrev pub bound_by : Name → List ℕ → List values.Binding

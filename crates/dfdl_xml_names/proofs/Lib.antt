@@ -3,6 +3,7 @@ mod Kept
 mod Opened
 mod Lists
 mod Parts
+mod Put
 mod Expanded
 mod Bound
 mod Split

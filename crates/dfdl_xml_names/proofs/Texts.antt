@@ -87,6 +87,10 @@ if_ok (Err e) p f = tt
 pub not_none : (n : ℕ) → (suc n == 0) ≡ false
 not_none n = grind (arith, nat_tests)
 
+pub none_there : {A : Type 0} (xs : List A) → (length xs == 0) ≡ true → xs ≡ []
+none_there [] is = refl
+none_there (x ∷ xs) is = let apart = not_none (length xs) in absurd (cc)
+
 -- a text has a character exactly where it has a byte
 pub none_alike : (xs : List ℕ) → IsUtf8 xs → (length xs == 0) ≡ (length (chars xs) == 0)
 none_alike [] u = ap (λ l. length l == 0) (sym chars-nil)

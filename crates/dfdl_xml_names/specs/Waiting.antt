@@ -3,7 +3,7 @@ use Rattle.std.specs.Prelude.{◌≡◌, ℕ, List, [], ◌∷◌, Option, Some,
 use Rattle.std.specs.BTreeMap.{get_by_text}
 use Rattle.std.specs.Str.{bytes_eq}
 use Rattle.dfdl_markup.specs.Grammar.{Name, Plain, Prefixed}
-use Rattle.dfdl_markup.specs.Values.{Binding, found}
+use Rattle.dfdl_markup.specs.Values.{Binding, found, xmlns_prefix}
 use Rattle.dfdl_xml_names.specs.Shown.{text_of}
 use Rattle.dfdl_xml_names.specs.declared.waiting.Waiting.{Waiting}
 
@@ -14,7 +14,8 @@ parts_in (Some parts) = map text_of parts.items
 
 -- the parts that wait at a prefix
 abbrev pub parts_at : Waiting → List ℕ → List (List ℕ)
-parts_at waiting prefix = parts_in (get_by_text waiting.parts prefix)
+parts_at waiting prefix =
+    if bytes_eq prefix xmlns_prefix then map text_of waiting.declarations.items else parts_in (get_by_text waiting.others prefix)
 
 -- the local parts of the names with this prefix, in their order
 abbrev pub parts_of : List ℕ → List Name → List (List ℕ)

@@ -1,13 +1,14 @@
 // The namespaces that the prefixes of one tag are declared as.
-ghost use Rattle.std.specs.Prelude.{◌≡◌, ◌++◌, ◌∷◌, [], ℕ, List, Some, None, IfOk, OnOk, chars, option_map, if◌then◌else◌, string_bytes};
+ghost use Rattle.std.specs.Prelude.{◌≡◌, ◌++◌, ◌∷◌, ◌||◌, [], ℕ, List, Some, None, IfOk, OnOk, chars, option_map, if◌then◌else◌, string_bytes, true};
 ghost use Rattle.std.specs.BTreeMap.{get_by_text};
 ghost use Rattle.std.specs.Str.{bytes_eq};
 ghost use Rattle.std.specs.Option.{option_or};
 ghost use Rattle.std.specs.Map.{update};
-ghost use Rattle.dfdl_markup.specs.Values.{found};
+ghost use Rattle.dfdl_markup.specs.Values.{found, xmlns_prefix};
 ghost use Rattle.dfdl_xml_names.specs.Shown.{text_of, lent_text};
 ghost use Rattle.dfdl_xml_names.specs.Kept.{HasFirst};
 
+use crate::name::is_xmlns;
 use std::alloc::{AllocError, Global};
 use std::collections::BTreeMap;
 use std::marker::Model;
@@ -19,23 +20,26 @@ pub(crate) struct Binding {
     pub(crate) namespace: String,
 }
 
-/// Bindings in their order, and the first of each prefix in an ordered map.
+/// Bindings in their order, the first of each prefix in an ordered map, and whether `xmlns` may be one
+/// of the prefixes, which hardly any tag declares and each of its declarations asks for.
 #[derive(Debug, Drop)]
 pub struct Bindings {
     items: Vec<Binding>,
     first: BTreeMap<String, String>,
+    binds_xmlns: bool,
 }
 
 impl Model for Bindings {
-    ghost use Rattle.std.specs.Prelude.{List, map};
-    ghost use Rattle.dfdl_markup.specs.Values.{Binding as Bound};
+    ghost use Rattle.std.specs.Prelude.{◌≡◌, List, false, map, None};
+    ghost use Rattle.dfdl_markup.specs.Values.{Binding as Bound, found, xmlns_prefix};
     ghost use Rattle.dfdl_xml_names.specs.Kept.{binding_of, HasFirst};
 
     ghost Value = { List Bound };
 
     ghost view = { λ b. map binding_of b.items.items };
 
-    ghost invariant = { λ b. HasFirst b.first (map binding_of b.items.items) };
+    ghost invariant = { λ b. HasFirst b.first (map binding_of b.items.items)
+        × (b.binds_xmlns ≡ false → found (map binding_of b.items.items) xmlns_prefix ≡ None) };
 }
 
 impl Bindings {
@@ -45,6 +49,7 @@ impl Bindings {
         Bindings {
             items: Vec::new(alloc),
             first: BTreeMap::new(alloc),
+            binds_xmlns: false,
         }
     }
 
@@ -52,10 +57,23 @@ impl Bindings {
     pub fn find(&self, prefix: &str) -> Option<&str>
         ensures { lent_text result ≡ found self.now (chars prefix.now) }
     {
+        if self.lacks(prefix) {
+            return None;
+        }
         match self.first.get(prefix) {
             Some(namespace) => Some(namespace.as_str()),
             None => None,
         }
+    }
+
+    /// The prefix is `xmlns`, which no binding has.
+    fn lacks(&self, prefix: &str) -> bool
+        ensures { result ≡ true → found self.now (chars prefix.now) ≡ None }
+    {
+        if self.binds_xmlns {
+            return false;
+        }
+        is_xmlns(prefix)
     }
 
     /// The bindings with one more behind them.
@@ -66,15 +84,28 @@ impl Bindings {
         let Bindings {
             mut items,
             mut first,
+            binds_xmlns,
         } = self;
         let alloc = *items.allocator();
+        let binds_xmlns = or_xmlns(binds_xmlns, prefix);
         add_first(&mut first, alloc, prefix, namespace)?;
         items.push(Binding {
             prefix: String::from_str(alloc, prefix)?,
             namespace: String::from_str(alloc, namespace)?,
         })?;
-        Ok(Bindings { items, first })
+        Ok(Bindings {
+            items,
+            first,
+            binds_xmlns,
+        })
     }
+}
+
+// This holds, or the prefix is `xmlns`.
+fn or_xmlns(holds: bool, prefix: &str) -> bool
+    ensures { result ≡ (holds || bytes_eq (chars prefix.now) xmlns_prefix) }
+{
+    holds || is_xmlns(prefix)
 }
 
 /// Adds what the prefix stands for, unless it is there.
@@ -88,25 +119,26 @@ fn add_first(
         ≡ option_or (option_map string_bytes (get_by_text first.old q))
         (if bytes_eq prefix.now q then Some namespace.now else None)) }
 {
-    if first.contains_key(prefix) {
-        return Ok(());
+    let text = String::from_str(alloc, namespace)?;
+    match put(first, String::from_str(alloc, prefix)?, text)? {
+        None => Ok(()),
+        Some(before) => {
+            put(first, String::from_str(alloc, prefix)?, before)?;
+            Ok(())
+        }
     }
-    put(
-        first,
-        String::from_str(alloc, prefix)?,
-        String::from_str(alloc, namespace)?,
-    )
 }
 
-/// Puts a namespace at a prefix.
+/// Puts a namespace at a prefix, and answers the one that was there.
 fn put(
     map: &mut BTreeMap<String, String>,
     prefix: String,
     namespace: String,
-) -> Result<(), AllocError>
-    ensures { OnOk result ((q : List ℕ) → get_by_text map.new q
+) -> Result<Option<String>, AllocError>
+    ensures before { IfOk result (λ before. before ≡ get_by_text map.old (string_bytes prefix)) }
+    ensures put { OnOk result ((q : List ℕ) → get_by_text map.new q
         ≡ update bytes_eq (get_by_text map.old) (string_bytes prefix) (Some namespace) q) }
 {
-    map.insert(prefix, namespace)?;
-    Ok(())
+    let before = map.insert(prefix, namespace)?;
+    Ok(before)
 }

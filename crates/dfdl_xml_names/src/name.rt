@@ -172,7 +172,7 @@ fn is_xml(prefix: &str) -> bool
     prefix == "xml"
 }
 
-fn is_xmlns(prefix: &str) -> bool
+pub(crate) fn is_xmlns(prefix: &str) -> bool
     ensures { result ≡ bytes_eq (chars prefix.now) xmlns_prefix }
 {
     prefix == "xmlns"

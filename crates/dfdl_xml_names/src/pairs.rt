@@ -4,15 +4,42 @@ ghost use Rattle.std.specs.BTreeMap.{get_by_text};
 ghost use Rattle.std.specs.BTreeSet.{contains_text};
 ghost use Rattle.std.specs.Map.{update};
 ghost use Rattle.std.specs.Str.{bytes_eq};
-ghost use Rattle.dfdl_xml_names.specs.Paired.{has_pair, has_in};
+ghost use Rattle.dfdl_xml_names.specs.Paired.{has_pair, has_second};
 
 use std::alloc::{AllocError, Global};
 use std::collections::{BTreeMap, BTreeSet};
 
+/// The second texts of a first one, which mostly is one.
+#[derive(Debug, Drop)]
+pub(crate) enum Seconds {
+    One(String),
+    Many(BTreeSet<String>),
+}
+
 /// For each first text of a pair the second ones.
 #[derive(Debug, Drop)]
 pub(crate) struct Pairs {
-    sets: BTreeMap<String, BTreeSet<String>>,
+    seconds: BTreeMap<String, Seconds>,
+}
+
+impl Seconds {
+    fn has(&self, second: &str) -> bool
+        ensures { result ≡ has_second self.now second.now }
+    {
+        match self {
+            Seconds::One(text) => text.as_str() == second,
+            Seconds::Many(set) => set.contains(second),
+        }
+    }
+
+    fn into_set(self, alloc: Global) -> Result<BTreeSet<String>, AllocError>
+        ensures { IfOk result (λ set. (b : List ℕ) → contains_text set b ≡ has_second self b) }
+    {
+        match self {
+            Seconds::One(text) => set_of(alloc, text),
+            Seconds::Many(set) => Ok(set),
+        }
+    }
 }
 
 impl Pairs {
@@ -20,15 +47,15 @@ impl Pairs {
         ensures { (a b : List ℕ) → has_pair result a b ≡ false }
     {
         Pairs {
-            sets: BTreeMap::new(alloc),
+            seconds: BTreeMap::new(alloc),
         }
     }
 
     pub(crate) fn has(&self, first: &str, second: &str) -> bool
         ensures { result ≡ has_pair self.now first.now second.now }
     {
-        match self.sets.get(first) {
-            Some(set) => set.contains(second),
+        match self.seconds.get(first) {
+            Some(seconds) => seconds.has(second),
             None => false,
         }
     }
@@ -44,38 +71,57 @@ impl Pairs {
         ensures pairs { OnOk result ((a b : List ℕ) → has_pair self.new a b
             ≡ (if bytes_eq first.now a && bytes_eq second.now b then true else has_pair self.old a b)) }
     {
-        let mut set = take_set(&mut self.sets, alloc, first);
+        let one = Seconds::One(String::from_str(alloc, second)?);
+        match put(&mut self.seconds, String::from_str(alloc, first)?, one)? {
+            None => Ok(true),
+            Some(before) => self.put_back(alloc, first, before, second),
+        }
+    }
+
+    // Puts the second texts of a first one back with one more, and answers whether that is new.
+    fn put_back(
+        &mut self,
+        alloc: Global,
+        first: &str,
+        before: Seconds,
+        second: &str,
+    ) -> Result<bool, AllocError>
+        ensures new { IfOk result (λ is_new. is_new ≡ not (has_second before second.now)) }
+        ensures pairs { OnOk result ((a b : List ℕ) → has_pair self.new a b
+            ≡ (if bytes_eq first.now a then (if bytes_eq second.now b then true else has_second before b) else has_pair self.old a b)) }
+    {
+        let mut set = before.into_set(alloc)?;
         let is_new = add_text(&mut set, String::from_str(alloc, second)?)?;
-        put_set(&mut self.sets, String::from_str(alloc, first)?, set)?;
+        put(
+            &mut self.seconds,
+            String::from_str(alloc, first)?,
+            Seconds::Many(set),
+        )?;
         Ok(is_new)
     }
 }
 
-// Takes the set of a first text out, if there is one.
-fn take_set(
-    sets: &mut BTreeMap<String, BTreeSet<String>>,
-    alloc: Global,
-    first: &str,
-) -> BTreeSet<String>
-    ensures set { (b : List ℕ) → contains_text result b ≡ has_in (get_by_text sets.old first.now) b }
-    ensures others { (a : List ℕ) → bytes_eq first.now a ≡ false → get_by_text sets.new a ≡ get_by_text sets.old a }
+// Puts second texts at a first one, and answers those that were there.
+fn put(
+    map: &mut BTreeMap<String, Seconds>,
+    first: String,
+    seconds: Seconds,
+) -> Result<Option<Seconds>, AllocError>
+    ensures before { IfOk result (λ before. before ≡ get_by_text map.old (string_bytes first)) }
+    ensures put { OnOk result ((a : List ℕ) → get_by_text map.new a
+        ≡ update bytes_eq (get_by_text map.old) (string_bytes first) (Some seconds) a) }
 {
-    match sets.remove(first) {
-        Some(set) => set,
-        None => BTreeSet::new(alloc),
-    }
+    let before = map.insert(first, seconds)?;
+    Ok(before)
 }
 
-fn put_set(
-    sets: &mut BTreeMap<String, BTreeSet<String>>,
-    first: String,
-    set: BTreeSet<String>,
-) -> Result<(), AllocError>
-    ensures { OnOk result ((a : List ℕ) → get_by_text sets.new a
-        ≡ update bytes_eq (get_by_text sets.old) (string_bytes first) (Some set) a) }
+// The set of one text.
+fn set_of(alloc: Global, text: String) -> Result<BTreeSet<String>, AllocError>
+    ensures { IfOk result (λ set. (b : List ℕ) → contains_text set b ≡ bytes_eq (string_bytes text) b) }
 {
-    sets.insert(first, set)?;
-    Ok(())
+    let mut set = BTreeSet::new(alloc);
+    add_text(&mut set, text)?;
+    Ok(set)
 }
 
 /// Adds a text, and answers whether it is new.

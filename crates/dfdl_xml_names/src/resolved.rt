@@ -130,8 +130,12 @@ impl Resolved {
     {
         let mut resolved = self;
         let parts = resolved.waiting.take(alloc, prefix);
+        let parts = parts.as_slice();
+        if are_none(parts) {
+            return Ok(resolved);
+        }
         match scope.find(prefix) {
-            Some(namespace) => resolved.take_all(alloc, namespace, parts.as_slice()),
+            Some(namespace) => resolved.take_all(alloc, namespace, parts),
             None => Ok(resolved),
         }
     }
@@ -169,4 +173,11 @@ impl Resolved {
         }
         Ok(resolved)
     }
+}
+
+// There is no text.
+fn are_none(texts: &[String]) -> bool
+    ensures { result ≡ true → texts.now ≡ [] }
+{
+    texts.is_empty()
 }

@@ -1,18 +1,22 @@
 // Names whose prefix is not found, by their prefix.
-ghost use Rattle.std.specs.Prelude.{◌≡◌, ◌++◌, ◌∷◌, [], ℕ, List, OnOk, chars, map, if◌then◌else◌, string_bytes, Some};
+ghost use Rattle.std.specs.Prelude.{◌≡◌, ◌++◌, ◌∷◌, [], ℕ, List, OnOk, chars, map, if◌then◌else◌, string_bytes, Some, None};
 ghost use Rattle.std.specs.BTreeMap.{get_by_text};
 ghost use Rattle.std.specs.Map.{update};
 ghost use Rattle.std.specs.Str.{bytes_eq};
 ghost use Rattle.dfdl_xml_names.specs.Shown.{text_of};
 ghost use Rattle.dfdl_xml_names.specs.Waiting.{parts_at, parts_in};
 
+use crate::name::is_xmlns;
 use std::alloc::{AllocError, Global};
 use std::collections::BTreeMap;
+use std::mem;
 
-/// For each prefix the local parts of its names, in their order.
+/// The local parts of the names with the prefix `xmlns`, and for each other prefix those of its names,
+/// in their order.
 #[derive(Debug, Drop)]
 pub(crate) struct Waiting {
-    pub(crate) parts: BTreeMap<String, Vec<String>>,
+    pub(crate) declarations: Vec<String>,
+    pub(crate) others: BTreeMap<String, Vec<String>>,
 }
 
 impl Waiting {
@@ -20,7 +24,8 @@ impl Waiting {
         ensures { (q : List ℕ) → parts_at result q ≡ [] }
     {
         Waiting {
-            parts: BTreeMap::new(alloc),
+            declarations: Vec::new(alloc),
+            others: no_parts(alloc),
         }
     }
 
@@ -29,9 +34,10 @@ impl Waiting {
         ensures { OnOk result ((q : List ℕ) → parts_at self.new q
             ≡ (if bytes_eq prefix.now q then parts_at self.old q ++ chars part.now ∷ [] else parts_at self.old q)) }
     {
-        let mut parts = self.take(alloc, prefix);
-        push_text(&mut parts, alloc, part)?;
-        put_parts(&mut self.parts, String::from_str(alloc, prefix)?, parts)
+        if is_xmlns(prefix) {
+            return push_text(&mut self.declarations, alloc, part);
+        }
+        add_part(&mut self.others, alloc, prefix, part)
     }
 
     /// Takes out the names of a prefix.
@@ -39,10 +45,10 @@ impl Waiting {
         ensures parts { map text_of result.items ≡ parts_at self.old prefix.now }
         ensures others { (q : List ℕ) → parts_at self.new q ≡ (if bytes_eq prefix.now q then [] else parts_at self.old q) }
     {
-        match self.parts.remove(prefix) {
-            Some(parts) => parts,
-            None => Vec::new(alloc),
+        if is_xmlns(prefix) {
+            return mem::replace(&mut self.declarations, Vec::new(alloc));
         }
+        take_parts(&mut self.others, alloc, prefix)
     }
 }
 
@@ -54,14 +60,51 @@ fn push_text(texts: &mut Vec<String>, alloc: Global, text: &str) -> Result<(), A
     Ok(())
 }
 
+// Puts a part behind the others of its prefix.
+fn add_part(
+    others: &mut BTreeMap<String, Vec<String>>,
+    alloc: Global,
+    prefix: &str,
+    part: &str,
+) -> Result<(), AllocError>
+    ensures { OnOk result ((q : List ℕ) → parts_in (get_by_text others.new q)
+        ≡ (if bytes_eq prefix.now q then parts_in (get_by_text others.old q) ++ chars part.now ∷ [] else parts_in (get_by_text others.old q))) }
+{
+    let mut parts = take_parts(others, alloc, prefix);
+    push_text(&mut parts, alloc, part)?;
+    put_parts(others, String::from_str(alloc, prefix)?, parts)
+}
+
+fn no_parts(alloc: Global) -> BTreeMap<String, Vec<String>>
+    ensures { (q : List ℕ) → get_by_text result q ≡ None }
+{
+    BTreeMap::new(alloc)
+}
+
+// Takes out the parts of a prefix.
+fn take_parts(
+    others: &mut BTreeMap<String, Vec<String>>,
+    alloc: Global,
+    prefix: &str,
+) -> Vec<String>
+    ensures parts { map text_of result.items ≡ parts_in (get_by_text others.old prefix.now) }
+    ensures others { (q : List ℕ) → parts_in (get_by_text others.new q)
+        ≡ (if bytes_eq prefix.now q then [] else parts_in (get_by_text others.old q)) }
+{
+    match others.remove(prefix) {
+        Some(parts) => parts,
+        None => Vec::new(alloc),
+    }
+}
+
 fn put_parts(
-    map: &mut BTreeMap<String, Vec<String>>,
+    others: &mut BTreeMap<String, Vec<String>>,
     prefix: String,
     parts: Vec<String>,
 ) -> Result<(), AllocError>
-    ensures { OnOk result ((q : List ℕ) → get_by_text map.new q
-        ≡ update bytes_eq (get_by_text map.old) (string_bytes prefix) (Some parts) q) }
+    ensures { OnOk result ((q : List ℕ) → get_by_text others.new q
+        ≡ update bytes_eq (get_by_text others.old) (string_bytes prefix) (Some parts) q) }
 {
-    map.insert(prefix, parts)?;
+    others.insert(prefix, parts)?;
     Ok(())
 }

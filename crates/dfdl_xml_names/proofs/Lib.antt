@@ -7,5 +7,7 @@ mod Put
 mod Expanded
 mod Bound
 mod Split
+mod Settled
+mod Repeated
 mod Rules
 mod Written

@@ -1,10 +1,12 @@
 -- What a map of texts has behind a put, and behind another one of what was there.
-use Rattle.std.specs.Prelude.{◌≡◌, ℕ, Bool, true, false, ◌&&◌, if◌then◌else◌, List, ◌++◌, ◌∷◌, [], String, Option, Some, None, option_map, string_bytes}
-use Rattle.std.specs.Map.{update}
+use Rattle.std.specs.Prelude.{◌≡◌, ℕ, Bool, true, false, ◌&&◌, if◌then◌else◌, List, ◌++◌, ◌∷◌, [], String, Option, Some, None, length, option_map, string_bytes}
+use Rattle.std.specs.BTreeMap.{BTreeMap, btree_map_len, get_by_text, is_at}
+use Rattle.std.specs.Map.{lookup, update}
 use Rattle.std.specs.Option.{option_or}
 use Rattle.std.specs.Str.{bytes_eq, chars, IsUtf8}
 use Rattle.std.proofs.Common.{refl, sym, ap, ◌∙◌, inl, inr}
 use Rattle.std.proofs.lemmas.Bool.{cases_Bool}
+use Rattle.std.proofs.lemmas.Map.Text.{text_cmp}
 use Rattle.std.proofs.lemmas.Slice.Eq.{bytes_eq-Decides}
 use Rattle.dfdl_markup.specs.Values.{xmlns_prefix}
 use Rattle.dfdl_xml_names.specs.Paired.{has_in, has_second}
@@ -15,6 +17,14 @@ use Rattle.dfdl_xml_names.proofs.Texts.{is_xmlns}
 or_nothing : (o : Option (List ℕ)) → option_or o None ≡ o
 or_nothing None = refl
 or_nothing (Some x) = refl
+
+no_entries : {A : Type 0} (xs : List A) → length xs ≡ 0 → xs ≡ []
+no_entries [] is = refl
+no_entries (x ∷ xs) is = absurd (cc)
+
+-- a map without entries has nothing
+pub none_in : {A X : Type 0} (map : BTreeMap (String A) X) → btree_map_len map ≡ 0 → (q : List ℕ) → get_by_text map q ≡ None
+none_in map none q = ap (lookup (is_at (text_cmp q))) (no_entries map.entries none)
 
 -- what is put where nothing was, and what was there put back
 module _ {A : Type 0} (old : List ℕ → Option (String A)) (p q : List ℕ) (text : String A) where

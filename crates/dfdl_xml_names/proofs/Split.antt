@@ -86,7 +86,7 @@ module _ (own outer : List Binding) where
   abbrev all : List Binding
   all = own ++ outer
 
-  stays_found : (q : List ℕ) (m : List ℕ) → found own q ≡ Some m → found all q ≡ found own q
+  pub stays_found : (q : List ℕ) (m : List ℕ) → found own q ≡ Some m → found all q ≡ found own q
   stays_found q m is =
       found_append own outer q ∙ (ap (λ o. option_or o (found outer q)) is ∙ sym is)
 
@@ -132,7 +132,7 @@ module _ (own outer : List Binding) where
       ∙ (ap (λ b. bytes_eq x part && b) (none_found (found own q)) ∙ and_none (bytes_eq x part)))
       names
 
-  found_same : (names : List Name) → have_same (same_expanded own) names ≡ have_same (same_expanded all) (picked (is_found own) names)
+  pub found_same : (names : List Name) → have_same (same_expanded own) names ≡ have_same (same_expanded all) (picked (is_found own) names)
   found_same [] = refl
   found_same (Plain x ∷ names) =
       ap (λ b. b || have_same (same_expanded own) names)

@@ -1,26 +1,25 @@
 // What is kept of the names of many attributes.
-ghost use Rattle.std.specs.Prelude.{◌≡◌, ◌++◌, ◌∷◌, ◌||◌, [], ℕ, List, IfOk, OnOk, chars, map, if◌then◌else◌, string_bytes, true};
-ghost use Rattle.std.specs.BTreeSet.{contains_text};
+ghost use Rattle.std.specs.Prelude.{◌≡◌, ◌++◌, ◌∷◌, ◌||◌, [], ℕ, List, IfOk, chars, map, false, true, None};
+ghost use Rattle.std.specs.BTreeMap.{get_by_text};
 ghost use Rattle.std.specs.List.{list_any};
-ghost use Rattle.std.specs.Str.{bytes_eq};
-ghost use Rattle.dfdl_markup.specs.Grammar.{name_characters};
-ghost use Rattle.dfdl_markup.specs.Values.{Attribute as Attributed, Binding, bindings_of, names_of, same_expanded, same_name};
+ghost use Rattle.std.specs.Str.{IsUtf8};
+ghost use Rattle.dfdl_markup.specs.Grammar.{Name as Named, Prefixed as Spelled};
+ghost use Rattle.dfdl_markup.specs.Values.{Attribute as Attributed, Binding, bindings_of, have_same, names_of, same_expanded, same_name, xmlns_prefix};
 ghost use Rattle.dfdl_xml_names.specs.Shown.{attribute_of, name_of};
 ghost use Rattle.dfdl_xml_names.specs.Scoped.{scope_seen};
-ghost use Rattle.dfdl_xml_names.specs.Kept.{HasNames};
+ghost use Rattle.dfdl_xml_names.specs.Expanded.{IsPaired};
 ghost use Rattle.dfdl_xml_names.specs.Indexed.{IsIndexOf};
 
 use crate::name::{Attribute, Name};
+use crate::names::Written;
 use crate::resolved::Resolved;
 use crate::scope::Scope;
 use std::alloc::{AllocError, Global};
-use std::collections::BTreeSet;
 
-/// The names of attributes as they are written, in an ordered set, and what they are by the namespaces
-/// of a scope.
+/// The names of attributes as they are written, and what they are by the namespaces of a scope.
 #[derive(Debug, Drop)]
 pub(crate) struct Index {
-    pub(crate) written: BTreeSet<String>,
+    pub(crate) written: Written,
     pub(crate) resolved: Resolved,
 }
 
@@ -34,7 +33,7 @@ impl Index {
         ensures { IfOk result (λ index. IsIndexOf index (scope_seen scope.now) (map attribute_of attributes.now)) }
     {
         Ok(Index {
-            written: names_written(alloc, attributes)?,
+            written: Written::of(alloc, attributes)?,
             resolved: Resolved::of(alloc, scope, attributes)?,
         })
     }
@@ -58,7 +57,7 @@ impl Index {
         } = self;
         let mut resolved = resolved.within(alloc, scope, name)?;
         resolved.add(alloc, scope, name)?;
-        add(&mut written, name.text()?)?;
+        written.add(name)?;
         Ok(Index { written, resolved })
     }
 
@@ -70,37 +69,46 @@ impl Index {
             || list_any (λ other. same_expanded (scope_seen scope.now) other (name_of name.now)) (names_of attributes))) }
     {
         let text = name.text()?;
-        if self.has(text.as_str()) {
+        if self.written.has(text.as_str()) {
             return Ok(true);
         }
         Ok(self.resolved.has(scope, name))
     }
 
-    /// An attribute has this name as it is written.
-    fn has(&self, name: &str) -> bool
-        ensures { (attributes : List Attributed) → HasNames self.now.written attributes
-            → result ≡ list_any (λ a. bytes_eq (name_characters a.name) (chars name.now)) attributes }
+    /// Two of the attributes' names, which these are by their own scope, are the same by a scope that
+    /// has more bindings behind.
+    pub(crate) fn clashes_within(
+        &self,
+        alloc: Global,
+        own: &Scope<'_>,
+        scope: &Scope<'_>,
+        attributes: &[Attribute],
+    ) -> Result<bool, AllocError>
+        ensures { IfOk result (λ clash. (outer : List Binding) → scope_seen scope.now ≡ scope_seen own.now ++ outer
+            → IsIndexOf self.now (scope_seen own.now) (map attribute_of attributes.now)
+            → clash ≡ have_same (same_expanded (scope_seen scope.now)) (names_of (map attribute_of attributes.now))) }
     {
-        self.written.contains(name)
+        if self.is_settled(scope) {
+            return Ok(self.resolved.clash);
+        }
+        self.resolved.clashes_within(alloc, own, scope, attributes)
     }
-}
 
-/// The names of attributes as they are written.
-fn names_written(alloc: Global, attributes: &[Attribute]) -> Result<BTreeSet<String>, AllocError>
-    ensures { IfOk result (λ names. HasNames names (map attribute_of attributes.now)) }
-{
-    let mut names = BTreeSet::new(alloc);
-    for attribute in attributes {
-        add(&mut names, attribute.name.text()?)?;
+    // No two names are written alike, those whose prefix is not found declare prefixes, and the others
+    // are none of these by the scope.
+    fn is_settled(&self, scope: &Scope<'_>) -> bool
+        ensures written { result ≡ true → self.now.written.repeated ≡ false }
+        ensures open { result ≡ true → (q : List ℕ) → get_by_text self.now.resolved.waiting.others q ≡ None }
+        ensures apart { result ≡ true → (names : List Named) → IsPaired self.now.resolved.pairs (scope_seen scope.now) names
+            → (b : List ℕ) → IsUtf8 b
+            → list_any (λ other. same_expanded (scope_seen scope.now) other (Spelled xmlns_prefix (chars b))) names ≡ false }
+    {
+        if self.written.repeated {
+            return false;
+        }
+        if !self.resolved.leaves_declarations() {
+            return false;
+        }
+        self.resolved.stands_apart(scope)
     }
-    Ok(names)
-}
-
-/// Adds a name.
-fn add(names: &mut BTreeSet<String>, name: String) -> Result<(), AllocError>
-    ensures { OnOk result ((q : List ℕ) → contains_text names.new q
-        ≡ (if bytes_eq (string_bytes name) q then true else contains_text names.old q)) }
-{
-    names.insert(name)?;
-    Ok(())
 }

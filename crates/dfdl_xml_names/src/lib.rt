@@ -13,6 +13,7 @@ mod element;
 mod frames;
 mod index;
 mod name;
+mod names;
 mod pairs;
 mod resolved;
 mod scope;

@@ -172,6 +172,12 @@ fn is_xml(prefix: &str) -> bool
     prefix == "xml"
 }
 
+pub(crate) fn xmlns() -> &'static str
+    ensures { chars result.now ≡ xmlns_prefix }
+{
+    "xmlns"
+}
+
 pub(crate) fn is_xmlns(prefix: &str) -> bool
     ensures { result ≡ bytes_eq (chars prefix.now) xmlns_prefix }
 {

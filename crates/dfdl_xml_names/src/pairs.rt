@@ -60,6 +60,16 @@ impl Pairs {
         }
     }
 
+    /// No pair has this first text.
+    pub(crate) fn lacks(&self, first: &str) -> bool
+        ensures { result ≡ true → (b : List ℕ) → has_pair self.now first.now b ≡ false }
+    {
+        match self.seconds.get(first) {
+            Some(_) => false,
+            None => true,
+        }
+    }
+
     /// Adds a pair, and answers whether it is new.
     pub(crate) fn add(
         &mut self,
@@ -125,7 +135,7 @@ fn set_of(alloc: Global, text: String) -> Result<BTreeSet<String>, AllocError>
 }
 
 /// Adds a text, and answers whether it is new.
-fn add_text(texts: &mut BTreeSet<String>, text: String) -> Result<bool, AllocError>
+pub(crate) fn add_text(texts: &mut BTreeSet<String>, text: String) -> Result<bool, AllocError>
     ensures new { IfOk result (λ is_new. is_new ≡ not (contains_text texts.old (string_bytes text))) }
     ensures others { OnOk result ((b : List ℕ) → contains_text texts.new b
         ≡ (if bytes_eq (string_bytes text) b then true else contains_text texts.old b)) }

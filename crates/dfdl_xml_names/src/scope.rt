@@ -1,13 +1,13 @@
 // The bindings inside of a tag that is open.
-ghost use Rattle.std.specs.Prelude.{◌≡◌, chars};
+ghost use Rattle.std.specs.Prelude.{◌≡◌, chars, true};
 ghost use Rattle.std.specs.List.{list_all};
-ghost use Rattle.dfdl_markup.specs.Values.{found, is_found};
+ghost use Rattle.dfdl_markup.specs.Values.{found, is_found, is_some_text, xmlns_prefix};
 ghost use Rattle.dfdl_xml_names.specs.Shown.{name_of, lent_text};
 ghost use Rattle.dfdl_xml_names.specs.Scoped.{scope_seen};
 
 use crate::bindings::Bindings;
 use crate::frames::Frames;
-use crate::name::{Attribute, Name};
+use crate::name::{Attribute, Name, xmlns};
 
 /// What a tag declares, and the elements around it, if they count.
 #[derive(Clone, Copy, Drop)]
@@ -38,6 +38,13 @@ impl<'a> Scope<'a> {
             Name::Plain(_) => true,
             Name::Prefixed { prefix, .. } => self.find(prefix.as_str()).is_some(),
         }
+    }
+
+    /// The prefix `xmlns` is declared.
+    pub(crate) fn finds_declarations(&self) -> bool
+        ensures { result ≡ true → is_some_text (found (scope_seen self.now) xmlns_prefix) ≡ true }
+    {
+        self.find(xmlns()).is_some()
     }
 
     /// The prefixes of all attributes' names are declared.

@@ -134,9 +134,7 @@ impl StartTag {
         match &self.index {
             Some(index) => {
                 let own = own(&self.declared);
-                index
-                    .resolved
-                    .clashes_within(self.alloc, &own, &scope, attributes)
+                index.clashes_within(self.alloc, &own, &scope, attributes)
             }
             None => Ok(scope.have_same(attributes)),
         }
@@ -165,7 +163,12 @@ impl StartTag {
         ensures { result ≡ list_all (λ name. is_found (scope_in self.now.attributes
             (scope_of frames.now)) name) (names_of self.now.attributes) }
     {
-        self.inside(frames).are_found(self.attributes.as_slice())
+        let attributes = self.attributes.as_slice();
+        let scope = self.inside(frames);
+        match &self.index {
+            Some(index) => index.resolved.are_found(&scope, attributes),
+            None => scope.are_found(attributes),
+        }
     }
 
     fn inside<'a>(&'a self, frames: &'a Frames) -> Scope<'a>

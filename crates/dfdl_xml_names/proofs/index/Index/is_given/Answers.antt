@@ -15,7 +15,7 @@ returns-then-has c = λ attributes kept.
     let name = name_of c.args.name.now in
     let same = list_any (λ other. same_expanded (scope_seen c.args.scope.now) other name) (names_of attributes) in
     let written =
-    c.has.ensures attributes kept.names
+    c.has.ensures attributes kept.written
     ∙ (ap (λ l. list_any (λ (a : values.Attribute). bytes_eq (name_characters a.name) l) attributes)
     (ap chars c.as_str.ensures.value ∙ c.in_ok-text.ensures)
     ∙ sym (any_name (λ other. same_name other name) attributes)) in
@@ -26,7 +26,7 @@ returns c = λ attributes kept.
     let name = name_of c.args.name.now in
     let same = list_any (λ other. same_expanded (scope_seen c.args.scope.now) other name) (names_of attributes) in
     let written =
-    c.has.ensures attributes kept.names
+    c.has.ensures attributes kept.written
     ∙ (ap (λ l. list_any (λ (a : values.Attribute). bytes_eq (name_characters a.name) l) attributes)
     (ap chars c.as_str.ensures.value ∙ c.in_ok-text.ensures)
     ∙ sym (any_name (λ other. same_name other name) attributes)) in

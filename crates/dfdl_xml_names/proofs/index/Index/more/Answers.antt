@@ -1,4 +1,4 @@
-use Rattle.std.specs.Prelude.{◌∷◌, [], string_bytes}
+use Rattle.std.specs.Prelude.{◌∷◌, []}
 use Rattle.std.proofs.Common.{sym, subst}
 use Rattle.std.proofs.lemmas.List.{map-append}
 use Rattle.dfdl_markup.specs.Values as values
@@ -6,17 +6,14 @@ use Rattle.dfdl_markup.specs.Values.{names_of}
 use Rattle.dfdl_xml_names.specs.Shown.{name_of}
 use Rattle.dfdl_xml_names.specs.Scoped.{scope_seen}
 use Rattle.dfdl_xml_names.specs.Expanded.{IsResolved}
-use Rattle.dfdl_xml_names.proofs.Kept.{with_name}
-use Rattle.dfdl_xml_names.proofs.Texts.{is_text}
 use Rattle.dfdl_xml_names.proofs.index.Index.more.Goals as goal
 
 pub returns : goal.returns
 returns c = λ old value before is kept.
     let more : values.Attribute = record { name = name_of c.args.name.now; value = value } in
-    let text = c.in_ok-text.field-0 in
     let within = c.in_ok-resolved.ensures old value (names_of before) is kept.resolved in
     record {
-      names = with_name c.args.self.written c.add-2.new.names before more (string_bytes text) (is_text text) c.in_ok-text.ensures c.in_ok-add-2.ensures kept.names;
+      written = c.in_ok-add-2.ensures before value kept.written;
       resolved =
           subst (λ l. IsResolved c.add.new.self (scope_seen c.args.scope.now) l)
           (sym (map-append (λ (a : values.Attribute). a.name) before (more ∷ [])))

@@ -1,5 +1,0 @@
-use Rattle.std.proofs.Common.{◌∙◌}
-use Rattle.dfdl_xml_names.proofs.index.Index.has.Goals as goal
-
-pub returns : goal.returns
-returns c = λ attributes kept. c.contains.ensures ∙ kept c.args.name.now c.utf8.name

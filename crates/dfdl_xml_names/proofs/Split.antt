@@ -1,6 +1,6 @@
 -- The names whose prefix a scope finds, and the others, by a scope with more bindings behind.
 use Rattle.std.specs.Prelude.{◌≡◌, ℕ, Bool, true, false, ◌||◌, ◌&&◌, if◌then◌else◌, List, ◌++◌, ◌∷◌, [], Option, Some, None}
-use Rattle.std.specs.Prelude.{◌+◌, ◌<◌, get_or, length, map, take}
+use Rattle.std.specs.Prelude.{◌+◌, ◌<◌, suc, zero, get_or, length, map, take}
 use Rattle.std.specs.List.{list_any}
 use Rattle.std.specs.Option.{option_or}
 use Rattle.std.specs.Str.{bytes_eq, chars}
@@ -169,6 +169,28 @@ module _ (own outer : List Binding) where
       ∙ (ap (λ b. (have_same (same_expanded all) p || crosses p l) || b) beyond.clash
       ∙ same_split (is_found own) (same_expanded all) (same_turned all) names))
 
+  -- two are the same where two of those that are found are, or where one is the same across
+  pub clash_now : (resolved : Resolved) (names : List Name) → IsResolved resolved own names → resolved.clash ≡ true
+      → true ≡ have_same (same_expanded all) names
+  clash_now resolved names kept is =
+      let p = picked (is_found own) names in
+      let l = others (is_found own) names in
+      sym (ap (λ b. (b || crosses p l) || have_same (same_expanded all) l) (sym (found_same names) ∙ (sym kept.clash ∙ is)))
+      ∙ same_split (is_found own) (same_expanded all) (same_turned all) names
+
+  pub crossed_now : (names : List Name) → crosses (picked (is_found own) names) (others (is_found own) names) ≡ true
+      → true ≡ have_same (same_expanded all) names
+  crossed_now names is =
+      let p = picked (is_found own) names in
+      let l = others (is_found own) names in
+      sym (ap (λ b. (have_same (same_expanded all) p || b) || have_same (same_expanded all) l) is
+      ∙ or_first (have_same (same_expanded all) p) (have_same (same_expanded all) l))
+      ∙ same_split (is_found own) (same_expanded all) (same_turned all) names
+    where
+      or_first : (a b : Bool) → ((a || true) || b) ≡ true
+      or_first true b = refl
+      or_first false b = refl
+
 -- the others, with one name more
 pub others_more : (test : Name → Bool) (names : List Name) (x : Name)
     → others test (names ++ x ∷ []) ≡ others test names ++ (if test x then [] else x ∷ [])
@@ -189,14 +211,41 @@ named_more xs i x less is =
     ap names_of (shown_more xs i x less is)
     ∙ map-append (λ (a : values.Attribute). a.name) (map attribute_of (take i xs)) (attribute_of x ∷ [])
 
-crossed_more : (f : Name → Bool) (l more : List Name) (c before met : Bool)
-    → before ≡ (c || list_any f l) → met ≡ list_any f more → (before || met) ≡ (c || list_any f (l ++ more))
-crossed_more f l more c before met is here =
-    ap (λ b. b || met) is
-    ∙ (ap (λ b. (c || list_any f l) || b) here
-    ∙ (sym (or_apart c (list_any f l) (list_any f more)) ∙ ap (λ b. c || b) (sym (list_any-append f l more))))
+or_true : (a : Bool) → (a || true) ≡ true
+or_true true = refl
+or_true false = refl
 
-pub crossed_on : (f : Name → Bool) (l more now : List Name) (c before met : Bool) → now ≡ l ++ more
-    → before ≡ (c || list_any f l) → met ≡ list_any f more → (before || met) ≡ (c || list_any f now)
-crossed_on f l more now c before met is so here =
-    crossed_more f l more c before met so here ∙ ap (λ n. c || list_any f n) (sym is)
+-- a test of the others, with one name more that passes it or fails it
+pub crossed_met : (f : Name → Bool) (l more now : List Name) (met : Bool) → now ≡ l ++ more → met ≡ list_any f more → met ≡ true
+    → list_any f now ≡ true
+crossed_met f l more now met is here passes =
+    ap (list_any f) is
+    ∙ (list_any-append f l more ∙ (ap (λ b. list_any f l || b) (sym here ∙ passes) ∙ or_true (list_any f l)))
+
+pub crossed_unmet : (f : Name → Bool) (l more now : List Name) (met : Bool) → now ≡ l ++ more → list_any f l ≡ false
+    → met ≡ list_any f more → met ≡ false → list_any f now ≡ false
+crossed_unmet f l more now met is before here fails =
+    ap (list_any f) is
+    ∙ (list_any-append f l more ∙ (ap (λ b. b || list_any f more) before ∙ (sym here ∙ fails)))
+
+-- one of the first others passes a test
+pub any_sooner : (test f : Name → Bool) (xs : List Attribute) (i : ℕ)
+    → list_any f (others test (names_of (map attribute_of (take i xs)))) ≡ true
+    → list_any f (others test (names_of (map attribute_of xs))) ≡ true
+any_sooner test f [] zero is = is
+any_sooner test f [] (suc i) is = is
+any_sooner test f (x ∷ xs) zero is = absurd (cc)
+any_sooner test f (x ∷ xs) (suc i) is =
+    let l = others test (names_of (map attribute_of (take i xs))) in
+    let all = others test (names_of (map attribute_of xs)) in
+    elim (cases_Bool (test (name_of x.name))) [
+      | inl passes ↦ ap (λ b. list_any f (if b then all else name_of x.name ∷ all)) passes
+          ∙ any_sooner test f xs i (sym (ap (λ b. list_any f (if b then l else name_of x.name ∷ l)) passes) ∙ is)
+      | inr fails ↦ ap (λ b. list_any f (if b then all else name_of x.name ∷ all)) fails
+          ∙ either (f (name_of x.name)) (list_any f l) (list_any f all) (sym (ap (λ b. list_any f (if b then l else name_of x.name ∷ l)) fails) ∙ is)
+          (any_sooner test f xs i)
+    ]
+  where
+    either : (b sooner later : Bool) → (b || sooner) ≡ true → (sooner ≡ true → later ≡ true) → (b || later) ≡ true
+    either true sooner later is step = refl
+    either false sooner later is step = step is

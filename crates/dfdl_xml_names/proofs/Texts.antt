@@ -1,5 +1,5 @@
 -- Texts as characters: they are alike exactly where their bytes are.
-use Rattle.std.specs.Prelude.{◌≡◌, ℕ, Bool, true, false, List, ◌++◌, ◌∷◌, [], String, encode_utf8}
+use Rattle.std.specs.Prelude.{◌≡◌, ℕ, Bool, true, false, List, ◌++◌, ◌∷◌, [], String}
 use Rattle.std.specs.Prelude.{Result, Ok, Err, IfOk, OnOk, length, ◌==◌, suc}
 use Rattle.std.specs.Str.{bytes_eq, chars, IsUtf8, encode_utf8_all}
 use Rattle.std.specs.String.{string_bytes}

@@ -28,13 +28,16 @@ impl Resolved {
             → IsResolved self.now (scope_seen own.now) (names_of (map attribute_of attributes.now))
             → clash ≡ have_same (same_expanded (scope_seen scope.now)) (names_of (map attribute_of attributes.now))) }
     {
-        let mut more = Resolved::new(alloc);
-        let mut clash = self.clash;
-        for attribute in attributes {
-            let met = self.meets(alloc, &mut more, own, scope, &attribute.name)?;
-            clash = clash || met;
+        if self.clash {
+            return Ok(true);
         }
-        Ok(clash || more.clash)
+        let mut more = Resolved::new(alloc);
+        for attribute in attributes {
+            if self.meets(alloc, &mut more, own, scope, &attribute.name)? {
+                return Ok(true);
+            }
+        }
+        Ok(more.clash)
     }
 
     // One name more of those that the own scope does not find, if it does not: and whether it is the

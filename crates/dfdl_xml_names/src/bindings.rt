@@ -5,7 +5,7 @@ ghost use Rattle.std.specs.Str.{bytes_eq};
 ghost use Rattle.std.specs.Option.{option_or};
 ghost use Rattle.std.specs.Map.{update};
 ghost use Rattle.dfdl_markup.specs.Values.{found, xmlns_prefix};
-ghost use Rattle.dfdl_xml_names.specs.Shown.{text_of, lent_text};
+ghost use Rattle.dfdl_xml_names.specs.Shown.{lent_text};
 ghost use Rattle.dfdl_xml_names.specs.Kept.{HasFirst};
 
 use crate::name::is_xmlns;

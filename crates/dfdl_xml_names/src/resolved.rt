@@ -3,7 +3,7 @@ ghost use Rattle.std.specs.Prelude.{◌≡◌, ◌++◌, ◌∷◌, ◌&&◌, �
 ghost use Rattle.std.specs.List.{list_any};
 ghost use Rattle.std.specs.Str.{bytes_eq};
 ghost use Rattle.dfdl_markup.specs.Grammar.{Name as Named, Prefixed as Spelled};
-ghost use Rattle.dfdl_markup.specs.Values.{Attribute as Attributed, Binding, bindings_of, names_of, found, same_expanded};
+ghost use Rattle.dfdl_markup.specs.Values.{Binding, bindings_of, names_of, found, same_expanded};
 ghost use Rattle.dfdl_xml_names.specs.Shown.{name_of, text_of, attribute_of};
 ghost use Rattle.dfdl_xml_names.specs.Scoped.{scope_seen};
 ghost use Rattle.dfdl_xml_names.specs.Paired.{has_pair};

@@ -1,4 +1,4 @@
-use Rattle.std.specs.Prelude.{◌≡◌, map, ◌++◌, ◌∷◌, [], None}
+use Rattle.std.specs.Prelude.{◌≡◌, map, ◌++◌, ◌∷◌, []}
 use Rattle.std.specs.Str.{chars}
 use Rattle.std.proofs.Common.{sym, ap, ◌∙◌}
 use Rattle.std.proofs.lemmas.List.{map-append}

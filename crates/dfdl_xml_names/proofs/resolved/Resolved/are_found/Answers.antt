@@ -1,6 +1,6 @@
 use Rattle.std.specs.Prelude.{map, true}
 use Rattle.std.specs.List.{list_all}
-use Rattle.std.proofs.Common.{sym, ap, ◌∙◌, subst}
+use Rattle.std.proofs.Common.{sym, ap, ◌∙◌}
 use Rattle.dfdl_markup.specs.Values.{found, is_found, is_some_text, names_of, xmlns_prefix}
 use Rattle.dfdl_xml_names.specs.Scoped.{scope_seen}
 use Rattle.dfdl_xml_names.specs.Shown.{attribute_of}
@@ -8,7 +8,7 @@ use Rattle.dfdl_xml_names.proofs.Lists.{all_shown}
 use Rattle.dfdl_xml_names.proofs.Settled.{all_are_found, none_waits}
 use Rattle.dfdl_xml_names.proofs.resolved.Resolved.are_found.Goals as goal
 
-pub returns-then-finds_declarations : goal.returns-then-leaves_declarations-then-finds_declarations
+pub returns-then-finds_declarations : goal.returns-then-finds_declarations
 returns-then-finds_declarations c = λ own outer is kept.
     let xs = c.args.attributes.now in
     let names = names_of (map attribute_of xs) in

@@ -1,4 +1,4 @@
-use Rattle.std.specs.Prelude.{◌≡◌, ◌++◌, ◌||◌, List, map, take}
+use Rattle.std.specs.Prelude.{◌≡◌, ◌++◌, List, false, map, take}
 use Rattle.dfdl_markup.specs.Values.{Binding, is_found, names_of}
 use Rattle.dfdl_xml_names.specs.Beyond.{picked, others}
 use Rattle.dfdl_xml_names.specs.Shown.{attribute_of}
@@ -7,12 +7,12 @@ use Rattle.dfdl_xml_names.specs.Expanded.{IsResolved}
 use Rattle.dfdl_xml_names.proofs.Split.{crosses}
 use Rattle.dfdl_xml_names.proofs.resolved.Resolved.clashes_within.Given as goal
 
--- the others so far, and whether one of them is the same as one that is found
+-- the others so far, none of which is the same as one that is found
 abbrev pub invariant-loop-attribute : goal.invariant-loop-attribute
 invariant-loop-attribute l =
     (outer : List Binding) → scope_seen l.scope ≡ scope_seen l.own ++ outer
     → IsResolved l.self (scope_seen l.own) (names_of (map attribute_of l.attributes))
     → IsResolved l.more (scope_seen l.scope)
     (others (is_found (scope_seen l.own)) (names_of (map attribute_of (take l.attribute-index l.attributes))))
-    × (l.clash ≡ (l.self.clash || crosses (scope_seen l.own) outer (picked (is_found (scope_seen l.own)) (names_of (map attribute_of l.attributes)))
-    (others (is_found (scope_seen l.own)) (names_of (map attribute_of (take l.attribute-index l.attributes))))))
+    × (crosses (scope_seen l.own) outer (picked (is_found (scope_seen l.own)) (names_of (map attribute_of l.attributes)))
+    (others (is_found (scope_seen l.own)) (names_of (map attribute_of (take l.attribute-index l.attributes)))) ≡ false)

@@ -1,4 +1,4 @@
-use Rattle.std.specs.Prelude.{◌≡◌, ◌++◌, ◌∷◌, [], map}
+use Rattle.std.specs.Prelude.{◌++◌, ◌∷◌, [], map}
 use Rattle.std.specs.Str.{chars}
 use Rattle.std.proofs.Common.{refl, sym, ap, ◌∙◌, subst, append-nil}
 use Rattle.dfdl_markup.specs.Values.{Binding, found}

@@ -1,6 +1,3 @@
-use Rattle.std.specs.Prelude.{string_bytes}
-use Rattle.std.specs.BTreeMap.{get_by_text}
-use Rattle.std.proofs.Common.{ap, ◌∙◌}
 use Rattle.dfdl_xml_names.proofs.Put.{none_in}
 use Rattle.dfdl_xml_names.proofs.resolved.Resolved.leaves_declarations.Goals as goal
 

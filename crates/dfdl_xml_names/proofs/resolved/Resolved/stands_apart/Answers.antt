@@ -1,4 +1,4 @@
-use Rattle.std.specs.Prelude.{◌≡◌, None, Some, chars}
+use Rattle.std.specs.Prelude.{chars}
 use Rattle.std.proofs.Common.{sym, ap, ◌∙◌}
 use Rattle.dfdl_markup.specs.Values.{found, xmlns_prefix}
 use Rattle.dfdl_xml_names.specs.Scoped.{scope_seen}

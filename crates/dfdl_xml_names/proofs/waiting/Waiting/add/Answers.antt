@@ -1,7 +1,7 @@
 use Rattle.std.specs.Prelude.{map}
 use Rattle.std.specs.BTreeMap.{get_by_text}
 use Rattle.std.specs.Str.{bytes_eq, chars}
-use Rattle.std.proofs.Common.{refl, sym, ap, ◌∙◌}
+use Rattle.std.proofs.Common.{sym, ◌∙◌}
 use Rattle.dfdl_markup.specs.Values.{xmlns_prefix}
 use Rattle.dfdl_xml_names.specs.Shown.{text_of}
 use Rattle.dfdl_xml_names.specs.Waiting.{parts_in}

@@ -31,8 +31,8 @@ all_ten P a b c d e f g h i j at_a at_b at_c at_d at_e at_f at_g at_h at_i at_j 
 
 pub build-requires-clause-named : goal.build-requires-clause-named
 build-requires-clause-named c =
-    let P : Row → Type 0 = NamesWithin (length c.new-6.result) in
-    let one : length c.new-6.result ≡ 1 = ap length (c.new-6.ensures ∙ c.in_ok-forms.ensures.items) in
+    let P : Row → Type 0 = NamesWithin (length c.new-7.result) in
+    let one : length c.new-7.result ≡ 1 = ap length (c.new-7.ensures ∙ c.in_ok-forms.ensures.items) in
     all_at P c.in_ok-rows.rows.items _ c.in_ok-rows.ensures.items
     (all_ten P _ _ _ _ _ _ _ _ _ _ (rw one (lit< tt)) (element_named _ _ _ _ _ c.in_ok-element.ensures) (element_named _ _ _ _ _ c.in_ok-element-2.ensures)
     (group_named _ _ _ c.in_ok-group.ensures) (group_named _ _ _ c.in_ok-group-2.ensures) (element_named _ _ _ _ _ c.in_ok-element-3.ensures)
@@ -40,7 +40,7 @@ build-requires-clause-named c =
 
 pub build-requires-clause-bounded : goal.build-requires-clause-bounded
 build-requires-clause-bounded c =
-    all_at IsPrimitive c.new-6.result (c.form.result ∷ []) (c.new-6.ensures ∙ c.in_ok-forms.ensures.items)
+    all_at IsPrimitive c.new-7.result (c.form.result ∷ []) (c.new-7.ensures ∙ c.in_ok-forms.ensures.items)
     (All-cons IsPrimitive c.form.result [] c.form.ensures (All-nil IsPrimitive))
 
 pub returns : goal.returns

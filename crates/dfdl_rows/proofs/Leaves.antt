@@ -1,121 +1,151 @@
--- The bodies of simple elements are leaves, wherever rows begin.
-use Rattle.std.proofs.Common.{◌≡◌, ℕ, zero, suc, ◌+◌, ◌-◌, ◌<◌, IsTrue, List, [], ◌∷◌, ◌++◌, length, map, slice_get, All, Some, sym, ap, subst, ◌∙◌, refl, arith, inl, inr, length-append}
+-- What holds of the body of each simple element among the rows of components, wherever the rows begin.
+use Rattle.std.proofs.Common.{◌≡◌, ℕ, zero, suc, ◌+◌, ◌-◌, ◌<◌, false, List, [], ◌∷◌, ◌++◌, length, map, slice_get, get_or, All, None, Some, sym, ap, subst, ◌∙◌, refl, arith, inl, inr}
 use Rattle.std.proofs.lemmas.Bool.{cases_lt}
-use Rattle.std.proofs.lemmas.List.Elements.{All-tail}
-use Rattle.std.proofs.lemmas.Option.{slice_get_within, slice_get-get_or}
+use Rattle.std.proofs.lemmas.List.Elements.{All-tail, All-cons, All-nil, All-append, All-get_or}
+use Rattle.std.proofs.lemmas.Option.{slice_get_within, slice_get-get_or, get_or_from_slice_get}
 use Rattle.dfdl_forms.specs.declared.simple.Simple.{Simple}
 use Rattle.dfdl_order.specs.Parts.{uses_of}
+use Rattle.dfdl_terms.specs.Leaves.{ReadsBy, leaf}
+use Rattle.dfdl_terms.specs.declared.framing.Framing.{Framing}
 use Rattle.dfdl_terms.specs.declared.row.Row.{Row}
-use Rattle.dfdl_terms.specs.declared.row.Row.TheVariants.{Elem}
-use Rattle.dfdl_rows.specs.Components.{Schema, component_at, AreOfOne, HasOrder}
+use Rattle.dfdl_terms.specs.declared.row.Row.TheVariants.{Leaf, Elem, Group}
+use Rattle.dfdl_rows.specs.Components.{Schema, component_at, AreOfOne, HasOrder, IsUnframed}
 use Rattle.dfdl_rows.specs.declared.component.Component.{Component}
 use Rattle.dfdl_rows.specs.declared.component.Component.TheVariants.{Sequence, Reference, ComplexElement, SimpleElement}
+use Rattle.dfdl_rows.specs.Fill.{has_fill, no_fill, framed, framed_row}
 use Rattle.dfdl_rows.specs.RowLists.{Numbered, own_rows, in_turn, last_rows, rows_at, rows_of}
-use Rattle.dfdl_rows.specs.Leaves.{IsAmong, IsLeafOf, HaveLeaves}
+use Rattle.dfdl_rows.specs.Leaves.{IsAmong, IsLeafOf, HaveLeaves, HaveBareLeaves, IsNoFill, HasNoFill}
+use Rattle.dfdl_rows.proofs.Framed.{unframed, unframed_row, framed_all}
+use Rattle.dfdl_rows.proofs.Placed.{left, right, nothing_there, Sits, sits_left, sits_right, sits_first, sits_tail, framed_reads}
 use Rattle.dfdl_rows.proofs.Parts.{by_parts}
 use Rattle.dfdl_rows.proofs.RowsOf.{rows_step}
 
-left : (xs ys : List Row) (i : ℕ) → i < length xs → slice_get (xs ++ ys) i ≡ slice_get xs i
-left [] ys i less = absurd (omega (arith, less))
-left (x ∷ xs) ys zero less = refl
-left (x ∷ xs) ys (suc i) less = left xs ys i (omega (arith, less))
+-- the row is no simple element
+abbrev pub IsNotSimple : Row → Type 0
+IsNotSimple row = (name : List ℕ) (simple : Simple) (body : ℕ) → row ≡ Elem name (Some simple) body → ⊥
 
-right : (xs ys : List Row) (i : ℕ) → slice_get (xs ++ ys) (length xs + i) ≡ slice_get ys i
-right [] ys i = ap (slice_get ys) (omega arith)
-right (x ∷ xs) ys i =
-    let same : length (x ∷ xs) + i ≡ suc (length xs + i) = omega arith in
-    ap (slice_get (x ∷ (xs ++ ys))) same ∙ right xs ys i
+none_simple : (rows : List Row) (i : ℕ) (name : List ℕ) (simple : Simple) (body : ℕ) → All IsNotSimple rows
+    → slice_get rows i ≡ Some (Elem name (Some simple) body) → ⊥
+none_simple [] i name simple body all is = nothing_there i (Elem name (Some simple) body) is
+none_simple (row ∷ rows) zero name simple body all is =
+    let same : row ≡ Elem name (Some simple) body = cc in
+    all 0 row (omega arith) name simple body same
+none_simple (row ∷ rows) (suc i) name simple body all is = none_simple rows i name simple body (All-tail IsNotSimple row rows all) is
 
--- where rows begin at a number, the body of a simple element is a leaf among them
-pub record IsBody (components : List Component) (first : ℕ) (rows : List Row) (simple : Simple) (body : ℕ) : Type 0 where
-  pub place : ℕ
-  pub here : body ≡ first + place
-  pub within : place < length rows
-  pub leaf : IsLeafOf components simple (slice_get rows place)
+-- a simple element behind rows that are none
+only_last : (rows : List Row) (last : Row) (i : ℕ) (name : List ℕ) (simple : Simple) (body : ℕ) → All IsNotSimple rows
+    → slice_get (rows ++ last ∷ []) i ≡ Some (Elem name (Some simple) body) → last ≡ Elem name (Some simple) body
+only_last [] last zero name simple body all is = cc
+only_last [] last (suc i) name simple body all is = absurd (nothing_there i (Elem name (Some simple) body) is)
+only_last (row ∷ rows) last zero name simple body all is =
+    let same : row ≡ Elem name (Some simple) body = cc in
+    absurd (all 0 row (omega arith) name simple body same)
+only_last (row ∷ rows) last (suc i) name simple body all is = only_last rows last i name simple body (All-tail IsNotSimple row rows all) is
 
-abbrev pub LeavesFrom : List Component → ℕ → List Row → Type 0
-LeavesFrom components first rows = (i : ℕ) (name : List ℕ) (simple : Simple) (body : ℕ)
-    → slice_get rows i ≡ Some (Elem name (Some simple) body) → IsBody components first rows simple body
+framed_not_simple : (f : Framing) (content first : ℕ) → All IsNotSimple (framed f content first)
+framed_not_simple f content first = framed_all IsNotSimple (λ bits name simple body is. absurd (cc)) (λ bits name simple body is. absurd (cc))
+    (λ children name simple body is. absurd (cc)) f content first
 
-body_left : (components : List Component) (first : ℕ) (xs ys : List Row) (simple : Simple) (body : ℕ) → IsBody components first xs simple body
-    → IsBody components first (xs ++ ys) simple body
-body_left components first xs ys simple body is = record {
-  place = is.place;
-  here = is.here;
-  within = omega (arith, is.within, length-append xs ys);
-  leaf = subst (IsLeafOf components simple) (sym (left xs ys is.place is.within)) is.leaf;
-}
+-- among all rows, this holds of the body of a simple element of the components
+module _ (components : List Component) (all : List Row) (Q : Simple → ℕ → Type 0)
+    (holds : (number content prim : ℕ) (name : List ℕ) (simple : Simple) (f : Framing)
+    → slice_get components number ≡ Some (SimpleElement name simple prim f) → slice_get all content ≡ Some (Leaf prim)
+    → Sits all (content + 1) (framed f content (content + 1)) → Q simple (framed_row f content (content + 1))) where
 
-body_right : (components : List Component) (first : ℕ) (xs ys : List Row) (simple : Simple) (body : ℕ) → IsBody components (first + length xs) ys simple body
-    → IsBody components first (xs ++ ys) simple body
-body_right components first xs ys simple body is = record {
-  place = length xs + is.place;
-  here = omega (arith, is.here);
-  within = omega (arith, is.within, length-append xs ys);
-  leaf = subst (IsLeafOf components simple) (sym (right xs ys is.place)) is.leaf;
-}
+  -- it holds of each simple element of the rows, where these stand among all rows
+  abbrev pub BodiesFrom : ℕ → List Row → Type 0
+  BodiesFrom first rows = Sits all first rows → (i : ℕ) (name : List ℕ) (simple : Simple) (body : ℕ)
+      → slice_get rows i ≡ Some (Elem name (Some simple) body) → Q simple body
 
-leaves_append : (components : List Component) (first : ℕ) (xs ys : List Row) → LeavesFrom components first xs → LeavesFrom components (first + length xs) ys
-    → LeavesFrom components first (xs ++ ys)
-leaves_append components first xs ys here behind i name simple body is = elim (cases_lt i (length xs)) [
-  | inl less ↦ body_left components first xs ys simple body (here i name simple body (sym (left xs ys i less) ∙ is))
-  | inr more ↦
-      let split : i ≡ length xs + (i - length xs) = omega (arith, more) in
-      body_right components first xs ys simple body
-      (behind (i - length xs) name simple body (sym (right xs ys (i - length xs)) ∙ (ap (slice_get (xs ++ ys)) (sym split) ∙ is)))
-]
+  bodies_append : (first : ℕ) (xs ys : List Row) → BodiesFrom first xs → BodiesFrom (first + length xs) ys → BodiesFrom first (xs ++ ys)
+  bodies_append first xs ys here behind sits i name simple body is = elim (cases_lt i (length xs)) [
+    | inl less ↦ here (sits_left all first xs ys sits) i name simple body (sym (left xs ys i less) ∙ is)
+    | inr more ↦
+        let split : i ≡ length xs + (i - length xs) = omega (arith, more) in
+        behind (sits_right all first xs ys sits) (i - length xs) name simple body
+        (sym (right xs ys (i - length xs)) ∙ (ap (slice_get (xs ++ ys)) (sym split) ∙ is))
+  ]
 
-abbrev pub HasLeaves : List Component → Numbered → Type 0
-HasLeaves components rows = (first : ℕ) → LeavesFrom components first (rows first)
+  bodies_none : (first : ℕ) (rows : List Row) → All IsNotSimple rows → BodiesFrom first rows
+  bodies_none first rows none sits i name simple body is = absurd (none_simple rows i name simple body none is)
 
-nothing_there : (i : ℕ) (row : Row) → slice_get [] i ≡ Some row → ⊥
-nothing_there i row is = let less = slice_get_within [] i row is in absurd (omega (arith, less))
+  abbrev pub HasBodies : Numbered → Type 0
+  HasBodies rows = (first : ℕ) → BodiesFrom first (rows first)
 
-none_leaves : (components : List Component) (first : ℕ) → LeavesFrom components first []
-none_leaves components first i name simple body is = absurd (nothing_there i (Elem name (Some simple) body) is)
+  turn_bodies : (f : ℕ → Numbered) (ps : List ℕ) → All (λ p. HasBodies (f p)) ps → HasBodies (in_turn (map f ps))
+  turn_bodies f [] each first = bodies_none first [] (All-nil IsNotSimple)
+  turn_bodies f (p ∷ ps) each first =
+      bodies_append first (f p first) (in_turn (map f ps) (first + length (f p first))) (each 0 p (omega arith) first)
+      (turn_bodies f ps (All-tail (λ (q : ℕ). HasBodies (f q)) p ps each) (first + length (f p first)))
 
-turn_leaves : (components : List Component) (f : ℕ → Numbered) (ps : List ℕ) → All (λ p. HasLeaves components (f p)) ps → HasLeaves components (in_turn (map f ps))
-turn_leaves components f [] all first = none_leaves components first
-turn_leaves components f (p ∷ ps) all first =
-    leaves_append components first (f p first) (in_turn (map f ps) (first + length (f p first))) (all 0 p (omega arith) first)
-    (turn_leaves components f ps (All-tail (λ (q : ℕ). HasLeaves components (f q)) p ps all) (first + length (f p first)))
+  own_bodies : (component : Component) (lasts : List ℕ) (first number : ℕ) → slice_get components number ≡ Some component
+      → BodiesFrom first (own_rows component lasts first)
+  own_bodies (Sequence f) lasts first number there = bodies_none first (Group lasts ∷ framed f first (first + 1))
+      (All-cons IsNotSimple (Group lasts) (framed f first (first + 1)) (λ name simple body is. absurd (cc)) (framed_not_simple f first (first + 1)))
+  own_bodies (Reference f) lasts first number there = bodies_none first (framed f (get_or lasts 0 0) first) (framed_not_simple f (get_or lasts 0 0) first)
+  own_bodies (ComplexElement own f) lasts first number there =
+      let row : Row = Elem own None (framed_row f (get_or lasts 0 0) first) in
+      bodies_none first (framed f (get_or lasts 0 0) first ++ Elem own None (framed_row f (get_or lasts 0 0) first) ∷ [])
+      (All-append IsNotSimple (framed f (get_or lasts 0 0) first) (row ∷ []) (framed_not_simple f (get_or lasts 0 0) first)
+      (All-cons IsNotSimple row [] (λ name simple body is. absurd (cc)) (All-nil IsNotSimple)))
+  own_bodies (SimpleElement own kind prim f) lasts first number there = λ sits i name simple body is.
+      let same : Elem own (Some kind) (framed_row f first (first + 1)) ≡ Elem name (Some simple) body
+      = only_last (Leaf prim ∷ framed f first (first + 1)) (Elem own (Some kind) (framed_row f first (first + 1))) i name simple body
+      (All-cons IsNotSimple (Leaf prim) (framed f first (first + 1)) (λ name simple body is. absurd (cc)) (framed_not_simple f first (first + 1))) is in
+      let kinds : kind ≡ simple = cc in
+      let bodies : framed_row f first (first + 1) ≡ body = cc in
+      let behind : Sits all (first + 1) (framed f first (first + 1))
+      = sits_left all (first + 1) (framed f first (first + 1)) (Elem own (Some kind) (framed_row f first (first + 1)) ∷ [])
+      (sits_tail all first (Leaf prim) (framed f first (first + 1) ++ Elem own (Some kind) (framed_row f first (first + 1)) ∷ []) sits) in
+      subst (λ (k : Simple). Q k body) kinds (subst (λ (n : ℕ). Q kind n) bodies
+      (holds number first prim own kind f there
+      (sits_first all first (Leaf prim) (framed f first (first + 1) ++ Elem own (Some kind) (framed_row f first (first + 1)) ∷ []) sits) behind))
 
-own_leaves : (components : List Component) (component : Component) (lasts : List ℕ) (first : ℕ)
-    → (number : ℕ) → slice_get components number ≡ Some component
-    → LeavesFrom components first (own_rows component lasts first)
-own_leaves components Reference lasts first number there i name simple body is = none_leaves components first i name simple body is
-own_leaves components Sequence lasts first number there zero name simple body is = absurd (cc)
-own_leaves components Sequence lasts first number there (suc i) name simple body is = absurd (nothing_there i (Elem name (Some simple) body) is)
-own_leaves components (ComplexElement own) lasts first number there zero name simple body is = absurd (cc)
-own_leaves components (ComplexElement own) lasts first number there (suc i) name simple body is = absurd (nothing_there i (Elem name (Some simple) body) is)
-own_leaves components (SimpleElement own kind prim) lasts first number there zero name simple body is = absurd (cc)
-own_leaves components (SimpleElement own kind prim) lasts first number there (suc zero) name simple body is =
-    let same : Some kind ≡ Some simple = cc in
-    let kinds : kind ≡ simple = cc in
-    let bodies : first ≡ body = cc in
-    record {
-      place = 0;
-      here = omega (arith, bodies);
-      within = omega arith;
-      leaf = subst (λ (k : Simple). IsAmong components k prim) kinds (number, own, there);
-    }
-own_leaves components (SimpleElement own kind prim) lasts first number there (suc (suc i)) name simple body is = absurd (nothing_there i (Elem name (Some simple) body) is)
+-- the rows of each component of a schema
+module _ (s : Schema) (ordered : HasOrder s.uses) (one : AreOfOne s.uses s.components s.refusals s.places) where
+  there : (c : ℕ) → c < length s.uses → slice_get s.components c ≡ Some (component_at s.components c)
+  there c within = slice_get-get_or s.components c (Sequence no_fill) (omega (arith, within, one.counted))
 
-leaves_at : (s : Schema) → HasOrder s.uses → AreOfOne s.uses s.components s.refusals s.places
-    → (c : ℕ) → c < length s.uses → HasLeaves s.components (rows_at s c)
-leaves_at s ordered one = by_parts s.uses ordered.0 ordered.1 (λ c. HasLeaves s.components (rows_at s c))
-    (λ c within all first.
-    let turn : List Row = in_turn (map (rows_at s) (uses_of s.uses c)) first in
-    let lasts : List ℕ = last_rows (map (rows_at s) (uses_of s.uses c)) first in
-    subst (λ (rows : Numbered). LeavesFrom s.components first (rows first)) (sym (rows_step s ordered c within))
-    (leaves_append s.components first turn (own_rows (component_at s.components c) lasts (first + length turn)) (turn_leaves s.components (rows_at s) (uses_of s.uses c) all first)
-    (own_leaves s.components (component_at s.components c) lasts (first + length turn)
-    c (slice_get-get_or s.components c Sequence (omega (arith, within, one.counted))))))
+  bodies_at : (all : List Row) (Q : Simple → ℕ → Type 0)
+      → ((number content prim : ℕ) (name : List ℕ) (simple : Simple) (f : Framing)
+      → slice_get s.components number ≡ Some (SimpleElement name simple prim f) → slice_get all content ≡ Some (Leaf prim)
+      → Sits all (content + 1) (framed f content (content + 1)) → Q simple (framed_row f content (content + 1)))
+      → (c : ℕ) → c < length s.uses → (first : ℕ) → Sits all first (rows_at s c first) → (i : ℕ) (name : List ℕ) (simple : Simple) (body : ℕ)
+      → slice_get (rows_at s c first) i ≡ Some (Elem name (Some simple) body) → Q simple body
+  bodies_at all Q holds = by_parts s.uses ordered.0 ordered.1 (λ c. HasBodies s.components all Q holds (rows_at s c))
+      (λ c within each first.
+      let turn : List Row = in_turn (map (rows_at s) (uses_of s.uses c)) first in
+      let lasts : List ℕ = last_rows (map (rows_at s) (uses_of s.uses c)) first in
+      subst (λ (rows : Numbered). BodiesFrom s.components all Q holds first (rows first)) (sym (rows_step s ordered c within))
+      (bodies_append s.components all Q holds first turn (own_rows (component_at s.components c) lasts (first + length turn))
+      (turn_bodies s.components all Q holds (rows_at s) (uses_of s.uses c) each first)
+      (own_bodies s.components all Q holds (component_at s.components c) lasts (first + length turn) c (there c within))))
 
--- the rows of a root
-pub rows_have_leaves : (s : Schema) → HasOrder s.uses → AreOfOne s.uses s.components s.refusals s.places
-    → (root : ℕ) → root < length s.uses → HaveLeaves s.components (rows_of s root)
-rows_have_leaves s ordered one root within row name simple body is =
-    let body_is = leaves_at s ordered one root within 0 row name simple body is in
-    let here : body ≡ body_is.place = omega (arith, body_is.here) in
-    subst (λ (k : ℕ). IsLeafOf s.components simple (slice_get (rows_of s root) k)) (sym here) body_is.leaf
+  -- the rows of a root among themselves
+  root_sits : (rows : List Row) → Sits rows 0 rows
+  root_sits rows i row is =
+      let same : i ≡ 0 + i = omega arith in
+      subst (λ (n : ℕ). slice_get rows n ≡ Some row) same is
+
+  pub rows_have_leaves : (root : ℕ) → root < length s.uses → HaveLeaves s.components (rows_of s root)
+  rows_have_leaves root within =
+      bodies_at (rows_of s root) (λ simple body. ReadsBy (rows_of s root) (IsAmong s.components simple) body)
+      (λ number content prim name simple f component is sits.
+      framed_reads (rows_of s root) (IsAmong s.components simple) f content (content + 1) sits (leaf content prim is (number, name, f, component)))
+      root within 0 (root_sits (rows_of s root))
+
+  -- where there is no fill, the component of a number has none
+  unframed_at : All IsUnframed s.components → (number : ℕ) (component : Component) → slice_get s.components number ≡ Some component → IsUnframed component
+  unframed_at bare number component is =
+      subst IsUnframed (get_or_from_slice_get s.components number component component is)
+      (bare number component (slice_get_within s.components number component is))
+
+  pub rows_have_bare_leaves : All IsUnframed s.components → (root : ℕ) → root < length s.uses → HaveBareLeaves s.components (rows_of s root)
+  rows_have_bare_leaves bare root within =
+      bodies_at (rows_of s root) (λ simple body. IsLeafOf s.components simple (slice_get (rows_of s root) body))
+      (λ number content prim name simple f component is sits.
+      let content_is : framed_row f content (content + 1) ≡ content
+      = unframed_row f content (content + 1) (unframed_at bare number (SimpleElement name simple prim f) component) in
+      subst (λ (n : ℕ). IsLeafOf s.components simple (slice_get (rows_of s root) n)) (sym content_is)
+      (subst (IsLeafOf s.components simple) (sym is) (number, name, f, component)))
+      root within 0 (root_sits (rows_of s root))

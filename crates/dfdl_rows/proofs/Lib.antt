@@ -1,4 +1,7 @@
 mod Parts
+mod Framed
+mod Pushed
+mod Placed
 mod Counts
 mod Tables
 mod RowsOf

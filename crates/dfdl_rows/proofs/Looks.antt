@@ -52,10 +52,10 @@ module _ (s : Schema) (order : Places) (is : IsOrder s.uses order) where
   idle_at : (own : Option Refusal) (component : Component) (place : Place) (parts : Look) (b : Bool) (names : Names)
       → (is_none own && (is_plain component && b)) ≡ true
       → (unless_refused own (at_component component place parts) names ≡ parts names) × (b ≡ true)
-  idle_at None Sequence place parts b names are = (refl, are)
-  idle_at None Reference place parts b names are = (refl, are)
-  idle_at None (ComplexElement name) place parts b names are = absurd (cc)
-  idle_at None (SimpleElement name simple prim) place parts b names are = absurd (cc)
+  idle_at None (Sequence framing) place parts b names are = (refl, are)
+  idle_at None (Reference framing) place parts b names are = (refl, are)
+  idle_at None (ComplexElement name framing) place parts b names are = absurd (cc)
+  idle_at None (SimpleElement name simple prim framing) place parts b names are = absurd (cc)
   idle_at (Some refusal) component place parts b names are = absurd (cc)
 
   idle_next : (c : ℕ) → c < length s.uses → All IsIdle (uses_of s.uses c) → IsIdle c

@@ -1,17 +1,22 @@
--- The rows of a component nest, name primitives that are there, and end with the component's own.
-use Rattle.std.proofs.Common.{◌≡◌, ℕ, zero, suc, ◌+◌, ◌-◌, ◌<◌, ◌≤◌, List, [], ◌∷◌, ◌++◌, length, map, get_or, slice_get, All, None, Some, sym, ap, subst, ◌∙◌, refl, arith, append_assoc, length-append}
+-- The rows of a component nest, name primitives that are there, are no fill where there is none, and end with the component's own.
+use Rattle.std.proofs.Common.{◌≡◌, ℕ, zero, suc, ◌+◌, ◌-◌, ◌<◌, ◌≤◌, List, [], ◌∷◌, ◌++◌, length, map, get_or, slice_get, All, Option, None, Some, sym, ap, subst, ◌∙◌, refl, arith, append_assoc, length-append}
 use Rattle.std.proofs.lemmas.List.Elements.{All-tail, All-cons, All-append, All-get_or}
 use Rattle.std.proofs.lemmas.Option.{slice_get_within}
+use Rattle.dfdl_forms.specs.declared.simple.Simple.{Simple}
 use Rattle.dfdl_order.specs.Parts.{uses_of}
+use Rattle.dfdl_terms.specs.declared.framing.Framing.{Framing}
 use Rattle.dfdl_terms.specs.declared.row.Row.{Row}
 use Rattle.dfdl_terms.specs.declared.row.Row.TheVariants.{Leaf, Elem, Group}
 use Rattle.dfdl_terms.specs.Rows.{ChildrenBelow, Nests, NamesWithin}
-use Rattle.dfdl_rows.specs.Components.{Schema, component_at, CanHave, AreOfOne, HasOrder, HasPrimitive}
+use Rattle.dfdl_rows.specs.Components.{Schema, component_at, CanHave, AreOfOne, HasOrder, HasPrimitive, IsUnframed}
 use Rattle.dfdl_rows.specs.declared.component.Component.{Component}
 use Rattle.dfdl_rows.specs.declared.component.Component.TheVariants.{Sequence, Reference, ComplexElement, SimpleElement}
 use Rattle.dfdl_rows.specs.RowLists.{Numbered, own_rows, in_turn, last_rows, rows_at, rows_of}
 use Rattle.dfdl_rows.specs.Answers.{EndsWith}
-use Rattle.dfdl_rows.proofs.Parts.{by_parts}
+use Rattle.dfdl_rows.specs.Fill.{no_fill, rows_before, rows_behind, numbers, in_group, framed, framed_row}
+use Rattle.dfdl_rows.specs.Leaves.{IsNoFill, HasNoFill}
+use Rattle.dfdl_rows.proofs.Framed.{framed_cases, unframed, length_framed, framed_end, framed_below, before_all, behind_all, framed_all}
+use Rattle.dfdl_rows.proofs.Parts.{by_parts, parts_within}
 use Rattle.dfdl_rows.proofs.RowsOf.{rows_step, length_rows, length_lasts, some_rows}
 
 -- rows that begin at a number have their children below them
@@ -65,15 +70,55 @@ lasts_below f (p ∷ ps) all first bound few =
     All-cons (λ n. n < bound) (first + length (f p first) - 1) (last_rows (map f ps) (first + length (f p first))) (omega (arith, here.some first, count, few))
     (lasts_below f ps (All-tail (λ (q : ℕ). IsNested (f q)) p ps all) (first + length (f p first)) bound (omega (arith, count, few)))
 
+-- rows without children nest
+nests_flat : (rows : List Row) (first : ℕ) → All (λ row. (n : ℕ) → ChildrenBelow n row) rows → NestsFrom first rows
+nests_flat [] first flat = nests_none first
+nests_flat (row ∷ rows) first flat = nests_cons first row rows (flat 0 row (omega arith) first)
+    (nests_flat rows (first + 1) (All-tail (λ (r : Row). (n : ℕ) → ChildrenBelow n r) row rows flat))
+
+numbers_below : (rows : List Row) (first bound : ℕ) → first + length rows ≤ bound → All (λ n. n < bound) (numbers rows first)
+numbers_below [] first bound few = λ i d less. absurd (omega arith)
+numbers_below (row ∷ rows) first bound few = All-cons (λ n. n < bound) first (numbers rows (first + 1)) (omega (arith, few))
+    (numbers_below rows (first + 1) bound (omega (arith, few)))
+
+-- a content with its fill
+module _ (f : Framing) (content first : ℕ) (low : content < first) where
+  group_below : All (λ n. n < first + length (rows_before f) + length (rows_behind f)) (in_group f content first)
+  group_below = All-append (λ n. n < first + length (rows_before f) + length (rows_behind f)) (numbers (rows_before f) first)
+      (content ∷ numbers (rows_behind f) (first + length (rows_before f)))
+      (numbers_below (rows_before f) first (first + length (rows_before f) + length (rows_behind f)) (omega arith))
+      (All-cons (λ n. n < first + length (rows_before f) + length (rows_behind f)) content (numbers (rows_behind f) (first + length (rows_before f)))
+      (omega (arith, low))
+      (numbers_below (rows_behind f) (first + length (rows_before f)) (first + length (rows_before f) + length (rows_behind f)) (omega arith)))
+
+  nests_framed : NestsFrom first (framed f content first)
+  nests_framed = framed_cases f content first (λ rows whole size. NestsFrom first rows) (λ none. nests_none first)
+      (λ some.
+      nests_append (rows_before f) (rows_behind f ++ Group (in_group f content first) ∷ []) first
+      (nests_flat (rows_before f) first (before_all (λ row. (n : ℕ) → ChildrenBelow n row) (λ bits n. tt) (λ bits n. tt) f))
+      (nests_append (rows_behind f) (Group (in_group f content first) ∷ []) (first + length (rows_before f))
+      (nests_flat (rows_behind f) (first + length (rows_before f)) (behind_all (λ row. (n : ℕ) → ChildrenBelow n row) (λ bits n. tt) (λ bits n. tt) f))
+      (nests_cons (first + length (rows_before f) + length (rows_behind f)) (Group (in_group f content first)) [] group_below
+      (nests_none (first + length (rows_before f) + length (rows_behind f) + 1)))))
+
+  -- the row of an element behind them
+  nests_element : (name : List ℕ) (simple : Option Simple) → NestsFrom first (framed f content first ++ Elem name simple (framed_row f content first) ∷ [])
+  nests_element name simple =
+      let below : framed_row f content first < first + length (framed f content first) = omega (arith, framed_below f content first low, length_framed f content first) in
+      nests_append (framed f content first) (Elem name simple (framed_row f content first) ∷ []) first nests_framed
+      (nests_cons (first + length (framed f content first)) (Elem name simple (framed_row f content first)) [] below
+      (nests_none (first + length (framed f content first) + 1)))
+
 own_nest : (component : Component) (ps lasts : List ℕ) (first : ℕ) → CanHave component ps → length lasts ≡ length ps → All (λ n. n < first) lasts
     → NestsFrom first (own_rows component lasts first)
-own_nest Sequence ps lasts first can long below = nests_cons first (Group lasts) [] below (nests_none (first + 1))
-own_nest Reference ps lasts first can long below = nests_none first
-own_nest (ComplexElement name) ps lasts first can long below =
-    nests_cons first (Elem name None (get_or lasts 0 0)) [] (below 0 0 (omega (arith, can, long))) (nests_none (first + 1))
-own_nest (SimpleElement name simple prim) ps lasts first can long below =
-    nests_cons first (Leaf prim) (Elem name (Some simple) first ∷ []) tt
-    (nests_cons (first + 1) (Elem name (Some simple) first) [] (omega arith) (nests_none (first + 1 + 1)))
+own_nest (Sequence f) ps lasts first can long below =
+    nests_cons first (Group lasts) (framed f first (first + 1)) below (nests_framed f first (first + 1) (omega arith))
+own_nest (Reference f) ps lasts first can long below = nests_framed f (get_or lasts 0 0) first (below 0 0 (omega (arith, can, long)))
+own_nest (ComplexElement name f) ps lasts first can long below =
+    nests_element f (get_or lasts 0 0) first (below 0 0 (omega (arith, can, long))) name None
+own_nest (SimpleElement name simple prim f) ps lasts first can long below =
+    nests_cons first (Leaf prim) (framed f first (first + 1) ++ Elem name (Some simple) (framed_row f first (first + 1)) ∷ []) tt
+    (nests_element f first (first + 1) (omega arith) name (Some simple))
 
 module _ (s : Schema) (ordered : HasOrder s.uses) (one : AreOfOne s.uses s.components s.refusals s.places) where
   nested : (c : ℕ) → c < length s.uses → IsNested (rows_at s c)
@@ -97,34 +142,70 @@ module _ (s : Schema) (ordered : HasOrder s.uses) (one : AreOfOne s.uses s.compo
   pub rows_some : (root : ℕ) → root < length s.uses → 0 < length (rows_of s root)
   rows_some root within = (nested root within).some 0
 
--- the primitives that rows name are there
-own_named : (count : ℕ) (component : Component) (lasts : List ℕ) (first : ℕ) → HasPrimitive count component → All (NamesWithin count) (own_rows component lasts first)
-own_named count Sequence lasts first has = All-cons (NamesWithin count) (Group lasts) [] tt (λ i d less. absurd (omega arith))
-own_named count Reference lasts first has = λ i d less. absurd (omega arith)
-own_named count (ComplexElement name) lasts first has = All-cons (NamesWithin count) (Elem name None (get_or lasts 0 0)) [] tt (λ i d less. absurd (omega arith))
-own_named count (SimpleElement name simple prim) lasts first has =
-    All-cons (NamesWithin count) (Leaf prim) (Elem name (Some simple) first ∷ []) has
-    (All-cons (NamesWithin count) (Elem name (Some simple) first) [] tt (λ i d less. absurd (omega arith)))
+-- what holds of each row
+abbrev pub IsAll : (Row → Type 0) → Numbered → Type 0
+IsAll P rows = (first : ℕ) → All P (rows first)
 
-abbrev pub IsNamed : ℕ → Numbered → Type 0
-IsNamed count rows = (first : ℕ) → All (NamesWithin count) (rows first)
+turn_all : (P : Row → Type 0) (f : ℕ → Numbered) (ps : List ℕ) → All (λ p. IsAll P (f p)) ps → IsAll P (in_turn (map f ps))
+turn_all P f [] all first = λ i d less. absurd (omega arith)
+turn_all P f (p ∷ ps) all first =
+    All-append P (f p first) (in_turn (map f ps) (first + length (f p first))) (all 0 p (omega arith) first)
+    (turn_all P f ps (All-tail (λ (q : ℕ). IsAll P (f q)) p ps all) (first + length (f p first)))
 
-turn_named : (count : ℕ) (f : ℕ → Numbered) (ps : List ℕ) → All (λ p. IsNamed count (f p)) ps → IsNamed count (in_turn (map f ps))
-turn_named count f [] all first = λ i d less. absurd (omega arith)
-turn_named count f (p ∷ ps) all first =
-    All-append (NamesWithin count) (f p first) (in_turn (map f ps) (first + length (f p first))) (all 0 p (omega arith) first)
-    (turn_named count f ps (All-tail (λ (q : ℕ). IsNamed count (f q)) p ps all) (first + length (f p first)))
-
-pub rows_named : (s : Schema) → HasOrder s.uses → AreOfOne s.uses s.components s.refusals s.places → (count : ℕ) → All (HasPrimitive count) s.components
-    → (c : ℕ) → c < length s.uses → IsNamed count (rows_at s c)
-rows_named s ordered one count has = by_parts s.uses ordered.0 ordered.1 (λ c. IsNamed count (rows_at s c))
+-- what holds of the rows of each component's own
+rows_all : (s : Schema) → HasOrder s.uses → (P : Row → Type 0)
+    → ((c : ℕ) → c < length s.uses → (lasts : List ℕ) (first : ℕ) → All P (own_rows (component_at s.components c) lasts first))
+    → (c : ℕ) → c < length s.uses → IsAll P (rows_at s c)
+rows_all s ordered P own = by_parts s.uses ordered.0 ordered.1 (λ c. IsAll P (rows_at s c))
     (λ c within all first.
     let turn : List Row = in_turn (map (rows_at s) (uses_of s.uses c)) first in
     let lasts : List ℕ = last_rows (map (rows_at s) (uses_of s.uses c)) first in
-    subst (λ (rows : Numbered). All (NamesWithin count) (rows first)) (sym (rows_step s ordered c within))
-    (All-append (NamesWithin count) turn (own_rows (component_at s.components c) lasts (first + length turn)) (turn_named count (rows_at s) (uses_of s.uses c) all first)
-    (own_named count (component_at s.components c) lasts (first + length turn)
-    (All-get_or (HasPrimitive count) s.components c Sequence (omega (arith, within, one.counted)) has))))
+    subst (λ (rows : Numbered). All P (rows first)) (sym (rows_step s ordered c within))
+    (All-append P turn (own_rows (component_at s.components c) lasts (first + length turn)) (turn_all P (rows_at s) (uses_of s.uses c) all first)
+    (own c within lasts (first + length turn))))
+
+-- the primitives that rows name are there
+framed_named : (count : ℕ) (f : Framing) (content first : ℕ) → All (NamesWithin count) (framed f content first)
+framed_named count = framed_all (NamesWithin count) (λ bits. tt) (λ bits. tt) (λ children. tt)
+
+own_named : (count : ℕ) (component : Component) (lasts : List ℕ) (first : ℕ) → HasPrimitive count component → All (NamesWithin count) (own_rows component lasts first)
+own_named count (Sequence f) lasts first has = All-cons (NamesWithin count) (Group lasts) (framed f first (first + 1)) tt (framed_named count f first (first + 1))
+own_named count (Reference f) lasts first has = framed_named count f (get_or lasts 0 0) first
+own_named count (ComplexElement name f) lasts first has =
+    let row : Row = Elem name None (framed_row f (get_or lasts 0 0) first) in
+    All-append (NamesWithin count) (framed f (get_or lasts 0 0) first) (row ∷ []) (framed_named count f (get_or lasts 0 0) first)
+    (All-cons (NamesWithin count) row [] tt (λ i d less. absurd (omega arith)))
+own_named count (SimpleElement name simple prim f) lasts first has =
+    let row : Row = Elem name (Some simple) (framed_row f first (first + 1)) in
+    All-cons (NamesWithin count) (Leaf prim) (framed f first (first + 1) ++ row ∷ []) has
+    (All-append (NamesWithin count) (framed f first (first + 1)) (row ∷ []) (framed_named count f first (first + 1))
+    (All-cons (NamesWithin count) row [] tt (λ i d less. absurd (omega arith))))
+
+-- no row is fill where there is none
+own_bare : (component : Component) (lasts : List ℕ) (first : ℕ) → IsUnframed component → All IsNoFill (own_rows component lasts first)
+own_bare (Sequence f) lasts first none = subst (λ (rows : List Row). All IsNoFill (Group lasts ∷ rows)) (sym (unframed f first (first + 1) none))
+    (All-cons IsNoFill (Group lasts) [] tt (λ i d less. absurd (omega arith)))
+own_bare (Reference f) lasts first none = subst (λ (rows : List Row). All IsNoFill rows) (sym (unframed f (get_or lasts 0 0) first none)) (λ i d less. absurd (omega arith))
+own_bare (ComplexElement name f) lasts first none =
+    let row : Row = Elem name None (framed_row f (get_or lasts 0 0) first) in
+    subst (λ (rows : List Row). All IsNoFill (rows ++ Elem name None (framed_row f (get_or lasts 0 0) first) ∷ [])) (sym (unframed f (get_or lasts 0 0) first none))
+    (All-cons IsNoFill row [] tt (λ i d less. absurd (omega arith)))
+own_bare (SimpleElement name simple prim f) lasts first none =
+    let row : Row = Elem name (Some simple) (framed_row f first (first + 1)) in
+    subst (λ (rows : List Row). All IsNoFill (Leaf prim ∷ (rows ++ Elem name (Some simple) (framed_row f first (first + 1)) ∷ []))) (sym (unframed f first (first + 1) none))
+    (All-cons IsNoFill (Leaf prim) (row ∷ []) tt (All-cons IsNoFill row [] tt (λ i d less. absurd (omega arith))))
+
+module _ (s : Schema) (ordered : HasOrder s.uses) (one : AreOfOne s.uses s.components s.refusals s.places) where
+  pub rows_named : (count : ℕ) → All (HasPrimitive count) s.components → (c : ℕ) → c < length s.uses → IsAll (NamesWithin count) (rows_at s c)
+  rows_named count has = rows_all s ordered (NamesWithin count)
+      (λ c within lasts first. own_named count (component_at s.components c) lasts first
+      (All-get_or (HasPrimitive count) s.components c (Sequence no_fill) (omega (arith, within, one.counted)) has))
+
+  pub rows_bare : All IsUnframed s.components → (root : ℕ) → root < length s.uses → HasNoFill (rows_of s root)
+  rows_bare bare root within = rows_all s ordered IsNoFill
+      (λ c within lasts first. own_bare (component_at s.components c) lasts first
+      (All-get_or IsUnframed s.components c (Sequence no_fill) (omega (arith, within, one.counted)) bare))
+      root within 0
 
 -- an element's own row is the last one
 one_part : (f : ℕ → Numbered) (ps : List ℕ) → length ps ≡ 1 → get_or (last_rows (map f ps) 0) 0 0 ≡ length (in_turn (map f ps) 0) - 1
@@ -139,28 +220,46 @@ last_of (b ∷ (d ∷ before)) x =
     let same : length (b ∷ (d ∷ (before ++ x ∷ []))) - 1 ≡ suc (length (d ∷ (before ++ x ∷ [])) - 1) = omega arith in
     ap (λ (n : ℕ). slice_get (b ∷ (d ∷ (before ++ x ∷ []))) n) same ∙ last_of (d ∷ before) x
 
-own_last : (component : Component) (f : ℕ → Numbered) (ps : List ℕ) → CanHave component ps
-    → EndsWith component (in_turn (map f ps) 0 ++ own_rows component (last_rows (map f ps) 0) (0 + length (in_turn (map f ps) 0)))
-own_last Sequence f ps can = tt
-own_last Reference f ps can = tt
-own_last (ComplexElement name) f ps can =
-    let turn : List Row = in_turn (map f ps) 0 in
-    let content : ℕ = get_or (last_rows (map f ps) 0) 0 0 in
-    let row : Row = Elem name None (get_or (last_rows (map f ps) 0) 0 0) in
-    let count : length (turn ++ row ∷ []) ≡ length turn + 1 = length-append turn (row ∷ []) in
-    let same : get_or (last_rows (map f ps) 0) 0 0 ≡ length (turn ++ row ∷ []) - 2 = omega (arith, count, one_part f ps can) in
-    last_of turn row ∙ ap (λ (n : ℕ). Some (Elem name None n)) same
-own_last (SimpleElement name simple prim) f ps can =
-    let turn : List Row = in_turn (map f ps) 0 in
-    let row : Row = Elem name (Some simple) (0 + length (in_turn (map f ps) 0)) in
-    let regrouped : turn ++ (Leaf prim ∷ (row ∷ [])) ≡ (turn ++ Leaf prim ∷ []) ++ row ∷ [] = sym (append_assoc turn (Leaf prim ∷ []) (row ∷ [])) in
-    let count : length (turn ++ (Leaf prim ∷ (row ∷ []))) ≡ length turn + 2 = length-append turn (Leaf prim ∷ (row ∷ [])) in
-    let same : 0 + length turn ≡ length (turn ++ (Leaf prim ∷ (row ∷ []))) - 2 = omega (arith, count) in
+-- an element behind its content and fill
+element_last : (before : List Row) (f : Framing) (content first : ℕ) (name : List ℕ) (simple : Option Simple) → first ≡ length before → content + 1 ≡ first
+    → slice_get (before ++ (framed f content first ++ Elem name simple (framed_row f content first) ∷ []))
+    (length (before ++ (framed f content first ++ Elem name simple (framed_row f content first) ∷ [])) - 1)
+    ≡ Some (Elem name simple (length (before ++ (framed f content first ++ Elem name simple (framed_row f content first) ∷ [])) - 2))
+element_last before f content first name simple begins is =
+    let row : Row = Elem name simple (framed_row f content first) in
+    let regrouped : before ++ (framed f content first ++ row ∷ []) ≡ (before ++ framed f content first) ++ row ∷ [] = sym (append_assoc before (framed f content first) (row ∷ [])) in
+    let count : length (before ++ (framed f content first ++ row ∷ [])) ≡ length before + length (framed f content first ++ row ∷ [])
+    = length-append before (framed f content first ++ row ∷ []) in
+    let rest : length (framed f content first ++ row ∷ []) ≡ length (framed f content first) + 1 = length-append (framed f content first) (row ∷ []) in
+    let same : framed_row f content first ≡ length (before ++ (framed f content first ++ row ∷ [])) - 2
+    = omega (arith, begins, count, rest, framed_end f content first is, length_framed f content first) in
     ap (λ (rows : List Row). slice_get rows (length rows - 1)) regrouped
-    ∙ (last_of (turn ++ Leaf prim ∷ []) row ∙ ap (λ (n : ℕ). Some (Elem name (Some simple) n)) same)
+    ∙ (last_of (before ++ framed f content first) row ∙ ap (λ (n : ℕ). Some (Elem name simple n)) same)
+
+turn_some : (f : ℕ → Numbered) (ps : List ℕ) → length ps ≡ 1 → All (λ p. 0 < length (f p 0)) ps → 0 < length (in_turn (map f ps) 0)
+turn_some f [] one all = absurd (omega (arith, one))
+turn_some f (p ∷ ps) one all =
+    let here : 0 < length (f p 0) = all 0 p (omega arith) in
+    omega (arith, here, length-append (f p 0) (in_turn (map f ps) (0 + length (f p 0))))
+
+own_last : (component : Component) (f : ℕ → Numbered) (ps : List ℕ) → CanHave component ps → All (λ p. 0 < length (f p 0)) ps
+    → EndsWith component (in_turn (map f ps) 0 ++ own_rows component (last_rows (map f ps) 0) (0 + length (in_turn (map f ps) 0)))
+own_last (Sequence framing) f ps can some = tt
+own_last (Reference framing) f ps can some = tt
+own_last (ComplexElement name framing) f ps can some =
+    element_last (in_turn (map f ps) 0) framing (get_or (last_rows (map f ps) 0) 0 0) (0 + length (in_turn (map f ps) 0)) name None (omega arith)
+    (omega (arith, one_part f ps can, turn_some f ps can some))
+own_last (SimpleElement name simple prim framing) f ps can some =
+    let turn : List Row = in_turn (map f ps) 0 in
+    let first : ℕ = 0 + length (in_turn (map f ps) 0) in
+    let own : List Row = framed framing first (first + 1) ++ Elem name (Some simple) (framed_row framing first (first + 1)) ∷ [] in
+    let regrouped : turn ++ (Leaf prim ∷ own) ≡ (turn ++ Leaf prim ∷ []) ++ own = sym (append_assoc turn (Leaf prim ∷ []) own) in
+    subst (λ (rows : List Row). slice_get rows (length rows - 1) ≡ Some (Elem name (Some simple) (length rows - 2))) (sym regrouped)
+    (element_last (turn ++ Leaf prim ∷ []) framing first (first + 1) name (Some simple) (omega (arith, length-append turn (Leaf prim ∷ []))) refl)
 
 pub rows_end : (s : Schema) → HasOrder s.uses → AreOfOne s.uses s.components s.refusals s.places → (root : ℕ) → root < length s.uses
     → EndsWith (component_at s.components root) (rows_of s root)
 rows_end s ordered one root within =
     subst (λ (rows : Numbered). EndsWith (component_at s.components root) (rows 0)) (sym (rows_step s ordered root within))
-    (own_last (component_at s.components root) (rows_at s) (uses_of s.uses root) (one.fit root within))
+    (own_last (component_at s.components root) (rows_at s) (uses_of s.uses root) (one.fit root within)
+    (λ k d less. (nested s ordered one (get_or (uses_of s.uses root) k d) (parts_within s.uses ordered.0 ordered.1 root within k d less)).some 0))

@@ -1,14 +1,17 @@
 -- The rows of a component by those of its parts: how many they are, and that there is one.
-use Rattle.std.proofs.Common.{◌≡◌, ℕ, ◌+◌, ◌<◌, List, [], ◌∷◌, ◌++◌, length, map, All, sym, ap, subst, refl, arith, length-append}
+use Rattle.std.proofs.Common.{◌≡◌, ℕ, ◌+◌, ◌<◌, List, [], ◌∷◌, ◌++◌, length, map, get_or, None, Some, All, sym, ap, subst, refl, arith, length-append}
 use Rattle.std.proofs.lemmas.List.Elements.{All-tail}
 use Rattle.dfdl_order.specs.Parts.{uses_of}
 use Rattle.dfdl_order.proofs.Over.{value_step}
 use Rattle.dfdl_terms.specs.declared.row.Row.{Row}
+use Rattle.dfdl_terms.specs.declared.row.Row.TheVariants.{Elem}
 use Rattle.dfdl_rows.specs.Components.{Schema, component_at, CanHave, AreOfOne, HasOrder}
 use Rattle.dfdl_rows.specs.declared.component.Component.{Component}
 use Rattle.dfdl_rows.specs.declared.component.Component.TheVariants.{Sequence, Reference, ComplexElement, SimpleElement}
 use Rattle.dfdl_rows.specs.Sizes.{total, own_size, size_from, size_of}
 use Rattle.dfdl_rows.specs.RowLists.{Numbered, own_rows, in_turn, last_rows, rows_from, no_rows, rows_at}
+use Rattle.dfdl_rows.specs.Fill.{framed, framed_row}
+use Rattle.dfdl_rows.proofs.Framed.{length_framed}
 use Rattle.dfdl_rows.proofs.Parts.{by_parts}
 
 pub rows_step : (s : Schema) → HasOrder s.uses → (c : ℕ) → c < length s.uses → rows_at s c ≡ rows_from s.components c (map (rows_at s) (uses_of s.uses c))
@@ -22,11 +25,15 @@ pub length_lasts : (f : ℕ → Numbered) (ps : List ℕ) (first : ℕ) → leng
 length_lasts f [] first = refl
 length_lasts f (p ∷ ps) first = omega (arith, length_lasts f ps (first + length (f p first)))
 
-length_own : (component : Component) (parts : List ℕ) (first : ℕ) → length (own_rows component parts first) ≡ own_size component
-length_own Sequence parts first = refl
-length_own Reference parts first = refl
-length_own (ComplexElement name) parts first = refl
-length_own (SimpleElement name simple prim) parts first = refl
+pub length_own : (component : Component) (parts : List ℕ) (first : ℕ) → length (own_rows component parts first) ≡ own_size component
+length_own (Sequence framing) parts first = omega (arith, length_framed framing first (first + 1))
+length_own (Reference framing) parts first = length_framed framing (get_or parts 0 0) first
+length_own (ComplexElement name framing) parts first =
+    let row : Row = Elem name None (framed_row framing (get_or parts 0 0) first) in
+    omega (arith, length-append (framed framing (get_or parts 0 0) first) (row ∷ []), length_framed framing (get_or parts 0 0) first)
+length_own (SimpleElement name simple prim framing) parts first =
+    let row : Row = Elem name (Some simple) (framed_row framing first (first + 1)) in
+    omega (arith, length-append (framed framing first (first + 1)) (row ∷ []), length_framed framing first (first + 1))
 
 -- so many rows, wherever they begin
 abbrev pub IsLong : Numbered → ℕ → Type 0
@@ -59,10 +66,10 @@ some_of_one size (p ∷ ps) one all =
     omega (arith, here)
 
 some_own : (size : ℕ → ℕ) (component : Component) (ps : List ℕ) → CanHave component ps → All (λ p. 0 < size p) ps → 0 < own_size component + total (map size ps)
-some_own size Sequence ps can all = omega arith
-some_own size Reference ps can all = let some : 0 < total (map size ps) = some_of_one size ps can all in omega (arith, some)
-some_own size (ComplexElement name) ps can all = omega arith
-some_own size (SimpleElement name simple prim) ps can all = omega arith
+some_own size (Sequence framing) ps can all = omega arith
+some_own size (Reference framing) ps can all = let some : 0 < total (map size ps) = some_of_one size ps can all in omega (arith, some)
+some_own size (ComplexElement name framing) ps can all = omega arith
+some_own size (SimpleElement name simple prim framing) ps can all = omega arith
 
 -- each component has a row
 pub some_rows : (s : Schema) → HasOrder s.uses → AreOfOne s.uses s.components s.refusals s.places → (c : ℕ) → c < length s.uses → 0 < size_of s c

@@ -7,12 +7,13 @@ use Rattle.dfdl_order.specs.Parts.{uses_of}
 use Rattle.dfdl_order.proofs.Over.{value_step}
 use Rattle.dfdl_terms.specs.declared.row.Row.{Row}
 use Rattle.dfdl_rows.specs.Components.{Schema, component_at, HasOrder}
-use Rattle.dfdl_rows.specs.Sizes.{total, size_of}
+use Rattle.dfdl_rows.specs.declared.component.Component.{Component}
+use Rattle.dfdl_rows.specs.Sizes.{total, own_size, size_of}
 use Rattle.dfdl_rows.specs.RowLists.{Numbered, own_rows, in_turn, last_rows, rows_at, rows_of}
 use Rattle.dfdl_rows.specs.Walk.{Made, made, with_rows, entered, kept, closed, done, all_done, component_of, steps_from, steps_of, steps_left}
 use Rattle.dfdl_rows.specs.declared.walk.Task.{Task}
 use Rattle.dfdl_rows.specs.declared.walk.Task.TheVariants.{Enter, Close}
-use Rattle.dfdl_rows.proofs.RowsOf.{rows_step, length_rows, length_lasts}
+use Rattle.dfdl_rows.proofs.RowsOf.{rows_step, length_own, length_rows, length_lasts}
 use Rattle.dfdl_rows.specs.Ends.{IsLed, AreEnds}
 use Rattle.dfdl_rows.proofs.Leading.{parts_led}
 
@@ -186,6 +187,15 @@ closed_few s task c ts m most is few =
     let whole : length (all_done s (task ∷ ts) m).rows ≡ length (all_done s ts (closed s c m)).rows
     = ap (λ (t : Task). length (all_done s (t ∷ ts) m).rows) is ∙ ap (λ (n : Made). length n.rows) (done_first s (Close c) ts m) in
     omega (arith, whole, few, all_done_grows s ts (closed s c m))
+
+-- there is room for the rows of a component's own
+pub closed_room : (s : Schema) (c : ℕ) (component : Component) (m : Made) (most : ℕ) → component ≡ component_at s.components c
+    → length (closed s c m).rows < most → length m.rows + own_size component < most
+closed_room s c component m most is few =
+    let parts : List ℕ = drop (kept s c m.lasts) m.lasts in
+    let whole : length (closed s c m).rows ≡ length m.rows + length (own_rows (component_at s.components c) parts (length m.rows))
+    = length-append m.rows (own_rows (component_at s.components c) parts (length m.rows)) in
+    omega (arith, whole, few, length_own (component_at s.components c) parts (length m.rows), ap own_size is)
 
 pub others_within : (n : ℕ) (task : Task) (ts : List Task) → All (λ t. component_of t < n) (task ∷ ts) → All (λ t. component_of t < n) ts
 others_within n task ts all = All-tail (λ (t : Task). component_of t < n) task ts all

@@ -64,7 +64,7 @@ pub record AreRowsOf (a : Asked) (rows : List Row) : Type 0 where
 
 -- where a component is an element, the last of the rows is its own
 abbrev pub EndsWith : Component → List Row → Type 0
-EndsWith Sequence rows = Unit {0}
-EndsWith Reference rows = Unit {0}
-EndsWith (ComplexElement name) rows = slice_get rows (length rows - 1) ≡ Some (Elem name None (length rows - 2))
-EndsWith (SimpleElement name simple prim) rows = slice_get rows (length rows - 1) ≡ Some (Elem name (Some simple) (length rows - 2))
+EndsWith (Sequence framing) rows = Unit {0}
+EndsWith (Reference framing) rows = Unit {0}
+EndsWith (ComplexElement name framing) rows = slice_get rows (length rows - 1) ≡ Some (Elem name None (length rows - 2))
+EndsWith (SimpleElement name simple prim framing) rows = slice_get rows (length rows - 1) ≡ Some (Elem name (Some simple) (length rows - 2))

@@ -7,10 +7,10 @@ use Rattle.dfdl_rows.specs.declared.component.Component.TheVariants.{Sequence, R
 
 -- one for an element
 abbrev pub own_depth : Component → ℕ
-own_depth Sequence = 0
-own_depth Reference = 0
-own_depth (ComplexElement name) = 1
-own_depth (SimpleElement name simple prim) = 1
+own_depth (Sequence framing) = 0
+own_depth (Reference framing) = 0
+own_depth (ComplexElement name framing) = 1
+own_depth (SimpleElement name simple prim framing) = 1
 
 -- the greatest of some numbers
 abbrev pub greatest : List ℕ → ℕ

@@ -1,19 +1,20 @@
--- Mirror for the prover: the component that a reference leads to, over any number of references.
-use Rattle.std.specs.Prelude.{◌≡◌, ℕ, ◌<◌, ◌≤◌, List, length, get_or}
+-- Mirror for the prover: the component that a reference leads to, over any number of references without fill.
+use Rattle.std.specs.Prelude.{◌≡◌, ℕ, ◌<◌, ◌≤◌, List, length, get_or, if◌then◌else◌}
 use Rattle.dfdl_order.specs.Folds.{value_by}
 use Rattle.dfdl_rows.specs.Components.{Schema, component_at}
+use Rattle.dfdl_rows.specs.Fill.{has_fill}
 use Rattle.dfdl_rows.specs.RowLists.{rows_at}
 use Rattle.dfdl_rows.specs.Walk.{steps_of}
 use Rattle.dfdl_rows.specs.declared.walk.Task.TheVariants.{Enter}
 use Rattle.dfdl_rows.specs.declared.component.Component.{Component}
 use Rattle.dfdl_rows.specs.declared.component.Component.TheVariants.{Sequence, Reference, ComplexElement, SimpleElement}
 
--- that of its part for a reference, else the component itself
+-- that of its part for a reference without fill, else the component itself
 abbrev pub end_by : Component → ℕ → List ℕ → ℕ
-end_by Sequence c of_parts = c
-end_by Reference c of_parts = get_or of_parts 0 c
-end_by (ComplexElement name) c of_parts = c
-end_by (SimpleElement name simple prim) c of_parts = c
+end_by (Sequence framing) c of_parts = c
+end_by (Reference framing) c of_parts = if has_fill framing then c else get_or of_parts 0 c
+end_by (ComplexElement name framing) c of_parts = c
+end_by (SimpleElement name simple prim framing) c of_parts = c
 
 -- the same, by a component's number
 abbrev pub end_from : List Component → ℕ → List ℕ → ℕ

@@ -1,3 +1,4 @@
+pub mod Fill
 pub mod Components
 pub mod Refusals
 pub mod Looking

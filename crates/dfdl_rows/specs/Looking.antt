@@ -14,17 +14,17 @@ use Rattle.dfdl_rows.specs.declared.refusal.Refusal.{Refusal}
 
 -- a component is an element
 abbrev pub is_element : Component → Bool
-is_element Sequence = false
-is_element Reference = false
-is_element (ComplexElement name) = true
-is_element (SimpleElement name simple prim) = true
+is_element (Sequence framing) = false
+is_element (Reference framing) = false
+is_element (ComplexElement name framing) = true
+is_element (SimpleElement name simple prim framing) = true
 
 -- a component is none
 abbrev pub is_plain : Component → Bool
-is_plain Sequence = true
-is_plain Reference = true
-is_plain (ComplexElement name) = false
-is_plain (SimpleElement name simple prim) = false
+is_plain (Sequence framing) = true
+is_plain (Reference framing) = true
+is_plain (ComplexElement name framing) = false
+is_plain (SimpleElement name simple prim framing) = false
 
 -- all of these
 abbrev pub are_all : List Bool → Bool

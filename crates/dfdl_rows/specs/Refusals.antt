@@ -52,10 +52,10 @@ at_element place name inside names =
 
 -- a component that isn't refused by itself, where its parts are looked at so
 abbrev pub at_component : Component → Place → Look → Look
-at_component Sequence place parts = parts
-at_component Reference place parts = parts
-at_component (ComplexElement name) place parts = at_element place name parts
-at_component (SimpleElement name simple prim) place parts = at_element place name parts
+at_component (Sequence framing) place parts = parts
+at_component (Reference framing) place parts = parts
+at_component (ComplexElement name framing) place parts = at_element place name parts
+at_component (SimpleElement name simple prim framing) place parts = at_element place name parts
 
 -- the refusal of a component's own
 abbrev pub own_refusal : List (Option Refusal) → ℕ → Option Refusal

@@ -5,6 +5,7 @@ use Rattle.dfdl_order.specs.Folds.{value_by}
 use Rattle.dfdl_terms.specs.declared.row.Row.{Row}
 use Rattle.dfdl_terms.specs.declared.row.Row.TheVariants.{Leaf, Elem, Group}
 use Rattle.dfdl_rows.specs.Components.{Schema, component_at}
+use Rattle.dfdl_rows.specs.Fill.{framed, framed_row}
 use Rattle.dfdl_rows.specs.declared.component.Component.{Component}
 use Rattle.dfdl_rows.specs.declared.component.Component.TheVariants.{Sequence, Reference, ComplexElement, SimpleElement}
 
@@ -12,12 +13,15 @@ use Rattle.dfdl_rows.specs.declared.component.Component.TheVariants.{Sequence, R
 abbrev pub Numbered : Type 0
 Numbered = ℕ → List Row
 
--- the rows of a component's own, from a number on, where these are the last rows of its parts
+-- the rows of a component's own, from a number on, where these are the last rows of its parts: that of its content, which is a
+-- part's for a reference and a complex element, then those of fill around it, and for an element its own
 abbrev pub own_rows : Component → List ℕ → ℕ → List Row
-own_rows Sequence parts first = Group parts ∷ []
-own_rows Reference parts first = []
-own_rows (ComplexElement name) parts first = Elem name None (get_or parts 0 0) ∷ []
-own_rows (SimpleElement name simple prim) parts first = Leaf prim ∷ (Elem name (Some simple) first ∷ [])
+own_rows (Sequence framing) parts first = Group parts ∷ framed framing first (first + 1)
+own_rows (Reference framing) parts first = framed framing (get_or parts 0 0) first
+own_rows (ComplexElement name framing) parts first =
+    framed framing (get_or parts 0 0) first ++ Elem name None (framed_row framing (get_or parts 0 0) first) ∷ []
+own_rows (SimpleElement name simple prim framing) parts first =
+    Leaf prim ∷ (framed framing first (first + 1) ++ Elem name (Some simple) (framed_row framing first (first + 1)) ∷ [])
 
 -- the rows of parts, one part after the other
 abbrev pub in_turn : List Numbered → Numbered

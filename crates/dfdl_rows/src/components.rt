@@ -142,8 +142,8 @@ fn can_have(component: &Component, parts: &[u32]) -> bool
     ensures other { result ≡ false → CanHave component.now parts.now → ⊥ }
 {
     match component {
-        Component::Sequence => true,
-        Component::Reference => parts.len() == 1,
+        Component::Sequence { .. } => true,
+        Component::Reference { .. } => parts.len() == 1,
         Component::ComplexElement { .. } => parts.len() == 1,
         Component::SimpleElement { .. } => parts.is_empty(),
     }
@@ -164,8 +164,8 @@ fn has_primitive(component: &Component, count: u32) -> bool
     ensures { IsTrue result ↔ HasPrimitive count component.now }
 {
     match component {
-        Component::Sequence => true,
-        Component::Reference => true,
+        Component::Sequence { .. } => true,
+        Component::Reference { .. } => true,
         Component::ComplexElement { .. } => true,
         Component::SimpleElement { prim, .. } => *prim < count,
     }

@@ -11,8 +11,8 @@ fn own_depth(component: &Component) -> u64
     ensures { result ≡ depths.own_depth component.now }
 {
     match component {
-        Component::Sequence => 0,
-        Component::Reference => 0,
+        Component::Sequence { .. } => 0,
+        Component::Reference { .. } => 0,
         Component::ComplexElement { .. } => 1,
         Component::SimpleElement { .. } => 1,
     }

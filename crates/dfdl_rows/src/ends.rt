@@ -1,8 +1,11 @@
-// Where references lead, so that a walk takes one step for any number of references.
-ghost use Rattle.std.specs.Prelude.{◌≡◌, ◌<◌, length, map, All, get_or, IfOk};
+// Where references without fill lead, so that a walk takes one step for any number of them.
+ghost use Rattle.std.specs.Prelude.{◌≡◌, ◌<◌, length, map, All, get_or, IfOk, if◌then◌else◌};
 ghost use Rattle.dfdl_rows.specs.Ends.{end_by, AreEnds};
+ghost use Rattle.dfdl_rows.specs.Fill.{has_fill};
 
+use crate::fill::has_fill;
 use crate::{Component, Components};
+use dfdl_terms::Framing;
 use std::alloc::{AllocError, Global};
 
 // Where a component leads, if it is known of its parts.
@@ -11,11 +14,22 @@ fn end_at(component: &Component, number: u32, parts: &[u32], known: &[u32]) -> u
     ensures { result ≡ end_by component.now number (map (λ p. get_or known.now p 0) parts.now) }
 {
     match component {
-        Component::Sequence => number,
-        Component::Reference => first_end(number, parts, known),
+        Component::Sequence { .. } => number,
+        Component::Reference { framing } => reference_end(*framing, number, parts, known),
         Component::ComplexElement { .. } => number,
         Component::SimpleElement { .. } => number,
     }
+}
+
+// Where a reference leads: with fill it has a row of its own.
+fn reference_end(framing: Framing, number: u32, parts: &[u32], known: &[u32]) -> u32
+    requires { All (λ p. p < length known.now) parts.now }
+    ensures { result ≡ (if has_fill framing then number else get_or (map (λ p. get_or known.now p 0) parts.now) 0 number) }
+{
+    if has_fill(framing) {
+        return number;
+    }
+    first_end(number, parts, known)
 }
 
 // Where the first of these parts leads.
@@ -29,7 +43,8 @@ fn first_end(number: u32, parts: &[u32], known: &[u32]) -> u32
     }
 }
 
-/// For each reference the component that it leads to, over any number of references; each other component itself.
+/// For each reference without fill the component that it leads to, over any number of such references; each other
+/// component itself.
 pub(crate) fn ends(alloc: Global, components: &Components) -> Result<Vec<u32>, AllocError>
     ensures { IfOk result (λ made. AreEnds components.now made.items) }
 {

@@ -11,6 +11,7 @@ mod components;
 mod depths;
 mod ends;
 mod fault;
+mod fill;
 mod idle;
 mod looking;
 mod refusal;

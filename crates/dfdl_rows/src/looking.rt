@@ -118,15 +118,15 @@ impl<'c> Looking<'c> {
             < looks_left components.now (number ∷ self.old.tasks.items)) }
     {
         match components.component(number) {
-            Component::Sequence => {
+            Component::Sequence { .. } => {
                 push_all(&mut self.tasks, components.parts(number))?;
                 Ok(None)
             }
-            Component::Reference => {
+            Component::Reference { .. } => {
                 push_all(&mut self.tasks, components.parts(number))?;
                 Ok(None)
             }
-            Component::ComplexElement { name } => {
+            Component::ComplexElement { name, .. } => {
                 let inside = known.refusals[number as usize];
                 let place = components.place(number);
                 let found = add_element(&mut self.names, name.as_str(), place, inside)?;

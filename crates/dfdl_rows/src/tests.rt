@@ -6,7 +6,7 @@ use super::*;
 use dfdl_forms::{BitOrder, ByteOrder, IntForm, Simple};
 use dfdl_order::{Uses, order_of};
 use dfdl_report::{LimitCause, Place, SchemaCause};
-use dfdl_terms::{Primitive, Row, RowId, Tables, Terms};
+use dfdl_terms::{Framing, Primitive, Row, RowId, Tables, Terms};
 use dfdl_value::TextValue;
 use std::alloc::{AllocError, Global};
 use std::test::Fail;
@@ -76,6 +76,23 @@ fn refusal(at: u64) -> Refusal {
     }
 }
 
+// No fill.
+fn bare() -> Framing {
+    fill(0, 1, 0)
+}
+
+fn fill(leading_skip: u32, alignment: u32, trailing_skip: u32) -> Framing {
+    Framing {
+        leading_skip,
+        alignment,
+        trailing_skip,
+    }
+}
+
+fn bare_sequence() -> Component {
+    Component::Sequence { framing: bare() }
+}
+
 fn simple(alloc: Global) -> Result<Component, AllocError> {
     named(alloc, "a")
 }
@@ -86,12 +103,14 @@ fn named(alloc: Global, name: &str) -> Result<Component, AllocError> {
         name: TextValue::from_str(alloc, name)?,
         simple: Simple::Int,
         prim: 0,
+        framing: bare(),
     })
 }
 
 fn complex(alloc: Global) -> Result<Component, AllocError> {
     Ok(Component::ComplexElement {
         name: TextValue::from_str(alloc, "r")?,
+        framing: bare(),
     })
 }
 
@@ -99,9 +118,9 @@ fn complex(alloc: Global) -> Result<Component, AllocError> {
 fn used_twice(alloc: Global) -> Result<Gathered, RowsFault> {
     let mut gathered = Gathered::new(alloc);
     gathered.push(complex(alloc)?, &[1])?;
-    gathered.push(Component::Sequence, &[3, 2])?;
+    gathered.push(bare_sequence(), &[3, 2])?;
     gathered.push(simple(alloc)?, &[])?;
-    gathered.push(Component::Reference, &[4])?;
+    gathered.push(Component::Reference { framing: bare() }, &[4])?;
     gathered.push(named(alloc, "b")?, &[])?;
     Ok(gathered)
 }
@@ -113,7 +132,7 @@ fn doubled_with(alloc: Global, levels: u32, last: Component) -> Result<Gathered,
     let mut gathered = Gathered::new(alloc);
     gathered.push(complex(alloc)?, &[1])?;
     for level in 0..levels {
-        gathered.push(Component::Sequence, &[level + 2, level + 2])?;
+        gathered.push(bare_sequence(), &[level + 2, level + 2])?;
     }
     gathered.push(last, &[])?;
     Ok(gathered)
@@ -123,7 +142,7 @@ fn doubled_with(alloc: Global, levels: u32, last: Component) -> Result<Gathered,
 fn doubled(alloc: Global, levels: u32) -> Result<Gathered, RowsFault>
     requires { levels < 100 }
 {
-    doubled_with(alloc, levels, Component::Sequence)
+    doubled_with(alloc, levels, bare_sequence())
 }
 
 // How many rows the first component has, or why it has none.
@@ -213,17 +232,17 @@ fn refuses_the_later_of_two_elements_of_one_name(rt: HostRuntime) -> Result<(), 
     // The root's name doesn't count inside of it, and a name in another complex element doesn't count.
     let mut nested = Gathered::new(alloc);
     nested.push(complex(alloc)?, &[1])?;
-    nested.push(Component::Sequence, &[2, 3, 5])?;
+    nested.push(bare_sequence(), &[2, 3, 5])?;
     nested.push(complex(alloc)?, &[4])?;
     nested.push(simple(alloc)?, &[])?;
-    nested.push(Component::Sequence, &[3])?;
-    nested.push(Component::Sequence, &[6])?;
+    nested.push(bare_sequence(), &[3])?;
+    nested.push(bare_sequence(), &[6])?;
     nested.push(named(alloc, "b")?, &[])?;
     assert_eq!(rt; count_of(alloc, nested, 3, 65535), Ok(11));
     // A refusal of its own counts before the name, and the name before a later refusal.
     let mut both = Gathered::new(alloc);
     both.push(complex(alloc)?, &[1])?;
-    both.push(Component::Sequence, &[2, 3, 4])?;
+    both.push(bare_sequence(), &[2, 3, 4])?;
     both.push(simple(alloc)?, &[])?;
     both.push(simple(alloc)?, &[])?;
     both.push(named(alloc, "b")?, &[])?;
@@ -245,5 +264,101 @@ fn tells_depth_first_then_the_first_refusal_then_rows(rt: HostRuntime) -> Result
     let mut deep = used_twice(alloc)?;
     deep.refuse(0, 5);
     assert_eq!(rt; count_of(alloc, deep, 1, 1), limit(LimitCause::Depth, 1));
+    Ok(())
+}
+
+// A root with fill over a group reference, a sequence and an element with fill.
+fn filled(alloc: Global) -> Result<Gathered, RowsFault> {
+    let mut gathered = Gathered::new(alloc);
+    let root = Component::ComplexElement {
+        name: TextValue::from_str(alloc, "r")?,
+        framing: fill(8, 16, 0),
+    };
+    gathered.push(root, &[1])?;
+    let framing = fill(0, 32, 4);
+    gathered.push(Component::Reference { framing }, &[2])?;
+    let framing = fill(3, 1, 0);
+    gathered.push(Component::Sequence { framing }, &[3])?;
+    let element = Component::SimpleElement {
+        name: TextValue::from_str(alloc, "a")?,
+        simple: Simple::Int,
+        prim: 0,
+        framing: fill(1, 8, 2),
+    };
+    gathered.push(element, &[])?;
+    Ok(gathered)
+}
+
+// What a row is, and the numbers in it.
+fn shown(alloc: Global, row: &Row) -> Result<(&'static str, Vec<u32>), AllocError> {
+    let mut numbers = Vec::new(alloc);
+    let kind = match row {
+        Row::Leaf { prim } => {
+            numbers.push(*prim)?;
+            "leaf"
+        }
+        Row::Elem { body, .. } => {
+            numbers.push(body.number())?;
+            "element"
+        }
+        Row::Group { children } => {
+            for child in children.as_slice() {
+                numbers.push(child.number())?;
+            }
+            "group"
+        }
+        Row::Skip { bits } => {
+            numbers.push(*bits)?;
+            "skip"
+        }
+        Row::Align { bits } => {
+            numbers.push(*bits)?;
+            "align"
+        }
+    };
+    Ok((kind, numbers))
+}
+
+#[test]
+fn puts_fill_around_each_kind_of_content(rt: HostRuntime) -> Result<(), Fail> {
+    let alloc = rt.alloc();
+    let components = filled(alloc)?.whole(alloc).expect(&rt, "components");
+    assert_eq!(rt; components.count(), 4);
+    if components.count() == 0 {
+        return Err(Fail::new("no components"));
+    }
+    let rows = rows_of(alloc, &components, 0, 2, 16)?;
+    let expected: [(&str, &[u32]); 16] = [
+        ("leaf", &[0]),
+        ("skip", &[1]),
+        ("align", &[8]),
+        ("skip", &[2]),
+        ("group", &[1, 2, 0, 3]),
+        ("element", &[4]),
+        ("group", &[5]),
+        ("skip", &[3]),
+        ("group", &[7, 6]),
+        ("align", &[32]),
+        ("skip", &[4]),
+        ("group", &[9, 8, 10]),
+        ("skip", &[8]),
+        ("align", &[16]),
+        ("group", &[12, 13, 11]),
+        ("element", &[14]),
+    ];
+    assert_eq!(rt; rows.len(), expected.len());
+    for ((kind, numbers), row) in expected.iter().zip(rows.iter()) {
+        let found = shown(alloc, row)?;
+        assert_eq!(rt; found.0, *kind);
+        assert_eq!(rt; found.1.as_slice(), *numbers);
+    }
+    Ok(())
+}
+
+#[test]
+fn counts_the_rows_of_fill(rt: HostRuntime) -> Result<(), Fail> {
+    let alloc = rt.alloc();
+    assert_eq!(rt; count_of(alloc, filled(alloc)?, 2, 16), Ok(16));
+    assert_eq!(rt; count_of(alloc, filled(alloc)?, 2, 15), limit(LimitCause::Rows, 15));
     Ok(())
 }

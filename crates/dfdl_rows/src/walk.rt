@@ -6,12 +6,15 @@ ghost use Rattle.dfdl_rows.specs.Ends.{AreEnds};
 ghost use Rattle.dfdl_rows.specs.RowLists as lists;
 ghost use Rattle.dfdl_rows.specs.Sizes.{own_size, size_of};
 ghost use Rattle.dfdl_rows.specs.Walk.{made, closed, all_done, component_of, steps_left};
-ghost use Rattle.dfdl_terms.specs.declared.row.Row.TheVariants.{Group};
+ghost use Rattle.dfdl_terms.specs.declared.row.Row.TheVariants.{Elem, Group};
 ghost use Rattle.dfdl_rows.specs.declared.walk.Task.TheVariants.{Enter, Close};
 
 use crate::ends::ends;
+use crate::fill::push_framed;
 use crate::{Component, Components};
+use dfdl_forms::Simple;
 use dfdl_terms::{Row, RowId, RowList};
+use dfdl_value::TextValue;
 use std::alloc::{AllocError, Global};
 use std::collections::VecDeque;
 
@@ -169,29 +172,47 @@ fn push_own(
         ≡ rows.old.items ++ lists.own_rows component.now parts.now (length rows.old.items)) }
 {
     match component {
-        Component::Sequence => push_group(alloc, rows, parts),
-        Component::Reference => Ok(()),
-        Component::ComplexElement { name } => {
-            let name = name.copy(alloc)?;
-            rows.push(Row::Elem {
-                name,
-                simple: None,
-                body: first_of(parts),
-            })?;
+        Component::Sequence { framing } => {
+            let content = RowId::new(rows.len() as u32);
+            push_group(alloc, rows, parts)?;
+            push_framed(alloc, rows, *framing, content)?;
             Ok(())
         }
-        Component::SimpleElement { name, simple, prim } => {
-            let name = name.copy(alloc)?;
-            let body = RowId::new(rows.len() as u32);
-            rows.push(Row::Leaf { prim: *prim })?;
-            rows.push(Row::Elem {
-                name,
-                simple: Some(*simple),
-                body,
-            })?;
+        Component::Reference { framing } => {
+            push_framed(alloc, rows, *framing, first_of(parts))?;
             Ok(())
+        }
+        Component::ComplexElement { name, framing } => {
+            let body = push_framed(alloc, rows, *framing, first_of(parts))?;
+            push_element(alloc, rows, name, None, body)
+        }
+        Component::SimpleElement {
+            name,
+            simple,
+            prim,
+            framing,
+        } => {
+            let content = RowId::new(rows.len() as u32);
+            rows.push(Row::Leaf { prim: *prim })?;
+            let body = push_framed(alloc, rows, *framing, content)?;
+            push_element(alloc, rows, name, Some(*simple), body)
         }
     }
+}
+
+// Adds the row of an element.
+fn push_element(
+    alloc: Global,
+    rows: &mut Vec<Row>,
+    name: &TextValue,
+    simple: Option<Simple>,
+    body: RowId,
+) -> Result<(), AllocError>
+    ensures { OnOk result (rows.new.items ≡ rows.old.items ++ Elem name.now simple body ∷ []) }
+{
+    let name = name.copy(alloc)?;
+    rows.push(Row::Elem { name, simple, body })?;
+    Ok(())
 }
 
 // Adds the row of a sequence.

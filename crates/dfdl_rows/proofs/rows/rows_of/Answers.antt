@@ -3,9 +3,9 @@ use Rattle.dfdl_terms.specs.declared.row.Row.{Row}
 use Rattle.dfdl_terms.specs.Rows.{Nests, NamesWithin}
 use Rattle.dfdl_rows.specs.Components.{component_at}
 use Rattle.dfdl_rows.specs.Answers.{EndsWith}
-use Rattle.dfdl_rows.proofs.Nesting.{rows_nest, rows_some, rows_named, rows_end}
-use Rattle.dfdl_rows.specs.Leaves.{HaveLeaves}
-use Rattle.dfdl_rows.proofs.Leaves.{rows_have_leaves}
+use Rattle.dfdl_rows.proofs.Nesting.{rows_nest, rows_some, rows_named, rows_bare, rows_end}
+use Rattle.dfdl_rows.specs.Leaves.{HaveLeaves, HaveBareLeaves, HasNoFill}
+use Rattle.dfdl_rows.proofs.Leaves.{rows_have_leaves, rows_have_bare_leaves}
 use Rattle.dfdl_rows.proofs.RowsOf.{length_rows}
 use Rattle.dfdl_rows.proofs.rows.rows_of.Goals as goal
 
@@ -49,3 +49,13 @@ pub returns-clause-leaves : goal.returns-clause-leaves
 returns-clause-leaves c =
     subst (λ (rows : List Row). HaveLeaves c.args.components.now.components rows) (sym c.in_ok-all_rows.ensures)
     (rows_have_leaves c.args.components.now c.facts.ensures.ordered c.facts.ensures.of_one c.args.root c.requires)
+
+pub returns-clause-bare : goal.returns-clause-bare
+returns-clause-bare c = λ bare.
+    subst (λ (rows : List Row). HaveBareLeaves c.args.components.now.components rows) (sym c.in_ok-all_rows.ensures)
+    (rows_have_bare_leaves c.args.components.now c.facts.ensures.ordered c.facts.ensures.of_one bare c.args.root c.requires)
+
+pub returns-clause-no_fill : goal.returns-clause-no_fill
+returns-clause-no_fill c = λ bare.
+    subst HasNoFill (sym c.in_ok-all_rows.ensures)
+    (rows_bare c.args.components.now c.facts.ensures.ordered c.facts.ensures.of_one bare c.args.root c.requires)

@@ -1,6 +1,6 @@
 use Rattle.std.proofs.Common.{length, sym, subst}
 use Rattle.dfdl_terms.specs.Rows.{Table}
-use Rattle.dfdl_rows.specs.Leaves.{HaveLeaves}
+use Rattle.dfdl_rows.specs.Leaves.{HaveLeaves, HaveBareLeaves, HasNoFill}
 use Rattle.dfdl_rows.proofs.rows.terms_of.Goals as goal
 
 pub built-requires-clause-named : goal.built-requires-clause-named
@@ -9,3 +9,11 @@ built-requires-clause-named c = c.in-Ok.ensures.named (length c.args.tables) c.r
 pub returns-in-Ok-clause-leaves : goal.returns-in-Ok-clause-leaves
 returns-in-Ok-clause-leaves c =
     subst (λ (t : Table). HaveLeaves c.args.components.now.components t.rows) (sym c.built.ensures) c.in-Ok.ensures.leaves
+
+pub returns-in-Ok-clause-bare : goal.returns-in-Ok-clause-bare
+returns-in-Ok-clause-bare c = λ bare.
+    subst (λ (t : Table). HaveBareLeaves c.args.components.now.components t.rows) (sym c.built.ensures) (c.in-Ok.ensures.bare bare)
+
+pub returns-in-Ok-clause-no_fill : goal.returns-in-Ok-clause-no_fill
+returns-in-Ok-clause-no_fill c = λ bare.
+    subst (λ (t : Table). HasNoFill t.rows) (sym c.built.ensures) (c.in-Ok.ensures.no_fill bare)

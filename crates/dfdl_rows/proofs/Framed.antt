@@ -1,0 +1,79 @@
+-- The rows of fill around a content: how many they are, and what holds of each.
+use Rattle.std.proofs.Common.{◌≡◌, ℕ, ◌+◌, ◌<◌, Bool, true, false, nat_lt, if◌then◌else◌, List, [], ◌∷◌, ◌++◌, length, All, ap, refl, arith, length-append}
+use Rattle.std.proofs.lemmas.List.Elements.{All-nil, All-cons, All-append}
+use Rattle.dfdl_terms.specs.declared.framing.Framing.{Framing}
+use Rattle.dfdl_terms.specs.declared.row.Row.{Row}
+use Rattle.dfdl_terms.specs.declared.row.Row.TheVariants.{Group, Skip, Align}
+use Rattle.dfdl_rows.specs.Fill.{has_fill, skip_rows, align_rows, rows_before, rows_behind, in_group, framed, framed_row, framing_size}
+
+-- the rows where there is fill
+abbrev pub filled : Framing → ℕ → ℕ → List Row
+filled f content first = rows_before f ++ (rows_behind f ++ Group (in_group f content first) ∷ [])
+
+-- with fill and without
+pub framed_cases : (f : Framing) (content first : ℕ) (P : List Row → ℕ → ℕ → Type 0)
+    → (has_fill f ≡ false → P [] content 0)
+    → (has_fill f ≡ true → P (filled f content first) (first + length (rows_before f) + length (rows_behind f)) (length (rows_before f) + length (rows_behind f) + 1))
+    → P (framed f content first) (framed_row f content first) (framing_size f)
+unfolding framed framed_row framing_size
+framed_cases f content first P none some =
+    (elim (has_fill f) as (λ (b : Bool). has_fill f ≡ b → P (if b then filled f content first else [])
+    (if b then first + length (rows_before f) + length (rows_behind f) else content) (if b then length (rows_before f) + length (rows_behind f) + 1 else 0)) [
+      | true ↦ some
+      | false ↦ none
+    ]) refl
+
+pub unframed : (f : Framing) (content first : ℕ) → has_fill f ≡ false → framed f content first ≡ []
+unfolding framed
+unframed f content first none = ap (λ (b : Bool). if b then filled f content first else []) none
+
+pub unframed_row : (f : Framing) (content first : ℕ) → has_fill f ≡ false → framed_row f content first ≡ content
+unfolding framed_row
+unframed_row f content first none = ap (λ (b : Bool). if b then first + length (rows_before f) + length (rows_behind f) else content) none
+
+length_filled : (f : Framing) (content first : ℕ) → length (filled f content first) ≡ length (rows_before f) + length (rows_behind f) + 1
+length_filled f content first =
+    let group : List Row = Group (in_group f content first) ∷ [] in
+    let whole : length (filled f content first) ≡ length (rows_before f) + length (rows_behind f ++ Group (in_group f content first) ∷ [])
+    = length-append (rows_before f) (rows_behind f ++ Group (in_group f content first) ∷ []) in
+    let rest : length (rows_behind f ++ Group (in_group f content first) ∷ []) ≡ length (rows_behind f) + 1
+    = length-append (rows_behind f) (Group (in_group f content first) ∷ []) in
+    omega (arith, whole, rest)
+
+pub length_framed : (f : Framing) (content first : ℕ) → length (framed f content first) ≡ framing_size f
+length_framed f content first = framed_cases f content first (λ rows whole size. length rows ≡ size) (λ none. refl) (λ some. length_filled f content first)
+
+-- the row of the whole is the last one, that of the content where there is no fill
+pub framed_end : (f : Framing) (content first : ℕ) → content + 1 ≡ first → framed_row f content first + 1 ≡ first + framing_size f
+framed_end f content first is = framed_cases f content first (λ rows whole size. whole + 1 ≡ first + size)
+    (λ none. omega (arith, is)) (λ some. omega arith)
+
+pub framed_below : (f : Framing) (content first : ℕ) → content < first → framed_row f content first < first + framing_size f
+framed_below f content first less = framed_cases f content first (λ rows whole size. whole < first + size)
+    (λ none. omega (arith, less)) (λ some. omega arith)
+
+-- what holds of fill and of groups
+module _ (P : Row → Type 0) (skips : (bits : ℕ) → P (Skip bits)) (aligns : (bits : ℕ) → P (Align bits)) where
+  skip_all : (bits : ℕ) → All P (skip_rows bits)
+  skip_all bits = elim (nat_lt 0 bits) as (λ (b : Bool). All P (if b then Skip bits ∷ [] else [])) [
+    | true ↦ All-cons P (Skip bits) [] (skips bits) (All-nil P)
+    | false ↦ All-nil P
+  ]
+
+  align_all : (bits : ℕ) → All P (align_rows bits)
+  align_all bits = elim (nat_lt 1 bits) as (λ (b : Bool). All P (if b then Align bits ∷ [] else [])) [
+    | true ↦ All-cons P (Align bits) [] (aligns bits) (All-nil P)
+    | false ↦ All-nil P
+  ]
+
+  pub before_all : (f : Framing) → All P (rows_before f)
+  before_all f = All-append P (skip_rows f.leading_skip) (align_rows f.alignment) (skip_all f.leading_skip) (align_all f.alignment)
+
+  pub behind_all : (f : Framing) → All P (rows_behind f)
+  behind_all f = skip_all f.trailing_skip
+
+  pub framed_all : ((children : List ℕ) → P (Group children)) → (f : Framing) (content first : ℕ) → All P (framed f content first)
+  framed_all groups f content first = framed_cases f content first (λ rows whole size. All P rows) (λ none. All-nil P)
+      (λ some. All-append P (rows_before f) (rows_behind f ++ Group (in_group f content first) ∷ []) (before_all f)
+      (All-append P (rows_behind f) (Group (in_group f content first) ∷ []) (behind_all f)
+      (All-cons P (Group (in_group f content first)) [] (groups (in_group f content first)) (All-nil P))))

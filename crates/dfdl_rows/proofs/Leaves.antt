@@ -1,7 +1,7 @@
 -- What holds of the body of each simple element among the rows of components, wherever the rows begin.
-use Rattle.std.proofs.Common.{◌≡◌, ℕ, zero, suc, ◌+◌, ◌-◌, ◌<◌, false, List, [], ◌∷◌, ◌++◌, length, map, slice_get, get_or, All, None, Some, sym, ap, subst, ◌∙◌, refl, arith, inl, inr}
+use Rattle.std.proofs.Common.{◌≡◌, ℕ, zero, suc, ◌+◌, ◌-◌, ◌<◌, List, [], ◌∷◌, ◌++◌, length, map, slice_get, get_or, All, None, Some, sym, ap, subst, ◌∙◌, arith, inl, inr}
 use Rattle.std.proofs.lemmas.Bool.{cases_lt}
-use Rattle.std.proofs.lemmas.List.Elements.{All-tail, All-cons, All-nil, All-append, All-get_or}
+use Rattle.std.proofs.lemmas.List.Elements.{All-tail, All-cons, All-nil, All-append}
 use Rattle.std.proofs.lemmas.Option.{slice_get_within, slice_get-get_or, get_or_from_slice_get}
 use Rattle.dfdl_forms.specs.declared.simple.Simple.{Simple}
 use Rattle.dfdl_order.specs.Parts.{uses_of}
@@ -12,10 +12,10 @@ use Rattle.dfdl_terms.specs.declared.row.Row.TheVariants.{Leaf, Elem, Group}
 use Rattle.dfdl_rows.specs.Components.{Schema, component_at, AreOfOne, HasOrder, IsUnframed}
 use Rattle.dfdl_rows.specs.declared.component.Component.{Component}
 use Rattle.dfdl_rows.specs.declared.component.Component.TheVariants.{Sequence, Reference, ComplexElement, SimpleElement}
-use Rattle.dfdl_rows.specs.Fill.{has_fill, no_fill, framed, framed_row}
+use Rattle.dfdl_rows.specs.Fill.{no_fill, framed, framed_row}
 use Rattle.dfdl_rows.specs.RowLists.{Numbered, own_rows, in_turn, last_rows, rows_at, rows_of}
-use Rattle.dfdl_rows.specs.Leaves.{IsAmong, IsLeafOf, HaveLeaves, HaveBareLeaves, IsNoFill, HasNoFill}
-use Rattle.dfdl_rows.proofs.Framed.{unframed, unframed_row, framed_all}
+use Rattle.dfdl_rows.specs.Leaves.{IsAmong, IsLeafOf, HaveLeaves, HaveBareLeaves}
+use Rattle.dfdl_rows.proofs.Framed.{unframed_row, framed_all}
 use Rattle.dfdl_rows.proofs.Placed.{left, right, nothing_there, Sits, sits_left, sits_right, sits_first, sits_tail, framed_reads}
 use Rattle.dfdl_rows.proofs.Parts.{by_parts}
 use Rattle.dfdl_rows.proofs.RowsOf.{rows_step}
@@ -51,7 +51,6 @@ module _ (components : List Component) (all : List Row) (Q : Simple → ℕ → 
     (holds : (number content prim : ℕ) (name : List ℕ) (simple : Simple) (f : Framing)
     → slice_get components number ≡ Some (SimpleElement name simple prim f) → slice_get all content ≡ Some (Leaf prim)
     → Sits all (content + 1) (framed f content (content + 1)) → Q simple (framed_row f content (content + 1))) where
-
   -- it holds of each simple element of the rows, where these stand among all rows
   abbrev pub BodiesFrom : ℕ → List Row → Type 0
   BodiesFrom first rows = Sits all first rows → (i : ℕ) (name : List ℕ) (simple : Simple) (body : ℕ)

@@ -1,5 +1,5 @@
 -- Rows that stand in a longer list from a number on, and what a content with its fill reads there.
-use Rattle.std.proofs.Common.{◌≡◌, ℕ, zero, suc, ◌+◌, ◌<◌, List, [], ◌∷◌, ◌++◌, length, slice_get, Some, sym, ap, subst, ◌∙◌, refl, arith}
+use Rattle.std.proofs.Common.{◌≡◌, ℕ, zero, suc, ◌+◌, ◌<◌, List, [], ◌∷◌, ◌++◌, length, slice_get, Some, ap, subst, ◌∙◌, refl, arith}
 use Rattle.std.proofs.lemmas.Option.{slice_get_within}
 use Rattle.dfdl_terms.specs.Leaves.{ReadsBy, grouped}
 use Rattle.dfdl_terms.specs.declared.framing.Framing.{Framing}

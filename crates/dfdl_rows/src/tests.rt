@@ -359,6 +359,9 @@ fn puts_fill_around_each_kind_of_content(rt: HostRuntime) -> Result<(), Fail> {
 fn counts_the_rows_of_fill(rt: HostRuntime) -> Result<(), Fail> {
     let alloc = rt.alloc();
     assert_eq!(rt; count_of(alloc, filled(alloc)?, 2, 16), Ok(16));
-    assert_eq!(rt; count_of(alloc, filled(alloc)?, 2, 15), limit(LimitCause::Rows, 15));
+    assert_eq!(rt;
+        count_of(alloc, filled(alloc)?, 2, 15),
+        limit(LimitCause::Rows, 15)
+    );
     Ok(())
 }

@@ -26,6 +26,7 @@ use Rattle.dfdl_chains.proofs.Within.{parts_are_within}
 use Rattle.dfdl_breaches.specs.Judging.{judgement_at}
 use Rattle.dfdl_compile.specs.Primitives.{primitive_by}
 use Rattle.dfdl_rows.specs.Components.{Schema, AreOfOne, CanHave, component_at as part_at}
+use Rattle.dfdl_rows.specs.Fill.{no_fill}
 use Rattle.dfdl_rows.specs.declared.component.Component.{Component}
 use Rattle.dfdl_rows.specs.declared.component.Component.TheVariants.{Sequence}
 use Rattle.dfdl_rows.specs.declared.refusal.Refusal.{Refusal}
@@ -90,20 +91,23 @@ fits P f g holds a b (x ∷ xs) (suc c) less = fits P f g holds a b xs c (omega 
 
 module _ (purpose : Purpose) (documents : List SchemaDocument) (own : Site) where
   abbrev pub made : Role → Component
-  made role.GroupReference = reference_by (referred documents own names.Group)
-  made r = component_by (element_name documents own) (primitive_by (judgement_at purpose documents own)) (number_of documents own) (kind_by documents own r)
+  made role.GroupReference = reference_by (judgement_at purpose documents own).framing (referred documents own names.Group)
+  made r = component_by (element_name documents own) (primitive_by (judgement_at purpose documents own)) (number_of documents own)
+      (judgement_at purpose documents own).framing (kind_by documents own r)
 
   pub made_is : (r : Role) → r ≡ role_of documents own → component_of documents own (judgement_at purpose documents own) r ≡ made r
   unfolding kind_at
   made_is role.GroupReference is = refl
-  made_is r is = ap (λ (q : Role). component_by (element_name documents own) (primitive_by (judgement_at purpose documents own)) (number_of documents own) (kind_by documents own q)) (sym is)
+  made_is r is = ap (λ (q : Role). component_by (element_name documents own) (primitive_by (judgement_at purpose documents own)) (number_of documents own)
+      (judgement_at purpose documents own).framing (kind_by documents own q)) (sym is)
 
-  typed_fits : (t : Typed) → CanHave (component_by (element_name documents own) (primitive_by (judgement_at purpose documents own)) (number_of documents own) (kind_of_type t)) (map (number_of documents) (contents documents t))
+  typed_fits : (t : Typed) → CanHave (component_by (element_name documents own) (primitive_by (judgement_at purpose documents own)) (number_of documents own)
+      (judgement_at purpose documents own).framing (kind_of_type t)) (map (number_of documents) (contents documents t))
   typed_fits (Carried simple) = refl
   typed_fits NotCarried = refl
   typed_fits (Defined type) = refl
 
-  reference_fits : (o : Option Site) → CanHave (reference_by o) (map (number_of documents) (listed o))
+  reference_fits : (o : Option Site) → CanHave (reference_by (judgement_at purpose documents own).framing o) (map (number_of documents) (listed o))
   reference_fits None = tt
   reference_fits (Some group) = refl
 
@@ -125,7 +129,7 @@ of_one purpose documents = record {
   counted = length_of (component_at purpose documents) (all_sites documents) ∙ sym (length_of (part_numbers documents) (all_sites documents));
   judged = length_of (refusal_at purpose documents) (all_sites documents) ∙ sym (length_of (part_numbers documents) (all_sites documents));
   placed = length_of (place_of documents) (all_sites documents) ∙ sym (length_of (part_numbers documents) (all_sites documents));
-  fit = λ c less. fits CanHave (component_at purpose documents) (part_numbers documents) (can_have purpose documents) Sequence [] (all_sites documents) c
+  fit = λ c less. fits CanHave (component_at purpose documents) (part_numbers documents) (can_have purpose documents) (Sequence no_fill) [] (all_sites documents) c
       (omega (arith, less, length_of (part_numbers documents) (all_sites documents)));
 }
 

@@ -2,7 +2,6 @@
 use Rattle.std.proofs.Common.{◌≡◌, ℕ, ◌<◌, ◌-◌, Bool, true, false, List, length, map, slice_get, get_or, All, Option, None, Some, option_map, unwrap_or, ap, sym, subst, ◌∙◌, refl, arith, if◌then◌else◌}
 use Rattle.std.proofs.lemmas.List.{length-map}
 use Rattle.std.proofs.lemmas.Option.{slice_get-map, slice_get-get_or, slice_get_within}
-use Rattle.dfdl_forms.specs.declared.binary.IntForm.{IntForm}
 use Rattle.dfdl_forms.specs.declared.simple.Simple.{Simple}
 use Rattle.dfdl_constructs.specs.declared.role.Role.{Role}
 use Rattle.dfdl_constructs.specs.declared.role.Role.TheVariants as role
@@ -12,7 +11,6 @@ use Rattle.dfdl_components.specs.declared.site.Site.{Site}
 use Rattle.dfdl_components.specs.Globals.{site}
 use Rattle.dfdl_components.specs.Sites.{IsSite, role_of}
 use Rattle.dfdl_components.specs.Recursion.{count_of, number_of}
-use Rattle.dfdl_checks.specs.Forms.{IsWholeUnsigned}
 use Rattle.dfdl_checks.specs.Numbers.{type_of}
 use Rattle.dfdl_checks.specs.declared.purpose.Purpose.{Purpose}
 use Rattle.dfdl_checks.specs.declared.purpose.Purpose.TheVariants.{Unparsing}
@@ -26,21 +24,23 @@ use Rattle.dfdl_chains.specs.Everywhere.{all_sites, for_each}
 use Rattle.dfdl_chains.specs.Kinds.{kind_at, kind_of_type}
 use Rattle.dfdl_chains.specs.Parts.{is_component}
 use Rattle.dfdl_chains.proofs.Numbering.{number_below, length_all}
-use Rattle.dfdl_breaches.specs.Judging.{breach_at, primitive_at as judged, judgement_at, no_judgement}
+use Rattle.dfdl_breaches.specs.Judging.{breach_at, primitive_at as judged, framing_at, judgement_at, no_judgement}
 use Rattle.dfdl_breaches.specs.declared.judgement.Judgement.{Judgement}
 use Rattle.dfdl_breaches.proofs.Numbering.{value-at}
+use Rattle.dfdl_terms.specs.Leaves.{ReadsBy, leaf, grouped}
+use Rattle.dfdl_terms.specs.declared.framing.Framing.{Framing}
 use Rattle.dfdl_terms.specs.Rows.{HasElementLast, IsElementRow, IsPrimitive, Table}
 use Rattle.dfdl_terms.specs.declared.row.Primitive.{Primitive}
-use Rattle.dfdl_terms.specs.declared.row.Primitive.TheVariants.{Integer}
 use Rattle.dfdl_terms.specs.declared.row.Row.{Row}
-use Rattle.dfdl_terms.specs.declared.row.Row.TheVariants.{Leaf, Elem, Group}
+use Rattle.dfdl_terms.specs.declared.row.Row.TheVariants.{Leaf, Elem, Group, Skip, Align}
 use Rattle.dfdl_rows.specs.Answers.{EndsWith}
-use Rattle.dfdl_rows.specs.Components.{Schema, HasPrimitive, component_at as part_at}
-use Rattle.dfdl_rows.specs.Leaves.{HaveLeaves, IsAmong, IsLeafOf}
+use Rattle.dfdl_rows.specs.Components.{Schema, HasPrimitive, IsUnframed, component_at as part_at}
+use Rattle.dfdl_rows.specs.Fill.{has_fill, no_fill}
+use Rattle.dfdl_rows.specs.Leaves.{HaveLeaves, HaveBareLeaves, IsAmong, IsLeafOf}
 use Rattle.dfdl_rows.specs.declared.component.Component.{Component}
 use Rattle.dfdl_rows.specs.declared.component.Component.TheVariants.{Sequence, SimpleElement}
 use Rattle.dfdl_compile.specs.Components.{component_by, reference_by, component_of, component_at, components_of, element_name, is_global_element, primitive_at, primitives_of}
-use Rattle.dfdl_compile.specs.Primitives.{HasTypedLeaves, IsLeafOfType, IsOfType, IsWhole, a_byte, primitive_by}
+use Rattle.dfdl_compile.specs.Primitives.{HasTypedLeaves, HasBareTypedLeaves, IsLeafOfType, IsOfType, IsWhole, a_byte, primitive_by}
 use Rattle.dfdl_compile.proofs.Fitting.{all_within, each, made, made_is, twice}
 
 -- what holds of a byte and of each primitive that is judged holds of that of an element
@@ -50,7 +50,7 @@ module _ (P : Primitive → Type 0) (byte : P a_byte) (purpose : Purpose) (docum
   by_some own (Some p) holds = holds p refl
 
   by_component : (own : Site) (b : Bool) → ((p : Primitive) → judged purpose documents own ≡ Some p → P p)
-      → P (primitive_by (if b then record { breach = breach_at purpose documents own; primitive = judged purpose documents own } else no_judgement))
+      → P (primitive_by (if b then record { breach = breach_at purpose documents own; primitive = judged purpose documents own; framing = framing_at purpose documents own } else no_judgement))
   by_component own true holds = by_some own (judged purpose documents own) holds
   by_component own false holds = byte
 
@@ -81,14 +81,11 @@ bounded purpose documents law = holds_of IsPrimitive
 
 -- each for unparsing is a whole unsigned integer
 pub wholes : (purpose : Purpose) (documents : List SchemaDocument) → purpose ≡ Unparsing
-    → ((documents : List SchemaDocument) (own : Site) (form : IntForm) → judged Unparsing documents own ≡ Some (Integer form) → IsWholeUnsigned form)
+    → ((documents : List SchemaDocument) (own : Site) (p : Primitive) → judged Unparsing documents own ≡ Some p → IsWhole p)
     → (tables : List Primitive) → tables ≡ primitives_of purpose documents → All IsWhole tables
 wholes purpose documents unparsing law tables are =
-    holds_of IsWhole (record { bits = refl; kind = refl; bits_by = refl; point = refl }) Unparsing documents whole_at tables
+    holds_of IsWhole (record { bits = refl; kind = refl; bits_by = refl; point = refl }) Unparsing documents (law documents) tables
     (are ∙ ap (λ (q : Purpose). primitives_of q documents) unparsing)
-  where
-    whole_at : (own : Site) (p : Primitive) → judged Unparsing documents own ≡ Some p → IsWhole p
-    whole_at own (Integer form) is = law documents own form is
 
 -- there are as many primitives as elements
 length_primitives : (purpose : Purpose) (documents : List SchemaDocument) → length (primitives_of purpose documents) ≡ count_of documents
@@ -99,12 +96,12 @@ module _ (purpose : Purpose) (documents : List SchemaDocument) where
   has_number : (own : Site) → IsSite documents own → HasPrimitive (count_of documents) (component_at purpose documents own)
   has_number own within = by_role (role_of documents own)
     where
-      by_group : (o : Option Site) → HasPrimitive (count_of documents) (reference_by o)
+      by_group : (o : Option Site) → HasPrimitive (count_of documents) (reference_by (judgement_at purpose documents own).framing o)
       by_group None = tt
       by_group (Some group) = tt
 
       by_kind : (k : Kind) → HasPrimitive (count_of documents)
-          (component_by (element_name documents own) (primitive_at purpose documents own) (number_of documents own) k)
+          (component_by (element_name documents own) (primitive_at purpose documents own) (number_of documents own) (judgement_at purpose documents own).framing k)
       by_kind kind.ComplexElement = tt
       by_kind (kind.SimpleElement simple) = number_below documents own within
       by_kind kind.UncarriedElement = number_below documents own within
@@ -126,18 +123,19 @@ module _ (purpose : Purpose) (documents : List SchemaDocument) where
       (each (IsSite documents) (HasPrimitive (count_of documents)) (component_at purpose documents) has_number (all_sites documents) (all_within documents)))
 
   -- a component that is a simple element has the type of its primitive, and the primitive's number
-  typed_component : (own : Site) (name : List ℕ) (simple : Simple) (prim : ℕ)
-      → component_at purpose documents own ≡ SimpleElement name simple prim
+  typed_component : (own : Site) (name : List ℕ) (simple : Simple) (prim : ℕ) (framing : Framing)
+      → component_at purpose documents own ≡ SimpleElement name simple prim framing
       → (type_of (primitive_at purpose documents own) ≡ simple) × (number_of documents own ≡ prim)
-  typed_component own name simple prim = by_role (role_of documents own)
+  typed_component own name simple prim framing = by_role (role_of documents own)
     where
-      by_group : (o : Option Site) → reference_by o ≡ SimpleElement name simple prim
+      by_group : (o : Option Site) → reference_by (judgement_at purpose documents own).framing o ≡ SimpleElement name simple prim framing
           → (type_of (primitive_at purpose documents own) ≡ simple) × (number_of documents own ≡ prim)
       by_group None is = absurd (cc)
       by_group (Some group) is = absurd (cc)
 
       by_kind : (k : Kind)
-          → component_by (element_name documents own) (primitive_at purpose documents own) (number_of documents own) k ≡ SimpleElement name simple prim
+          → component_by (element_name documents own) (primitive_at purpose documents own) (number_of documents own) (judgement_at purpose documents own).framing k
+          ≡ SimpleElement name simple prim framing
           → (type_of (primitive_at purpose documents own) ≡ simple) × (number_of documents own ≡ prim)
       by_kind kind.ComplexElement is = absurd (cc)
       by_kind (kind.SimpleElement other) is = (cc, cc)
@@ -145,7 +143,7 @@ module _ (purpose : Purpose) (documents : List SchemaDocument) where
       by_kind kind.Sequence is = absurd (cc)
       by_kind kind.Choice is = absurd (cc)
 
-      by_role : (r : Role) → component_of documents own (judgement_at purpose documents own) r ≡ SimpleElement name simple prim
+      by_role : (r : Role) → component_of documents own (judgement_at purpose documents own) r ≡ SimpleElement name simple prim framing
           → (type_of (primitive_at purpose documents own) ≡ simple) × (number_of documents own ≡ prim)
       by_role role.GroupReference is = by_group (referred documents own names.Group) is
       by_role _ is = by_kind (kind_at documents own) is
@@ -163,18 +161,18 @@ module _ (purpose : Purpose) (documents : List SchemaDocument) where
   -- the leaf of a simple element among the components has the element's type
   among_typed : (simple : Simple) (prim : ℕ) → IsAmong (map (component_at purpose documents) (all_sites documents)) simple prim
       → IsOfType simple (slice_get (primitives_of purpose documents) prim)
-  among_typed simple prim (number, name, is) =
+  among_typed simple prim (number, name, framing, is) =
       let less : number < length (all_sites documents) = omega (
         arith,
-        slice_get_within (map (component_at purpose documents) (all_sites documents)) number (SimpleElement name simple prim) is,
+        slice_get_within (map (component_at purpose documents) (all_sites documents)) number (SimpleElement name simple prim framing) is,
         length-map (all_sites documents) (component_at purpose documents),
       ) in
       let own : Site = get_or (all_sites documents) number (site 0 0) in
-      let found : Some (component_at purpose documents own) ≡ Some (SimpleElement name simple prim) =
+      let found : Some (component_at purpose documents own) ≡ Some (SimpleElement name simple prim framing) =
       sym (slice_get-map (component_at purpose documents) (all_sites documents) number
       ∙ ap (option_map (component_at purpose documents)) (slice_get-get_or (all_sites documents) number (site 0 0) less)) ∙ is in
-      let same : component_at purpose documents own ≡ SimpleElement name simple prim = cc in
-      let both = typed_component own name simple prim same in
+      let same : component_at purpose documents own ≡ SimpleElement name simple prim framing = cc in
+      let both = typed_component own name simple prim framing same in
       subst (λ (n : ℕ). IsOfType simple (slice_get (primitives_of purpose documents) n)) both.1
       (subst (λ (o : Option Primitive). IsOfType simple o) (sym (there own (all_within documents number (site 0 0) less))) both.0)
 
@@ -183,23 +181,76 @@ module _ (purpose : Purpose) (documents : List SchemaDocument) where
   leaf_typed simple (Some (Leaf prim)) leaf = among_typed simple prim leaf
   leaf_typed simple (Some (Elem name other body)) leaf = absurd leaf
   leaf_typed simple (Some (Group children)) leaf = absurd leaf
+  leaf_typed simple (Some (Skip bits)) leaf = absurd leaf
+  leaf_typed simple (Some (Align bits)) leaf = absurd leaf
   leaf_typed simple None leaf = absurd leaf
+
+  -- what the body of a simple element reads has the element's type
+  reads_typed : (rows : List Row) (simple : Simple) (id : ℕ) → ReadsBy rows (IsAmong (map (component_at purpose documents) (all_sites documents)) simple) id
+      → ReadsBy rows (λ prim. IsOfType simple (slice_get (primitives_of purpose documents) prim)) id
+  reads_typed rows simple id (leaf _ prim is among) = leaf id prim is (among_typed simple prim among)
+  reads_typed rows simple id (grouped _ at child children is there reads) = grouped id at child children is there (reads_typed rows simple child reads)
 
   -- each simple element is read by a primitive of its type
   pub leaves_typed : (schema : Schema) (t : Table) → schema ≡ components_of purpose documents → t.primitives ≡ primitives_of purpose documents
       → HaveLeaves schema.components t.rows → HasTypedLeaves t
   unfolding components_of
   leaves_typed schema t schema_is primitives_are leaves row name simple body is =
+      subst (λ (ps : List Primitive). ReadsBy t.rows (λ prim. IsOfType simple (slice_get ps prim)) body) (sym primitives_are)
+      (reads_typed t.rows simple body
+      (subst (λ (s : Schema). ReadsBy t.rows (IsAmong s.components simple) body) schema_is (leaves row name simple body is)))
+
+  -- the same, where each is read by a leaf
+  pub bare_typed : (schema : Schema) (t : Table) → schema ≡ components_of purpose documents → t.primitives ≡ primitives_of purpose documents
+      → HaveBareLeaves schema.components t.rows → HasBareTypedLeaves t
+  unfolding components_of
+  bare_typed schema t schema_is primitives_are leaves row name simple body is =
       subst (λ (ps : List Primitive). IsLeafOfType ps simple (slice_get t.rows body)) (sym primitives_are)
       (leaf_typed simple (slice_get t.rows body)
       (subst (λ (s : Schema). IsLeafOf s.components simple (slice_get t.rows body)) schema_is (leaves row name simple body is)))
 
+-- no component has fill for unparsing
+module _ (documents : List SchemaDocument) where
+  unframed_by : (own : Site) (b : Bool)
+      → has_fill (if b then record { breach = breach_at Unparsing documents own; primitive = judged Unparsing documents own; framing = framing_at Unparsing documents own } else no_judgement).framing ≡ false
+  unframed_by own true = refl
+  unframed_by own false = refl
+
+  unframed_judgement : (own : Site) → has_fill (judgement_at Unparsing documents own).framing ≡ false
+  unfolding judgement_at
+  unframed_judgement own = unframed_by own (is_component (role_of documents own))
+
+  unframed_component : (own : Site) → IsUnframed (component_at Unparsing documents own)
+  unframed_component own = by_role (role_of documents own)
+    where
+      by_group : (o : Option Site) → IsUnframed (reference_by (judgement_at Unparsing documents own).framing o)
+      by_group None = unframed_judgement own
+      by_group (Some group) = unframed_judgement own
+
+      by_kind : (k : Kind) → IsUnframed (component_by (element_name documents own) (primitive_at Unparsing documents own) (number_of documents own)
+          (judgement_at Unparsing documents own).framing k)
+      by_kind kind.ComplexElement = unframed_judgement own
+      by_kind (kind.SimpleElement simple) = unframed_judgement own
+      by_kind kind.UncarriedElement = unframed_judgement own
+      by_kind kind.Sequence = unframed_judgement own
+      by_kind kind.Choice = unframed_judgement own
+
+      by_role : (r : Role) → IsUnframed (component_of documents own (judgement_at Unparsing documents own) r)
+      by_role role.GroupReference = by_group (referred documents own names.Group)
+      by_role _ = by_kind (kind_at documents own)
+
+  pub unframed_components : (purpose : Purpose) (schema : Schema) → purpose ≡ Unparsing → schema ≡ components_of purpose documents → All IsUnframed schema.components
+  unfolding components_of
+  unframed_components purpose schema unparsing schema_is =
+      subst (λ (s : Schema). All IsUnframed s.components) (sym (schema_is ∙ ap (λ (q : Purpose). components_of q documents) unparsing))
+      (each (IsSite documents) IsUnframed (component_at Unparsing documents) (λ own within. unframed_component own) (all_sites documents) (all_within documents))
+
 -- the row of an element of a type is an element
-typed_last : (t : Table) (name : List ℕ) (primitive : Primitive) (number : ℕ) (typed : Typed)
-    → EndsWith (component_by name primitive number (kind_of_type typed)) t.rows → HasElementLast t
-typed_last t name primitive number (Carried simple) ends = subst IsElementRow (sym ends) tt
-typed_last t name primitive number NotCarried ends = subst IsElementRow (sym ends) tt
-typed_last t name primitive number (Defined own) ends = subst IsElementRow (sym ends) tt
+typed_last : (t : Table) (name : List ℕ) (primitive : Primitive) (number : ℕ) (framing : Framing) (typed : Typed)
+    → EndsWith (component_by name primitive number framing (kind_of_type typed)) t.rows → HasElementLast t
+typed_last t name primitive number framing (Carried simple) ends = subst IsElementRow (sym ends) tt
+typed_last t name primitive number framing NotCarried ends = subst IsElementRow (sym ends) tt
+typed_last t name primitive number framing (Defined own) ends = subst IsElementRow (sym ends) tt
 
 global_role : (r : Role) → is_global_element r ≡ true → r ≡ role.GlobalElement
 global_role role.GlobalElement is = refl
@@ -208,7 +259,8 @@ global_role _ is = absurd (cc)
 -- a global element is that of its type
 global_is : (purpose : Purpose) (documents : List SchemaDocument) (own : Site) → is_global_element (role_of documents own) ≡ true
     → component_at purpose documents own
-    ≡ component_by (element_name documents own) (primitive_at purpose documents own) (number_of documents own) (kind_of_type (element_type documents own))
+    ≡ component_by (element_name documents own) (primitive_at purpose documents own) (number_of documents own)
+    (judgement_at purpose documents own).framing (kind_of_type (element_type documents own))
 global_is purpose documents own global =
     let is : role_of documents own ≡ role.GlobalElement = global_role (role_of documents own) global in
     made_is purpose documents own (role_of documents own) refl
@@ -218,7 +270,7 @@ global_is purpose documents own global =
 at_root : (purpose : Purpose) (documents : List SchemaDocument) (root : Site) → IsSite documents root
     → part_at (components_of purpose documents).components (number_of documents root) ≡ component_at purpose documents root
 unfolding components_of
-at_root purpose documents root within = value-at documents (component_at purpose documents) root Sequence within
+at_root purpose documents root within = value-at documents (component_at purpose documents) root (Sequence no_fill) within
 
 -- the last row is an element, where the root is one
 pub root_element : (purpose : Purpose) (documents : List SchemaDocument) (root : Site) (schema : Schema) (number : ℕ) (t : Table)
@@ -226,7 +278,8 @@ pub root_element : (purpose : Purpose) (documents : List SchemaDocument) (root :
     → number ≡ number_of documents root → IsSite documents root → is_global_element (role_of documents root) ≡ true
     → EndsWith (part_at schema.components number) t.rows → HasElementLast t
 root_element purpose documents root schema number t schema_is number_is within global ends =
-    typed_last t (element_name documents root) (primitive_at purpose documents root) (number_of documents root) (element_type documents root)
+    typed_last t (element_name documents root) (primitive_at purpose documents root) (number_of documents root)
+    (judgement_at purpose documents root).framing (element_type documents root)
     (subst (λ (k : Component). EndsWith k t.rows)
     (ap (λ (s : Schema). part_at s.components number) schema_is
     ∙ (ap (λ (n : ℕ). part_at (components_of purpose documents).components n) number_is

@@ -26,6 +26,7 @@ use Rattle.dfdl_chains.specs.Parts.{parts_at}
 use Rattle.dfdl_breaches.specs.declared.judgement.Judgement.{Judgement}
 use Rattle.dfdl_breaches.specs.Elements.{place_of}
 use Rattle.dfdl_breaches.specs.Judging.{judgement_at}
+use Rattle.dfdl_terms.specs.declared.framing.Framing.{Framing}
 use Rattle.dfdl_terms.specs.declared.row.Primitive.{Primitive}
 use Rattle.dfdl_rows.specs.Components.{Schema}
 use Rattle.dfdl_rows.specs.declared.component.Component.{Component}
@@ -37,24 +38,25 @@ use Rattle.dfdl_compile.specs.Primitives.{primitive_by}
 abbrev pub element_name : List SchemaDocument → Site → List ℕ
 element_name documents own = unwrap_or (attribute_of documents (declaration documents own) (codes "name")) []
 
--- an element or a group, of which this is its name, how its values lie in the data, and its number
-abbrev pub component_by : List ℕ → Primitive → ℕ → Kind → Component
-component_by name primitive number kind.ComplexElement = ComplexElement name
-component_by name primitive number (kind.SimpleElement simple) = SimpleElement name (type_of primitive) number
-component_by name primitive number kind.UncarriedElement = SimpleElement name (type_of primitive) number
-component_by name primitive number kind.Sequence = Sequence
-component_by name primitive number kind.Choice = Sequence
+-- an element or a group, of which this is its name, how its values lie in the data, its number, and the fill around its content
+abbrev pub component_by : List ℕ → Primitive → ℕ → Framing → Kind → Component
+component_by name primitive number framing kind.ComplexElement = ComplexElement name framing
+component_by name primitive number framing (kind.SimpleElement simple) = SimpleElement name (type_of primitive) number framing
+component_by name primitive number framing kind.UncarriedElement = SimpleElement name (type_of primitive) number framing
+component_by name primitive number framing kind.Sequence = Sequence framing
+component_by name primitive number framing kind.Choice = Sequence framing
 
--- a group reference stands for the group that it names
-abbrev pub reference_by : Option Site → Component
-reference_by None = Sequence
-reference_by (Some own) = Reference
+-- a group reference with this fill stands for the group that it names
+abbrev pub reference_by : Framing → Option Site → Component
+reference_by framing None = Sequence framing
+reference_by framing (Some own) = Reference framing
 
 -- what an element of the documents is, by its role and what is told of it
 abbrev pub component_of : List SchemaDocument → Site → Judgement → Role → Component
-component_of documents own judgement role.GroupReference = reference_by (referred documents own names.Group)
+component_of documents own judgement role.GroupReference = reference_by judgement.framing (referred documents own names.Group)
 component_of documents own judgement _ =
-    component_by (element_name documents own) (primitive_by judgement) (number_of documents own) (kind_at documents own)
+    component_by (element_name documents own) (primitive_by judgement) (number_of documents own) judgement.framing
+    (kind_at documents own)
 
 -- what an element of the documents is, of which this is told
 abbrev pub component_with : List SchemaDocument → Site → Judgement → Component

@@ -5,12 +5,13 @@ use Rattle.dfdl_forms.specs.declared.order.BitOrder.TheVariants.{MostFirst}
 use Rattle.dfdl_forms.specs.declared.order.ByteOrder.TheVariants.{Big}
 use Rattle.dfdl_forms.specs.declared.simple.Simple.{Simple}
 use Rattle.dfdl_forms.specs.declared.simple.Simple.TheVariants.{UnsignedByte}
+use Rattle.dfdl_terms.specs.Leaves.{ReadsBy}
 use Rattle.dfdl_terms.specs.Rows.{Table}
 use Rattle.dfdl_terms.specs.declared.row.Primitive.{Primitive}
 use Rattle.dfdl_terms.specs.declared.row.Primitive.TheVariants.{Integer}
 use Rattle.dfdl_terms.specs.declared.row.Row.{Row}
-use Rattle.dfdl_terms.specs.declared.row.Row.TheVariants.{Leaf, Elem, Group}
-use Rattle.dfdl_checks.specs.Forms.{IsWholeUnsigned}
+use Rattle.dfdl_terms.specs.declared.row.Row.TheVariants.{Leaf, Elem, Group, Skip, Align}
+use Rattle.dfdl_checks.specs.Forms as forms
 use Rattle.dfdl_checks.specs.Numbers.{type_of}
 use Rattle.dfdl_breaches.specs.declared.judgement.Judgement.{Judgement}
 
@@ -27,18 +28,26 @@ abbrev pub IsOfType : Simple → Option Primitive → Type 0
 IsOfType simple None = ⊥
 IsOfType simple (Some primitive) = type_of primitive ≡ simple
 
+-- the body of each simple element reads a value by a primitive of the element's type
+abbrev pub HasTypedLeaves : Table → Type 0
+HasTypedLeaves t = (row : ℕ) (name : List ℕ) (simple : Simple) (body : ℕ)
+    → slice_get t.rows row ≡ Some (Elem name (Some simple) body)
+    → ReadsBy t.rows (λ prim. IsOfType simple (slice_get t.primitives prim)) body
+
 -- there is a row, and it is a leaf of a primitive of the type
 abbrev pub IsLeafOfType : List Primitive → Simple → Option Row → Type 0
 IsLeafOfType primitives simple (Some (Leaf prim)) = IsOfType simple (slice_get primitives prim)
 IsLeafOfType primitives simple (Some (Elem name other body)) = ⊥
 IsLeafOfType primitives simple (Some (Group children)) = ⊥
+IsLeafOfType primitives simple (Some (Skip bits)) = ⊥
+IsLeafOfType primitives simple (Some (Align bits)) = ⊥
 IsLeafOfType primitives simple None = ⊥
 
--- the body of each simple element is a leaf of a primitive of the element's type
-abbrev pub HasTypedLeaves : Table → Type 0
-HasTypedLeaves t = (row : ℕ) (name : List ℕ) (simple : Simple) (body : ℕ)
+-- the body of each simple element is itself a leaf of a primitive of the element's type
+abbrev pub HasBareTypedLeaves : Table → Type 0
+HasBareTypedLeaves t = (row : ℕ) (name : List ℕ) (simple : Simple) (body : ℕ)
     → slice_get t.rows row ≡ Some (Elem name (Some simple) body) → IsLeafOfType t.primitives simple (slice_get t.rows body)
 
 -- a whole unsigned integer
 abbrev pub IsWhole : Primitive → Type 0
-IsWhole (Integer form) = IsWholeUnsigned form
+IsWhole primitive = forms.IsWhole primitive

@@ -10,7 +10,8 @@ ghost use Rattle.dfdl_breaches.specs.Elements.{place_of};
 ghost use Rattle.dfdl_compile.specs.declared.fault.CompileFault.TheVariants.{Refused, OutOfMemory};
 ghost use Rattle.dfdl_compile.specs.Components.{components_of, is_global_element};
 ghost use Rattle.dfdl_compile.specs.Compiled.{by_root, compiled, first_recursive};
-ghost use Rattle.dfdl_compile.specs.Primitives.{HasTypedLeaves, IsWhole};
+ghost use Rattle.dfdl_compile.specs.Primitives.{HasTypedLeaves, HasBareTypedLeaves, IsWhole};
+ghost use Rattle.dfdl_rows.specs.Leaves.{HasNoFill};
 ghost use Rattle.dfdl_checks.specs.declared.purpose.Purpose.TheVariants.{Parsing, Unparsing};
 ghost use Rattle.dfdl_chains.specs.Everywhere.{for_each};
 ghost use Rattle.dfdl_breaches.specs.Judging.{judgement_at};
@@ -145,6 +146,8 @@ fn compile_root(
     ensures element { IfOk result HasElementLast }
     ensures leaves { IfOk result HasTypedLeaves }
     ensures whole { purpose ≡ Unparsing → IfOk result (λ t. All IsWhole t.primitives) }
+    ensures bare { purpose ≡ Unparsing → IfOk result HasBareTypedLeaves }
+    ensures no_fill { purpose ≡ Unparsing → IfOk result (λ t. HasNoFill t.rows) }
 {
     sound_elements_have_bounded_primitives();
     let numbers = Numbers::of(alloc, schema)?;
@@ -175,6 +178,8 @@ fn compile_for(
     ensures element { IfOk result HasElementLast }
     ensures leaves { IfOk result HasTypedLeaves }
     ensures whole { purpose ≡ Unparsing → IfOk result (λ t. All IsWhole t.primitives) }
+    ensures bare { purpose ≡ Unparsing → IfOk result HasBareTypedLeaves }
+    ensures no_fill { purpose ≡ Unparsing → IfOk result (λ t. HasNoFill t.rows) }
 {
     match root_of(schema) {
         Some(root) => compile_root(alloc, schema, purpose, root, depth, rows),
@@ -199,7 +204,7 @@ pub fn compile(alloc: Global, schema: &Schema, depth: u32, rows: u32) -> Result<
 }
 
 /// The terms by which infosets of a schema are unparsed, under the same conditions. Fewer forms are built for unparsing:
-/// each leaf is a whole unsigned integer.
+/// each leaf is a whole unsigned integer, and there is no fill.
 pub fn compile_for_unparse(
     alloc: Global,
     schema: &Schema,
@@ -211,8 +216,9 @@ pub fn compile_for_unparse(
     ensures rows { IfOk result (λ t. compiled Unparsing schema.now depth rows ≡ Ok t) }
     ensures fault { IfErr result (IsFaultOf (compiled Unparsing schema.now depth rows)) }
     ensures element { IfOk result HasElementLast }
-    ensures leaves { IfOk result HasTypedLeaves }
+    ensures leaves { IfOk result HasBareTypedLeaves }
     ensures whole { IfOk result (λ t. All IsWhole t.primitives) }
+    ensures no_fill { IfOk result (λ t. HasNoFill t.rows) }
 {
     compile_for(alloc, schema, Purpose::Unparsing, depth, rows)
 }

@@ -21,7 +21,7 @@ use dfdl_constructs::{Role, plain};
 use dfdl_order::{OrderFault, Uses};
 use dfdl_report::Place;
 use dfdl_rows::{Component, Refusal};
-use dfdl_terms::Primitive;
+use dfdl_terms::{Framing, Primitive};
 use dfdl_value::TextValue;
 use std::alloc::{AllocError, Global};
 
@@ -35,27 +35,43 @@ fn element_name(alloc: Global, schema: &Schema, site: Site) -> Result<TextValue,
     TextValue::from_str(alloc, name.unwrap_or(""))
 }
 
-// An element or a group of this name, with its primitive and its number.
-fn component_by(name: TextValue, primitive: Primitive, prim: u32, kind: Kind) -> Component
-    ensures { result ≡ spec.component_by name primitive prim kind }
+// An element or a group of this name, with its primitive, its number and the fill around its content.
+fn component_by(
+    name: TextValue,
+    primitive: Primitive,
+    prim: u32,
+    framing: Framing,
+    kind: Kind,
+) -> Component
+    ensures { result ≡ spec.component_by name primitive prim framing kind }
 {
     let simple = type_of(primitive);
     match kind {
-        Kind::ComplexElement => Component::ComplexElement { name },
-        Kind::SimpleElement(_) => Component::SimpleElement { name, simple, prim },
-        Kind::UncarriedElement => Component::SimpleElement { name, simple, prim },
-        Kind::Sequence => Component::Sequence,
-        Kind::Choice => Component::Sequence,
+        Kind::ComplexElement => Component::ComplexElement { name, framing },
+        Kind::SimpleElement(_) => Component::SimpleElement {
+            name,
+            simple,
+            prim,
+            framing,
+        },
+        Kind::UncarriedElement => Component::SimpleElement {
+            name,
+            simple,
+            prim,
+            framing,
+        },
+        Kind::Sequence => Component::Sequence { framing },
+        Kind::Choice => Component::Sequence { framing },
     }
 }
 
-// A group reference stands for the group that it names.
-fn reference_by(group: Option<Site>) -> Component
-    ensures { result ≡ spec.reference_by group }
+// A group reference with this fill stands for the group that it names.
+fn reference_by(framing: Framing, group: Option<Site>) -> Component
+    ensures { result ≡ spec.reference_by framing group }
 {
     match group {
-        Some(_) => Component::Reference,
-        None => Component::Sequence,
+        Some(_) => Component::Reference { framing },
+        None => Component::Sequence { framing },
     }
 }
 
@@ -73,13 +89,16 @@ fn component_of(
     ensures { IfOk result (λ component. component ≡ spec.component_of schema.now site judgement role) }
 {
     match role {
-        Role::GroupReference => Ok(reference_by(referred(schema, site, ComponentKind::Group))),
+        Role::GroupReference => {
+            let group = referred(schema, site, ComponentKind::Group);
+            Ok(reference_by(judgement.framing, group))
+        }
         _ => {
             let name = element_name(alloc, schema, site)?;
             let primitive = primitive_by(judgement);
             let number = numbers.number(schema, site);
             let kind = kind_at(schema, numbers, site);
-            Ok(component_by(name, primitive, number, kind))
+            Ok(component_by(name, primitive, number, judgement.framing, kind))
         }
     }
 }

@@ -35,8 +35,11 @@ pub(crate) fn primitive_by(judgement: Judgement) -> Primitive
 pub(crate) fn type_of(primitive: Primitive) -> Simple
     ensures { result ≡ numbers.type_of primitive }
 {
-    let Primitive::Integer(form) = primitive;
-    form.kind
+    match primitive {
+        Primitive::Integer(form) => form.kind,
+        Primitive::Packed(form) => form.kind,
+        Primitive::Truth(_) => Simple::Boolean,
+    }
 }
 
 /// The primitives of elements of which this is told.

@@ -4,7 +4,7 @@ use Rattle.dfdl_compile.specs.Compiled.{by_root, first_recursive}
 use Rattle.dfdl_compile.specs.Components.{components_of}
 use Rattle.dfdl_compile.specs.Faults.{IsFaultOf}
 use Rattle.dfdl_compile.proofs.Ending.{root_table, root_fault, root_within, recursion_fault}
-use Rattle.dfdl_compile.proofs.Taken.{bounded, have, leaves_typed, root_element, tables_are, wholes}
+use Rattle.dfdl_compile.proofs.Taken.{bare_typed, bounded, have, leaves_typed, root_element, tables_are, unframed_components, wholes}
 use Rattle.dfdl_compile.proofs.compiling.compile_root.Goals as goal
 
 pub terms_of-requires-clause-within : goal.terms_of-requires-clause-within
@@ -59,3 +59,16 @@ pub returns-in-Ok-clause-whole : goal.returns-in-Ok-clause-whole
 returns-in-Ok-clause-whole c = λ unparsing.
     wholes c.args.purpose c.args.schema.now unparsing c.sound_elements_have_bounded_primitives.ensures.whole c.in-Ok.terms.primitives
     (c.in-Ok.ensures.tables ∙ (tables_are c.args.purpose c.args.schema.now c.as_slice-2.result.now c.in_ok-tables.tables (c.as_slice-2.ensures.value ∙ c.in_ok-judgements.ensures) c.in_ok-tables.ensures))
+
+pub returns-in-Ok-clause-bare : goal.returns-in-Ok-clause-bare
+returns-in-Ok-clause-bare c = λ unparsing.
+    bare_typed c.args.purpose c.args.schema.now c.in_ok-components.components c.in-Ok.terms
+    (c.in_ok-components.ensures.components ∙ ap (λ (q : Purpose). components_of q c.args.schema.now) c.in_ok-gathered.ensures.purpose)
+    (c.in-Ok.ensures.tables ∙ (tables_are c.args.purpose c.args.schema.now c.as_slice-2.result.now c.in_ok-tables.tables (c.as_slice-2.ensures.value ∙ c.in_ok-judgements.ensures) c.in_ok-tables.ensures))
+    (c.in-Ok.ensures.bare (unframed_components c.args.schema.now c.args.purpose c.in_ok-components.components unparsing
+    (c.in_ok-components.ensures.components ∙ ap (λ (q : Purpose). components_of q c.args.schema.now) c.in_ok-gathered.ensures.purpose)))
+
+pub returns-in-Ok-clause-no_fill : goal.returns-in-Ok-clause-no_fill
+returns-in-Ok-clause-no_fill c = λ unparsing.
+    c.in-Ok.ensures.no_fill (unframed_components c.args.schema.now c.args.purpose c.in_ok-components.components unparsing
+    (c.in_ok-components.ensures.components ∙ ap (λ (q : Purpose). components_of q c.args.schema.now) c.in_ok-gathered.ensures.purpose))

@@ -11,6 +11,7 @@ use Rattle.dfdl_components.specs.declared.site.Site.{Site}
 use Rattle.dfdl_components.specs.Globals.{site}
 use Rattle.dfdl_components.specs.Sites.{IsSite, role_of}
 use Rattle.dfdl_components.specs.Recursion.{count_of, number_of}
+use Rattle.dfdl_checks.specs.Forms.{IsWhole}
 use Rattle.dfdl_checks.specs.Numbers.{type_of}
 use Rattle.dfdl_checks.specs.declared.purpose.Purpose.{Purpose}
 use Rattle.dfdl_checks.specs.declared.purpose.Purpose.TheVariants.{Unparsing}
@@ -40,7 +41,7 @@ use Rattle.dfdl_rows.specs.Leaves.{HaveLeaves, HaveBareLeaves, IsAmong, IsLeafOf
 use Rattle.dfdl_rows.specs.declared.component.Component.{Component}
 use Rattle.dfdl_rows.specs.declared.component.Component.TheVariants.{Sequence, SimpleElement}
 use Rattle.dfdl_compile.specs.Components.{component_by, reference_by, component_of, component_at, components_of, element_name, is_global_element, primitive_at, primitives_of}
-use Rattle.dfdl_compile.specs.Primitives.{HasTypedLeaves, HasBareTypedLeaves, IsLeafOfType, IsOfType, IsWhole, a_byte, primitive_by}
+use Rattle.dfdl_compile.specs.Primitives.{HasTypedLeaves, HasBareTypedLeaves, IsLeafOfType, IsOfType, a_byte, primitive_by}
 use Rattle.dfdl_compile.proofs.Fitting.{all_within, each, made, made_is, twice}
 
 -- what holds of a byte and of each primitive that is judged holds of that of an element

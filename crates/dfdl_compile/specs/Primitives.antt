@@ -11,7 +11,6 @@ use Rattle.dfdl_terms.specs.declared.row.Primitive.{Primitive}
 use Rattle.dfdl_terms.specs.declared.row.Primitive.TheVariants.{Integer}
 use Rattle.dfdl_terms.specs.declared.row.Row.{Row}
 use Rattle.dfdl_terms.specs.declared.row.Row.TheVariants.{Leaf, Elem, Group, Skip, Align}
-use Rattle.dfdl_checks.specs.Forms as forms
 use Rattle.dfdl_checks.specs.Numbers.{type_of}
 use Rattle.dfdl_breaches.specs.declared.judgement.Judgement.{Judgement}
 
@@ -47,7 +46,3 @@ IsLeafOfType primitives simple None = ⊥
 abbrev pub HasBareTypedLeaves : Table → Type 0
 HasBareTypedLeaves t = (row : ℕ) (name : List ℕ) (simple : Simple) (body : ℕ)
     → slice_get t.rows row ≡ Some (Elem name (Some simple) body) → IsLeafOfType t.primitives simple (slice_get t.rows body)
-
--- a whole unsigned integer
-abbrev pub IsWhole : Primitive → Type 0
-IsWhole primitive = forms.IsWhole primitive

@@ -1,6 +1,6 @@
 // The terms of a schema, or why it has none.
 ghost use Rattle.std.specs.Prelude.{◌≡◌, ◌<◌, ◌≤◌, true, length, All, Ok, Some, None, IfOk, IfErr};
-ghost use Rattle.dfdl_terms.specs.Rows.{HasElementLast, most_rows};
+ghost use Rattle.dfdl_terms.specs.Rows.{HasElementLast, HasNoFill, most_rows};
 ghost use Rattle.dfdl_report.specs.declared.cause.SchemaCause.TheVariants.{Recursive};
 ghost use Rattle.dfdl_components.specs.Rules.{AllKeep, loading_rules};
 ghost use Rattle.dfdl_components.specs.Sites.{IsSite, role_of};
@@ -10,8 +10,8 @@ ghost use Rattle.dfdl_breaches.specs.Elements.{place_of};
 ghost use Rattle.dfdl_compile.specs.declared.fault.CompileFault.TheVariants.{Refused, OutOfMemory};
 ghost use Rattle.dfdl_compile.specs.Components.{components_of, is_global_element};
 ghost use Rattle.dfdl_compile.specs.Compiled.{by_root, compiled, first_recursive};
-ghost use Rattle.dfdl_compile.specs.Primitives.{HasTypedLeaves, HasBareTypedLeaves, IsWhole};
-ghost use Rattle.dfdl_rows.specs.Leaves.{HasNoFill};
+ghost use Rattle.dfdl_compile.specs.Primitives.{HasTypedLeaves, HasBareTypedLeaves};
+ghost use Rattle.dfdl_checks.specs.Forms.{IsWhole};
 ghost use Rattle.dfdl_checks.specs.declared.purpose.Purpose.TheVariants.{Parsing, Unparsing};
 ghost use Rattle.dfdl_chains.specs.Everywhere.{for_each};
 ghost use Rattle.dfdl_breaches.specs.Judging.{judgement_at};

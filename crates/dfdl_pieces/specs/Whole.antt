@@ -1,9 +1,8 @@
--- Tables whose simple elements are whole fields, and those without fill.
-use Rattle.std.specs.Prelude.{◌≡◌, ℕ, List, All, Option, None, Some, slice_get}
+-- Tables whose simple elements are whole fields.
+use Rattle.std.specs.Prelude.{◌≡◌, ℕ, List, Option, None, Some, slice_get}
 use Rattle.dfdl_forms.specs.declared.binary.IntForm.{IntForm}
 use Rattle.dfdl_forms.specs.declared.simple.Simple.{Simple}
-use Rattle.dfdl_terms.specs.declared.row.Row.{Row}
-use Rattle.dfdl_terms.specs.declared.row.Row.TheVariants.{Leaf, Elem, Group, Skip, Align}
+use Rattle.dfdl_terms.specs.declared.row.Row.TheVariants.{Elem}
 use Rattle.dfdl_terms.specs.Rows.{Table}
 use Rattle.dfdl_pieces.specs.Laying.{form_at}
 use Rattle.dfdl_pieces.specs.Pieces.{IsWholeField}
@@ -17,15 +16,3 @@ IsWholeForm kind (Some form) = (form.kind ≡ kind) × IsWholeField form
 abbrev pub AreWholeFields : Table → Type 0
 AreWholeFields t = (row : ℕ) (name : List ℕ) (kind : Simple) (body : ℕ)
     → slice_get t.rows row ≡ Some (Elem name (Some kind) body) → IsWholeForm kind (form_at t body)
-
--- the row is no fill
-abbrev pub IsNoFill : Row → Type 0
-IsNoFill (Leaf prim) = Unit {0}
-IsNoFill (Elem name simple body) = Unit {0}
-IsNoFill (Group children) = Unit {0}
-IsNoFill (Skip bits) = ⊥
-IsNoFill (Align bits) = ⊥
-
--- no row is fill
-abbrev pub HasNoFill : Table → Type 0
-HasNoFill t = All IsNoFill t.rows

@@ -1,6 +1,7 @@
 // The laying of pieces while the events of an infoset come.
 ghost use Rattle.std.specs.Prelude.{◌≡◌, ◌+◌, ◌++◌, ◌∷◌, [], All, IfOk, IfNone, None, Some, drop, map, slice_get};
 ghost use Rattle.dfdl_json.specs.Paths.{path_of};
+ghost use Rattle.dfdl_terms.specs.Rows.{HasNoFill};
 ghost use Rattle.dfdl_terms.specs.declared.row.Row.TheVariants.{Elem};
 ghost use Rattle.dfdl_json.specs.Fitting.{Fits};
 ghost use Rattle.dfdl_json.specs.Steps.{steps_of};
@@ -8,7 +9,7 @@ ghost use Rattle.dfdl_pieces.specs.Laying as lays;
 ghost use Rattle.dfdl_pieces.specs.Laying.{Laying, Takes};
 ghost use Rattle.dfdl_pieces.specs.declared.unparsing.Task.TheVariants.{Lay};
 ghost use Rattle.dfdl_pieces.specs.Unparsing.{IsLess, IsTyped, Moves, left, outcome, steps_left};
-ghost use Rattle.dfdl_pieces.specs.Whole.{AreWholeFields, HasNoFill};
+ghost use Rattle.dfdl_pieces.specs.Whole.{AreWholeFields};
 
 use crate::bytes::piece;
 use crate::events::{begins, next_event, value_for};
@@ -47,7 +48,7 @@ pub(crate) struct Unparser<'t> {
 /// The pieces of the values that these events of an infoset have.
 pub fn unparse(alloc: Global, terms: &Terms, events: &[Event]) -> Result<Unparsed, AllocError>
     requires whole { AreWholeFields terms.now }
-    requires no_fill { HasNoFill terms.now }
+    requires no_fill { HasNoFill terms.now.rows }
     requires fits { Fits terms.now events.now }
     ensures { IfOk result (λ unparsed. unparsed ≡ lays.unparsed_of terms.now events.now) }
 {

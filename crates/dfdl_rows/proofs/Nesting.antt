@@ -7,14 +7,13 @@ use Rattle.dfdl_order.specs.Parts.{uses_of}
 use Rattle.dfdl_terms.specs.declared.framing.Framing.{Framing}
 use Rattle.dfdl_terms.specs.declared.row.Row.{Row}
 use Rattle.dfdl_terms.specs.declared.row.Row.TheVariants.{Leaf, Elem, Group}
-use Rattle.dfdl_terms.specs.Rows.{ChildrenBelow, Nests, NamesWithin}
+use Rattle.dfdl_terms.specs.Rows.{ChildrenBelow, Nests, NamesWithin, IsNoFill, HasNoFill}
 use Rattle.dfdl_rows.specs.Components.{Schema, component_at, CanHave, AreOfOne, HasOrder, HasPrimitive, IsUnframed}
 use Rattle.dfdl_rows.specs.declared.component.Component.{Component}
 use Rattle.dfdl_rows.specs.declared.component.Component.TheVariants.{Sequence, Reference, ComplexElement, SimpleElement}
 use Rattle.dfdl_rows.specs.RowLists.{Numbered, own_rows, in_turn, last_rows, rows_at, rows_of}
 use Rattle.dfdl_rows.specs.Answers.{EndsWith}
 use Rattle.dfdl_rows.specs.Fill.{no_fill, rows_before, rows_behind, numbers, in_group, framed, framed_row}
-use Rattle.dfdl_rows.specs.Leaves.{IsNoFill, HasNoFill}
 use Rattle.dfdl_rows.proofs.Framed.{framed_cases, unframed, length_framed, framed_end, framed_below, before_all, behind_all, framed_all}
 use Rattle.dfdl_rows.proofs.Parts.{by_parts, parts_within}
 use Rattle.dfdl_rows.proofs.RowsOf.{rows_step, length_rows, length_lasts, some_rows}

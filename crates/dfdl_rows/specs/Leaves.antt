@@ -1,5 +1,5 @@
 -- Where the values of the simple elements of rows are read.
-use Rattle.std.specs.Prelude.{◌≡◌, ℕ, List, All, Option, None, Some, slice_get}
+use Rattle.std.specs.Prelude.{◌≡◌, ℕ, List, Option, None, Some, slice_get}
 use Rattle.dfdl_forms.specs.declared.simple.Simple.{Simple}
 use Rattle.dfdl_terms.specs.Leaves.{ReadsBy}
 use Rattle.dfdl_terms.specs.declared.framing.Framing.{Framing}
@@ -32,15 +32,3 @@ IsLeafOf components simple None = ⊥
 abbrev pub HaveBareLeaves : List Component → List Row → Type 0
 HaveBareLeaves components rows = (row : ℕ) (name : List ℕ) (simple : Simple) (body : ℕ)
     → slice_get rows row ≡ Some (Elem name (Some simple) body) → IsLeafOf components simple (slice_get rows body)
-
--- a row that is no fill
-abbrev pub IsNoFill : Row → Type 0
-IsNoFill (Leaf prim) = Unit {0}
-IsNoFill (Elem name simple body) = Unit {0}
-IsNoFill (Group children) = Unit {0}
-IsNoFill (Skip bits) = ⊥
-IsNoFill (Align bits) = ⊥
-
--- no row is fill
-abbrev pub HasNoFill : List Row → Type 0
-HasNoFill rows = All IsNoFill rows

@@ -1,8 +1,8 @@
 // The rows of a root, or why there are none.
 ghost use Rattle.std.specs.Prelude.{◌≡◌, ◌<◌, ◌≤◌, ℕ, length, All, IfOk, IfErr, vec_len};
-ghost use Rattle.dfdl_terms.specs.Rows.{most_rows as table_rows, Nests, NamesWithin, IsPrimitive};
+ghost use Rattle.dfdl_terms.specs.Rows.{most_rows as table_rows, Nests, NamesWithin, IsPrimitive, HasNoFill};
 ghost use Rattle.dfdl_rows.specs.Components.{component_at, HasPrimitive, IsUnframed};
-ghost use Rattle.dfdl_rows.specs.Leaves.{HaveLeaves, HaveBareLeaves, HasNoFill};
+ghost use Rattle.dfdl_rows.specs.Leaves.{HaveLeaves, HaveBareLeaves};
 ghost use Rattle.dfdl_rows.specs.Answers.{asked, AreRowsOf, IsFaultOf, EndsWith};
 
 use crate::depths::depth;

@@ -1,5 +1,6 @@
 -- What rows that are compiled for unparsing are to those who unparse.
-use Rattle.std.proofs.Common.{◌≡◌, ℕ, ◌*◌, ◌≤◌, ◌<◌, ◌==◌, ◌||◌, IsTrue, List, length, All, Option, None, Some, Result, Ok, Err, IfOk, option_map, slice_get, get_or, refl, sym, ap, subst, ◌∙◌, arith, inl, inr}
+use Rattle.std.proofs.Common.{◌≡◌, ℕ, ◌*◌, ◌≤◌, ◌<◌, ◌==◌, ◌||◌, IsTrue, List, length, All, Option, None, Some, Result, Ok, Err, IfOk, slice_get, get_or, refl, sym, ap, subst, ◌∙◌, arith, inl, inr}
+use Rattle.std.specs.Option.{option_and_then}
 use Rattle.std.proofs.lemmas.Bool.{or_cases, eqb-true}
 use Rattle.std.proofs.lemmas.Option.{get_or_from_slice_get, slice_get_within}
 use Rattle.dfdl_forms.specs.Types.{form_of}
@@ -7,11 +8,11 @@ use Rattle.dfdl_forms.specs.declared.binary.IntForm.{IntForm}
 use Rattle.dfdl_forms.specs.declared.simple.Simple.{Simple}
 use Rattle.dfdl_terms.specs.Rows.{Table}
 use Rattle.dfdl_terms.specs.declared.row.Primitive.{Primitive}
-use Rattle.dfdl_terms.specs.declared.row.Primitive.TheVariants.{Integer}
+use Rattle.dfdl_terms.specs.declared.row.Primitive.TheVariants.{Integer, Packed, Truth}
 use Rattle.dfdl_terms.specs.declared.row.Row.{Row}
-use Rattle.dfdl_terms.specs.declared.row.Row.TheVariants.{Leaf, Elem, Group}
-use Rattle.dfdl_checks.specs.Forms.{IsWholeUnsigned}
-use Rattle.dfdl_compile.specs.Primitives.{HasTypedLeaves, IsLeafOfType, IsOfType, IsWhole}
+use Rattle.dfdl_terms.specs.declared.row.Row.TheVariants.{Leaf, Elem, Group, Skip, Align}
+use Rattle.dfdl_checks.specs.Forms.{IsWhole, IsWholeUnsigned}
+use Rattle.dfdl_compile.specs.Primitives.{HasBareTypedLeaves, IsLeafOfType, IsOfType}
 use Rattle.dfdl_pieces.specs.Laying.{form_in, integer_form}
 use Rattle.dfdl_pieces.specs.Pieces.{IsWholeField}
 use Rattle.dfdl_pieces.specs.Whole.{AreWholeFields, IsWholeForm}
@@ -41,24 +42,29 @@ field_of form whole =
     let bytes = bytes_in form.bits whole.bits in
     record { count = bytes.count; kind = whole.kind; bits = bytes.is; some = bytes.some; few = bytes.few; order = whole.bits_by }
 
+whole_at : (primitives : List Primitive) (prim : ℕ) (p : Primitive) → slice_get primitives prim ≡ Some p → All IsWhole primitives → IsWhole p
+whole_at primitives prim p is wholes =
+    subst IsWhole (get_or_from_slice_get primitives prim p p is) (wholes prim p (slice_get_within primitives prim p is))
+
 whole_in : (primitives : List Primitive) (prim : ℕ) (simple : Simple) (o : Option Primitive) → slice_get primitives prim ≡ o
-    → All IsWhole primitives → IsOfType simple o → IsWholeForm simple (option_map integer_form o)
+    → All IsWhole primitives → IsOfType simple o → IsWholeForm simple (option_and_then integer_form o)
 whole_in primitives prim simple None is wholes typed = absurd typed
 whole_in primitives prim simple (Some (Integer form)) is wholes typed =
-    let whole : IsWhole (Integer form) =
-    subst IsWhole (get_or_from_slice_get primitives prim (Integer form) (Integer form) is)
-    (wholes prim (Integer form) (slice_get_within primitives prim (Integer form) is)) in
-    (typed, field_of form whole)
+    (typed, field_of form (whole_at primitives prim (Integer form) is wholes))
+whole_in primitives prim simple (Some (Packed form)) is wholes typed = absurd (whole_at primitives prim (Packed form) is wholes)
+whole_in primitives prim simple (Some (Truth form)) is wholes typed = absurd (whole_at primitives prim (Truth form) is wholes)
 
 whole_row : (t : Table) → All IsWhole t.primitives → (simple : Simple) (o : Option Row) → IsLeafOfType t.primitives simple o
     → IsWholeForm simple (form_in t o)
 whole_row t wholes simple (Some (Leaf prim)) leaf = whole_in t.primitives prim simple (slice_get t.primitives prim) refl wholes leaf
 whole_row t wholes simple (Some (Elem name other body)) leaf = absurd leaf
 whole_row t wholes simple (Some (Group children)) leaf = absurd leaf
+whole_row t wholes simple (Some (Skip bits)) leaf = absurd leaf
+whole_row t wholes simple (Some (Align bits)) leaf = absurd leaf
 whole_row t wholes simple None leaf = absurd leaf
 
 -- rows whose simple elements have leaves of their types, which are all whole
-pub whole : (t : Table) → HasTypedLeaves t → All IsWhole t.primitives → AreWholeFields t
+pub whole : (t : Table) → HasBareTypedLeaves t → All IsWhole t.primitives → AreWholeFields t
 whole t leaves wholes row name kind body is = whole_row t wholes kind (slice_get t.rows body) (leaves row name kind body is)
 
 -- two facts of what is answered give a third

@@ -72,3 +72,15 @@ pub record IsTable (t : Table) : Type 0 where
   pub nests : Nests t.rows
   pub named : All (NamesWithin (length t.primitives)) t.rows
   pub bounded : All IsPrimitive t.primitives
+
+-- a row that is no fill
+abbrev pub IsNoFill : Row → Type 0
+IsNoFill (Leaf prim) = Unit {0}
+IsNoFill (Elem name simple body) = Unit {0}
+IsNoFill (Group children) = Unit {0}
+IsNoFill (Skip bits) = ⊥
+IsNoFill (Align bits) = ⊥
+
+-- no row is fill
+abbrev pub HasNoFill : List Row → Type 0
+HasNoFill rows = All IsNoFill rows

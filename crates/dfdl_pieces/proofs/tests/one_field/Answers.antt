@@ -9,9 +9,9 @@ use Rattle.dfdl_terms.specs.declared.row.Primitive.{Primitive}
 use Rattle.dfdl_terms.specs.declared.row.Primitive.TheVariants.{Integer}
 use Rattle.dfdl_terms.specs.declared.row.Row.{Row}
 use Rattle.dfdl_terms.specs.declared.row.Row.TheVariants.{Leaf, Elem, Group}
-use Rattle.dfdl_terms.specs.Rows.{HasElementLast, IsPrimitive, NamesWithin, Table}
+use Rattle.dfdl_terms.specs.Rows.{HasElementLast, HasNoFill, IsNoFill, IsPrimitive, NamesWithin, Table}
 use Rattle.dfdl_pieces.specs.Laying.{form_at}
-use Rattle.dfdl_pieces.specs.Whole.{AreWholeFields, HasNoFill, IsNoFill, IsWholeForm}
+use Rattle.dfdl_pieces.specs.Whole.{AreWholeFields, IsWholeForm}
 use Rattle.dfdl_pieces.proofs.tests.one_field.Goals as goal
 
 element_named : (n : ℕ) (row : Row) (x : List ℕ) (s : Option Simple) (i : ℕ) → row ≡ Elem x s i → NamesWithin n row
@@ -68,7 +68,7 @@ group_no_fill : (row : Row) (children : List ℕ) → row ≡ Group children →
 group_no_fill row children is = rw is tt
 
 no_fill_there : (t : Table) (rows : List Row) (forms : List Primitive) (a g r : Row)
-    → t ≡ record { rows = rows; primitives = forms } → rows ≡ Leaf 0 ∷ a ∷ g ∷ r ∷ [] → IsNoFill a → IsNoFill g → IsNoFill r → HasNoFill t
+    → t ≡ record { rows = rows; primitives = forms } → rows ≡ Leaf 0 ∷ a ∷ g ∷ r ∷ [] → IsNoFill a → IsNoFill g → IsNoFill r → HasNoFill t.rows
 no_fill_there t rows forms a g r t_is rows_are at_a at_g at_r = rw (t_is, rows_are) (all_four IsNoFill (Leaf 0) a g r tt at_a at_g at_r)
 
 pub build-requires-clause-named : goal.build-requires-clause-named

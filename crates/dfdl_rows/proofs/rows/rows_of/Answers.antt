@@ -1,10 +1,10 @@
 use Rattle.std.proofs.Common.{List, length, All, sym, ap, subst, arith}
 use Rattle.dfdl_terms.specs.declared.row.Row.{Row}
-use Rattle.dfdl_terms.specs.Rows.{Nests, NamesWithin}
+use Rattle.dfdl_terms.specs.Rows.{Nests, NamesWithin, HasNoFill}
 use Rattle.dfdl_rows.specs.Components.{component_at}
 use Rattle.dfdl_rows.specs.Answers.{EndsWith}
 use Rattle.dfdl_rows.proofs.Nesting.{rows_nest, rows_some, rows_named, rows_bare, rows_end}
-use Rattle.dfdl_rows.specs.Leaves.{HaveLeaves, HaveBareLeaves, HasNoFill}
+use Rattle.dfdl_rows.specs.Leaves.{HaveLeaves, HaveBareLeaves}
 use Rattle.dfdl_rows.proofs.Leaves.{rows_have_leaves, rows_have_bare_leaves}
 use Rattle.dfdl_rows.proofs.RowsOf.{length_rows}
 use Rattle.dfdl_rows.proofs.rows.rows_of.Goals as goal

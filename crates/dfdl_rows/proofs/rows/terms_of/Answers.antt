@@ -1,6 +1,6 @@
 use Rattle.std.proofs.Common.{length, sym, subst}
-use Rattle.dfdl_terms.specs.Rows.{Table}
-use Rattle.dfdl_rows.specs.Leaves.{HaveLeaves, HaveBareLeaves, HasNoFill}
+use Rattle.dfdl_terms.specs.Rows.{HasNoFill, Table}
+use Rattle.dfdl_rows.specs.Leaves.{HaveLeaves, HaveBareLeaves}
 use Rattle.dfdl_rows.proofs.rows.terms_of.Goals as goal
 
 pub built-requires-clause-named : goal.built-requires-clause-named

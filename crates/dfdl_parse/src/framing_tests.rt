@@ -1,5 +1,5 @@
 // Skips, alignment, packed numbers and binary booleans: small documents by hand, whole and in pieces.
-ghost use Rattle.std.specs.Prelude.{◌≡◌, ◌<◌, ◌≤◌, ℕ, true, All, IfOk, length};
+ghost use Rattle.std.specs.Prelude.{◌≡◌, ◌<◌, ◌≤◌, ℕ, true, All, IfOk, OnOk, length, vec_len};
 ghost use Rattle.dfdl_forms.specs.Types.{form_of};
 ghost use Rattle.dfdl_forms.specs.Binary.{most_bits, most_places};
 ghost use Rattle.dfdl_forms.specs.Packed.{most_nibbles};
@@ -111,6 +111,57 @@ fn group(alloc: Global, first: u32) -> Result<Row, AllocError>
     })
 }
 
+// Puts a row behind rows that name two primitives.
+fn push(rows: &mut Vec<Row>, row: Row) -> Result<(), AllocError>
+    requires row { NamesWithin 2 row }
+    requires rows { All (NamesWithin 2) rows.old.items }
+    ensures rows { OnOk result (All (NamesWithin 2) rows.new.items) }
+    ensures some { OnOk result (0 < vec_len rows.new) }
+{
+    rows.push(row)?;
+    Ok(())
+}
+
+// Puts an element in fill behind such rows.
+fn push_element(
+    alloc: Global,
+    rows: &mut Vec<Row>,
+    name: &str,
+    prim: u32,
+    fill: Framing,
+) -> Result<(), AllocError>
+    requires prim { prim < 2 }
+    requires rows { All (NamesWithin 2) rows.old.items }
+    ensures rows { OnOk result (All (NamesWithin 2) rows.new.items) }
+{
+    let first = 6 * prim;
+    push(
+        rows,
+        Row::Skip {
+            bits: fill.leading_skip,
+        },
+    )?;
+    push(
+        rows,
+        Row::Align {
+            bits: fill.alignment,
+        },
+    )?;
+    push(rows, Row::Leaf { prim })?;
+    push(
+        rows,
+        Row::Skip {
+            bits: fill.trailing_skip,
+        },
+    )?;
+    push(rows, group(alloc, first)?)?;
+    push(
+        rows,
+        element(alloc, name, Some(Simple::Decimal), first + 4)?,
+    )?;
+    Ok(())
+}
+
 // A record of two elements in fill.
 fn record(alloc: Global, a: (Primitive, Framing), b: (Primitive, Framing)) -> Result<Terms, Fail>
     requires a { IsPrimitive a.0 }
@@ -118,36 +169,14 @@ fn record(alloc: Global, a: (Primitive, Framing), b: (Primitive, Framing)) -> Re
 {
     let forms = primitives(alloc, a.0, b.0)?;
     let children = vec![in alloc; RowId::new(5), RowId::new(11)]?;
-    let rows = vec![in alloc;
-        Row::Skip {
-            bits: a.1.leading_skip
-        },
-        Row::Align {
-            bits: a.1.alignment
-        },
-        Row::Leaf { prim: 0 },
-        Row::Skip {
-            bits: a.1.trailing_skip
-        },
-        group(alloc, 0)?,
-        element(alloc, "a", Some(Simple::Decimal), 4)?,
-        Row::Skip {
-            bits: b.1.leading_skip
-        },
-        Row::Align {
-            bits: b.1.alignment
-        },
-        Row::Leaf { prim: 1 },
-        Row::Skip {
-            bits: b.1.trailing_skip
-        },
-        group(alloc, 6)?,
-        element(alloc, "b", Some(Simple::Decimal), 10)?,
-        Row::Group {
-            children: RowList::new(children)
-        },
-        element(alloc, "r", None, 12)?,
-    ]?;
+    let mut rows = Vec::new(alloc);
+    push_element(alloc, &mut rows, "a", 0, a.1)?;
+    push_element(alloc, &mut rows, "b", 1, b.1)?;
+    let group = Row::Group {
+        children: RowList::new(children),
+    };
+    push(&mut rows, group)?;
+    push(&mut rows, element(alloc, "r", None, 12)?)?;
     Ok(Terms::build(alloc, rows, Tables::new(forms))?)
 }
 
@@ -176,6 +205,7 @@ fn outcome<L: Ledger>(
 ) -> Result<Outcome, AllocError>
     requires ready { IsReady session.old }
 {
+    assert!(rt; size > 0);
     for piece in data.chunks(size) {
         if !feed(rt, session, piece, steps)? {
             return Ok(session.outcome());

@@ -206,11 +206,10 @@ fn slow_char(rep: PackedRep, negative: bool, size: u128, behind: usize) -> u8 {
     }
 }
 
-fn form_of(rep: PackedRep, nibbles: u8) -> Option<PackedForm>
-    ensures form { IfSome result IsPackedForm }
-    ensures nibbles { IfSome result (λ form. form.nibbles ≡ nibbles) }
+fn one_nibble(rep: PackedRep) -> PackedForm
+    ensures { IsPackedForm result }
 {
-    let one = PackedForm {
+    PackedForm {
         nibbles: 1,
         rep,
         codes: [12, 13, 15, 12],
@@ -219,8 +218,14 @@ fn form_of(rep: PackedRep, nibbles: u8) -> Option<PackedForm>
         kind: Simple::Integer,
         bytes_by: ByteOrder::Big,
         bits_by: BitOrder::MostFirst,
-    };
-    one.with_bits(4 * u64::from(nibbles))
+    }
+}
+
+fn form_of(rep: PackedRep, nibbles: u8) -> Option<PackedForm>
+    ensures form { IfSome result IsPackedForm }
+    ensures nibbles { IfSome result (λ form. form.nibbles ≡ nibbles) }
+{
+    one_nibble(rep).with_bits(4 * u64::from(nibbles))
 }
 
 fn nibble_of(c: u8) -> u8 {

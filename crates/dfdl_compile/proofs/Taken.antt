@@ -179,12 +179,12 @@ module _ (purpose : Purpose) (documents : List SchemaDocument) where
 
   leaf_typed : (simple : Simple) (o : Option Row) → IsLeafOf (map (component_at purpose documents) (all_sites documents)) simple o
       → IsLeafOfType (primitives_of purpose documents) simple o
-  leaf_typed simple (Some (Leaf prim)) leaf = among_typed simple prim leaf
-  leaf_typed simple (Some (Elem name other body)) leaf = absurd leaf
-  leaf_typed simple (Some (Group children)) leaf = absurd leaf
-  leaf_typed simple (Some (Skip bits)) leaf = absurd leaf
-  leaf_typed simple (Some (Align bits)) leaf = absurd leaf
-  leaf_typed simple None leaf = absurd leaf
+  leaf_typed simple (Some (Leaf prim)) one = among_typed simple prim one
+  leaf_typed simple (Some (Elem name other body)) one = absurd one
+  leaf_typed simple (Some (Group children)) one = absurd one
+  leaf_typed simple (Some (Skip bits)) one = absurd one
+  leaf_typed simple (Some (Align bits)) one = absurd one
+  leaf_typed simple None one = absurd one
 
   -- what the body of a simple element reads has the element's type
   reads_typed : (rows : List Row) (simple : Simple) (id : ℕ) → ReadsBy rows (IsAmong (map (component_at purpose documents) (all_sites documents)) simple) id

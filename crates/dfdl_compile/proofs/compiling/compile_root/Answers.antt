@@ -57,7 +57,7 @@ returns-in-Ok-clause-leaves c =
 
 pub returns-in-Ok-clause-whole : goal.returns-in-Ok-clause-whole
 returns-in-Ok-clause-whole c = λ unparsing.
-    wholes c.args.purpose c.args.schema.now unparsing c.sound_elements_have_bounded_primitives.ensures.whole c.in-Ok.terms.primitives
+    wholes c.args.purpose c.args.schema.now unparsing c.sound_elements_have_bounded_primitives.ensures.whole_alone c.in-Ok.terms.primitives
     (c.in-Ok.ensures.tables ∙ (tables_are c.args.purpose c.args.schema.now c.as_slice-2.result.now c.in_ok-tables.tables (c.as_slice-2.ensures.value ∙ c.in_ok-judgements.ensures) c.in_ok-tables.ensures))
 
 pub returns-in-Ok-clause-bare : goal.returns-in-Ok-clause-bare

@@ -1,0 +1,5 @@
+pub mod Bits
+pub mod Splicing
+pub mod Copying
+pub mod Entries
+pub mod Tables

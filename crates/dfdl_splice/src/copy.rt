@@ -1,0 +1,40 @@
+// Bits copied from any place of some bytes to any place of others.
+ghost use Rattle.std.specs.Prelude.{◌≡◌, ◌+◌, ◌*◌, ◌^◌, ◌<◌, ◌≤◌, length};
+ghost use Rattle.dfdl_splice.specs.Copying.{Copies};
+
+use dfdl_bits::{ByteOrder, number_at_64, put_number_64};
+use dfdl_forms::BitOrder;
+
+// Copies `count` bits from bit `begin` of `from` on to bit `at` of `to`, up to 56 at once, which lie in eight bytes.
+pub(crate) fn copy_bits(
+    to: &mut [u8],
+    at: u64,
+    from: &[u8],
+    begin: u64,
+    count: u64,
+    order: BitOrder,
+)
+    requires room { at + count ≤ 8 * length to.old }
+    requires inside { begin + count ≤ 8 * length from.now }
+    requires to_fits { at + count < 2 ^ 64 }
+    requires from_fits { begin + count < 2 ^ 64 }
+    ensures { Copies order to.old to.new at from.now begin count }
+{
+    let mut done = 0;
+    while done < count {
+        let len = (count - done).min(56) as u32;
+        copy_few(to, at + done, from, begin + done, len, order);
+        done += u64::from(len);
+    }
+}
+
+// Copies at most 64 bits.
+fn copy_few(to: &mut [u8], at: u64, from: &[u8], begin: u64, len: u32, order: BitOrder)
+    requires few { len ≤ 64 }
+    requires room { at + len ≤ 8 * length to.old }
+    requires inside { begin + len ≤ 8 * length from.now }
+    ensures { Copies order to.old to.new at from.now begin len }
+{
+    let number = number_at_64(from, begin, len, ByteOrder::Big, order);
+    put_number_64(to, at, len, number, ByteOrder::Big, order);
+}

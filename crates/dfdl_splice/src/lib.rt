@@ -1,0 +1,12 @@
+// Pieces of bits in the order of the data, whose bits become known in any order, joined to the front that can be written.
+// The contracts see a splice as `Spliced` (`specs/Splicing.antt`): the front, and the awaited pieces with what is known
+// behind each. All memory is taken at opening.
+// Serves 'DFDL Processing Introduction'.
+#![tactic(auto)]
+
+mod buffer;
+mod copy;
+mod entry;
+mod table;
+
+pub use dfdl_forms::BitOrder;

@@ -1,3 +1,5 @@
 pub mod Numbers
 pub mod Runs
 pub mod Slots
+pub mod Entries
+pub mod Packs

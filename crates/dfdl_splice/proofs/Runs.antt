@@ -31,9 +31,9 @@ bits_from-same order xs ys j k (suc n) same =
     ap (data_bit order xs) (sym at_j) ∙ same 0 (omega arith) ∙ ap (data_bit order ys) at_k in
     let rest : bits_from order xs (j + 1) n ≡ bits_from order ys (k + 1) n =
     bits_from-same order xs ys (j + 1) (k + 1) n (λ i h.
-        let past_j : j + 1 + i ≡ j + (1 + i) = omega arith in
-        let past_k : k + (1 + i) ≡ k + 1 + i = omega arith in
-        ap (data_bit order xs) past_j ∙ same (1 + i) (omega arith) ∙ ap (data_bit order ys) past_k) in
+    let past_j : j + 1 + i ≡ j + (1 + i) = omega arith in
+    let past_k : k + (1 + i) ≡ k + 1 + i = omega arith in
+    ap (data_bit order xs) past_j ∙ same (1 + i) (omega arith) ∙ ap (data_bit order ys) past_k) in
     rw (first, rest) refl
 
 -- a run and the one behind it
@@ -84,8 +84,8 @@ pub bits_from-drop : (order : BitOrder) (bytes : List ℕ) (w n total : ℕ) →
     → bits_from order (drop w bytes) 0 n ≡ drop (8 * w) (bits_from order bytes 0 total)
 bits_from-drop order bytes w n total all =
     bits_from-same order (drop w bytes) bytes 0 (8 * w) n (λ i h.
-        let place : 0 + i ≡ i = omega arith in
-        ap (data_bit order (drop w bytes)) place ∙ data_bit-drop order bytes w i)
+    let place : 0 + i ≡ i = omega arith in
+    ap (data_bit order (drop w bytes)) place ∙ data_bit-drop order bytes w i)
     ∙ sym (ap (drop (8 * w)) (ap (bits_from order bytes 0) (sym all) ∙ bits_from-add order bytes 0 (8 * w) n)
     ∙ drop_at _ _ (8 * w) (length-bits_from order bytes 0 (8 * w))
     ∙ ap (λ (k : ℕ). bits_from order bytes k n) (omega arith))
@@ -126,5 +126,5 @@ appended order old grown new n len from begin count front within copies =
     bits_from-add order new 0 len count
     ∙ rw (bits_from-same order new grown 0 0 len (λ i h. copies.kept (0 + i) (omega arith)) ∙ bits_from-front order old grown n len front within)
     (ap (λ (bits : List ℕ). bits_from order old 0 len ++ bits) (bits_from-same order new from (0 + len) begin count (λ i h.
-        let place : 0 + len + i ≡ len + i = omega arith in
-        ap (data_bit order new) place ∙ copies.copied i h)))
+    let place : 0 + len + i ≡ len + i = omega arith in
+    ap (data_bit order new) place ∙ copies.copied i h)))

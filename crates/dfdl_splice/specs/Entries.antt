@@ -81,6 +81,11 @@ joined_with (Known piece begin count) (Known next place more) = Known piece begi
 joined_with (Known piece begin count) (Awaits next bits) = Known piece begin count ∷ (Awaits next bits ∷ [])
 joined_with (Awaits piece bits) entry = Awaits piece bits ∷ (entry ∷ [])
 
+-- one entry in place of two, or both
+abbrev pub one_or_both : Option Entry → Entry → Entry → List Entry
+one_or_both None first next = first ∷ (next ∷ [])
+one_or_both (Some one) first next = one ∷ []
+
 -- an entry behind others
 abbrev pub kept_with : List Entry → Entry → List Entry
 kept_with [] entry = entry ∷ []
@@ -96,3 +101,13 @@ abbrev pub LastEndsWith : ℕ → List Entry → Type 0
 LastEndsWith size [] = Unit {0}
 LastEndsWith size (last ∷ []) = EndsWith size last
 LastEndsWith size (first ∷ (next ∷ rest)) = LastEndsWith size (next ∷ rest)
+
+-- Entries of a buffer of bits while they are written anew: those that are written, over another buffer, and those that are left.
+pub record Packing (old : List Entry) (arena : List ℕ) (written left : List Entry) (spare : List ℕ) : Type 0 where
+  pub stretch : stretch_of (slots spare written ++ slots arena left) ≡ stretch_of (slots arena old)
+  pub within : AreWithin (length spare) written
+  pub left : AreWithin (length arena) left
+  pub ends : LastEndsWith (length spare) written
+  pub bits : length spare + bits_in (stretch_of (slots arena left)) ≡ bits_in (stretch_of (slots arena old))
+  pub runs : length written ≡ runs_in (stretch_of (slots spare written))
+  pub rising : (next : ℕ) → Rising 0 old next → Rising 0 (written ++ left) next

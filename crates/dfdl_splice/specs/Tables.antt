@@ -1,6 +1,7 @@
 -- Mirror for the prover: what a table of entries stands for.
-use Rattle.std.specs.Prelude.{◌≡◌, ℕ, ◌+◌, ◌*◌, ◌<◌, ◌≤◌, List, [], ◌∷◌, ◌++◌, length, take, drop}
+use Rattle.std.specs.Prelude.{◌≡◌, ℕ, ◌*◌, ◌≤◌, Option, Some, List, length, drop, slice_get, vec_capacity}
 use Rattle.dfdl_splice.specs.declared.entry.Entry.{Entry}
+use Rattle.dfdl_splice.specs.declared.entry.Entry.TheVariants.{Awaits}
 use Rattle.dfdl_splice.specs.declared.table.Table.{Table}
 use Rattle.dfdl_splice.specs.Splicing.{Stretch}
 use Rattle.dfdl_splice.specs.Entries.{slots, stretch_of, runs_in, bits_in, AreWithin, Rising}
@@ -20,3 +21,17 @@ pub record IsSound (table : Table) : Type 0 where
   pub rising : Rising 0 (live table) table.next
   pub runs : table.runs ≡ runs_in (stretch_in table)
   pub bits : bits_in (stretch_in table) ≤ 8 * table.arena.room
+
+-- a table that stands for what another one does
+pub record Keeps (old new : Table) : Type 0 where
+  pub sound : IsSound new
+  pub stretch : stretch_in new ≡ stretch_in old
+  pub runs : new.runs ≡ old.runs
+  pub next : new.next ≡ old.next
+  pub order : new.arena.order ≡ old.arena.order
+  pub room : new.arena.room ≡ old.arena.room
+  pub capacity : vec_capacity old.entries ≤ vec_capacity new.entries
+
+-- the piece of this number is awaited at a place
+abbrev pub IsAwaitedAt : Table → ℕ → ℕ → Type 0
+IsAwaitedAt table at piece = (table.head ≤ at) × (want : Option ℕ) × (slice_get table.entries.items at ≡ Some (Awaits piece want))

@@ -52,6 +52,13 @@ impl Buffer {
         self.len
     }
 
+    /// For how many more bits there is room.
+    pub(crate) fn left(&self) -> u64
+        ensures { result ≡ 8 * self.now.room - length self.now.bits }
+    {
+        8 * self.room - self.len
+    }
+
     /// Puts `count` bits from bit `begin` of `from` on behind the others.
     pub(crate) fn append(&mut self, from: &[u8], begin: u64, count: u64)
         requires inside { begin + count ≤ 8 * length from.now }
@@ -124,14 +131,7 @@ fn slide(bytes: &mut Vec<u8>, start: usize)
 }
 
 // Copies bits over those of a list of bytes.
-fn copy_into(
-    bytes: &mut Vec<u8>,
-    at: u64,
-    from: &[u8],
-    begin: u64,
-    count: u64,
-    order: BitOrder,
-)
+fn copy_into(bytes: &mut Vec<u8>, at: u64, from: &[u8], begin: u64, count: u64, order: BitOrder)
     requires room { at + count ≤ 8 * length bytes.old.items }
     requires inside { begin + count ≤ 8 * length from.now }
     requires to_fits { at + count < 2 ^ 64 }

@@ -1,9 +1,7 @@
 // The entries of a table, and what is told of a list of them.
-ghost use Rattle.std.specs.Prelude.{◌≡◌, ℕ, ◌+◌, ◌*◌, ◌<◌, ◌≤◌, List, Some, ◌++◌, length, slice_get};
-ghost use Rattle.dfdl_splice.specs.Entries.{slots, has, slot_of, ends_has, begins_has, IsWithin, Rising, piece_of, entry_bits, moved_to, kept_with};
-ghost use Rattle.dfdl_splice.specs.declared.entry.Entry.TheVariants.{Awaits};
-
-use crate::buffer::Buffer;
+ghost use Rattle.std.specs.Prelude.{◌≡◌, ℕ, ◌^◌, ◌<◌, List, length, slice_index_or};
+ghost use Rattle.dfdl_splice.specs.Entries.{slots, has, slot_of, ends_has, begins_has, IsWithin, Rising, piece_of, joined_with, one_or_both};
+ghost use Rattle.dfdl_splice.specs.declared.entry.Entry.{Entry};
 
 /// A piece that is awaited, or pieces that are put.
 #[derive(Clone, Copy)]
@@ -34,6 +32,47 @@ impl Entry {
             Entry::Known { .. } => 1,
         }
     }
+
+    // Both as one, where both have bits.
+    pub(crate) fn joined(self, next: Entry) -> Option<Entry>
+        requires first { IsWithin (2 ^ 62) self }
+        requires next { IsWithin (2 ^ 62) next }
+        ensures { joined_with self next ≡ one_or_both result self next }
+    {
+        match self {
+            Entry::Awaits { .. } => None,
+            Entry::Known {
+                piece,
+                begin,
+                count,
+            } => match next {
+                Entry::Awaits { .. } => None,
+                Entry::Known { count: more, .. } => Some(Entry::Known {
+                    piece,
+                    begin,
+                    count: count + more,
+                }),
+            },
+        }
+    }
+}
+
+/// The place of the entry of this number among entries whose numbers rise.
+pub(crate) fn find(entries: &[Entry], piece: u32) -> usize
+    requires { (next : ℕ) × Rising 0 entries.now next }
+    ensures { (i : ℕ) (any : Entry) → i < length entries.now → piece_of (slice_index_or entries.now i any) ≡ piece → result ≡ i }
+{
+    let mut low = 0;
+    let mut high = entries.len();
+    while low + 1 < high {
+        let middle = low + (high - low) / 2;
+        if entries[middle].piece() <= piece {
+            low = middle;
+        } else {
+            high = middle;
+        }
+    }
+    low
 }
 
 // 1 where the last of the entries has bits.

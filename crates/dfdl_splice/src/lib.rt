@@ -7,6 +7,7 @@
 mod buffer;
 mod copy;
 mod entry;
+mod pack;
 mod table;
 
 pub use dfdl_forms::BitOrder;

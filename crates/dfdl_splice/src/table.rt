@@ -1,14 +1,16 @@
 // The pieces from the first awaited one on.
-ghost use Rattle.std.specs.Prelude.{◌≡◌, ℕ, ◌+◌, ◌-◌, ◌*◌, ◌^◌, ◌<◌, ◌≤◌, [], ◌∷◌, ◌++◌, None, length, IfOk, vec_len, vec_capacity};
+ghost use Rattle.std.specs.Prelude.{◌≡◌, ℕ, ◌+◌, ◌-◌, ◌*◌, ◌^◌, ◌<◌, ◌≤◌, Option, [], ◌∷◌, ◌++◌, None, length, get_or, IfOk, vec_len, vec_capacity};
 ghost use Rattle.dfdl_splice.specs.Bits.{bits_from};
 ghost use Rattle.dfdl_splice.specs.Splicing.{filled, IsAwaited, known_bits};
 ghost use Rattle.dfdl_splice.specs.Entries.{runs_in, bits_in};
-ghost use Rattle.dfdl_splice.specs.Tables.{IsSound, stretch_in};
+ghost use Rattle.dfdl_splice.specs.Tables.{IsSound, Keeps, IsAwaitedAt, live, stretch_in};
 
 use crate::buffer::Buffer;
-use crate::entry::Entry;
+use crate::entry::{Entry, begins_known, ends_known, find};
+use crate::pack::pack;
 use dfdl_forms::BitOrder;
 use std::alloc::{AllocError, Global};
+use std::mem;
 
 /// The entries of pieces in the order of their numbers, those before the head left out, and the bits of those that are put.
 #[derive(Drop)]
@@ -16,7 +18,7 @@ pub(crate) struct Table {
     pub(crate) entries: Vec<Entry>,
     pub(crate) head: usize,
     pub(crate) arena: Buffer,
-    /// as large as the arena, and empty but while the entries are packed
+    /// as large as the arena, and of use only while the entries are written anew
     pub(crate) spare: Buffer,
     /// the number of the next piece
     pub(crate) next: u32,
@@ -48,5 +50,128 @@ impl Table {
             next: 0,
             runs: 0,
         })
+    }
+
+    /// One more piece that is awaited, behind the others.
+    pub(crate) fn push(&mut self, bits: Option<u64>)
+        requires sound { IsSound self.old }
+        requires few { self.old.runs < vec_capacity self.old.entries }
+        requires numbers { self.old.next < 2 ^ 32 - 1 }
+        ensures sound { IsSound self.new }
+        ensures stretch { stretch_in self.new ≡ record (stretch_in self.old) {
+          awaited = (stretch_in self.old).awaited ++ record { piece = self.old.next; bits = bits; behind = None } ∷ [];
+        } }
+        ensures next { self.new.next ≡ self.old.next + 1 }
+        ensures order { self.new.arena.order ≡ self.old.arena.order }
+        ensures room { self.new.arena.room ≡ self.old.arena.room }
+        ensures capacity { vec_capacity self.old.entries ≤ vec_capacity self.new.entries }
+    {
+        self.make_place();
+        let entry = Entry::Awaits {
+            piece: self.next,
+            bits,
+        };
+        push_entry(&mut self.entries, entry);
+        self.next += 1;
+        self.runs += 1;
+    }
+
+    /// Puts the bits of a piece, the first `count` ones of some bytes.
+    pub(crate) fn put(&mut self, piece: u32, bytes: &[u8], count: u64)
+        requires sound { IsSound self.old }
+        requires awaited { IsAwaited piece count (stretch_in self.old).awaited }
+        requires inside { count ≤ 8 * length bytes.now }
+        requires room { bits_in (stretch_in self.old) + count ≤ 8 * self.old.arena.room }
+        ensures sound { IsSound self.new }
+        ensures stretch { stretch_in self.new ≡ filled piece (bits_from self.old.arena.order bytes.now 0 count)
+            (stretch_in self.old).known (stretch_in self.old).awaited }
+        ensures bits { bits_in (stretch_in self.new) ≡ bits_in (stretch_in self.old) + count }
+        ensures next { self.new.next ≡ self.old.next }
+        ensures order { self.new.arena.order ≡ self.old.arena.order }
+        ensures room { self.new.arena.room ≡ self.old.arena.room }
+        ensures capacity { vec_capacity self.old.entries ≤ vec_capacity self.new.entries }
+    {
+        self.make_room(count);
+        let at = self.head + find(&self.entries[self.head..], piece);
+        self.fill(at, bytes, count);
+    }
+
+    // Puts the bits of the piece of an entry.
+    fn fill(&mut self, at: usize, bytes: &[u8], count: u64)
+        requires sound { IsSound self.old }
+        requires inside { count ≤ 8 * length bytes.now }
+        requires room { bits_in (stretch_in self.old) + count ≤ 8 * self.old.arena.room }
+        requires place { length self.old.arena.bits + count ≤ 8 * self.old.arena.room }
+        requires within { at < length self.old.entries.items }
+        requires awaited { (piece : ℕ) × IsAwaitedAt self.old at piece }
+        ensures sound { IsSound self.new }
+        ensures stretch { (piece : ℕ) → IsAwaitedAt self.old at piece
+            → stretch_in self.new ≡ filled piece (bits_from self.old.arena.order bytes.now 0 count) (stretch_in self.old).known (stretch_in self.old).awaited }
+        ensures bits { bits_in (stretch_in self.new) ≡ bits_in (stretch_in self.old) + count }
+        ensures next { self.new.next ≡ self.old.next }
+        ensures order { self.new.arena.order ≡ self.old.arena.order }
+        ensures room { self.new.arena.room ≡ self.old.arena.room }
+        ensures capacity { vec_capacity self.old.entries ≤ vec_capacity self.new.entries }
+    {
+        let joins = ends_known(&self.entries[self.head..at])
+            + begins_known(&self.entries[at + 1..]);
+        let piece = self.entries[at].piece();
+        let begin = self.arena.len();
+        self.arena.append(bytes, 0, count);
+        self.entries[at] = Entry::Known {
+            piece,
+            begin,
+            count,
+        };
+        self.runs -= joins;
+    }
+
+    // Makes a place for one more entry.
+    fn make_place(&mut self)
+        requires sound { IsSound self.old }
+        requires few { self.old.runs < vec_capacity self.old.entries }
+        ensures keeps { Keeps self.old self.new }
+        ensures place { length self.new.entries.items < vec_capacity self.new.entries }
+    {
+        if self.entries.len() >= self.entries.capacity() {
+            self.pack();
+        }
+    }
+
+    // Makes room for so many bits.
+    fn make_room(&mut self, count: u64)
+        requires sound { IsSound self.old }
+        requires room { bits_in (stretch_in self.old) + count ≤ 8 * self.old.arena.room }
+        ensures keeps { Keeps self.old self.new }
+        ensures place { length self.new.arena.bits + count ≤ 8 * self.new.arena.room }
+    {
+        if count > self.arena.left() {
+            self.pack();
+        }
+    }
+
+    // Writes the entries anew, as few as there can be.
+    fn pack(&mut self)
+        requires { IsSound self.old }
+        ensures keeps { Keeps self.old self.new }
+        ensures entries { length self.new.entries.items ≡ self.new.runs }
+        ensures bits { length self.new.arena.bits ≡ bits_in (stretch_in self.old) }
+    {
+        self.spare.clear();
+        pack(&mut self.entries, self.head, &self.arena, &mut self.spare);
+        self.head = 0;
+        mem::swap(&mut self.arena, &mut self.spare);
+    }
+}
+
+// Puts an entry behind those of a list that has room for it.
+fn push_entry(entries: &mut Vec<Entry>, entry: Entry)
+    requires { length entries.old.items < vec_capacity entries.old }
+    ensures items { entries.new.items ≡ entries.old.items ++ entry ∷ [] }
+    ensures capacity { vec_capacity entries.old ≤ vec_capacity entries.new }
+{
+    match entries.push(entry) {
+        Ok(()) => (),
+        Err(_) => unreachable!(),
     }
 }

@@ -1,6 +1,6 @@
 -- Entries, and the slots that they stand for.
-use Rattle.std.proofs.Common.{◌≡◌, ℕ, zero, suc, ◌+◌, ◌-◌, ◌*◌, ◌<◌, ◌≤◌, Option, None, Some, List, [], ◌∷◌, ◌++◌, length, take, drop, get_or, refl, ap, sym, ◌∙◌, inl, inr, ◌⊎◌, arith, append_assoc, length-append}
-use Rattle.std.proofs.lemmas.List.{append-nil, take_all, take_at, drop_at, take-append-le, drop-append-le, length-drop}
+use Rattle.std.proofs.Common.{◌≡◌, ℕ, zero, suc, ◌+◌, ◌-◌, ◌*◌, ◌<◌, ◌≤◌, Option, None, Some, List, [], ◌∷◌, ◌++◌, length, take, drop, set, get_or, refl, ap, sym, ◌∙◌, inl, inr, ◌⊎◌, arith, append_assoc, length-append}
+use Rattle.std.proofs.lemmas.List.{drop-set-add, set_split, set-get_or, drop-drop, take_all, take_at, drop_at, take-append-le, drop-append-le, length-drop}
 use Rattle.dfdl_splice.specs.declared.entry.Entry.{Entry}
 use Rattle.dfdl_splice.specs.declared.entry.Entry.TheVariants.{Awaits, Known}
 use Rattle.dfdl_splice.specs.Splicing.{Awaited, Stretch, known_bits, filled, IsAwaited}
@@ -24,7 +24,7 @@ slots-append bits [] B = refl
 slots-append bits (e ∷ A) B = ap (λ (rest : List Slot). slot_of bits e ∷ rest) (slots-append bits A B)
 
 -- bits behind those of a buffer change no slot
-slot_of-more : (bits more : List ℕ) (entry : Entry) → IsWithin (length bits) entry → slot_of (bits ++ more) entry ≡ slot_of bits entry
+pub slot_of-more : (bits more : List ℕ) (entry : Entry) → IsWithin (length bits) entry → slot_of (bits ++ more) entry ≡ slot_of bits entry
 slot_of-more bits more (Awaits piece want) within = refl
 slot_of-more bits more (Known piece begin count) within =
     ap (Has piece) (ap (take count) (drop-append-le begin bits more (omega arith)) ∙ take-append-le count (drop begin bits) more (omega (arith, length-drop begin bits)))
@@ -34,7 +34,7 @@ slots-more bits more [] within = refl
 slots-more bits more (e ∷ rest) within = rw (slot_of-more bits more e within.0, slots-more bits more rest within.1) refl
 
 -- a larger buffer
-is_within-more : (m n : ℕ) (entry : Entry) → m ≤ n → IsWithin m entry → IsWithin n entry
+pub is_within-more : (m n : ℕ) (entry : Entry) → m ≤ n → IsWithin m entry → IsWithin n entry
 is_within-more m n (Awaits piece want) more within = tt
 is_within-more m n (Known piece begin count) more within = omega arith
 
@@ -109,51 +109,75 @@ rising_order low (e ∷ rest) high rising zero (suc j) d less below = omega (ari
 rising_order low (e ∷ rest) high rising (suc i) (suc j) d less below = rising_order (piece_of e + 1) rest high rising.1 i j d (omega arith) (omega arith)
 
 -- where a piece is awaited
-pub awaited_at : (bits : List ℕ) (entries : List Entry) (piece count : ℕ) (d : Entry) → IsAwaited piece count (stretch_of (slots bits entries)).awaited
-    → (i : ℕ) × (i < length entries) × ((want : Option ℕ) × (get_or entries i d ≡ Awaits piece want))
-awaited_at bits [] piece count d there = absurd there
-awaited_at bits (Awaits q want ∷ rest) piece count d (inl here) = (0, omega arith, (want, ap (λ (p : ℕ). Awaits p want) here.0))
-awaited_at bits (Awaits q want ∷ rest) piece count d (inr there) =
-    let more = awaited_at bits rest piece count d there in
-    (suc more.0, omega (arith, more.1), more.2)
-awaited_at bits (Known q begin many ∷ rest) piece count d there =
-    let more = awaited_at bits rest piece count d there in
-    (suc more.0, omega (arith, more.1), more.2)
+pub awaited_at : (bits : List ℕ) (entries : List Entry) (piece count : ℕ) → IsAwaited piece count (stretch_of (slots bits entries)).awaited
+    → (i : ℕ) × (i < length entries) × ((want : Option ℕ) × ((any : Entry) → get_or entries i any ≡ Awaits piece want))
+awaited_at bits [] piece count there = absurd there
+awaited_at bits (Awaits q want ∷ rest) piece count (inl here) = (0, omega arith, (want, λ any. ap (λ (p : ℕ). Awaits p want) here.0))
+awaited_at bits (Awaits q want ∷ rest) piece count (inr there) =
+    let more = awaited_at bits rest piece count there in
+    (suc more.0, omega (arith, more.1), (more.2.0, λ any. more.2.1 any))
+awaited_at bits (Known q begin many ∷ rest) piece count there =
+    let more = awaited_at bits rest piece count there in
+    (suc more.0, omega (arith, more.1), (more.2.0, λ any. more.2.1 any))
 
 -- an entry whose bits are put behind those of the buffer
-module _ (arena bits : List ℕ) (A B : List Entry) (piece : ℕ) (want : Option ℕ) (next : ℕ)
-    (within : AreWithin (length arena) (A ++ Awaits piece want ∷ B)) (rising : Rising 0 (A ++ Awaits piece want ∷ B) next) where
-  put_slots : slots (arena ++ bits) (A ++ Known piece (length arena) (length bits) ∷ B) ≡ slots arena A ++ Has piece bits ∷ slots arena B
-  put_slots =
-      let rest : AreWithin (length arena) (Awaits piece want ∷ B) = within-rest (length arena) A (Awaits piece want ∷ B) within in
+module _ (arena bits : List ℕ) (A B old new : List Entry) (piece : ℕ) (want : Option ℕ) (next : ℕ)
+    (old_is : old ≡ A ++ Awaits piece want ∷ B) (new_is : new ≡ A ++ Known piece (length arena) (length bits) ∷ B)
+    (within : AreWithin (length arena) old) (rising : Rising 0 old next) where
+  all_within : AreWithin (length arena) (A ++ Awaits piece want ∷ B)
+  all_within = rw old_is at within
+
+  front_within : AreWithin (length arena) A
+  front_within = within-front (length arena) A (Awaits piece want ∷ B) all_within
+
+  rest_within : AreWithin (length arena) B
+  rest_within = (within-rest (length arena) A (Awaits piece want ∷ B) all_within).1
+
+  new_slots : slots (arena ++ bits) new ≡ slots arena A ++ Has piece bits ∷ slots arena B
+  new_slots =
       let here : take (length bits) (drop (length arena) (arena ++ bits)) ≡ bits =
       ap (take (length bits)) (drop_at arena bits (length arena) refl) ∙ take_all (length bits) bits (omega arith) in
-      slots-append (arena ++ bits) A (Known piece (length arena) (length bits) ∷ B)
-      ∙ rw (slots-more arena bits A (within-front (length arena) A (Awaits piece want ∷ B) within), slots-more arena bits B rest.1, here) refl
+      rw (new_is, slots-append (arena ++ bits) A (Known piece (length arena) (length bits) ∷ B), slots-more arena bits A front_within, slots-more arena bits B rest_within, here) refl
 
-  old_slots : slots arena (A ++ Awaits piece want ∷ B) ≡ slots arena A ++ Waits piece want ∷ slots arena B
-  old_slots = slots-append arena A (Awaits piece want ∷ B)
+  old_slots : slots arena old ≡ slots arena A ++ Waits piece want ∷ slots arena B
+  old_slots = rw old_is (slots-append arena A (Awaits piece want ∷ B))
 
-  pub put_stretch : stretch_of (slots (arena ++ bits) (A ++ Known piece (length arena) (length bits) ∷ B))
-      ≡ filled piece bits (stretch_of (slots arena (A ++ Awaits piece want ∷ B))).known (stretch_of (slots arena (A ++ Awaits piece want ∷ B))).awaited
+  pub put_stretch : stretch_of (slots (arena ++ bits) new) ≡ filled piece bits (stretch_of (slots arena old)).known (stretch_of (slots arena old)).awaited
   put_stretch =
-      rw (put_slots, old_slots) (sym (fill (slots arena A) (slots arena B) piece want bits (none_before arena 0 A B next (Awaits piece want) rising)))
+      let none : NoneIs piece (slots arena A) = none_before arena 0 A B next (Awaits piece want) (rw old_is at rising) in
+      rw (new_slots, old_slots) (sym (fill (slots arena A) (slots arena B) piece want bits none))
 
-  pub put_runs : runs_in (stretch_of (slots (arena ++ bits) (A ++ Known piece (length arena) (length bits) ∷ B))) + (ends_has (slots arena A) + begins_has (slots arena B))
-      ≡ runs_in (stretch_of (slots arena (A ++ Awaits piece want ∷ B)))
-  put_runs = rw (put_slots, old_slots) (fill_runs (slots arena A) (slots arena B) piece want bits)
+  pub put_runs : runs_in (stretch_of (slots (arena ++ bits) new)) + (ends_has (slots arena A) + begins_has (slots arena B)) ≡ runs_in (stretch_of (slots arena old))
+  put_runs = rw (new_slots, old_slots) (fill_runs (slots arena A) (slots arena B) piece want bits)
 
-  pub put_bits : bits_in (stretch_of (slots (arena ++ bits) (A ++ Known piece (length arena) (length bits) ∷ B)))
-      ≡ bits_in (stretch_of (slots arena (A ++ Awaits piece want ∷ B))) + length bits
-  put_bits = rw (put_slots, old_slots) (fill_bits (slots arena A) (slots arena B) piece want bits)
+  pub put_bits : bits_in (stretch_of (slots (arena ++ bits) new)) ≡ bits_in (stretch_of (slots arena old)) + length bits
+  put_bits = rw (new_slots, old_slots) (fill_bits (slots arena A) (slots arena B) piece want bits)
 
-  pub put_within : AreWithin (length (arena ++ bits)) (A ++ Known piece (length arena) (length bits) ∷ B)
+  pub put_within : AreWithin (length (arena ++ bits)) new
   put_within =
       let larger : length (arena ++ bits) ≡ length arena + length bits = length-append arena bits in
-      let rest : AreWithin (length arena) (Awaits piece want ∷ B) = within-rest (length arena) A (Awaits piece want ∷ B) within in
-      within-append (length (arena ++ bits)) A (Known piece (length arena) (length bits) ∷ B)
-      (within-more (length arena) _ A (omega arith) (within-front (length arena) A (Awaits piece want ∷ B) within))
-      (omega arith, within-more (length arena) _ B (omega arith) rest.1)
+      rw new_is
+      (within-append (length (arena ++ bits)) A (Known piece (length arena) (length bits) ∷ B)
+      (within-more (length arena) _ A (omega arith) front_within)
+      (omega arith, within-more (length arena) _ B (omega arith) rest_within))
 
-  pub put_rising : Rising 0 (A ++ Known piece (length arena) (length bits) ∷ B) next
-  put_rising = rising-other 0 A B next (Awaits piece want) (Known piece (length arena) (length bits)) refl rising
+  pub put_rising : Rising 0 new next
+  put_rising = rw new_is (rising-other 0 A B next (Awaits piece want) (Known piece (length arena) (length bits)) refl (rw old_is at rising))
+
+-- the entries from a head on, cut at a place
+pub live_set : (items : List Entry) (head at : ℕ) (entry : Entry) → head ≤ at → at < length items
+    → drop head (set items at entry) ≡ take (at - head) (drop head items) ++ entry ∷ drop (at + 1) items
+live_set items head at entry behind below =
+    let i : ℕ = at - head in
+    let place : at ≡ head + i = omega arith in
+    let last : head + suc i ≡ at + 1 = omega arith in
+    ap (λ (k : ℕ). drop head (set items k entry)) place
+    ∙ drop-set-add head items i entry
+    ∙ set_split (drop head items) i entry (omega (arith, length-drop head items))
+    ∙ ap (λ (rest : List Entry). take i (drop head items) ++ entry ∷ rest) (drop-drop (suc i) head items ∙ ap (λ (k : ℕ). drop k items) last)
+
+pub live_at : (items : List Entry) (head at : ℕ) (entry : Entry) → head ≤ at → at < length items → get_or items at entry ≡ entry
+    → drop head items ≡ take (at - head) (drop head items) ++ entry ∷ drop (at + 1) items
+live_at items head at entry behind below is =
+    let same : set items at entry ≡ items = ap (set items at) (sym is) ∙ set-get_or items at entry in
+    ap (drop head) (sym same) ∙ live_set items head at entry behind below

@@ -3,3 +3,4 @@ pub mod Runs
 pub mod Slots
 pub mod Entries
 pub mod Packs
+pub mod Tables

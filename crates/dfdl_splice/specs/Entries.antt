@@ -103,11 +103,11 @@ LastEndsWith size (last ∷ []) = EndsWith size last
 LastEndsWith size (first ∷ (next ∷ rest)) = LastEndsWith size (next ∷ rest)
 
 -- Entries of a buffer of bits while they are written anew: those that are written, over another buffer, and those that are left.
-pub record Packing (old : List Entry) (arena : List ℕ) (written left : List Entry) (spare : List ℕ) : Type 0 where
-  pub stretch : stretch_of (slots spare written ++ slots arena left) ≡ stretch_of (slots arena old)
+pub record Packing (old : List Entry) (arena : List ℕ) (written rest : List Entry) (spare : List ℕ) : Type 0 where
+  pub stretch : stretch_of (slots spare written ++ slots arena rest) ≡ stretch_of (slots arena old)
   pub within : AreWithin (length spare) written
-  pub left : AreWithin (length arena) left
+  pub left : AreWithin (length arena) rest
   pub ends : LastEndsWith (length spare) written
-  pub bits : length spare + bits_in (stretch_of (slots arena left)) ≡ bits_in (stretch_of (slots arena old))
+  pub bits : length spare + bits_in (stretch_of (slots arena rest)) ≡ bits_in (stretch_of (slots arena old))
   pub runs : length written ≡ runs_in (stretch_of (slots spare written))
-  pub rising : (next : ℕ) → Rising 0 old next → Rising 0 (written ++ left) next
+  pub rising : (next : ℕ) → Rising 0 old next → Rising 0 (written ++ rest) next

@@ -1,5 +1,5 @@
 -- Mirror for the prover: what a table of entries stands for.
-use Rattle.std.specs.Prelude.{◌≡◌, ℕ, ◌*◌, ◌≤◌, Option, Some, List, length, drop, slice_get, vec_capacity}
+use Rattle.std.specs.Prelude.{◌≡◌, ℕ, ◌*◌, ◌^◌, ◌<◌, ◌≤◌, Option, List, length, drop, slice_index_or, vec_capacity}
 use Rattle.dfdl_splice.specs.declared.entry.Entry.{Entry}
 use Rattle.dfdl_splice.specs.declared.entry.Entry.TheVariants.{Awaits}
 use Rattle.dfdl_splice.specs.declared.table.Table.{Table}
@@ -17,6 +17,7 @@ pub record IsSound (table : Table) : Type 0 where
   pub head : table.head ≤ length table.entries.items
   pub order : table.spare.order ≡ table.arena.order
   pub room : table.spare.room ≡ table.arena.room
+  pub bound : table.arena.room < 2 ^ 40
   pub within : AreWithin (length table.arena.bits) (live table)
   pub rising : Rising 0 (live table) table.next
   pub runs : table.runs ≡ runs_in (stretch_in table)
@@ -34,4 +35,4 @@ pub record Keeps (old new : Table) : Type 0 where
 
 -- the piece of this number is awaited at a place
 abbrev pub IsAwaitedAt : Table → ℕ → ℕ → Type 0
-IsAwaitedAt table at piece = (table.head ≤ at) × (want : Option ℕ) × (slice_get table.entries.items at ≡ Some (Awaits piece want))
+IsAwaitedAt table at piece = (table.head ≤ at) × (want : Option ℕ) × ((any : Entry) → slice_index_or table.entries.items at any ≡ Awaits piece want)

@@ -54,7 +54,7 @@ impl Buffer {
 
     /// For how many more bits there is room.
     pub(crate) fn left(&self) -> u64
-        ensures { result ≡ 8 * self.now.room - length self.now.bits }
+        ensures { length self.now.bits + result ≡ 8 * self.now.room }
     {
         8 * self.room - self.len
     }

@@ -11,6 +11,7 @@ pub(crate) fn pack(entries: &mut Vec<Entry>, head: usize, arena: &Buffer, spare:
     requires head { head ≤ length entries.old.items }
     requires order { arena.now.order ≡ spare.old.order }
     requires empty { spare.old.bits ≡ [] }
+    requires bound { spare.old.room < 2 ^ 40 }
     requires within { AreWithin (length arena.now.bits) (drop head entries.old.items) }
     requires bits { bits_in (stretch_of (slots arena.now.bits (drop head entries.old.items))) ≤ 8 * spare.old.room }
     ensures packed { Packing (drop head entries.old.items) arena.now.bits entries.new.items [] spare.new.bits }

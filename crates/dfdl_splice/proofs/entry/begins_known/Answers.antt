@@ -1,5 +1,5 @@
 use Rattle.std.proofs.Common.{sym, ◌∙◌, arith}
-use Rattle.dfdl_splice.proofs.Entries.{begins_at, put_stretch, put_runs, put_bits, put_within, put_rising}
+use Rattle.dfdl_splice.proofs.Entries.{begins_at}
 use Rattle.dfdl_splice.proofs.entry.begins_known.Goals as goal
 
 pub returns : goal.returns

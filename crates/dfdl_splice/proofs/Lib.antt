@@ -4,3 +4,4 @@ pub mod Slots
 pub mod Entries
 pub mod Packs
 pub mod Tables
+pub mod Filling

@@ -4,13 +4,19 @@ use Rattle.std.proofs.lemmas.Bool.Decides.{eqb_tells}
 use Rattle.dfdl_splice.specs.Splicing.{Awaited, Stretch, known_bits, one_run, awaited_count, behind_count, joined, filled, IsAwaited}
 use Rattle.dfdl_splice.specs.Entries.{Slot, Waits, Has, before, stretch_of, runs_in, bits_in, has, ends_has, begins_has}
 
--- the last slot of a list
-pub ends-last : (slots : List Slot) (i : ℕ) (d : Slot) → length slots ≡ suc i → ends_has slots ≡ has (get_or slots i d)
-ends-last [] i d len = absurd (omega arith)
-ends-last (s ∷ []) zero d len = refl
-ends-last (s ∷ []) (suc i) d len = absurd (omega arith)
-ends-last (s ∷ (t ∷ rest)) zero d len = absurd (omega arith)
-ends-last (s ∷ (t ∷ rest)) (suc i) d len = ends-last (t ∷ rest) i d (omega arith)
+-- at most one
+has_few : (s : Slot) → has s ≤ 1
+has_few (Waits p c) = omega arith
+has_few (Has p b) = omega arith
+
+pub ends_few : (slots : List Slot) → ends_has slots ≤ 1
+ends_few [] = omega arith
+ends_few (s ∷ []) = has_few s
+ends_few (s ∷ (t ∷ rest)) = ends_few (t ∷ rest)
+
+pub begins_few : (slots : List Slot) → begins_has slots ≤ 1
+begins_few [] = omega arith
+begins_few (s ∷ rest) = has_few s
 
 -- one slot more at the end
 pub snoc_runs : (slots : List Slot) (s : Slot) → runs_in (stretch_of (slots ++ s ∷ [])) + ends_has slots * has s ≡ runs_in (stretch_of slots) + 1

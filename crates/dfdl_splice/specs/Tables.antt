@@ -1,9 +1,10 @@
 -- Mirror for the prover: what a table of entries stands for.
-use Rattle.std.specs.Prelude.{◌≡◌, ℕ, ◌*◌, ◌^◌, ◌<◌, ◌≤◌, Option, List, length, drop, slice_index_or, vec_capacity}
+use Rattle.std.specs.Prelude.{◌≡◌, ℕ, ◌*◌, ◌^◌, ◌<◌, ◌≤◌, ◌+◌, Option, None, List, length, drop, slice_index_or, vec_capacity}
 use Rattle.dfdl_splice.specs.declared.entry.Entry.{Entry}
 use Rattle.dfdl_splice.specs.declared.entry.Entry.TheVariants.{Awaits}
 use Rattle.dfdl_splice.specs.declared.table.Table.{Table}
-use Rattle.dfdl_splice.specs.Splicing.{Stretch}
+use Rattle.dfdl_splice.specs.Copying.{Buffered}
+use Rattle.dfdl_splice.specs.Splicing.{Stretch, behind_count}
 use Rattle.dfdl_splice.specs.Entries.{slots, stretch_of, runs_in, bits_in, AreWithin, Rising}
 
 -- the entries from the head on
@@ -36,3 +37,14 @@ pub record Keeps (old new : Table) : Type 0 where
 -- the piece of this number is awaited at a place
 abbrev pub IsAwaitedAt : Table → ℕ → ℕ → Type 0
 IsAwaitedAt table at piece = (table.head ≤ at) × (want : Option ℕ) × ((any : Entry) → slice_index_or table.entries.items at any ≡ Awaits piece want)
+
+-- the parts of a splice
+pub record Stands (most_pieces most_bytes : ℕ) (front : Buffered) (table : Table) (held : ℕ) : Type 0 where
+  pub sound : IsSound table
+  pub known : (stretch_in table).known ≡ None
+  pub order : table.arena.order ≡ front.order
+  pub front_room : front.room ≡ most_bytes
+  pub room : most_bytes ≤ table.arena.room
+  pub entries : most_pieces ≤ vec_capacity table.entries
+  pub count : held ≡ length front.bits + behind_count (stretch_in table).awaited
+  pub few : held ≤ 8 * most_bytes

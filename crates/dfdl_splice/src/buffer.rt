@@ -2,6 +2,7 @@
 ghost use Rattle.std.specs.Prelude.{◌≡◌, ◌+◌, ◌-◌, ◌*◌, ◌/◌, ◌%◌, ◌^◌, ◌<◌, ◌≤◌, [], ◌∷◌, ◌++◌, length, take, drop, All, IfOk, vec_len, vec_capacity};
 ghost use Rattle.dfdl_splice.specs.Bits.{bits_from};
 ghost use Rattle.dfdl_splice.specs.Copying.{Buffered, Copies};
+ghost use Rattle.dfdl_splice.specs.Splicing.{one_if_any};
 
 use crate::copy::copy_bits;
 use dfdl_forms::BitOrder;
@@ -50,6 +51,16 @@ impl Buffer {
         ensures few { result ≤ 8 * self.now.room }
     {
         self.len
+    }
+
+    /// 1 where there are bits.
+    pub(crate) fn any(&self) -> usize
+        ensures { result ≡ one_if_any self.now.bits }
+    {
+        if self.len() == 0 {
+            return 0;
+        }
+        1
     }
 
     /// For how many more bits there is room.

@@ -8,6 +8,8 @@ mod buffer;
 mod copy;
 mod entry;
 mod pack;
+mod splice;
 mod table;
 
 pub use dfdl_forms::BitOrder;
+pub use splice::{Full, Splice};

@@ -1,8 +1,8 @@
 // The pieces from the first awaited one on.
-ghost use Rattle.std.specs.Prelude.{◌≡◌, ℕ, ◌+◌, ◌-◌, ◌*◌, ◌^◌, ◌<◌, ◌≤◌, Option, [], ◌∷◌, ◌++◌, None, length, get_or, IfOk, vec_len, vec_capacity};
+ghost use Rattle.std.specs.Prelude.{◌≡◌, ℕ, ◌+◌, ◌-◌, ◌*◌, ◌^◌, ◌<◌, ◌≤◌, Option, [], ◌∷◌, ◌++◌, None, length, drop, IfOk, vec_len, vec_capacity};
 ghost use Rattle.dfdl_splice.specs.Bits.{bits_from};
 ghost use Rattle.dfdl_splice.specs.Splicing.{filled, IsAwaited, known_bits};
-ghost use Rattle.dfdl_splice.specs.Entries.{runs_in, bits_in};
+ghost use Rattle.dfdl_splice.specs.Entries.{slots, stretch_of, bits_in, AreWithin};
 ghost use Rattle.dfdl_splice.specs.Tables.{IsSound, Keeps, IsAwaitedAt, live, stretch_in};
 
 use crate::buffer::Buffer;
@@ -126,6 +126,23 @@ impl Table {
         self.runs -= joins;
     }
 
+    /// Puts the bits before the first awaited piece behind those of another buffer.
+    pub(crate) fn take_lead(&mut self, front: &mut Buffer)
+        requires sound { IsSound self.old }
+        requires order { self.old.arena.order ≡ front.old.order }
+        requires room { length front.old.bits + length (known_bits (stretch_in self.old).known) ≤ 8 * front.old.room }
+        ensures sound { IsSound self.new }
+        ensures stretch { stretch_in self.new ≡ record { known = None; awaited = (stretch_in self.old).awaited } }
+        ensures front { front.new ≡ record front.old { bits = front.old.bits ++ known_bits (stretch_in self.old).known } }
+        ensures next { self.new.next ≡ self.old.next }
+        ensures order { self.new.arena.order ≡ self.old.arena.order }
+        ensures room { self.new.arena.room ≡ self.old.arena.room }
+        ensures capacity { vec_capacity self.old.entries ≤ vec_capacity self.new.entries }
+    {
+        self.runs -= begins_known(&self.entries[self.head..]);
+        self.head = move_lead(&self.entries, self.head, &self.arena, front);
+    }
+
     // Makes a place for one more entry.
     fn make_place(&mut self)
         requires sound { IsSound self.old }
@@ -162,6 +179,29 @@ impl Table {
         self.head = 0;
         mem::swap(&mut self.arena, &mut self.spare);
     }
+}
+
+// Puts the bits of the entries from the head on that have some behind those of another buffer, and answers the place of the first
+// one that has none.
+fn move_lead(entries: &[Entry], head: usize, arena: &Buffer, front: &mut Buffer) -> usize
+    requires head { head ≤ length entries.now }
+    requires within { AreWithin (length arena.now.bits) (drop head entries.now) }
+    requires order { arena.now.order ≡ front.old.order }
+    requires room { length front.old.bits + length (known_bits (stretch_of (slots arena.now.bits (drop head entries.now))).known) ≤ 8 * front.old.room }
+    ensures behind { head ≤ result }
+    ensures inside { result ≤ length entries.now }
+    ensures stretch { stretch_of (slots arena.now.bits (drop result entries.now))
+        ≡ record { known = None; awaited = (stretch_of (slots arena.now.bits (drop head entries.now))).awaited } }
+    ensures front { front.new ≡ record front.old {
+        bits = front.old.bits ++ known_bits (stretch_of (slots arena.now.bits (drop head entries.now))).known } }
+{
+    for at in head..entries.len() {
+        match entries[at] {
+            Entry::Awaits { .. } => return at,
+            Entry::Known { begin, count, .. } => front.append_from(arena, begin, count),
+        }
+    }
+    entries.len()
 }
 
 // Puts an entry behind those of a list that has room for it.

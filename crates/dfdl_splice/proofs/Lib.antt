@@ -5,3 +5,4 @@ pub mod Entries
 pub mod Packs
 pub mod Tables
 pub mod Filling
+pub mod Leads

@@ -20,7 +20,7 @@ entry_length : (arena : List ℕ) (entry : Entry) → length (entry_bits arena e
 entry_length arena (Awaits piece want) = refl
 entry_length arena (Known piece begin count) = refl
 
-known_length : (arena : List ℕ) (begin count : ℕ) → begin + count ≤ length arena → length (take count (drop begin arena)) ≡ count
+pub known_length : (arena : List ℕ) (begin count : ℕ) → begin + count ≤ length arena → length (take count (drop begin arena)) ≡ count
 known_length arena begin count within = length-take-le count (drop begin arena) (omega (arith, length-drop begin arena))
 
 -- the slot of an entry whose bits were put behind others

@@ -69,7 +69,8 @@ impl Splice {
         ensures full { IsErr result ↔ (self.old.most_pieces ≤ piece_count self.old) }
         ensures same { OnErr result (self.new ≡ self.old) }
     {
-        if self.table.runs + self.front.any() >= self.most_pieces as usize {
+        let most = (self.most_pieces as usize).saturating_sub(self.front.any());
+        if self.table.runs >= most {
             return Err(Full);
         }
         let piece = self.table.next;

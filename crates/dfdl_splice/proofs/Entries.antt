@@ -4,7 +4,7 @@ use Rattle.std.proofs.lemmas.List.{drop-set-add, set_split, set-get_or, drop-dro
 use Rattle.dfdl_splice.specs.declared.entry.Entry.{Entry}
 use Rattle.dfdl_splice.specs.declared.entry.Entry.TheVariants.{Awaits, Known}
 use Rattle.dfdl_splice.specs.Splicing.{Awaited, Stretch, known_bits, filled, IsAwaited}
-use Rattle.dfdl_splice.specs.Entries.{Slot, Waits, Has, slot_of, slots, piece_of, before, stretch_of, runs_in, bits_in, has, ends_has, begins_has, IsWithin, AreWithin, Rising}
+use Rattle.dfdl_splice.specs.Entries.{Slot, Waits, Has, slot_of, slots, piece_of, before, stretch_of, runs_in, bits_in, has, ends_has, begins_has, IsFor, IsWithin, AreWithin, Rising}
 use Rattle.dfdl_splice.proofs.Slots.{NoneIs, fill, fill_runs, fill_bits}
 
 -- the last entry of a list
@@ -110,15 +110,33 @@ rising_order low (e ∷ rest) high rising (suc i) (suc j) d less below = rising_
 
 -- where a piece is awaited
 pub awaited_at : (bits : List ℕ) (entries : List Entry) (piece count : ℕ) → IsAwaited piece count (stretch_of (slots bits entries)).awaited
-    → (i : ℕ) × (i < length entries) × ((want : Option ℕ) × ((any : Entry) → get_or entries i any ≡ Awaits piece want))
+    → (i : ℕ) × (i < length entries) × ((any : Entry) → IsFor (get_or entries i any) piece count)
 awaited_at bits [] piece count there = absurd there
-awaited_at bits (Awaits q want ∷ rest) piece count (inl here) = (0, omega arith, (want, λ any. ap (λ (p : ℕ). Awaits p want) here.0))
+awaited_at bits (Awaits q want ∷ rest) piece count (inl here) = (0, omega arith, λ any. here)
 awaited_at bits (Awaits q want ∷ rest) piece count (inr there) =
     let more = awaited_at bits rest piece count there in
-    (suc more.0, omega (arith, more.1), (more.2.0, λ any. more.2.1 any))
+    (suc more.0, omega (arith, more.1), λ any. more.2 any)
 awaited_at bits (Known q begin many ∷ rest) piece count there =
     let more = awaited_at bits rest piece count there in
-    (suc more.0, omega (arith, more.1), (more.2.0, λ any. more.2.1 any))
+    (suc more.0, omega (arith, more.1), λ any. more.2 any)
+
+-- and that it is
+pub awaited_of : (bits : List ℕ) (entries : List Entry) (piece count i : ℕ) (any : Entry) → i < length entries → IsFor (get_or entries i any) piece count
+    → IsAwaited piece count (stretch_of (slots bits entries)).awaited
+awaited_of bits [] piece count i any below here = absurd (omega arith)
+awaited_of bits (Awaits q want ∷ rest) piece count zero any below here = inl here
+awaited_of bits (Awaits q want ∷ rest) piece count (suc i) any below here = inr (awaited_of bits rest piece count i any (omega arith) here)
+awaited_of bits (Known q begin many ∷ rest) piece count zero any below here = absurd here
+awaited_of bits (Known q begin many ∷ rest) piece count (suc i) any below here = awaited_of bits rest piece count i any (omega arith) here
+
+-- the entry of an awaited piece
+pub for_piece : (entry : Entry) (piece count : ℕ) → IsFor entry piece count → piece_of entry ≡ piece
+for_piece (Awaits q want) piece count here = here.0
+for_piece (Known q begin many) piece count here = absurd here
+
+pub for_awaits : (entry : Entry) (piece count : ℕ) → IsFor entry piece count → (want : Option ℕ) × (entry ≡ Awaits piece want)
+for_awaits (Awaits q want) piece count here = (want, ap (λ (p : ℕ). Awaits p want) here.0)
+for_awaits (Known q begin many) piece count here = absurd here
 
 -- an entry whose bits are put behind those of the buffer
 module _ (arena bits : List ℕ) (A B old new : List Entry) (piece : ℕ) (want : Option ℕ) (next : ℕ)

@@ -1,6 +1,6 @@
 -- A table, and what it stands for.
 use Rattle.std.proofs.Common.{◌≡◌, ℕ, zero, suc, ◌+◌, ◌-◌, ◌*◌, ◌^◌, ◌<◌, ◌≤◌, Option, None, Some, List, [], ◌∷◌, ◌++◌, length, take, drop, set, get_or, refl, ap, sym, ◌∙◌, arith, length-append}
-use Rattle.std.proofs.lemmas.List.{get_or-drop, length-drop, append-nil}
+use Rattle.std.proofs.lemmas.List.{get_or-drop, get_or_default, length-drop, append-nil}
 use Rattle.dfdl_splice.specs.declared.entry.Entry.{Entry}
 use Rattle.dfdl_splice.specs.declared.entry.Entry.TheVariants.{Awaits, Known}
 use Rattle.dfdl_splice.specs.declared.table.Table.{Table}
@@ -9,7 +9,7 @@ use Rattle.dfdl_splice.specs.Splicing.{Stretch, filled, IsAwaited}
 use Rattle.dfdl_splice.specs.Entries.{Slot, Waits, Has, slots, piece_of, stretch_of, runs_in, bits_in, ends_has, begins_has, AreWithin, Rising, Packing}
 use Rattle.dfdl_splice.specs.Tables.{IsSound, Keeps, IsAwaitedAt, live, stretch_in}
 use Rattle.dfdl_splice.proofs.Slots.{push, push_bits, snoc_runs}
-use Rattle.dfdl_splice.proofs.Entries.{slots-append, within-append, within-drop, rising-drop, rising-push, awaited_at, put_stretch, put_runs, put_bits, put_within, put_rising}
+use Rattle.dfdl_splice.proofs.Entries.{slots-append, within-append, within-drop, rising-drop, rising-push, awaited_at, for_piece, for_awaits, put_stretch, put_runs, put_bits, put_within, put_rising}
 
 pub known_is : (p q b c m n : ℕ) → p ≡ q → b ≡ c → m ≡ n → Known p b m ≡ Known q c n
 known_is p q b c m n e f g = cc
@@ -20,9 +20,12 @@ pub found : (table : Table) (piece count result : ℕ) → IsAwaited piece count
     → (table.head + result < length table.entries.items) × IsAwaitedAt table (table.head + result) piece
 found table piece count result awaited finds =
     let there = awaited_at table.arena.bits (live table) piece count awaited in
-    let is : result ≡ there.0 = finds there.0 (Awaits piece None) there.1 (ap piece_of (there.2.1 (Awaits piece None))) in
+    let any : Entry = Awaits piece None in
+    let here = for_awaits (get_or (live table) there.0 any) piece count (there.2 any) in
+    let is : result ≡ there.0 = finds there.0 any there.1 (for_piece (get_or (live table) there.0 any) piece count (there.2 any)) in
     (omega (arith, there.1, length-drop table.head table.entries.items),
-      (omega arith, there.2.0, λ any. rw is (sym (get_or-drop table.head table.entries.items there.0 any) ∙ there.2.1 any)))
+      (omega arith, here.0, λ other.
+        rw is (sym (get_or-drop table.head table.entries.items there.0 other) ∙ get_or_default (live table) there.0 other any there.1 ∙ here.1)))
 
 -- the bits of a piece are put
 module _ (old new : Table) (A B : List Entry) (piece : ℕ) (want : Option ℕ) (bits : List ℕ)

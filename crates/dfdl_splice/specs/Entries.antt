@@ -2,7 +2,7 @@
 use Rattle.std.specs.Prelude.{◌≡◌, ℕ, ◌+◌, ◌*◌, ◌≤◌, Option, None, Some, List, [], ◌∷◌, ◌++◌, length, take, drop, map}
 use Rattle.dfdl_splice.specs.declared.entry.Entry.{Entry}
 use Rattle.dfdl_splice.specs.declared.entry.Entry.TheVariants.{Awaits, Known}
-use Rattle.dfdl_splice.specs.Splicing.{Awaited, Stretch, known_bits, one_run, awaited_count, behind_count}
+use Rattle.dfdl_splice.specs.Splicing.{Awaited, Stretch, known_bits, one_run, awaited_count, behind_count, Fits}
 
 -- a piece that is awaited, or the bits of pieces that are put
 pub data Slot : Type 0 where
@@ -50,6 +50,11 @@ ends_has (slot ∷ (next ∷ slots)) = ends_has (next ∷ slots)
 abbrev pub begins_has : List Slot → ℕ
 begins_has [] = 0
 begins_has (slot ∷ slots) = has slot
+
+-- the piece of this number is awaited at the entry, and so many bits fit it
+abbrev pub IsFor : Entry → ℕ → ℕ → Type 0
+IsFor (Awaits piece want) number count = (piece ≡ number) × Fits want count
+IsFor (Known piece begin size) number count = ⊥
 
 -- the bits of the entry lie in a buffer of this size
 abbrev pub IsWithin : ℕ → Entry → Type 0

@@ -1,6 +1,7 @@
 // The entries of a table, and what is told of a list of them.
-ghost use Rattle.std.specs.Prelude.{◌≡◌, ℕ, ◌^◌, ◌<◌, List, length, slice_index_or};
-ghost use Rattle.dfdl_splice.specs.Entries.{slots, has, slot_of, ends_has, begins_has, IsWithin, Rising, piece_of, joined_with, one_or_both};
+ghost use Rattle.std.specs.Prelude.{◌≡◌, ◌↔◌, ℕ, ◌^◌, ◌<◌, IsTrue, List, length, slice_index_or};
+ghost use Rattle.dfdl_splice.specs.Splicing.{Fits};
+ghost use Rattle.dfdl_splice.specs.Entries.{slots, has, slot_of, ends_has, begins_has, IsFor, IsWithin, Rising, piece_of, joined_with, one_or_both};
 ghost use Rattle.dfdl_splice.specs.declared.entry.Entry.{Entry};
 
 /// A piece that is awaited, or pieces that are put.
@@ -20,6 +21,16 @@ impl Entry {
         match *self {
             Entry::Awaits { piece, .. } => piece,
             Entry::Known { piece, .. } => piece,
+        }
+    }
+
+    // Whether the piece of this number is awaited at it, and so many bits fit it.
+    pub(crate) fn awaits(&self, number: u32, size: u64) -> bool
+        ensures { IsTrue result ↔ IsFor self.now number size }
+    {
+        match *self {
+            Entry::Awaits { piece, bits } => piece == number && fits(bits, size),
+            Entry::Known { .. } => false,
         }
     }
 
@@ -54,6 +65,16 @@ impl Entry {
                 }),
             },
         }
+    }
+}
+
+// Whether so many bits fit a piece.
+fn fits(fixed: Option<u64>, count: u64) -> bool
+    ensures { IsTrue result ↔ Fits fixed count }
+{
+    match fixed {
+        Some(fixed) => fixed == count,
+        None => true,
     }
 }
 

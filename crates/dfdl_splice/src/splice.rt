@@ -1,5 +1,5 @@
 // Pieces of bits that are put in any order.
-ghost use Rattle.std.specs.Prelude.{◌≡◌, ℕ, ◌+◌, ◌-◌, ◌*◌, ◌/◌, ◌^◌, ◌<◌, ◌≤◌, ◌↔◌, [], length, take, All, IfOk, OnOk, OnErr, IsErr};
+ghost use Rattle.std.specs.Prelude.{◌≡◌, ℕ, ◌+◌, ◌-◌, ◌*◌, ◌/◌, ◌^◌, ◌<◌, ◌≤◌, ◌↔◌, [], length, take, All, IsTrue, IfOk, OnErr, IsErr};
 ghost use Rattle.dfdl_splice.specs.Bits.{bits_from};
 ghost use Rattle.dfdl_splice.specs.Splicing.{with_piece, with_bits, without_front, whole_bits, piece_count, bit_count, IsAwaited};
 
@@ -59,6 +59,13 @@ impl Splice {
         })
     }
 
+    /// How many pieces were added.
+    pub fn added(&self) -> u32
+        ensures { result ≡ self.now.added }
+    {
+        self.table.next
+    }
+
     /// Adds a piece behind the others and answers its number, from 0. `bits` is how many bits it has, where that is fixed. It is
     /// `Full`, and nothing changes, exactly where as many pieces count as there may be: each that is awaited, each run of
     /// pieces behind an awaited one that are put, and what is left of the front.
@@ -76,6 +83,13 @@ impl Splice {
         let piece = self.table.next;
         self.table.push(bits);
         Ok(piece)
+    }
+
+    /// Whether the piece of this number is awaited, and so many bits fit it.
+    pub fn awaits(&self, piece: u32, bits: u64) -> bool
+        ensures { IsTrue result ↔ IsAwaited piece bits self.now.awaited }
+    {
+        self.table.awaits(piece, bits)
     }
 
     /// Puts the bits of a piece that is awaited, the first `bits` bits of `bytes`. It is `Full`, and nothing changes, exactly where

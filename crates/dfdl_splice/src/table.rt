@@ -1,8 +1,8 @@
 // The pieces from the first awaited one on.
-ghost use Rattle.std.specs.Prelude.{◌≡◌, ℕ, ◌+◌, ◌-◌, ◌*◌, ◌^◌, ◌<◌, ◌≤◌, Option, [], ◌∷◌, ◌++◌, None, length, drop, IfOk, vec_len, vec_capacity};
+ghost use Rattle.std.specs.Prelude.{◌≡◌, ◌↔◌, ℕ, IsTrue, List, ◌+◌, ◌-◌, ◌*◌, ◌^◌, ◌<◌, ◌≤◌, Option, [], ◌∷◌, ◌++◌, None, length, drop, IfOk, vec_len, vec_capacity};
 ghost use Rattle.dfdl_splice.specs.Bits.{bits_from};
 ghost use Rattle.dfdl_splice.specs.Splicing.{filled, IsAwaited, known_bits};
-ghost use Rattle.dfdl_splice.specs.Entries.{slots, stretch_of, bits_in, AreWithin};
+ghost use Rattle.dfdl_splice.specs.Entries.{slots, stretch_of, bits_in, AreWithin, Rising};
 ghost use Rattle.dfdl_splice.specs.Tables.{IsSound, Keeps, IsAwaitedAt, live, stretch_in};
 
 use crate::buffer::Buffer;
@@ -74,6 +74,14 @@ impl Table {
         push_entry(&mut self.entries, entry);
         self.next += 1;
         self.runs += 1;
+    }
+
+    /// Whether the piece of this number is awaited, and so many bits fit it.
+    pub(crate) fn awaits(&self, piece: u32, count: u64) -> bool
+        requires { IsSound self.now }
+        ensures { IsTrue result ↔ IsAwaited piece count (stretch_in self.now).awaited }
+    {
+        awaits_in(&self.entries[self.head..], piece, count)
     }
 
     /// Puts the bits of a piece, the first `count` ones of some bytes.
@@ -179,6 +187,18 @@ impl Table {
         self.head = 0;
         mem::swap(&mut self.arena, &mut self.spare);
     }
+}
+
+// Whether the piece of this number is awaited at one of the entries, and so many bits fit it.
+fn awaits_in(entries: &[Entry], piece: u32, count: u64) -> bool
+    requires { (next : ℕ) × Rising 0 entries.now next }
+    ensures { (bits : List ℕ) → IsTrue result ↔ IsAwaited piece count (stretch_of (slots bits entries.now)).awaited }
+{
+    let at = find(entries, piece);
+    if at >= entries.len() {
+        return false;
+    }
+    entries[at].awaits(piece, count)
 }
 
 // Puts the bits of the entries from the head on that have some behind those of another buffer, and answers the place of the first

@@ -22,10 +22,15 @@ found table piece count result awaited finds =
     let there = awaited_at table.arena.bits (live table) piece count awaited in
     let any : Entry = Awaits piece None in
     let here = for_awaits (get_or (live table) there.0 any) piece count (there.2 any) in
-    let is : result ≡ there.0 = finds there.0 any there.1 (for_piece (get_or (live table) there.0 any) piece count (there.2 any)) in
-    (omega (arith, there.1, length-drop table.head table.entries.items),
-      (omega arith, here.0, λ other.
-        rw is (sym (get_or-drop table.head table.entries.items there.0 other) ∙ get_or_default (live table) there.0 other any there.1 ∙ here.1)))
+    let is : result ≡ there.0 = finds there.0 any there.1 (for_piece (get_or (live table) there.0 any) piece count (there.2 any)) in (
+      omega (arith, there.1, length-drop table.head table.entries.items),
+      (
+        omega arith,
+        here.0,
+        λ other.
+            rw is (sym (get_or-drop table.head table.entries.items there.0 other) ∙ get_or_default (live table) there.0 other any there.1 ∙ here.1),
+      ),
+    )
 
 -- the bits of a piece are put
 module _ (old new : Table) (A B : List Entry) (piece : ℕ) (want : Option ℕ) (bits : List ℕ)

@@ -13,3 +13,8 @@ mod table;
 
 pub use dfdl_forms::BitOrder;
 pub use splice::{Full, Splice};
+
+#[cfg(test)]
+mod model_tests;
+#[cfg(test)]
+mod tests;

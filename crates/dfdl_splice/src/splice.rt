@@ -33,8 +33,14 @@ impl Model for Splice {
 
     ghost Value = { Spliced };
 
-    ghost view = { λ s. record { most_pieces = s.most_pieces; most_bytes = s.most_bytes; order = s.front.order; added = s.table.next;
-        front = s.front.bits; awaited = (stretch_in s.table).awaited } };
+    ghost view = { λ s. record {
+      most_pieces = s.most_pieces;
+      most_bytes = s.most_bytes;
+      order = s.front.order;
+      added = s.table.next;
+      front = s.front.bits;
+      awaited = (stretch_in s.table).awaited;
+    } };
 
     ghost invariant = { λ s. Stands s.most_pieces s.most_bytes s.front s.table s.held };
 }

@@ -213,7 +213,8 @@ fn move_lead(entries: &[Entry], head: usize, arena: &Buffer, front: &mut Buffer)
     ensures stretch { stretch_of (slots arena.now.bits (drop result entries.now))
         ≡ record { known = None; awaited = (stretch_of (slots arena.now.bits (drop head entries.now))).awaited } }
     ensures front { front.new ≡ record front.old {
-        bits = front.old.bits ++ known_bits (stretch_of (slots arena.now.bits (drop head entries.now))).known } }
+      bits = front.old.bits ++ known_bits (stretch_of (slots arena.now.bits (drop head entries.now))).known;
+    } }
 {
     for at in head..entries.len() {
         match entries[at] {

@@ -1,4 +1,4 @@
--- Bits in a buffer, for the prover.
+-- Mirror for the prover: bits in a buffer, and bits that are copied.
 use Rattle.std.specs.Prelude.{◌≡◌, ℕ, ◌+◌, ◌<◌, List}
 use Rattle.dfdl_forms.specs.declared.order.BitOrder.{BitOrder}
 use Rattle.dfdl_bits.specs.Bits.{data_bit}

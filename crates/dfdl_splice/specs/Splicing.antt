@@ -47,7 +47,7 @@ abbrev pub one_if_any : List ℕ → ℕ
 one_if_any [] = 0
 one_if_any (bit ∷ bits) = 1
 
--- how many pieces count: what is left of the front is one
+-- how many pieces count: what is left of the front, where a bit of it is, is one
 abbrev pub piece_count : Spliced → ℕ
 piece_count splice = one_if_any splice.front + awaited_count splice.awaited
 
@@ -60,7 +60,7 @@ pub record Stretch : Type 0 where
   pub known : Option (List ℕ)
   pub awaited : List Awaited
 
--- the bits of one more piece at the end, behind bits that are known
+-- the bits of a piece between what is known before it and behind it
 abbrev pub joined : Option (List ℕ) → List ℕ → Option (List ℕ) → Option (List ℕ)
 joined before bits behind = Some (known_bits before ++ (bits ++ known_bits behind))
 

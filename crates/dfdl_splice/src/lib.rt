@@ -15,6 +15,4 @@ pub use dfdl_forms::BitOrder;
 pub use splice::{Full, Splice};
 
 #[cfg(test)]
-mod model_tests;
-#[cfg(test)]
 mod tests;

@@ -1,10 +1,10 @@
 -- Entries, and the slots that they stand for.
-use Rattle.std.proofs.Common.{◌≡◌, ℕ, zero, suc, ◌+◌, ◌-◌, ◌*◌, ◌<◌, ◌≤◌, Option, None, Some, List, [], ◌∷◌, ◌++◌, length, take, drop, set, get_or, refl, ap, sym, ◌∙◌, inl, inr, ◌⊎◌, arith, append_assoc, length-append}
-use Rattle.std.proofs.lemmas.List.{drop-set-add, set_split, set-get_or, drop-drop, take_all, take_at, drop_at, take-append-le, drop-append-le, length-drop}
+use Rattle.std.proofs.Common.{◌≡◌, ℕ, zero, suc, ◌+◌, ◌-◌, ◌<◌, ◌≤◌, Option, List, [], ◌∷◌, ◌++◌, length, take, drop, set, get_or, refl, ap, sym, ◌∙◌, inl, inr, arith, length-append}
+use Rattle.std.proofs.lemmas.List.{drop-set-add, set_split, set-get_or, drop-drop, take_all, drop_at, take-append-le, drop-append-le, length-drop}
 use Rattle.dfdl_splice.specs.declared.entry.Entry.{Entry}
 use Rattle.dfdl_splice.specs.declared.entry.Entry.TheVariants.{Awaits, Known}
-use Rattle.dfdl_splice.specs.Splicing.{Awaited, Stretch, known_bits, filled, IsAwaited}
-use Rattle.dfdl_splice.specs.Entries.{Slot, Waits, Has, slot_of, slots, piece_of, before, stretch_of, runs_in, bits_in, has, ends_has, begins_has, IsFor, IsWithin, AreWithin, Rising}
+use Rattle.dfdl_splice.specs.Splicing.{filled, IsAwaited}
+use Rattle.dfdl_splice.specs.Entries.{Slot, Waits, Has, slot_of, slots, piece_of, stretch_of, runs_in, bits_in, has, ends_has, begins_has, IsFor, IsWithin, AreWithin, Rising}
 use Rattle.dfdl_splice.proofs.Slots.{NoneIs, fill, fill_runs, fill_bits}
 
 -- the last entry of a list

@@ -1,11 +1,11 @@
 -- A table of which one piece gets its bits.
-use Rattle.std.proofs.Common.{◌≡◌, ℕ, zero, suc, ◌+◌, ◌-◌, ◌*◌, ◌<◌, ◌≤◌, Option, None, Some, List, [], ◌∷◌, ◌++◌, length, take, drop, set, get_or, refl, ap, sym, ◌∙◌, arith}
+use Rattle.std.proofs.Common.{◌≡◌, ℕ, ◌+◌, ◌-◌, ◌<◌, ◌≤◌, List, [], ◌∷◌, ◌++◌, length, take, drop, set, get_or, ap, sym, ◌∙◌, arith}
 use Rattle.std.proofs.lemmas.List.{take_rest}
 use Rattle.dfdl_splice.specs.declared.entry.Entry.{Entry}
 use Rattle.dfdl_splice.specs.declared.entry.Entry.TheVariants.{Awaits, Known}
 use Rattle.dfdl_splice.specs.declared.table.Table.{Table}
-use Rattle.dfdl_splice.specs.Entries.{Slot, Waits, Has, slots, piece_of, stretch_of, runs_in, ends_has, begins_has}
-use Rattle.dfdl_splice.specs.Tables.{IsSound, IsAwaitedAt, live, stretch_in}
+use Rattle.dfdl_splice.specs.Entries.{Slot, Waits, slots, piece_of, stretch_of, runs_in, ends_has, begins_has}
+use Rattle.dfdl_splice.specs.Tables.{IsSound, IsAwaitedAt, live}
 use Rattle.dfdl_splice.proofs.Slots.{fill_runs, ends_few, begins_few}
 use Rattle.dfdl_splice.proofs.Entries.{slots-append, live_set, live_at}
 use Rattle.dfdl_splice.proofs.Tables.{known_is}

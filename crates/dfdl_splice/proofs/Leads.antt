@@ -1,5 +1,5 @@
 -- The pieces before the first one that is awaited.
-use Rattle.std.proofs.Common.{◌≡◌, ℕ, zero, suc, ◌+◌, ◌-◌, ◌*◌, ◌<◌, ◌≤◌, Option, None, Some, List, [], ◌∷◌, ◌++◌, length, take, drop, get_or, refl, ap, sym, ◌∙◌, arith, length-append}
+use Rattle.std.proofs.Common.{◌≡◌, ℕ, ◌+◌, ◌-◌, ◌<◌, ◌≤◌, Option, None, Some, List, [], ◌∷◌, ◌++◌, length, take, drop, get_or, refl, ap, sym, ◌∙◌, arith, length-append}
 use Rattle.std.proofs.lemmas.List.{append-nil, drop_more, drop-drop}
 use Rattle.dfdl_forms.specs.declared.order.BitOrder.{BitOrder}
 use Rattle.dfdl_splice.specs.declared.entry.Entry.{Entry}

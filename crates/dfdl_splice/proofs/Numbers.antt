@@ -1,9 +1,9 @@
 -- A number of a range tells its bits.
-use Rattle.std.proofs.Common.{◌≡◌, ℕ, zero, suc, ◌+◌, ◌-◌, ◌*◌, ◌/◌, ◌%◌, ◌^◌, ◌<◌, ◌≤◌, List, refl, ap, sym, ◌∙◌, subst, inl, inr, ◌⊎◌, arith, add-one}
-use Rattle.std.proofs.lemmas.Nat.{pow-add, pow_pos}
+use Rattle.std.proofs.Common.{◌≡◌, ℕ, zero, suc, ◌+◌, ◌-◌, ◌*◌, ◌^◌, ◌<◌, ◌≤◌, List, refl, sym, ◌∙◌, inl, inr, ◌⊎◌, arith, add-one}
+use Rattle.std.proofs.lemmas.Nat.{pow-add}
 use Rattle.std.proofs.lemmas.Bool.{cases_eq}
 use Rattle.std.proofs.lemmas.Nat.Bits.{bit_at-lt}
-use Rattle.dfdl_bits.specs.Bits.{sum_below, number_of, data_bit, place_of}
+use Rattle.dfdl_bits.specs.Bits.{sum_below, number_of, data_bit}
 use Rattle.dfdl_forms.specs.declared.order.BitOrder.{BitOrder}
 use Rattle.dfdl_forms.specs.declared.order.BitOrder.TheVariants.{MostFirst, LeastFirst}
 use Rattle.dfdl_forms.specs.declared.order.ByteOrder.TheVariants.{Big}

@@ -1,13 +1,13 @@
 -- Entries that are written anew.
-use Rattle.std.proofs.Common.{◌≡◌, ℕ, zero, suc, ◌+◌, ◌-◌, ◌*◌, ◌<◌, ◌≤◌, Option, None, Some, List, [], ◌∷◌, ◌++◌, length, take, drop, set, get_or, refl, ap, sym, ◌∙◌, subst, arith, append_assoc, length-append}
-use Rattle.std.proofs.lemmas.List.{take_more, take_more_set, drop-drop, append-nil, take_all, take_at, drop_at, take-append-le, drop-append-le, length-drop, length-take-le}
+use Rattle.std.proofs.Common.{◌≡◌, ℕ, zero, suc, ◌+◌, ◌-◌, ◌*◌, ◌<◌, ◌≤◌, Some, List, [], ◌∷◌, ◌++◌, length, take, drop, set, get_or, refl, ap, sym, ◌∙◌, subst, arith, append_assoc, length-append}
+use Rattle.std.proofs.lemmas.List.{take_more, take_more_set, drop-drop, append-nil, take_all, drop_at, drop-append-le, length-drop, length-take-le}
 use Rattle.dfdl_lemmas.proofs.Lists.{left_at}
 use Rattle.dfdl_splice.specs.declared.entry.Entry.{Entry}
 use Rattle.dfdl_splice.specs.declared.entry.Entry.TheVariants.{Awaits, Known}
-use Rattle.dfdl_splice.specs.Splicing.{Awaited, Stretch, known_bits}
+use Rattle.dfdl_splice.specs.Splicing.{known_bits}
 use Rattle.dfdl_splice.specs.Entries.{Slot, Waits, Has, slot_of, slots, piece_of, before, stretch_of, runs_in, bits_in, has, ends_has, IsWithin, AreWithin, Rising, entry_bits, moved_to, joined_with, kept_with, EndsWith, LastEndsWith, Packing}
 use Rattle.dfdl_splice.proofs.Slots.{snoc_runs, bits_before, slot_bits}
-use Rattle.dfdl_splice.proofs.Entries.{slots-append, slot_of-more, slots-more, is_within-more, within-more, rising-other, rising-without}
+use Rattle.dfdl_splice.proofs.Entries.{slot_of-more, is_within-more, rising-other, rising-without}
 
 -- an entry behind others, by the last of them
 pub kept_with-last : (front : List Entry) (last entry : Entry) → kept_with (front ++ last ∷ []) entry ≡ front ++ joined_with last entry

@@ -1,7 +1,7 @@
 -- Slots, and the pieces that they stand for.
-use Rattle.std.proofs.Common.{◌≡◌, ℕ, zero, suc, ◌+◌, ◌-◌, ◌*◌, ◌<◌, ◌≤◌, Option, None, Some, Bool, true, false, cond, eqb, List, [], ◌∷◌, ◌++◌, length, take, drop, get_or, refl, ap, sym, ◌∙◌, inl, inr, ◌⊎◌, arith, rules, append_assoc, length-append}
+use Rattle.std.proofs.Common.{◌≡◌, ℕ, ◌+◌, ◌*◌, ◌<◌, ◌≤◌, Option, None, Some, Bool, true, false, cond, eqb, List, [], ◌∷◌, ◌++◌, length, refl, ap, ◌∙◌, inl, inr, arith, append_assoc, length-append}
 use Rattle.std.proofs.lemmas.Bool.Decides.{eqb_tells}
-use Rattle.dfdl_splice.specs.Splicing.{Awaited, Stretch, known_bits, one_run, awaited_count, behind_count, joined, filled, IsAwaited}
+use Rattle.dfdl_splice.specs.Splicing.{Awaited, Stretch, known_bits, joined, filled}
 use Rattle.dfdl_splice.specs.Entries.{Slot, Waits, Has, before, stretch_of, runs_in, bits_in, has, ends_has, begins_has}
 
 -- at most one

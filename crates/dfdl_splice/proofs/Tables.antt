@@ -1,15 +1,15 @@
 -- A table, and what it stands for.
-use Rattle.std.proofs.Common.{◌≡◌, ℕ, zero, suc, ◌+◌, ◌-◌, ◌*◌, ◌^◌, ◌<◌, ◌≤◌, Option, None, Some, List, [], ◌∷◌, ◌++◌, length, take, drop, set, get_or, refl, ap, sym, ◌∙◌, arith, length-append}
+use Rattle.std.proofs.Common.{◌≡◌, ℕ, ◌+◌, ◌*◌, ◌<◌, ◌≤◌, Option, None, List, [], ◌∷◌, ◌++◌, length, get_or, refl, ap, sym, ◌∙◌, arith}
 use Rattle.std.proofs.lemmas.List.{get_or-drop, get_or_default, length-drop, append-nil}
 use Rattle.dfdl_splice.specs.declared.entry.Entry.{Entry}
 use Rattle.dfdl_splice.specs.declared.entry.Entry.TheVariants.{Awaits, Known}
 use Rattle.dfdl_splice.specs.declared.table.Table.{Table}
 use Rattle.dfdl_splice.specs.Copying.{Buffered}
-use Rattle.dfdl_splice.specs.Splicing.{Stretch, filled, IsAwaited}
-use Rattle.dfdl_splice.specs.Entries.{Slot, Waits, Has, slots, piece_of, stretch_of, runs_in, bits_in, ends_has, begins_has, AreWithin, Rising, Packing}
-use Rattle.dfdl_splice.specs.Tables.{IsSound, Keeps, IsAwaitedAt, live, stretch_in}
+use Rattle.dfdl_splice.specs.Splicing.{filled, IsAwaited}
+use Rattle.dfdl_splice.specs.Entries.{Waits, slots, piece_of, stretch_of, runs_in, bits_in, ends_has, begins_has, Packing}
+use Rattle.dfdl_splice.specs.Tables.{IsSound, IsAwaitedAt, live, stretch_in}
 use Rattle.dfdl_splice.proofs.Slots.{push, push_bits, snoc_runs}
-use Rattle.dfdl_splice.proofs.Entries.{slots-append, within-append, within-drop, rising-drop, rising-push, awaited_at, for_piece, for_awaits, put_stretch, put_runs, put_bits, put_within, put_rising}
+use Rattle.dfdl_splice.proofs.Entries.{slots-append, within-append, rising-push, awaited_at, for_piece, for_awaits, put_stretch, put_runs, put_bits, put_within, put_rising}
 
 pub known_is : (p q b c m n : ℕ) → p ≡ q → b ≡ c → m ≡ n → Known p b m ≡ Known q c n
 known_is p q b c m n e f g = cc

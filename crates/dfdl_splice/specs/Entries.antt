@@ -1,8 +1,8 @@
 -- Mirror for the prover: what the entries of a table stand for.
-use Rattle.std.specs.Prelude.{◌≡◌, ℕ, ◌+◌, ◌*◌, ◌≤◌, Option, None, Some, List, [], ◌∷◌, ◌++◌, length, take, drop, map}
+use Rattle.std.specs.Prelude.{◌≡◌, ℕ, ◌+◌, ◌≤◌, Option, None, Some, List, [], ◌∷◌, ◌++◌, length, take, drop}
 use Rattle.dfdl_splice.specs.declared.entry.Entry.{Entry}
 use Rattle.dfdl_splice.specs.declared.entry.Entry.TheVariants.{Awaits, Known}
-use Rattle.dfdl_splice.specs.Splicing.{Awaited, Stretch, known_bits, one_run, awaited_count, behind_count, Fits}
+use Rattle.dfdl_splice.specs.Splicing.{Stretch, known_bits, one_run, awaited_count, behind_count, Fits}
 
 -- a piece that is awaited, or the bits of pieces that are put
 pub data Slot : Type 0 where

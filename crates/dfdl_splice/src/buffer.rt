@@ -1,5 +1,5 @@
 // A buffer of bits.
-ghost use Rattle.std.specs.Prelude.{◌≡◌, ◌+◌, ◌-◌, ◌*◌, ◌/◌, ◌%◌, ◌^◌, ◌<◌, ◌≤◌, [], ◌∷◌, ◌++◌, length, take, drop, All, IfOk, vec_len, vec_capacity};
+ghost use Rattle.std.specs.Prelude.{◌≡◌, ◌+◌, ◌-◌, ◌*◌, ◌/◌, ◌^◌, ◌<◌, ◌≤◌, [], ◌∷◌, ◌++◌, length, take, drop, All, IfOk, vec_len, vec_capacity};
 ghost use Rattle.dfdl_splice.specs.Bits.{bits_from};
 ghost use Rattle.dfdl_splice.specs.Copying.{Buffered, Copies};
 ghost use Rattle.dfdl_splice.specs.Splicing.{one_if_any};

@@ -1,5 +1,5 @@
 // Bits copied from any place of some bytes to any place of others.
-ghost use Rattle.std.specs.Prelude.{◌≡◌, ◌+◌, ◌*◌, ◌^◌, ◌<◌, ◌≤◌, length};
+ghost use Rattle.std.specs.Prelude.{◌+◌, ◌*◌, ◌^◌, ◌<◌, ◌≤◌, length};
 ghost use Rattle.dfdl_splice.specs.Copying.{Copies};
 
 use dfdl_bits::{ByteOrder, number_at_64, put_number_64};

@@ -1,5 +1,5 @@
 // Entries that are written anew, those that stand side by side joined.
-ghost use Rattle.std.specs.Prelude.{◌≡◌, ℕ, ◌+◌, ◌*◌, ◌^◌, ◌<◌, ◌≤◌, [], ◌∷◌, ◌++◌, length, take, drop, vec_capacity};
+ghost use Rattle.std.specs.Prelude.{◌≡◌, ◌+◌, ◌*◌, ◌^◌, ◌<◌, ◌≤◌, [], ◌++◌, length, take, drop, vec_capacity};
 ghost use Rattle.dfdl_splice.specs.Entries.{slots, stretch_of, bits_in, IsWithin, AreWithin, entry_bits, moved_to, kept_with, Packing};
 
 use crate::buffer::Buffer;

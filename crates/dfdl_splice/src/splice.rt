@@ -1,5 +1,5 @@
 // Pieces of bits that are put in any order.
-ghost use Rattle.std.specs.Prelude.{◌≡◌, ℕ, ◌+◌, ◌-◌, ◌*◌, ◌/◌, ◌^◌, ◌<◌, ◌≤◌, ◌↔◌, [], length, take, All, IsTrue, IfOk, OnErr, IsErr};
+ghost use Rattle.std.specs.Prelude.{◌≡◌, ◌+◌, ◌-◌, ◌*◌, ◌/◌, ◌^◌, ◌<◌, ◌≤◌, ◌↔◌, [], length, take, All, IsTrue, IfOk, OnErr, IsErr};
 ghost use Rattle.dfdl_splice.specs.Bits.{bits_from};
 ghost use Rattle.dfdl_splice.specs.Splicing.{with_piece, with_bits, without_front, whole_bits, piece_count, bit_count, IsAwaited};
 

@@ -1,9 +1,9 @@
 // The pieces from the first awaited one on.
-ghost use Rattle.std.specs.Prelude.{◌≡◌, ◌↔◌, ℕ, IsTrue, List, ◌+◌, ◌-◌, ◌*◌, ◌^◌, ◌<◌, ◌≤◌, Option, [], ◌∷◌, ◌++◌, None, length, drop, IfOk, vec_len, vec_capacity};
+ghost use Rattle.std.specs.Prelude.{◌≡◌, ◌↔◌, ℕ, IsTrue, List, ◌+◌, ◌-◌, ◌*◌, ◌^◌, ◌<◌, ◌≤◌, Option, [], ◌∷◌, ◌++◌, None, length, drop, IfOk, vec_capacity};
 ghost use Rattle.dfdl_splice.specs.Bits.{bits_from};
 ghost use Rattle.dfdl_splice.specs.Splicing.{filled, IsAwaited, known_bits};
 ghost use Rattle.dfdl_splice.specs.Entries.{slots, stretch_of, bits_in, AreWithin, Rising};
-ghost use Rattle.dfdl_splice.specs.Tables.{IsSound, Keeps, IsAwaitedAt, live, stretch_in};
+ghost use Rattle.dfdl_splice.specs.Tables.{IsSound, Keeps, IsAwaitedAt, stretch_in};
 
 use crate::buffer::Buffer;
 use crate::entry::{Entry, begins_known, ends_known, find};

@@ -1,4 +1,4 @@
-use Rattle.std.proofs.Common.{ℕ, ◌^◌, ◌-◌, arith}
+use Rattle.std.proofs.Common.{◌^◌, ◌-◌, arith}
 use Rattle.dfdl_splice.proofs.Packs.{kept_joined, kept_behind, within_at}
 use Rattle.dfdl_splice.proofs.pack.keep.Goals as goal
 

@@ -1,4 +1,4 @@
-use Rattle.std.proofs.Common.{ℕ, ◌^◌, ◌-◌, ◌∙◌, ap, arith, take}
+use Rattle.std.proofs.Common.{◌^◌, ◌∙◌, ap, arith}
 use Rattle.dfdl_splice.specs.Copying.{Buffered}
 use Rattle.dfdl_splice.proofs.Entries.{within-more}
 use Rattle.dfdl_splice.proofs.Packs.{packing_step}

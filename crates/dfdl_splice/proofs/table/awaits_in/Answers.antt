@@ -1,4 +1,4 @@
-use Rattle.std.proofs.Common.{ℕ, ◌≡◌, List, None, get_or, arith}
+use Rattle.std.proofs.Common.{◌≡◌, None, get_or, arith}
 use Rattle.dfdl_splice.specs.declared.entry.Entry.{Entry}
 use Rattle.dfdl_splice.specs.declared.entry.Entry.TheVariants.{Awaits}
 use Rattle.dfdl_splice.proofs.Entries.{awaited_at, awaited_of, for_piece}

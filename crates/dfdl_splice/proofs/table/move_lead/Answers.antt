@@ -1,4 +1,4 @@
-use Rattle.std.proofs.Common.{ℕ, ◌*◌, arith, length-append}
+use Rattle.std.proofs.Common.{◌*◌, arith, length-append}
 use Rattle.dfdl_splice.specs.Splicing.{known_bits}
 use Rattle.dfdl_splice.specs.Entries.{slots, stretch_of}
 use Rattle.std.proofs.Common.{drop}

@@ -1,4 +1,4 @@
-use Rattle.std.proofs.Common.{◌≡◌, ℕ, ◌∙◌, List, [], ◌∷◌, length, refl, arith}
+use Rattle.std.proofs.Common.{◌≡◌, ℕ, ◌∙◌, List, [], ◌∷◌, length, refl}
 use Rattle.dfdl_splice.specs.Splicing.{one_if_any}
 use Rattle.dfdl_splice.proofs.buffer.Buffer.any.Goals as goal
 

@@ -1,4 +1,4 @@
-use Rattle.std.proofs.Common.{◌≡◌, ℕ, List, length, ap, arith, ◌+◌, ◌*◌, ◌≤◌}
+use Rattle.std.proofs.Common.{ℕ, List, length, ap, arith, ◌+◌, ◌*◌, ◌≤◌}
 use Rattle.dfdl_splice.proofs.Runs.{length-bits_from, appended}
 use Rattle.dfdl_splice.proofs.buffer.Buffer.append.Goals as goal
 

@@ -1,4 +1,4 @@
-use Rattle.std.proofs.Common.{◌≡◌, ℕ, List, length, ap, arith, sym, ◌∙◌, ◌+◌, ◌*◌, ◌≤◌, ◌++◌}
+use Rattle.std.proofs.Common.{ℕ, List, length, ap, arith, sym, ◌+◌, ◌≤◌, ◌++◌}
 use Rattle.dfdl_splice.proofs.Runs.{length-bits_from, bits_from-part}
 use Rattle.dfdl_splice.proofs.buffer.Buffer.append_from.Goals as goal
 

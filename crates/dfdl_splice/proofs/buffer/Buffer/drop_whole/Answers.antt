@@ -1,4 +1,4 @@
-use Rattle.std.proofs.Common.{ap, List, ℕ, arith, ◌*◌, ◌/◌, ◌%◌}
+use Rattle.std.proofs.Common.{ap, List, ℕ, arith, ◌/◌, ◌%◌}
 use Rattle.dfdl_splice.proofs.Runs.{length-bits_from, bits_from-drop}
 use Rattle.dfdl_splice.proofs.buffer.Buffer.drop_whole.Goals as goal
 

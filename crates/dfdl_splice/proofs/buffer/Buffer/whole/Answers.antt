@@ -1,4 +1,4 @@
-use Rattle.std.proofs.Common.{sym, ◌∙◌, arith, ◌≡◌, length, ◌*◌, ◌/◌, take}
+use Rattle.std.proofs.Common.{sym, ◌∙◌, arith, ◌≡◌, ◌*◌, ◌/◌, take}
 use Rattle.std.proofs.lemmas.List.{length-take-le}
 use Rattle.dfdl_splice.proofs.Runs.{length-bits_from, bits_from-take, bits_from-front}
 use Rattle.dfdl_splice.proofs.buffer.Buffer.whole.Goals as goal

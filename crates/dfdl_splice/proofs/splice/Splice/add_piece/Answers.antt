@@ -1,4 +1,4 @@
-use Rattle.std.proofs.Common.{ℕ, ◌≡◌, ◌∙◌, ap, arith}
+use Rattle.std.proofs.Common.{◌∙◌, ap, arith}
 use Rattle.dfdl_splice.specs.Splicing.{Stretch}
 use Rattle.dfdl_splice.specs.Tables.{stretch_in}
 use Rattle.dfdl_splice.proofs.Leads.{behind-push}

@@ -1,7 +1,7 @@
-use Rattle.std.proofs.Common.{ℕ, ◌≡◌, ◌∙◌, ap, arith}
+use Rattle.std.proofs.Common.{◌≡◌, ◌∙◌, ap}
 use Rattle.dfdl_forms.specs.declared.order.BitOrder.{BitOrder}
 use Rattle.dfdl_splice.specs.Copying.{Buffered}
-use Rattle.dfdl_splice.specs.Splicing.{Stretch, filled}
+use Rattle.dfdl_splice.specs.Splicing.{filled}
 use Rattle.dfdl_splice.specs.Bits.{bits_from}
 use Rattle.dfdl_splice.specs.Tables.{stretch_in}
 use Rattle.dfdl_splice.proofs.Leads.{put_view}

@@ -1,4 +1,4 @@
-use Rattle.std.proofs.Common.{ℕ, ◌≡◌, ◌+◌, ◌∙◌, Option, None, [], ◌∷◌, ◌++◌, length, ap, arith, refl, length-append}
+use Rattle.std.proofs.Common.{ℕ, ◌≡◌, ◌+◌, ◌∙◌, Option, None, [], ◌∷◌, ◌++◌, arith, refl, length-append}
 use Rattle.std.proofs.lemmas.List.{drop-append-le}
 use Rattle.dfdl_splice.specs.declared.entry.Entry.TheVariants.{Awaits}
 use Rattle.dfdl_splice.specs.Splicing.{Stretch}

@@ -1,4 +1,4 @@
-use Rattle.std.proofs.Common.{ℕ, ◌≡◌, ◌∙◌, ◌-◌, List, length, take, drop, ap, arith, refl}
+use Rattle.std.proofs.Common.{◌≡◌, ◌∙◌, ◌-◌, List, length, take, drop, ap, arith, refl}
 use Rattle.std.proofs.lemmas.List.{take_rest}
 use Rattle.dfdl_splice.specs.declared.entry.Entry.{Entry}
 use Rattle.dfdl_splice.specs.Entries.{slots, begins_has}

@@ -2,7 +2,7 @@
 ghost use Rattle.std.specs.Prelude.{◌≡◌, map, string_bytes};
 ghost use Rattle.dfdl_run.specs.Run.{IsRun};
 
-use crate::chooser::Chooser;
+use crate::Chooser;
 use crate::deciding::decide;
 use crate::delivery::finish;
 use dfdl_documents::laws::loading_is_one;

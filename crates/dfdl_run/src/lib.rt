@@ -9,7 +9,6 @@
 
 pub mod answer;
 pub mod call;
-pub mod chooser;
 mod command;
 mod deciding;
 mod delivery;
@@ -20,8 +19,8 @@ mod unparsing;
 
 pub use answer::Answer;
 pub use call::run;
-pub use chooser::{Chooser, FirstReady};
 pub use deciding::MOST_INPUT;
+pub use dfdl_suspend::{Chooser, FirstReady};
 pub use loading::MOST_SCHEMA;
 pub use stop::Stop;
 

@@ -1,5 +1,5 @@
 ghost use Rattle.std.specs.Prelude.{ℕ, ◌<◌};
-ghost use Rattle.dfdl_edge.specs.Faults.{Rose};
+ghost use Rattle.dfdl_suspend.specs.Rises.{RoseBy};
 
 /// Which of the values that are ready is computed next while unparsing.
 pub trait Chooser {
@@ -10,7 +10,7 @@ pub trait Chooser {
     fn pick(&mut self, ready: usize) -> usize
         requires { 0 < ready }
         ensures within { result < ready }
-        ensures counted { Rose (picks self.old) (picks self.new) };
+        ensures counted { RoseBy 1 (picks self.old) (picks self.new) };
 }
 
 /// Picks the first of the values that are ready, and counts its picks.

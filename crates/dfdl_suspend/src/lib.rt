@@ -5,6 +5,7 @@
 #![tactic(auto)]
 
 pub mod chooser;
+pub mod laws;
 
 pub use chooser::{Chooser, FirstReady};
 

@@ -1,3 +1,6 @@
+mod Earliest
+mod Padding
 mod Places
+mod Rounding
 mod Solving
 mod Trees

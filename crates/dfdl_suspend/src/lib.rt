@@ -1,13 +1,23 @@
 // Values that wait for one another while unparsing.
 //
-// `Chooser` picks which of the values that are ready is computed next; specs/Rises.antt says how its count of picks
-// rises. It serves 'DFDL Processing Introduction'.
+// Each unknown has an equation, which asks for other unknowns one after another (specs/Asks.antt). What they come to is
+// their least solution (specs/Rounds.antt), in whatever order they are computed: a `Chooser` picks which of those that
+// are ready is computed next. It serves 'DFDL Processing Introduction'.
 #![tactic(auto)]
 
 pub mod chooser;
+pub mod equations;
+mod firsts;
+pub mod known;
 pub mod laws;
+mod rounds;
+pub mod solved;
 
 pub use chooser::{Chooser, FirstReady};
+pub use dfdl_value::CellId;
+pub use equations::{Answer, Equations};
+pub use known::{Held, Known};
+pub use solved::Solved;
 
 #[cfg(test)]
 mod tests;

@@ -42,8 +42,14 @@ pub(crate) fn fault_with<E: Equations>(equations: &E, best: Option<(CellId, u8)>
         → IsFirstFault (E.precedes equations.now) cell (E.equation equations.now) known best
         → IsFirstFault (E.precedes equations.now) (cell + 1) (E.equation equations.now) known result }
 {
-    let Some(found) = best else {
-        return Some((cell, cause));
-    };
-    if equations.earlier(cell, found.0) { Some((cell, cause)) } else { Some(found) }
+    match best {
+        None => Some((cell, cause)),
+        Some(found) => {
+            if equations.earlier(cell, found.0) {
+                Some((cell, cause))
+            } else {
+                Some(found)
+            }
+        }
+    }
 }

@@ -1,7 +1,11 @@
 -- The first of some unknowns, as one unknown more is looked at.
 use Rattle.std.proofs.Common.{◌≡◌, ◌≢◌, ℕ, ◌+◌, ◌<◌, Bool, true, false, Option, Some, None, List, refl, sym, ap, subst, ◌∙◌, arith, inl, inr, ◌⊎◌}
 use Rattle.std.proofs.lemmas.Bool.{cases_eq}
-use Rattle.dfdl_suspend.specs.Asks.{Asks, Faults, gives}
+use Rattle.std.specs.Option.{is_some}
+use Rattle.dfdl_suspend.specs.Asks.{Asks, Gives, Gets, Faults, WaitsFor, at, gives}
+use Rattle.dfdl_suspend.specs.Rounds.{Reached}
+use Rattle.dfdl_suspend.proofs.Places.{option_cases}
+use Rattle.dfdl_suspend.proofs.Solving.{reached_consistent}
 use Rattle.dfdl_suspend.specs.Outcomes.{IsOrder, IsFirst, IsBest, NoneHas, HasFault, IsFirstFault}
 
 module _ (earlier : ℕ → ℕ → Bool) (count n : ℕ) (P : ℕ → Type 0) (within : n < count) (order : IsOrder count earlier) where
@@ -69,3 +73,24 @@ module _ {V : Type 0} (earlier : ℕ → ℕ → Bool) (count n : ℕ) (equation
 
   pub fault_old : (found : ℕ × ℕ) → IsFirstFault earlier n equation known (Some found) → earlier n found.0 ≡ false → IsFirstFault earlier (n + 1) equation known (Some found)
   fault_old found old behind = (old.0, first_old earlier count n (HasFault equation known) within order found.0 old.1 behind)
+
+-- an unknown with a value, or one that waits, isn't faulty
+pub known_no_fault : {V : Type 0} (cells : ℕ) (equation : ℕ → Asks V) (known : List (Option V)) (i : ℕ) → Reached cells equation known
+    → is_some (at known i) ≡ true → HasFault equation known i → ⊥
+known_no_fault cells equation known i reached some has = elim (option_cases (at known i)) [
+  | inl none ↦ absurd (false_some (at known i) none some)
+  | inr value ↦ apart value.0 has.0 (sym (reached_consistent cells equation known i value.0 reached value.1) ∙ has.1)
+]
+  where
+    false_some : {X : Type 0} (o : Option X) → o ≡ None → is_some o ≡ true → ⊥
+    false_some None e some = cc
+    false_some (Some x) e some = cc
+
+    apart : {V : Type 0} (v : V) (cause : ℕ) → Gets v ≡ Faults cause → ⊥
+    apart v cause e = cc
+
+pub wait_no_fault : {V : Type 0} (equation : ℕ → Asks V) (known : List (Option V)) (i w : ℕ) → gives (equation i) known ≡ WaitsFor w → HasFault equation known i → ⊥
+wait_no_fault {V} equation known i w waits has = apart has.0 (sym waits ∙ has.1)
+  where
+    apart : (cause : ℕ) → ◌≡◌ {A = Gives V} (WaitsFor w) (Faults cause) → ⊥
+    apart cause e = cc

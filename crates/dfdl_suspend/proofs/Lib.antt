@@ -1,6 +1,8 @@
 mod Earliest
+mod Links
 mod Padding
 mod Places
+mod Readies
 mod Rounding
 mod Solving
 mod Trees

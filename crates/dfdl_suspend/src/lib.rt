@@ -10,13 +10,17 @@ pub mod equations;
 mod firsts;
 pub mod known;
 pub mod laws;
-mod rounds;
+pub mod mark;
+mod queue;
+pub mod rounds;
 pub mod solved;
 
 pub use chooser::{Chooser, FirstReady};
 pub use dfdl_value::CellId;
 pub use equations::{Answer, Equations};
 pub use known::{Held, Known};
+pub use mark::Mark;
+pub use rounds::{Solution, solve_by_rounds};
 pub use solved::Solved;
 
 #[cfg(test)]

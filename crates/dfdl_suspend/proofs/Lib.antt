@@ -6,3 +6,5 @@ mod Readies
 mod Rounding
 mod Solving
 mod Trees
+mod Waking
+mod Woken

@@ -1,14 +1,15 @@
 -- The list of those that are ready, as one leaves it or comes to it.
-use Rattle.std.proofs.Common.{◌≡◌, ◌≢◌, ℕ, ◌+◌, ◌<◌, ◌≤◌, Bool, true, false, ◌||◌, Option, Some, None, List, [], ◌∷◌, ◌++◌, length, set, get_or, nat_eq, refl, sym, ap, ◌∙◌, arith, inl, inr, ◌⊎◌}
+use Rattle.std.proofs.Common.{◌≡◌, ◌≢◌, ℕ, ◌+◌, ◌<◌, ◌≤◌, Bool, true, false, ◌||◌, Option, Some, None, List, [], ◌∷◌, ◌++◌, length, set, get_or, nat_eq, refl, sym, ap, ◌∙◌, arith, length-set, inl, inr, ◌⊎◌}
 use Rattle.std.specs.Cmp.{nat_eq_equiv}
 use Rattle.std.specs.List.{slice_get, list_any, IsDistinct, AllByRecursion}
 use Rattle.std.specs.List.Sorted.{IsPermutation}
 use Rattle.std.proofs.lemmas.Bool.{cases_eq, or_cases, eqb-true, eq-eqb}
+use Rattle.std.proofs.lemmas.List.{length_push}
 use Rattle.std.proofs.lemmas.List.Folds.{list_any-append}
 use Rattle.std.proofs.lemmas.List.Sorted.{list_any-IsPermutation}
 use Rattle.std.proofs.lemmas.Map.Keys.{IsDistinct-head, IsDistinct-tail, IsDistinct-push, IsDistinct-IsPermutation, any_passes_from_place}
 use Rattle.std.proofs.lemmas.Map.Steps.{length-le_from_distinct_below}
-use Rattle.std.proofs.lemmas.Option.{slice_get_within}
+use Rattle.std.proofs.lemmas.Option.{slice_get_within, slice_get_read}
 use Rattle.dfdl_suspend.specs.declared.mark.Mark.{Mark}
 use Rattle.dfdl_suspend.specs.declared.mark.Mark.TheVariants.{Ready, Done, Waits, Faulty}
 use Rattle.dfdl_suspend.specs.Marks.{is_in, IsReadyList}
@@ -131,3 +132,16 @@ module _ (marks : List Mark) (ready : List ℕ) (is : IsReadyList marks ready) w
     where
       past : length marks < length marks → ⊥
       past h = omega arith
+
+-- the unknown at a place of the list is ready
+pub ready_at_is : (marks : List Mark) (ready : List ℕ) (i cell : ℕ) → IsReadyList marks ready → i < length ready → cell ≡ get_or ready i cell → slice_get marks cell ≡ Some Ready
+ready_at_is marks ready i cell is within e = is.each cell (in_at ready i cell (slice_get_read ready (length ready) i cell refl within e))
+
+-- where one isn't ready, fewer are ready than there are
+pub room_ready : (marks : List Mark) (ready : List ℕ) (cell : ℕ) (m : Mark) → IsReadyList marks ready → slice_get marks cell ≡ Some m → (m ≡ Ready → ⊥) → length ready < length marks
+room_ready marks ready cell m is stands other =
+    let few = few_ready (set marks cell Ready) (ready ++ cell ∷ []) (came_ready marks ready is cell m stands other) in
+    let more = length_push ready cell in let same = length-set marks cell Ready in omega arith
+
+pub waits_ready : (w : ℕ) → Waits w ≡ Ready → ⊥
+waits_ready w e = cc

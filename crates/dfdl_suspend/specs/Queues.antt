@@ -15,11 +15,18 @@ IsLinked marks next unknown head [] = head ≡ list_end
 IsLinked marks next unknown head (cell ∷ cells) =
     (cell ≡ head) × (slice_get marks cell ≡ Some (Waits unknown)) × (is_in cell cells ≡ false) × IsLinked marks next unknown (get_or next cell 0) cells
 
--- from a head on all are linked that wait for an unknown; one that waits for itself needn't be
+-- from a head on all others are linked that wait for an unknown
 pub record IsWaited (marks : List Mark) (next : List ℕ) (unknown head : ℕ) : Type 0 where
   pub cells : List ℕ
   pub linked : IsLinked marks next unknown head cells
+  pub others : is_in unknown cells ≡ false
   pub all : (cell : ℕ) → slice_get marks cell ≡ Some (Waits unknown) → cell ≢ unknown → is_in cell cells ≡ true
+
+-- from a place on all are linked that still wait for an unknown that got a value
+pub record IsWaking (marks : List Mark) (next : List ℕ) (unknown head : ℕ) : Type 0 where
+  pub cells : List ℕ
+  pub linked : IsLinked marks next unknown head cells
+  pub all : (cell : ℕ) → slice_get marks cell ≡ Some (Waits unknown) → is_in cell cells ≡ true
 
 -- the lists of a board
 pub record IsQueue (marks : List Mark) (ready first next : List ℕ) : Type 0 where
@@ -33,7 +40,7 @@ pub record IsQueue (marks : List Mark) (ready first next : List ℕ) : Type 0 wh
 -- the memory that was taken: for as many unknowns as were opened
 pub record HasRoom (room added marks ready first next : ℕ) : Type 0 where
   pub within : added ≤ room
-  pub marks : room ≤ marks
-  pub ready : room ≤ ready
-  pub first : room ≤ first
-  pub next : room ≤ next
+  pub marks_fit : room ≤ marks
+  pub ready_fit : room ≤ ready
+  pub first_fit : room ≤ first
+  pub next_fit : room ≤ next

@@ -1,5 +1,7 @@
 mod Earliest
+mod Histories
 mod Links
+mod OneRun
 mod Padding
 mod Places
 mod Readies

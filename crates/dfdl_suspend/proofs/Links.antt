@@ -9,7 +9,8 @@ use Rattle.std.proofs.lemmas.Bool.{cases_eq, eqb-true, eq-eqb}
 use Rattle.std.proofs.lemmas.Option.{slice_get_within}
 use Rattle.dfdl_suspend.specs.declared.mark.Mark.{Mark}
 use Rattle.dfdl_suspend.specs.declared.mark.Mark.TheVariants.{Ready, Done, Waits, Faulty}
-use Rattle.dfdl_suspend.specs.Marks.{is_in, IsReadyList, woken, all_woken}
+use Rattle.dfdl_suspend.specs.Asks.{is_in}
+use Rattle.dfdl_suspend.specs.Marks.{IsReadyList, woken, all_woken}
 use Rattle.dfdl_suspend.specs.Queues.{list_end, IsLinked, IsWaited, IsWaking, IsQueue}
 use Rattle.dfdl_suspend.proofs.Places.{get_set_same, get_set_other, get_append_old, get_push_new, get_push_cases}
 use Rattle.dfdl_suspend.proofs.Readies.{in_cons, in_front, in_behind, not_true, few_ready, left_ready, came_ready, added_ready}

@@ -12,7 +12,8 @@ use Rattle.std.proofs.lemmas.Map.Steps.{length-le_from_distinct_below}
 use Rattle.std.proofs.lemmas.Option.{slice_get_within, slice_get_read}
 use Rattle.dfdl_suspend.specs.declared.mark.Mark.{Mark}
 use Rattle.dfdl_suspend.specs.declared.mark.Mark.TheVariants.{Ready, Done, Waits, Faulty}
-use Rattle.dfdl_suspend.specs.Marks.{is_in, IsReadyList}
+use Rattle.dfdl_suspend.specs.Asks.{is_in}
+use Rattle.dfdl_suspend.specs.Marks.{IsReadyList}
 use Rattle.dfdl_suspend.proofs.Places.{get_set_same, get_set_other, get_append_old, get_push_new, get_push_cases}
 
 true_false : {P : Type 0} (b : Bool) → b ≡ true → b ≡ false → P

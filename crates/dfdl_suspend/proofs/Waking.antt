@@ -7,7 +7,8 @@ use Rattle.std.proofs.lemmas.List.{length-map}
 use Rattle.std.proofs.lemmas.Option.{slice_get_within, slice_get-map}
 use Rattle.dfdl_suspend.specs.declared.mark.Mark.{Mark}
 use Rattle.dfdl_suspend.specs.declared.mark.Mark.TheVariants.{Ready, Done, Waits, Faulty}
-use Rattle.dfdl_suspend.specs.Marks.{is_in, IsReadyList, woken, all_woken}
+use Rattle.dfdl_suspend.specs.Asks.{is_in}
+use Rattle.dfdl_suspend.specs.Marks.{IsReadyList, woken, all_woken}
 use Rattle.dfdl_suspend.specs.Queues.{list_end, IsLinked, IsWaited, IsWaking, IsQueue}
 use Rattle.dfdl_suspend.proofs.Places.{get_set_same, get_set_other}
 use Rattle.dfdl_suspend.proofs.Readies.{in_cons, not_true, came_ready}

@@ -1,7 +1,7 @@
 -- What the equation of an unknown is: it asks for other unknowns one after another, and then gives a value or a fault. An
 -- assignment is a list with a place for each unknown, whose unassigned ones are None. The values are of any type.
-use Rattle.std.specs.Prelude.{◌≡◌, ℕ, ◌+◌, Option, Some, None, List, [], ◌∷◌}
-use Rattle.std.specs.List.{slice_get, Contains}
+use Rattle.std.specs.Prelude.{◌≡◌, ℕ, ◌+◌, ◌==◌, Bool, true, Option, Some, None, List, [], ◌∷◌}
+use Rattle.std.specs.List.{slice_get, list_any}
 
 -- an equation: a value, the cause of a fault, or an unknown that it asks for and how it goes on with that one's value
 pub data Asks (V : Type 0) : Type 0 where
@@ -39,11 +39,15 @@ gives (Ask cell more) known = told (at known cell) cell (λ value. gives (more v
 abbrev pub waiting : {V : Type 0} → ℕ → Asks V
 waiting cell = Ask cell (λ value. Is value)
 
+-- a number is in a list
+abbrev pub is_in : ℕ → List ℕ → Bool
+is_in cell cells = list_any (λ other. cell == other) cells
+
 -- each unknown that an equation may ask for is one of these
 abbrev pub AsksWithin : {V : Type 0} → List ℕ → Asks V → Type 0
 AsksWithin asked (Is value) = Unit {0}
 AsksWithin asked (Fails cause) = Unit {0}
-AsksWithin {V} asked (Ask cell more) = Contains asked cell × ((value : V) → AsksWithin asked (more value))
+AsksWithin {V} asked (Ask cell more) = (is_in cell asked ≡ true) × ((value : V) → AsksWithin asked (more value))
 
 -- what one assignment has, the other has too
 abbrev pub Below : {V : Type 0} → List (Option V) → List (Option V) → Type 0

@@ -1,12 +1,9 @@
 -- Where unknowns stand, and the list of those that are ready.
 use Rattle.std.specs.Prelude.{◌≡◌, ◌≢◌, ℕ, ◌<◌, ◌==◌, Bool, true, false, Option, Some, List, map, if◌then◌else◌}
-use Rattle.std.specs.List.{slice_get, list_any, IsDistinct}
+use Rattle.std.specs.List.{slice_get, IsDistinct}
+use Rattle.dfdl_suspend.specs.Asks.{is_in}
 use Rattle.dfdl_suspend.specs.declared.mark.Mark.{Mark}
 use Rattle.dfdl_suspend.specs.declared.mark.Mark.TheVariants.{Ready, Done, Waits, Faulty}
-
--- a number is in a list
-abbrev pub is_in : ℕ → List ℕ → Bool
-is_in cell cells = list_any (λ other. cell == other) cells
 
 -- each ready unknown has exactly one place in a list
 pub record IsReadyList (marks : List Mark) (ready : List ℕ) : Type 0 where

@@ -3,7 +3,8 @@ use Rattle.std.specs.Prelude.{◌≡◌, ◌≢◌, ℕ, ◌+◌, ◌-◌, ◌^�
 use Rattle.std.specs.List.{slice_get}
 use Rattle.dfdl_suspend.specs.declared.mark.Mark.{Mark}
 use Rattle.dfdl_suspend.specs.declared.mark.Mark.TheVariants.{Ready, Done, Waits, Faulty}
-use Rattle.dfdl_suspend.specs.Marks.{is_in, IsReadyList}
+use Rattle.dfdl_suspend.specs.Asks.{is_in}
+use Rattle.dfdl_suspend.specs.Marks.{IsReadyList}
 
 -- the number that ends a list
 abbrev pub list_end : ℕ

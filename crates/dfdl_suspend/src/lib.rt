@@ -5,6 +5,7 @@
 // are ready is computed next. It serves 'DFDL Processing Introduction'.
 #![tactic(auto)]
 
+pub mod board;
 pub mod chooser;
 pub mod equations;
 mod firsts;
@@ -15,6 +16,7 @@ mod queue;
 pub mod rounds;
 pub mod solved;
 
+pub use board::{Board, Full};
 pub use chooser::{Chooser, FirstReady};
 pub use dfdl_value::CellId;
 pub use equations::{Answer, Equations};

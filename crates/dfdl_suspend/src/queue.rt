@@ -81,6 +81,7 @@ impl Queue {
         requires { choice < length self.now.ready }
         ensures cell { result ≡ slice_index self.now.ready choice }
         ensures ready { slice_get self.now.marks result ≡ Some Mark.Ready }
+        ensures shown { IsReadyList self.now.marks self.now.ready }
     {
         self.ready[choice]
     }
@@ -98,6 +99,7 @@ impl Queue {
         requires { choice < length self.old.ready }
         ensures marks { let cell = slice_index self.old.ready choice in self.new.marks ≡ all_woken cell (slice_set self.old.marks cell Mark.Done) }
         ensures room { self.new.room ≡ self.old.room }
+        ensures readies { IsReadyList self.new.marks self.new.ready }
     {
         let cell = leave(&mut self.marks, &mut self.ready, choice, Mark::Done);
         let head = self.first[cell as usize];
@@ -112,6 +114,7 @@ impl Queue {
         ensures marks { self.new.marks ≡ slice_set self.old.marks (slice_index self.old.ready choice) (Mark.Waits unknown) }
         ensures fewer { length self.new.ready + 1 ≡ length self.old.ready }
         ensures room { self.new.room ≡ self.old.room }
+        ensures readies { IsReadyList self.new.marks self.new.ready }
     {
         let cell = leave(&mut self.marks, &mut self.ready, choice, Mark::Waits(unknown));
         link(&mut self.first, &mut self.next, cell, unknown);
@@ -123,6 +126,7 @@ impl Queue {
         ensures marks { self.new.marks ≡ slice_set self.old.marks (slice_index self.old.ready choice) (Mark.Faulty cause) }
         ensures fewer { length self.new.ready + 1 ≡ length self.old.ready }
         ensures room { self.new.room ≡ self.old.room }
+        ensures readies { IsReadyList self.new.marks self.new.ready }
     {
         leave(&mut self.marks, &mut self.ready, choice, Mark::Faulty(cause));
     }

@@ -124,6 +124,45 @@ impl Board {
         record_answer(&mut self.queue, choice, answer);
         Ok(CellId::new(cell))
     }
+
+    /// The first faulty unknown with the number of its cause. None where no unknown is faulty.
+    pub fn first_fault<E: Equations>(&self, equations: &E) -> Option<(CellId, u8)>
+        requires fits { Fits (E.unknowns equations.now) (E.equation equations.now) self.now }
+        requires none_ready { length self.now.ready ≡ 0 }
+        ensures { IsFirstFault (E.precedes equations.now) (E.unknowns equations.now) (E.equation equations.now) self.now.known result }
+    {
+        let mut best = None;
+        for cell in 0..self.added() {
+            best = self.fault_up_to(equations, best, CellId::new(cell));
+        }
+        best
+    }
+
+    // The first fault of the unknowns up to this one.
+    fn fault_up_to<E: Equations>(&self, equations: &E, best: Option<(CellId, u8)>, cell: CellId) -> Option<(CellId, u8)>
+        requires fits { Fits (E.unknowns equations.now) (E.equation equations.now) self.now }
+        requires none_ready { length self.now.ready ≡ 0 }
+        requires cell { cell < E.unknowns equations.now }
+        requires best { IsFirstFault (E.precedes equations.now) cell (E.equation equations.now) self.now.known best }
+        ensures { IsFirstFault (E.precedes equations.now) (cell + 1) (E.equation equations.now) self.now.known result }
+    {
+        match self.queue.mark(cell.number()) {
+            Mark::Faulty(cause) => fault_with(equations, best, cell, cause),
+            _ => best,
+        }
+    }
+
+    /// The first unknown without a value, exactly where there is one and no unknown is faulty.
+    pub fn stuck<E: Equations>(&self, equations: &E) -> Option<CellId>
+        requires fits { Fits (E.unknowns equations.now) (E.equation equations.now) self.now }
+        requires none_ready { length self.now.ready ≡ 0 }
+        ensures { IsStuckAt (E.precedes equations.now) (E.unknowns equations.now) (E.equation equations.now) self.now.known result }
+    {
+        match self.first_fault(equations) {
+            Some(_) => None,
+            None => first_open(equations, &self.known),
+        }
+    }
 }
 
 // Records what the equation of a ready unknown gave.

@@ -1,3 +1,4 @@
+mod AtRest
 mod Earliest
 mod Histories
 mod Links
@@ -6,6 +7,7 @@ mod Padding
 mod Places
 mod Readies
 mod Rounding
+mod Runnings
 mod Solving
 mod Trees
 mod Waking

@@ -14,6 +14,7 @@ pub mod laws;
 pub mod mark;
 mod queue;
 pub mod rounds;
+pub mod running;
 pub mod solved;
 
 pub use board::{Board, Full};
@@ -23,6 +24,7 @@ pub use equations::{Answer, Equations};
 pub use known::{Held, Known};
 pub use mark::Mark;
 pub use rounds::{Solution, solve_by_rounds};
+pub use running::run_all;
 pub use solved::Solved;
 
 #[cfg(test)]

@@ -89,7 +89,8 @@ impl Queue {
     // The mark of an unknown.
     pub(crate) fn mark(&self, cell: u32) -> Mark
         requires { cell < length self.now.marks }
-        ensures { slice_get self.now.marks cell ≡ Some result }
+        ensures mark { slice_get self.now.marks cell ≡ Some result }
+        ensures shown { IsReadyList self.now.marks self.now.ready }
     {
         self.marks[cell as usize]
     }

@@ -9,6 +9,7 @@ mod Readies
 mod Rounding
 mod Runnings
 mod Solving
+mod Taken
 mod Trees
 mod Waking
 mod Woken

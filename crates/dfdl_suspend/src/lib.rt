@@ -8,6 +8,7 @@
 pub mod board;
 pub mod chooser;
 pub mod equations;
+pub mod events;
 mod firsts;
 pub mod known;
 pub mod laws;
@@ -21,6 +22,7 @@ pub use board::{Board, Full};
 pub use chooser::{Chooser, FirstReady};
 pub use dfdl_value::CellId;
 pub use equations::{Answer, Equations};
+pub use events::take_up;
 pub use known::{Held, Known};
 pub use mark::Mark;
 pub use rounds::{Solution, solve_by_rounds};

@@ -1,6 +1,7 @@
 mod AtRest
 mod Earliest
 mod Histories
+mod InRows
 mod Links
 mod OneRun
 mod Padding

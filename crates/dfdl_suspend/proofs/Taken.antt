@@ -1,8 +1,8 @@
 -- The steps by which an event is taken up.
-use Rattle.std.proofs.Common.{◌≡◌, ◌≢◌, ℕ, ◌+◌, ◌<◌, ◌≤◌, Bool, true, false, ◌||◌, get_or, Option, Some, None, List, [], ◌∷◌, ◌++◌, length, set, nat_eq, refl, sym, ap, subst, ◌∙◌, arith, inl, inr, ◌⊎◌, length-set, append_assoc}
+use Rattle.std.proofs.Common.{◌≡◌, ◌≢◌, ℕ, ◌+◌, ◌<◌, ◌≤◌, Bool, true, false, ◌||◌, get_or, Option, Some, None, List, [], ◌∷◌, ◌++◌, length, set, replicate, nat_eq, refl, sym, ap, subst, ◌∙◌, arith, inl, inr, ◌⊎◌, length-set, append_assoc}
 use Rattle.std.specs.List.{slice_get, IsDistinct, AllByRecursion}
 use Rattle.std.proofs.lemmas.Bool.{cases_eq}
-use Rattle.std.proofs.lemmas.List.{length_push}
+use Rattle.std.proofs.lemmas.List.{length_push, length-replicate}
 use Rattle.std.proofs.lemmas.Option.{slice_get_within, slice_get-get_or}
 use Rattle.std.proofs.lemmas.Map.Keys.{IsDistinct-head, IsDistinct-tail}
 use Rattle.dfdl_suspend.specs.declared.known.Held.{Held}
@@ -12,7 +12,7 @@ use Rattle.dfdl_suspend.specs.Asks.{Asks, AsksWithin, Gives, Gets, Faults, Waits
 use Rattle.dfdl_suspend.specs.Boards.{Boarded, IsShown, Fits, Agrees, Runs, with_added, with_set, times, had_run, how_many, one_if}
 use Rattle.dfdl_suspend.specs.Events.{Brings, IsSettable, Taking}
 use Rattle.dfdl_suspend.specs.Marks.{IsReadyList}
-use Rattle.dfdl_suspend.specs.Rounds.{Reached, Grows}
+use Rattle.dfdl_suspend.specs.Rounds.{Reached, nothing, Grows}
 use Rattle.dfdl_suspend.proofs.Histories.{push_same, push_other}
 use Rattle.dfdl_suspend.proofs.Places.{get_set_same, get_set_other, get_append_old, get_push_cases}
 use Rattle.dfdl_suspend.proofs.Readies.{in_cons, in_front, in_behind}
@@ -172,3 +172,28 @@ module _ (old new : ℕ → Asks Held) (given : List ℕ) (board : Boarded) (bri
     ];
     fresh = is.fresh;
   }
+
+-- a board that was opened is ready for any equations
+pub opened_brings : (cells : ℕ) (equation : ℕ → Asks Held) → Brings (λ cell. waiting cell) equation [] (record { known = replicate cells None; marks = []; ready = [] })
+unfolding IsDistinct
+opened_brings cells equation =
+    let all : List (Option Held) = replicate cells None in
+    let long : length all ≡ cells = length-replicate cells None in
+    let start : Reached {V = Held} cells (λ cell. waiting cell) all = nothing in
+    record {
+      fits = record {
+        added = refl;
+        reached = subst (λ (n : ℕ). Reached n (λ cell. waiting cell) all) (sym long) start;
+        recorded = λ cell mark e. absurd (none_some mark e);
+      };
+      idle = refl;
+      same = λ cell. let past : cell < 0 → is_in cell [] ≡ true = λ inside. absurd (omega arith) in inr (refl, past);
+      apart = tt;
+      waited = λ cell e. absurd (false_true e);
+    }
+  where
+    none_some : (m : Mark) → None ≡ Some m → ⊥
+    none_some m e = cc
+
+    false_true : false ≡ true → ⊥
+    false_true e = cc

@@ -1,11 +1,13 @@
 // The board, on which the equations of unknowns are evaluated in any order.
 ghost use Rattle.std.specs.Prelude.{◌≡◌, ◌≢◌, ◌↔◌, ℕ, ◌+◌, ◌-◌, ◌<◌, ◌≤◌, ◌++◌, ◌∷◌, [], Option, Some, None, IfOk, IsErr, OnOk, OnErr, List, length, replicate, slice_index};
 ghost use Rattle.std.specs.List.{slice_get};
-ghost use Rattle.dfdl_suspend.specs.Asks.{gives};
+ghost use Rattle.dfdl_suspend.specs.Asks.{Asks, gives, waiting};
 ghost use Rattle.dfdl_suspend.specs.Boards.{Boarded, IsShown, Fits, Runs, with_added, with_set, with_given, weight};
+ghost use Rattle.dfdl_suspend.specs.Events.{Brings};
 ghost use Rattle.dfdl_suspend.specs.Marks.{IsReadyList};
 ghost use Rattle.dfdl_suspend.specs.Outcomes.{IsFirstFault, IsStuckAt};
 ghost use Rattle.dfdl_suspend.specs.Recorded.{IsRecordable, IsRecorded};
+ghost use Rattle.dfdl_suspend.specs.declared.known.Held.{Held};
 
 use crate::equations::{Answer, Equations};
 use crate::firsts::{fault_with, first_open};
@@ -44,7 +46,8 @@ impl Model for Board {
 impl Board {
     /// Takes the memory for so many unknowns. None is added yet.
     pub fn open(alloc: Global, cells: u32) -> Result<Board, AllocError>
-        ensures { IfOk result (λ board. board ≡ record { known = replicate cells None; marks = []; ready = [] }) }
+        ensures none { IfOk result (λ board. board ≡ record { known = replicate cells None; marks = []; ready = [] }) }
+        ensures begins { IfOk result (λ board. (equation : ℕ → Asks Held) → Brings (λ cell. waiting cell) equation [] board) }
     {
         let known = Known::open(alloc, cells)?;
         let queue = Queue::open(alloc, cells)?;

@@ -17,6 +17,7 @@ mod queue;
 pub mod rounds;
 pub mod running;
 pub mod solved;
+pub mod table;
 
 pub use board::{Board, Full};
 pub use chooser::{Chooser, FirstReady};
@@ -28,6 +29,9 @@ pub use mark::Mark;
 pub use rounds::{Solution, solve_by_rounds};
 pub use running::run_all;
 pub use solved::Solved;
+pub use table::{Formula, Table};
 
+#[cfg(test)]
+mod choosers;
 #[cfg(test)]
 mod tests;

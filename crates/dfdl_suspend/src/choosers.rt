@@ -1,0 +1,64 @@
+// Choosers for tests.
+use crate::Chooser;
+
+// Picks the last of those that are ready.
+pub(crate) struct LastReady {
+    pub(crate) picks: u64,
+}
+
+impl Chooser for LastReady {
+    ghost picks = { λ c. c.picks };
+
+    fn pick(&mut self, ready: usize) -> usize {
+        self.picks = self.picks.saturating_add(1);
+        ready - 1
+    }
+}
+
+// Picks each place in turn.
+pub(crate) struct InTurn {
+    pub(crate) picks: u64,
+}
+
+impl Chooser for InTurn {
+    ghost picks = { λ c. c.picks };
+
+    fn pick(&mut self, ready: usize) -> usize {
+        self.picks = self.picks.saturating_add(1);
+        (self.picks % ready as u64) as usize
+    }
+}
+
+// Picks by a fixed row of pseudo-random numbers.
+pub(crate) struct Scattered {
+    pub(crate) picks: u64,
+    pub(crate) state: u64,
+}
+
+impl Chooser for Scattered {
+    ghost picks = { λ c. c.picks };
+
+    fn pick(&mut self, ready: usize) -> usize {
+        self.picks = self.picks.saturating_add(1);
+        self.state = self.state.wrapping_mul(6364136223846793005).wrapping_add(1442695040888963407);
+        ((self.state >> 33) % ready as u64) as usize
+    }
+}
+
+// Picks the first, and keeps the numbers that it is asked with.
+pub(crate) struct Recording {
+    pub(crate) picks: u64,
+    pub(crate) asked: [usize; 8],
+}
+
+impl Chooser for Recording {
+    ghost picks = { λ c. c.picks };
+
+    fn pick(&mut self, ready: usize) -> usize {
+        if self.picks < 8 {
+            self.asked[self.picks as usize] = ready;
+        }
+        self.picks = self.picks.saturating_add(1);
+        0
+    }
+}

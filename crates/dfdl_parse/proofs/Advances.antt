@@ -1,7 +1,6 @@
 -- The machine goes on, a step at a time.
-use Rattle.std.proofs.Common.{◌≡◌, ℕ, zero, suc, ◌+◌, ◌-◌, ◌*◌, ◌/◌, ◌<◌, ◌≤◌, max, min, nat_le, refl, List, [], ◌∷◌, length, Bool, true, false, cond, nat_lt, Option, Some, None, ap, sym, subst, ◌∙◌, arith}
-use Rattle.std.specs.Prelude.{is_some, slice_get}
-use Rattle.std.proofs.lemmas.Bool.Decides.{nat_tests}
+use Rattle.std.proofs.Common.{◌≡◌, ℕ, zero, suc, ◌+◌, ◌-◌, ◌/◌, ◌<◌, ◌≤◌, max, min, nat_le, refl, List, [], ◌∷◌, length, Bool, true, false, cond, nat_lt, Option, Some, None, ap, sym, subst, ◌∙◌, arith}
+use Rattle.std.specs.Prelude.{slice_get}
 use Rattle.dfdl_bits.specs.Window.{Held, end_of, room_of, from_byte, seen_at}
 use Rattle.dfdl_bits.specs.declared.window.Seen.{Seen}
 use Rattle.dfdl_bits.specs.declared.window.Seen.TheVariants.{Byte, End as DataEnded, NotYet, Over}
@@ -12,16 +11,15 @@ use Rattle.dfdl_terms.specs.declared.row.Row.{Row}
 use Rattle.dfdl_terms.specs.declared.row.Row.TheVariants.{Leaf, Elem, Group, Skip, Align}
 use Rattle.dfdl_terms.specs.Rows.{Table}
 use Rattle.dfdl_looks.specs.Looks.{Agrees, seen_in}
-use Rattle.dfdl_looks.specs.Asks.{Answer, Reached, Told, TooFar, Missing, Reading, ask}
-use Rattle.dfdl_looks.specs.Tallies.{Tally, first_of, nothing, one_row, plus, saw_byte, saw_end, saw_none}
-use Rattle.dfdl_looks.proofs.Resumed.{on_seen}
+use Rattle.dfdl_looks.specs.Asks.{Reached, Told, TooFar, Missing, Reading, ask}
+use Rattle.dfdl_looks.specs.Tallies.{Tally, first_of, nothing, one_row, plus, saw_end}
 use Rattle.dfdl_looks.proofs.Waiting.{kept, missed, waits_while, counted}
 use Rattle.dfdl_grammar.specs.declared.end.End.{End}
 use Rattle.dfdl_grammar.specs.declared.end.End.TheVariants.{Done, Failed, Stopped}
 use Rattle.dfdl_grammar.specs.States.{Input, State, anchor, anchor_at}
 use Rattle.dfdl_grammar.specs.Outcomes.{Outcome, ended, spend}
 use Rattle.dfdl_grammar.specs.Leaves.{Find, land, leaf, program}
-use Rattle.dfdl_grammar.specs.Framing.{aligned, fill_to, passed}
+use Rattle.dfdl_grammar.specs.Framing.{aligned, fill_to}
 use Rattle.dfdl_grammar.specs.Elements.{begun, has_elements}
 use Rattle.dfdl_grammar.specs.Rows.{below, meaning, row}
 use Rattle.dfdl_grammar.proofs.Spending.{spend-spend}
@@ -29,7 +27,7 @@ use Rattle.dfdl_parse.specs.declared.frame.Frame.{Frame}
 use Rattle.dfdl_parse.specs.declared.frame.Frame.TheVariants.{Rest, Element}
 use Rattle.dfdl_parse.specs.declared.frame.Focus.{Focus}
 use Rattle.dfdl_parse.specs.declared.frame.Focus.TheVariants.{Enter, Pass, Leave}
-use Rattle.dfdl_parse.specs.Machines.{Move, NeedsFrom, children_of, enter, enter_fill, enter_group, fill, fill_move, go_on, is_missing, landed, leave, pass, read_leaf, seen_beyond, step}
+use Rattle.dfdl_parse.specs.Machines.{Move, children_of, enter, enter_group, fill, fill_move, go_on, is_missing, landed, leave, pass, read_leaf, seen_beyond, step}
 use Rattle.dfdl_parse.specs.Ahead.{finish}
 use Rattle.dfdl_parse.specs.Running.{Slid}
 use Rattle.dfdl_parse.proofs.Windows.{agrees_from, end_from}

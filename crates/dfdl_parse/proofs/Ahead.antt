@@ -21,7 +21,7 @@ use Rattle.dfdl_grammar.specs.States.{Input, State, anchor, anchor_at}
 use Rattle.dfdl_grammar.specs.Outcomes.{Outcome, ended, spend, then_do}
 use Rattle.dfdl_report.specs.declared.cause.ParseCause.TheVariants.{DataEnds}
 use Rattle.dfdl_grammar.specs.Leaves.{Find, Fails, Finds, bits_of, bytes_spanned, find_in, land, leaf, program}
-use Rattle.dfdl_grammar.specs.Framing.{aligned, fill_to, has_byte, passed}
+use Rattle.dfdl_grammar.specs.Framing.{aligned, fill_to, passed}
 use Rattle.dfdl_grammar.specs.Elements.{begun, close, has_elements, left}
 use Rattle.dfdl_grammar.specs.Rows.{below, group, meaning, row}
 use Rattle.dfdl_grammar.proofs.Spending.{spend-spend, spend-nothing, follow-spend, close-spend}
@@ -30,7 +30,7 @@ use Rattle.dfdl_parse.specs.declared.frame.Frame.{Frame}
 use Rattle.dfdl_parse.specs.declared.frame.Frame.TheVariants.{Rest, Element}
 use Rattle.dfdl_parse.specs.declared.frame.Focus.{Focus}
 use Rattle.dfdl_parse.specs.declared.frame.Focus.TheVariants.{Enter, Pass, Leave}
-use Rattle.dfdl_parse.specs.Machines.{Move, children_of, enter, enter_fill, enter_group, fill, fill_move, go_on, is_missing, landed, leave, pass, read_leaf, seen_beyond, step}
+use Rattle.dfdl_parse.specs.Machines.{Move, children_of, enter, enter_group, fill, fill_move, go_on, is_missing, landed, leave, pass, read_leaf, seen_beyond, step}
 use Rattle.dfdl_parse.specs.Ahead.{resume, finish, ahead}
 use Rattle.dfdl_parse.proofs.Lists.{drop_some, drop_none, all_at}
 use Rattle.dfdl_parse.proofs.Windows.{agrees_from}

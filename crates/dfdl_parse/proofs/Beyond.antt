@@ -1,5 +1,5 @@
 -- A look behind which all bytes were given up, over a window and over whole data.
-use Rattle.std.proofs.Common.{◌≡◌, ℕ, zero, suc, ◌+◌, ◌-◌, ◌<◌, ◌≤◌, ◌⊎◌, inl, inr, min, refl, List, length, drop, get_or, Bool, true, false, cond, leb, ltb, ap, sym, subst, ◌∙◌, arith, length-drop}
+use Rattle.std.proofs.Common.{◌≡◌, ℕ, zero, suc, ◌+◌, ◌-◌, ◌<◌, ◌≤◌, ◌⊎◌, inl, inr, min, refl, List, length, drop, get_or, Bool, true, false, cond, leb, ltb, ap, sym, ◌∙◌, arith, length-drop}
 use Rattle.std.specs.Prelude.{is_some}
 use Rattle.std.proofs.lemmas.Bool.Decides.{nat_tests}
 use Rattle.dfdl_bits.specs.Window.{Held, end_of, from_byte, room_of, seen_at}

@@ -22,7 +22,7 @@ use Rattle.dfdl_parse.specs.declared.frame.Frame.{Frame}
 use Rattle.dfdl_parse.specs.declared.frame.Frame.TheVariants.{Rest, Element}
 use Rattle.dfdl_parse.specs.declared.frame.Focus.{Focus}
 use Rattle.dfdl_parse.specs.declared.frame.Focus.TheVariants.{Enter, Pass, Leave}
-use Rattle.dfdl_parse.specs.Machines.{HasEnded, Machine, Move, children_of, enter, enter_fill, enter_group, fill, fill_move, go_on, is_missing, landed, leave, pass, read_leaf, seen_beyond, step}
+use Rattle.dfdl_parse.specs.Machines.{HasEnded, Machine, Move, children_of, enter, enter_group, fill_move, go_on, is_missing, landed, leave, pass, read_leaf, seen_beyond, step}
 use Rattle.dfdl_parse.specs.Ahead.{ahead}
 use Rattle.dfdl_parse.proofs.Ahead.{Fits, step-ahead}
 

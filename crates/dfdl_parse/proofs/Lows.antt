@@ -22,7 +22,7 @@ use Rattle.dfdl_parse.specs.declared.frame.Frame.{Frame}
 use Rattle.dfdl_parse.specs.declared.frame.Frame.TheVariants.{Rest, Element}
 use Rattle.dfdl_parse.specs.declared.frame.Focus.{Focus}
 use Rattle.dfdl_parse.specs.declared.frame.Focus.TheVariants.{Enter, Pass, Leave}
-use Rattle.dfdl_parse.specs.Machines.{Move, NeedsFrom, children_of, enter, enter_fill, enter_group, fill, fill_move, go_on, landed, leave, pass, read_leaf, seen_beyond, step}
+use Rattle.dfdl_parse.specs.Machines.{Move, NeedsFrom, children_of, enter, enter_group, fill, fill_move, go_on, landed, leave, pass, read_leaf, seen_beyond, step}
 use Rattle.dfdl_parse.proofs.Beyond.{beyond-byte}
 use Rattle.dfdl_parse.proofs.Ahead.{Anchored, Stands}
 

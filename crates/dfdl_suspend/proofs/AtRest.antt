@@ -62,8 +62,8 @@ module _ (count : ℕ) (equation : ℕ → Asks Held) (known : List (Option Held
   closed beyond cell value within open_ gets = elim (cases_lt cell (length marks)) [
     | inl low ↦ closed_at cell value (get_or marks cell Ready) (slice_get-get_or marks cell Ready low) open_ gets
     | inr past ↦
-      let added = fits.added in
-      waits_gets cell (sym (waiting_gives cell known open_) ∙ (sym (ap (λ t. gives t known) (beyond cell (omega arith))) ∙ gets))
+        let added = fits.added in
+        waits_gets cell (sym (waiting_gives cell known open_) ∙ (sym (ap (λ t. gives t known) (beyond cell (omega arith))) ∙ gets))
   ]
     where
       waits_gets : (w : ℕ) → ◌≡◌ {A = Gives Held} (WaitsFor w) (Gets value) → ⊥

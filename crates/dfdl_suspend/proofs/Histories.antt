@@ -47,14 +47,14 @@ pub how_many_more : {V : Type 0} (a b : List (Option V)) (cell : ℕ) (v : V) (a
 how_many_more a b cell v [] below none some e = absurd (cc)
 how_many_more a b cell v (x ∷ xs) below none some e = elim (in_cons cell x xs e) [
   | inl same ↦
-    let rest = how_many_stay a b xs below in
-    let old : one_if (at a x) ≡ 0 = ap (λ k. one_if (at a k)) (sym same) ∙ ap (λ o. one_if o) none in
-    let new : one_if (at b x) ≡ 1 = ap (λ k. one_if (at b k)) (sym same) ∙ ap (λ o. one_if o) some in
-    omega arith
+      let rest = how_many_stay a b xs below in
+      let old : one_if (at a x) ≡ 0 = ap (λ k. one_if (at a k)) (sym same) ∙ ap (λ o. one_if o) none in
+      let new : one_if (at b x) ≡ 1 = ap (λ k. one_if (at b k)) (sym same) ∙ ap (λ o. one_if o) some in
+      omega arith
   | inr behind ↦
-    let rest = how_many_more a b cell v xs below none some behind in
-    let first = one_more (at a x) (at b x) (below x) in
-    omega arith
+      let rest = how_many_more a b cell v xs below none some behind in
+      let first = one_more (at a x) (at b x) (below x) in
+      omega arith
 ]
 
 -- what is left falls where one more has a value, however many become ready

@@ -26,7 +26,7 @@ linked_stays marks marks_new next next_new unknown head (cell ∷ cells) stands 
   stands cell (in_front cell cell cells refl),
   is.2,
   subst (λ h. IsLinked marks_new next_new unknown h cells) (sym (links cell (in_front cell cell cells refl)))
-    (linked_stays marks marks_new next next_new unknown (get_or next cell 0) cells (λ c e. stands c (in_behind c cell cells e)) (λ c e. links c (in_behind c cell cells e)) is.3),
+      (linked_stays marks marks_new next next_new unknown (get_or next cell 0) cells (λ c e. stands c (in_behind c cell cells e)) (λ c e. links c (in_behind c cell cells e)) is.3),
 )
 
 -- each unknown of a list waits for that one
@@ -54,8 +54,8 @@ pub waited_stays : (marks marks_new : List Mark) (next next_new : List ℕ) (unk
 waited_stays marks marks_new next next_new unknown head stands links back is = record {
   cells = is.cells;
   linked = linked_stays marks marks_new next next_new unknown head is.cells
-    (λ cell e. stands cell (apart_in cell unknown is.cells e is.others) (linked_waits marks next unknown head is.cells is.linked cell e))
-    (λ cell e. links cell (apart_in cell unknown is.cells e is.others) (linked_waits marks next unknown head is.cells is.linked cell e)) is.linked;
+      (λ cell e. stands cell (apart_in cell unknown is.cells e is.others) (linked_waits marks next unknown head is.cells is.linked cell e))
+      (λ cell e. links cell (apart_in cell unknown is.cells e is.others) (linked_waits marks next unknown head is.cells is.linked cell e)) is.linked;
   others = is.others;
   all = λ cell e other. is.all cell (back cell other e) other;
 }
@@ -78,18 +78,18 @@ module _ (marks : List Mark) (ready first next : List ℕ) (is : IsQueue marks r
     nexts = length_push next list_end ∙ (ap (λ n. n + 1) is.nexts ∙ sym (length_push marks Ready));
     few = let more = length_push marks Ready in omega arith;
     waits = λ cell unknown e.
-      let was : slice_get marks cell ≡ Some (Waits unknown) = old_wait cell unknown e in
-      let known_ : (unknown < length marks) × (slice_get marks unknown ≢ Some Done) = is.waits cell unknown was in
-      let more = length_push marks Ready in (
-        omega (arith, known_.0),
-        λ done. known_.1 (sym (get_append_old marks (Ready ∷ []) unknown known_.0) ∙ done),
-      );
+        let was : slice_get marks cell ≡ Some (Waits unknown) = old_wait cell unknown e in
+        let known_ : (unknown < length marks) × (slice_get marks unknown ≢ Some Done) = is.waits cell unknown was in
+        let more = length_push marks Ready in (
+          omega (arith, known_.0),
+          λ done. known_.1 (sym (get_append_old marks (Ready ∷ []) unknown known_.0) ∙ done),
+        );
     lists = λ unknown within open_. elim (cases_eq unknown (length marks)) [
       | inl same ↦ subst (λ (u : ℕ). IsWaited (marks ++ Ready ∷ []) (next ++ list_end ∷ []) u (get_or (first ++ list_end ∷ []) u 0)) (sym same) fresh
       | inr differs ↦
-        let low : unknown < length marks = (let more = length_push marks Ready in omega (arith, within, differs)) in
-        subst (λ (h : ℕ). IsWaited (marks ++ Ready ∷ []) (next ++ list_end ∷ []) unknown h) (sym (get_or-append first (list_end ∷ []) 0 unknown (omega (arith, is.firsts, low))))
-        (waited_stays marks (marks ++ Ready ∷ []) next (next ++ list_end ∷ []) unknown (get_or first unknown 0)
+          let low : unknown < length marks = (let more = length_push marks Ready in omega (arith, within, differs)) in
+          subst (λ (h : ℕ). IsWaited (marks ++ Ready ∷ []) (next ++ list_end ∷ []) unknown h) (sym (get_or-append first (list_end ∷ []) 0 unknown (omega (arith, is.firsts, low))))
+          (waited_stays marks (marks ++ Ready ∷ []) next (next ++ list_end ∷ []) unknown (get_or first unknown 0)
           (λ cell other e. get_append_old marks (Ready ∷ []) cell (slice_get_within marks cell (Waits unknown) e) ∙ e)
           (λ cell other e. get_or-append next (list_end ∷ []) 0 cell (let inside = slice_get_within marks cell (Waits unknown) e in omega (arith, is.nexts)))
           (λ cell other e. old_wait cell unknown e)
@@ -162,12 +162,12 @@ module _ (marks : List Mark) (ready rest first next : List ℕ) (is : IsQueue ma
       nexts = is.nexts ∙ sym (length-set marks cell m);
       few = let same = length-set marks cell m in let old = is.few in omega arith;
       waits = λ c u e.
-        let was = is.waits c u (old_mark c (Waits u) (free u) e) in
-        let same = length-set marks cell m in
-        (omega (arith, was.0), not_done u open_ was.1);
+          let was = is.waits c u (old_mark c (Waits u) (free u) e) in
+          let same = length-set marks cell m in
+          (omega (arith, was.0), not_done u open_ was.1);
       lists = λ u within now.
-        waited_stays marks (set marks cell m) next next u (get_or first u 0) (λ c other e. wait_stands c u e) (λ c other e. refl) (λ c other e. old_mark c (Waits u) (free u) e)
-        (is.lists u (let same = length-set marks cell m in omega arith) (was_not_done u now));
+          waited_stays marks (set marks cell m) next next u (get_or first u 0) (λ c other e. wait_stands c u e) (λ c other e. refl) (λ c other e. old_mark c (Waits u) (free u) e)
+          (is.lists u (let same = length-set marks cell m in omega arith) (was_not_done u now));
     }
 
   -- it waits for itself
@@ -179,19 +179,19 @@ module _ (marks : List Mark) (ready rest first next : List ℕ) (is : IsQueue ma
     few = let same = length-set marks cell (Waits cell) in let old = is.few in omega arith;
     waits = λ c u e. let same = length-set marks cell (Waits cell) in elim (cases_eq c cell) [
       | inl at_cell ↦
-        let u_is : u ≡ cell = sym (wait_same cell u (at_place (Waits cell) left c (Waits u) at_cell e)) in
-        (let low = inside in omega arith, λ done. wait_done (mark_same (Waits cell) Done (sym (now_at (Waits cell) left) ∙ (sym (ap (λ k. slice_get (set marks cell (Waits cell)) k) u_is) ∙ done))))
+          let u_is : u ≡ cell = sym (wait_same cell u (at_place (Waits cell) left c (Waits u) at_cell e)) in
+          (let low = inside in omega arith, λ done. wait_done (mark_same (Waits cell) Done (sym (now_at (Waits cell) left) ∙ (sym (ap (λ k. slice_get (set marks cell (Waits cell)) k) u_is) ∙ done))))
       | inr differs ↦
-        let was = is.waits c u (sym (get_set_other marks cell c (Waits cell) differs) ∙ e) in
-        (omega (arith, was.0), not_done (Waits cell) left u wait_done was.1)
+          let was = is.waits c u (sym (get_set_other marks cell c (Waits cell) differs) ∙ e) in
+          (omega (arith, was.0), not_done (Waits cell) left u wait_done was.1)
     ];
     lists = λ u within now.
-      waited_stays marks (set marks cell (Waits cell)) next next u (get_or first u 0) (λ c other e. wait_stands (Waits cell) left c u e) (λ c other e. refl)
-      (λ c other e. elim (cases_eq c cell) [
-        | inl at_cell ↦ absurd (other (at_cell ∙ wait_same cell u (at_place (Waits cell) left c (Waits u) at_cell e)))
-        | inr differs ↦ sym (get_set_other marks cell c (Waits cell) differs) ∙ e
-      ])
-      (is.lists u (let same = length-set marks cell (Waits cell) in omega arith) (was_not_done (Waits cell) left u now));
+        waited_stays marks (set marks cell (Waits cell)) next next u (get_or first u 0) (λ c other e. wait_stands (Waits cell) left c u e) (λ c other e. refl)
+        (λ c other e. elim (cases_eq c cell) [
+          | inl at_cell ↦ absurd (other (at_cell ∙ wait_same cell u (at_place (Waits cell) left c (Waits u) at_cell e)))
+          | inr differs ↦ sym (get_set_other marks cell c (Waits cell) differs) ∙ e
+        ])
+        (is.lists u (let same = length-set marks cell (Waits cell) in omega arith) (was_not_done (Waits cell) left u now));
   }
     where
       wait_done : Waits cell ≡ Done → ⊥
@@ -207,16 +207,16 @@ module _ (marks : List Mark) (ready rest first next : List ℕ) (is : IsQueue ma
     few = let same = length-set marks cell (Waits w) in let old = is.few in omega arith;
     waits = λ c u e. let same = length-set marks cell (Waits w) in elim (cases_eq c cell) [
       | inl at_cell ↦
-        let u_is : u ≡ w = sym (wait_same w u (at_place (Waits w) left c (Waits u) at_cell e)) in
-        (omega arith, λ done. not_done (Waits w) left w (wait_done w) open_ (sym (ap (λ k. slice_get (set marks cell (Waits w)) k) u_is) ∙ done))
+          let u_is : u ≡ w = sym (wait_same w u (at_place (Waits w) left c (Waits u) at_cell e)) in
+          (omega arith, λ done. not_done (Waits w) left w (wait_done w) open_ (sym (ap (λ k. slice_get (set marks cell (Waits w)) k) u_is) ∙ done))
       | inr differs ↦
-        let was = is.waits c u (sym (get_set_other marks cell c (Waits w) differs) ∙ e) in
-        (omega (arith, was.0), not_done (Waits w) left u (wait_done w) was.1)
+          let was = is.waits c u (sym (get_set_other marks cell c (Waits w) differs) ∙ e) in
+          (omega (arith, was.0), not_done (Waits w) left u (wait_done w) was.1)
     ];
     lists = λ u within now. elim (cases_eq u w) [
       | inl same ↦ subst (λ (k : ℕ). IsWaited (set marks cell (Waits w)) (set next cell (get_or first w 0)) k (get_or (set first w cell) k 0)) (sym same) linked_now
       | inr differs ↦ subst (λ (h : ℕ). IsWaited (set marks cell (Waits w)) (set next cell (get_or first w 0)) u h) (sym (get_or-set_other first w u cell 0 differs))
-        (waited_stays marks (set marks cell (Waits w)) next (set next cell (get_or first w 0)) u (get_or first u 0) (λ c other e. wait_stands (Waits w) left c u e)
+          (waited_stays marks (set marks cell (Waits w)) next (set next cell (get_or first w 0)) u (get_or first u 0) (λ c other e. wait_stands (Waits w) left c u e)
           (λ c other e. get_or-set_other next cell c (get_or first w 0) 0 (waits_other c u e))
           (λ c other e. elim (cases_eq c cell) [
             | inl at_cell ↦ absurd (differs (sym (wait_same w u (at_place (Waits w) left c (Waits u) at_cell e))))
@@ -243,10 +243,10 @@ module _ (marks : List Mark) (ready rest first next : List ℕ) (is : IsQueue ma
           now_at (Waits w) left,
           absent,
           subst (λ (h : ℕ). IsLinked (set marks cell (Waits w)) (set next cell (get_or first w 0)) w h old.cells)
-          (sym (get_or-set_same next cell (get_or first w 0) 0 (let same = is.nexts in let low = inside in omega arith)))
-          (linked_stays marks (set marks cell (Waits w)) next (set next cell (get_or first w 0)) w (get_or first w 0) old.cells
-            (λ c e. wait_stands (Waits w) left c w (linked_waits marks next w (get_or first w 0) old.cells old.linked c e))
-            (λ c e. get_or-set_other next cell c (get_or first w 0) 0 (apart_in c cell old.cells e absent)) old.linked),
+              (sym (get_or-set_same next cell (get_or first w 0) 0 (let same = is.nexts in let low = inside in omega arith)))
+              (linked_stays marks (set marks cell (Waits w)) next (set next cell (get_or first w 0)) w (get_or first w 0) old.cells
+              (λ c e. wait_stands (Waits w) left c w (linked_waits marks next w (get_or first w 0) old.cells old.linked c e))
+              (λ c e. get_or-set_other next cell c (get_or first w 0) 0 (apart_in c cell old.cells e absent)) old.linked),
         );
         others = not_true (is_in w (cell ∷ old.cells)) (λ e. elim (in_cons w cell old.cells e) [
           | inl same ↦ apart same
@@ -265,8 +265,8 @@ module _ (marks : List Mark) (ready rest first next : List ℕ) (is : IsQueue ma
       record {
         cells = old.cells;
         linked = linked_stays marks (set marks cell Done) next next cell (get_or first cell 0) old.cells
-          (λ c e. get_set_other marks cell c Done (apart_in c cell old.cells e old.others) ∙ linked_waits marks next cell (get_or first cell 0) old.cells old.linked c e)
-          (λ c e. refl) old.linked;
+            (λ c e. get_set_other marks cell c Done (apart_in c cell old.cells e old.others) ∙ linked_waits marks next cell (get_or first cell 0) old.cells old.linked c e)
+            (λ c e. refl) old.linked;
         all = λ c e. elim (cases_eq c cell) [
           | inl at_cell ↦ absurd (done_waits cell (mark_same Done (Waits cell) (sym (get_set_same marks cell Done inside) ∙ (sym (ap (λ k. slice_get (set marks cell Done) k) at_cell) ∙ e))))
           | inr away ↦ old.all c (sym (get_set_other marks cell c Done away) ∙ e) away

@@ -73,8 +73,8 @@ module _ (count : ℕ) (equation : ℕ → Asks Held) (cell : ℕ) (known : List
         let was = was_at cell c (set marks cell Done) n e in
         elim (cases_eq c cell) [
           | inl same ↦
-            let before : was.0 ≡ Done = mark_same was.0 Done (sym was.1 ∙ (ap (λ k. slice_get (set marks cell Done) k) same ∙ get_set_same marks cell Done inside)) in
-            inl (same, sym was.2 ∙ ap (λ m. woken cell m) before)
+              let before : was.0 ≡ Done = mark_same was.0 Done (sym was.1 ∙ (ap (λ k. slice_get (set marks cell Done) k) same ∙ get_set_same marks cell Done inside)) in
+              inl (same, sym was.2 ∙ ap (λ m. woken cell m) before)
           | inr apart ↦ inr (apart, (was.0, sym (get_set_other marks cell c Done apart) ∙ was.1, was.2))
         ]
 
@@ -115,22 +115,22 @@ module _ (count : ℕ) (equation : ℕ → Asks Held) (cell : ℕ) (known : List
     runs_value ran were_set runs = record {
       bound = λ c n asked e asks. elim (place c n e) [
         | inl here ↦
-          let old = runs.bound c Ready asked (ap (λ k. slice_get marks k) here.0 ∙ stands) asks in
-          let now = push_same c cell ran here.0 in
-          let had : had_run n ≡ 1 = ap (λ m. had_run m) here.1 in
-          let more = how_many_stay known (set known cell (Some value)) asked up in
-          omega arith
+            let old = runs.bound c Ready asked (ap (λ k. slice_get marks k) here.0 ∙ stands) asks in
+            let now = push_same c cell ran here.0 in
+            let had : had_run n ≡ 1 = ap (λ m. had_run m) here.1 in
+            let more = how_many_stay known (set known cell (Some value)) asked up in
+            omega arith
         | inr there ↦
-          let old = runs.bound c there.1.0 asked there.1.1 asks in
-          let now = push_other c cell ran there.0 in
-          let more = had_woken there.1.0 (equation c) asked (fits.recorded c there.1.0 there.1.1) asks in
-          let had : had_run (woken cell there.1.0) ≡ had_run n = ap (λ m. had_run m) there.1.2 in
-          omega arith
+            let old = runs.bound c there.1.0 asked there.1.1 asks in
+            let now = push_other c cell ran there.0 in
+            let more = had_woken there.1.0 (equation c) asked (fits.recorded c there.1.0 there.1.1) asks in
+            let had : had_run (woken cell there.1.0) ≡ had_run n = ap (λ m. had_run m) there.1.2 in
+            omega arith
       ];
       fresh = λ c past.
-        let low = inside in let same = long in
-        let none = runs.fresh c (omega arith) in
-        let now = push_other c cell ran (λ is. late c is past) in omega arith;
+          let low = inside in let same = long in
+          let none = runs.fresh c (omega arith) in
+          let now = push_other c cell ran (λ is. late c is past) in omega arith;
     }
       where
         late : (c : ℕ) → c ≡ cell → length (all_woken cell (set marks cell Done)) ≤ c → ⊥
@@ -159,13 +159,13 @@ module _ (count : ℕ) (equation : ℕ → Asks Held) (cell : ℕ) (known : List
       };
       runs = runs_value;
       less =
-        let more = filled_set known cell value within free in
-        let few = filled_few (set known cell (Some value)) in
-        let even = length-set known cell (Some value) in
-        let some_ = few_ready (all_woken cell (set marks cell Done)) ready_new readies in
-        let same = long in let low = tied.few in
-        subst (λ n. (n - filled (set known cell (Some value))) * (n + 1) + length ready_new < (length known - filled known) * (length known + 1) + length ready) (sym even)
-        (weight_falls (length known - filled (set known cell (Some value))) (length known - filled known) (length known + 1) (length ready) (length ready_new) (omega arith) (omega arith));
+          let more = filled_set known cell value within free in
+          let few = filled_few (set known cell (Some value)) in
+          let even = length-set known cell (Some value) in
+          let some_ = few_ready (all_woken cell (set marks cell Done)) ready_new readies in
+          let same = long in let low = tied.few in
+          subst (λ n. (n - filled (set known cell (Some value))) * (n + 1) + length ready_new < (length known - filled known) * (length known + 1) + length ready) (sym even)
+          (weight_falls (length known - filled (set known cell (Some value))) (length known - filled known) (length known + 1) (length ready) (length ready_new) (omega arith) (omega arith));
       long = length-set known cell (Some value);
     }
       where
@@ -207,19 +207,19 @@ module _ (count : ℕ) (equation : ℕ → Asks Held) (cell : ℕ) (known : List
       runs = λ ran were_set runs. record {
         bound = λ c n asked e asks. elim (found c n e) [
           | inl here ↦
-            let old = runs.bound c Ready asked (ap (λ k. slice_get marks k) here.0 ∙ stands) asks in
-            let now = push_same c cell ran here.0 in
-            let one : had_run n ≡ 1 = ap (λ x. had_run x) here.1 ∙ had in
-            omega arith
+              let old = runs.bound c Ready asked (ap (λ k. slice_get marks k) here.0 ∙ stands) asks in
+              let now = push_same c cell ran here.0 in
+              let one : had_run n ≡ 1 = ap (λ x. had_run x) here.1 ∙ had in
+              omega arith
           | inr there ↦
-            let old = runs.bound c n asked there.1 asks in
-            let now = push_other c cell ran there.0 in
-            omega arith
+              let old = runs.bound c n asked there.1 asks in
+              let now = push_other c cell ran there.0 in
+              omega arith
         ];
         fresh = λ c past.
-          let same = length-set marks cell m in
-          let none = runs.fresh c (omega arith) in
-          let now = push_other c cell ran (λ is. late c is past) in omega arith;
+            let same = length-set marks cell m in
+            let none = runs.fresh c (omega arith) in
+            let now = push_other c cell ran (λ is. late c is past) in omega arith;
       };
       less = omega arith;
       long = refl;

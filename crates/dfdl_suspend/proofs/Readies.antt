@@ -83,9 +83,9 @@ module _ (marks : List Mark) (ready : List ℕ) (is : IsReadyList marks ready) w
       record {
         apart = IsDistinct-tail nat_eq cell rest apart;
         each = λ q e.
-          let was : is_in q ready ≡ true = list_any-IsPermutation (nat_eq q) ready (cell ∷ rest) moved ∙ in_behind q cell rest e in
-          let differs : q ≢ cell = λ same. true_false (is_in q rest) e (ap (λ k. is_in k rest) same ∙ gone) in
-          get_set_other marks cell q m differs ∙ is.each q was;
+            let was : is_in q ready ≡ true = list_any-IsPermutation (nat_eq q) ready (cell ∷ rest) moved ∙ in_behind q cell rest e in
+            let differs : q ≢ cell = λ same. true_false (is_in q rest) e (ap (λ k. is_in k rest) same ∙ gone) in
+            get_set_other marks cell q m differs ∙ is.each q was;
         every = λ q e. elim (cases_eq q cell) [
           | inl same ↦ absurd (other (some_same (sym e ∙ (ap (λ k. slice_get (set marks cell m) k) same ∙ get_set_same marks cell m (slice_get_within marks cell Ready stands)))))
           | inr differs ↦ elim (in_cons q cell rest (sym (list_any-IsPermutation (nat_eq q) ready (cell ∷ rest) moved) ∙ is.every q (sym (get_set_other marks cell q m differs) ∙ e))) [

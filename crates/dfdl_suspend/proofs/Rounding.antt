@@ -50,12 +50,12 @@ module _ {V : Type 0} (equation : ℕ → Asks V) (old now new : List (Option V)
     reached = subst (λ b. Reached (length old) equation b) (sym did.0) going.reached;
     more = λ e. more_of {A = filled old < filled new} moved false (λ yes_. subst (λ b. filled old < filled b) (sym did.0) (going.more yes_)) (λ still_ tried_. absurd (false_true tried_)) e;
     still = λ e.
-      let calm : moved ≡ false = (still_of moved false e).0 in
-      let same : now ≡ old = (going.still calm).0 in (
-        did.0 ∙ same,
-        below_more (λ cell. (value : V) → at old cell ≡ None → gives (equation cell) old ≡ Gets value → ⊥) n (going.still calm).1
-        (subst (λ b. (value : V) → at b n ≡ None → gives (equation n) b ≡ Gets value → ⊥) same did.1),
-      );
+        let calm : moved ≡ false = (still_of moved false e).0 in
+        let same : now ≡ old = (going.still calm).0 in (
+          did.0 ∙ same,
+          below_more (λ cell. (value : V) → at old cell ≡ None → gives (equation cell) old ≡ Gets value → ⊥) n (going.still calm).1
+              (subst (λ b. (value : V) → at b n ≡ None → gives (equation n) b ≡ Gets value → ⊥) same did.1),
+        );
   }
     where
       false_true : false ≡ true → ⊥

@@ -35,10 +35,10 @@ goes_on count equation old now new steps_old steps steps_new picks_old picks pic
       later = omega arith;
       picks_rose = omega arith;
       went = λ ran were_set begun.
-        let before : WentOn equation now ran were_set (steps - steps_old) = is.went ran were_set begun in
-        record {
-          more = before.more ++ cell ∷ [];
-          runs = subst (λ xs. Runs equation new xs were_set) (append_assoc ran before.more (cell ∷ [])) (runs (ran ++ before.more) were_set before.runs);
-          counted = let long = length-append before.more (cell ∷ []) in let counted = before.counted in omega arith;
-        };
+          let before : WentOn equation now ran were_set (steps - steps_old) = is.went ran were_set begun in
+          record {
+            more = before.more ++ cell ∷ [];
+            runs = subst (λ xs. Runs equation new xs were_set) (append_assoc ran before.more (cell ∷ [])) (runs (ran ++ before.more) were_set before.runs);
+            counted = let long = length-append before.more (cell ∷ []) in let counted = before.counted in omega arith;
+          };
     }

@@ -90,7 +90,7 @@ module _ {V : Type 0} (cells : ℕ) (equation : ℕ → Asks V) where
   rounds_below b agrees (suc n) i v is = elim (in_round (rounds n cells equation) i v is) [
     | inl old ↦ rounds_below b agrees n i v old
     | inr new ↦ agrees i v (subst (λ (m : ℕ). i < m) (length_rounds (suc n)) (at_within (rounds (suc n) cells equation) i v is))
-      (value_stays (equation i) (rounds n cells equation) b v (rounds_below b agrees n) new)
+        (value_stays (equation i) (rounds n cells equation) b v (rounds_below b agrees n) new)
   ]
 
   rounds_consistent : (n i : ℕ) (v : V) → at (rounds n cells equation) i ≡ Some v → gives (equation i) (rounds n cells equation) ≡ Gets v
@@ -127,7 +127,7 @@ module _ {V : Type 0} (cells : ℕ) (equation : ℕ → Asks V) where
   pub solution_agrees : Agrees (solution cells equation)
   solution_agrees i v within is = elim (option_cases (at (solution cells equation) i)) [
     | inl none ↦ sym (ap (λ a. at a i) stable) ∙ (round_at (solution cells equation) i within ∙ (ap (λ o. kept_or o (gives (equation i) (solution cells equation))) none
-      ∙ ap (λ g. kept_or None g) is))
+        ∙ ap (λ g. kept_or None g) is))
     | inr some ↦ some.1 ∙ gets_same some.0 v (sym (rounds_consistent cells i some.0 some.1) ∙ is)
   ]
     where
@@ -144,7 +144,7 @@ module _ {V : Type 0} (cells : ℕ) (equation : ℕ → Asks V) where
       value_stays (equation i) known (set known j (Some w)) v (below_set known j w none)
       (elim (cases_eq i j) [
         | inl same ↦ subst (λ (k : ℕ). gives (equation k) known ≡ Gets v) (sym same)
-          (is ∙ gets_from w v (sym (at_set_same known j (Some w) (subst (λ (n : ℕ). j < n) (sym (reached_length known before)) within)) ∙ (sym (ap (λ k. at (set known j (Some w)) k) same) ∙ some)))
+            (is ∙ gets_from w v (sym (at_set_same known j (Some w) (subst (λ (n : ℕ). j < n) (sym (reached_length known before)) within)) ∙ (sym (ap (λ k. at (set known j (Some w)) k) same) ∙ some)))
         | inr apart ↦ reached_consistent known i v before (sym (at_set_other known j i (Some w) apart) ∙ some)
       ])
     where
@@ -155,8 +155,8 @@ module _ {V : Type 0} (cells : ℕ) (equation : ℕ → Asks V) where
   reached_below b agrees _ nothing i v is = absurd (clash (at (replicate cells None) i) v is (at_nothing cells i))
   reached_below b agrees _ (assigned {known} j w before within none gets) i v is = elim (cases_eq i j) [
     | inl same ↦ ap (λ k. at b k) same
-      ∙ (agrees j w within (value_stays (equation j) known b w (reached_below b agrees known before) gets)
-      ∙ (sym (at_set_same known j (Some w) (subst (λ (n : ℕ). j < n) (sym (reached_length known before)) within)) ∙ (sym (ap (λ k. at (set known j (Some w)) k) same) ∙ is)))
+        ∙ (agrees j w within (value_stays (equation j) known b w (reached_below b agrees known before) gets)
+        ∙ (sym (at_set_same known j (Some w) (subst (λ (n : ℕ). j < n) (sym (reached_length known before)) within)) ∙ (sym (ap (λ k. at (set known j (Some w)) k) same) ∙ is)))
     | inr apart ↦ reached_below b agrees known before i v (sym (at_set_other known j i (Some w) apart) ∙ is)
   ]
 

@@ -81,9 +81,9 @@ taking_set equation cell rest board is = record {
   reached = is.reached;
   recorded = λ other mark e. elim (cases_eq other cell) [
     | inl same ↦
-      let ready : Ready ≡ mark = mark_same Ready mark (sym (get_set_same board.marks cell Ready (slice_get_within board.marks cell (Waits cell) (first_waits cell rest board.marks is.settable)))
+        let ready : Ready ≡ mark = mark_same Ready mark (sym (get_set_same board.marks cell Ready (slice_get_within board.marks cell (Waits cell) (first_waits cell rest board.marks is.settable)))
         ∙ (sym (ap (λ k. slice_get (set board.marks cell Ready) k) same) ∙ e)) in
-      inl (subst (λ m. Agrees m (gives (equation other) board.known)) ready tt)
+        inl (subst (λ m. Agrees m (gives (equation other) board.known)) ready tt)
     | inr apart ↦ elim (is.recorded other mark (sym (get_set_other board.marks cell other Ready apart) ∙ e)) [
       | inl agrees ↦ inl agrees
       | inr left ↦ elim (in_cons other cell rest left) [
@@ -100,13 +100,13 @@ pub runs_set : (equation : ℕ → Asks Held) (cell : ℕ) (board : Boarded) (ra
 runs_set equation cell board ran were_set stands is = record {
   bound = λ other mark asked e asks. elim (cases_eq other cell) [
     | inl same ↦
-      let old = is.bound other (Waits cell) asked (ap (λ k. slice_get board.marks k) same ∙ stands) asks in
-      let more = push_same other cell were_set same in
-      omega arith
+        let old = is.bound other (Waits cell) asked (ap (λ k. slice_get board.marks k) same ∙ stands) asks in
+        let more = push_same other cell were_set same in
+        omega arith
     | inr apart ↦
-      let old = is.bound other mark asked (sym (get_set_other board.marks cell other Ready apart) ∙ e) asks in
-      let same = push_other other cell were_set apart in
-      omega arith
+        let old = is.bound other mark asked (sym (get_set_other board.marks cell other Ready apart) ∙ e) asks in
+        let same = push_other other cell were_set apart in
+        omega arith
   ];
   fresh = λ other past. is.fresh other (let same = length-set board.marks cell Ready in omega arith);
 }
@@ -164,11 +164,11 @@ module _ (old new : ℕ → Asks Held) (given : List ℕ) (board : Boarded) (bri
     bound = λ cell mark asked e asks. elim (brings.same cell) [
       | inl same ↦ is.bound cell mark asked e (subst (λ t. AsksWithin asked t) same asks)
       | inr waited ↦
-        let waits : slice_get board.marks cell ≡ Some (Waits cell) = stands cell (slice_get_within board.marks cell mark e) waited.0 in
-        let is_mark : had_run mark ≡ 1 = ap (λ m. had_run m) (mark_same mark (Waits cell) (sym e ∙ waits)) in
-        let old_bound = is.bound cell (Waits cell) (cell ∷ []) waits (subst (λ t. AsksWithin (cell ∷ []) t) (sym waited.0) (in_front cell cell [] refl, λ value. tt)) in
-        let none : how_many board.known (cell ∷ []) ≡ 0 = ap (λ o. one_if o + 0) (none_known cell waited.0) in
-        omega arith
+          let waits : slice_get board.marks cell ≡ Some (Waits cell) = stands cell (slice_get_within board.marks cell mark e) waited.0 in
+          let is_mark : had_run mark ≡ 1 = ap (λ m. had_run m) (mark_same mark (Waits cell) (sym e ∙ waits)) in
+          let old_bound = is.bound cell (Waits cell) (cell ∷ []) waits (subst (λ t. AsksWithin (cell ∷ []) t) (sym waited.0) (in_front cell cell [] refl, λ value. tt)) in
+          let none : how_many board.known (cell ∷ []) ≡ 0 = ap (λ o. one_if o + 0) (none_known cell waited.0) in
+          omega arith
     ];
     fresh = is.fresh;
   }

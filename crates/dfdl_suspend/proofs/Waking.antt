@@ -103,8 +103,8 @@ waking_step marks next unknown at more is = step_from is.cells is.linked is.all
           rest = record {
             cells = xs;
             linked = linked_stays marks (set marks at Ready) next next unknown (get_or next at 0) xs
-              (λ c e. get_set_other marks at c Ready (apart_in c at xs e absent) ∙ linked_waits marks next unknown (get_or next x 0) xs linked.3 c e)
-              (λ c e. refl) (subst (λ (k : ℕ). IsLinked marks next unknown (get_or next k 0) xs) linked.0 linked.3);
+                (λ c e. get_set_other marks at c Ready (apart_in c at xs e absent) ∙ linked_waits marks next unknown (get_or next x 0) xs linked.3 c e)
+                (λ c e. refl) (subst (λ (k : ℕ). IsLinked marks next unknown (get_or next k 0) xs) linked.0 linked.3);
             all = λ c e. elim (cases_eq c at) [
               | inl same ↦ absurd (ready_waits (mark_same Ready (Waits unknown) (sym (get_set_same marks at Ready (slice_get_within marks at (Waits unknown) stands)) ∙ (sym (ap (λ k. slice_get (set marks at Ready) k) same) ∙ e))))
               | inr differs ↦ elim (in_cons c x xs (all c (sym (get_set_other marks at c Ready differs) ∙ e))) [
@@ -139,16 +139,16 @@ woken_queue marks ready rest first next is cell stands left =
       nexts = is.nexts ∙ sym long;
       few = let old = is.few in omega arith;
       waits = λ c u e.
-        let was = was_waits c u e in
-        let old = is.waits c u was.0 in
-        (omega (arith, old.0), λ done. old.1 (was_done u was.1 done));
+          let was = was_waits c u e in
+          let old = is.waits c u was.0 in
+          (omega (arith, old.0), λ done. old.1 (was_done u was.1 done));
       lists = λ u within now.
-        let apart : u ≢ cell = λ same. now (ap (λ k. slice_get (all_woken cell (set marks cell Done)) k) same ∙ woken_at cell cell (set marks cell Done) Done (get_set_same marks cell Done inside)) in
-        waited_stays marks (all_woken cell (set marks cell Done)) next next u (get_or first u 0)
-        (λ c other e. woken_at cell c (set marks cell Done) (Waits u) (get_set_other marks cell c Done (away c u e) ∙ e) ∙ ap (λ m. Some m) (waits_woken cell u apart))
-        (λ c other e. refl)
-        (λ c other e. (was_waits c u e).0)
-        (is.lists u (omega arith) (λ done. now (woken_at cell u (set marks cell Done) Done (get_set_other marks cell u Done apart ∙ done))));
+          let apart : u ≢ cell = λ same. now (ap (λ k. slice_get (all_woken cell (set marks cell Done)) k) same ∙ woken_at cell cell (set marks cell Done) Done (get_set_same marks cell Done inside)) in
+          waited_stays marks (all_woken cell (set marks cell Done)) next next u (get_or first u 0)
+          (λ c other e. woken_at cell c (set marks cell Done) (Waits u) (get_set_other marks cell c Done (away c u e) ∙ e) ∙ ap (λ m. Some m) (waits_woken cell u apart))
+          (λ c other e. refl)
+          (λ c other e. (was_waits c u e).0)
+          (is.lists u (omega arith) (λ done. now (woken_at cell u (set marks cell Done) Done (get_set_other marks cell u Done apart ∙ done))));
     }
   where
     ready_waits : (w : ℕ) → Waits w ≡ Ready → ⊥
@@ -188,10 +188,10 @@ set_queue marks ready first next is cell stands =
       few = let old = is.few in omega arith;
       waits = λ c u e. let old = is.waits c u (was_waits c u e) in (omega (arith, old.0), λ done. old.1 (was_done u done));
       lists = λ u within now.
-        waited_stays marks (set marks cell Ready) next next u (get_or first u 0)
-        (λ c other e. get_set_other marks cell c Ready (λ same. other (same ∙ wait_same cell u (mark_same (Waits cell) (Waits u) (sym stands ∙ (sym (ap (λ k. slice_get marks k) same) ∙ e))))) ∙ e)
-        (λ c other e. refl) (λ c other e. was_waits c u e)
-        (is.lists u (omega arith) (λ done. now (get_set_other marks cell u Ready (λ same. done_waits (mark_same Done (Waits cell) (sym done ∙ (ap (λ k. slice_get marks k) same ∙ stands)))) ∙ done)));
+          waited_stays marks (set marks cell Ready) next next u (get_or first u 0)
+          (λ c other e. get_set_other marks cell c Ready (λ same. other (same ∙ wait_same cell u (mark_same (Waits cell) (Waits u) (sym stands ∙ (sym (ap (λ k. slice_get marks k) same) ∙ e))))) ∙ e)
+          (λ c other e. refl) (λ c other e. was_waits c u e)
+          (is.lists u (omega arith) (λ done. now (get_set_other marks cell u Ready (λ same. done_waits (mark_same Done (Waits cell) (sym done ∙ (ap (λ k. slice_get marks k) same ∙ stands)))) ∙ done)));
     }
   where
     ready_waits : (w : ℕ) → Waits w ≡ Ready → ⊥
@@ -226,7 +226,7 @@ pub empty_queue : (marks : List Mark) (ready first next : List ℕ) → marks �
 unfolding IsDistinct
 empty_queue marks ready first next a b d e =
     subst (λ ms. IsQueue ms ready first next) (sym a) (subst (λ rs. IsQueue [] rs first next) (sym b)
-      (subst (λ fs. IsQueue [] [] fs next) (sym d) (subst (λ ns. IsQueue [] [] [] ns) (sym e) none)))
+    (subst (λ fs. IsQueue [] [] fs next) (sym d) (subst (λ ns. IsQueue [] [] [] ns) (sym e) none)))
   where
     distinct : IsDistinct nat_eq []
     distinct = tt
@@ -256,12 +256,12 @@ wait_queue marks marks_new ready rest first first_new next next_new is cell w st
     let left_now : IsReadyList (set marks cell (Waits w)) rest = subst (λ ms. IsReadyList ms rest) marked left in
     subst (λ ms. IsQueue ms rest first_new next_new) (sym marked) (elim (cases_eq w cell) [
       | inl same ↦ subst (λ fs. IsQueue (set marks cell (Waits w)) rest fs next_new) (sym (itself same).0)
-        (subst (λ ns. IsQueue (set marks cell (Waits w)) rest first ns) (sym (itself same).1)
-        (subst (λ (k : ℕ). IsQueue (set marks cell (Waits k)) rest first next) (sym same)
-        (self_queue marks ready rest first next is cell stands (subst (λ (k : ℕ). IsReadyList (set marks cell (Waits k)) rest) same left_now))))
+          (subst (λ ns. IsQueue (set marks cell (Waits w)) rest first ns) (sym (itself same).1)
+          (subst (λ (k : ℕ). IsQueue (set marks cell (Waits k)) rest first next) (sym same)
+          (self_queue marks ready rest first next is cell stands (subst (λ (k : ℕ). IsReadyList (set marks cell (Waits k)) rest) same left_now))))
       | inr apart ↦ subst (λ fs. IsQueue (set marks cell (Waits w)) rest fs next_new) (sym (first_is apart))
-        (subst (λ ns. IsQueue (set marks cell (Waits w)) rest (set first w cell) ns) (sym (next_is apart))
-        (link_queue marks ready rest first next is cell stands w apart there open_ left_now))
+          (subst (λ ns. IsQueue (set marks cell (Waits w)) rest (set first w cell) ns) (sym (next_is apart))
+          (link_queue marks ready rest first next is cell stands w apart there open_ left_now))
     ])
 
 -- the lists after the equation of an unknown gave a fault
@@ -269,7 +269,7 @@ pub fault_queue : (marks marks_new : List Mark) (ready rest first next : List �
     → IsReadyList marks_new rest → marks_new ≡ set marks cell (Faulty cause) → IsQueue marks_new rest first next
 fault_queue marks marks_new ready rest first next is cell cause stands left marked =
     subst (λ ms. IsQueue ms rest first next) (sym marked)
-      (idle_queue marks ready rest first next is cell stands (Faulty cause) (subst (λ ms. IsReadyList ms rest) marked left) faulty_done faulty_waits)
+    (idle_queue marks ready rest first next is cell stands (Faulty cause) (subst (λ ms. IsReadyList ms rest) marked left) faulty_done faulty_waits)
   where
     faulty_done : Faulty cause ≡ Done → ⊥
     faulty_done e = cc

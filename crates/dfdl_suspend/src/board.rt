@@ -109,7 +109,13 @@ impl Board {
     }
 
     /// Evaluates the equation of the ready unknown at a place, and answers its number. It is one step.
-    pub fn run_one<E: Equations, L: Ledger>(&mut self, alloc: Global, equations: &mut E, choice: usize, steps: &mut Steps<L>) -> Result<CellId, AllocError>
+    pub fn run_one<E: Equations, L: Ledger>(
+        &mut self,
+        alloc: Global,
+        equations: &mut E,
+        choice: usize,
+        steps: &mut Steps<L>,
+    ) -> Result<CellId, AllocError>
         requires choice { choice < length self.old.ready }
         requires fits { Fits (E.unknowns equations.old) (E.equation equations.old) self.old }
         ensures same { equations.new ≡ equations.old }
@@ -142,7 +148,12 @@ impl Board {
     }
 
     // The first fault of the unknowns up to this one.
-    fn fault_up_to<E: Equations>(&self, equations: &E, best: Option<(CellId, u8)>, cell: CellId) -> Option<(CellId, u8)>
+    fn fault_up_to<E: Equations>(
+        &self,
+        equations: &E,
+        best: Option<(CellId, u8)>,
+        cell: CellId,
+    ) -> Option<(CellId, u8)>
         requires fits { Fits (E.unknowns equations.now) (E.equation equations.now) self.now }
         requires none_ready { length self.now.ready ≡ 0 }
         requires cell { cell < E.unknowns equations.now }

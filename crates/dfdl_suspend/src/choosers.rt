@@ -2,6 +2,7 @@
 use crate::Chooser;
 
 // Picks the last of those that are ready.
+#[derive(Drop)]
 pub(crate) struct LastReady {
     pub(crate) picks: u64,
 }
@@ -16,6 +17,7 @@ impl Chooser for LastReady {
 }
 
 // Picks each place in turn.
+#[derive(Drop)]
 pub(crate) struct InTurn {
     pub(crate) picks: u64,
 }
@@ -30,6 +32,7 @@ impl Chooser for InTurn {
 }
 
 // Picks by a fixed row of pseudo-random numbers.
+#[derive(Drop)]
 pub(crate) struct Scattered {
     pub(crate) picks: u64,
     pub(crate) state: u64,
@@ -40,12 +43,16 @@ impl Chooser for Scattered {
 
     fn pick(&mut self, ready: usize) -> usize {
         self.picks = self.picks.saturating_add(1);
-        self.state = self.state.wrapping_mul(6364136223846793005).wrapping_add(1442695040888963407);
+        self.state = self
+            .state
+            .wrapping_mul(6364136223846793005)
+            .wrapping_add(1442695040888963407);
         ((self.state >> 33) % ready as u64) as usize
     }
 }
 
 // Picks the first, and keeps the numbers that it is asked with.
+#[derive(Drop)]
 pub(crate) struct Recording {
     pub(crate) picks: u64,
     pub(crate) asked: [usize; 8],

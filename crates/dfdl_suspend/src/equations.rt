@@ -43,7 +43,13 @@ pub trait Equations {
         ensures { result ≡ precedes self.now a b };
 
     /// Evaluates the equation of an unknown that has no value. It is one step.
-    fn answer<L: Ledger>(&mut self, alloc: Global, cell: CellId, known: &mut Known, steps: &mut Steps<L>) -> Result<Answer, AllocError>
+    fn answer<L: Ledger>(
+        &mut self,
+        alloc: Global,
+        cell: CellId,
+        known: &mut Known,
+        steps: &mut Steps<L>,
+    ) -> Result<Answer, AllocError>
         requires cell { cell < unknowns self.old }
         requires room { unknowns self.old ≤ length known.old }
         requires fits { Reached (length known.old) (equation self.old) known.old }

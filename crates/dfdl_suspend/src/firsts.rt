@@ -9,7 +9,12 @@ use crate::known::Known;
 use dfdl_value::CellId;
 
 // The first unknown without a value, of those up to this one.
-fn open_with<E: Equations>(equations: &E, known: &Known, best: Option<CellId>, cell: CellId) -> Option<CellId>
+fn open_with<E: Equations>(
+    equations: &E,
+    known: &Known,
+    best: Option<CellId>,
+    cell: CellId,
+) -> Option<CellId>
     requires cell { cell < E.unknowns equations.now }
     requires best { IsBest (E.precedes equations.now) cell (IsOpen known.now) best }
     ensures { IsBest (E.precedes equations.now) (cell + 1) (IsOpen known.now) result }
@@ -20,7 +25,11 @@ fn open_with<E: Equations>(equations: &E, known: &Known, best: Option<CellId>, c
     let Some(other) = best else {
         return Some(cell);
     };
-    if equations.earlier(cell, other) { Some(cell) } else { Some(other) }
+    if equations.earlier(cell, other) {
+        Some(cell)
+    } else {
+        Some(other)
+    }
 }
 
 // The first unknown without a value.
@@ -35,7 +44,12 @@ pub(crate) fn first_open<E: Equations>(equations: &E, known: &Known) -> Option<C
 }
 
 // The first fault of those up to a faulty unknown.
-pub(crate) fn fault_with<E: Equations>(equations: &E, best: Option<(CellId, u8)>, cell: CellId, cause: u8) -> Option<(CellId, u8)>
+pub(crate) fn fault_with<E: Equations>(
+    equations: &E,
+    best: Option<(CellId, u8)>,
+    cell: CellId,
+    cause: u8,
+) -> Option<(CellId, u8)>
     requires cell { cell < E.unknowns equations.now }
     requires best { IfSome best (λ found. found.0 < E.unknowns equations.now) }
     ensures { (known : List (Option Held)) → gives (E.equation equations.now cell) known ≡ Faults cause

@@ -104,7 +104,13 @@ impl Queue {
     {
         let cell = leave(&mut self.marks, &mut self.ready, choice, Mark::Done);
         let head = self.first[cell as usize];
-        wake(&mut self.marks, &mut self.ready, self.next.as_slice(), cell, head);
+        wake(
+            &mut self.marks,
+            &mut self.ready,
+            self.next.as_slice(),
+            cell,
+            head,
+        );
     }
 
     // The ready unknown at a place waits for another one, or for itself.
@@ -117,7 +123,12 @@ impl Queue {
         ensures room { self.new.room ≡ self.old.room }
         ensures readies { IsReadyList self.new.marks self.new.ready }
     {
-        let cell = leave(&mut self.marks, &mut self.ready, choice, Mark::Waits(unknown));
+        let cell = leave(
+            &mut self.marks,
+            &mut self.ready,
+            choice,
+            Mark::Waits(unknown),
+        );
         link(&mut self.first, &mut self.next, cell, unknown);
     }
 
@@ -129,7 +140,12 @@ impl Queue {
         ensures room { self.new.room ≡ self.old.room }
         ensures readies { IsReadyList self.new.marks self.new.ready }
     {
-        leave(&mut self.marks, &mut self.ready, choice, Mark::Faulty(cause));
+        leave(
+            &mut self.marks,
+            &mut self.ready,
+            choice,
+            Mark::Faulty(cause),
+        );
     }
 
     // An unknown that waited for itself is ready.

@@ -16,7 +16,13 @@ use std::alloc::{AllocError, Global};
 use std::sync::ledger::Ledger;
 
 // Evaluates an unknown that has no value, and says whether it got one.
-fn try_cell<E: Equations, L: Ledger>(alloc: Global, equations: &mut E, cell: CellId, known: &mut Known, steps: &mut Steps<L>) -> Result<bool, AllocError>
+fn try_cell<E: Equations, L: Ledger>(
+    alloc: Global,
+    equations: &mut E,
+    cell: CellId,
+    known: &mut Known,
+    steps: &mut Steps<L>,
+) -> Result<bool, AllocError>
     requires cell { cell < E.unknowns equations.old }
     requires room { E.unknowns equations.old ≡ length known.old }
     requires fits { Reached (length known.old) (E.equation equations.old) known.old }
@@ -33,7 +39,12 @@ fn try_cell<E: Equations, L: Ledger>(alloc: Global, equations: &mut E, cell: Cel
 }
 
 // Evaluates each unknown that has no value, and says whether one got a value.
-fn one_round<E: Equations, L: Ledger>(alloc: Global, equations: &mut E, known: &mut Known, steps: &mut Steps<L>) -> Result<bool, AllocError>
+fn one_round<E: Equations, L: Ledger>(
+    alloc: Global,
+    equations: &mut E,
+    known: &mut Known,
+    steps: &mut Steps<L>,
+) -> Result<bool, AllocError>
     requires room { E.unknowns equations.old ≡ length known.old }
     requires fits { Reached (length known.old) (E.equation equations.old) known.old }
     ensures same { equations.new ≡ equations.old }
@@ -51,7 +62,11 @@ fn one_round<E: Equations, L: Ledger>(alloc: Global, equations: &mut E, known: &
 }
 
 // The values of all unknowns that get one, by rounds.
-fn known_by_rounds<E: Equations, L: Ledger>(alloc: Global, equations: &mut E, steps: &mut Steps<L>) -> Result<Known, AllocError>
+fn known_by_rounds<E: Equations, L: Ledger>(
+    alloc: Global,
+    equations: &mut E,
+    steps: &mut Steps<L>,
+) -> Result<Known, AllocError>
     ensures same { equations.new ≡ equations.old }
     ensures room { IfOk result (λ known. E.unknowns equations.old ≡ length known) }
     ensures fits { IfOk result (λ known. Reached (length known) (E.equation equations.old) known) }
@@ -91,7 +106,12 @@ fn fault_up_to<E: Equations, L: Ledger>(
 }
 
 // The first fault, where no unknown gets a value any more.
-fn first_fault_by_rounds<E: Equations, L: Ledger>(alloc: Global, equations: &mut E, known: &mut Known, steps: &mut Steps<L>) -> Result<Option<(CellId, u8)>, AllocError>
+fn first_fault_by_rounds<E: Equations, L: Ledger>(
+    alloc: Global,
+    equations: &mut E,
+    known: &mut Known,
+    steps: &mut Steps<L>,
+) -> Result<Option<(CellId, u8)>, AllocError>
     requires room { E.unknowns equations.old ≡ length known.old }
     requires fits { Reached (length known.old) (E.equation equations.old) known.old }
     requires still { Closed (length known.old) (E.equation equations.old) known.old }
@@ -128,7 +148,11 @@ pub struct Solution {
 }
 
 /// Solves equations by rounds: the plain slow way.
-pub fn solve_by_rounds<E: Equations, L: Ledger>(alloc: Global, equations: &mut E, steps: &mut Steps<L>) -> Result<Solution, AllocError>
+pub fn solve_by_rounds<E: Equations, L: Ledger>(
+    alloc: Global,
+    equations: &mut E,
+    steps: &mut Steps<L>,
+) -> Result<Solution, AllocError>
     ensures same { equations.new ≡ equations.old }
     ensures solution { IfOk result (λ found. found.known ≡ solution (E.unknowns equations.old) (E.equation equations.old)) }
     ensures outcome { IfOk result (λ found. IsOutcome (E.precedes equations.old) (E.unknowns equations.old) (E.equation equations.old) found.known found.outcome) }

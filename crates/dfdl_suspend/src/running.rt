@@ -12,7 +12,13 @@ use std::alloc::{AllocError, Global};
 use std::sync::ledger::Ledger;
 
 /// Runs unknowns, as the chooser picks them, until none is ready. Then what is known is the least solution.
-pub fn run_all<E: Equations, C: Chooser, L: Ledger>(alloc: Global, board: &mut Board, equations: &mut E, chooser: &mut C, steps: &mut Steps<L>) -> Result<(), AllocError>
+pub fn run_all<E: Equations, C: Chooser, L: Ledger>(
+    alloc: Global,
+    board: &mut Board,
+    equations: &mut E,
+    chooser: &mut C,
+    steps: &mut Steps<L>,
+) -> Result<(), AllocError>
     requires fits { Fits (E.unknowns equations.old) (E.equation equations.old) board.old }
     ensures same { equations.new ≡ equations.old }
     ensures fits { Fits (E.unknowns equations.old) (E.equation equations.old) board.new }

@@ -196,7 +196,13 @@ impl Equations for Table {
         }
     }
 
-    fn answer<L: Ledger>(&mut self, _alloc: Global, cell: CellId, known: &mut Known, steps: &mut Steps<L>) -> Result<Answer, AllocError> {
+    fn answer<L: Ledger>(
+        &mut self,
+        _alloc: Global,
+        cell: CellId,
+        known: &mut Known,
+        steps: &mut Steps<L>,
+    ) -> Result<Answer, AllocError> {
         steps.tick();
         let formula = self.rows[cell.number() as usize];
         Ok(evaluate(formula, cell, known))

@@ -21,8 +21,8 @@ loop-cell-preserved c =
       ap (λ (b : Boarded). length b.marks) c.set.ensures ∙ (length-set board.marks cell Ready ∙ c.loop-cell.invariant.1),
       subst (λ (b : Boarded). IsSettable (drop (i + 1) all) b.marks) (sym c.set.ensures) (settable_rest cell (drop (i + 1) all) board.marks settable),
       λ equation begun. subst (λ (b : Boarded). Taking equation (drop (i + 1) all) b) (sym c.set.ensures)
-        (taking_set equation cell (drop (i + 1) all) board (subst (λ xs. Taking equation xs board) left (c.loop-cell.invariant.3 equation begun))),
+          (taking_set equation cell (drop (i + 1) all) board (subst (λ xs. Taking equation xs board) left (c.loop-cell.invariant.3 equation begun))),
       λ equation ran were_set begun. subst (λ (b : Boarded). Runs equation b ran (were_set ++ take (i + 1) all)) (sym c.set.ensures)
-        (subst (λ xs. Runs equation (with_set board cell) ran xs) (append_assoc were_set (take i all) (cell ∷ []) ∙ ap (λ ys. were_set ++ ys) (sym took))
-        (runs_set equation cell board ran (were_set ++ take i all) (first_waits cell (drop (i + 1) all) board.marks settable) (c.loop-cell.invariant.4 equation ran were_set begun))),
+          (subst (λ xs. Runs equation (with_set board cell) ran xs) (append_assoc were_set (take i all) (cell ∷ []) ∙ ap (λ ys. were_set ++ ys) (sym took))
+          (runs_set equation cell board ran (were_set ++ take i all) (first_waits cell (drop (i + 1) all) board.marks settable) (c.loop-cell.invariant.4 equation ran were_set begun))),
     )

@@ -18,5 +18,5 @@ returns-clause-readies c =
     left_ready c.args.marks.now.items c.args.ready.now.items c.requires.readies c.swap_remove-cell.result c.args.mark c.swap_remove-cell.new.self.items
     (ready_at_is c.args.marks.now.items c.args.ready.now.items c.args.choice c.swap_remove-cell.result c.requires.readies c.requires.choice c.swap_remove-cell.ensures.value)
     (subst (λ xs. IsPermutation c.args.ready.now.items (c.swap_remove-cell.result ∷ xs)) (sym c.swap_remove-cell.ensures.items)
-      (IsPermutation-swap_remove c.args.ready.now.items c.args.choice c.swap_remove-cell.result c.requires.choice c.swap_remove-cell.ensures.value))
+    (IsPermutation-swap_remove c.args.ready.now.items c.args.choice c.swap_remove-cell.result c.requires.choice c.swap_remove-cell.ensures.value))
     c.requires.other

@@ -35,7 +35,7 @@ waking-preserved c =
     record {
       waking = step.rest;
       readies = subst (λ rs. IsReadyList (set marks c.waking.at Ready) rs) (sym c.put_behind.ensures.items)
-        (came_ready marks c.waking.ready.items c.waking.invariant.readies c.waking.at (Waits c.args.unknown) step.waits (waits_ready c.args.unknown));
+          (came_ready marks c.waking.ready.items c.waking.invariant.readies c.waking.at (Waits c.args.unknown) step.waits (waits_ready c.args.unknown));
       same = woken_set c.args.unknown c.waking.at marks step.waits ∙ c.waking.invariant.same;
       long = length-set marks c.waking.at Ready ∙ c.waking.invariant.long;
       marks_stay = c.waking.invariant.marks_stay;

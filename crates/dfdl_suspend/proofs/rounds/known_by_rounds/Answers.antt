@@ -10,8 +10,8 @@ rounds-init g c = (
   refl,
   ap (λ a. length a) c.in_ok-known.ensures ∙ (length-replicate c.count.result None ∙ c.count.ensures),
   let start : Reached c.count.result (g.E.Equations.equation c.args.equations.now) (replicate c.count.result None) = nothing in
-  subst (λ a. Reached (g.E.Equations.unknowns c.args.equations.now) (g.E.Equations.equation c.args.equations.now) a) (sym c.in_ok-known.ensures)
-    (subst (λ (n : ℕ). Reached n (g.E.Equations.equation c.args.equations.now) (replicate c.count.result None)) c.count.ensures start),
+      subst (λ a. Reached (g.E.Equations.unknowns c.args.equations.now) (g.E.Equations.equation c.args.equations.now) a) (sym c.in_ok-known.ensures)
+      (subst (λ (n : ℕ). Reached n (g.E.Equations.equation c.args.equations.now) (replicate c.count.result None)) c.count.ensures start),
 )
 
 pub rounds-smaller : goal.rounds-smaller

@@ -20,5 +20,5 @@ returns-clause-outcome g c =
     let still = c.first_fault_by_rounds.ensures.same ∙ same in
     c.outcome_of-outcome.ensures precedes unknowns equation c.first_fault_by_rounds.new.known
     (subst (λ known. IsFirstFault precedes unknowns equation known c.in_ok-fault.fault) (sym c.first_fault_by_rounds.ensures.kept)
-      (subst (λ e. IsFirstFault (g.E.Equations.precedes e) (g.E.Equations.unknowns e) (g.E.Equations.equation e) c.in_ok-known.known c.in_ok-fault.fault) same c.in_ok-fault.ensures.fault))
+    (subst (λ e. IsFirstFault (g.E.Equations.precedes e) (g.E.Equations.unknowns e) (g.E.Equations.equation e) c.in_ok-known.known c.in_ok-fault.fault) same c.in_ok-fault.ensures.fault))
     (subst (λ e. IsBest (g.E.Equations.precedes e) (g.E.Equations.unknowns e) (IsOpen c.first_fault_by_rounds.new.known) c.first_open.result) still c.first_open.ensures)

@@ -13,7 +13,7 @@ returns c =
     let room : length c.args.self.now ≡ cells = sym (ap (λ a. length a) c.self.view_is) ∙ (length-append old (replicate (cells - length old) None) ∙ (ap (λ k. length old + k) (length-replicate (cells - length old) None) ∙ omega arith)) in
     let within : i + 1 ≤ cells = omega arith in
     let written : length c.fill.new.values.items ≡ length old + (i + 1 - length old) =
-        ap (λ a. length a) c.fill.ensures.items ∙ (length-append old (replicate (i + 1 - length old) None) ∙ ap (λ k. length old + k) (length-replicate (i + 1 - length old) None)) in
+    ap (λ a. length a) c.fill.ensures.items ∙ (length-append old (replicate (i + 1 - length old) None) ∙ ap (λ k. length old + k) (length-replicate (i + 1 - length old) None)) in
     ap (λ a. padded cells a) c.write.ensures.items
     ∙ (padded_set cells i c.fill.new.values.items (Some c.args.held) (omega arith)
     ∙ (ap (λ a. set a i (Some c.args.held)) (ap (λ a. padded cells a) c.fill.ensures.items ∙ (padded_fill cells (i + 1) old few within ∙ c.self.view_is))

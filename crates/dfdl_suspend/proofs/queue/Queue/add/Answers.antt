@@ -22,11 +22,11 @@ invariant_of-self c =
     let same : c.len-cell.result ≡ length marks = omega (arith, c.len-cell.ensures) in
     let more = length_push marks Ready in (
       subst (λ ms. IsQueue ms c.put_behind-2.new.items.items c.put_behind-3.new.items.items c.put_behind-4.new.items.items) (sym c.put_behind.ensures.items)
-      (subst (λ rs. IsQueue (marks ++ Ready ∷ []) rs c.put_behind-3.new.items.items c.put_behind-4.new.items.items) (sym c.put_behind-2.ensures.items)
-      (subst (λ fs. IsQueue (marks ++ Ready ∷ []) (c.self.inside.ready.items ++ c.len-cell.result ∷ []) fs c.put_behind-4.new.items.items) (sym c.put_behind-3.ensures.items)
-      (subst (λ ns. IsQueue (marks ++ Ready ∷ []) (c.self.inside.ready.items ++ c.len-cell.result ∷ []) (c.self.inside.first.items ++ list_end ∷ []) ns) (sym c.put_behind-4.ensures.items)
-      (subst (λ (n : ℕ). IsQueue (marks ++ Ready ∷ []) (c.self.inside.ready.items ++ n ∷ []) (c.self.inside.first.items ++ list_end ∷ []) (c.self.inside.next.items ++ list_end ∷ []))
-      (sym same) (added_queue marks c.self.inside.ready.items c.self.inside.first.items c.self.inside.next.items c.self.invariant.0 (omega (arith, less))))))),
+          (subst (λ rs. IsQueue (marks ++ Ready ∷ []) rs c.put_behind-3.new.items.items c.put_behind-4.new.items.items) (sym c.put_behind-2.ensures.items)
+          (subst (λ fs. IsQueue (marks ++ Ready ∷ []) (c.self.inside.ready.items ++ c.len-cell.result ∷ []) fs c.put_behind-4.new.items.items) (sym c.put_behind-3.ensures.items)
+          (subst (λ ns. IsQueue (marks ++ Ready ∷ []) (c.self.inside.ready.items ++ c.len-cell.result ∷ []) (c.self.inside.first.items ++ list_end ∷ []) ns) (sym c.put_behind-4.ensures.items)
+          (subst (λ (n : ℕ). IsQueue (marks ++ Ready ∷ []) (c.self.inside.ready.items ++ n ∷ []) (c.self.inside.first.items ++ list_end ∷ []) (c.self.inside.next.items ++ list_end ∷ []))
+          (sym same) (added_queue marks c.self.inside.ready.items c.self.inside.first.items c.self.inside.next.items c.self.invariant.0 (omega (arith, less))))))),
       record {
         within = omega (arith, ap (λ ms. length ms) c.put_behind.ensures.items, more, less);
         marks_fit = omega (arith, c.put_behind.ensures.capacity, room.marks_fit);

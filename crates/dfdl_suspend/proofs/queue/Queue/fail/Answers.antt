@@ -9,7 +9,7 @@ invariant_of-self c =
     let long = ap (λ ms. length ms) c.leave.ensures.marks ∙ length-set marks c.leave.result (Faulty c.args.cause) in
     let room = c.self.invariant.1 in (
       fault_queue marks c.leave.new.marks.items c.self.inside.ready.items c.leave.new.ready.items c.self.inside.first.items c.self.inside.next.items c.self.invariant.0
-      c.leave.result c.args.cause c.leave.ensures.was c.leave.ensures.readies c.leave.ensures.marks,
+          c.leave.result c.args.cause c.leave.ensures.was c.leave.ensures.readies c.leave.ensures.marks,
       record {
         within = omega (arith, long, room.within);
         marks_fit = omega (arith, c.leave.ensures.marks_capacity, room.marks_fit);

@@ -29,8 +29,8 @@ invariant_of-self c =
     let marked : c.wake.new.marks.items ≡ all_woken cell (set marks cell Done) = c.wake.ensures.marks ∙ ap (λ ms. all_woken cell ms) c.leave-cell.ensures.marks in
     let long = ap (λ ms. length ms) marked ∙ (length-map (set marks cell Done) (woken cell) ∙ length-set marks cell Done) in (
       subst (λ ms. IsQueue ms c.wake.new.ready.items c.self.inside.first.items c.self.inside.next.items) (sym marked)
-      (woken_queue marks c.self.inside.ready.items c.wake.new.ready.items c.self.inside.first.items c.self.inside.next.items c.self.invariant.0 cell c.leave-cell.ensures.was
-        (subst (λ ms. IsReadyList ms c.wake.new.ready.items) marked c.wake.ensures.readies)),
+          (woken_queue marks c.self.inside.ready.items c.wake.new.ready.items c.self.inside.first.items c.self.inside.next.items c.self.invariant.0 cell c.leave-cell.ensures.was
+          (subst (λ ms. IsReadyList ms c.wake.new.ready.items) marked c.wake.ensures.readies)),
       record {
         within = omega (arith, long, room.within);
         marks_fit = omega (arith, c.leave-cell.ensures.marks_capacity, c.wake.ensures.marks_capacity, room.marks_fit);

@@ -19,7 +19,7 @@ invariant_of-self c =
     let room = c.self.invariant.1 in
     let same = length-set marks c.args.cell Ready in (
       subst (λ rs. IsQueue (set marks c.args.cell Ready) rs c.self.inside.first.items c.self.inside.next.items) (sym c.put_behind.ensures.items)
-      (set_queue marks c.self.inside.ready.items c.self.inside.first.items c.self.inside.next.items c.self.invariant.0 c.args.cell (subst (λ (q : Queued). slice_get q.marks c.args.cell ≡ Some (Waits c.args.cell)) (sym c.self.view_is) c.requires)),
+          (set_queue marks c.self.inside.ready.items c.self.inside.first.items c.self.inside.next.items c.self.invariant.0 c.args.cell (subst (λ (q : Queued). slice_get q.marks c.args.cell ≡ Some (Waits c.args.cell)) (sym c.self.view_is) c.requires)),
       record {
         within = omega (arith, same, room.within);
         marks_fit = room.marks_fit;

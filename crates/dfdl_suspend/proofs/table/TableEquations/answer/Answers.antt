@@ -9,5 +9,5 @@ returns-clause-names g c =
     let long : length rows ≡ length c.args.self.now.rows = ap (λ (t : Tabled). length t.rows) c.self.view_is in
     let low : c.number.result < length rows = omega (arith, c.requires.cell, c.number.ensures, long) in
     let named : NamesWithin (length rows) c.index-formula.result.now =
-        c.self.invariant.0 c.number.result c.index-formula.result.now (slice_get_read rows (length rows) c.number.result c.index-formula.result.now refl low c.index-formula.ensures) in
+    c.self.invariant.0 c.number.result c.index-formula.result.now (slice_get_read rows (length rows) c.number.result c.index-formula.result.now refl low c.index-formula.ensures) in
     c.evaluate.ensures.names (length c.args.self.now.rows) c.requires.cell (subst (λ (n : ℕ). NamesWithin n c.index-formula.result.now) long named)

@@ -8,6 +8,7 @@ use Rattle.dfdl_suspend.specs.Asks.{Asks, AsksWithin, Gives, Gets, Faults, Waits
 use Rattle.dfdl_suspend.specs.Marks.{IsReadyList}
 use Rattle.dfdl_suspend.specs.Rounds.{Reached}
 
+-- what is known, the mark of each unknown that was added, and those that are ready
 pub record Boarded : Type 0 where
   pub known : List (Option Held)
   pub marks : List Mark
@@ -21,8 +22,7 @@ with_added board = record { known = board.known; marks = board.marks ++ Ready �
 abbrev pub with_set : Boarded → ℕ → Boarded
 with_set board cell = record { known = board.known; marks = slice_set board.marks cell Ready; ready = board.ready ++ cell ∷ [] }
 
--- what a board shows of itself: the unknowns with a value are those that are done, each ready one has one place, and who
--- waits, waits for one without a value
+-- what a board shows of itself: the unknowns with a value are those that are done, and each ready one has one place
 pub record IsShown (board : Boarded) : Type 0 where
   pub few : length board.marks ≤ length board.known
   pub readies : IsReadyList board.marks board.ready

@@ -1,12 +1,12 @@
 -- A board on which no unknown is ready.
-use Rattle.std.proofs.Common.{◌≡◌, ◌≢◌, ℕ, ◌<◌, ◌≤◌, get_or, true, false, Option, Some, None, List, [], ◌∷◌, length, refl, sym, ap, ◌∙◌, arith, inl, inr}
+use Rattle.std.proofs.Common.{◌≡◌, ℕ, ◌≤◌, get_or, true, Option, Some, None, List, [], ◌∷◌, length, refl, sym, ap, ◌∙◌, arith, inl, inr}
 use Rattle.std.specs.List.{slice_get}
 use Rattle.std.proofs.lemmas.Option.{slice_get-get_or}
 use Rattle.dfdl_suspend.specs.declared.known.Held.{Held}
 use Rattle.dfdl_suspend.specs.declared.mark.Mark.{Mark}
 use Rattle.dfdl_suspend.specs.declared.mark.Mark.TheVariants.{Ready, Done, Waits, Faulty}
 use Rattle.dfdl_suspend.specs.Asks.{Asks, Gives, Gets, Faults, WaitsFor, at, gives, is_in, waiting}
-use Rattle.dfdl_suspend.specs.Boards.{Boarded, Fits}
+use Rattle.dfdl_suspend.specs.Boards.{Fits}
 use Rattle.dfdl_suspend.specs.Marks.{IsReadyList}
 use Rattle.dfdl_suspend.specs.Outcomes.{HasFault}
 use Rattle.dfdl_suspend.specs.Recorded.{IsTied}

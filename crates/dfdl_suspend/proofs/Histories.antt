@@ -1,9 +1,8 @@
 -- How often unknowns were run, and how much of what an equation asks for is known.
-use Rattle.std.proofs.Common.{◌≡◌, ◌≢◌, ℕ, ◌+◌, ◌-◌, ◌*◌, ◌<◌, ◌≤◌, Bool, true, false, Option, Some, None, List, [], ◌∷◌, ◌++◌, length, set, nat_eq, if◌then◌else◌, refl, sym, ap, ◌∙◌, arith, inl, inr, ◌⊎◌, add_assoc, mul-le-mul_left}
-use Rattle.std.proofs.lemmas.Bool.{cases_eq, eqb-true, eq-eqb}
-use Rattle.dfdl_suspend.specs.Asks.{Asks, Is, Fails, Ask, AsksWithin, Gives, Gets, Faults, WaitsFor, Below, is_in, at, told, gives}
+use Rattle.std.proofs.Common.{◌≡◌, ◌≢◌, ℕ, ◌+◌, ◌*◌, ◌<◌, ◌≤◌, Bool, true, Option, Some, None, List, [], ◌∷◌, ◌++◌, nat_eq, if◌then◌else◌, refl, sym, ap, ◌∙◌, arith, inl, inr, mul-le-mul_left}
+use Rattle.std.proofs.lemmas.Bool.{eqb-true, eq-eqb}
+use Rattle.dfdl_suspend.specs.Asks.{Asks, Is, Fails, Ask, AsksWithin, Gives, WaitsFor, Below, is_in, at, told, gives}
 use Rattle.dfdl_suspend.specs.Boards.{times, one_if, how_many}
-use Rattle.dfdl_suspend.proofs.Places.{option_cases, at_set_same, at_set_other}
 use Rattle.dfdl_suspend.proofs.Readies.{in_cons, not_true}
 
 pub times_append : (cell : ℕ) (xs ys : List ℕ) → times cell (xs ++ ys) ≡ times cell xs + times cell ys

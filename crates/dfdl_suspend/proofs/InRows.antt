@@ -1,5 +1,5 @@
 -- Tables of equations, as rows are given and pushed.
-use Rattle.std.proofs.Common.{◌≡◌, ◌≢◌, ℕ, ◌+◌, ◌<◌, ◌≤◌, true, false, Some, None, List, [], ◌∷◌, ◌++◌, length, set, refl, sym, ap, subst, ◌∙◌, arith, inl, inr, length-set}
+use Rattle.std.proofs.Common.{◌≡◌, ℕ, ◌+◌, ◌<◌, ◌≤◌, true, Some, List, [], ◌∷◌, ◌++◌, length, set, sym, ap, subst, ◌∙◌, arith, inl, inr}
 use Rattle.std.specs.List.{slice_get, IsDistinct}
 use Rattle.std.proofs.lemmas.Bool.{cases_eq, cases_lt}
 use Rattle.std.proofs.lemmas.List.{length_push}
@@ -7,7 +7,7 @@ use Rattle.std.proofs.lemmas.Option.{slice_get_within}
 use Rattle.dfdl_suspend.specs.Asks.{is_in, waiting}
 use Rattle.dfdl_suspend.specs.Boards.{Boarded, Fits}
 use Rattle.dfdl_suspend.specs.Events.{Brings}
-use Rattle.dfdl_suspend.specs.Formulas.{equation_of, equation_or, equation_in, NamesWithin, AreWithin, rows_beyond}
+use Rattle.dfdl_suspend.specs.Formulas.{equation_or, equation_in, NamesWithin, AreWithin, rows_beyond}
 use Rattle.dfdl_suspend.specs.declared.table.Formula.{Formula}
 use Rattle.dfdl_suspend.specs.declared.table.Formula.TheVariants.{Event, Plain, Fault, Same, Sum}
 use Rattle.dfdl_suspend.proofs.Places.{get_set_other, get_append_old, get_push_cases}

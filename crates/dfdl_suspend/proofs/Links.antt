@@ -1,19 +1,18 @@
 -- The lists of those that wait, as marks and links change.
-use Rattle.std.proofs.Common.{◌≡◌, ◌≢◌, ℕ, ◌+◌, ◌-◌, ◌^◌, ◌<◌, ◌≤◌, Bool, true, false, ◌||◌, Option, Some, None, List, [], ◌∷◌, ◌++◌, length, set, map, get_or, nat_eq, cond, refl, sym, ap, subst, ◌∙◌, arith, inl, inr, ◌⊎◌, length-set, get_or-set_same, get_or-set_other}
+use Rattle.std.proofs.Common.{◌≡◌, ◌≢◌, ℕ, ◌+◌, ◌<◌, Bool, true, false, Some, List, [], ◌∷◌, ◌++◌, length, set, get_or, refl, sym, ap, subst, ◌∙◌, arith, inl, inr, length-set, get_or-set_same, get_or-set_other}
 use Rattle.std.specs.List.{slice_get}
-use Rattle.std.specs.List.Sorted.{IsPermutation}
 use Rattle.std.proofs.Math.ListN.{get_or-append}
 use Rattle.std.proofs.Math.Seq.{get_or-append_seam}
 use Rattle.std.proofs.lemmas.List.{length_push}
-use Rattle.std.proofs.lemmas.Bool.{cases_eq, eqb-true, eq-eqb}
+use Rattle.std.proofs.lemmas.Bool.{cases_eq}
 use Rattle.std.proofs.lemmas.Option.{slice_get_within}
 use Rattle.dfdl_suspend.specs.declared.mark.Mark.{Mark}
-use Rattle.dfdl_suspend.specs.declared.mark.Mark.TheVariants.{Ready, Done, Waits, Faulty}
+use Rattle.dfdl_suspend.specs.declared.mark.Mark.TheVariants.{Ready, Done, Waits}
 use Rattle.dfdl_suspend.specs.Asks.{is_in}
-use Rattle.dfdl_suspend.specs.Marks.{IsReadyList, woken, all_woken}
+use Rattle.dfdl_suspend.specs.Marks.{IsReadyList}
 use Rattle.dfdl_suspend.specs.Queues.{list_end, IsLinked, IsWaited, IsWaking, IsQueue}
-use Rattle.dfdl_suspend.proofs.Places.{get_set_same, get_set_other, get_append_old, get_push_new, get_push_cases}
-use Rattle.dfdl_suspend.proofs.Readies.{in_cons, in_front, in_behind, not_true, few_ready, left_ready, came_ready, added_ready}
+use Rattle.dfdl_suspend.proofs.Places.{get_set_same, get_set_other, get_append_old, get_push_cases}
+use Rattle.dfdl_suspend.proofs.Readies.{in_cons, in_front, in_behind, not_true, added_ready}
 
 -- a list stays where the marks and links of its unknowns stay
 pub linked_stays : (marks marks_new : List Mark) (next next_new : List ℕ) (unknown head : ℕ) (cells : List ℕ)

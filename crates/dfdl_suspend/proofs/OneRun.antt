@@ -10,8 +10,8 @@ use Rattle.dfdl_suspend.specs.declared.known.Held.{Held}
 use Rattle.dfdl_suspend.specs.declared.mark.Mark.{Mark}
 use Rattle.dfdl_suspend.specs.declared.mark.Mark.TheVariants.{Ready, Done, Waits, Faulty}
 use Rattle.dfdl_suspend.specs.Answers.{Meets, NamesBelow}
-use Rattle.dfdl_suspend.specs.Asks.{Asks, AsksWithin, Gives, Gets, Faults, WaitsFor, at, filled, gives, Below}
-use Rattle.dfdl_suspend.specs.Boards.{Boarded, Fits, Agrees, Runs, weight, times, had_run, how_many}
+use Rattle.dfdl_suspend.specs.Asks.{Asks, AsksWithin, Gets, WaitsFor, at, filled, gives, Below}
+use Rattle.dfdl_suspend.specs.Boards.{Boarded, Fits, Agrees, Runs, weight, had_run, how_many}
 use Rattle.dfdl_suspend.specs.Marks.{IsReadyList, woken, all_woken}
 use Rattle.dfdl_suspend.specs.Queued.{Queued}
 use Rattle.dfdl_suspend.specs.Recorded.{IsRecordable, IsRecorded, IsTied}
@@ -20,8 +20,8 @@ use Rattle.dfdl_suspend.proofs.Places.{option_cases, get_set_same, get_set_other
 use Rattle.dfdl_suspend.proofs.Trees.{fault_stays, wait_stays, wait_open, below_set}
 use Rattle.dfdl_suspend.proofs.Solving.{filled_few}
 use Rattle.dfdl_suspend.proofs.Rounding.{filled_set}
-use Rattle.dfdl_suspend.proofs.Readies.{few_ready, not_true}
-use Rattle.dfdl_suspend.proofs.Waking.{woken_done, waits_woken, same_woken, woken_at, was_at}
+use Rattle.dfdl_suspend.proofs.Readies.{few_ready}
+use Rattle.dfdl_suspend.proofs.Waking.{woken_done, woken_at, was_at}
 use Rattle.dfdl_suspend.proofs.Histories.{push_same, push_other, wait_asked, how_many_stay, how_many_more, weight_falls}
 
 abbrev pub shown : List (Option Held) → List Mark → List ℕ → Boarded

@@ -1,7 +1,7 @@
 -- The list of those that are ready, as one leaves it or comes to it.
-use Rattle.std.proofs.Common.{◌≡◌, ◌≢◌, ℕ, ◌+◌, ◌<◌, ◌≤◌, Bool, true, false, ◌||◌, Option, Some, None, List, [], ◌∷◌, ◌++◌, length, set, get_or, nat_eq, refl, sym, ap, ◌∙◌, arith, length-set, inl, inr, ◌⊎◌}
+use Rattle.std.proofs.Common.{◌≡◌, ◌≢◌, ℕ, ◌<◌, ◌≤◌, Bool, true, false, ◌||◌, Some, List, [], ◌∷◌, ◌++◌, length, set, get_or, nat_eq, refl, sym, ap, ◌∙◌, arith, length-set, inl, inr, ◌⊎◌}
 use Rattle.std.specs.Cmp.{nat_eq_equiv}
-use Rattle.std.specs.List.{slice_get, list_any, IsDistinct, AllByRecursion}
+use Rattle.std.specs.List.{slice_get, IsDistinct, AllByRecursion}
 use Rattle.std.specs.List.Sorted.{IsPermutation}
 use Rattle.std.proofs.lemmas.Bool.{cases_eq, or_cases, eqb-true, eq-eqb}
 use Rattle.std.proofs.lemmas.List.{length_push}
@@ -11,7 +11,7 @@ use Rattle.std.proofs.lemmas.Map.Keys.{IsDistinct-head, IsDistinct-tail, IsDisti
 use Rattle.std.proofs.lemmas.Map.Steps.{length-le_from_distinct_below}
 use Rattle.std.proofs.lemmas.Option.{slice_get_within, slice_get_read}
 use Rattle.dfdl_suspend.specs.declared.mark.Mark.{Mark}
-use Rattle.dfdl_suspend.specs.declared.mark.Mark.TheVariants.{Ready, Done, Waits, Faulty}
+use Rattle.dfdl_suspend.specs.declared.mark.Mark.TheVariants.{Ready, Waits}
 use Rattle.dfdl_suspend.specs.Asks.{is_in}
 use Rattle.dfdl_suspend.specs.Marks.{IsReadyList}
 use Rattle.dfdl_suspend.proofs.Places.{get_set_same, get_set_other, get_append_old, get_push_new, get_push_cases}

@@ -1,7 +1,7 @@
 -- One round over all unknowns, in place.
-use Rattle.std.proofs.Common.{◌≡◌, ℕ, ◌+◌, ◌<◌, ◌≤◌, Bool, true, false, ◌||◌, Option, Some, None, List, [], ◌∷◌, length, set, refl, sym, ap, subst, ◌∙◌, arith, inl, inr, below_more, length-set}
-use Rattle.dfdl_suspend.specs.Asks.{Asks, Gets, at, gives, filled, Below}
-use Rattle.dfdl_suspend.specs.Rounds.{Reached, assigned, Closed}
+use Rattle.std.proofs.Common.{◌≡◌, ℕ, ◌+◌, ◌<◌, Bool, true, false, ◌||◌, Option, Some, None, List, length, set, refl, sym, ap, subst, ◌∙◌, arith, inl, inr, below_more, length-set}
+use Rattle.dfdl_suspend.specs.Asks.{Asks, Gets, at, gives, filled}
+use Rattle.dfdl_suspend.specs.Rounds.{Reached, assigned}
 use Rattle.dfdl_suspend.specs.Tries.{Tried}
 use Rattle.dfdl_suspend.proofs.Trees.{below_set}
 use Rattle.dfdl_suspend.proofs.Places.{at_set_same}

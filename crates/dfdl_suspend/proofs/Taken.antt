@@ -1,5 +1,5 @@
 -- The steps by which an event is taken up.
-use Rattle.std.proofs.Common.{◌≡◌, ◌≢◌, ℕ, ◌+◌, ◌<◌, ◌≤◌, Bool, true, false, ◌||◌, get_or, Option, Some, None, List, [], ◌∷◌, ◌++◌, length, set, replicate, nat_eq, refl, sym, ap, subst, ◌∙◌, arith, inl, inr, ◌⊎◌, length-set, append_assoc}
+use Rattle.std.proofs.Common.{◌≡◌, ◌≢◌, ℕ, ◌+◌, ◌<◌, ◌≤◌, Bool, true, false, ◌||◌, get_or, Option, Some, None, List, [], ◌∷◌, ◌++◌, length, set, replicate, nat_eq, refl, sym, ap, subst, ◌∙◌, arith, inl, inr, length-set}
 use Rattle.std.specs.List.{slice_get, IsDistinct, AllByRecursion}
 use Rattle.std.proofs.lemmas.Bool.{cases_eq}
 use Rattle.std.proofs.lemmas.List.{length_push, length-replicate}
@@ -8,10 +8,9 @@ use Rattle.std.proofs.lemmas.Map.Keys.{IsDistinct-head, IsDistinct-tail}
 use Rattle.dfdl_suspend.specs.declared.known.Held.{Held}
 use Rattle.dfdl_suspend.specs.declared.mark.Mark.{Mark}
 use Rattle.dfdl_suspend.specs.declared.mark.Mark.TheVariants.{Ready, Done, Waits, Faulty}
-use Rattle.dfdl_suspend.specs.Asks.{Asks, AsksWithin, Gives, Gets, Faults, WaitsFor, at, gives, is_in, waiting}
-use Rattle.dfdl_suspend.specs.Boards.{Boarded, IsShown, Fits, Agrees, Runs, with_added, with_set, times, had_run, how_many, one_if}
+use Rattle.dfdl_suspend.specs.Asks.{Asks, AsksWithin, Gives, Faults, WaitsFor, at, gives, is_in, waiting}
+use Rattle.dfdl_suspend.specs.Boards.{Boarded, IsShown, Agrees, Runs, with_added, with_set, had_run, how_many, one_if}
 use Rattle.dfdl_suspend.specs.Events.{Brings, IsSettable, Taking}
-use Rattle.dfdl_suspend.specs.Marks.{IsReadyList}
 use Rattle.dfdl_suspend.specs.Rounds.{Reached, nothing, Grows}
 use Rattle.dfdl_suspend.proofs.Histories.{push_same, push_other}
 use Rattle.dfdl_suspend.proofs.Places.{get_set_same, get_set_other, get_append_old, get_push_cases}

@@ -1,8 +1,8 @@
 -- What an equation gives stays while more is known.
-use Rattle.std.proofs.Common.{◌≡◌, ◌≢◌, ℕ, Option, Some, None, List, set, length, ◌<◌, refl, sym, ap, ◌∙◌, inl, inr}
+use Rattle.std.proofs.Common.{◌≡◌, ℕ, Option, Some, None, List, set, refl, sym, ap, ◌∙◌, inl, inr}
 use Rattle.std.proofs.lemmas.Bool.{cases_eq}
 use Rattle.dfdl_suspend.specs.Asks.{Asks, Is, Fails, Ask, Gives, Gets, Faults, WaitsFor, at, told, gives, waiting, Below}
-use Rattle.dfdl_suspend.proofs.Places.{option_cases, at_set_other, at_set_same}
+use Rattle.dfdl_suspend.proofs.Places.{at_set_other}
 
 told_stays : {V : Type 0} (o p : Option V) (cell : ℕ) (f g : V → Gives V) (r : Gives V) → ((x : V) → o ≡ Some x → p ≡ Some x)
     → ((x : V) → f x ≡ r → g x ≡ r) → ((w : ℕ) → r ≡ WaitsFor w → ⊥) → told o cell f ≡ r → told p cell g ≡ r

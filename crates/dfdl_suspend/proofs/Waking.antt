@@ -1,5 +1,5 @@
 -- Those that waited for an unknown are ready once it has got a value; and lists as they begin.
-use Rattle.std.proofs.Common.{◌≡◌, ◌≢◌, ℕ, ◌+◌, ◌-◌, ◌^◌, ◌<◌, ◌≤◌, Bool, true, false, Option, Some, None, List, [], ◌∷◌, ◌++◌, length, set, map, get_or, nat_eq, cond, refl, sym, ap, subst, ◌∙◌, arith, inl, inr, ◌⊎◌, zero, suc, length-set, if◌then◌else◌}
+use Rattle.std.proofs.Common.{◌≡◌, ◌≢◌, ℕ, ◌<◌, ◌≤◌, Bool, true, false, Option, Some, None, List, [], ◌∷◌, ◌++◌, length, set, get_or, nat_eq, refl, sym, ap, subst, ◌∙◌, arith, inl, inr, zero, suc, length-set, if◌then◌else◌}
 use Rattle.std.specs.List.{slice_get, IsDistinct}
 use Rattle.std.specs.Option.{option_map}
 use Rattle.std.proofs.lemmas.Bool.{cases_eq, eqb-true, eq-eqb}
@@ -9,7 +9,7 @@ use Rattle.dfdl_suspend.specs.declared.mark.Mark.{Mark}
 use Rattle.dfdl_suspend.specs.declared.mark.Mark.TheVariants.{Ready, Done, Waits, Faulty}
 use Rattle.dfdl_suspend.specs.Asks.{is_in}
 use Rattle.dfdl_suspend.specs.Marks.{IsReadyList, woken, all_woken}
-use Rattle.dfdl_suspend.specs.Queues.{list_end, IsLinked, IsWaited, IsWaking, IsQueue}
+use Rattle.dfdl_suspend.specs.Queues.{list_end, IsLinked, IsWaking, IsQueue}
 use Rattle.dfdl_suspend.proofs.Places.{get_set_same, get_set_other}
 use Rattle.dfdl_suspend.proofs.Readies.{in_cons, not_true, came_ready}
 use Rattle.dfdl_suspend.proofs.Links.{linked_stays, linked_waits, apart_in, waited_stays, idle_queue, self_queue, link_queue}

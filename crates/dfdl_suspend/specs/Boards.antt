@@ -1,5 +1,5 @@
 -- A board: what is known, and where each unknown stands that was added.
-use Rattle.std.specs.Prelude.{◌≡◌, ◌≢◌, ℕ, ◌+◌, ◌-◌, ◌*◌, ◌<◌, ◌≤◌, ◌==◌, Bool, true, false, Option, Some, None, List, [], ◌∷◌, ◌++◌, length, slice_set, if◌then◌else◌, Result, Ok, Err}
+use Rattle.std.specs.Prelude.{◌≡◌, ◌≢◌, ℕ, ◌+◌, ◌-◌, ◌*◌, ◌≤◌, ◌==◌, Option, Some, None, List, [], ◌∷◌, ◌++◌, length, slice_set, if◌then◌else◌, Result, Ok, Err}
 use Rattle.std.specs.List.{slice_get}
 use Rattle.dfdl_suspend.specs.declared.known.Held.{Held}
 use Rattle.dfdl_suspend.specs.declared.mark.Mark.{Mark}

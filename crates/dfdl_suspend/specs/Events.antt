@@ -1,5 +1,5 @@
 -- What an event brings to a board: unknowns that are new, and others that waited for it and have their equations now.
-use Rattle.std.specs.Prelude.{◌≡◌, ◌≢◌, ℕ, ◌<◌, ◌≤◌, ◌==◌, ◌⊎◌, true, Some, List, length}
+use Rattle.std.specs.Prelude.{◌≡◌, ℕ, ◌<◌, ◌==◌, ◌⊎◌, true, Some, List, length}
 use Rattle.std.specs.List.{slice_get, IsDistinct}
 use Rattle.dfdl_suspend.specs.declared.known.Held.{Held}
 use Rattle.dfdl_suspend.specs.declared.mark.Mark.{Mark}

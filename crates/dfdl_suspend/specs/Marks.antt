@@ -1,5 +1,5 @@
 -- Where unknowns stand, and the list of those that are ready.
-use Rattle.std.specs.Prelude.{◌≡◌, ◌≢◌, ℕ, ◌<◌, ◌==◌, Bool, true, false, Option, Some, List, map, if◌then◌else◌}
+use Rattle.std.specs.Prelude.{◌≡◌, ℕ, ◌==◌, true, Some, List, map, if◌then◌else◌}
 use Rattle.std.specs.List.{slice_get, IsDistinct}
 use Rattle.dfdl_suspend.specs.Asks.{is_in}
 use Rattle.dfdl_suspend.specs.declared.mark.Mark.{Mark}

@@ -1,8 +1,8 @@
 -- Mirror for the prover: the lists of those that wait, linked through the numbers of unknowns.
-use Rattle.std.specs.Prelude.{◌≡◌, ◌≢◌, ℕ, ◌+◌, ◌-◌, ◌^◌, ◌<◌, ◌≤◌, Bool, true, false, Option, Some, List, [], ◌∷◌, length, get_or}
+use Rattle.std.specs.Prelude.{◌≡◌, ◌≢◌, ℕ, ◌-◌, ◌^◌, ◌<◌, ◌≤◌, true, false, Some, List, [], ◌∷◌, length, get_or}
 use Rattle.std.specs.List.{slice_get}
 use Rattle.dfdl_suspend.specs.declared.mark.Mark.{Mark}
-use Rattle.dfdl_suspend.specs.declared.mark.Mark.TheVariants.{Ready, Done, Waits, Faulty}
+use Rattle.dfdl_suspend.specs.declared.mark.Mark.TheVariants.{Done, Waits}
 use Rattle.dfdl_suspend.specs.Asks.{is_in}
 use Rattle.dfdl_suspend.specs.Marks.{IsReadyList}
 

@@ -5,9 +5,9 @@ use Rattle.dfdl_suspend.specs.declared.equations.Answer.{Answer}
 use Rattle.dfdl_suspend.specs.declared.equations.Answer.TheVariants.{Value, Wait, Fault}
 use Rattle.dfdl_suspend.specs.declared.known.Held.{Held}
 use Rattle.dfdl_suspend.specs.declared.mark.Mark.{Mark}
-use Rattle.dfdl_suspend.specs.declared.mark.Mark.TheVariants.{Ready, Done, Waits, Faulty}
+use Rattle.dfdl_suspend.specs.declared.mark.Mark.TheVariants.{Done, Waits, Faulty}
 use Rattle.dfdl_suspend.specs.Asks.{at}
-use Rattle.dfdl_suspend.specs.Marks.{IsReadyList, all_woken}
+use Rattle.dfdl_suspend.specs.Marks.{all_woken}
 use Rattle.dfdl_suspend.specs.Queued.{Queued}
 
 -- an unknown that is waited for is there and has no value

@@ -1,5 +1,4 @@
-use Rattle.std.proofs.Common.{◌≡◌, ◌<◌, ◌+◌, ◌++◌, ◌∷◌, [], Some, sym, ap, subst, ◌∙◌, arith, length, take, drop, append_assoc, length-set}
-use Rattle.std.specs.List.{slice_get}
+use Rattle.std.proofs.Common.{◌≡◌, ◌<◌, ◌+◌, ◌++◌, ◌∷◌, [], sym, ap, subst, ◌∙◌, arith, length, take, drop, append_assoc, length-set}
 use Rattle.std.proofs.lemmas.List.{drop_more, take_more}
 use Rattle.dfdl_suspend.specs.Boards.{Boarded, Runs, with_set}
 use Rattle.dfdl_suspend.specs.Events.{IsSettable, Taking}

@@ -1,6 +1,5 @@
-use Rattle.std.proofs.Common.{◌≡◌, ℕ, [], true, sym, subst, ◌∙◌, inl, inr}
+use Rattle.std.proofs.Common.{◌≡◌, ℕ, [], true, ◌∙◌, inl, inr}
 use Rattle.dfdl_suspend.specs.Asks.{is_in}
-use Rattle.dfdl_suspend.specs.Boards.{Agrees}
 use Rattle.dfdl_suspend.specs.Events.{Taking}
 use Rattle.dfdl_suspend.proofs.Taken.{taking_begins, runs_begin}
 use Rattle.dfdl_suspend.proofs.events.take_up.Goals as goal

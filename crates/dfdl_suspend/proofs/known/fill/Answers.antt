@@ -1,4 +1,4 @@
-use Rattle.std.proofs.Common.{◌≡◌, ◌-◌, None, replicate, length, ◌++◌, sym, ap, ◌∙◌, arith}
+use Rattle.std.proofs.Common.{◌≡◌, ◌-◌, None, replicate, length, ◌++◌, ap, ◌∙◌, arith}
 use Rattle.dfdl_suspend.proofs.Padding.{filled_more}
 use Rattle.dfdl_suspend.proofs.known.fill.Goals as goal
 

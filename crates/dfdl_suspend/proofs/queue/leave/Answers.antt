@@ -1,5 +1,4 @@
-use Rattle.std.proofs.Common.{◌∷◌, sym, subst, ◌≡◌, ◌<◌, Some, length, arith}
-use Rattle.std.specs.List.{slice_get}
+use Rattle.std.proofs.Common.{◌∷◌, sym, subst, ◌<◌, length, arith}
 use Rattle.std.specs.List.Sorted.{IsPermutation}
 use Rattle.std.proofs.lemmas.List.Sorted.{IsPermutation-swap_remove}
 use Rattle.std.proofs.lemmas.Option.{slice_get_within}

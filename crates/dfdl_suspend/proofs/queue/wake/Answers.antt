@@ -1,8 +1,7 @@
-use Rattle.std.proofs.Common.{◌≡◌, ◌≢◌, ◌<◌, ◌++◌, ◌∷◌, [], Some, ap, sym, subst, length, set, ◌∙◌, arith, length-set, get_or}
+use Rattle.std.proofs.Common.{ap, sym, subst, length, set, ◌∙◌, arith, length-set}
 use Rattle.std.proofs.lemmas.List.{length_push}
 use Rattle.std.proofs.lemmas.Option.{slice_get_within}
 use Rattle.dfdl_suspend.specs.Marks.{IsReadyList}
-use Rattle.dfdl_suspend.specs.Queues.{list_end}
 use Rattle.dfdl_suspend.specs.declared.mark.Mark.TheVariants.{Ready, Waits}
 use Rattle.dfdl_suspend.proofs.Readies.{room_ready, waits_ready, came_ready}
 use Rattle.dfdl_suspend.proofs.Waking.{Stepped, waking_step, waking_ends, woken_set}

@@ -1,4 +1,4 @@
-use Rattle.std.proofs.Common.{◌≡◌, ℕ, subst, rules}
+use Rattle.std.proofs.Common.{rules}
 use Rattle.dfdl_suspend.proofs.Earliest.{fault_skip, known_no_fault, wait_no_fault}
 use Rattle.dfdl_suspend.proofs.rounds.fault_up_to.Goals as goal
 

@@ -1,4 +1,4 @@
-use Rattle.std.proofs.Common.{◌≡◌, ◌<◌, refl, sym, ap, subst, ◌∙◌, arith, replicate, None, ℕ, length}
+use Rattle.std.proofs.Common.{◌<◌, refl, sym, ap, subst, ◌∙◌, arith, replicate, None, ℕ, length}
 use Rattle.std.proofs.lemmas.List.{length-replicate}
 use Rattle.dfdl_suspend.specs.Asks.{filled}
 use Rattle.dfdl_suspend.specs.Rounds.{Reached, nothing}

@@ -1,4 +1,4 @@
-use Rattle.std.proofs.Common.{◌≡◌, ℕ, ◌<◌, sym, subst, ◌∙◌, arith}
+use Rattle.std.proofs.Common.{ℕ, subst, ◌∙◌, arith}
 use Rattle.dfdl_suspend.specs.Tries.{Tried}
 use Rattle.dfdl_suspend.proofs.Rounding.{going_more}
 use Rattle.dfdl_suspend.proofs.rounds.one_round.Goals as goal

@@ -1,4 +1,4 @@
-use Rattle.std.proofs.Common.{◌≡◌, ℕ, length, sym, ap, subst, ◌∙◌}
+use Rattle.std.proofs.Common.{length, sym, ap, subst, ◌∙◌}
 use Rattle.dfdl_suspend.specs.Rounds.{solution}
 use Rattle.dfdl_suspend.specs.Outcomes.{IsFirstFault, IsBest, IsOpen}
 use Rattle.dfdl_suspend.proofs.Solving.{solution_is}

@@ -1,7 +1,7 @@
-use Rattle.std.proofs.Common.{◌≡◌, ℕ, ◌≢◌, Some, length, sym, ap, subst, ◌∙◌}
+use Rattle.std.proofs.Common.{◌≡◌, Some, length, sym, ap, subst, ◌∙◌}
 use Rattle.std.specs.List.{slice_get}
 use Rattle.dfdl_suspend.specs.Boards.{Boarded, Fits}
-use Rattle.dfdl_suspend.specs.Outcomes.{IsFirstFault, HasFault}
+use Rattle.dfdl_suspend.specs.Outcomes.{HasFault}
 use Rattle.dfdl_suspend.specs.declared.mark.Mark.TheVariants.{Faulty}
 use Rattle.dfdl_suspend.proofs.AtRest.{no_fault}
 use Rattle.dfdl_suspend.proofs.Earliest.{fault_skip}

@@ -1,4 +1,4 @@
-use Rattle.std.proofs.Common.{◌≡◌, ℕ, Option, None, List, [], sym, subst, replicate}
+use Rattle.std.proofs.Common.{Option, None, List, [], sym, subst, replicate}
 use Rattle.dfdl_suspend.specs.Asks.{waiting}
 use Rattle.dfdl_suspend.specs.Events.{Brings}
 use Rattle.dfdl_suspend.specs.Queued.{Queued}

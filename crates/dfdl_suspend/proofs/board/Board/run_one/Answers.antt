@@ -1,7 +1,7 @@
-use Rattle.std.proofs.Common.{◌≡◌, ◌<◌, ◌++◌, ◌∷◌, [], ℕ, List, ap, sym, subst, ◌∙◌, arith, length}
+use Rattle.std.proofs.Common.{◌<◌, ◌++◌, ◌∷◌, [], ℕ, sym, subst, ◌∙◌}
 use Rattle.dfdl_suspend.specs.Answers.{Meets}
 use Rattle.dfdl_suspend.specs.Boards.{Boarded, Fits, Runs, weight}
-use Rattle.dfdl_suspend.specs.Recorded.{IsTied, IsRecorded}
+use Rattle.dfdl_suspend.specs.Recorded.{IsRecorded}
 use Rattle.dfdl_suspend.proofs.OneRun.{Went, went, recordable, shown}
 use Rattle.dfdl_suspend.proofs.board.Board.run_one.Goals as goal
 

@@ -1,4 +1,4 @@
-use Rattle.std.proofs.Common.{ℕ, ◌≡◌, ◌<◌, ◌++◌, ◌∷◌, [], Some, ap, sym, subst, length, set, ◌∙◌, arith}
+use Rattle.std.proofs.Common.{ℕ, ◌≡◌, ◌<◌, ◌++◌, ◌∷◌, [], ap, sym, subst, length, arith}
 use Rattle.std.proofs.lemmas.List.{length_push}
 use Rattle.dfdl_suspend.specs.Queues.{IsQueue, list_end}
 use Rattle.dfdl_suspend.specs.Queued.{Queued}

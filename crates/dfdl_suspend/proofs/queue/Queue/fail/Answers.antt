@@ -1,4 +1,4 @@
-use Rattle.std.proofs.Common.{◌≡◌, ap, length, set, ◌∙◌, arith, length-set}
+use Rattle.std.proofs.Common.{ap, length, ◌∙◌, arith, length-set}
 use Rattle.dfdl_suspend.specs.declared.mark.Mark.TheVariants.{Faulty}
 use Rattle.dfdl_suspend.proofs.Waking.{fault_queue}
 use Rattle.dfdl_suspend.proofs.queue.Queue.fail.Goals as goal

@@ -1,4 +1,4 @@
-use Rattle.std.proofs.Common.{◌≡◌, ℕ, ◌<◌, ap, sym, subst, length, set, get_or, ◌∙◌, arith, length-set, refl}
+use Rattle.std.proofs.Common.{◌≡◌, ℕ, ap, sym, subst, length, set, get_or, ◌∙◌, arith, length-set, refl}
 use Rattle.std.proofs.lemmas.List.{length-map, get_or_read_under}
 use Rattle.std.proofs.lemmas.Option.{slice_get_within}
 use Rattle.dfdl_suspend.specs.Marks.{IsReadyList, all_woken, woken}

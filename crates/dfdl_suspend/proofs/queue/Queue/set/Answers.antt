@@ -1,4 +1,4 @@
-use Rattle.std.proofs.Common.{◌≡◌, ◌<◌, ◌++◌, ◌∷◌, [], Some, ap, sym, subst, length, set, ◌∙◌, arith, length-set}
+use Rattle.std.proofs.Common.{◌≡◌, Some, sym, subst, set, arith, length-set}
 use Rattle.std.specs.List.{slice_get}
 use Rattle.dfdl_suspend.specs.Queues.{IsQueue}
 use Rattle.dfdl_suspend.specs.Queued.{Queued}

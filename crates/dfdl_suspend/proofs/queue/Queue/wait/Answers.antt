@@ -1,4 +1,4 @@
-use Rattle.std.proofs.Common.{◌<◌, subst, ◌≡◌, ◌≢◌, Some, ap, sym, length, set, ◌∙◌, arith, length-set}
+use Rattle.std.proofs.Common.{◌<◌, subst, ◌≢◌, Some, ap, sym, length, ◌∙◌, arith, length-set}
 use Rattle.std.specs.List.{slice_get}
 use Rattle.dfdl_suspend.specs.Queued.{Queued}
 use Rattle.dfdl_suspend.specs.declared.mark.Mark.TheVariants.{Waits, Done}

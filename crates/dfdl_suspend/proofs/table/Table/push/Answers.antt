@@ -1,4 +1,4 @@
-use Rattle.std.proofs.Common.{◌≡◌, ◌<◌, ◌+◌, ◌^◌, ◌++◌, ◌∷◌, [], ap, sym, subst, ◌∙◌, length, arith}
+use Rattle.std.proofs.Common.{◌<◌, ◌+◌, ◌^◌, ◌++◌, ◌∷◌, [], ap, sym, subst, ◌∙◌, length, arith}
 use Rattle.std.proofs.lemmas.List.{length_push}
 use Rattle.dfdl_suspend.specs.Events.{Brings}
 use Rattle.dfdl_suspend.specs.Formulas.{Tabled, equation_in, NamesWithin, AreWithin}

@@ -1,4 +1,4 @@
-use Rattle.std.proofs.Common.{◌≡◌, ◌<◌, ℕ, Some, refl, sym, ap, subst, ◌∙◌, length, arith}
+use Rattle.std.proofs.Common.{◌≡◌, ◌<◌, ℕ, refl, ap, subst, length, arith}
 use Rattle.std.proofs.lemmas.Option.{slice_get_read}
 use Rattle.dfdl_suspend.specs.Formulas.{Tabled, NamesWithin}
 use Rattle.dfdl_suspend.proofs.table.TableEquations.answer.Goals as goal

@@ -1,5 +1,5 @@
 -- A document stops by a limit on data alone.
-use Rattle.std.proofs.Common.{ℕ, zero, suc, nat_eq, nat_lt, true, false, Bool, if◌then◌else◌, List, [], ◌∷◌, length, Option, None, Some, slice_get}
+use Rattle.std.proofs.Common.{ℕ, zero, suc, ◌+◌, ◌-◌, ◌/◌, nat_eq, nat_le, nat_lt, true, false, Bool, if◌then◌else◌, List, [], ◌∷◌, length, Option, None, Some, slice_get}
 use Rattle.dfdl_report.specs.declared.cause.LimitCause.{LimitCause}
 use Rattle.dfdl_report.specs.declared.cause.LimitCause.TheVariants.{Window, Nodes, Text}
 use Rattle.dfdl_looks.specs.Asks.{Reached, Told, TooFar, Missing, ask}
@@ -8,13 +8,14 @@ use Rattle.dfdl_looks.specs.Tallies.{nothing}
 use Rattle.dfdl_terms.specs.Rows.{Table}
 use Rattle.dfdl_terms.specs.declared.row.Primitive.{Primitive}
 use Rattle.dfdl_terms.specs.declared.row.Row.{Row}
-use Rattle.dfdl_terms.specs.declared.row.Row.TheVariants.{Leaf, Elem, Group}
+use Rattle.dfdl_terms.specs.declared.row.Row.TheVariants.{Leaf, Elem, Group, Skip, Align}
 use Rattle.dfdl_grammar.specs.declared.end.End.{End}
 use Rattle.dfdl_grammar.specs.declared.end.End.TheVariants.{Done, Failed, Stopped}
 use Rattle.dfdl_grammar.specs.declared.limits.Limits.{Limits}
-use Rattle.dfdl_grammar.specs.States.{Input, State, anchor}
+use Rattle.dfdl_grammar.specs.States.{Input, State, anchor, anchor_at}
 use Rattle.dfdl_grammar.specs.Outcomes.{Outcome, ended, follow, then_do}
 use Rattle.dfdl_grammar.specs.Leaves.{Find, Fails, Finds, land, leaf, program}
+use Rattle.dfdl_grammar.specs.Framing.{aligned, fill_to, has_byte, pass_to, passed}
 use Rattle.dfdl_grammar.specs.Elements.{begun, close, element, has_elements}
 use Rattle.dfdl_grammar.specs.Rows.{below, group, meaning, row, row_at}
 use Rattle.dfdl_grammar.specs.Documents.{document}
@@ -43,6 +44,20 @@ leaf-stops input None s = tt
 leaf-stops input (Some primitive) s =
     land-stops input.limits.window
     (ask (seen_in input.bytes input.limits.window (anchor s)) (program primitive s.at) nothing).reached s
+
+passed-stops : (window to : ℕ) (reached : Reached Bool) (s : State) → StopsByData (passed window to reached s).end
+passed-stops window to (Told true) s = tt
+passed-stops window to (Told false) s = tt
+passed-stops window to TooFar s = tt
+passed-stops window to Missing s = tt
+
+pass-stops : (input : Input) (to : ℕ) (s : State) → StopsByData (pass_to input to s).end
+pass-stops input to s = elim (nat_le to s.at) as (λ (b : Bool).
+    StopsByData (let whole : Outcome = (if b then ended Done s else fill_to input to s) in whole.end)) [
+      | true ↦ tt
+      | false ↦ passed-stops input.limits.window to
+          (ask (seen_in input.bytes input.limits.window (anchor_at s (to - 1))) (has_byte ((to - 1) / 8)) nothing).reached s
+    ]
 
 follow-stops : (end : End) (o : Outcome) (next : State → Outcome) → StopsByData o.end
     → ((s : State) → StopsByData (next s).end) → StopsByData (follow end o next).end
@@ -78,6 +93,8 @@ row-stops input table child each id (Some (Leaf prim)) s = leaf-stops input (sli
 row-stops input table child each id (Some (Elem name simple body)) s =
     element-stops input id (has_elements simple) (child body) (each body) s
 row-stops input table child each id (Some (Group children)) s = group-stops child each children s
+row-stops input table child each id (Some (Skip bits)) s = pass-stops input (s.at + bits) s
+row-stops input table child each id (Some (Align bits)) s = pass-stops input (aligned bits s.at) s
 
 below-stops : (input : Input) (table : Table) (n id : ℕ) (s : State) → StopsByData (below input table n id s).end
 unfolding below

@@ -1,13 +1,16 @@
 -- The numbers and texts of causes and limits, as the program prints them.
 use Rattle.std.specs.Prelude.{ℕ, List, codes}
 use Rattle.dfdl_report.specs.declared.cause.ParseCause.{ParseCause}
-use Rattle.dfdl_report.specs.declared.cause.ParseCause.TheVariants.{DataEnds, BadNibble, PastType, UnknownBoolean}
+use Rattle.dfdl_report.specs.declared.cause.ParseCause.TheVariants.{DataEnds, BadCharacter, NotANumber, BadNibble, LengthOutOfRange, PastType, UnknownBoolean}
+use Rattle.dfdl_report.specs.declared.cause.ParseCause.TheVariants.{RequiredEmpty, NotFilled}
 use Rattle.dfdl_report.specs.declared.cause.UnparseCause.{UnparseCause}
 use Rattle.dfdl_report.specs.declared.cause.UnparseCause.TheVariants.{WrongOccurrences}
 use Rattle.dfdl_report.specs.declared.cause.SchemaCause.{SchemaCause}
-use Rattle.dfdl_report.specs.declared.cause.SchemaCause.TheVariants.{NameNotFound, GlobalTwice, OutsideSubset, ValueNotAllowed, Recursive}
-use Rattle.dfdl_report.specs.declared.cause.SchemaCause.TheVariants.{PropertyTwice, PropertyMissing, UnknownAnnotation, PropertyNotCarried, ExpressionNotAllowed}
-use Rattle.dfdl_report.specs.declared.cause.SchemaCause.TheVariants.{TypeNotCarried, LengthKind, LengthUnits, ConstantLength, Alignment, SignCodes, BooleanRepresentations, ElementTwice}
+use Rattle.dfdl_report.specs.declared.cause.SchemaCause.TheVariants.{NameNotFound, GlobalTwice, OutsideSubset, ValueNotAllowed, Recursive, PropertyTwice, PropertyMissing}
+use Rattle.dfdl_report.specs.declared.cause.SchemaCause.TheVariants.{UnknownAnnotation, PropertyNotCarried, ExpressionNotAllowed, LiteralMalformed, TypeNotCarried, MaxLengthMissing, LengthKind}
+use Rattle.dfdl_report.specs.declared.cause.SchemaCause.TheVariants.{LengthUnits, ConstantLength, PrefixType, PrefixLength, PatternRefused, OrdersApart, SecondBitOrder}
+use Rattle.dfdl_report.specs.declared.cause.SchemaCause.TheVariants.{EncodingNotAllowed, Alignment, NumberPattern, SignCodes, BooleanRepresentations, PadCharacter, NilNotAllowed}
+use Rattle.dfdl_report.specs.declared.cause.SchemaCause.TheVariants.{DefaultNotAValue, ElementTwice}
 use Rattle.dfdl_report.specs.declared.cause.DocCause.{DocCause}
 use Rattle.dfdl_report.specs.declared.cause.DocCause.TheVariants.{NotUtf8, CharacterNotAllowed, Malformed, EndTagMismatch, AttributeTwice}
 use Rattle.dfdl_report.specs.declared.cause.DocCause.TheVariants.{UnknownReference, PrefixNotDeclared, DocumentType, EncodingRefused, OneRoot, TooDeep, DocumentEnds}
@@ -19,16 +22,26 @@ use Rattle.dfdl_report.specs.declared.cause.LimitCause.TheVariants.{Input, Windo
 -- processing errors, P
 abbrev pub parse_number : ParseCause → ℕ
 parse_number DataEnds = 4
+parse_number BadCharacter = 5
+parse_number NotANumber = 6
 parse_number BadNibble = 7
+parse_number LengthOutOfRange = 8
 parse_number PastType = 9
 parse_number UnknownBoolean = 17
+parse_number RequiredEmpty = 18
+parse_number NotFilled = 19
 
 -- what a processing error is told as
 abbrev pub parse_text : ParseCause → List ℕ
 parse_text DataEnds = codes "data ends"
+parse_text BadCharacter = codes "bad character"
+parse_text NotANumber = codes "not a number of the pattern"
 parse_text BadNibble = codes "bad nibble or zone"
+parse_text LengthOutOfRange = codes "length out of range"
 parse_text PastType = codes "value past its type"
 parse_text UnknownBoolean = codes "unknown boolean"
+parse_text RequiredEmpty = codes "required element empty"
+parse_text NotFilled = codes "content does not fill its box"
 
 -- unparse errors, U
 abbrev pub unparse_number : UnparseCause → ℕ
@@ -50,13 +63,25 @@ schema_number PropertyMissing = 7
 schema_number UnknownAnnotation = 8
 schema_number PropertyNotCarried = 9
 schema_number ExpressionNotAllowed = 10
+schema_number LiteralMalformed = 11
 schema_number TypeNotCarried = 13
+schema_number MaxLengthMissing = 14
 schema_number LengthKind = 15
 schema_number LengthUnits = 16
 schema_number ConstantLength = 17
+schema_number PrefixType = 18
+schema_number PrefixLength = 19
+schema_number PatternRefused = 20
+schema_number OrdersApart = 21
+schema_number SecondBitOrder = 22
+schema_number EncodingNotAllowed = 23
 schema_number Alignment = 24
+schema_number NumberPattern = 25
 schema_number SignCodes = 26
 schema_number BooleanRepresentations = 27
+schema_number PadCharacter = 28
+schema_number NilNotAllowed = 29
+schema_number DefaultNotAValue = 30
 schema_number ElementTwice = 40
 
 -- what a refusal of a schema is told as
@@ -71,13 +96,25 @@ schema_text PropertyMissing = codes "property missing"
 schema_text UnknownAnnotation = codes "unknown annotation"
 schema_text PropertyNotCarried = codes "property value not carried"
 schema_text ExpressionNotAllowed = codes "expression not allowed here"
+schema_text LiteralMalformed = codes "literal malformed"
 schema_text TypeNotCarried = codes "simple type not carried"
+schema_text MaxLengthMissing = codes "maxLength missing"
 schema_text LengthKind = codes "length kind not allowed"
 schema_text LengthUnits = codes "length units not allowed"
 schema_text ConstantLength = codes "constant length out of range"
+schema_text PrefixType = codes "prefix type not allowed"
+schema_text PrefixLength = codes "prefix length not whole in its units"
+schema_text PatternRefused = codes "pattern refused"
+schema_text OrdersApart = codes "orders do not go together"
+schema_text SecondBitOrder = codes "second bit order"
+schema_text EncodingNotAllowed = codes "encoding not allowed"
 schema_text Alignment = codes "alignment not allowed"
+schema_text NumberPattern = codes "number pattern malformed"
 schema_text SignCodes = codes "sign codes malformed"
 schema_text BooleanRepresentations = codes "boolean representations malformed"
+schema_text PadCharacter = codes "pad character malformed"
+schema_text NilNotAllowed = codes "nil not allowed"
+schema_text DefaultNotAValue = codes "default is not a value"
 schema_text ElementTwice = codes "element name twice"
 
 -- refusals of documents, X

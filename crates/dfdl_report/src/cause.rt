@@ -10,12 +10,22 @@ ghost use Rattle.dfdl_report.specs.Causes.{unparse_number, unparse_text};
 pub enum ParseCause {
     /// A leaf's bits pass the end of the data.
     DataEnds,
+    /// A place of a text at which no character can be decoded, and which isn't replaced.
+    BadCharacter,
+    /// A text that is no number of its pattern.
+    NotANumber,
     /// A nibble that can't stand where it stands in a packed number.
     BadNibble,
+    /// A box that is as long as it can't be: past the box around it, or of a size that its content does not have.
+    LengthOutOfRange,
     /// A number that is no value of its type.
     PastType,
     /// A binary boolean whose number is neither that of true nor that of false.
     UnknownBoolean,
+    /// A required element whose representation is empty, and that has no default.
+    RequiredEmpty,
+    /// A box that is no whole number of bytes, of content that needs these.
+    NotFilled,
 }
 
 /// Why unparsing failed: the numbers U of unparse errors ('DFDL Processing Introduction').
@@ -48,20 +58,44 @@ pub enum SchemaCause {
     PropertyNotCarried,
     /// An expression as the value of a property that takes none.
     ExpressionNotAllowed,
+    /// A string literal that is none.
+    LiteralMalformed,
     /// A simple type of XML Schema's that is not carried.
     TypeNotCarried,
+    /// A string or hexBinary whose length is that of its type, which has no greatest length.
+    MaxLengthMissing,
     /// A length kind that the type does not have.
     LengthKind,
     /// Length units that the type does not have.
     LengthUnits,
     /// A constant length that the type does not have.
     ConstantLength,
+    /// A type of a length prefix that can't be one.
+    PrefixType,
+    /// A length prefix that counts itself and is no whole number of the units that it counts.
+    PrefixLength,
+    /// A regular expression that can't be built.
+    PatternRefused,
+    /// An order of bytes that does not go with the order of bits.
+    OrdersApart,
+    /// An order of bits other than that of the components before.
+    SecondBitOrder,
+    /// An encoding that lacks a character which is needed, or can't be that of the content.
+    EncodingNotAllowed,
     /// Implicit alignment of a component that has no size of its own: a complex element or a group.
     Alignment,
+    /// A number pattern that is none.
+    NumberPattern,
     /// Sign codes of packed numbers that are not the four that may stand there.
     SignCodes,
     /// Numbers or texts that can't stand for true and false.
     BooleanRepresentations,
+    /// A pad character that isn't one character.
+    PadCharacter,
+    /// An element that can't be nil, or a nil value that it can't have.
+    NilNotAllowed,
+    /// A default that is no value of the element's type.
+    DefaultNotAValue,
     /// An element has the name of an earlier one of its group.
     ElementTwice,
 }
@@ -145,9 +179,14 @@ impl ParseCause {
     {
         match self {
             ParseCause::DataEnds => 4,
+            ParseCause::BadCharacter => 5,
+            ParseCause::NotANumber => 6,
             ParseCause::BadNibble => 7,
+            ParseCause::LengthOutOfRange => 8,
             ParseCause::PastType => 9,
             ParseCause::UnknownBoolean => 17,
+            ParseCause::RequiredEmpty => 18,
+            ParseCause::NotFilled => 19,
         }
     }
 
@@ -156,9 +195,14 @@ impl ParseCause {
     {
         match self {
             ParseCause::DataEnds => "data ends",
+            ParseCause::BadCharacter => "bad character",
+            ParseCause::NotANumber => "not a number of the pattern",
             ParseCause::BadNibble => "bad nibble or zone",
+            ParseCause::LengthOutOfRange => "length out of range",
             ParseCause::PastType => "value past its type",
             ParseCause::UnknownBoolean => "unknown boolean",
+            ParseCause::RequiredEmpty => "required element empty",
+            ParseCause::NotFilled => "content does not fill its box",
         }
     }
 }
@@ -198,13 +242,25 @@ impl SchemaCause {
             SchemaCause::UnknownAnnotation => 8,
             SchemaCause::PropertyNotCarried => 9,
             SchemaCause::ExpressionNotAllowed => 10,
+            SchemaCause::LiteralMalformed => 11,
             SchemaCause::TypeNotCarried => 13,
+            SchemaCause::MaxLengthMissing => 14,
             SchemaCause::LengthKind => 15,
             SchemaCause::LengthUnits => 16,
             SchemaCause::ConstantLength => 17,
+            SchemaCause::PrefixType => 18,
+            SchemaCause::PrefixLength => 19,
+            SchemaCause::PatternRefused => 20,
+            SchemaCause::OrdersApart => 21,
+            SchemaCause::SecondBitOrder => 22,
+            SchemaCause::EncodingNotAllowed => 23,
             SchemaCause::Alignment => 24,
+            SchemaCause::NumberPattern => 25,
             SchemaCause::SignCodes => 26,
             SchemaCause::BooleanRepresentations => 27,
+            SchemaCause::PadCharacter => 28,
+            SchemaCause::NilNotAllowed => 29,
+            SchemaCause::DefaultNotAValue => 30,
             SchemaCause::ElementTwice => 40,
         }
     }
@@ -223,13 +279,25 @@ impl SchemaCause {
             SchemaCause::UnknownAnnotation => "unknown annotation",
             SchemaCause::PropertyNotCarried => "property value not carried",
             SchemaCause::ExpressionNotAllowed => "expression not allowed here",
+            SchemaCause::LiteralMalformed => "literal malformed",
             SchemaCause::TypeNotCarried => "simple type not carried",
+            SchemaCause::MaxLengthMissing => "maxLength missing",
             SchemaCause::LengthKind => "length kind not allowed",
             SchemaCause::LengthUnits => "length units not allowed",
             SchemaCause::ConstantLength => "constant length out of range",
+            SchemaCause::PrefixType => "prefix type not allowed",
+            SchemaCause::PrefixLength => "prefix length not whole in its units",
+            SchemaCause::PatternRefused => "pattern refused",
+            SchemaCause::OrdersApart => "orders do not go together",
+            SchemaCause::SecondBitOrder => "second bit order",
+            SchemaCause::EncodingNotAllowed => "encoding not allowed",
             SchemaCause::Alignment => "alignment not allowed",
+            SchemaCause::NumberPattern => "number pattern malformed",
             SchemaCause::SignCodes => "sign codes malformed",
             SchemaCause::BooleanRepresentations => "boolean representations malformed",
+            SchemaCause::PadCharacter => "pad character malformed",
+            SchemaCause::NilNotAllowed => "nil not allowed",
+            SchemaCause::DefaultNotAValue => "default is not a value",
             SchemaCause::ElementTwice => "element name twice",
         }
     }

@@ -16,6 +16,10 @@ pub enum Content {
     Decimal(Fixed),
     /// The value of a boolean.
     Truth(bool),
+    /// The value of a string: so many bytes of the document's text, from this one on, as UTF-8.
+    Text { from: u32, len: u32 },
+    /// The value of a hexBinary: so many bytes of the document's text, from this one on.
+    Octets { from: u32, len: u32 },
 }
 
 /// One element of the infoset.

@@ -32,3 +32,21 @@ fn nodes_are_added_and_read(rt: HostRuntime) -> Result<(), Fail> {
     assert_eq!(rt; region.count(), 0);
     Ok(())
 }
+
+#[test]
+fn texts_are_added_and_read(rt: HostRuntime) -> Result<(), Fail> {
+    let mut region = TextRegion::open(rt.alloc(), 6)?;
+    assert_eq!(rt; (region.count(), region.most()), (0, 6));
+    assert_eq!(rt; region.add(&[0xCA, 0xFE]), Ok(0));
+    assert_eq!(rt; region.add_characters(&['a', '\u{E9}']), Ok(2));
+    assert_eq!(rt; region.count(), 5);
+    assert_eq!(rt; region.bytes(2, 3), [0x61, 0xC3, 0xA9].as_slice());
+    assert_eq!(rt; region.add_characters(&['\u{E9}']), Err(Full));
+    assert_eq!(rt; region.add(&[1, 2]), Err(Full));
+    assert_eq!(rt; region.all(), [0xCA, 0xFE, 0x61, 0xC3, 0xA9].as_slice());
+    assert_eq!(rt; region.add(&[7]), Ok(5));
+    assert_eq!(rt; region.add_characters(&[]), Ok(6));
+    region.clear();
+    assert_eq!(rt; region.count(), 0);
+    Ok(())
+}

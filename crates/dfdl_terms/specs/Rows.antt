@@ -1,10 +1,12 @@
 -- Tables of rows: each row's children stand below it.
 use Rattle.std.specs.Prelude.{◌≡◌, ℕ, ◌<◌, ◌≤◌, ◌-◌, List, length, All, slice_get, Option, None, Some}
 use Rattle.dfdl_forms.specs.BinaryNumbers.{IsIntForm, IsPackedForm, IsTruthForm}
+use Rattle.dfdl_terms.specs.declared.text.TextSize.{TextSize}
+use Rattle.dfdl_terms.specs.declared.text.TextSize.TheVariants.{Bits, Characters}
 use Rattle.dfdl_terms.specs.declared.row.Primitive.{Primitive}
-use Rattle.dfdl_terms.specs.declared.row.Primitive.TheVariants.{Integer, Packed, Truth}
+use Rattle.dfdl_terms.specs.declared.row.Primitive.TheVariants.{Integer, Packed, Truth, Octets, Text}
 use Rattle.dfdl_terms.specs.declared.row.Row.{Row}
-use Rattle.dfdl_terms.specs.declared.row.Row.TheVariants.{Leaf, Elem, Group, Skip, Align}
+use Rattle.dfdl_terms.specs.declared.row.Row.TheVariants.{Leaf, Elem, Group, Skip, Align, Boxed}
 
 -- the rows of a schema, and what they name by numbers
 pub record Table : Type 0 where
@@ -22,6 +24,7 @@ ChildrenBelow bound (Elem name simple body) = body < bound
 ChildrenBelow bound (Group children) = All (λ c. c < bound) children
 ChildrenBelow bound (Skip bits) = Unit {0}
 ChildrenBelow bound (Align bits) = Unit {0}
+ChildrenBelow bound (Boxed bits body) = body < bound
 
 -- each child is below its row, for the first so many rows
 abbrev pub NestsBelow : ℕ → List Row → Type 0
@@ -45,12 +48,24 @@ NamesWithin primitives (Elem name simple body) = Unit {0}
 NamesWithin primitives (Group children) = Unit {0}
 NamesWithin primitives (Skip bits) = Unit {0}
 NamesWithin primitives (Align bits) = Unit {0}
+NamesWithin primitives (Boxed bits body) = Unit {0}
+
+-- the greatest constant length, in bits (profile)
+abbrev pub most_length : ℕ
+most_length = 8589934592
+
+-- a text has no more bits or characters than the greatest length
+abbrev pub IsTextSize : TextSize → Type 0
+IsTextSize (Bits n) = n ≤ most_length
+IsTextSize (Characters n) = n ≤ most_length
 
 -- the form of a primitive keeps the bounds of its type
 abbrev pub IsPrimitive : Primitive → Type 0
 IsPrimitive (Integer form) = IsIntForm form
 IsPrimitive (Packed form) = IsPackedForm form
 IsPrimitive (Truth form) = IsTruthForm form
+IsPrimitive (Octets form) = form.bits ≤ most_length
+IsPrimitive (Text form) = IsTextSize form.size
 
 -- the row is an element
 abbrev pub IsElementRow : Option Row → Type 0
@@ -59,6 +74,7 @@ IsElementRow (Some (Leaf prim)) = ⊥
 IsElementRow (Some (Group children)) = ⊥
 IsElementRow (Some (Skip bits)) = ⊥
 IsElementRow (Some (Align bits)) = ⊥
+IsElementRow (Some (Boxed bits body)) = ⊥
 IsElementRow None = ⊥
 
 -- the last row is an element
@@ -73,14 +89,15 @@ pub record IsTable (t : Table) : Type 0 where
   pub named : All (NamesWithin (length t.primitives)) t.rows
   pub bounded : All IsPrimitive t.primitives
 
--- a row that is no fill
-abbrev pub IsNoFill : Row → Type 0
-IsNoFill (Leaf prim) = Unit {0}
-IsNoFill (Elem name simple body) = Unit {0}
-IsNoFill (Group children) = Unit {0}
-IsNoFill (Skip bits) = ⊥
-IsNoFill (Align bits) = ⊥
+-- a row of the content alone: neither fill nor a box around a content
+abbrev pub IsPlainRow : Row → Type 0
+IsPlainRow (Leaf prim) = Unit {0}
+IsPlainRow (Elem name simple body) = Unit {0}
+IsPlainRow (Group children) = Unit {0}
+IsPlainRow (Skip bits) = ⊥
+IsPlainRow (Align bits) = ⊥
+IsPlainRow (Boxed bits body) = ⊥
 
--- no row is fill
-abbrev pub HasNoFill : List Row → Type 0
-HasNoFill rows = All IsNoFill rows
+-- each row is of the content alone
+abbrev pub HasPlainRows : List Row → Type 0
+HasPlainRows rows = All IsPlainRow rows

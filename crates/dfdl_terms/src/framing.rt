@@ -1,3 +1,6 @@
+ghost use Rattle.std.specs.Prelude.{◌≡◌};
+ghost use Rattle.dfdl_terms.specs.Framing.{no_fill};
+
 /// The fill around the content of a component, in bits ('Framing').
 #[derive(Debug, Clone, Copy, PartialEq, Eq)]
 pub struct Framing {
@@ -7,4 +10,17 @@ pub struct Framing {
     pub alignment: u32,
     /// How many bits are passed over behind the content.
     pub trailing_skip: u32,
+}
+
+impl Framing {
+    /// No fill.
+    pub fn none() -> Framing
+        ensures { result ≡ no_fill }
+    {
+        Framing {
+            leading_skip: 0,
+            alignment: 1,
+            trailing_skip: 0,
+        }
+    }
 }

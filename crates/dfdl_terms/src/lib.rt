@@ -8,8 +8,10 @@ pub mod event;
 pub mod framing;
 pub mod row;
 pub mod terms;
+pub mod text;
 
 pub use event::Event;
 pub use framing::Framing;
 pub use row::{Primitive, Row, RowId, RowList, Tables};
 pub use terms::{TermFault, Terms};
+pub use text::{OctetForm, TextForm, TextSize};

@@ -1,5 +1,6 @@
 ghost use Rattle.std.specs.Prelude.{◌≡◌, ◌<◌, List};
 
+use crate::text::{OctetForm, TextForm};
 use dfdl_forms::{BitTruthForm, IntForm, PackedForm};
 use dfdl_value::{Simple, TextValue};
 use std::marker::Model;
@@ -71,6 +72,10 @@ pub enum Primitive {
     Packed(PackedForm),
     /// A binary boolean ('Simple Types').
     Truth(BitTruthForm),
+    /// Bytes ('Simple Types', hexBinary).
+    Octets(OctetForm),
+    /// The characters of a string ('Simple Types').
+    Text(TextForm),
 }
 
 /// One step of the data syntax grammar.
@@ -97,6 +102,11 @@ pub enum Row {
     /// Passes over fill up to the next multiple of so many bits from the start of the data ('Framing').
     Align {
         bits: u32,
+    },
+    /// A box of so many bits, with a row in it; what the row leaves of the box is passed over ('Lengths').
+    Boxed {
+        bits: u64,
+        body: RowId,
     },
 }
 

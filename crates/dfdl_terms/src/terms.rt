@@ -68,6 +68,7 @@ fn has_children_below(row: &Row, bound: RowId) -> bool
             .all(|child| child.number() < bound.number()),
         Row::Skip { .. } => true,
         Row::Align { .. } => true,
+        Row::Boxed { body, .. } => body.number() < bound.number(),
     }
 }
 

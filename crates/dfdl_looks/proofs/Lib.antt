@@ -4,3 +4,5 @@ pub mod Stretches
 pub mod Costs
 pub mod Waiting
 pub mod Stretched
+pub mod Sequels
+pub mod Shifted

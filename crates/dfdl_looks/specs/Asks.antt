@@ -43,3 +43,14 @@ look_at (suc count) k ends go = Look k (λ o. elim o [
   | None ↦ Answer ends
   | Some byte ↦ look_at count (k + 1) ends (λ bytes. go (byte ∷ bytes))
 ])
+
+-- a program that goes on by what another one answers
+abbrev pub and_then : {F G : Type 0} → Ask F → (F → Ask G) → Ask G
+and_then (Answer found) go = go found
+and_then (Look k next) go = Look k (λ o. and_then (next o) go)
+
+-- the reading of what goes on by an answer, behind what the program before came to
+abbrev pub go_on : {F G : Type 0} → (ℕ → Seen) → (F → Ask G) → Reached F → Tally → Reading G
+go_on look go (Told found) t = ask look (go found) t
+go_on look go TooFar t = record { reached = TooFar; tally = t }
+go_on look go Missing t = record { reached = Missing; tally = t }

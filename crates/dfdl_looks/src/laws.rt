@@ -1,7 +1,8 @@
 // Laws of the definitions that the contracts cite, said of programs that answer numbers. The calls do nothing.
 ghost use Rattle.std.specs.Prelude.{◌≡◌, ◌<◌, ◌≤◌, ◌+◌, ℕ, List, false, length, max};
 ghost use Rattle.dfdl_bits.specs.Window.{Held, end_of, seen_at};
-ghost use Rattle.dfdl_looks.specs.Asks.{Ask, AsksFrom, Missing, ask, look_at};
+ghost use Rattle.dfdl_bits.specs.declared.window.Seen.{Seen as AnySeen};
+ghost use Rattle.dfdl_looks.specs.Asks.{Ask, AsksFrom, Missing, and_then, ask, go_on, look_at};
 ghost use Rattle.dfdl_looks.specs.Looks.{Agrees, seen_in};
 ghost use Rattle.dfdl_looks.specs.Tallies.{Tally, nothing, plus};
 
@@ -31,4 +32,13 @@ pub fn costs_add_up()
 /// Each look of a stretch of bytes is at its first byte or behind it.
 pub fn stretches_begin()
     ensures { (count k ends : ℕ) (go : List ℕ → ℕ) → AsksFrom k (look_at count k ends go) }
+{}
+
+/// A program that goes on by what another one answers is read as the one and then the other, from its tally on, and its
+/// looks lie where those of both do.
+pub fn programs_go_on()
+    ensures read { (look : ℕ → AnySeen) (program : Ask ℕ) (go : ℕ → Ask ℕ) (t : Tally)
+        → ask look (and_then program go) t ≡ go_on look go (ask look program t).reached (ask look program t).tally }
+    ensures begin { (low : ℕ) (program : Ask ℕ) (go : ℕ → Ask ℕ) → AsksFrom low program
+        → ((n : ℕ) → AsksFrom low (go n)) → AsksFrom low (and_then program go) }
 {}

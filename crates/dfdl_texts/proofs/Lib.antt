@@ -1,0 +1,5 @@
+pub mod Pieces
+pub mod Lying
+pub mod Whole
+pub mod Steps
+pub mod ReadBack

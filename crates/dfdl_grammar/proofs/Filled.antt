@@ -11,28 +11,37 @@ use Rattle.dfdl_packed.specs.declared.fault.PackedFault.{PackedFault}
 use Rattle.dfdl_packed.specs.declared.fault.PackedFault.TheVariants.{BadNibble, PastType}
 use Rattle.dfdl_value.specs.declared.value.Value.{Value}
 use Rattle.dfdl_value.specs.declared.value.Value.TheVariants.{Int, Uns, Dec, Text, Truth as TruthValue, Bytes}
-use Rattle.dfdl_report.specs.declared.cause.ParseCause.TheVariants.{DataEnds}
-use Rattle.dfdl_report.specs.declared.cause.LimitCause.TheVariants.{Nodes}
+use Rattle.dfdl_report.specs.declared.cause.ParseCause.TheVariants.{DataEnds, LengthOutOfRange, NotFilled}
+use Rattle.dfdl_report.specs.declared.cause.LimitCause.TheVariants.{Nodes, Text as TextLimit}
 use Rattle.dfdl_terms.specs.declared.row.Primitive.{Primitive}
-use Rattle.dfdl_terms.specs.declared.row.Primitive.TheVariants.{Integer, Packed, Truth}
+use Rattle.dfdl_terms.specs.declared.row.Primitive.TheVariants.{Integer, Packed, Truth, Octets, Text as Characters}
 use Rattle.dfdl_terms.specs.declared.row.Row.{Row}
-use Rattle.dfdl_terms.specs.declared.row.Row.TheVariants.{Leaf, Elem, Group, Skip, Align}
+use Rattle.dfdl_terms.specs.declared.row.Row.TheVariants.{Leaf, Elem, Group, Skip, Align, Boxed}
 use Rattle.dfdl_terms.specs.Leaves.{ReadsBy, leaf as by_leaf, grouped}
 use Rattle.dfdl_terms.specs.Rows.{Table, Nests}
 use Rattle.dfdl_region.specs.declared.node.Node.{Node}
 use Rattle.dfdl_region.specs.declared.node.Content.{Content}
 use Rattle.dfdl_region.specs.declared.node.Content.TheVariants.{Begun, Complex}
+use Rattle.dfdl_region.specs.declared.node.Content.TheVariants as content
+use Rattle.dfdl_terms.specs.declared.text.OctetForm.{OctetForm}
+use Rattle.dfdl_terms.specs.declared.text.TextForm.{TextForm}
+use Rattle.dfdl_terms.specs.declared.text.TextSize.{TextSize}
+use Rattle.dfdl_terms.specs.declared.text.TextSize.TheVariants.{Bits, Characters as Counted}
+use Rattle.dfdl_texts.specs.Texts.{Text as TextRead, Reads as DoesRead, HasBad, IsCut, IsBoxed, text_at}
+use Rattle.dfdl_texts.specs.declared.extent.Extent.TheVariants as extent
 use Rattle.dfdl_region.specs.Nodes.{with_content}
-use Rattle.dfdl_looks.specs.Asks.{Ask, Answer, Look, Reached, Told, TooFar, Missing, ask, look_at}
+use Rattle.dfdl_looks.specs.Asks.{Ask, Answer, Look, Reached, Told, TooFar, Missing, Reading, and_then, ask, go_on, look_at}
 use Rattle.dfdl_looks.specs.Looks.{seen_in}
 use Rattle.dfdl_looks.specs.Tallies.{Tally, nothing, one_row, saw_byte, saw_end}
 use Rattle.dfdl_looks.proofs.Resumed.{on_seen}
+use Rattle.dfdl_looks.proofs.Sequels.{ask-then}
 use Rattle.dfdl_grammar.specs.declared.end.End.{End}
 use Rattle.dfdl_grammar.specs.declared.end.End.TheVariants.{Done, Failed, Stopped}
 use Rattle.dfdl_grammar.specs.States.{Input, State, anchor, anchor_at, front}
 use Rattle.dfdl_grammar.specs.Outcomes.{Outcome, ended, follow, spend, then_do}
-use Rattle.dfdl_grammar.specs.Leaves.{Find, Fails, Finds, bits_of, bytes_spanned, find_in, find_of, land, leaf, packed_find, program, truth_find}
+use Rattle.dfdl_grammar.specs.Leaves.{Find, Fails, Finds, FindsOctets, FindsText, bits_of, boxed_text, bytes_spanned, content_begins, field, find_in, find_of, has_room, land, leaf, octets, packed_find, program, text_begins, text_find, text_of_size, truth_find}
 use Rattle.dfdl_grammar.specs.Framing.{aligned, fill_to, has_byte, passed}
+use Rattle.dfdl_grammar.specs.Boxes.{bytes_up_to, pass_bytes, past_byte, rest as rest_of, unboxed}
 use Rattle.dfdl_grammar.specs.Elements.{begun, close, left}
 use Rattle.dfdl_grammar.specs.Rows.{below, group, meaning, row, row_at}
 use Rattle.dfdl_grammar.specs.Trees.{AreRead, HasLeaves, IsInTables}
@@ -102,8 +111,9 @@ both s t u one two =
     }
 
 -- a content that is put into the open element
-put : (s : State) (at : ℕ) (content : Content) → (content ≡ Begun → ⊥) → Fine s (record s { at = at; nodes = with_content s.nodes s.inside content })
-put s at content read =
+put : (s : State) (at : ℕ) (text : List ℕ) (content : Content) → (content ≡ Begun → ⊥)
+    → Fine s (record s { at = at; text = text; nodes = with_content s.nodes s.inside content })
+put s at text content read =
     let size = content-length s.nodes s.inside content in
     record {
       inside = refl;
@@ -116,26 +126,25 @@ put s at content read =
     }
 
 -- what a program over a stretch finds is what it makes of some bytes
-record Made (go : List ℕ → Find) (found : Find) : Type 0 where
-  bytes : List ℕ
-  is : go bytes ≡ found
+pub record Made (go : List ℕ → Find) (found : Find) : Type 0 where
+  pub bytes : List ℕ
+  pub is : go bytes ≡ found
 
-step-made : (look : ℕ → Seen) (count k : ℕ) (go : List ℕ → Find) (t : Tally) (content : Content) (bits : ℕ)
-    → ((more : List ℕ → Find) (u : Tally) → (ask look (look_at count (k + 1) (Fails DataEnds) more) u).reached ≡ Told (Finds content bits) → Made more (Finds content bits))
-    → (s : Seen)
-    → (on_seen look (λ o. elim o as (λ _. Ask Find) [ None ↦ Answer (Fails DataEnds) | Some b ↦ look_at count (k + 1) (Fails DataEnds) (λ bytes. go (b ∷ bytes)) ]) k t s).reached ≡ Told (Finds content bits)
-    → Made go (Finds content bits)
-step-made look count k go t content bits more (Byte b) is =
-    let made = more (λ bytes. go (b ∷ bytes)) (saw_byte k t) is in record { bytes = b ∷ made.bytes; is = made.is }
-step-made look count k go t content bits more DataEnded is = absurd (cc)
-step-made look count k go t content bits more NotYet is = absurd (cc)
-step-made look count k go t content bits more Over is = absurd (cc)
+module _ (look : ℕ → Seen) (found : Find) (apart : Fails DataEnds ≡ found → ⊥) where
+  step-made : (count k : ℕ) (go : List ℕ → Find) (t : Tally)
+      → ((more : List ℕ → Find) (u : Tally) → (ask look (look_at count (k + 1) (Fails DataEnds) more) u).reached ≡ Told found → Made more found)
+      → (s : Seen)
+      → (on_seen look (λ o. elim o as (λ _. Ask Find) [ None ↦ Answer (Fails DataEnds) | Some b ↦ look_at count (k + 1) (Fails DataEnds) (λ bytes. go (b ∷ bytes)) ]) k t s).reached ≡ Told found
+      → Made go found
+  step-made count k go t more (Byte b) is =
+      let made = more (λ bytes. go (b ∷ bytes)) (saw_byte k t) is in record { bytes = b ∷ made.bytes; is = made.is }
+  step-made count k go t more DataEnded is = let same : Fails DataEnds ≡ found = cc in absurd (apart same)
+  step-made count k go t more NotYet is = absurd (cc)
+  step-made count k go t more Over is = absurd (cc)
 
-made : (look : ℕ → Seen) (count k : ℕ) (go : List ℕ → Find) (t : Tally) (content : Content) (bits : ℕ)
-    → (ask look (look_at count k (Fails DataEnds) go) t).reached ≡ Told (Finds content bits) → Made go (Finds content bits)
-made look zero k go t content bits is = let same : go [] ≡ Finds content bits = cc in record { bytes = []; is = same }
-made look (suc count) k go t content bits is =
-    step-made look count k go t content bits (λ more u found. made look count (k + 1) more u content bits found) (look k) is
+  pub made : (count k : ℕ) (go : List ℕ → Find) (t : Tally) → (ask look (look_at count k (Fails DataEnds) go) t).reached ≡ Told found → Made go found
+  made zero k go t is = let same : go [] ≡ found = cc in record { bytes = []; is = same }
+  made (suc count) k go t is = step-made count k go t (λ more u found. made count (k + 1) more u found) (look k) is
 
 -- what a value is found as isn't a beginning
 read_of : (bits : ℕ) (v : Option Value) (content : Content) (n : ℕ) → find_of bits v ≡ Finds content n → content ≡ Begun → ⊥
@@ -160,13 +169,65 @@ found_read : (primitive : Primitive) (before : ℕ) (bytes : List ℕ) (content 
 found_read (Integer form) before bytes content n is unread = read_of form.bits (integer_reading form (field_of form bytes before)) content n is unread
 found_read (Packed form) before bytes content n is unread = packed_read (4 * form.nibbles) (packed_reading form (nibbles_in form bytes before)) content n is unread
 found_read (Truth form) before bytes content n is unread = truth_read form.bits (truth_reading form (truth_field_of form bytes before)) content n is unread
+found_read (Octets form) before bytes content n is unread = absurd (cc)
+found_read (Characters form) before bytes content n is unread = absurd (cc)
 
 -- what is found of a primitive is a value
-value : (look : ℕ → Seen) (primitive : Primitive) (bit : ℕ) (content : Content) (bits : ℕ)
-    → (ask look (program primitive bit) nothing).reached ≡ Told (Finds content bits) → content ≡ Begun → ⊥
-value look primitive bit content bits is unread =
-    let here = made look (bytes_spanned bit (bits_of primitive)) (bit / 8) (find_in primitive (bit % 8)) nothing content bits is in
+field_value : (look : ℕ → Seen) (primitive : Primitive) (bit : ℕ) (content : Content) (bits : ℕ)
+    → (ask look (field primitive bit) nothing).reached ≡ Told (Finds content bits) → content ≡ Begun → ⊥
+field_value look primitive bit content bits is unread =
+    let here = made look (Finds content bits) (λ same. absurd (cc)) (bytes_spanned bit (bits_of primitive)) (bit / 8) (find_in primitive (bit % 8)) nothing is in
     found_read primitive (bit % 8) here.bytes content bits here.is unread
+
+-- what is found of a hexBinary is no value of a number
+octets_value : (look : ℕ → Seen) (form : OctetForm) (bit : ℕ) (content : Content) (bits : ℕ) (none whole : Bool)
+    → (ask look (cond none (Answer (FindsOctets [] 0)) (cond whole (field (Octets form) bit) (Answer (Fails NotFilled)))) nothing).reached
+    ≡ Told (Finds content bits) → content ≡ Begun → ⊥
+octets_value look form bit content bits true whole is unread = absurd (cc)
+octets_value look form bit content bits false true is unread = field_value look (Octets form) bit content bits is unread
+octets_value look form bit content bits false false is unread = absurd (cc)
+
+-- what is found of the characters of a text is none either
+text_value : (form : TextForm) (bit : ℕ) (look : ℕ → Seen) (content : Content) (bits : ℕ) (r : Reached TextRead) (t : Tally)
+    → (go_on look (λ (text : TextRead). Answer (text_find form bit text)) r t).reached ≡ Told (Finds content bits) → content ≡ Begun → ⊥
+text_value form bit look content bits (Told (DoesRead chars end)) t is unread = absurd (cc)
+text_value form bit look content bits (Told HasBad) t is unread = absurd (cc)
+text_value form bit look content bits (Told IsCut) t is unread = absurd (cc)
+text_value form bit look content bits (Told IsBoxed) t is unread = absurd (cc)
+text_value form bit look content bits TooFar t is unread = absurd (cc)
+text_value form bit look content bits Missing t is unread = absurd (cc)
+
+then_value : (form : TextForm) (bit : ℕ) (look : ℕ → Seen) (content : Content) (bits : ℕ) (a : Ask TextRead)
+    → (ask look (and_then a (λ (text : TextRead). Answer (text_find form bit text))) nothing).reached ≡ Told (Finds content bits) → content ≡ Begun → ⊥
+then_value form bit look content bits a is unread =
+    let whole = ask-then look (λ (text : TextRead). Answer (text_find form bit text)) a nothing in
+    text_value form bit look content bits (ask look a nothing).reached (ask look a nothing).tally
+    (sym (ap (λ (r : Reading Find). r.reached) whole) ∙ is) unread
+
+boxed_value : (form : TextForm) (bit first end : ℕ) (look : ℕ → Seen) (content : Content) (bits : ℕ) (whole : Bool)
+    → (ask look (cond whole
+    (and_then (text_at form.encoding form.replaces extent.Box end (first / 8)) (λ (text : TextRead). Answer (text_find form bit text)))
+    (Answer (Fails NotFilled))) nothing).reached ≡ Told (Finds content bits) → content ≡ Begun → ⊥
+boxed_value form bit first end look content bits true is unread =
+    then_value form bit look content bits (text_at form.encoding form.replaces extent.Box end (first / 8)) is unread
+boxed_value form bit first end look content bits false is unread = absurd (cc)
+
+sized_value : (form : TextForm) (size : TextSize) (bit stop : ℕ) (look : ℕ → Seen) (content : Content) (bits : ℕ)
+    → (ask look (text_of_size form size bit stop) nothing).reached ≡ Told (Finds content bits) → content ≡ Begun → ⊥
+sized_value form (Bits n) bit stop look content bits is unread =
+    let first : ℕ = text_begins (Bits n) bit in
+    boxed_value form bit first (bit + n) look content bits (nat_eq ((bit + n - first) % 8) 0) is unread
+sized_value form (Counted n) bit stop look content bits is unread =
+    then_value form bit look content bits (text_at form.encoding form.replaces (extent.Characters n) stop (aligned 8 bit / 8)) is unread
+
+value : (look : ℕ → Seen) (primitive : Primitive) (bit stop : ℕ) (content : Content) (bits : ℕ)
+    → (ask look (program primitive bit stop) nothing).reached ≡ Told (Finds content bits) → content ≡ Begun → ⊥
+value look (Integer form) bit stop content bits is unread = field_value look (Integer form) bit content bits is unread
+value look (Packed form) bit stop content bits is unread = field_value look (Packed form) bit content bits is unread
+value look (Truth form) bit stop content bits is unread = field_value look (Truth form) bit content bits is unread
+value look (Octets form) bit stop content bits is unread =
+    octets_value look form bit content bits (nat_eq form.bits 0) (nat_eq (form.bits % 8) 0) is unread
+value look (Characters form) bit stop content bits is unread = sized_value form form.size bit stop look content bits is unread
 
 -- whole data have no byte that hasn't come
 no-missing : {F : Type 0} (bytes : List ℕ) (size low : ℕ) (go : Option ℕ → Ask F) (k : ℕ) (t : Tally)
@@ -195,9 +256,10 @@ abbrev Reads : (State → Outcome) → Type 0
 Reads f = (s : State) → (f s).end ≡ Done → IsRead s (f s).state
 
 -- a content that is put into the open element
-put_read : (s : State) (at : ℕ) (content : Content) → (content ≡ Begun → ⊥) → IsRead s (record s { at = at; nodes = with_content s.nodes s.inside content })
-put_read s at content read = record {
-  fine = put s at content read;
+put_read : (s : State) (at : ℕ) (text : List ℕ) (content : Content) → (content ≡ Begun → ⊥)
+    → IsRead s (record s { at = at; text = text; nodes = with_content s.nodes s.inside content })
+put_read s at text content read = record {
+  fine = put s at text content read;
   read = λ node is unread. read (sym (same_at s.nodes s.inside content node is) ∙ unread);
 }
 
@@ -217,9 +279,9 @@ read_behind s t u one two = record {
   read = λ node is unread. two.read node (subst (λ (i : ℕ). slice_get u.nodes i ≡ Some node) (sym one.inside) is) unread;
 }
 
--- fill that is passed over changes no element
-moved : (s : State) (to : ℕ) → Fine s (record s { at = to })
-moved s to = let same = fine s in record { inside = refl; longer = same.longer; fresh = same.fresh; kept = same.kept }
+-- fill that is passed over, and a box that begins or ends, change no element
+moved : (s : State) (to stop : ℕ) → Fine s (record s { at = to; stop = stop })
+moved s to stop = let same = fine s in record { inside = refl; longer = same.longer; fresh = same.fresh; kept = same.kept }
 
 front_at : (nodes : List Node) (last : Node) (at : ℕ) (node : Node) → at < length nodes → slice_get (nodes ++ last ∷ []) at ≡ Some node → slice_get nodes at ≡ Some node
 front_at [] last at node few is = absurd (omega arith)
@@ -250,18 +312,51 @@ element-ends id s t u inner nodes_are inside_is =
     }
 
 module _ (input : Input) (table : Table) (leaves : HasLeaves table) where
-  land-reads : (reached : Reached Find) (s : State) → ((content : Content) (bits : ℕ) → reached ≡ Told (Finds content bits) → content ≡ Begun → ⊥)
-      → (reached ≡ Missing → ⊥) → (land input.limits.window reached s).end ≡ Done → IsRead s (land input.limits.window reached s).state
-  land-reads (Told (Fails cause)) s read here done = absurd (cc)
-  land-reads (Told (Finds content bits)) s read here done = put_read s (s.at + bits) content (read content bits refl)
-  land-reads TooFar s read here done = absurd (cc)
-  land-reads Missing s read here done = absurd (here refl)
+  hold-reads : (made : ℕ → ℕ → Content) (bytes : List ℕ) (end : ℕ) (s : State) → ((from len : ℕ) → made from len ≡ Begun → ⊥) → (room : Bool)
+      → (cond room (ended Done (record s {
+        at = end;
+        text = s.text ++ bytes;
+        nodes = with_content s.nodes s.inside (made (length s.text) (length bytes));
+      })) (ended (Stopped TextLimit input.limits.text) s)).end ≡ Done
+      → IsRead s (cond room (ended Done (record s {
+        at = end;
+        text = s.text ++ bytes;
+        nodes = with_content s.nodes s.inside (made (length s.text) (length bytes));
+      })) (ended (Stopped TextLimit input.limits.text) s)).state
+  hold-reads made bytes end s read true done =
+      put_read s end (s.text ++ bytes) (made (length s.text) (length bytes)) (read (length s.text) (length bytes))
+  hold-reads made bytes end s read false done = absurd (cc)
+
+  land-reads : (first : ℕ) (reached : Reached Find) (s : State) → ((content : Content) (bits : ℕ) → reached ≡ Told (Finds content bits) → content ≡ Begun → ⊥)
+      → (reached ≡ Missing → ⊥) → (land input.limits first reached s).end ≡ Done → IsRead s (land input.limits first reached s).state
+  land-reads first (Told (Fails cause)) s read here done = absurd (cc)
+  land-reads first (Told (Finds content bits)) s read here done = put_read s (s.at + bits) s.text content (read content bits refl)
+  land-reads first (Told (FindsOctets bytes bits)) s read here done =
+      hold-reads content.Octets bytes (s.at + bits) s (λ from len same. absurd (cc)) (nat_le (length s.text + length bytes) input.limits.text) done
+  land-reads first (Told (FindsText bytes end)) s read here done =
+      hold-reads content.Text bytes end s (λ from len same. absurd (cc)) (nat_le (length s.text + length bytes) input.limits.text) done
+  land-reads first TooFar s read here done = absurd (cc)
+  land-reads first Missing s read here done = absurd (here refl)
+
+  room-reads : (primitive : Primitive) (s : State) (room : Bool)
+      → (cond room
+      (let reading = ask (seen_in input.bytes input.limits.window (anchor s)) (program primitive s.at s.stop) nothing in
+      spend reading.tally (land input.limits (content_begins primitive s.at) reading.reached s))
+      (ended (Failed LengthOutOfRange s.at) s)).end ≡ Done
+      → IsRead s (cond room
+      (let reading = ask (seen_in input.bytes input.limits.window (anchor s)) (program primitive s.at s.stop) nothing in
+      spend reading.tally (land input.limits (content_begins primitive s.at) reading.reached s))
+      (ended (Failed LengthOutOfRange s.at) s)).state
+  room-reads primitive s true done =
+      let a : Ask Find = program primitive s.at s.stop in
+      let look : ℕ → Seen = seen_in input.bytes input.limits.window (anchor s) in
+      land-reads (content_begins primitive s.at) (ask look a nothing).reached s
+      (λ content bits is. value look primitive s.at s.stop content bits is)
+      (λ missing. whole-told input.bytes input.limits.window (anchor s) a nothing missing) done
+  room-reads primitive s false done = absurd (cc)
 
   leaf-reads : (primitive : Primitive) → Reads (leaf input (Some primitive))
-  leaf-reads primitive s done =
-      land-reads (ask (seen_in input.bytes input.limits.window (anchor s)) (program primitive s.at) nothing).reached s
-      (λ content bits is. value (seen_in input.bytes input.limits.window (anchor s)) primitive s.at content bits is)
-      (λ missing. whole-told input.bytes input.limits.window (anchor s) (program primitive s.at) nothing missing) done
+  leaf-reads primitive s done = room-reads primitive s (has_room primitive s.at s.stop) done
 
   leaf-fills : (primitive : Option Primitive) → Fills (leaf input primitive)
   leaf-fills None s done = fine s
@@ -269,16 +364,36 @@ module _ (input : Input) (table : Table) (leaves : HasLeaves table) where
 
   passed-fills : (to : ℕ) (reached : Reached Bool) (s : State) → (passed input.limits.window to reached s).end ≡ Done
       → Fine s (passed input.limits.window to reached s).state
-  passed-fills to (Told true) s done = moved s to
+  passed-fills to (Told true) s done = moved s to s.stop
   passed-fills to (Told false) s done = absurd (cc)
   passed-fills to TooFar s done = absurd (cc)
   passed-fills to Missing s done = fine s
 
-  pass-fills : (to : ℕ) (s : State) (over : Bool) → (cond over (ended Done s) (fill_to input to s)).end ≡ Done
-      → Fine s (cond over (ended Done s) (fill_to input to s)).state
-  pass-fills to s true done = fine s
-  pass-fills to s false done =
+  pass-fills : (to : ℕ) (s : State) (over room : Bool)
+      → (cond over (ended Done s) (cond room (fill_to input to s) (ended (Failed LengthOutOfRange s.at) s))).end ≡ Done
+      → Fine s (cond over (ended Done s) (cond room (fill_to input to s) (ended (Failed LengthOutOfRange s.at) s))).state
+  pass-fills to s true room done = fine s
+  pass-fills to s false true done =
       passed-fills to (ask (seen_in input.bytes input.limits.window (anchor_at s (to - 1))) (has_byte ((to - 1) / 8)) nothing).reached s done
+  pass-fills to s false false done = absurd (cc)
+
+  byte-fills : (reached : Reached Bool) (next : State → Outcome) → Fills next → Fills (past_byte input.limits.window reached next)
+  byte-fills (Told true) next fills s done = fills s done
+  byte-fills (Told false) next fills s done = absurd (cc)
+  byte-fills TooFar next fills s done = absurd (cc)
+  byte-fills Missing next fills s done = fine s
+
+  bytes-fill : (left k : ℕ) → Fills (pass_bytes input left k)
+  bytes-fill zero k s done = moved s s.stop s.stop
+  bytes-fill (suc left) k s done =
+      byte-fills (ask (seen_in input.bytes input.limits.window (anchor_at s (8 * k))) (has_byte k) nothing).reached
+      (pass_bytes input left (k + 1)) (bytes-fill left (k + 1)) s done
+
+  rest-fills : (s : State) (over : Bool)
+      → (cond over (ended Done s) (pass_bytes input (bytes_up_to s.stop (s.at / 8)) (s.at / 8) s)).end ≡ Done
+      → Fine s (cond over (ended Done s) (pass_bytes input (bytes_up_to s.stop (s.at / 8)) (s.at / 8) s)).state
+  rest-fills s true done = fine s
+  rest-fills s false done = bytes-fill (bytes_up_to s.stop (s.at / 8)) (s.at / 8) s done
 
   close-done : (end : End) (outer : ℕ) (complex : Bool) (o : Outcome) → end ≡ o.end → (close end outer complex o).end ≡ Done → end ≡ Done
   close-done Done outer complex o is done = refl
@@ -296,9 +411,9 @@ module _ (input : Input) (table : Table) (leaves : HasLeaves table) where
   complex-fills id body fills s true done =
       let o : Outcome = body (begun id s) in
       let over : o.end ≡ Done = close-done o.end s.inside true o refl done in
-      let full : State = record o.state { at = o.state.at; nodes = with_content o.state.nodes o.state.inside Complex } in
+      let full : State = record o.state { at = o.state.at; text = o.state.text; nodes = with_content o.state.nodes o.state.inside Complex } in
       let inner : IsRead (begun id s) full =
-      read_behind (begun id s) o.state full (fills (begun id s) over) (put_read o.state o.state.at Complex (λ same. absurd (cc))) in
+      read_behind (begun id s) o.state full (fills (begun id s) over) (put_read o.state o.state.at o.state.text Complex (λ same. absurd (cc))) in
       let closed : (close o.end s.inside true o).state ≡ left s.inside true o.state = ap (λ (e : End). (close e s.inside true o).state) over in
       subst (λ (t : State). Fine s t) (sym closed) (element-ends id s full (left s.inside true o.state) inner refl refl)
   complex-fills id body fills s false done = absurd (cc)
@@ -341,6 +456,33 @@ module _ (input : Input) (table : Table) (leaves : HasLeaves table) where
       (read_behind s (child first s).state (group child rest (child first s).state).state (fills first s parts.0)
       (group-reads child fills rest at id is reads (child first s).state parts.1))
 
+  unboxed-done : (end : End) (outer : ℕ) (o : Outcome) → end ≡ o.end → (unboxed end outer o).end ≡ Done → end ≡ Done
+  unboxed-done Done outer o is done = refl
+  unboxed-done (Failed cause bit) outer o is done = absurd (cc)
+  unboxed-done (Stopped cause quantity) outer o is done = absurd (cc)
+
+  boxed-fills : (bits : ℕ) (body : State → Outcome) → Fills body → (s : State) (room : Bool)
+      → (cond room
+      (let o : Outcome = then_do (body (record s { stop = s.at + bits })) (rest_of input) in unboxed o.end s.stop o)
+      (ended (Failed LengthOutOfRange s.at) s)).end ≡ Done
+      → Fine s (cond room
+      (let o : Outcome = then_do (body (record s { stop = s.at + bits })) (rest_of input) in unboxed o.end s.stop o)
+      (ended (Failed LengthOutOfRange s.at) s)).state
+  boxed-fills bits body fills s true done =
+      let inside : State = record s { stop = s.at + bits } in
+      let inner : Outcome = body inside in
+      let o : Outcome = then_do inner (rest_of input) in
+      let over : o.end ≡ Done = unboxed-done o.end s.stop o refl done in
+      let parts = follow-done inner.end inner (rest_of input) refl over in
+      let after : o.state ≡ (rest_of input inner.state).state = ap (λ (e : End). (follow e inner (rest_of input)).state) parts.0 in
+      let closed : (unboxed o.end s.stop o).state ≡ record o.state { stop = s.stop } = ap (λ (e : End). (unboxed e s.stop o).state) over in
+      let whole : Fine inside o.state = subst (λ (t : State). Fine inside t) (sym after)
+      (both inside inner.state (rest_of input inner.state).state (fills inside parts.0) (rest-fills inner.state (nat_le inner.state.stop inner.state.at) parts.1)) in
+      subst (λ (t : State). Fine s t) (sym closed)
+      (both s inside (record o.state { stop = s.stop }) (moved s s.at (s.at + bits))
+      (both inside o.state (record o.state { stop = s.stop }) whole (moved o.state o.state.at s.stop)))
+  boxed-fills bits body fills s false done = absurd (cc)
+
   module _ (nests : Nests table.rows) where
     -- the rows below each of the first so many rows
     abbrev FillBelow : ℕ → Type 0
@@ -377,8 +519,10 @@ module _ (input : Input) (table : Table) (leaves : HasLeaves table) where
         simple-fills id (below input table id body) (reads-below id fills body less (leaves id name simple body is)) s
         (nat_lt (length s.nodes) input.limits.nodes) done
     row-fills id fills (Some (Group children)) is s done = group-fills (below input table id) (λ i. fills id (omega arith) i) children s done
-    row-fills id fills (Some (Skip bits)) is s done = pass-fills (s.at + bits) s (nat_le (s.at + bits) s.at) done
-    row-fills id fills (Some (Align bits)) is s done = pass-fills (aligned bits s.at) s (nat_le (aligned bits s.at) s.at) done
+    row-fills id fills (Some (Skip bits)) is s done = pass-fills (s.at + bits) s (nat_le (s.at + bits) s.at) (nat_le (s.at + bits) s.stop) done
+    row-fills id fills (Some (Align bits)) is s done = pass-fills (aligned bits s.at) s (nat_le (aligned bits s.at) s.at) (nat_le (aligned bits s.at) s.stop) done
+    row-fills id fills (Some (Boxed bits body)) is s done =
+        boxed-fills bits (below input table id body) (fills id (omega arith) body) s (nat_le (s.at + bits) s.stop) done
 
     choice-fills : (n id : ℕ) → FillBelow n → (s : State) (test : Bool)
         → (cond test (row_at input table (below input table n) n s) (below input table n id s)).end ≡ Done

@@ -2,3 +2,5 @@ pub mod Spending
 pub mod Towers
 pub mod Trees
 pub mod Filled
+pub mod Holding
+pub mod Held

@@ -1,14 +1,15 @@
 -- The elements stay a tree whatever the rows do.
-use Rattle.std.proofs.Common.{◌≡◌, ℕ, zero, suc, ◌+◌, ◌-◌, ◌/◌, ◌<◌, ◌≤◌, refl, List, [], ◌∷◌, ◌++◌, length, Bool, true, false, cond, nat_eq, nat_le, nat_lt, Option, Some, None, ap, sym, subst, arith, length-append, zero-add}
+use Rattle.std.proofs.Common.{◌≡◌, ℕ, zero, suc, ◌+◌, ◌-◌, ◌*◌, ◌/◌, ◌<◌, ◌≤◌, refl, List, [], ◌∷◌, ◌++◌, length, Bool, true, false, cond, nat_eq, nat_le, nat_lt, Option, Some, None, ap, sym, subst, arith, length-append, zero-add}
 use Rattle.std.specs.Prelude.{slice_get}
-use Rattle.dfdl_report.specs.declared.cause.LimitCause.TheVariants.{Nodes}
+use Rattle.dfdl_report.specs.declared.cause.LimitCause.TheVariants.{Nodes, Window, Text as TextLimit}
+use Rattle.dfdl_report.specs.declared.cause.ParseCause.TheVariants.{LengthOutOfRange}
 use Rattle.dfdl_terms.specs.declared.row.Primitive.{Primitive}
 use Rattle.dfdl_terms.specs.declared.row.Row.{Row}
-use Rattle.dfdl_terms.specs.declared.row.Row.TheVariants.{Leaf, Elem, Group, Skip, Align}
+use Rattle.dfdl_terms.specs.declared.row.Row.TheVariants.{Leaf, Elem, Group, Skip, Align, Boxed}
 use Rattle.dfdl_terms.specs.Rows.{IsElementRow, Table}
 use Rattle.dfdl_region.specs.declared.node.Node.{Node}
 use Rattle.dfdl_region.specs.declared.node.Content.{Content}
-use Rattle.dfdl_region.specs.declared.node.Content.TheVariants.{Begun, Complex}
+use Rattle.dfdl_region.specs.declared.node.Content.TheVariants.{Begun, Complex, Text, Octets}
 use Rattle.dfdl_region.specs.Nodes.{with_content}
 use Rattle.dfdl_looks.specs.Asks.{Reached, Told, TooFar, Missing, ask}
 use Rattle.dfdl_looks.specs.Looks.{seen_in}
@@ -16,9 +17,10 @@ use Rattle.dfdl_looks.specs.Tallies.{nothing}
 use Rattle.dfdl_grammar.specs.declared.end.End.{End}
 use Rattle.dfdl_grammar.specs.declared.end.End.TheVariants.{Done, Failed, Stopped}
 use Rattle.dfdl_grammar.specs.States.{Input, State, anchor, anchor_at, front}
-use Rattle.dfdl_grammar.specs.Outcomes.{Outcome, ended, follow}
-use Rattle.dfdl_grammar.specs.Leaves.{Find, Fails, Finds, land, leaf, program}
+use Rattle.dfdl_grammar.specs.Outcomes.{Outcome, ended, follow, spend, then_do}
+use Rattle.dfdl_grammar.specs.Leaves.{Find, Fails, Finds, FindsOctets, FindsText, content_begins, has_room, land, leaf, program}
 use Rattle.dfdl_grammar.specs.Framing.{aligned, fill_to, has_byte, passed}
+use Rattle.dfdl_grammar.specs.Boxes.{boxed, bytes_up_to, pass_bytes, past_byte, rest as rest_of, unboxed}
 use Rattle.dfdl_grammar.specs.Elements.{begun, close, has_elements, left}
 use Rattle.dfdl_grammar.specs.Rows.{below, group, meaning, row, row_at}
 use Rattle.dfdl_grammar.specs.Trees.{IsNode, IsTree}
@@ -103,16 +105,50 @@ module _ (input : Input) (table : Table) where
         omega arith,
       )
 
-  land-keeps : (reached : Reached Find) → Keeps (land input.limits.window reached)
-  land-keeps (Told (Fails cause)) s good = (good, same_length (length s.nodes))
-  land-keeps (Told (Finds content bits)) s good = content-grows s s.inside (s.at + bits) s.inside content good good.few good.open_one
-  land-keeps TooFar s good = (good, same_length (length s.nodes))
-  land-keeps Missing s good = (good, same_length (length s.nodes))
+  -- a state with the elements of another one, of which the same is open
+  alike : (s t : State) → Grows table s → t.nodes ≡ s.nodes → t.inside ≡ s.inside → Grows table t
+  alike s t good nodes inside =
+      let few = good.few in
+      let size : length t.nodes ≡ length s.nodes = ap (λ (ns : List Node). length ns) nodes in
+      record {
+        tree = subst (λ (ns : List Node). IsTree table ns) (sym nodes) good.tree;
+        few = omega arith;
+        open_one = λ some. let less = good.open_one (omega arith) in omega arith;
+      }
+
+  hold-keeps : (content : ℕ → ℕ → Content) (bytes : List ℕ) (end : ℕ) (s : State) → Grows table s → (room : Bool)
+      → Follows s (cond room (ended Done (record s {
+        at = end;
+        text = s.text ++ bytes;
+        nodes = with_content s.nodes s.inside (content (length s.text) (length bytes));
+      })) (ended (Stopped TextLimit input.limits.text) s)).state
+  hold-keeps content bytes end s good true =
+      let made : Content = content (length s.text) (length bytes) in
+      let grown = content-grows s s.inside end s.inside made good good.few good.open_one in
+      (alike (record s { at = end; nodes = with_content s.nodes s.inside made; inside = s.inside }) _ grown.0 refl refl, grown.1)
+  hold-keeps content bytes end s good false = (good, same_length (length s.nodes))
+
+  land-keeps : (first : ℕ) (reached : Reached Find) → Keeps (land input.limits first reached)
+  land-keeps first (Told (Fails cause)) s good = (good, same_length (length s.nodes))
+  land-keeps first (Told (Finds content bits)) s good = content-grows s s.inside (s.at + bits) s.inside content good good.few good.open_one
+  land-keeps first (Told (FindsOctets bytes bits)) s good =
+      hold-keeps Octets bytes (s.at + bits) s good (nat_le (length s.text + length bytes) input.limits.text)
+  land-keeps first (Told (FindsText bytes end)) s good = hold-keeps Text bytes end s good (nat_le (length s.text + length bytes) input.limits.text)
+  land-keeps first TooFar s good = (good, same_length (length s.nodes))
+  land-keeps first Missing s good = (good, same_length (length s.nodes))
+
+  room-keeps : (primitive : Primitive) (s : State) → Grows table s → (room : Bool)
+      → Follows s (cond room
+      (let reading = ask (seen_in input.bytes input.limits.window (anchor s)) (program primitive s.at s.stop) nothing in
+      spend reading.tally (land input.limits (content_begins primitive s.at) reading.reached s))
+      (ended (Failed LengthOutOfRange s.at) s)).state
+  room-keeps primitive s good true =
+      land-keeps (content_begins primitive s.at) (ask (seen_in input.bytes input.limits.window (anchor s)) (program primitive s.at s.stop) nothing).reached s good
+  room-keeps primitive s good false = (good, same_length (length s.nodes))
 
   leaf-keeps : (primitive : Option Primitive) → Keeps (leaf input primitive)
   leaf-keeps None s good = (good, same_length (length s.nodes))
-  leaf-keeps (Some primitive) s good =
-      land-keeps (ask (seen_in input.bytes input.limits.window (anchor s)) (program primitive s.at) nothing).reached s good
+  leaf-keeps (Some primitive) s good = room-keeps primitive s good (has_room primitive s.at s.stop)
 
   passed-keeps : (to : ℕ) (reached : Reached Bool) → Keeps (passed input.limits.window to reached)
   passed-keeps to (Told true) s good = (record { tree = good.tree; few = good.few; open_one = good.open_one }, same_length (length s.nodes))
@@ -120,9 +156,11 @@ module _ (input : Input) (table : Table) where
   passed-keeps to TooFar s good = (good, same_length (length s.nodes))
   passed-keeps to Missing s good = (good, same_length (length s.nodes))
 
-  pass-keeps : (to : ℕ) (s : State) → Grows table s → (over : Bool) → Follows s (cond over (ended Done s) (fill_to input to s)).state
-  pass-keeps to s good true = (good, same_length (length s.nodes))
-  pass-keeps to s good false =
+  pass-keeps : (to : ℕ) (s : State) → Grows table s → (over room : Bool)
+      → Follows s (cond over (ended Done s) (cond room (fill_to input to s) (ended (Failed LengthOutOfRange s.at) s))).state
+  pass-keeps to s good true room = (good, same_length (length s.nodes))
+  pass-keeps to s good false false = (good, same_length (length s.nodes))
+  pass-keeps to s good false true =
       passed-keeps to (ask (seen_in input.bytes input.limits.window (anchor_at s (to - 1))) (has_byte ((to - 1) / 8)) nothing).reached s good
 
   begun-longer : (id : ℕ) (s : State) → length (begun id s).nodes ≡ length s.nodes + 1
@@ -169,6 +207,44 @@ module _ (input : Input) (table : Table) where
   follow-keeps (Failed cause bit) o next keeps good = (good, same_length (length o.state.nodes))
   follow-keeps (Stopped cause quantity) o next keeps good = (good, same_length (length o.state.nodes))
 
+  byte-keeps : (reached : Reached Bool) (next : State → Outcome) → Keeps next → Keeps (past_byte input.limits.window reached next)
+  byte-keeps (Told true) next keeps s good = keeps s good
+  byte-keeps (Told false) next keeps s good = (good, same_length (length s.nodes))
+  byte-keeps TooFar next keeps s good = (good, same_length (length s.nodes))
+  byte-keeps Missing next keeps s good = (good, same_length (length s.nodes))
+
+  bytes-keep : (left k : ℕ) → Keeps (pass_bytes input left k)
+  bytes-keep zero k s good = (alike s (record s { at = s.stop }) good refl refl, same_length (length s.nodes))
+  bytes-keep (suc left) k s good =
+      byte-keeps (ask (seen_in input.bytes input.limits.window (anchor_at s (8 * k))) (has_byte k) nothing).reached
+      (pass_bytes input left (k + 1)) (bytes-keep left (k + 1)) s good
+
+  rest-keeps : (s : State) → Grows table s → (over : Bool)
+      → Follows s (cond over (ended Done s) (pass_bytes input (bytes_up_to s.stop (s.at / 8)) (s.at / 8) s)).state
+  rest-keeps s good true = (good, same_length (length s.nodes))
+  rest-keeps s good false = bytes-keep (bytes_up_to s.stop (s.at / 8)) (s.at / 8) s good
+
+  unboxed-keeps : (end : End) (outer : ℕ) (o : Outcome) → Grows table o.state → Follows o.state (unboxed end outer o).state
+  unboxed-keeps Done outer o good = (alike o.state (record o.state { stop = outer }) good refl refl, same_length (length o.state.nodes))
+  unboxed-keeps (Failed cause bit) outer o good = (good, same_length (length o.state.nodes))
+  unboxed-keeps (Stopped cause quantity) outer o good = (good, same_length (length o.state.nodes))
+
+  boxed-keeps : (bits : ℕ) (body : State → Outcome) → Keeps body → (s : State) → Grows table s → (room : Bool)
+      → Follows s (cond room
+      (let o : Outcome = then_do (body (record s { stop = s.at + bits })) (rest_of input) in unboxed o.end s.stop o)
+      (ended (Failed LengthOutOfRange s.at) s)).state
+  boxed-keeps bits body keeps s good true =
+      let inside : State = record s { stop = s.at + bits } in
+      let first = keeps inside (alike s inside good refl refl) in
+      let o : Outcome = then_do (body inside) (rest_of input) in
+      let last = follow-keeps (body inside).end (body inside) (rest_of input) (λ t grown. rest-keeps t grown (nat_le t.stop t.at)) first.0 in
+      let closed = unboxed-keeps o.end s.stop o last.0 in
+      let a = first.1 in
+      let b = last.1 in
+      let c = closed.1 in
+      (closed.0, omega arith)
+  boxed-keeps bits body keeps s good false = (good, same_length (length s.nodes))
+
   group-keeps : (child : ℕ → State → Outcome) → ((id : ℕ) → Keeps (child id)) → (children : List ℕ) → Keeps (group child children)
   group-keeps child keeps [] s good = (good, same_length (length s.nodes))
   group-keeps child keeps (id ∷ rest) s good =
@@ -185,8 +261,9 @@ module _ (input : Input) (table : Table) where
       element-keeps id (has_elements simple) (child body) (subst (λ (r : Option Row). IsElementRow r) (sym is) tt) (keeps body) s good
       (nat_lt (length s.nodes) input.limits.nodes)
   row-keeps child keeps id (Some (Group children)) is s good = group-keeps child keeps children s good
-  row-keeps child keeps id (Some (Skip bits)) is s good = pass-keeps (s.at + bits) s good (nat_le (s.at + bits) s.at)
-  row-keeps child keeps id (Some (Align bits)) is s good = pass-keeps (aligned bits s.at) s good (nat_le (aligned bits s.at) s.at)
+  row-keeps child keeps id (Some (Skip bits)) is s good = pass-keeps (s.at + bits) s good (nat_le (s.at + bits) s.at) (nat_le (s.at + bits) s.stop)
+  row-keeps child keeps id (Some (Align bits)) is s good = pass-keeps (aligned bits s.at) s good (nat_le (aligned bits s.at) s.at) (nat_le (aligned bits s.at) s.stop)
+  row-keeps child keeps id (Some (Boxed bits body)) is s good = boxed-keeps bits (child body) (keeps body) s good (nat_le (s.at + bits) s.stop)
 
   below-choice : (n id : ℕ) → ((i : ℕ) → Keeps (below input table n i)) → (s : State) → Grows table s → (test : Bool)
       → Follows s (cond test (row_at input table (below input table n) n s) (below input table n id s)).state

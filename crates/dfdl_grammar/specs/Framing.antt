@@ -1,7 +1,7 @@
 -- Fill that is passed over: alignment and skips. 'Framing'.
 use Rattle.std.specs.Prelude.{ℕ, zero, suc, ◌+◌, ◌-◌, ◌*◌, ◌/◌, Bool, true, false, nat_le, is_some, if◌then◌else◌}
 use Rattle.dfdl_report.specs.declared.cause.LimitCause.TheVariants.{Window}
-use Rattle.dfdl_report.specs.declared.cause.ParseCause.TheVariants.{DataEnds}
+use Rattle.dfdl_report.specs.declared.cause.ParseCause.TheVariants.{DataEnds, LengthOutOfRange}
 use Rattle.dfdl_looks.specs.Asks.{Ask, Answer, Look, Reached, Told, TooFar, Missing, Reading, ask}
 use Rattle.dfdl_looks.specs.Looks.{seen_in}
 use Rattle.dfdl_looks.specs.Tallies.{nothing}
@@ -32,9 +32,12 @@ fill_to input to s =
     let reading : Reading Bool = ask (seen_in input.bytes input.limits.window (anchor_at s (to - 1))) (has_byte ((to - 1) / 8)) nothing in
     spend reading.tally (passed input.limits.window to reading.reached s)
 
--- fill up to a bit, where there is any
+-- fill up to a bit, where there is any; where it would pass the end of the box, this fails
 abbrev pub pass_to : Input → ℕ → State → Outcome
-pass_to input to s = if nat_le to s.at then ended Done s else fill_to input to s
+pass_to input to s =
+    if nat_le to s.at then ended Done s
+    else if nat_le to s.stop then fill_to input to s
+    else ended (Failed LengthOutOfRange s.at) s
 
 -- so many bits of fill
 abbrev pub skip : Input → ℕ → State → Outcome

@@ -1,8 +1,8 @@
 -- What the content of a simple element is read as. 'Simple Types'.
-use Rattle.std.specs.Prelude.{ℕ, ◌+◌, ◌*◌, ◌/◌, ◌%◌, Bool, List, Option, Some, None, Result, Ok, Err}
-use Rattle.dfdl_report.specs.declared.cause.LimitCause.TheVariants.{Window}
+use Rattle.std.specs.Prelude.{ℕ, zero, suc, ◌+◌, ◌-◌, ◌*◌, ◌/◌, ◌%◌, Bool, nat_eq, nat_le, ◌&&◌, List, [], ◌++◌, length, Option, Some, None, Result, Ok, Err, if◌then◌else◌}
+use Rattle.dfdl_report.specs.declared.cause.LimitCause.TheVariants.{Window, Text as TextLimit}
 use Rattle.dfdl_report.specs.declared.cause.ParseCause.{ParseCause}
-use Rattle.dfdl_report.specs.declared.cause.ParseCause.TheVariants.{BadNibble, DataEnds, PastType, UnknownBoolean}
+use Rattle.dfdl_report.specs.declared.cause.ParseCause.TheVariants.{BadCharacter, BadNibble, DataEnds, LengthOutOfRange, NotFilled, PastType, UnknownBoolean}
 use Rattle.dfdl_value.specs.declared.value.Value.{Value}
 use Rattle.dfdl_value.specs.declared.value.Value.TheVariants.{Int, Uns, Dec}
 use Rattle.dfdl_int_binary.specs.Integers.{field_of, integer_reading}
@@ -11,32 +11,85 @@ use Rattle.dfdl_packed.specs.Packed.{nibbles_in, packed_reading}
 use Rattle.dfdl_packed.specs.declared.fault.PackedFault.{PackedFault}
 use Rattle.dfdl_packed.specs.declared.fault.PackedFault.TheVariants as packed
 use Rattle.dfdl_terms.specs.declared.row.Primitive.{Primitive}
-use Rattle.dfdl_terms.specs.declared.row.Primitive.TheVariants.{Integer, Packed, Truth}
+use Rattle.dfdl_terms.specs.declared.row.Primitive.TheVariants.{Integer, Packed, Truth, Octets, Text}
+use Rattle.dfdl_terms.specs.declared.text.OctetForm.{OctetForm}
+use Rattle.dfdl_terms.specs.declared.text.TextForm.{TextForm}
+use Rattle.dfdl_terms.specs.declared.text.TextSize.{TextSize}
+use Rattle.dfdl_terms.specs.declared.text.TextSize.TheVariants.{Bits, Characters}
+use Rattle.dfdl_text_string.specs.Padding.{trimmed}
+use Rattle.dfdl_texts.specs.Texts.{Text as TextRead, Reads, HasBad, IsCut, IsBoxed, text_at}
+use Rattle.dfdl_texts.specs.declared.extent.Extent.TheVariants as extent
+use Rattle.dfdl_region.specs.Bytes.{utf8_of}
 use Rattle.dfdl_region.specs.declared.node.Content.{Content}
 use Rattle.dfdl_region.specs.declared.node.Content.TheVariants as content
 use Rattle.dfdl_region.specs.declared.node.Content.TheVariants.{Signed, Unsigned, Decimal}
 use Rattle.dfdl_region.specs.Nodes.{with_content}
-use Rattle.dfdl_looks.specs.Asks.{Ask, Reached, Told, TooFar, Missing, Reading, ask, look_at}
+use Rattle.dfdl_looks.specs.Asks.{Ask, Answer, Reached, Told, TooFar, Missing, Reading, and_then, ask, look_at}
 use Rattle.dfdl_looks.specs.Looks.{seen_in}
 use Rattle.dfdl_looks.specs.Tallies.{nothing}
 use Rattle.dfdl_grammar.specs.declared.end.End.TheVariants.{Done, Failed, Stopped}
+use Rattle.dfdl_grammar.specs.declared.limits.Limits.{Limits}
 use Rattle.dfdl_grammar.specs.States.{Input, State, anchor}
 use Rattle.dfdl_grammar.specs.Outcomes.{Outcome, ended, spend}
+use Rattle.dfdl_grammar.specs.Framing.{aligned}
+use Rattle.dfdl_grammar.specs.Octets.{octets_from}
 
--- what a leaf finds: why it fails, or its content and how many bits it has
+-- What a leaf finds: why it fails; its content and how many bits it has; the bytes of a hexBinary and how many bits they have;
+-- or the bytes of a string, as UTF-8, and the bit behind its box.
 pub data Find : Type 0 where
   Fails : ParseCause → Find
   Finds : Content → ℕ → Find
+  FindsOctets : List ℕ → ℕ → Find
+  FindsText : List ℕ → ℕ → Find
 
 -- how many bytes some bits of the data lie in, at least one of them in the first byte
 abbrev pub bytes_spanned : ℕ → ℕ → ℕ
 bytes_spanned bit bits = (bit % 8 + bits + 7) / 8
 
--- how many bits the field of a primitive has
+-- how many bits the box of a text has, as far as that is known before its characters are counted
+abbrev pub bits_of_text : TextSize → ℕ
+bits_of_text (Bits bits) = bits
+bits_of_text (Characters count) = 0
+
+-- the same of a primitive
 abbrev pub bits_of : Primitive → ℕ
 bits_of (Integer form) = form.bits
 bits_of (Packed form) = 4 * form.nibbles
 bits_of (Truth form) = form.bits
+bits_of (Octets form) = form.bits
+bits_of (Text form) = bits_of_text form.size
+
+-- the bit at which a text begins whose box begins at this one: the next whole byte, where the box has any bit
+abbrev pub text_begins : TextSize → ℕ → ℕ
+text_begins (Bits zero) bit = bit
+text_begins (Bits (suc bits)) bit = aligned 8 bit
+text_begins (Characters count) bit = aligned 8 bit
+
+-- the bit at which the content of a primitive begins whose box begins at this one
+abbrev pub content_begins : Primitive → ℕ → ℕ
+content_begins (Integer form) bit = bit
+content_begins (Packed form) bit = bit
+content_begins (Truth form) bit = bit
+content_begins (Octets form) bit = bit
+content_begins (Text form) bit = text_begins form.size bit
+
+-- the bit at which the box of a text ends whose box begins at a bit; where its characters are counted it is that of the box around
+abbrev pub text_ends : TextSize → ℕ → ℕ → ℕ
+text_ends (Bits bits) bit stop = bit + bits
+text_ends (Characters count) bit stop = stop
+
+-- the same of a primitive
+abbrev pub content_ends : Primitive → ℕ → ℕ → ℕ
+content_ends (Integer form) bit stop = bit + form.bits
+content_ends (Packed form) bit stop = bit + 4 * form.nibbles
+content_ends (Truth form) bit stop = bit + form.bits
+content_ends (Octets form) bit stop = bit + form.bits
+content_ends (Text form) bit stop = text_ends form.size bit stop
+
+-- the box of a primitive that begins at a bit ends in the box around it, and its content begins in it
+abbrev pub has_room : Primitive → ℕ → ℕ → Bool
+has_room primitive bit stop =
+    nat_le (content_ends primitive bit stop) stop && nat_le (content_begins primitive bit) (content_ends primitive bit stop)
 
 -- What a number of so many bits is found as, by its value. Where it is no value of its type, it fails.
 abbrev pub find_of : ℕ → Option Value → Find
@@ -61,22 +114,84 @@ abbrev pub find_in : Primitive → ℕ → List ℕ → Find
 find_in (Integer form) before bytes = find_of form.bits (integer_reading form (field_of form bytes before))
 find_in (Packed form) before bytes = packed_find (4 * form.nibbles) (packed_reading form (nibbles_in form bytes before))
 find_in (Truth form) before bytes = truth_find form.bits (truth_reading form (truth_field_of form bytes before))
+find_in (Octets form) before bytes = FindsOctets (octets_from form.bits_by bytes before (form.bits / 8)) form.bits
+find_in (Text form) before bytes = FindsText [] before
 
--- The leaf looks at each byte that its bits lie in, in the order of the data.
-abbrev pub program : Primitive → ℕ → Ask Find
-program primitive bit = look_at (bytes_spanned bit (bits_of primitive)) (bit / 8) (Fails DataEnds) (find_in primitive (bit % 8))
+-- The bits of a field are found by a look at each byte that they lie in, in the order of the data.
+abbrev pub field : Primitive → ℕ → Ask Find
+field primitive bit = look_at (bytes_spanned bit (bits_of primitive)) (bit / 8) (Fails DataEnds) (find_in primitive (bit % 8))
 
--- What a leaf's reading makes of the state. Where it fails, it fails at its first bit.
-abbrev pub land : ℕ → Reached Find → State → Outcome
-land window (Told (Fails cause)) s = ended (Failed cause s.at) s
-land window (Told (Finds content bits)) s =
+-- the bytes of a hexBinary: a box without bits has none, and one that is no whole number of bytes is refused before any look
+abbrev pub octets : OctetForm → ℕ → Ask Find
+octets form bit =
+    if nat_eq form.bits 0 then Answer (FindsOctets [] 0)
+    else if nat_eq (form.bits % 8) 0 then field (Octets form) bit
+    else Answer (Fails NotFilled)
+
+-- the bit behind the box of a text that begins at a bit, where its characters end before this byte
+abbrev pub text_behind : TextSize → ℕ → ℕ → ℕ
+text_behind (Bits bits) bit end = bit + bits
+text_behind (Characters count) bit end = 8 * end
+
+-- what the characters of a text that begins at a bit are found as
+abbrev pub text_find : TextForm → ℕ → TextRead → Find
+text_find form bit (Reads characters end) = FindsText (utf8_of (trimmed form.pad characters)) (text_behind form.size bit end)
+text_find form bit HasBad = Fails BadCharacter
+text_find form bit IsCut = Fails DataEnds
+text_find form bit IsBoxed = Fails LengthOutOfRange
+
+-- a text whose box has so many bits from its first character on, which are no whole number of bytes or are read as characters
+abbrev pub boxed_text : TextForm → ℕ → ℕ → ℕ → Ask Find
+boxed_text form bit first end =
+    if nat_eq ((end - first) % 8) 0
+    then and_then (text_at form.encoding form.replaces extent.Box end (first / 8)) (λ text. Answer (text_find form bit text))
+    else Answer (Fails NotFilled)
+
+-- a text of a size, in a box that begins at a bit, inside of one that ends at another bit
+abbrev pub text_of_size : TextForm → TextSize → ℕ → ℕ → Ask Find
+text_of_size form (Bits bits) bit stop = boxed_text form bit (text_begins (Bits bits) bit) (bit + bits)
+text_of_size form (Characters count) bit stop =
+    and_then (text_at form.encoding form.replaces (extent.Characters count) stop (aligned 8 bit / 8)) (λ text. Answer (text_find form bit text))
+
+-- what the leaf of a primitive finds whose box begins at a bit, inside of a box that ends at another bit
+abbrev pub program : Primitive → ℕ → ℕ → Ask Find
+program (Integer form) bit stop = field (Integer form) bit
+program (Packed form) bit stop = field (Packed form) bit
+program (Truth form) bit stop = field (Truth form) bit
+program (Octets form) bit stop = octets form bit
+program (Text form) bit stop = text_of_size form form.size bit stop
+
+-- the bit at which a leaf fails: that of its box where this is longer than it can be, and else that of its content
+abbrev pub failing_bit : ParseCause → ℕ → ℕ → ℕ
+failing_bit LengthOutOfRange box content = box
+failing_bit _ box content = content
+
+-- the open element gets bytes as its value, where all such values are not more bytes than there may be
+abbrev pub hold : ℕ → (ℕ → ℕ → Content) → List ℕ → ℕ → State → Outcome
+hold most content bytes end s =
+    if nat_le (length s.text + length bytes) most
+    then ended Done (record s {
+      at = end;
+      text = s.text ++ bytes;
+      nodes = with_content s.nodes s.inside (content (length s.text) (length bytes));
+    })
+    else ended (Stopped TextLimit most) s
+
+-- what a leaf's reading makes of the state, where its content begins at a bit
+abbrev pub land : Limits → ℕ → Reached Find → State → Outcome
+land limits first (Told (Fails cause)) s = ended (Failed cause (failing_bit cause s.at first)) s
+land limits first (Told (Finds content bits)) s =
     ended Done (record s { at = s.at + bits; nodes = with_content s.nodes s.inside content })
-land window TooFar s = ended (Stopped Window window) s
-land window Missing s = ended Done s
+land limits first (Told (FindsOctets bytes bits)) s = hold limits.text content.Octets bytes (s.at + bits) s
+land limits first (Told (FindsText bytes end)) s = hold limits.text content.Text bytes end s
+land limits first TooFar s = ended (Stopped Window limits.window) s
+land limits first Missing s = ended Done s
 
--- the leaf of a primitive, which gives the innermost open element its content
+-- the leaf of a primitive, which gives the innermost open element its content; its box can't pass the end of the one around it
 abbrev pub leaf : Input → Option Primitive → State → Outcome
 leaf input None s = ended Done s
 leaf input (Some primitive) s =
-    let reading : Reading Find = ask (seen_in input.bytes input.limits.window (anchor s)) (program primitive s.at) nothing in
-    spend reading.tally (land input.limits.window reading.reached s)
+    if has_room primitive s.at s.stop
+    then (let reading : Reading Find = ask (seen_in input.bytes input.limits.window (anchor s)) (program primitive s.at s.stop) nothing in
+    spend reading.tally (land input.limits (content_begins primitive s.at) reading.reached s))
+    else ended (Failed LengthOutOfRange s.at) s

@@ -1,7 +1,9 @@
 pub mod States
 pub mod Outcomes
-pub mod Leaves
 pub mod Framing
+pub mod Octets
+pub mod Leaves
+pub mod Boxes
 pub mod Elements
 pub mod Rows
 pub mod Documents

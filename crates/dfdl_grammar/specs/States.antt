@@ -8,26 +8,34 @@ pub record Input : Type 0 where
   pub bytes : List ℕ
   pub limits : Limits
 
--- A place that parsing can go back to: its bit, whether it is a point of uncertainty, whether that is resolved, and the
--- elements and the innermost open one as they were there.
+-- A place that parsing can go back to: its bit, whether it is a point of uncertainty, whether that is resolved, and the end
+-- of the box, the elements with the bytes of their values, and the innermost open element as they were there.
 pub record Mark : Type 0 where
   pub at : ℕ
   pub is_point : Bool
   pub is_resolved : Bool
+  pub stop : ℕ
   pub nodes : List Node
+  pub text : List ℕ
   pub inside : ℕ
 
--- The bit that comes next, the elements that have begun, the number of the innermost one that is open, and the open marks
--- with the innermost first.
+-- The bit that comes next, the bit at which the innermost box ends, the elements that have begun, the bytes of the strings and
+-- hexBinary values among them, the number of the innermost element that is open, and the open marks with the innermost first.
 pub record State : Type 0 where
   pub at : ℕ
+  pub stop : ℕ
   pub nodes : List Node
+  pub text : List ℕ
   pub inside : ℕ
   pub marks : List Mark
 
+-- the bit at which a box would end that is around everything (profile)
+abbrev pub no_box : ℕ
+no_box = 18446744073709551615
+
 -- the state at the front of the data
 abbrev pub front : State
-front = record { at = 0; nodes = []; inside = 0; marks = [] }
+front = record { at = 0; stop = no_box; nodes = []; text = []; inside = 0; marks = [] }
 
 -- the bit of the outermost mark that isn't resolved, or another bit where there is none
 abbrev pub held_from : List Mark → ℕ → ℕ

@@ -1,7 +1,8 @@
 // Laws of the definitions that the contracts cite. The calls do nothing.
-ghost use Rattle.std.specs.Prelude.{◌≡◌, ◌<◌, ℕ, List};
+ghost use Rattle.std.specs.Prelude.{◌≡◌, ◌<◌, ℕ, List, All};
 ghost use Rattle.dfdl_looks.specs.Tallies.{Tally};
 ghost use Rattle.dfdl_terms.specs.Rows.{Nests, Table};
+ghost use Rattle.dfdl_region.specs.Texts.{HaveTexts};
 ghost use Rattle.dfdl_grammar.specs.declared.limits.Limits.{Limits};
 ghost use Rattle.dfdl_grammar.specs.Documents.{document};
 ghost use Rattle.dfdl_grammar.specs.Trees.{AreRead, HasLeaves, IsTree};
@@ -28,4 +29,11 @@ pub fn documents_are_trees()
 pub fn documents_are_read()
     ensures { (limits : Limits) (table : Table) (bytes : List ℕ) → Nests table.rows → HasLeaves table
         → (document limits table bytes).end ≡ Done → AreRead (document limits table bytes).state.nodes }
+{}
+
+/// The bytes of the values of a document's elements are among the bytes of its text, and those of its strings are UTF-8,
+/// whatever the data come to.
+pub fn documents_have_texts()
+    ensures { (limits : Limits) (table : Table) (bytes : List ℕ) → All (λ byte. byte < 256) bytes
+        → HaveTexts (document limits table bytes).state.nodes (document limits table bytes).state.text }
 {}

@@ -5,11 +5,13 @@
 //! - States: what is known while data are parsed ('Parsing Algorithm').
 //! - Outcomes: what a row comes to, and how outcomes are put together ('Parsing Algorithm').
 //! - Leaves: what a simple element's content is read as ('Simple Types').
+//! - Octets: the bytes that stand in the data from a bit on ('Simple Types').
 //! - Framing: alignment and skips ('Framing').
+//! - Boxes: a box around a content, and what the content leaves of it ('Lengths').
 //! - Elements: an element begins, and ends ('The DFDL Information Set').
 //! - Rows: the meaning of each row, by those below it ('DFDL Data Syntax Grammar').
 //! - Documents: the meaning of the root element's row at the front of the data.
-//! - Trees: the elements of a document are a tree of the schema's elements.
+//! - Trees: the elements of a document are a tree of the schema's elements, each of which is read.
 //! - Paths: the path of an element, by names.
 #![tactic(auto)]
 

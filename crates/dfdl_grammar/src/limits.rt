@@ -5,4 +5,6 @@ pub struct Limits {
     pub window: u32,
     /// how many elements a document has at most
     pub nodes: u32,
+    /// how many bytes the strings and hexBinary values of a document have at most
+    pub text: u32,
 }

@@ -1,0 +1,317 @@
+-- The bytes of the values of a document's elements stay there, and those of its strings stay UTF-8, whatever the rows do.
+use Rattle.std.proofs.Common.{◌≡◌, ◌⊎◌, inl, inr, ℕ, zero, suc, ◌+◌, ◌-◌, ◌*◌, ◌/◌, ◌%◌, ◌<◌, ◌≤◌, refl, List, [], ◌∷◌, ◌++◌, length, get_or, Bool, true, false, cond, leb, ltb, nat_eq, nat_le, nat_lt, Option, Some, None, Result, Ok, Err, All, ap, sym, subst, ◌∙◌, arith, IsUtf8, length-append}
+use Rattle.std.proofs.lemmas.Bool.Decides.{nat_tests}
+use Rattle.std.proofs.lemmas.List.Elements.{All-append}
+use Rattle.std.proofs.lemmas.Str.{IsUtf8-nil}
+use Rattle.std.specs.Prelude.{slice_get}
+use Rattle.dfdl_bits.specs.declared.window.Seen.{Seen}
+use Rattle.dfdl_bits.specs.declared.window.Seen.TheVariants.{Byte, End as DataEnded, NotYet, Over}
+use Rattle.dfdl_int_binary.specs.Integers.{field_of, integer_reading}
+use Rattle.dfdl_int_binary.specs.Truths.{truth_field_of, truth_reading}
+use Rattle.dfdl_packed.specs.Packed.{nibbles_in, packed_reading}
+use Rattle.dfdl_packed.specs.declared.fault.PackedFault.{PackedFault}
+use Rattle.dfdl_packed.specs.declared.fault.PackedFault.TheVariants.{BadNibble, PastType}
+use Rattle.dfdl_value.specs.declared.value.Value.{Value}
+use Rattle.dfdl_value.specs.declared.value.Value.TheVariants.{Int, Uns, Dec, Text as TextValue, Truth as TruthValue, Bytes}
+use Rattle.dfdl_report.specs.declared.cause.LimitCause.TheVariants.{Nodes, Text as TextLimit}
+use Rattle.dfdl_report.specs.declared.cause.ParseCause.TheVariants.{DataEnds, LengthOutOfRange, NotFilled}
+use Rattle.dfdl_terms.specs.declared.row.Primitive.{Primitive}
+use Rattle.dfdl_terms.specs.declared.row.Primitive.TheVariants.{Integer, Packed, Truth, Octets, Text as Characters}
+use Rattle.dfdl_terms.specs.declared.row.Row.{Row}
+use Rattle.dfdl_terms.specs.declared.row.Row.TheVariants.{Leaf, Elem, Group, Skip, Align, Boxed}
+use Rattle.dfdl_terms.specs.declared.text.OctetForm.{OctetForm}
+use Rattle.dfdl_terms.specs.declared.text.TextForm.{TextForm}
+use Rattle.dfdl_terms.specs.declared.text.TextSize.{TextSize}
+use Rattle.dfdl_terms.specs.declared.text.TextSize.TheVariants.{Bits, Characters as Counted}
+use Rattle.dfdl_terms.specs.Rows.{Table}
+use Rattle.dfdl_texts.specs.Texts.{Text as TextRead, Reads as DoesRead, HasBad, IsCut, IsBoxed, text_at}
+use Rattle.dfdl_texts.specs.declared.extent.Extent.{Extent}
+use Rattle.dfdl_texts.specs.declared.extent.Extent.TheVariants as extent
+use Rattle.dfdl_text_string.specs.Padding.{trimmed}
+use Rattle.dfdl_texts.proofs.Whole.{text-scalars}
+use Rattle.dfdl_region.specs.declared.node.Node.{Node}
+use Rattle.dfdl_region.specs.declared.node.Content.{Content}
+use Rattle.dfdl_region.specs.declared.node.Content.TheVariants.{Begun, Complex, Signed, Unsigned, Decimal}
+use Rattle.dfdl_region.specs.declared.node.Content.TheVariants as content
+use Rattle.dfdl_region.specs.Bytes.{bytes_at, utf8_of}
+use Rattle.dfdl_region.specs.Nodes.{with_content}
+use Rattle.dfdl_region.specs.Texts.{HasText, HaveTexts}
+use Rattle.dfdl_looks.specs.Asks.{Ask, Answer, Reached, Told, TooFar, Missing, Reading, and_then, ask, go_on}
+use Rattle.dfdl_looks.specs.Looks.{seen_in}
+use Rattle.dfdl_looks.specs.Tallies.{Tally, nothing}
+use Rattle.dfdl_looks.proofs.Sequels.{ask-then}
+use Rattle.dfdl_grammar.specs.declared.end.End.{End}
+use Rattle.dfdl_grammar.specs.declared.end.End.TheVariants.{Done, Failed, Stopped}
+use Rattle.dfdl_grammar.specs.States.{Input, State, anchor, anchor_at, front}
+use Rattle.dfdl_grammar.specs.Outcomes.{Outcome, ended, follow, spend, then_do}
+use Rattle.dfdl_grammar.specs.Leaves.{Find, Fails, Finds, FindsOctets, FindsText, bits_of, bytes_spanned, content_begins, field, find_in, find_of, has_room, land, leaf, packed_find, program, text_begins, text_find, text_of_size, truth_find}
+use Rattle.dfdl_grammar.specs.Framing.{aligned, fill_to, has_byte, passed}
+use Rattle.dfdl_grammar.specs.Boxes.{bytes_up_to, pass_bytes, past_byte, rest as rest_of, unboxed}
+use Rattle.dfdl_grammar.specs.Elements.{begun, close, has_elements, left}
+use Rattle.dfdl_grammar.specs.Rows.{below, group, meaning, row, row_at}
+use Rattle.dfdl_grammar.proofs.Filled.{made}
+use Rattle.dfdl_grammar.proofs.Holding.{both_have, content-has, last-bytes, text-more, trimmed-scalars, utf8}
+
+-- what a leaf finds has bytes that can be held as a string's, if it is one
+abbrev IsHeld : Find → Type 0
+IsHeld (Fails cause) = Unit {0}
+IsHeld (Finds content bits) = (bytes : List ℕ) → HasText bytes content
+IsHeld (FindsOctets bytes bits) = Unit {0}
+IsHeld (FindsText bytes end) = IsUtf8 bytes
+
+number-held : (bits : ℕ) (v : Option Value) → IsHeld (find_of bits v)
+number-held bits None = tt
+number-held bits (Some (Int z)) = λ bytes. tt
+number-held bits (Some (Uns n)) = λ bytes. tt
+number-held bits (Some (Dec d)) = λ bytes. tt
+number-held bits (Some (TextValue text)) = tt
+number-held bits (Some (TruthValue truth)) = tt
+number-held bits (Some (Bytes octets)) = tt
+
+packed-held : (bits : ℕ) (r : Result Value PackedFault) → IsHeld (packed_find bits r)
+packed-held bits (Ok v) = number-held bits (Some v)
+packed-held bits (Err BadNibble) = tt
+packed-held bits (Err PastType) = tt
+
+truth-held : (bits : ℕ) (r : Option Bool) → IsHeld (truth_find bits r)
+truth-held bits (Some truth) = λ bytes. tt
+truth-held bits None = tt
+
+found-held : (primitive : Primitive) (before : ℕ) (bytes : List ℕ) → IsHeld (find_in primitive before bytes)
+found-held (Integer form) before bytes = number-held form.bits (integer_reading form (field_of form bytes before))
+found-held (Packed form) before bytes = packed-held (4 * form.nibbles) (packed_reading form (nibbles_in form bytes before))
+found-held (Truth form) before bytes = truth-held form.bits (truth_reading form (truth_field_of form bytes before))
+found-held (Octets form) before bytes = tt
+found-held (Characters form) before bytes = IsUtf8-nil
+
+-- whether a find is that the data end
+ends-or : (found : Find) → IsHeld found ⊎ (Fails DataEnds ≡ found → ⊥)
+ends-or (Fails cause) = inl tt
+ends-or (Finds content bits) = inr (λ same. absurd (cc))
+ends-or (FindsOctets bytes bits) = inl tt
+ends-or (FindsText bytes end) = inr (λ same. absurd (cc))
+
+field-held : (look : ℕ → Seen) (primitive : Primitive) (bit : ℕ) (found : Find) → (ask look (field primitive bit) nothing).reached ≡ Told found → IsHeld found
+field-held look primitive bit found is = elim (ends-or found) [
+  | inl held ↦ held
+  | inr apart ↦ (
+      let here = made look found apart (bytes_spanned bit (bits_of primitive)) (bit / 8) (find_in primitive (bit % 8)) nothing is in
+      subst IsHeld here.is (found-held primitive (bit % 8) here.bytes))
+]
+
+module _ (input : Input) (small : All (λ b. b < 256) input.bytes) where
+  -- a byte of the data is a byte
+  shown : (size low j b : ℕ) → seen_in input.bytes size low j ≡ Byte b → b < 256
+  shown size low j b is = at _ _ refl refl is
+    where
+      at : (over inside : Bool) → leb size (j - low) ≡ over → ltb j (length input.bytes) ≡ inside
+          → cond over Over (cond inside (Byte (get_or input.bytes j 0)) DataEnded) ≡ Byte b → b < 256
+      at true inside over within same = absurd (cc)
+      at false true over within same =
+          let byte : get_or input.bytes j 0 ≡ b = cc in subst (λ (n : ℕ). n < 256) byte (small j 0 (grind (arith, nat_tests)))
+      at false false over within same = absurd (cc)
+
+  text-held : (form : TextForm) (bit : ℕ) (look : ℕ → Seen) (r : Reached TextRead) (t : Tally) (found : Find)
+      → ((chars : List ℕ) (end : ℕ) → r ≡ Told (DoesRead chars end) → IsUtf8 (utf8_of (trimmed form.pad chars)))
+      → (go_on look (λ (text : TextRead). Answer (text_find form bit text)) r t).reached ≡ Told found → IsHeld found
+  text-held form bit look (Told (DoesRead chars end)) t found kept is =
+      let same : text_find form bit (DoesRead chars end) ≡ found = cc in subst IsHeld same (kept chars end refl)
+  text-held form bit look (Told HasBad) t found kept is = let same : text_find form bit HasBad ≡ found = cc in subst IsHeld same tt
+  text-held form bit look (Told IsCut) t found kept is = let same : text_find form bit IsCut ≡ found = cc in subst IsHeld same tt
+  text-held form bit look (Told IsBoxed) t found kept is = let same : text_find form bit IsBoxed ≡ found = cc in subst IsHeld same tt
+  text-held form bit look TooFar t found kept is = absurd (cc)
+  text-held form bit look Missing t found kept is = absurd (cc)
+
+  then-held : (size low : ℕ) (form : TextForm) (bit : ℕ) (extent : Extent) (stop k : ℕ) (found : Find)
+      → (ask (seen_in input.bytes size low)
+      (and_then (text_at form.encoding form.replaces extent stop k) (λ (text : TextRead). Answer (text_find form bit text))) nothing).reached ≡ Told found
+      → IsHeld found
+  then-held size low form bit extent stop k found is =
+      let look : ℕ → Seen = seen_in input.bytes size low in
+      let a : Ask TextRead = text_at form.encoding form.replaces extent stop k in
+      let whole = ask-then look (λ (text : TextRead). Answer (text_find form bit text)) a nothing in
+      text-held form bit look (ask look a nothing).reached (ask look a nothing).tally found
+      (λ chars end read. utf8 (trimmed form.pad chars) (trimmed-scalars form.pad chars
+      (text-scalars form.encoding form.replaces extent stop look k nothing chars end (λ j b past at. shown size low j b at) read)))
+      (sym (ap (λ (r : Reading Find). r.reached) whole) ∙ is)
+
+  boxed-held : (size low : ℕ) (form : TextForm) (bit first end : ℕ) (found : Find) (whole : Bool)
+      → (ask (seen_in input.bytes size low) (cond whole
+      (and_then (text_at form.encoding form.replaces extent.Box end (first / 8)) (λ (text : TextRead). Answer (text_find form bit text)))
+      (Answer (Fails NotFilled))) nothing).reached ≡ Told found → IsHeld found
+  boxed-held size low form bit first end found true is = then-held size low form bit extent.Box end (first / 8) found is
+  boxed-held size low form bit first end found false is = let same : Fails NotFilled ≡ found = cc in subst IsHeld same tt
+
+  sized-held : (window low : ℕ) (form : TextForm) (size : TextSize) (bit stop : ℕ) (found : Find)
+      → (ask (seen_in input.bytes window low) (text_of_size form size bit stop) nothing).reached ≡ Told found → IsHeld found
+  sized-held window low form (Bits n) bit stop found is =
+      let first : ℕ = text_begins (Bits n) bit in
+      boxed-held window low form bit first (bit + n) found (nat_eq ((bit + n - first) % 8) 0) is
+  sized-held window low form (Counted n) bit stop found is =
+      then-held window low form bit (extent.Characters n) stop (aligned 8 bit / 8) found is
+
+  octets-held : (size low : ℕ) (form : OctetForm) (bit : ℕ) (found : Find) (none whole : Bool)
+      → (ask (seen_in input.bytes size low) (cond none (Answer (FindsOctets [] 0)) (cond whole (field (Octets form) bit) (Answer (Fails NotFilled)))) nothing).reached
+      ≡ Told found → IsHeld found
+  octets-held size low form bit found true whole is = let same : FindsOctets [] 0 ≡ found = cc in subst IsHeld same tt
+  octets-held size low form bit found false true is = field-held (seen_in input.bytes size low) (Octets form) bit found is
+  octets-held size low form bit found false false is = let same : Fails NotFilled ≡ found = cc in subst IsHeld same tt
+
+  program-held : (size low : ℕ) (primitive : Primitive) (bit stop : ℕ) (found : Find)
+      → (ask (seen_in input.bytes size low) (program primitive bit stop) nothing).reached ≡ Told found → IsHeld found
+  program-held size low (Integer form) bit stop found is = field-held (seen_in input.bytes size low) (Integer form) bit found is
+  program-held size low (Packed form) bit stop found is = field-held (seen_in input.bytes size low) (Packed form) bit found is
+  program-held size low (Truth form) bit stop found is = field-held (seen_in input.bytes size low) (Truth form) bit found is
+  program-held size low (Octets form) bit stop found is = octets-held size low form bit found (nat_eq form.bits 0) (nat_eq (form.bits % 8) 0) is
+  program-held size low (Characters form) bit stop found is = sized-held size low form form.size bit stop found is
+
+  abbrev Has : State → Type 0
+  Has s = HaveTexts s.nodes s.text
+
+  -- what is done keeps the bytes of values
+  abbrev Keeps : (State → Outcome) → Type 0
+  Keeps f = (s : State) → Has s → Has (f s).state
+
+  hold-keeps : (made_of : ℕ → ℕ → Content) (bytes : List ℕ) (end : ℕ) (s : State) → Has s
+      → HasText (s.text ++ bytes) (made_of (length s.text) (length bytes)) → (room : Bool)
+      → Has (cond room (ended Done (record s {
+        at = end;
+        text = s.text ++ bytes;
+        nodes = with_content s.nodes s.inside (made_of (length s.text) (length bytes));
+      })) (ended (Stopped TextLimit input.limits.text) s)).state
+  hold-keeps made_of bytes end s has new true =
+      content-has (HasText (s.text ++ bytes)) s.nodes s.inside (made_of (length s.text) (length bytes)) new
+      (λ i node less. text-more s.text bytes (get_or s.nodes i node).content (has i node less))
+  hold-keeps made_of bytes end s has new false = has
+
+  land-keeps : (first : ℕ) (reached : Reached Find) → ((found : Find) → reached ≡ Told found → IsHeld found) → Keeps (land input.limits first reached)
+  land-keeps first (Told (Fails cause)) held s has = has
+  land-keeps first (Told (Finds content bits)) held s has =
+      content-has (HasText s.text) s.nodes s.inside content (held (Finds content bits) refl s.text) has
+  land-keeps first (Told (FindsOctets bytes bits)) held s has =
+      let size = length-append s.text bytes in
+      hold-keeps content.Octets bytes (s.at + bits) s has (omega (arith, size)) (nat_le (length s.text + length bytes) input.limits.text)
+  land-keeps first (Told (FindsText bytes end)) held s has =
+      let size = length-append s.text bytes in
+      hold-keeps content.Text bytes end s has
+      (omega (arith, size), subst IsUtf8 (sym (last-bytes s.text bytes)) (held (FindsText bytes end) refl))
+      (nat_le (length s.text + length bytes) input.limits.text)
+  land-keeps first TooFar held s has = has
+  land-keeps first Missing held s has = has
+
+  room-keeps : (primitive : Primitive) (s : State) → Has s → (room : Bool)
+      → Has (cond room
+      (let reading = ask (seen_in input.bytes input.limits.window (anchor s)) (program primitive s.at s.stop) nothing in
+      spend reading.tally (land input.limits (content_begins primitive s.at) reading.reached s))
+      (ended (Failed LengthOutOfRange s.at) s)).state
+  room-keeps primitive s has true =
+      land-keeps (content_begins primitive s.at) (ask (seen_in input.bytes input.limits.window (anchor s)) (program primitive s.at s.stop) nothing).reached
+      (λ found is. program-held input.limits.window (anchor s) primitive s.at s.stop found is) s has
+  room-keeps primitive s has false = has
+
+  leaf-keeps : (primitive : Option Primitive) → Keeps (leaf input primitive)
+  leaf-keeps None s has = has
+  leaf-keeps (Some primitive) s has = room-keeps primitive s has (has_room primitive s.at s.stop)
+
+  passed-keeps : (to : ℕ) (reached : Reached Bool) → Keeps (passed input.limits.window to reached)
+  passed-keeps to (Told true) s has = has
+  passed-keeps to (Told false) s has = has
+  passed-keeps to TooFar s has = has
+  passed-keeps to Missing s has = has
+
+  pass-keeps : (to : ℕ) (s : State) → Has s → (over room : Bool)
+      → Has (cond over (ended Done s) (cond room (fill_to input to s) (ended (Failed LengthOutOfRange s.at) s))).state
+  pass-keeps to s has true room = has
+  pass-keeps to s has false true =
+      passed-keeps to (ask (seen_in input.bytes input.limits.window (anchor_at s (to - 1))) (has_byte ((to - 1) / 8)) nothing).reached s has
+  pass-keeps to s has false false = has
+
+  byte-keeps : (reached : Reached Bool) (next : State → Outcome) → Keeps next → Keeps (past_byte input.limits.window reached next)
+  byte-keeps (Told true) next keeps s has = keeps s has
+  byte-keeps (Told false) next keeps s has = has
+  byte-keeps TooFar next keeps s has = has
+  byte-keeps Missing next keeps s has = has
+
+  bytes-keep : (left k : ℕ) → Keeps (pass_bytes input left k)
+  bytes-keep zero k s has = has
+  bytes-keep (suc left) k s has =
+      byte-keeps (ask (seen_in input.bytes input.limits.window (anchor_at s (8 * k))) (has_byte k) nothing).reached
+      (pass_bytes input left (k + 1)) (bytes-keep left (k + 1)) s has
+
+  rest-keeps : (s : State) → Has s → (over : Bool)
+      → Has (cond over (ended Done s) (pass_bytes input (bytes_up_to s.stop (s.at / 8)) (s.at / 8) s)).state
+  rest-keeps s has true = has
+  rest-keeps s has false = bytes-keep (bytes_up_to s.stop (s.at / 8)) (s.at / 8) s has
+
+  unboxed-keeps : (end : End) (outer : ℕ) (o : Outcome) → Has o.state → Has (unboxed end outer o).state
+  unboxed-keeps Done outer o has = has
+  unboxed-keeps (Failed cause bit) outer o has = has
+  unboxed-keeps (Stopped cause quantity) outer o has = has
+
+  follow-keeps : (end : End) (o : Outcome) (next : State → Outcome) → Keeps next → Has o.state → Has (follow end o next).state
+  follow-keeps Done o next keeps has = keeps o.state has
+  follow-keeps (Failed cause bit) o next keeps has = has
+  follow-keeps (Stopped cause quantity) o next keeps has = has
+
+  boxed-keeps : (bits : ℕ) (body : State → Outcome) → Keeps body → (s : State) → Has s → (room : Bool)
+      → Has (cond room
+      (let o : Outcome = then_do (body (record s { stop = s.at + bits })) (rest_of input) in unboxed o.end s.stop o)
+      (ended (Failed LengthOutOfRange s.at) s)).state
+  boxed-keeps bits body keeps s has true =
+      let inside : State = record s { stop = s.at + bits } in
+      let o : Outcome = then_do (body inside) (rest_of input) in
+      unboxed-keeps o.end s.stop o
+      (follow-keeps (body inside).end (body inside) (rest_of input) (λ t kept. rest-keeps t kept (nat_le t.stop t.at)) (keeps inside has))
+  boxed-keeps bits body keeps s has false = has
+
+  begun-has : (id : ℕ) (s : State) → Has s → Has (begun id s)
+  begun-has id s has =
+      let last : Node = record { element = id; parent = s.inside; content = Begun } in
+      All-append (λ (n : Node). HasText s.text n.content) s.nodes (last ∷ []) has
+      (both_have (λ (n : Node). HasText s.text n.content) last [] tt (λ i d less. absurd (omega arith)))
+
+  left-has : (outer : ℕ) (complex : Bool) (s : State) → Has s → Has (left outer complex s)
+  left-has outer true s has = content-has (HasText s.text) s.nodes s.inside Complex tt has
+  left-has outer false s has = has
+
+  close-has : (end : End) (outer : ℕ) (complex : Bool) (o : Outcome) → Has o.state → Has (close end outer complex o).state
+  close-has Done outer complex o has = left-has outer complex o.state has
+  close-has (Failed cause bit) outer complex o has = has
+  close-has (Stopped cause quantity) outer complex o has = has
+
+  element-keeps : (id : ℕ) (complex : Bool) (body : State → Outcome) → Keeps body → (s : State) → Has s → (room : Bool)
+      → Has (cond room (let o : Outcome = body (begun id s) in close o.end s.inside complex o) (ended (Stopped Nodes input.limits.nodes) s)).state
+  element-keeps id complex body keeps s has true =
+      let o : Outcome = body (begun id s) in close-has o.end s.inside complex o (keeps (begun id s) (begun-has id s has))
+  element-keeps id complex body keeps s has false = has
+
+  group-keeps : (child : ℕ → State → Outcome) → ((id : ℕ) → Keeps (child id)) → (children : List ℕ) → Keeps (group child children)
+  group-keeps child keeps [] s has = has
+  group-keeps child keeps (id ∷ rest) s has =
+      follow-keeps (child id s).end (child id s) (group child rest) (group-keeps child keeps rest) (keeps id s has)
+
+  module _ (table : Table) where
+    row-keeps : (child : ℕ → State → Outcome) → ((id : ℕ) → Keeps (child id)) → (id : ℕ) (r : Option Row) → Keeps (row input table child id r)
+    row-keeps child keeps id None s has = has
+    row-keeps child keeps id (Some (Leaf prim)) s has = leaf-keeps (slice_get table.primitives prim) s has
+    row-keeps child keeps id (Some (Elem name simple body)) s has =
+        element-keeps id (has_elements simple) (child body) (keeps body) s has (nat_lt (length s.nodes) input.limits.nodes)
+    row-keeps child keeps id (Some (Group children)) s has = group-keeps child keeps children s has
+    row-keeps child keeps id (Some (Skip bits)) s has = pass-keeps (s.at + bits) s has (nat_le (s.at + bits) s.at) (nat_le (s.at + bits) s.stop)
+    row-keeps child keeps id (Some (Align bits)) s has =
+        pass-keeps (aligned bits s.at) s has (nat_le (aligned bits s.at) s.at) (nat_le (aligned bits s.at) s.stop)
+    row-keeps child keeps id (Some (Boxed bits body)) s has = boxed-keeps bits (child body) (keeps body) s has (nat_le (s.at + bits) s.stop)
+
+    below-choice : (n id : ℕ) → ((i : ℕ) → Keeps (below input table n i)) → (s : State) → Has s → (test : Bool)
+        → Has (cond test (row_at input table (below input table n) n s) (below input table n id s)).state
+    below-choice n id keeps s has true = row-keeps (below input table n) keeps n (slice_get table.rows n) s has
+    below-choice n id keeps s has false = keeps id s has
+
+    below-keeps : (n id : ℕ) → Keeps (below input table n id)
+    unfolding below
+    below-keeps zero id s has = has
+    below-keeps (suc n) id s has = below-choice n id (below-keeps n) s has (nat_eq id n)
+
+    pub meaning-has : (id : ℕ) → HaveTexts (meaning input table id front).state.nodes (meaning input table id front).state.text
+    unfolding meaning
+    meaning-has id = row-keeps (below input table id) (below-keeps id) id (slice_get table.rows id) front (λ i d less. absurd (omega arith))

@@ -1,0 +1,6 @@
+use Rattle.std.proofs.Common.{◌-◌, length}
+use Rattle.dfdl_grammar.proofs.Held.{meaning-has}
+use Rattle.dfdl_grammar.proofs.laws.documents_have_texts.Goals as goal
+
+pub returns : goal.returns
+returns c limits table bytes small = meaning-has (record { bytes = bytes; limits = limits }) small table (length table.rows - 1)

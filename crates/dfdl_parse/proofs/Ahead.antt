@@ -1,40 +1,43 @@
 -- A step does a part of what is ahead.
-use Rattle.std.proofs.Common.{◌≡◌, ℕ, ◌+◌, ◌-◌, ◌/◌, ◌%◌, ◌<◌, ◌≤◌, min, nat_le, refl, List, [], ◌∷◌, length, drop, Bool, true, false, cond, nat_lt, Option, Some, None, All, ap, sym, ◌∙◌, arith}
+use Rattle.std.proofs.Common.{◌≡◌, ℕ, suc, ◌+◌, ◌-◌, ◌*◌, ◌/◌, ◌<◌, ◌≤◌, min, nat_le, refl, List, [], ◌∷◌, length, drop, Bool, true, false, cond, nat_lt, Option, Some, None, All, ap, sym, ◌∙◌, arith}
 use Rattle.std.specs.Prelude.{is_some, slice_get}
+use Rattle.std.proofs.lemmas.Bool.Decides.{nat_tests}
 use Rattle.std.proofs.lemmas.Option.{slice_get_within}
 use Rattle.dfdl_bits.specs.Window.{Held, end_of, from_byte, seen_at}
 use Rattle.dfdl_bits.specs.declared.window.Seen.{Seen}
 use Rattle.dfdl_bits.specs.declared.window.Seen.TheVariants.{Byte, End as DataEnded, NotYet, Over}
-use Rattle.dfdl_report.specs.declared.cause.LimitCause.TheVariants.{Nodes, Window}
+use Rattle.dfdl_report.specs.declared.cause.LimitCause.TheVariants.{Nodes, Text as TextLimit, Window}
 use Rattle.dfdl_terms.specs.declared.row.Primitive.{Primitive}
 use Rattle.dfdl_terms.specs.declared.row.Row.{Row}
-use Rattle.dfdl_terms.specs.declared.row.Row.TheVariants.{Leaf, Elem, Group, Skip, Align}
+use Rattle.dfdl_terms.specs.declared.row.Row.TheVariants.{Leaf, Elem, Group, Skip, Align, Boxed}
 use Rattle.dfdl_terms.specs.Rows.{Table, Nests}
 use Rattle.dfdl_looks.specs.Looks.{Agrees, seen_in}
-use Rattle.dfdl_looks.specs.Asks.{Answer, Reached, Told, TooFar, Missing, Reading, ask, AsksFrom}
+use Rattle.dfdl_looks.specs.Asks.{Answer, Reached, Told, TooFar, Missing, Reading, ask}
 use Rattle.dfdl_looks.specs.Tallies.{Tally, nothing, one_row, plus, saw_byte, saw_end, saw_none}
 use Rattle.dfdl_looks.proofs.Resumed.{asked, on_seen}
-use Rattle.dfdl_looks.proofs.Stretched.{look_at-from}
 use Rattle.dfdl_grammar.specs.declared.end.End.{End}
 use Rattle.dfdl_grammar.specs.declared.end.End.TheVariants.{Done, Failed, Stopped}
+use Rattle.dfdl_grammar.specs.declared.limits.Limits.{Limits}
 use Rattle.dfdl_grammar.specs.States.{Input, State, anchor, anchor_at}
 use Rattle.dfdl_grammar.specs.Outcomes.{Outcome, ended, spend, then_do}
-use Rattle.dfdl_report.specs.declared.cause.ParseCause.TheVariants.{DataEnds}
-use Rattle.dfdl_grammar.specs.Leaves.{Find, Fails, Finds, bits_of, bytes_spanned, find_in, land, leaf, program}
+use Rattle.dfdl_report.specs.declared.cause.ParseCause.TheVariants.{DataEnds, LengthOutOfRange}
+use Rattle.dfdl_grammar.specs.Leaves.{Find, Fails, Finds, FindsOctets, FindsText, content_begins, has_room, land, leaf, program}
 use Rattle.dfdl_grammar.specs.Framing.{aligned, fill_to, passed}
+use Rattle.dfdl_grammar.specs.Boxes.{bytes_up_to, pass_bytes, past_byte, rest, unboxed}
 use Rattle.dfdl_grammar.specs.Elements.{begun, close, has_elements, left}
 use Rattle.dfdl_grammar.specs.Rows.{below, group, meaning, row}
 use Rattle.dfdl_grammar.proofs.Spending.{spend-spend, spend-nothing, follow-spend, close-spend}
 use Rattle.dfdl_grammar.proofs.Towers.{below-meaning}
 use Rattle.dfdl_parse.specs.declared.frame.Frame.{Frame}
-use Rattle.dfdl_parse.specs.declared.frame.Frame.TheVariants.{Rest, Element}
+use Rattle.dfdl_parse.specs.declared.frame.Frame.TheVariants.{Rest, Element, Box}
 use Rattle.dfdl_parse.specs.declared.frame.Focus.{Focus}
-use Rattle.dfdl_parse.specs.declared.frame.Focus.TheVariants.{Enter, Pass, Leave}
-use Rattle.dfdl_parse.specs.Machines.{Move, children_of, enter, enter_group, fill, fill_move, go_on, is_missing, landed, leave, pass, read_leaf, seen_beyond, step}
-use Rattle.dfdl_parse.specs.Ahead.{resume, finish, ahead}
+use Rattle.dfdl_parse.specs.declared.frame.Focus.TheVariants.{Enter, Pass, PassRest, Leave}
+use Rattle.dfdl_parse.specs.Machines.{Move, children_of, enter, enter_group, fill, fill_move, go_on, is_missing, landed, leave, pass, pass_rest, read_leaf, read_move, rest_move, seen_beyond, step}
+use Rattle.dfdl_parse.specs.Ahead.{resume, finish, focused, ahead}
 use Rattle.dfdl_parse.proofs.Lists.{drop_some, drop_none, all_at}
 use Rattle.dfdl_parse.proofs.Windows.{agrees_from}
 use Rattle.dfdl_parse.proofs.Beyond.{beyond-same}
+use Rattle.dfdl_parse.proofs.Programs.{program-from}
 
 -- the window holds the bytes that a row at this state needs
 pub record Anchored (held : Held) (s : State) : Type 0 where
@@ -46,6 +49,7 @@ pub record Anchored (held : Held) (s : State) : Type 0 where
 abbrev pub Stands : Held → Focus → State → Type 0
 Stands held (Enter id) s = Anchored held s
 Stands held (Pass to) s = (held.base ≤ (to - 1) / 8) × (anchor_at s (to - 1) ≡ (to - 1) / 8)
+Stands held (PassRest bit outer) s = (held.base ≤ bit / 8) × (bit < s.stop) × (anchor_at s (8 * (bit / 8)) ≡ bit / 8)
 Stands held (Leave end) s = Unit {0}
 
 -- the window shows the data at this state: it agrees with them, has the size of the limit, and holds the bytes that are needed
@@ -62,18 +66,37 @@ from_here input table focus k s = ahead input table (record { focus = focus; sta
 abbrev pub Does : Input → Table → Outcome → Move → Type 0
 Does input table o move = o ≡ spend move.tally (ahead input table move.machine)
 
-pub program-from : (low : ℕ) (primitive : Primitive) (bit : ℕ) → low ≤ bit / 8 → AsksFrom low (program primitive bit)
-program-from low primitive bit base = look_at-from (bytes_spanned bit (bits_of primitive)) low (bit / 8) (Fails DataEnds) (find_in primitive (bit % 8)) base
-
 found : (reached : Reached Find) → is_missing reached ≡ false → reached ≡ Missing → ⊥
 found (Told f) is missing = absurd (cc)
 found TooFar is missing = absurd (cc)
 found Missing is missing = absurd (cc)
 
+-- what a reading makes of the state costs nothing more
+hold-nothing : (room : Bool) (s t : State) (most : ℕ) → (cond room (ended Done s) (ended (Stopped TextLimit most) t)).tally ≡ nothing
+hold-nothing true s t most = refl
+hold-nothing false s t most = refl
+
+land-nothing : (limits : Limits) (first : ℕ) (reached : Reached Find) (s : State) → (land limits first reached s).tally ≡ nothing
+land-nothing limits first (Told (Fails cause)) s = refl
+land-nothing limits first (Told (Finds content bits)) s = refl
+land-nothing limits first (Told (FindsOctets bytes bits)) s = hold-nothing (nat_le (length s.text + length bytes) limits.text) _ s limits.text
+land-nothing limits first (Told (FindsText bytes end)) s = hold-nothing (nat_le (length s.text + length bytes) limits.text) _ s limits.text
+land-nothing limits first TooFar s = refl
+land-nothing limits first Missing s = refl
+
+-- what was spent in a box was spent before what follows it
+unboxed-spend : (end : End) (t : Tally) (outer : ℕ) (o : Outcome) → unboxed end outer (spend t o) ≡ spend t (unboxed end outer o)
+unboxed-spend Done t outer o = refl
+unboxed-spend (Failed cause bit) t outer o = refl
+unboxed-spend (Stopped cause quantity) t outer o = refl
+
 module _ (input : Input) (table : Table) where
   resume-spend : (frame : Frame) (t : Tally) (o : Outcome) → resume input table frame (spend t o) ≡ spend t (resume input table frame o)
   resume-spend (Rest id next) t o = follow-spend o.end t o (group (below input table id) (drop next (children_of (slice_get table.rows id))))
   resume-spend (Element outer complex) t o = close-spend o.end t outer complex o
+  resume-spend (Box outer) t o =
+      ap (λ (p : Outcome). unboxed p.end outer p) (follow-spend o.end t o (rest input))
+      ∙ unboxed-spend (then_do o (rest input)).end t outer (then_do o (rest input))
 
   pub finish-spend : (k : List Frame) (t : Tally) (o : Outcome) → finish input table k (spend t o) ≡ spend t (finish input table k o)
   unfolding finish
@@ -84,35 +107,50 @@ module _ (input : Input) (table : Table) where
   after_nothing : (k : List Frame) (o : Outcome) → finish input table k o ≡ spend nothing (finish input table k o)
   after_nothing k o = sym (spend-nothing (finish input table k o))
 
-  land-ahead : (id : ℕ) (reached : Reached Find) (k : List Frame) (s : State) → is_missing reached ≡ false
-      → finish input table k (land input.limits.window reached s) ≡ ahead input table (landed input.limits.window id reached k s)
-  land-ahead id (Told (Fails cause)) k s is = refl
-  land-ahead id (Told (Finds content bits)) k s is = refl
-  land-ahead id TooFar k s is = refl
-  land-ahead id Missing k s is = absurd (cc)
+  land-ahead : (first id : ℕ) (reached : Reached Find) (k : List Frame) (s : State) → is_missing reached ≡ false
+      → finish input table k (land input.limits first reached s) ≡ ahead input table (landed input.limits first id reached k s)
+  land-ahead first id (Told found) k s is =
+      let o : Outcome = land input.limits first (Told found) s in
+      ap (λ (t : Tally). finish input table k (record { end = o.end; state = o.state; tally = t })) (land-nothing input.limits first (Told found) s)
+  land-ahead first id TooFar k s is = refl
+  land-ahead first id Missing k s is = absurd (cc)
 
   -- the reading of a leaf over the data is its reading over the window
   leaf-reads : (held : Held) (id : ℕ) (primitive : Primitive) (s : State) → Fits held input (Enter id) s
-      → ((ask (seen_at (from_byte held (anchor s))) (program primitive s.at) nothing).reached ≡ Missing → ⊥)
-      → ask (seen_at (from_byte held (anchor s))) (program primitive s.at) nothing
-      ≡ ask (seen_in input.bytes input.limits.window (anchor s)) (program primitive s.at) nothing
+      → ((ask (seen_at (from_byte held (anchor s))) (program primitive s.at s.stop) nothing).reached ≡ Missing → ⊥)
+      → ask (seen_at (from_byte held (anchor s))) (program primitive s.at s.stop) nothing
+      ≡ ask (seen_in input.bytes input.limits.window (anchor s)) (program primitive s.at s.stop) nothing
   leaf-reads held id primitive s fits here =
       asked (from_byte held (anchor s)) input.bytes (agrees_from held input.bytes (anchor s) fits.stands.base fits.stands.end fits.agrees)
-      (program primitive s.at) (program-from (anchor s) primitive s.at fits.stands.low) nothing here
-      ∙ ap (λ (size : ℕ). ask (seen_in input.bytes size (anchor s)) (program primitive s.at) nothing) fits.size
+      (program primitive s.at s.stop) (program-from (anchor s) primitive s.at s.stop fits.stands.low) nothing here
+      ∙ ap (λ (size : ℕ). ask (seen_in input.bytes size (anchor s)) (program primitive s.at s.stop) nothing) fits.size
 
-  leaf-ahead : (held : Held) (id : ℕ) (primitive : Option Primitive) (k : List Frame) (s : State) → Fits held input (Enter id) s
-      → (read_leaf held id primitive k s).waits ≡ false
-      → Does input table (finish input table k (spend one_row (leaf input primitive s))) (read_leaf held id primitive k s)
-  leaf-ahead held id None k s fits going = finish-spend k one_row (ended Done s)
-  leaf-ahead held id (Some primitive) k s fits going =
-      let here : Reading Find = ask (seen_at (from_byte held (anchor s))) (program primitive s.at) nothing in
+  -- a leaf that has room, and one that hasn't
+  leaf-ahead : (held : Held) (id : ℕ) (primitive : Primitive) (k : List Frame) (s : State) → Fits held input (Enter id) s → (room : Bool)
+      → let sight : Held = from_byte held (anchor s) in
+      let move : Move = cond room
+      (read_move input.limits (content_begins primitive s.at) sight id (ask (seen_at sight) (program primitive s.at s.stop) nothing) k s)
+      (pass one_row held (Leave (Failed LengthOutOfRange s.at)) k s) in
+      let whole : Reading Find = ask (seen_in input.bytes input.limits.window (anchor s)) (program primitive s.at s.stop) nothing in
+      move.waits ≡ false
+      → Does input table (finish input table k (spend one_row (cond room
+      (spend whole.tally (land input.limits (content_begins primitive s.at) whole.reached s))
+      (ended (Failed LengthOutOfRange s.at) s)))) move
+  leaf-ahead held id primitive k s fits true going =
+      let here : Reading Find = ask (seen_at (from_byte held (anchor s))) (program primitive s.at s.stop) nothing in
       let same = leaf-reads held id primitive s fits (found here.reached going) in
-      ap (λ (r : Reading Find). finish input table k (spend one_row (spend r.tally (land input.limits.window r.reached s)))) (sym same)
-      ∙ ap (finish input table k) (spend-spend one_row here.tally (land input.limits.window here.reached s))
-      ∙ finish-spend k (plus one_row here.tally) (land input.limits.window here.reached s)
-      ∙ ap (spend (plus one_row here.tally)) (land-ahead id here.reached k s going
-      ∙ ap (λ (size : ℕ). ahead input table (landed size id here.reached k s)) (sym fits.size))
+      let first : ℕ = content_begins primitive s.at in
+      ap (λ (r : Reading Find). finish input table k (spend one_row (spend r.tally (land input.limits first r.reached s)))) (sym same)
+      ∙ ap (finish input table k) (spend-spend one_row here.tally (land input.limits first here.reached s))
+      ∙ finish-spend k (plus one_row here.tally) (land input.limits first here.reached s)
+      ∙ ap (spend (plus one_row here.tally)) (land-ahead first id here.reached k s going)
+  leaf-ahead held id primitive k s fits false going = finish-spend k one_row (ended (Failed LengthOutOfRange s.at) s)
+
+  leaf-of : (held : Held) (id : ℕ) (primitive : Option Primitive) (k : List Frame) (s : State) → Fits held input (Enter id) s
+      → (read_leaf input.limits held id primitive k s).waits ≡ false
+      → Does input table (finish input table k (spend one_row (leaf input primitive s))) (read_leaf input.limits held id primitive k s)
+  leaf-of held id None k s fits going = finish-spend k one_row (ended Done s)
+  leaf-of held id (Some primitive) k s fits going = leaf-ahead held id primitive k s fits (has_room primitive s.at s.stop) going
 
   element-ahead : (most : ℕ) (held : Held) (id : ℕ) (complex : Bool) (body : ℕ) (k : List Frame) (s : State) → body < id → (room : Bool)
       → Does input table
@@ -129,11 +167,30 @@ module _ (input : Input) (table : Table) where
   element-ahead most held id complex body k s less false = finish-spend k one_row (ended (Stopped Nodes most) s)
 
   -- fill begins
-  enter-fill : (held : Held) (to : ℕ) (k : List Frame) (s : State) → (over : Bool)
-      → Does input table (finish input table k (spend one_row (cond over (ended Done s) (fill_to input to s))))
-      (cond over (pass one_row held (Leave Done) k s) (pass one_row held (Pass to) k s))
-  enter-fill held to k s true = finish-spend k one_row (ended Done s)
-  enter-fill held to k s false = finish-spend k one_row (fill_to input to s)
+  enter-fill : (held : Held) (to : ℕ) (k : List Frame) (s : State) → (over inside : Bool)
+      → Does input table
+      (finish input table k (spend one_row (cond over (ended Done s) (cond inside (fill_to input to s) (ended (Failed LengthOutOfRange s.at) s)))))
+      (cond over (pass one_row held (Leave Done) k s)
+      (cond inside (pass one_row held (Pass to) k s) (pass one_row held (Leave (Failed LengthOutOfRange s.at)) k s)))
+  enter-fill held to k s true inside = finish-spend k one_row (ended Done s)
+  enter-fill held to k s false true = finish-spend k one_row (fill_to input to s)
+  enter-fill held to k s false false = finish-spend k one_row (ended (Failed LengthOutOfRange s.at) s)
+
+  -- a box begins
+  enter-box : (held : Held) (id bits body : ℕ) (k : List Frame) (s : State) → body < id → (inside : Bool)
+      → Does input table
+      (finish input table k (spend one_row (cond inside
+      (let o : Outcome = then_do (below input table id body (record s { stop = s.at + bits })) (rest input) in unboxed o.end s.stop o)
+      (ended (Failed LengthOutOfRange s.at) s))))
+      (cond inside
+      (pass one_row held (Enter body) (Box s.stop ∷ k) (record s { stop = s.at + bits }))
+      (pass one_row held (Leave (Failed LengthOutOfRange s.at)) k s))
+  unfolding finish
+  enter-box held id bits body k s less true =
+      finish-spend k one_row _
+      ∙ ap (λ (o : Outcome). spend one_row (finish input table k (unboxed (then_do o (rest input)).end s.stop (then_do o (rest input)))))
+      (below-meaning input table id body (record s { stop = s.at + bits }) less)
+  enter-box held id bits body k s less false = finish-spend k one_row (ended (Failed LengthOutOfRange s.at) s)
 
   -- the outcome of fill whose last byte is seen as this
   abbrev pub filled : ℕ → Seen → State → Outcome
@@ -155,21 +212,96 @@ module _ (input : Input) (table : Table) where
   came window sight to NotYet k s going is = absurd (cc)
   came window sight to Over k s going is = absurd (cc)
 
-  fill-ahead : (held : Held) (to : ℕ) (k : List Frame) (s : State) → Fits held input (Pass to) s → (fill held to k s).waits ≡ false
-      → Does input table (finish input table k (fill_to input to s)) (fill held to k s)
+  fill-ahead : (held : Held) (to : ℕ) (k : List Frame) (s : State) → Fits held input (Pass to) s → (fill input.limits held to k s).waits ≡ false
+      → Does input table (finish input table k (fill_to input to s)) (fill input.limits held to k s)
   fill-ahead held to k s fits going =
       let last : ℕ = (to - 1) / 8 in
       let sight : Held = from_byte held (min last (end_of held)) in
       let seen : Seen = seen_beyond held last in
       let same : seen ≡ seen_in input.bytes input.limits.window (anchor_at s (to - 1)) last =
-      beyond-same held last fits.stands.0 input.bytes fits.agrees (came held.size sight to seen k s going)
+      beyond-same held last fits.stands.0 input.bytes fits.agrees (came input.limits.window sight to seen k s going)
       ∙ ap (λ (size : ℕ). seen_in input.bytes size last last) fits.size
       ∙ ap (λ (low : ℕ). seen_in input.bytes input.limits.window low last) (sym fits.stands.1) in
-      let on : (fill_move input.limits.window sight to seen k s).waits ≡ false =
-      ap (λ (size : ℕ). (fill_move size sight to seen k s).waits) (sym fits.size) ∙ going in
       ap (λ (v : Seen). finish input table k (filled to v s)) (sym same)
-      ∙ filled-ahead sight to seen k s on
-      ∙ ap (λ (size : ℕ). spend (fill_move size sight to seen k s).tally (ahead input table (fill_move size sight to seen k s).machine)) (sym fits.size)
+      ∙ filled-ahead sight to seen k s going
+
+  -- what follows a byte of the rest of a box
+  abbrev pub after_one : ℕ → ℕ → State → Outcome
+  after_one byte outer s = let o : Outcome = pass_bytes input (bytes_up_to s.stop (byte + 1)) (byte + 1) s in unboxed o.end outer o
+
+  past-ahead : (sight : Held) (byte outer : ℕ) (k : List Frame) (s : State) (last : Bool) → nat_le ((s.stop - 1) / 8) byte ≡ last
+      → Does input table (finish input table k (spend (saw_byte byte nothing) (after_one byte outer s)))
+      (cond last (pass (saw_byte byte nothing) sight (Leave Done) k (record s { at = s.stop; stop = outer }))
+      (pass (saw_byte byte nothing) sight (PassRest (8 * (byte + 1)) outer) k s))
+  past-ahead sight byte outer k s true is =
+      let none : bytes_up_to s.stop (byte + 1) ≡ 0 = grind (arith, nat_tests) in
+      finish-spend k (saw_byte byte nothing) (after_one byte outer s)
+      ∙ ap (λ (n : ℕ). spend (saw_byte byte nothing) (finish input table k
+      (unboxed (pass_bytes input n (byte + 1) s).end outer (pass_bytes input n (byte + 1) s)))) none
+  past-ahead sight byte outer k s false is =
+      let at : byte + 1 ≡ 8 * (byte + 1) / 8 = omega arith in
+      finish-spend k (saw_byte byte nothing) (after_one byte outer s)
+      ∙ ap (λ (b : ℕ). spend (saw_byte byte nothing) (finish input table k
+      (unboxed (pass_bytes input (bytes_up_to s.stop b) b s).end outer (pass_bytes input (bytes_up_to s.stop b) b s)))) at
+
+  -- the outcome of the rest of a box from a byte on that is seen as this
+  abbrev pub rested : ℕ → ℕ → Seen → State → Outcome
+  rested byte outer v s =
+      let reading : Reading Bool = on_seen (seen_in input.bytes input.limits.window (anchor_at s (8 * byte))) (λ b. Answer (is_some b)) byte nothing v in
+      let o : Outcome = spend reading.tally (past_byte input.limits.window reading.reached (pass_bytes input (bytes_up_to s.stop (byte + 1)) (byte + 1)) s) in
+      unboxed o.end outer o
+
+  rested-ahead : (sight : Held) (bit outer : ℕ) (v : Seen) (k : List Frame) (s : State)
+      → (rest_move input.limits.window sight bit outer v k s).waits ≡ false
+      → Does input table (finish input table k (rested (bit / 8) outer v s)) (rest_move input.limits.window sight bit outer v k s)
+  rested-ahead sight bit outer (Byte b) k s going =
+      let byte : ℕ = bit / 8 in
+      let o : Outcome = pass_bytes input (bytes_up_to s.stop (byte + 1)) (byte + 1) s in
+      ap (finish input table k) (unboxed-spend o.end (saw_byte byte nothing) outer o)
+      ∙ past-ahead sight byte outer k s (nat_le ((s.stop - 1) / 8) byte) refl
+  rested-ahead sight bit outer DataEnded k s going = finish-spend k (saw_end (bit / 8) nothing) (ended (Failed DataEnds s.at) s)
+  rested-ahead sight bit outer NotYet k s going = absurd (cc)
+  rested-ahead sight bit outer Over k s going = finish-spend k (saw_none nothing) (ended (Stopped Window input.limits.window) s)
+
+  -- a look at the rest that isn't in vain
+  rest-came : (window : ℕ) (sight : Held) (bit outer : ℕ) (v : Seen) (k : List Frame) (s : State)
+      → (rest_move window sight bit outer v k s).waits ≡ false → v ≡ NotYet → ⊥
+  rest-came window sight bit outer (Byte b) k s going is = absurd (cc)
+  rest-came window sight bit outer DataEnded k s going is = absurd (cc)
+  rest-came window sight bit outer NotYet k s going is = absurd (cc)
+  rest-came window sight bit outer Over k s going is = absurd (cc)
+
+  -- the rest of a box has a byte
+  pub rest-seen : (bit outer : ℕ) (k : List Frame) (s : State) → bit < s.stop
+      → from_here input table (PassRest bit outer) k s
+      ≡ finish input table k (rested (bit / 8) outer (seen_in input.bytes input.limits.window (anchor_at s (8 * (bit / 8))) (bit / 8)) s)
+  rest-seen bit outer k s inside =
+      let byte : ℕ = bit / 8 in
+      let some : bytes_up_to s.stop byte ≡ suc (bytes_up_to s.stop (byte + 1)) = omega arith in
+      ap (λ (n : ℕ). finish input table k (unboxed (pass_bytes input n byte s).end outer (pass_bytes input n byte s))) some
+
+  rest-of : (held : Held) (bit outer : ℕ) (k : List Frame) (s : State) → Fits held input (PassRest bit outer) s
+      → (pass_rest input.limits held bit outer k s).waits ≡ false
+      → Does input table (from_here input table (PassRest bit outer) k s) (pass_rest input.limits held bit outer k s)
+  rest-of held bit outer k s fits going =
+      let byte : ℕ = bit / 8 in
+      let sight : Held = from_byte held (min byte (end_of held)) in
+      let seen : Seen = seen_beyond held byte in
+      let same : seen ≡ seen_in input.bytes input.limits.window (anchor_at s (8 * byte)) byte =
+      beyond-same held byte fits.stands.0 input.bytes fits.agrees (rest-came input.limits.window sight bit outer seen k s going)
+      ∙ ap (λ (size : ℕ). seen_in input.bytes size byte byte) fits.size
+      ∙ ap (λ (low : ℕ). seen_in input.bytes input.limits.window low byte) (sym fits.stands.2) in
+      rest-seen bit outer k s fits.stands.1
+      ∙ ap (λ (v : Seen). finish input table k (rested byte outer v s)) (sym same)
+      ∙ rested-ahead sight bit outer seen k s going
+
+  -- a box ends, or its rest begins
+  leave-box : (held : Held) (outer : ℕ) (k : List Frame) (s : State) (over : Bool) → nat_le s.stop s.at ≡ over
+      → Does input table
+      (finish input table k (let o : Outcome = cond over (ended Done s) (pass_bytes input (bytes_up_to s.stop (s.at / 8)) (s.at / 8) s) in unboxed o.end outer o))
+      (cond over (pass nothing held (Leave Done) k (record s { stop = outer })) (pass nothing held (PassRest s.at outer) k s))
+  leave-box held outer k s true is = after_nothing k (ended Done (record s { stop = outer }))
+  leave-box held outer k s false is = after_nothing k (focused input table (PassRest s.at outer) s)
 
   group-ahead : (held : Held) (id : ℕ) (children : List ℕ) (k : List Frame) (s : State) → slice_get table.rows id ≡ Some (Group children)
       → All (λ c. c < id) children
@@ -183,17 +315,21 @@ module _ (input : Input) (table : Table) where
       (sym (ap (λ (r : Option Row). drop 1 (children_of r)) is))
 
   enter-ahead : Nests table.rows → (held : Held) (id : ℕ) (r : Option Row) (k : List Frame) (s : State) → slice_get table.rows id ≡ r → Fits held input (Enter id) s
-      → (enter input.limits.nodes table held id r k s).waits ≡ false
-      → Does input table (finish input table k (spend one_row (row input table (below input table id) id r s))) (enter input.limits.nodes table held id r k s)
+      → (enter input.limits table held id r k s).waits ≡ false
+      → Does input table (finish input table k (spend one_row (row input table (below input table id) id r s))) (enter input.limits table held id r k s)
   enter-ahead nests held id None k s is fits going = finish-spend k one_row (ended Done s)
-  enter-ahead nests held id (Some (Leaf prim)) k s is fits going = leaf-ahead held id (slice_get table.primitives prim) k s fits going
+  enter-ahead nests held id (Some (Leaf prim)) k s is fits going = leaf-of held id (slice_get table.primitives prim) k s fits going
   enter-ahead nests held id (Some (Elem name simple body)) k s is fits going =
       let less : body < id = nests id (Elem name simple body) (slice_get_within table.rows id (Elem name simple body) is) is in
       element-ahead input.limits.nodes held id (has_elements simple) body k s less (nat_lt (length s.nodes) input.limits.nodes)
   enter-ahead nests held id (Some (Group children)) k s is fits going =
       group-ahead held id children k s is (nests id (Group children) (slice_get_within table.rows id (Group children) is) is)
-  enter-ahead nests held id (Some (Skip bits)) k s is fits going = enter-fill held (s.at + bits) k s (nat_le (s.at + bits) s.at)
-  enter-ahead nests held id (Some (Align bits)) k s is fits going = enter-fill held (aligned bits s.at) k s (nat_le (aligned bits s.at) s.at)
+  enter-ahead nests held id (Some (Skip bits)) k s is fits going = enter-fill held (s.at + bits) k s (nat_le (s.at + bits) s.at) (nat_le (s.at + bits) s.stop)
+  enter-ahead nests held id (Some (Align bits)) k s is fits going =
+      enter-fill held (aligned bits s.at) k s (nat_le (aligned bits s.at) s.at) (nat_le (aligned bits s.at) s.stop)
+  enter-ahead nests held id (Some (Boxed bits body)) k s is fits going =
+      let less : body < id = nests id (Boxed bits body) (slice_get_within table.rows id (Boxed bits body) is) is in
+      enter-box held id bits body k s less (nat_le (s.at + bits) s.stop)
 
   -- the children of a row stand below it
   children-below : Nests table.rows → (id : ℕ) (r : Option Row) → slice_get table.rows id ≡ r → All (λ c. c < id) (children_of r)
@@ -203,6 +339,7 @@ module _ (input : Input) (table : Table) where
   children-below nests id (Some (Group children)) is = nests id (Group children) (slice_get_within table.rows id (Group children) is) is
   children-below nests id (Some (Skip bits)) is = λ i row less. absurd (omega arith)
   children-below nests id (Some (Align bits)) is = λ i row less. absurd (omega arith)
+  children-below nests id (Some (Boxed bits body)) is = λ i row less. absurd (omega arith)
 
   rest-ahead : Nests table.rows → (held : Held) (id next : ℕ) (child : Option ℕ) (k : List Frame) (s : State)
       → slice_get (children_of (slice_get table.rows id)) next ≡ child
@@ -229,12 +366,18 @@ module _ (input : Input) (table : Table) where
   leave-ahead nests held (Element outer complex) Done k s = after_nothing k (ended Done (left outer complex s))
   leave-ahead nests held (Element outer complex) (Failed cause bit) k s = after_nothing k (ended (Failed cause bit) s)
   leave-ahead nests held (Element outer complex) (Stopped cause quantity) k s = after_nothing k (ended (Stopped cause quantity) s)
+  leave-ahead nests held (Box outer) Done k s =
+      ap (λ (o : Outcome). finish input table k (unboxed o.end outer o)) (spend-nothing (rest input s))
+      ∙ leave-box held outer k s (nat_le s.stop s.at) refl
+  leave-ahead nests held (Box outer) (Failed cause bit) k s = after_nothing k (ended (Failed cause bit) s)
+  leave-ahead nests held (Box outer) (Stopped cause quantity) k s = after_nothing k (ended (Stopped cause quantity) s)
 
   pub step-ahead : Nests table.rows → (held : Held) (focus : Focus) (k : List Frame) (s : State) → Fits held input focus s
-      → (step input.limits.nodes table held focus k s).waits ≡ false
-      → Does input table (from_here input table focus k s) (step input.limits.nodes table held focus k s)
+      → (step input.limits table held focus k s).waits ≡ false
+      → Does input table (from_here input table focus k s) (step input.limits table held focus k s)
   unfolding meaning
   step-ahead nests held (Enter id) k s fits going = enter-ahead nests held id (slice_get table.rows id) k s refl fits going
   step-ahead nests held (Pass to) k s fits going = fill-ahead held to k s fits going
+  step-ahead nests held (PassRest bit outer) k s fits going = rest-of held bit outer k s fits going
   step-ahead nests held (Leave end) [] s fits going = after_nothing [] (ended end s)
   step-ahead nests held (Leave end) (frame ∷ k) s fits going = leave-ahead nests held frame end k s

@@ -5,24 +5,26 @@ use Rattle.dfdl_bits.specs.Window.{Held, end_of, from_byte, seen_at}
 use Rattle.dfdl_bits.specs.declared.window.Seen.{Seen}
 use Rattle.dfdl_bits.specs.declared.window.Seen.TheVariants.{Byte, End as DataEnded, NotYet, Over}
 use Rattle.dfdl_report.specs.declared.cause.LimitCause.TheVariants.{Nodes}
+use Rattle.dfdl_report.specs.declared.cause.ParseCause.TheVariants.{LengthOutOfRange}
 use Rattle.dfdl_terms.specs.declared.row.Primitive.{Primitive}
 use Rattle.dfdl_terms.specs.declared.row.Row.{Row}
-use Rattle.dfdl_terms.specs.declared.row.Row.TheVariants.{Leaf, Elem, Group, Skip, Align}
+use Rattle.dfdl_terms.specs.declared.row.Row.TheVariants.{Leaf, Elem, Group, Skip, Align, Boxed}
 use Rattle.dfdl_terms.specs.Rows.{Table, Nests}
 use Rattle.dfdl_looks.specs.Asks.{Reached, Told, TooFar, Missing, Reading, ask}
-use Rattle.dfdl_looks.specs.Tallies.{nothing, one_row}
+use Rattle.dfdl_looks.specs.Tallies.{nothing, one_row, saw_byte}
 use Rattle.dfdl_grammar.specs.declared.end.End.{End}
 use Rattle.dfdl_grammar.specs.declared.end.End.TheVariants.{Done, Failed, Stopped}
+use Rattle.dfdl_grammar.specs.declared.limits.Limits.{Limits}
 use Rattle.dfdl_grammar.specs.States.{Input, State, anchor}
 use Rattle.dfdl_grammar.specs.Outcomes.{Outcome}
-use Rattle.dfdl_grammar.specs.Leaves.{Find, Fails, Finds, program}
+use Rattle.dfdl_grammar.specs.Leaves.{Find, content_begins, has_room, program}
 use Rattle.dfdl_grammar.specs.Framing.{aligned}
 use Rattle.dfdl_grammar.specs.Elements.{begun, has_elements}
 use Rattle.dfdl_parse.specs.declared.frame.Frame.{Frame}
-use Rattle.dfdl_parse.specs.declared.frame.Frame.TheVariants.{Rest, Element}
+use Rattle.dfdl_parse.specs.declared.frame.Frame.TheVariants.{Rest, Element, Box}
 use Rattle.dfdl_parse.specs.declared.frame.Focus.{Focus}
-use Rattle.dfdl_parse.specs.declared.frame.Focus.TheVariants.{Enter, Pass, Leave}
-use Rattle.dfdl_parse.specs.Machines.{HasEnded, Machine, Move, children_of, enter, enter_group, fill_move, go_on, is_missing, landed, leave, pass, read_leaf, seen_beyond, step}
+use Rattle.dfdl_parse.specs.declared.frame.Focus.TheVariants.{Enter, Pass, PassRest, Leave}
+use Rattle.dfdl_parse.specs.Machines.{HasEnded, Machine, Move, children_of, enter, enter_group, fill_move, go_on, is_missing, landed, leave, pass, read_leaf, read_move, rest_move, seen_beyond, step}
 use Rattle.dfdl_parse.specs.Ahead.{ahead}
 use Rattle.dfdl_parse.proofs.Ahead.{Fits, step-ahead}
 
@@ -30,29 +32,39 @@ use Rattle.dfdl_parse.proofs.Ahead.{Fits, step-ahead}
 abbrev pub mode : Focus → ℕ
 mode (Enter id) = 0
 mode (Pass to) = 2
+mode (PassRest bit outer) = 2
 mode (Leave end) = 1
 
 -- what is left to be done over some data
 abbrev pub measure : Input → Table → Machine → ℕ
-measure input table m = 4 * (ahead input table m).tally.rows + (2 * length m.stack + mode m.focus)
+measure input table m = 4 * ((ahead input table m).tally.rows + (ahead input table m).tally.looks) + (2 * length m.stack + mode m.focus)
 
--- a step falls by its rows and the stack
+-- a step falls by its rows, its looks and the stack
 abbrev Falls : Focus → List Frame → Move → Type 0
-Falls focus k move = 2 * length move.machine.stack + mode move.machine.focus < 4 * move.tally.rows + (2 * length k + mode focus)
+Falls focus k move = 2 * length move.machine.stack + mode move.machine.focus < 4 * (move.tally.rows + move.tally.looks) + (2 * length k + mode focus)
 
-landed-falls : (window id rows : ℕ) (reached : Reached Find) (k : List Frame) (s : State) → is_missing reached ≡ false
-    → 2 * length (landed window id reached k s).stack + mode (landed window id reached k s).focus < 4 * (1 + rows) + (2 * length k + 0)
-landed-falls window id rows (Told (Fails cause)) k s going = omega arith
-landed-falls window id rows (Told (Finds content bits)) k s going = omega arith
-landed-falls window id rows TooFar k s going = omega arith
-landed-falls window id rows Missing k s going = absurd (cc)
+landed-falls : (limits : Limits) (first id rows looks : ℕ) (reached : Reached Find) (k : List Frame) (s : State) → is_missing reached ≡ false
+    → 2 * length (landed limits first id reached k s).stack + mode (landed limits first id reached k s).focus < 4 * (1 + rows + looks) + (2 * length k + 0)
+landed-falls limits first id rows looks (Told found) k s going = omega arith
+landed-falls limits first id rows looks TooFar k s going = omega arith
+landed-falls limits first id rows looks Missing k s going = absurd (cc)
 
-leaf-falls : (held : Held) (id : ℕ) (primitive : Option Primitive) (k : List Frame) (s : State)
-    → (read_leaf held id primitive k s).waits ≡ false → Falls (Enter id) k (read_leaf held id primitive k s)
-leaf-falls held id None k s going = omega arith
-leaf-falls held id (Some primitive) k s going =
-    let here : Reading Find = ask (seen_at (from_byte held (anchor s))) (program primitive s.at) nothing in
-    landed-falls held.size id here.tally.rows here.reached k s going
+read-falls : (limits : Limits) (held : Held) (id : ℕ) (primitive : Primitive) (k : List Frame) (s : State) (room : Bool)
+    → let sight : Held = from_byte held (anchor s) in
+    let move : Move = cond room
+    (read_move limits (content_begins primitive s.at) sight id (ask (seen_at sight) (program primitive s.at s.stop) nothing) k s)
+    (pass one_row held (Leave (Failed LengthOutOfRange s.at)) k s) in
+    move.waits ≡ false → Falls (Enter id) k move
+read-falls limits held id primitive k s true going =
+    let here : Reading Find = ask (seen_at (from_byte held (anchor s))) (program primitive s.at s.stop) nothing in
+    let falls = landed-falls limits (content_begins primitive s.at) id here.tally.rows here.tally.looks here.reached k s going in
+    omega arith
+read-falls limits held id primitive k s false going = omega arith
+
+leaf-falls : (limits : Limits) (held : Held) (id : ℕ) (primitive : Option Primitive) (k : List Frame) (s : State)
+    → (read_leaf limits held id primitive k s).waits ≡ false → Falls (Enter id) k (read_leaf limits held id primitive k s)
+leaf-falls limits held id None k s going = omega arith
+leaf-falls limits held id (Some primitive) k s going = read-falls limits held id primitive k s (has_room primitive s.at s.stop) going
 
 element-falls : (most : ℕ) (held : Held) (id : ℕ) (complex : Bool) (body : ℕ) (k : List Frame) (s : State) (room : Bool)
     → Falls (Enter id) k (cond room
@@ -65,10 +77,38 @@ group-falls : (held : Held) (id : ℕ) (children : List ℕ) (k : List Frame) (s
 group-falls held id [] k s = omega arith
 group-falls held id (child ∷ rest) k s = omega arith
 
-begin-falls : (held : Held) (id to : ℕ) (k : List Frame) (s : State) (over : Bool)
-    → Falls (Enter id) k (cond over (pass one_row held (Leave Done) k s) (pass one_row held (Pass to) k s))
-begin-falls held id to k s true = omega arith
-begin-falls held id to k s false = omega arith
+begin-falls : (held : Held) (id to : ℕ) (k : List Frame) (s : State) (over inside : Bool)
+    → Falls (Enter id) k (cond over (pass one_row held (Leave Done) k s)
+    (cond inside (pass one_row held (Pass to) k s) (pass one_row held (Leave (Failed LengthOutOfRange s.at)) k s)))
+begin-falls held id to k s true inside = omega arith
+begin-falls held id to k s false true = omega arith
+begin-falls held id to k s false false = omega arith
+
+box-falls : (held : Held) (id bits body : ℕ) (k : List Frame) (s : State) (inside : Bool)
+    → Falls (Enter id) k (cond inside
+    (pass one_row held (Enter body) (Box s.stop ∷ k) (record s { stop = s.at + bits }))
+    (pass one_row held (Leave (Failed LengthOutOfRange s.at)) k s))
+box-falls held id bits body k s true = omega arith
+box-falls held id bits body k s false = omega arith
+
+leave-box-falls : (held : Held) (outer : ℕ) (k : List Frame) (s : State) (over : Bool)
+    → Falls (Leave Done) (Box outer ∷ k)
+    (cond over (pass nothing held (Leave Done) k (record s { stop = outer })) (pass nothing held (PassRest s.at outer) k s))
+leave-box-falls held outer k s true = omega arith
+leave-box-falls held outer k s false = omega arith
+
+past-falls : (sight : Held) (bit byte outer : ℕ) (k : List Frame) (s : State) (last : Bool)
+    → Falls (PassRest bit outer) k (cond last (pass (saw_byte byte nothing) sight (Leave Done) k (record s { at = s.stop; stop = outer }))
+    (pass (saw_byte byte nothing) sight (PassRest (8 * (byte + 1)) outer) k s))
+past-falls sight bit byte outer k s true = omega arith
+past-falls sight bit byte outer k s false = omega arith
+
+rested-falls : (window : ℕ) (sight : Held) (bit outer : ℕ) (v : Seen) (k : List Frame) (s : State)
+    → (rest_move window sight bit outer v k s).waits ≡ false → Falls (PassRest bit outer) k (rest_move window sight bit outer v k s)
+rested-falls window sight bit outer (Byte b) k s going = past-falls sight bit (bit / 8) outer k s (nat_le ((s.stop - 1) / 8) (bit / 8))
+rested-falls window sight bit outer DataEnded k s going = omega arith
+rested-falls window sight bit outer NotYet k s going = absurd (cc)
+rested-falls window sight bit outer Over k s going = omega arith
 
 filled-falls : (window : ℕ) (sight : Held) (to : ℕ) (v : Seen) (k : List Frame) (s : State) → (fill_move window sight to v k s).waits ≡ false
     → Falls (Pass to) k (fill_move window sight to v k s)
@@ -77,15 +117,18 @@ filled-falls window sight to DataEnded k s going = omega arith
 filled-falls window sight to NotYet k s going = absurd (cc)
 filled-falls window sight to Over k s going = omega arith
 
-enter-falls : (most : ℕ) (table : Table) (held : Held) (id : ℕ) (r : Option Row) (k : List Frame) (s : State)
-    → (enter most table held id r k s).waits ≡ false → Falls (Enter id) k (enter most table held id r k s)
-enter-falls most table held id None k s going = omega arith
-enter-falls most table held id (Some (Leaf prim)) k s going = leaf-falls held id (slice_get table.primitives prim) k s going
-enter-falls most table held id (Some (Elem name simple body)) k s going =
-    element-falls most held id (has_elements simple) body k s (nat_lt (length s.nodes) most)
-enter-falls most table held id (Some (Group children)) k s going = group-falls held id children k s
-enter-falls most table held id (Some (Skip bits)) k s going = begin-falls held id (s.at + bits) k s (nat_le (s.at + bits) s.at)
-enter-falls most table held id (Some (Align bits)) k s going = begin-falls held id (aligned bits s.at) k s (nat_le (aligned bits s.at) s.at)
+enter-falls : (limits : Limits) (table : Table) (held : Held) (id : ℕ) (r : Option Row) (k : List Frame) (s : State)
+    → (enter limits table held id r k s).waits ≡ false → Falls (Enter id) k (enter limits table held id r k s)
+enter-falls limits table held id None k s going = omega arith
+enter-falls limits table held id (Some (Leaf prim)) k s going = leaf-falls limits held id (slice_get table.primitives prim) k s going
+enter-falls limits table held id (Some (Elem name simple body)) k s going =
+    element-falls limits.nodes held id (has_elements simple) body k s (nat_lt (length s.nodes) limits.nodes)
+enter-falls limits table held id (Some (Group children)) k s going = group-falls held id children k s
+enter-falls limits table held id (Some (Skip bits)) k s going =
+    begin-falls held id (s.at + bits) k s (nat_le (s.at + bits) s.at) (nat_le (s.at + bits) s.stop)
+enter-falls limits table held id (Some (Align bits)) k s going =
+    begin-falls held id (aligned bits s.at) k s (nat_le (aligned bits s.at) s.at) (nat_le (aligned bits s.at) s.stop)
+enter-falls limits table held id (Some (Boxed bits body)) k s going = box-falls held id bits body k s (nat_le (s.at + bits) s.stop)
 
 go-falls : (held : Held) (id next : ℕ) (child : Option ℕ) (k : List Frame) (s : State) → Falls (Leave Done) (Rest id next ∷ k) (go_on held id next child k s)
 go-falls held id next None k s = omega arith
@@ -98,26 +141,34 @@ leave-falls table held (Rest id next) (Stopped cause quantity) k s = omega arith
 leave-falls table held (Element outer complex) Done k s = omega arith
 leave-falls table held (Element outer complex) (Failed cause bit) k s = omega arith
 leave-falls table held (Element outer complex) (Stopped cause quantity) k s = omega arith
+leave-falls table held (Box outer) Done k s = leave-box-falls held outer k s (nat_le s.stop s.at)
+leave-falls table held (Box outer) (Failed cause bit) k s = omega arith
+leave-falls table held (Box outer) (Stopped cause quantity) k s = omega arith
 
-step-falls : (most : ℕ) (table : Table) (held : Held) (focus : Focus) (k : List Frame) (s : State) → (HasEnded focus k → ⊥)
-    → (step most table held focus k s).waits ≡ false → Falls focus k (step most table held focus k s)
-step-falls most table held (Enter id) k s on going = enter-falls most table held id (slice_get table.rows id) k s going
-step-falls most table held (Pass to) k s on going =
-    filled-falls held.size (from_byte held (min ((to - 1) / 8) (end_of held))) to (seen_beyond held ((to - 1) / 8)) k s going
-step-falls most table held (Leave end) [] s on going = absurd (on refl)
-step-falls most table held (Leave end) (frame ∷ k) s on going = leave-falls table held frame end k s
+step-falls : (limits : Limits) (table : Table) (held : Held) (focus : Focus) (k : List Frame) (s : State) → (HasEnded focus k → ⊥)
+    → (step limits table held focus k s).waits ≡ false → Falls focus k (step limits table held focus k s)
+step-falls limits table held (Enter id) k s on going = enter-falls limits table held id (slice_get table.rows id) k s going
+step-falls limits table held (PassRest bit outer) k s on going =
+    rested-falls limits.window (from_byte held (min (bit / 8) (end_of held))) bit outer (seen_beyond held (bit / 8)) k s going
+step-falls limits table held (Pass to) k s on going =
+    filled-falls limits.window (from_byte held (min ((to - 1) / 8) (end_of held))) to (seen_beyond held ((to - 1) / 8)) k s going
+step-falls limits table held (Leave end) [] s on going = absurd (on refl)
+step-falls limits table held (Leave end) (frame ∷ k) s on going = leave-falls table held frame end k s
 
 -- less is left behind a step
 pub smaller : (input : Input) (table : Table) → Nests table.rows → (held : Held) (focus : Focus) (k : List Frame) (s : State) → Fits held input focus s
-    → (HasEnded focus k → ⊥) → (step input.limits.nodes table held focus k s).waits ≡ false
-    → measure input table (step input.limits.nodes table held focus k s).machine < measure input table (record { focus = focus; stack = k; state = s })
+    → (HasEnded focus k → ⊥) → (step input.limits table held focus k s).waits ≡ false
+    → measure input table (step input.limits table held focus k s).machine < measure input table (record { focus = focus; stack = k; state = s })
 smaller input table nests held focus k s fits on going =
-    let falls = step-falls input.limits.nodes table held focus k s on going in
-    let rows = ap (λ (o : Outcome). o.tally.rows) (step-ahead input table nests held focus k s fits going) in
-    grow (ahead input table (step input.limits.nodes table held focus k s).machine).tally.rows (step input.limits.nodes table held focus k s).tally.rows
-    (ahead input table (record { focus = focus; stack = k; state = s })).tally.rows
-    (2 * length (step input.limits.nodes table held focus k s).machine.stack + mode (step input.limits.nodes table held focus k s).machine.focus)
-    (2 * length k + mode focus) falls rows
+    let move : Move = step input.limits table held focus k s in
+    let falls = step-falls input.limits table held focus k s on going in
+    let does = step-ahead input table nests held focus k s fits going in
+    let rows = ap (λ (o : Outcome). o.tally.rows) does in
+    let looks = ap (λ (o : Outcome). o.tally.looks) does in
+    grow (ahead input table move.machine).tally.rows move.tally.rows (ahead input table (record { focus = focus; stack = k; state = s })).tally.rows
+    (ahead input table move.machine).tally.looks move.tally.looks (ahead input table (record { focus = focus; stack = k; state = s })).tally.looks
+    (2 * length move.machine.stack + mode move.machine.focus) (2 * length k + mode focus) falls rows looks
   where
-    grow : (left made all small large : ℕ) → small < 4 * made + large → all ≡ made + left → 4 * left + small < 4 * all + large
-    grow left made all small large falls rows = omega arith
+    grow : (left made all further seen whole small large : ℕ) → small < 4 * (made + seen) + large → all ≡ made + left → whole ≡ seen + further
+        → 4 * (left + further) + small < 4 * (all + whole) + large
+    grow left made all further seen whole small large falls rows looks = omega arith

@@ -7,11 +7,15 @@ use Rattle.dfdl_grammar.specs.declared.limits.Limits.{Limits}
 use Rattle.dfdl_grammar.specs.Documents.{document}
 use Rattle.dfdl_parse.specs.declared.session.Session.{Session}
 use Rattle.dfdl_parse.specs.Machines.{HasEnded}
-use Rattle.dfdl_parse.specs.Shown.{shown}
+use Rattle.dfdl_parse.specs.Shown.{KeepsTo, shown}
 use Rattle.dfdl_parse.specs.Runs.{Runs}
 use Rattle.dfdl_parse.specs.Running.{Advanced, Waited}
 use Rattle.dfdl_parse.specs.Sessions.{Ends, Finished, IsReady, StandsFor, document_of, input_of}
 use Rattle.dfdl_parse.proofs.Feeds.{fed, over, told}
+
+-- a session keeps to its limits
+keeps_to : (s : Session) → IsReady s → KeepsTo s.parser s.limits
+keeps_to s ready = (sym ready.nodes, sym ready.text)
 
 -- a window with room takes the whole piece
 pub appended : (held : Held) (piece : List ℕ) (taken : ℕ) → taken ≡ min (length piece) (room_of held) → length piece ≤ room_of held
@@ -59,7 +63,7 @@ module _ (old : Session) (piece : List ℕ) (sight : Held) (ready : IsReady old)
         → (end_of sight < (document_of old (stream ++ piece)).tally.far) × ((document_of old (stream ++ piece)).tally.tail ≡ waited.vain)
     lost waited =
         let here : RunsIn sight (stream ++ piece) = subst (λ (bytes : List ℕ). RunsIn sight bytes) (append-nil (stream ++ piece)) (fed_at []) in
-        waited.missed (input_of old (stream ++ piece)) (document_of old (stream ++ piece)) stands.looks (sym ready.nodes) here whole
+        waited.missed (input_of old (stream ++ piece)) (document_of old (stream ++ piece)) stands.looks (keeps_to old ready) here whole
 
     pub fed_far : Waited old.terms.now old.parser new.parser sight new.sight looks_made
         → length (stream ++ piece) < (document_of old (stream ++ piece)).tally.far
@@ -74,7 +78,7 @@ module _ (old : Session) (piece : List ℕ) (sight : Held) (ready : IsReady old)
         stands_as new old.limits old.terms.now limits rows (stream ++ piece) (spent + looks_made)
         (allowed + (document_of old (stream ++ piece)).tally.tail) (stands.looks + (looks_made - waited.vain))
         (λ more. waited.advanced.runs (input_of old ((stream ++ piece) ++ more)) (document_of old ((stream ++ piece) ++ more)) stands.looks
-        (sym ready.nodes) (fed_at more))
+        (keeps_to old ready) (fed_at more))
         (omega arith) (whole ∙ sym waited.advanced.slid.end)
 
     pub fed_done : Advanced old.terms.now old.parser new.parser sight new.sight looks_made → HasEnded new.parser.focus new.parser.stack
@@ -84,14 +88,14 @@ module _ (old : Session) (piece : List ℕ) (sight : Held) (ready : IsReady old)
         record {
           outcome = λ more.
               let runs = advanced.runs (input_of old ((stream ++ piece) ++ more)) (document_of old ((stream ++ piece) ++ more)) stands.looks
-              (sym ready.nodes) (fed_at more) in
+              (keeps_to old ready) (fed_at more) in
               let all = over (input_of old ((stream ++ piece) ++ more)) old.terms.now (document_of old ((stream ++ piece) ++ more)) new.parser new.sight
               (stands.looks + looks_made) ended_here runs in
               let looks : stands.looks + looks_made ≡ (document_of old ((stream ++ piece) ++ more)).tally.looks = all.looks in
               record { focus = all.focus; stack = all.stack; state = all.state; far = all.far; steps_are = omega arith; memory = memory };
           within =
               let runs = advanced.runs (input_of old ((stream ++ piece) ++ [])) (document_of old ((stream ++ piece) ++ [])) stands.looks
-              (sym ready.nodes) (fed_at []) in
+              (keeps_to old ready) (fed_at []) in
               let on : new.sight.ended ≡ false = advanced.slid.ended ∙ ap (λ (h : Held). h.ended) is ∙ ready.ended in
               let far : new.parser.far ≤ end_of new.sight = (runs.found on).1 in
               let ends : end_of new.sight ≡ length (stream ++ piece) = advanced.slid.end ∙ sym whole in
@@ -108,7 +112,7 @@ ended_done old new sight looks_made ready memory is stream spent allowed stands 
     let here : Runs (input_of old stream) old.terms.now (document_of old stream) (shown old.parser) sight stands.looks old.parser.far =
     subst (λ (h : Held). Runs (input_of old stream) old.terms.now (document_of old stream) (shown old.parser) h stands.looks old.parser.far) (sym is)
     (told old.limits old.terms.now old.parser old.sight stream ready.ended stands.all stands.looks (stands.runs [])) in
-    let runs = advanced.runs (input_of old stream) (document_of old stream) stands.looks (sym ready.nodes) here in
+    let runs = advanced.runs (input_of old stream) (document_of old stream) stands.looks (keeps_to old ready) here in
     let all = over (input_of old stream) old.terms.now (document_of old stream) new.parser new.sight (stands.looks + looks_made) ended_here runs in
     let looks : stands.looks + looks_made ≡ (document_of old stream).tally.looks = all.looks in
     record { focus = all.focus; stack = all.stack; state = all.state; far = all.far; steps_are = omega arith; memory = memory }

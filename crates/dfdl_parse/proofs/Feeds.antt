@@ -7,13 +7,13 @@ use Rattle.dfdl_looks.specs.Looks.{Agrees}
 use Rattle.dfdl_looks.specs.Tallies.{Tally, nothing}
 use Rattle.dfdl_looks.proofs.Costs.{plus-nothing}
 use Rattle.dfdl_grammar.specs.declared.limits.Limits.{Limits}
-use Rattle.dfdl_grammar.specs.States.{Input, State, front}
+use Rattle.dfdl_grammar.specs.States.{Input, State, front, no_box}
 use Rattle.dfdl_grammar.specs.Outcomes.{Outcome, ended, spend}
 use Rattle.dfdl_grammar.specs.Documents.{document}
 use Rattle.dfdl_grammar.proofs.Spending.{spend-nothing}
 use Rattle.dfdl_parse.specs.declared.frame.Frame.{Frame}
 use Rattle.dfdl_parse.specs.declared.frame.Focus.{Focus}
-use Rattle.dfdl_parse.specs.declared.frame.Focus.TheVariants.{Enter, Pass, Leave}
+use Rattle.dfdl_parse.specs.declared.frame.Focus.TheVariants.{Enter, Pass, PassRest, Leave}
 use Rattle.dfdl_parse.specs.declared.parser.Parser.{Parser}
 use Rattle.dfdl_parse.specs.Machines.{HasEnded, Machine}
 use Rattle.dfdl_parse.specs.Ahead.{ahead, finish}
@@ -103,6 +103,7 @@ over_at : (input : Input) (table : Table) (root : Outcome) (focus : Focus) (k : 
 unfolding finish
 over_at input table root (Enter id) k s spent ended_here same = absurd ended_here
 over_at input table root (Pass to) k s spent ended_here same = absurd ended_here
+over_at input table root (PassRest bit outer) k s spent ended_here same = absurd ended_here
 over_at input table root (Leave end) k s spent ended_here same =
     let is : root ≡ spend spent (ended end s) =
     same ∙ ap (λ (k : List Frame). spend spent (ahead input table (record { focus = Leave end; stack = k; state = s }))) ended_here in (
@@ -126,14 +127,16 @@ over input table root p held looks_made ended_here runs =
 
 -- a session over no data
 pub stands_first : (limits : Limits) (table : Table) (p : Parser) (held : Held) (bytes : List ℕ) → p.focus ≡ Enter (length table.rows - 1) → p.stack ≡ []
-    → p.at ≡ 0 → p.inside ≡ 0 → p.far ≡ 0 → p.region.nodes ≡ [] → held.bytes ≡ [] → held.base ≡ 0 → held.ended ≡ false → held.size ≡ limits.window
+    → p.at ≡ 0 → p.inside ≡ 0 → p.far ≡ 0 → p.stop ≡ no_box → p.region.nodes ≡ [] → p.text.bytes ≡ [] → held.bytes ≡ [] → held.base ≡ 0 → held.ended ≡ false → held.size ≡ limits.window
     → Runs (record { bytes = bytes; limits = limits }) table (document limits table bytes) (shown p) held 0 p.far
 unfolding finish
-stands_first limits table p held bytes focus stack at inside far nodes none base on size =
+stands_first limits table p held bytes focus stack at inside far stop nodes text none base on size =
     let front_is : state_of p ≡ front =
-    ap (λ (n : ℕ). record { at = n; nodes = p.region.nodes; inside = p.inside; marks = [] }) at
-    ∙ ap (λ (n : ℕ). record { at = 0; nodes = p.region.nodes; inside = n; marks = [] }) inside
-    ∙ ap (λ ns. record { at = 0; nodes = ns; inside = 0; marks = [] }) nodes in
+    ap (λ (n : ℕ). record { at = n; stop = p.stop; nodes = p.region.nodes; text = p.text.bytes; inside = p.inside; marks = [] }) at
+    ∙ ap (λ (n : ℕ). record { at = 0; stop = n; nodes = p.region.nodes; text = p.text.bytes; inside = p.inside; marks = [] }) stop
+    ∙ ap (λ (n : ℕ). record { at = 0; stop = no_box; nodes = p.region.nodes; text = p.text.bytes; inside = n; marks = [] }) inside
+    ∙ ap (λ ns. record { at = 0; stop = no_box; nodes = ns; text = p.text.bytes; inside = 0; marks = [] }) nodes
+    ∙ ap (λ bs. record { at = 0; stop = no_box; nodes = []; text = bs; inside = 0; marks = [] }) text in
     let input : Input = record { bytes = bytes; limits = limits } in
     let machine : shown p ≡ record { focus = Enter (length table.rows - 1); stack = []; state = front } =
     ap (λ (f : Focus). record { focus = f; stack = p.stack; state = state_of p }) focus

@@ -6,20 +6,22 @@ use Rattle.dfdl_bits.specs.Window.{Held, end_of, room_of}
 use Rattle.dfdl_terms.specs.Rows.{Table, Nests}
 use Rattle.dfdl_looks.specs.Looks.{Agrees}
 use Rattle.dfdl_looks.specs.Tallies.{first_of, plus}
+use Rattle.dfdl_grammar.specs.declared.limits.Limits.{Limits}
 use Rattle.dfdl_grammar.specs.States.{Input}
 use Rattle.dfdl_grammar.specs.Outcomes.{Outcome, spend}
 use Rattle.dfdl_grammar.proofs.Spending.{spend-spend}
 use Rattle.dfdl_parse.specs.declared.parser.Parser.{Parser}
 use Rattle.dfdl_parse.specs.declared.frame.Focus.{Focus}
-use Rattle.dfdl_parse.specs.declared.frame.Focus.TheVariants.{Enter, Pass, Leave}
+use Rattle.dfdl_parse.specs.declared.frame.Focus.TheVariants.{Enter, Pass, PassRest, Leave}
 use Rattle.dfdl_parse.specs.Machines.{HasEnded, Machine, Move, NeedsFrom, step}
 use Rattle.dfdl_parse.specs.Ahead.{ahead}
-use Rattle.dfdl_parse.specs.Shown.{shown, state_of}
+use Rattle.dfdl_parse.specs.Shown.{HasSameLimits, KeepsTo, limits_of, shown, state_of}
 use Rattle.dfdl_parse.specs.Steps.{Moved}
 use Rattle.dfdl_parse.specs.Runs.{Runs}
 use Rattle.dfdl_parse.specs.Running.{Advanced, Slid, Waited}
 use Rattle.dfdl_parse.proofs.Ahead.{Does, Fits, Stands, step-ahead}
-use Rattle.dfdl_parse.proofs.Advances.{Keeps, step-keeps, step-waits}
+use Rattle.dfdl_parse.proofs.Advances.{Keeps, step-keeps}
+use Rattle.dfdl_parse.proofs.Waits.{step-waits}
 use Rattle.dfdl_parse.proofs.Lows.{step-low}
 use Rattle.dfdl_parse.proofs.Falls.{measure, smaller}
 
@@ -35,16 +37,33 @@ within at end few = omega arith
 same_number : (n : ℕ) → n ≤ n
 same_number n = omega arith
 
+-- the limits that a parser keeps to, over a window
+pub limits_are : (p : Parser) (held : Held) (limits : Limits) → KeepsTo p limits → held.size ≡ limits.window → limits ≡ limits_of p held
+limits_are p held limits keeps size =
+    ap (λ (n : ℕ). record { window = n; nodes = limits.nodes; text = limits.text }) (sym size)
+    ∙ ap (λ (n : ℕ). record { window = held.size; nodes = n; text = limits.text }) keeps.0
+    ∙ ap (λ (n : ℕ). record { window = held.size; nodes = p.region.most; text = n }) keeps.1
+
+still_keeps : (a b : Parser) (limits : Limits) → HasSameLimits a b → KeepsTo a limits → KeepsTo b limits
+still_keeps a b limits same keeps = (keeps.0 ∙ sym same.0, keeps.1 ∙ sym same.1)
+
+pub keeps_first : (a b : Parser) (held : Held) → HasSameLimits a b → KeepsTo b (limits_of a held)
+keeps_first a b held same = (sym same.0, sym same.1)
+
+pub same_twice : (a b c : Parser) → HasSameLimits a b → HasSameLimits b c → HasSameLimits a c
+same_twice a b c one two = (two.0 ∙ one.0, two.1 ∙ one.1)
+
 -- the window holds the bytes that are needed next
-stands_at : (held : Held) (p : Parser) (focus : Focus) → NeedsFrom held.base focus p.at → p.at ≤ 8 * end_of held → Stands held focus (state_of p)
+stands_at : (held : Held) (p : Parser) (focus : Focus) → NeedsFrom held.base focus (state_of p) → p.at ≤ 8 * end_of held → Stands held focus (state_of p)
 stands_at held p (Enter id) low at = record { base = low; end = within p.at (end_of held) at; low = same_number (p.at / 8) }
 stands_at held p (Pass to) low at = (low, refl)
+stands_at held p (PassRest bit outer) low at = (low.0, low.1, omega arith)
 stands_at held p (Leave end) low at = tt
 
 module _ (table : Table) (nests : Nests table.rows) (old new : Parser) (before after : Held) (looks_made : ℕ)
-    (low : NeedsFrom before.base old.focus old.at) (at : old.at ≤ 8 * end_of before) where
+    (low : NeedsFrom before.base old.focus (state_of old)) (at : old.at ≤ 8 * end_of before) where
   abbrev move : Move
-  move = step old.region.most table before old.focus old.stack (state_of old)
+  move = step (limits_of old before) table before old.focus old.stack (state_of old)
 
   stands : Stands before old.focus (state_of old)
   stands = stands_at before old old.focus low at
@@ -52,15 +71,16 @@ module _ (table : Table) (nests : Nests table.rows) (old new : Parser) (before a
   fits : (input : Input) → Agrees before input.bytes → before.size ≡ input.limits.window → Fits before input old.focus (state_of old)
   fits input agrees size = record { agrees = agrees; size = size; stands = stands }
 
-  does : (input : Input) → input.limits.nodes ≡ old.region.most → Fits before input old.focus (state_of old) → move.waits ≡ false
+  does : (input : Input) → KeepsTo old input.limits → Fits before input old.focus (state_of old) → move.waits ≡ false
       → Does input table (ahead input table (shown old)) move
   does input most fit =
-      subst (λ (n : ℕ). (step n table before old.focus old.stack (state_of old)).waits ≡ false
-      → Does input table (ahead input table (shown old)) (step n table before old.focus old.stack (state_of old))) most
+      subst (λ (l : Limits). (step l table before old.focus old.stack (state_of old)).waits ≡ false
+      → Does input table (ahead input table (shown old)) (step l table before old.focus old.stack (state_of old)))
+      (limits_are old before input.limits most fit.size)
       (step-ahead input table nests before old.focus old.stack (state_of old) fit)
 
   keeps : Keeps before move
-  keeps = step-keeps before (state_of old) old.region.most table old.focus old.stack stands
+  keeps = step-keeps before (state_of old) (limits_of old before) table old.focus old.stack stands
 
   pub advance : Moved move false old.far new after looks_made → Advanced table old new before after looks_made
   advance moved =
@@ -93,11 +113,11 @@ module _ (table : Table) (nests : Nests table.rows) (old new : Parser) (before a
       }
 
   -- the window behind the step holds the bytes that are needed next
-  pub still_low : (waited : Bool) → Moved move waited old.far new after looks_made → NeedsFrom after.base new.focus new.at
+  pub still_low : (waited : Bool) → Moved move waited old.far new after looks_made → NeedsFrom after.base new.focus (state_of new)
   still_low waited moved =
-      subst (λ (h : Held). NeedsFrom h.base new.focus new.at) (sym moved.held)
-      (subst (λ (m : Machine). NeedsFrom move.held.base m.focus m.state.at) (sym moved.machine)
-      (step-low before (state_of old) old.region.most table old.focus old.stack stands low))
+      subst (λ (h : Held). NeedsFrom h.base new.focus (state_of new)) (sym moved.held)
+      (subst (λ (m : Machine). NeedsFrom move.held.base m.focus m.state) (sym moved.machine)
+      (step-low before (state_of old) (limits_of old before) table old.focus old.stack stands low))
 
   pub still_agrees : (waited : Bool) → Moved move waited old.far new after looks_made → (whole : List ℕ) → Agrees before whole → Agrees after whole
   still_agrees waited moved whole agrees = subst (λ (h : Held). Agrees h whole) (sym moved.held) (keeps.agrees whole agrees)
@@ -105,7 +125,7 @@ module _ (table : Table) (nests : Nests table.rows) (old new : Parser) (before a
   pub wait : Moved move true old.far new after looks_made → Waited table old new before after looks_made
   wait moved =
       let slid : Slid before after = subst (λ (h : Held). Slid before h) (sym moved.held) keeps.slid in
-      let waits = step-waits table old.region.most before (state_of old) old.focus old.stack (sym moved.waits) in
+      let waits = step-waits table before (state_of old) (limits_of old before) old.focus old.stack (sym moved.waits) in
       let same_machine : shown new ≡ shown old = moved.machine ∙ waits.machine in
       let stays : new.far ≡ old.far = moved.stays refl in
       record {
@@ -156,18 +176,18 @@ both_slid first second third one two =
     record { size = two.size ∙ one.size; ended = two.ended ∙ one.ended; end = two.end ∙ one.end; base = omega arith }
 
 -- one part and then another, where the looks are those of both
-pub go_further : (table : Table) (a b c : Parser) (first second third : Held) (n m all : ℕ) → b.region.most ≡ a.region.most → all ≡ n + m
+pub go_further : (table : Table) (a b c : Parser) (first second third : Held) (n m all : ℕ) → HasSameLimits a b → all ≡ n + m
     → Advanced table a b first second n → Advanced table b c second third m → Advanced table a c first third all
 go_further table a b c first second third n m all most sum one two = record {
   slid = both_slid first second third one.slid two.slid;
   runs = λ input root spent nodes runs.
       let place : spent + n + m ≡ spent + all = omega arith in
       subst (λ (looks : ℕ). Runs input table root (shown c) third looks c.far) place
-      (two.runs input root (spent + n) (nodes ∙ sym most) (one.runs input root spent nodes runs));
+      (two.runs input root (spent + n) (still_keeps a b input.limits most nodes) (one.runs input root spent nodes runs));
 }
 
 -- and then a part that waits
-pub go_and_wait : (table : Table) (a b c : Parser) (first second third : Held) (n m all : ℕ) → b.region.most ≡ a.region.most → all ≡ n + m
+pub go_and_wait : (table : Table) (a b c : Parser) (first second third : Held) (n m all : ℕ) → HasSameLimits a b → all ≡ n + m
     → Advanced table a b first second n → Waited table b c second third m → Waited table a c first third all
 go_and_wait table a b c first second third n m all most sum one two =
     let few = two.few in
@@ -178,7 +198,7 @@ go_and_wait table a b c first second third n m all most sum one two =
       ended = sym one.slid.ended ∙ two.ended;
       room = two.room;
       missed = λ input root spent nodes runs whole.
-          let lost = two.missed input root (spent + n) (nodes ∙ sym most) (one.runs input root spent nodes runs) (whole ∙ sym one.slid.end) in
+          let lost = two.missed input root (spent + n) (still_keeps a b input.limits most nodes) (one.runs input root spent nodes runs) (whole ∙ sym one.slid.end) in
           (subst (λ (e : ℕ). e < root.tally.far) one.slid.end lost.0, lost.1);
     }
 
@@ -198,13 +218,14 @@ agrees_padded held =
 
 -- a step over the data of the window leaves less to be done
 pub step-smaller : (table : Table) → Nests table.rows → (old new : Parser) (before after : Held) (looks_made : ℕ) (input : Input)
-    → NeedsFrom before.base old.focus old.at → old.at ≤ 8 * end_of before → input.limits.nodes ≡ old.region.most → before.size ≡ input.limits.window → Agrees before input.bytes
+    → NeedsFrom before.base old.focus (state_of old) → old.at ≤ 8 * end_of before → KeepsTo old input.limits → before.size ≡ input.limits.window → Agrees before input.bytes
     → (HasEnded old.focus old.stack → ⊥)
-    → Moved (step old.region.most table before old.focus old.stack (state_of old)) false old.far new after looks_made
+    → Moved (step (limits_of old before) table before old.focus old.stack (state_of old)) false old.far new after looks_made
     → measure input table (shown new) < measure input table (shown old)
 step-smaller table nests old new before after looks_made input low at most size agrees on moved =
     let fit : Fits before input old.focus (state_of old) = record { agrees = agrees; size = size; stands = stands_at before old old.focus low at } in
-    let less = subst (λ (n : ℕ). (step n table before old.focus old.stack (state_of old)).waits ≡ false
-    → measure input table (step n table before old.focus old.stack (state_of old)).machine < measure input table (shown old)) most
+    let less = subst (λ (l : Limits). (step l table before old.focus old.stack (state_of old)).waits ≡ false
+    → measure input table (step l table before old.focus old.stack (state_of old)).machine < measure input table (shown old))
+    (limits_are old before input.limits most size)
     (smaller input table nests before old.focus old.stack (state_of old) fit on) in
     subst (λ (m : Machine). measure input table m < measure input table (shown old)) (sym moved.machine) (less (sym moved.waits))

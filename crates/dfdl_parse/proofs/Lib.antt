@@ -1,10 +1,15 @@
 pub mod Windows
 pub mod Beyond
 pub mod Leaves
+pub mod HexBinaries
+pub mod StringReadings
 pub mod Lists
+pub mod Programs
+pub mod Texts
 pub mod Ahead
 pub mod Falls
 pub mod Advances
+pub mod Waits
 pub mod Lows
 pub mod Goes
 pub mod Feeds

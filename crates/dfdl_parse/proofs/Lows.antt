@@ -5,37 +5,50 @@ use Rattle.std.proofs.lemmas.Bool.Decides.{nat_tests}
 use Rattle.dfdl_bits.specs.Window.{Held, end_of, from_byte, seen_at}
 use Rattle.dfdl_bits.specs.declared.window.Seen.{Seen}
 use Rattle.dfdl_bits.specs.declared.window.Seen.TheVariants.{Byte, End as DataEnded, NotYet, Over}
-use Rattle.dfdl_report.specs.declared.cause.LimitCause.TheVariants.{Nodes}
+use Rattle.dfdl_report.specs.declared.cause.ParseCause.TheVariants.{LengthOutOfRange}
+use Rattle.dfdl_report.specs.declared.cause.LimitCause.TheVariants.{Nodes, Text as TextLimit}
 use Rattle.dfdl_terms.specs.declared.row.Primitive.{Primitive}
 use Rattle.dfdl_terms.specs.declared.row.Row.{Row}
-use Rattle.dfdl_terms.specs.declared.row.Row.TheVariants.{Leaf, Elem, Group, Skip, Align}
+use Rattle.dfdl_terms.specs.declared.row.Row.TheVariants.{Leaf, Elem, Group, Skip, Align, Boxed}
 use Rattle.dfdl_terms.specs.Rows.{Table}
 use Rattle.dfdl_looks.specs.Asks.{Reached, Told, TooFar, Missing, ask}
-use Rattle.dfdl_looks.specs.Tallies.{nothing, one_row}
+use Rattle.dfdl_looks.specs.Tallies.{nothing, one_row, saw_byte}
 use Rattle.dfdl_grammar.specs.declared.end.End.{End}
 use Rattle.dfdl_grammar.specs.declared.end.End.TheVariants.{Done, Failed, Stopped}
+use Rattle.dfdl_grammar.specs.declared.limits.Limits.{Limits}
+use Rattle.dfdl_grammar.specs.Outcomes.{ended}
 use Rattle.dfdl_grammar.specs.States.{State, anchor}
-use Rattle.dfdl_grammar.specs.Leaves.{Find, Fails, Finds, program}
+use Rattle.dfdl_grammar.specs.Leaves.{Find, Fails, Finds, FindsOctets, FindsText, content_begins, has_room, program}
 use Rattle.dfdl_grammar.specs.Framing.{aligned}
 use Rattle.dfdl_grammar.specs.Elements.{begun, has_elements}
 use Rattle.dfdl_parse.specs.declared.frame.Frame.{Frame}
-use Rattle.dfdl_parse.specs.declared.frame.Frame.TheVariants.{Rest, Element}
+use Rattle.dfdl_parse.specs.declared.frame.Frame.TheVariants.{Rest, Element, Box}
 use Rattle.dfdl_parse.specs.declared.frame.Focus.{Focus}
-use Rattle.dfdl_parse.specs.declared.frame.Focus.TheVariants.{Enter, Pass, Leave}
-use Rattle.dfdl_parse.specs.Machines.{Move, NeedsFrom, children_of, enter, enter_group, fill, fill_move, go_on, landed, leave, pass, read_leaf, seen_beyond, step}
+use Rattle.dfdl_parse.specs.declared.frame.Focus.TheVariants.{Enter, Pass, PassRest, Leave}
+use Rattle.dfdl_parse.specs.Machines.{Move, NeedsFrom, children_of, enter, enter_group, fill, fill_move, go_on, landed, leave, pass, pass_rest, read_leaf, read_move, rest_move, seen_beyond, step}
 use Rattle.dfdl_parse.proofs.Beyond.{beyond-byte}
+use Rattle.dfdl_parse.proofs.Texts.{EndsBehind, program-ends}
 use Rattle.dfdl_parse.proofs.Ahead.{Anchored, Stands}
 
 -- the bytes that are needed behind a step are held
 abbrev IsLow : Move → Type 0
-IsLow move = NeedsFrom move.held.base move.machine.focus move.machine.state.at
+IsLow move = NeedsFrom move.held.base move.machine.focus move.machine.state
 
-landed-low : (window id low : ℕ) (reached : Reached Find) (k : List Frame) (s : State) → low ≤ s.at / 8
-    → NeedsFrom low (landed window id reached k s).focus (landed window id reached k s).state.at
-landed-low window id low (Told (Fails cause)) k s is = tt
-landed-low window id low (Told (Finds content bits)) k s is = omega arith
-landed-low window id low TooFar k s is = tt
-landed-low window id low Missing k s is = is
+held-low : (room : Bool) (low : ℕ) (s t : State) (most : ℕ) → low ≤ s.at / 8
+    → NeedsFrom low (Leave (cond room (ended Done s) (ended (Stopped TextLimit most) t)).end) (cond room (ended Done s) (ended (Stopped TextLimit most) t)).state
+held-low true low s t most is = is
+held-low false low s t most is = tt
+
+landed-low : (limits : Limits) (first id low : ℕ) (reached : Reached Find) (k : List Frame) (s : State) → low ≤ s.at / 8 → EndsBehind s.at reached
+    → NeedsFrom low (landed limits first id reached k s).focus (landed limits first id reached k s).state
+landed-low limits first id low (Told (Fails cause)) k s is ends = tt
+landed-low limits first id low (Told (Finds content bits)) k s is ends = omega arith
+landed-low limits first id low (Told (FindsOctets bytes bits)) k s is ends =
+    held-low (nat_le (length s.text + length bytes) limits.text) low _ s limits.text (omega arith)
+landed-low limits first id low (Told (FindsText bytes end)) k s is ends =
+    held-low (nat_le (length s.text + length bytes) limits.text) low _ s limits.text (omega arith)
+landed-low limits first id low TooFar k s is ends = tt
+landed-low limits first id low Missing k s is ends = is
 
 filled-low : (window : ℕ) (sight : Held) (to : ℕ) (v : Seen) (k : List Frame) (s : State) → sight.base ≤ (to - 1) / 8
     → IsLow (fill_move window sight to v k s)
@@ -44,16 +57,52 @@ filled-low window sight to DataEnded k s is = tt
 filled-low window sight to NotYet k s is = is
 filled-low window sight to Over k s is = tt
 
-module _ (held : Held) (s : State) where
-  leaf-low : (id : ℕ) (primitive : Option Primitive) (k : List Frame) → Anchored held s → held.base ≤ s.at / 8 → IsLow (read_leaf held id primitive k s)
-  leaf-low id None k stands low = low
-  leaf-low id (Some primitive) k stands low =
-      landed-low held.size id (anchor s) (ask (seen_at (from_byte held (anchor s))) (program primitive s.at) nothing).reached k s stands.low
+-- a byte of the rest of a box
+past-low : (sight : Held) (byte outer : ℕ) (k : List Frame) (s : State) → sight.base ≤ byte → 8 * byte < s.stop → (last : Bool) → nat_le ((s.stop - 1) / 8) byte ≡ last
+    → IsLow (cond last (pass (saw_byte byte nothing) sight (Leave Done) k (record s { at = s.stop; stop = outer }))
+    (pass (saw_byte byte nothing) sight (PassRest (8 * (byte + 1)) outer) k s))
+past-low sight byte outer k s base inside true is = omega arith
+past-low sight byte outer k s base inside false is =
+    let less : byte < (s.stop - 1) / 8 = grind (arith, nat_tests) in
+    (omega arith, omega arith)
 
-  begin-low : (to : ℕ) (k : List Frame) → held.base ≤ s.at / 8 → (over : Bool) → nat_le to s.at ≡ over
-      → IsLow (cond over (pass one_row held (Leave Done) k s) (pass one_row held (Pass to) k s))
-  begin-low to k low true is = low
-  begin-low to k low false is = let less : s.at < to = grind (arith, nat_tests) in omega arith
+rested-low : (window : ℕ) (sight : Held) (bit outer : ℕ) (v : Seen) (k : List Frame) (s : State) → sight.base ≤ bit / 8 → bit < s.stop
+    → IsLow (rest_move window sight bit outer v k s)
+rested-low window sight bit outer (Byte b) k s base inside = past-low sight (bit / 8) outer k s base (omega arith) (nat_le ((s.stop - 1) / 8) (bit / 8)) refl
+rested-low window sight bit outer DataEnded k s base inside = tt
+rested-low window sight bit outer NotYet k s base inside = (base, inside)
+rested-low window sight bit outer Over k s base inside = tt
+
+module _ (held : Held) (s : State) where
+  read-low : (limits : Limits) (id : ℕ) (primitive : Primitive) (k : List Frame) → Anchored held s → (room : Bool)
+      → IsLow (cond room
+      (read_move limits (content_begins primitive s.at) (from_byte held (anchor s)) id
+      (ask (seen_at (from_byte held (anchor s))) (program primitive s.at s.stop) nothing) k s)
+      (pass one_row held (Leave (Failed LengthOutOfRange s.at)) k s))
+  read-low limits id primitive k stands true =
+      landed-low limits (content_begins primitive s.at) id (anchor s)
+      (ask (seen_at (from_byte held (anchor s))) (program primitive s.at s.stop) nothing).reached k s stands.low
+      (program-ends (seen_at (from_byte held (anchor s))) primitive s.at s.stop nothing)
+  read-low limits id primitive k stands false = tt
+
+  leaf-low : (limits : Limits) (id : ℕ) (primitive : Option Primitive) (k : List Frame) → Anchored held s → held.base ≤ s.at / 8
+      → IsLow (read_leaf limits held id primitive k s)
+  leaf-low limits id None k stands low = low
+  leaf-low limits id (Some primitive) k stands low = read-low limits id primitive k stands (has_room primitive s.at s.stop)
+
+  begin-low : (to : ℕ) (k : List Frame) → held.base ≤ s.at / 8 → (over inside : Bool) → nat_le to s.at ≡ over
+      → IsLow (cond over (pass one_row held (Leave Done) k s)
+      (cond inside (pass one_row held (Pass to) k s) (pass one_row held (Leave (Failed LengthOutOfRange s.at)) k s)))
+  begin-low to k low true inside is = low
+  begin-low to k low false true is = let less : s.at < to = grind (arith, nat_tests) in omega arith
+  begin-low to k low false false is = tt
+
+  box-low : (bits body : ℕ) (k : List Frame) → held.base ≤ s.at / 8 → (inside : Bool)
+      → IsLow (cond inside
+      (pass one_row held (Enter body) (Box s.stop ∷ k) (record s { stop = s.at + bits }))
+      (pass one_row held (Leave (Failed LengthOutOfRange s.at)) k s))
+  box-low bits body k low true = low
+  box-low bits body k low false = tt
 
   element-low : (most id : ℕ) (complex : Bool) (body : ℕ) (k : List Frame) → held.base ≤ s.at / 8 → (room : Bool)
       → IsLow (cond room
@@ -66,34 +115,48 @@ module _ (held : Held) (s : State) where
   group-low id [] k low = low
   group-low id (child ∷ rest) k low = low
 
-  enter-low : (most : ℕ) (table : Table) (id : ℕ) (r : Option Row) (k : List Frame) → Anchored held s → held.base ≤ s.at / 8
-      → IsLow (enter most table held id r k s)
-  enter-low most table id None k stands low = low
-  enter-low most table id (Some (Leaf prim)) k stands low = leaf-low id (slice_get table.primitives prim) k stands low
-  enter-low most table id (Some (Elem name simple body)) k stands low = element-low most id (has_elements simple) body k low (nat_lt (length s.nodes) most)
-  enter-low most table id (Some (Group children)) k stands low = group-low id children k low
-  enter-low most table id (Some (Skip bits)) k stands low = begin-low (s.at + bits) k low (nat_le (s.at + bits) s.at) refl
-  enter-low most table id (Some (Align bits)) k stands low = begin-low (aligned bits s.at) k low (nat_le (aligned bits s.at) s.at) refl
+  enter-low : (limits : Limits) (table : Table) (id : ℕ) (r : Option Row) (k : List Frame) → Anchored held s → held.base ≤ s.at / 8
+      → IsLow (enter limits table held id r k s)
+  enter-low limits table id None k stands low = low
+  enter-low limits table id (Some (Leaf prim)) k stands low = leaf-low limits id (slice_get table.primitives prim) k stands low
+  enter-low limits table id (Some (Elem name simple body)) k stands low =
+      element-low limits.nodes id (has_elements simple) body k low (nat_lt (length s.nodes) limits.nodes)
+  enter-low limits table id (Some (Group children)) k stands low = group-low id children k low
+  enter-low limits table id (Some (Skip bits)) k stands low =
+      begin-low (s.at + bits) k low (nat_le (s.at + bits) s.at) (nat_le (s.at + bits) s.stop) refl
+  enter-low limits table id (Some (Align bits)) k stands low =
+      begin-low (aligned bits s.at) k low (nat_le (aligned bits s.at) s.at) (nat_le (aligned bits s.at) s.stop) refl
+  enter-low limits table id (Some (Boxed bits body)) k stands low = box-low bits body k low (nat_le (s.at + bits) s.stop)
 
   go-low : (id next : ℕ) (child : Option ℕ) (k : List Frame) → held.base ≤ s.at / 8 → IsLow (go_on held id next child k s)
   go-low id next None k low = low
   go-low id next (Some child) k low = low
 
-  leave-low : (table : Table) (frame : Frame) (told : End) (k : List Frame) → NeedsFrom held.base (Leave told) s.at → IsLow (leave table held frame told k s)
+  leave-box-low : (outer : ℕ) (k : List Frame) → held.base ≤ s.at / 8 → (over : Bool) → nat_le s.stop s.at ≡ over
+      → IsLow (cond over (pass nothing held (Leave Done) k (record s { stop = outer })) (pass nothing held (PassRest s.at outer) k s))
+  leave-box-low outer k low true is = low
+  leave-box-low outer k low false is = (low, grind (arith, nat_tests))
+
+  leave-low : (table : Table) (frame : Frame) (told : End) (k : List Frame) → NeedsFrom held.base (Leave told) s → IsLow (leave table held frame told k s)
   leave-low table (Rest id next) Done k low = go-low id next (slice_get (children_of (slice_get table.rows id)) next) k low
   leave-low table (Rest id next) (Failed cause bit) k low = tt
   leave-low table (Rest id next) (Stopped cause quantity) k low = tt
   leave-low table (Element outer complex) Done k low = low
   leave-low table (Element outer complex) (Failed cause bit) k low = tt
   leave-low table (Element outer complex) (Stopped cause quantity) k low = tt
+  leave-low table (Box outer) Done k low = leave-box-low outer k low (nat_le s.stop s.at) refl
+  leave-low table (Box outer) (Failed cause bit) k low = tt
+  leave-low table (Box outer) (Stopped cause quantity) k low = tt
 
-  pub step-low : (most : ℕ) (table : Table) (focus : Focus) (k : List Frame) → Stands held focus s → NeedsFrom held.base focus s.at
-      → IsLow (step most table held focus k s)
-  step-low most table (Enter id) k stands low = enter-low most table id (slice_get table.rows id) k stands low
-  step-low most table (Pass to) k stands low =
-      filled-low held.size (from_byte held (min ((to - 1) / 8) (end_of held))) to (seen_beyond held ((to - 1) / 8)) k s (omega arith)
-  step-low most table (Leave told) [] stands low = low
-  step-low most table (Leave told) (frame ∷ k) stands low = leave-low table frame told k low
+  pub step-low : (limits : Limits) (table : Table) (focus : Focus) (k : List Frame) → Stands held focus s → NeedsFrom held.base focus s
+      → IsLow (step limits table held focus k s)
+  step-low limits table (Enter id) k stands low = enter-low limits table id (slice_get table.rows id) k stands low
+  step-low limits table (PassRest bit outer) k stands low =
+      rested-low limits.window (from_byte held (min (bit / 8) (end_of held))) bit outer (seen_beyond held (bit / 8)) k s (omega arith) low.1
+  step-low limits table (Pass to) k stands low =
+      filled-low limits.window (from_byte held (min ((to - 1) / 8) (end_of held))) to (seen_beyond held ((to - 1) / 8)) k s (omega arith)
+  step-low limits table (Leave told) [] stands low = low
+  step-low limits table (Leave told) (frame ∷ k) stands low = leave-low table frame told k low
 
 -- fill that was passed over ends among the bytes that have come
 filled-within : (window : ℕ) (sight : Held) (to : ℕ) (v : Seen) (k : List Frame) (s : State) (end : ℕ) → s.at ≤ 8 * end
@@ -103,8 +166,32 @@ filled-within window sight to DataEnded k s end at within = at
 filled-within window sight to NotYet k s end at within = at
 filled-within window sight to Over k s end at within = at
 
-pub fill-within : (held : Held) (to : ℕ) (k : List Frame) (s : State) → held.base ≤ (to - 1) / 8 → s.at ≤ 8 * end_of held
-    → (fill held to k s).machine.state.at ≤ 8 * end_of held
-fill-within held to k s base at =
-    filled-within held.size (from_byte held (min ((to - 1) / 8) (end_of held))) to (seen_beyond held ((to - 1) / 8)) k s (end_of held) at
+pub fill-within : (limits : Limits) (held : Held) (to : ℕ) (k : List Frame) (s : State) → held.base ≤ (to - 1) / 8 → s.at ≤ 8 * end_of held
+    → (fill limits held to k s).machine.state.at ≤ 8 * end_of held
+fill-within limits held to k s base at =
+    filled-within limits.window (from_byte held (min ((to - 1) / 8) (end_of held))) to (seen_beyond held ((to - 1) / 8)) k s (end_of held) at
     (λ b is. beyond-byte held ((to - 1) / 8) base b is)
+
+-- so does the rest of a box
+past-within : (sight : Held) (byte outer : ℕ) (k : List Frame) (s : State) (end : ℕ) → s.at ≤ 8 * end → byte + 1 ≤ end
+    → (last : Bool) → nat_le ((s.stop - 1) / 8) byte ≡ last
+    → (cond last (pass (saw_byte byte nothing) sight (Leave Done) k (record s { at = s.stop; stop = outer }))
+    (pass (saw_byte byte nothing) sight (PassRest (8 * (byte + 1)) outer) k s)).machine.state.at ≤ 8 * end
+past-within sight byte outer k s end at there true is =
+    let most : (s.stop - 1) / 8 ≤ byte = grind (arith, nat_tests) in
+    omega arith
+past-within sight byte outer k s end at there false is = at
+
+rested-within : (window : ℕ) (sight : Held) (bit outer : ℕ) (v : Seen) (k : List Frame) (s : State) (end : ℕ) → s.at ≤ 8 * end
+    → ((b : ℕ) → v ≡ Byte b → bit / 8 + 1 ≤ end) → (rest_move window sight bit outer v k s).machine.state.at ≤ 8 * end
+rested-within window sight bit outer (Byte b) k s end at within =
+    past-within sight (bit / 8) outer k s end at (within b refl) (nat_le ((s.stop - 1) / 8) (bit / 8)) refl
+rested-within window sight bit outer DataEnded k s end at within = at
+rested-within window sight bit outer NotYet k s end at within = at
+rested-within window sight bit outer Over k s end at within = at
+
+pub rest-within : (limits : Limits) (held : Held) (bit outer : ℕ) (k : List Frame) (s : State) → held.base ≤ bit / 8 → s.at ≤ 8 * end_of held
+    → (pass_rest limits held bit outer k s).machine.state.at ≤ 8 * end_of held
+rest-within limits held bit outer k s base at =
+    rested-within limits.window (from_byte held (min (bit / 8) (end_of held))) bit outer (seen_beyond held (bit / 8)) k s (end_of held) at
+    (λ b is. beyond-byte held (bit / 8) base b is)

@@ -1,21 +1,23 @@
 -- What is still ahead of the machine over whole data.
-use Rattle.std.specs.Prelude.{List, [], ◌∷◌, drop, slice_get}
+use Rattle.std.specs.Prelude.{◌/◌, List, [], ◌∷◌, drop, slice_get}
 use Rattle.dfdl_terms.specs.Rows.{Table}
 use Rattle.dfdl_grammar.specs.States.{Input, State}
 use Rattle.dfdl_grammar.specs.Outcomes.{Outcome, ended, then_do}
 use Rattle.dfdl_grammar.specs.Framing.{fill_to}
+use Rattle.dfdl_grammar.specs.Boxes.{bytes_up_to, pass_bytes, rest, unboxed}
 use Rattle.dfdl_grammar.specs.Elements.{close}
 use Rattle.dfdl_grammar.specs.Rows.{below, group, meaning}
 use Rattle.dfdl_parse.specs.declared.frame.Frame.{Frame}
-use Rattle.dfdl_parse.specs.declared.frame.Frame.TheVariants.{Rest, Element}
+use Rattle.dfdl_parse.specs.declared.frame.Frame.TheVariants.{Rest, Element, Box}
 use Rattle.dfdl_parse.specs.declared.frame.Focus.{Focus}
-use Rattle.dfdl_parse.specs.declared.frame.Focus.TheVariants.{Enter, Pass, Leave}
+use Rattle.dfdl_parse.specs.declared.frame.Focus.TheVariants.{Enter, Pass, PassRest, Leave}
 use Rattle.dfdl_parse.specs.Machines.{Machine, children_of}
 
 -- what a frame makes of the outcome of the row before it
 abbrev pub resume : Input → Table → Frame → Outcome → Outcome
 resume input table (Rest id next) o = then_do o (group (below input table id) (drop next (children_of (slice_get table.rows id))))
 resume input table (Element outer complex) o = close o.end outer complex o
+resume input table (Box outer) o = let whole : Outcome = then_do o (rest input) in unboxed whole.end outer whole
 
 -- what a stack makes of the outcome of the row before it
 unfoldable pub finish : Input → Table → List Frame → Outcome → Outcome
@@ -26,6 +28,8 @@ finish input table (frame ∷ k) o = finish input table k (resume input table fr
 abbrev pub focused : Input → Table → Focus → State → Outcome
 focused input table (Enter id) s = meaning input table id s
 focused input table (Pass to) s = fill_to input to s
+focused input table (PassRest bit outer) s =
+    let passed : Outcome = pass_bytes input (bytes_up_to s.stop (bit / 8)) (bit / 8) s in unboxed passed.end outer passed
 focused input table (Leave end) s = ended end s
 
 -- the outcome of the whole

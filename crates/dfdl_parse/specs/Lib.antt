@@ -2,6 +2,7 @@ pub mod Machines
 pub mod Answers
 pub mod Shown
 pub mod Steps
+pub mod Strings
 pub mod Ahead
 pub mod Runs
 pub mod Running

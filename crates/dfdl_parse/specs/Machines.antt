@@ -1,27 +1,28 @@
 -- One step of the machine.
-use Rattle.std.specs.Prelude.{◌≡◌, ◌≤◌, ℕ, ◌+◌, ◌-◌, ◌/◌, min, nat_le, Bool, true, false, nat_lt, List, [], ◌∷◌, length, Option, Some, None, slice_get, if◌then◌else◌}
+use Rattle.std.specs.Prelude.{◌≡◌, ◌<◌, ◌≤◌, ℕ, ◌+◌, ◌-◌, ◌*◌, ◌/◌, min, nat_le, Bool, true, false, nat_lt, List, [], ◌∷◌, length, Option, Some, None, slice_get, if◌then◌else◌}
 use Rattle.dfdl_bits.specs.Window.{Held, end_of, from_byte, seen_at}
 use Rattle.dfdl_bits.specs.declared.window.Seen.{Seen}
 use Rattle.dfdl_bits.specs.declared.window.Seen.TheVariants.{Byte, End as DataEnded, NotYet, Over}
 use Rattle.dfdl_report.specs.declared.cause.LimitCause.TheVariants.{Nodes, Window}
-use Rattle.dfdl_report.specs.declared.cause.ParseCause.TheVariants.{DataEnds}
+use Rattle.dfdl_report.specs.declared.cause.ParseCause.TheVariants.{DataEnds, LengthOutOfRange}
 use Rattle.dfdl_terms.specs.declared.row.Primitive.{Primitive}
 use Rattle.dfdl_terms.specs.declared.row.Row.{Row}
-use Rattle.dfdl_terms.specs.declared.row.Row.TheVariants.{Leaf, Elem, Group, Skip, Align}
+use Rattle.dfdl_terms.specs.declared.row.Row.TheVariants.{Leaf, Elem, Group, Skip, Align, Boxed}
 use Rattle.dfdl_terms.specs.Rows.{Table}
 use Rattle.dfdl_looks.specs.Asks.{Reached, Told, TooFar, Missing, Reading, ask}
 use Rattle.dfdl_looks.specs.Tallies.{Tally, nothing, one_row, plus, saw_byte, saw_end, saw_none}
 use Rattle.dfdl_grammar.specs.declared.end.End.{End}
 use Rattle.dfdl_grammar.specs.declared.end.End.TheVariants.{Done, Failed, Stopped}
+use Rattle.dfdl_grammar.specs.declared.limits.Limits.{Limits}
 use Rattle.dfdl_grammar.specs.States.{State, anchor}
 use Rattle.dfdl_grammar.specs.Outcomes.{Outcome}
-use Rattle.dfdl_grammar.specs.Leaves.{Find, land, program}
+use Rattle.dfdl_grammar.specs.Leaves.{Find, content_begins, has_room, land, program}
 use Rattle.dfdl_grammar.specs.Framing.{aligned}
 use Rattle.dfdl_grammar.specs.Elements.{begun, has_elements, left}
 use Rattle.dfdl_parse.specs.declared.frame.Frame.{Frame}
-use Rattle.dfdl_parse.specs.declared.frame.Frame.TheVariants.{Rest, Element}
+use Rattle.dfdl_parse.specs.declared.frame.Frame.TheVariants.{Rest, Element, Box}
 use Rattle.dfdl_parse.specs.declared.frame.Focus.{Focus}
-use Rattle.dfdl_parse.specs.declared.frame.Focus.TheVariants.{Enter, Pass, Leave}
+use Rattle.dfdl_parse.specs.declared.frame.Focus.TheVariants.{Enter, Pass, PassRest, Leave}
 
 -- what is done next, what is left behind it with the innermost first, and the state
 pub record Machine : Type 0 where
@@ -44,6 +45,7 @@ children_of (Some (Elem name simple body)) = []
 children_of (Some (Group children)) = children
 children_of (Some (Skip bits)) = []
 children_of (Some (Align bits)) = []
+children_of (Some (Boxed bits body)) = []
 
 -- a step that looks at nothing
 abbrev pub pass : Tally → Held → Focus → List Frame → State → Move
@@ -55,31 +57,37 @@ is_missing (Told found) = false
 is_missing TooFar = false
 is_missing Missing = true
 
--- the machine behind the reading of a leaf: as it was, where a byte hasn't come
-abbrev pub landed : ℕ → ℕ → Reached Find → List Frame → State → Machine
-landed window id Missing k s = record { focus = Enter id; stack = k; state = s }
-landed window id (Told found) k s = let o : Outcome = land window (Told found) s in record { focus = Leave o.end; stack = k; state = o.state }
-landed window id TooFar k s = let o : Outcome = land window TooFar s in record { focus = Leave o.end; stack = k; state = o.state }
+-- the machine behind the reading of a leaf whose content begins at a bit: as it was, where a byte hasn't come
+abbrev pub landed : Limits → ℕ → ℕ → Reached Find → List Frame → State → Machine
+landed limits first id Missing k s = record { focus = Enter id; stack = k; state = s }
+landed limits first id (Told found) k s =
+    let o : Outcome = land limits first (Told found) s in record { focus = Leave o.end; stack = k; state = o.state }
+landed limits first id TooFar k s = let o : Outcome = land limits first TooFar s in record { focus = Leave o.end; stack = k; state = o.state }
 
 -- the step of a leaf whose reading this is, with these bytes held behind it
-abbrev pub read_move : ℕ → Held → ℕ → Reading Find → List Frame → State → Move
-read_move window sight id reading k s = record {
+abbrev pub read_move : Limits → ℕ → Held → ℕ → Reading Find → List Frame → State → Move
+read_move limits first sight id reading k s = record {
   tally = plus one_row reading.tally;
-  machine = landed window id reading.reached k s;
+  machine = landed limits first id reading.reached k s;
   held = sight;
   waits = is_missing reading.reached;
 }
 
--- a leaf, which gives up the bytes that are no longer needed
-abbrev pub read_leaf : Held → ℕ → Option Primitive → List Frame → State → Move
-read_leaf held id None k s = pass one_row held (Leave Done) k s
-read_leaf held id (Some primitive) k s =
-    let sight : Held = from_byte held (anchor s) in
-    read_move held.size sight id (ask (seen_at sight) (program primitive s.at) nothing) k s
+-- a leaf, which gives up the bytes that are no longer needed; its box can't pass the end of the one around it
+abbrev pub read_leaf : Limits → Held → ℕ → Option Primitive → List Frame → State → Move
+read_leaf limits held id None k s = pass one_row held (Leave Done) k s
+read_leaf limits held id (Some primitive) k s =
+    if has_room primitive s.at s.stop
+    then (let sight : Held = from_byte held (anchor s) in
+    read_move limits (content_begins primitive s.at) sight id (ask (seen_at sight) (program primitive s.at s.stop) nothing) k s)
+    else pass one_row held (Leave (Failed LengthOutOfRange s.at)) k s
 
--- fill up to a bit begins, where there is any
+-- fill up to a bit begins, where there is any; it can't pass the end of the box
 abbrev pub enter_fill : Held → ℕ → List Frame → State → Move
-enter_fill held to k s = if nat_le to s.at then pass one_row held (Leave Done) k s else pass one_row held (Pass to) k s
+enter_fill held to k s =
+    if nat_le to s.at then pass one_row held (Leave Done) k s
+    else if nat_le to s.stop then pass one_row held (Pass to) k s
+    else pass one_row held (Leave (Failed LengthOutOfRange s.at)) k s
 
 -- What a look at a byte sees behind which all others were given up. Where it hasn't come, this is a look at the first that hasn't.
 abbrev pub seen_beyond : Held → ℕ → Seen
@@ -98,10 +106,48 @@ fill_move window sight to NotYet k s = record {
 }
 
 -- fill up to a bit, which gives up the bytes before its last one
-abbrev pub fill : Held → ℕ → List Frame → State → Move
-fill held to k s =
+abbrev pub fill : Limits → Held → ℕ → List Frame → State → Move
+fill limits held to k s =
     let last : ℕ = (to - 1) / 8 in
-    fill_move held.size (from_byte held (min last (end_of held))) to (seen_beyond held last) k s
+    fill_move limits.window (from_byte held (min last (end_of held))) to (seen_beyond held last) k s
+
+-- a box of so many bits begins; it can't pass the end of the one around it
+abbrev pub enter_box : Held → ℕ → ℕ → List Frame → State → Move
+enter_box held bits body k s =
+    if nat_le (s.at + bits) s.stop
+    then pass one_row held (Enter body) (Box s.stop ∷ k) (record s { stop = s.at + bits })
+    else pass one_row held (Leave (Failed LengthOutOfRange s.at)) k s
+
+-- The content of the innermost box is done, and the box around ends at this bit: so does the inner one here, or its rest begins.
+abbrev pub leave_box : Held → ℕ → List Frame → State → Move
+leave_box held outer k s =
+    if nat_le s.stop s.at
+    then pass nothing held (Leave Done) k (record s { stop = outer })
+    else pass nothing held (PassRest s.at outer) k s
+
+-- a byte of the rest of a box was seen: it is the last one, or the next one follows
+abbrev pub past_one : Held → ℕ → ℕ → List Frame → State → Move
+past_one sight byte outer k s =
+    if nat_le ((s.stop - 1) / 8) byte
+    then pass (saw_byte byte nothing) sight (Leave Done) k (record s { at = s.stop; stop = outer })
+    else pass (saw_byte byte nothing) sight (PassRest (8 * (byte + 1)) outer) k s
+
+-- the step over the byte of a bit in the rest of a box, by what the look at it sees, with these bytes held behind it
+abbrev pub rest_move : ℕ → Held → ℕ → ℕ → Seen → List Frame → State → Move
+rest_move window sight bit outer (Byte b) k s = past_one sight (bit / 8) outer k s
+rest_move window sight bit outer DataEnded k s = pass (saw_end (bit / 8) nothing) sight (Leave (Failed DataEnds s.at)) k s
+rest_move window sight bit outer Over k s = pass (saw_none nothing) sight (Leave (Stopped Window window)) k s
+rest_move window sight bit outer NotYet k s = record {
+  tally = saw_none nothing;
+  machine = record { focus = PassRest bit outer; stack = k; state = s };
+  held = sight;
+  waits = true;
+}
+
+-- the byte of a bit in the rest of a box, which gives up the bytes before it
+abbrev pub pass_rest : Limits → Held → ℕ → ℕ → List Frame → State → Move
+pass_rest limits held bit outer k s =
+    rest_move limits.window (from_byte held (min (bit / 8) (end_of held))) bit outer (seen_beyond held (bit / 8)) k s
 
 -- a group
 abbrev pub enter_group : Held → ℕ → List ℕ → List Frame → State → Move
@@ -116,13 +162,14 @@ enter_element most held id complex body k s =
     else pass one_row held (Leave (Stopped Nodes most)) k s
 
 -- a row begins
-abbrev pub enter : ℕ → Table → Held → ℕ → Option Row → List Frame → State → Move
-enter most table held id None k s = pass one_row held (Leave Done) k s
-enter most table held id (Some (Leaf prim)) k s = read_leaf held id (slice_get table.primitives prim) k s
-enter most table held id (Some (Elem name simple body)) k s = enter_element most held id (has_elements simple) body k s
-enter most table held id (Some (Group children)) k s = enter_group held id children k s
-enter most table held id (Some (Skip bits)) k s = enter_fill held (s.at + bits) k s
-enter most table held id (Some (Align bits)) k s = enter_fill held (aligned bits s.at) k s
+abbrev pub enter : Limits → Table → Held → ℕ → Option Row → List Frame → State → Move
+enter limits table held id None k s = pass one_row held (Leave Done) k s
+enter limits table held id (Some (Leaf prim)) k s = read_leaf limits held id (slice_get table.primitives prim) k s
+enter limits table held id (Some (Elem name simple body)) k s = enter_element limits.nodes held id (has_elements simple) body k s
+enter limits table held id (Some (Group children)) k s = enter_group held id children k s
+enter limits table held id (Some (Skip bits)) k s = enter_fill held (s.at + bits) k s
+enter limits table held id (Some (Align bits)) k s = enter_fill held (aligned bits s.at) k s
+enter limits table held id (Some (Boxed bits body)) k s = enter_box held bits body k s
 
 -- a group goes on with its next child, or ends
 abbrev pub go_on : Held → ℕ → ℕ → Option ℕ → List Frame → State → Move
@@ -133,6 +180,7 @@ go_on held id next (Some child) k s = pass nothing held (Enter child) (Rest id (
 abbrev pub leave_done : Table → Held → Frame → List Frame → State → Move
 leave_done table held (Rest id next) k s = go_on held id next (slice_get (children_of (slice_get table.rows id)) next) k s
 leave_done table held (Element outer complex) k s = pass nothing held (Leave Done) k (left outer complex s)
+leave_done table held (Box outer) k s = leave_box held outer k s
 
 -- what stands on the stack takes the end of the row before it
 abbrev pub leave : Table → Held → Frame → End → List Frame → State → Move
@@ -141,25 +189,28 @@ leave table held frame (Failed cause bit) k s = pass nothing held (Leave (Failed
 leave table held frame (Stopped cause quantity) k s = pass nothing held (Leave (Stopped cause quantity)) k s
 
 -- one step
-abbrev pub step : ℕ → Table → Held → Focus → List Frame → State → Move
-step most table held (Enter id) k s = enter most table held id (slice_get table.rows id) k s
-step most table held (Pass to) k s = fill held to k s
-step most table held (Leave end) [] s = pass nothing held (Leave end) [] s
-step most table held (Leave end) (frame ∷ k) s = leave table held frame end k s
+abbrev pub step : Limits → Table → Held → Focus → List Frame → State → Move
+step limits table held (Enter id) k s = enter limits table held id (slice_get table.rows id) k s
+step limits table held (Pass to) k s = fill limits held to k s
+step limits table held (PassRest bit outer) k s = pass_rest limits held bit outer k s
+step limits table held (Leave end) [] s = pass nothing held (Leave end) [] s
+step limits table held (Leave end) (frame ∷ k) s = leave table held frame end k s
 
 -- nothing is left to be done
 abbrev pub HasEnded : Focus → List Frame → Type 0
 HasEnded (Enter id) k = ⊥
 HasEnded (Pass to) k = ⊥
+HasEnded (PassRest bit outer) k = ⊥
 HasEnded (Leave end) k = k ≡ []
 
--- What is done next at a bit needs no byte before this one. Behind a failure none is needed.
-abbrev pub NeedsFrom : ℕ → Focus → ℕ → Type 0
-NeedsFrom base (Enter id) at = base ≤ at / 8
-NeedsFrom base (Pass to) at = base ≤ (to - 1) / 8
-NeedsFrom base (Leave Done) at = base ≤ at / 8
-NeedsFrom base (Leave (Failed cause bit)) at = Unit {0}
-NeedsFrom base (Leave (Stopped cause quantity)) at = Unit {0}
+-- What is done next needs no byte before this one. Behind a failure none is needed. The rest of a box has a bit.
+abbrev pub NeedsFrom : ℕ → Focus → State → Type 0
+NeedsFrom base (Enter id) s = base ≤ s.at / 8
+NeedsFrom base (Pass to) s = base ≤ (to - 1) / 8
+NeedsFrom base (PassRest bit outer) s = (base ≤ bit / 8) × (bit < s.stop)
+NeedsFrom base (Leave Done) s = base ≤ s.at / 8
+NeedsFrom base (Leave (Failed cause bit)) s = Unit {0}
+NeedsFrom base (Leave (Stopped cause quantity)) s = Unit {0}
 
 -- whether there are no frames
 abbrev pub is_none : List Frame → Bool

@@ -5,7 +5,7 @@ use Rattle.dfdl_terms.specs.Rows.{Table}
 use Rattle.dfdl_grammar.specs.States.{Input}
 use Rattle.dfdl_grammar.specs.Outcomes.{Outcome}
 use Rattle.dfdl_parse.specs.declared.parser.Parser.{Parser}
-use Rattle.dfdl_parse.specs.Shown.{shown}
+use Rattle.dfdl_parse.specs.Shown.{KeepsTo, shown}
 use Rattle.dfdl_parse.specs.Runs.{Runs}
 
 -- the window holds no byte more, and none that it gave up was needed
@@ -17,18 +17,18 @@ pub record Slid (old new : Held) : Type 0 where
 
 -- The machine has gone on in so many looks, and stands in the work on any data as before.
 pub record Advanced (table : Table) (old new : Parser) (before after : Held) (looks_made : ℕ) : Type 0 where
-  pub runs : (input : Input) (root : Outcome) (spent : ℕ) → input.limits.nodes ≡ old.region.most
+  pub runs : (input : Input) (root : Outcome) (spent : ℕ) → KeepsTo old input.limits
       → Runs input table root (shown old) before spent old.far → Runs input table root (shown new) after (spent + looks_made) new.far
   pub slid : Slid before after
 
 -- The machine has gone on, and waits for a byte: of its looks the last ones were in vain. The data that have come, taken as
--- whole, end in the leaf that waits.
+-- whole, end in the row that waits.
 pub record Waited (table : Table) (old new : Parser) (before after : Held) (looks_made : ℕ) : Type 0 where
   pub vain : ℕ
   pub few : vain ≤ looks_made
   pub advanced : Advanced table old new before after (looks_made - vain)
   pub ended : before.ended ≡ false
   pub room : 0 < room_of after
-  pub missed : (input : Input) (root : Outcome) (spent : ℕ) → input.limits.nodes ≡ old.region.most
+  pub missed : (input : Input) (root : Outcome) (spent : ℕ) → KeepsTo old input.limits
       → Runs input table root (shown old) before spent old.far → length input.bytes ≡ end_of before
       → (end_of before < root.tally.far) × (root.tally.tail ≡ vain)

@@ -19,7 +19,7 @@ abbrev pub document_of : Session → List ℕ → Outcome
 document_of s bytes = document s.limits s.terms.now bytes
 
 -- The session has taken the stream, whatever comes behind it, in so many steps, of which some were allowed besides the
--- looks of the meaning by pieces that ended in a leaf.
+-- looks of the meaning by pieces that ended in a row.
 pub record StandsFor (s : Session) (stream : List ℕ) (steps allowed : ℕ) : Type 0 where
   pub looks : ℕ
   pub runs : (more : List ℕ) → Runs (input_of s (stream ++ more)) s.terms.now (document_of s (stream ++ more)) (shown s.parser) s.sight looks s.parser.far
@@ -30,10 +30,11 @@ pub record StandsFor (s : Session) (stream : List ℕ) (steps allowed : ℕ) : T
 pub record IsReady (s : Session) : Type 0 where
   pub ended : s.sight.ended ≡ false
   pub room : 0 < room_of s.sight
-  pub low : NeedsFrom s.sight.base s.parser.focus s.parser.at
+  pub low : NeedsFrom s.sight.base s.parser.focus (state_of s.parser)
   pub at : s.parser.at ≤ 8 * end_of s.sight
   pub window : s.sight.size ≡ s.limits.window
   pub nodes : s.parser.region.most ≡ s.limits.nodes
+  pub text : s.parser.text.most ≡ s.limits.text
   pub memory : s.lost ≡ false
 
 -- the session has come to this outcome, in so many steps, of which some were allowed besides its looks

@@ -1,24 +1,31 @@
 -- What one step of the parser is.
-use Rattle.std.specs.Prelude.{◌≡◌, ◌≤◌, ℕ, zero, suc, ◌+◌, ◌*◌, Bool, true, false, max}
+use Rattle.std.specs.Prelude.{◌≡◌, ◌≤◌, ℕ, zero, suc, ◌+◌, ◌-◌, ◌*◌, Bool, true, false, max, length, take, drop}
 use Rattle.dfdl_bits.specs.Window.{Held}
 use Rattle.dfdl_bits.specs.declared.window.Seen.{Seen}
 use Rattle.dfdl_bits.specs.declared.window.Seen.TheVariants.{Byte, End, Over, NotYet as NotSeen}
 use Rattle.dfdl_report.specs.declared.cause.ParseCause.TheVariants.{DataEnds}
 use Rattle.dfdl_looks.specs.Asks.{Reached, Told, TooFar, Missing, Reading}
-use Rattle.dfdl_grammar.specs.Leaves.{Find, Fails, Finds}
+use Rattle.dfdl_terms.specs.declared.row.Primitive.{Primitive}
+use Rattle.dfdl_terms.specs.declared.row.Primitive.TheVariants as primitive
+use Rattle.dfdl_region.specs.Bytes.{utf8_of}
+use Rattle.dfdl_grammar.specs.Leaves.{Find, Fails, Finds, FindsOctets, FindsText}
 use Rattle.dfdl_parse.specs.declared.leaf.Found.{Found}
-use Rattle.dfdl_parse.specs.declared.leaf.Found.TheVariants.{Reads, Fails as HasFailed, Past, NotYet}
+use Rattle.dfdl_parse.specs.declared.leaf.Found.TheVariants.{Reads, Octets, Text, Fails as HasFailed, Past, NotYet}
 use Rattle.dfdl_parse.specs.declared.leaf.Glance.{Glance}
+use Rattle.dfdl_parse.specs.declared.leaf.Scratch.{Scratch}
 use Rattle.dfdl_parse.specs.declared.parser.Parser.{Parser}
 use Rattle.dfdl_parse.specs.Machines.{Move}
 use Rattle.dfdl_parse.specs.Shown.{shown}
 
--- what is found in a leaf of so many bits
-abbrev pub found_shown : ℕ → Found → Reached Find
-found_shown bits (Reads content) = Told (Finds content bits)
-found_shown bits (HasFailed cause) = Told (Fails cause)
-found_shown bits Past = TooFar
-found_shown bits NotYet = Missing
+-- what is found in a leaf of so many bits, where this was read
+abbrev pub found_shown : ℕ → Scratch → Found → Reached Find
+found_shown bits scratch (Reads content) = Told (Finds content bits)
+found_shown bits scratch Octets = Told (FindsOctets scratch.octets.items bits)
+found_shown bits scratch (Text from to end) =
+    Told (FindsText (utf8_of (take (to - from) (drop from scratch.characters.items))) end)
+found_shown bits scratch (HasFailed cause) = Told (Fails cause)
+found_shown bits scratch Past = TooFar
+found_shown bits scratch NotYet = Missing
 
 -- how far a run of so many bytes from a byte on has seen: the byte behind it, where there is any
 abbrev pub far_of_run : ℕ → ℕ → ℕ
@@ -32,16 +39,53 @@ CutShort End first count glance = (glance.found ≡ HasFailed DataEnds) × (glan
 CutShort NotSeen first count glance = (glance.found ≡ NotYet) × (glance.far ≡ far_of_run first count)
 CutShort Over first count glance = (glance.found ≡ Past) × (glance.far ≡ far_of_run first count)
 
--- a leaf that is read lies in the bytes before this one
+-- a leaf that is read, whose box ends at this bit unless it is a string, lies in the bytes before this one
 abbrev pub IsWithin : Found → ℕ → ℕ → Type 0
-IsWithin (Reads content) behind end = behind ≤ 8 * end
-IsWithin (HasFailed cause) behind end = Unit {0}
-IsWithin Past behind end = Unit {0}
-IsWithin NotYet behind end = Unit {0}
+IsWithin (Reads content) behind last = behind ≤ 8 * last
+IsWithin Octets behind last = behind ≤ 8 * last
+IsWithin (Text from to end) behind last = end ≤ 8 * last
+IsWithin (HasFailed cause) behind last = Unit {0}
+IsWithin Past behind last = Unit {0}
+IsWithin NotYet behind last = Unit {0}
 
--- the answer is this reading of a leaf of so many bits, in so many looks
-pub record Answers (reading : Reading Find) (bits : ℕ) (glance : Glance) (looks_made : ℕ) : Type 0 where
-  pub reached : reading.reached ≡ found_shown bits glance.found
+-- the characters of a string are some of those that were read
+abbrev pub HasPiece : Found → Scratch → Type 0
+HasPiece (Reads content) scratch = Unit {0}
+HasPiece Octets scratch = Unit {0}
+HasPiece (Text from to end) scratch = (from ≤ to) × (to ≤ length scratch.characters.items)
+HasPiece (HasFailed cause) scratch = Unit {0}
+HasPiece Past scratch = Unit {0}
+HasPiece NotYet scratch = Unit {0}
+
+-- what is found is no string and no hexBinary
+abbrev pub IsPlain : Found → Type 0
+IsPlain (Reads content) = Unit {0}
+IsPlain Octets = ⊥
+IsPlain (Text from to end) = ⊥
+IsPlain (HasFailed cause) = Unit {0}
+IsPlain Past = Unit {0}
+IsPlain NotYet = Unit {0}
+
+-- nothing is read
+abbrev pub HasNone : Found → Type 0
+HasNone (Reads content) = ⊥
+HasNone Octets = ⊥
+HasNone (Text from to end) = ⊥
+HasNone (HasFailed cause) = Unit {0}
+HasNone Past = Unit {0}
+HasNone NotYet = Unit {0}
+
+-- the primitive is a number or a boolean
+abbrev pub IsNumber : Primitive → Type 0
+IsNumber (primitive.Integer form) = Unit {0}
+IsNumber (primitive.Packed form) = Unit {0}
+IsNumber (primitive.Truth form) = Unit {0}
+IsNumber (primitive.Octets form) = ⊥
+IsNumber (primitive.Text form) = ⊥
+
+-- the answer is this reading of a leaf of so many bits, in so many looks, where this was read
+pub record Answers (reading : Reading Find) (bits : ℕ) (scratch : Scratch) (glance : Glance) (looks_made : ℕ) : Type 0 where
+  pub reached : reading.reached ≡ found_shown bits scratch glance.found
   pub looks : reading.tally.looks ≡ looks_made
   pub far : reading.tally.far ≡ glance.far
 

@@ -8,6 +8,8 @@ pub enum Frame {
     Rest { group: RowId, next: usize },
     /// An element ends, and the one of this number is the innermost open one again.
     Element { outer: u32, complex: bool },
+    /// A box ends, and the one around it ends at this bit.
+    Box { outer: u64 },
 }
 
 /// What is done next.
@@ -17,6 +19,8 @@ pub enum Focus {
     Enter(RowId),
     /// Fill up to this bit is passed over.
     Pass(u64),
+    /// The rest of the innermost box from the byte of a bit on is passed over. Then the box around it ends at `outer`.
+    PassRest { bit: u64, outer: u64 },
     /// A row has ended.
     Leave(End),
 }

@@ -20,7 +20,7 @@ use std::sync::ledger::{Blank, Ledger};
 use std::test::Fail;
 
 // A number of so many bits.
-fn number(bits: u32, kind: Simple) -> Primitive
+pub(crate) fn number(bits: u32, kind: Simple) -> Primitive
     requires some { 1 ≤ bits }
     requires few { bits ≤ most_bits (form_of kind) }
     requires short { bits ≤ 128 }
@@ -75,7 +75,12 @@ fn fill(leading_skip: u32, alignment: u32, trailing_skip: u32) -> Framing {
     }
 }
 
-fn element(alloc: Global, name: &str, simple: Option<Simple>, body: u32) -> Result<Row, AllocError>
+pub(crate) fn element(
+    alloc: Global,
+    name: &str,
+    simple: Option<Simple>,
+    body: u32,
+) -> Result<Row, AllocError>
     ensures { IfOk result (λ row. row ≡ Row.Elem name.now simple body) }
 {
     Ok(Row::Elem {
@@ -85,7 +90,11 @@ fn element(alloc: Global, name: &str, simple: Option<Simple>, body: u32) -> Resu
     })
 }
 
-fn primitives(alloc: Global, a: Primitive, b: Primitive) -> Result<Vec<Primitive>, AllocError>
+pub(crate) fn primitives(
+    alloc: Global,
+    a: Primitive,
+    b: Primitive,
+) -> Result<Vec<Primitive>, AllocError>
     requires a { IsPrimitive a }
     requires b { IsPrimitive b }
     ensures forms { IfOk result (λ forms. All IsPrimitive forms.items) }
@@ -112,7 +121,7 @@ fn group(alloc: Global, first: u32) -> Result<Row, AllocError>
 }
 
 // Puts a row behind rows that name two primitives.
-fn push(rows: &mut Vec<Row>, row: Row) -> Result<(), AllocError>
+pub(crate) fn push(rows: &mut Vec<Row>, row: Row) -> Result<(), AllocError>
     requires row { NamesWithin 2 row }
     requires rows { All (NamesWithin 2) rows.old.items }
     ensures rows { OnOk result (All (NamesWithin 2) rows.new.items) }
@@ -180,7 +189,7 @@ fn record(alloc: Global, a: (Primitive, Framing), b: (Primitive, Framing)) -> Re
     Ok(Terms::build(alloc, rows, Tables::new(forms))?)
 }
 
-fn feed<L: Ledger>(
+pub(crate) fn feed<L: Ledger>(
     rt: &impl Abort,
     session: &mut Session<'_>,
     piece: &[u8],
@@ -196,7 +205,7 @@ fn feed<L: Ledger>(
 }
 
 // What the data are where they come in pieces of this size.
-fn outcome<L: Ledger>(
+pub(crate) fn outcome<L: Ledger>(
     rt: &impl Abort,
     session: &mut Session<'_>,
     data: &[u8],
@@ -218,6 +227,7 @@ fn outcome<L: Ledger>(
 const LIMITS: Limits = Limits {
     window: 16,
     nodes: 10,
+    text: 10,
 };
 
 // The data are a record of these contents that ends at this bit.
@@ -440,6 +450,7 @@ fn narrow<L: Ledger>(rt: &impl Abort, alloc: Global, blank: Blank) -> Result<(),
     let limits = Limits {
         window: 1,
         nodes: 10,
+        text: 10,
     };
     let byte = number(8, Simple::UnsignedByte);
     let terms = record(alloc, (byte, fill(800, 1, 0)), (byte, fill(0, 1, 0)))?;

@@ -5,17 +5,25 @@
 //! else. `StandsFor`, `Ends` and `Finished` (`specs/Sessions.antt`) say so. Serves 'Parsing Algorithm'.
 #![tactic(auto)]
 
+#[cfg(test)]
+mod box_tests;
+mod boxes;
 pub mod frame;
 mod framing;
 #[cfg(test)]
 mod framing_tests;
+mod landing;
 mod leaf;
+#[cfg(test)]
+mod leaf_tests;
+mod octets;
 mod outcome;
 pub mod parser;
 mod path;
 mod run;
 pub mod session;
 pub mod stack;
+mod strings;
 #[cfg(test)]
 mod tests;
 

@@ -1,29 +1,31 @@
 // The machine: what is done next, the stack, and the state.
 ghost use Rattle.std.specs.Prelude.{◌≡◌, length, ◌+◌, ◌-◌, ◌*◌, ◌/◌, ◌^◌, ◌<◌, ◌≤◌, ◌↔◌, ◌∷◌, [], ℕ, List, true, false, IfOk, IfSome, OnOk, IsTrue, Some, slice_get};
 ghost use Rattle.dfdl_bits.specs.Window.{Held, end_of};
-ghost use Rattle.dfdl_terms.specs.Rows.{IsPrimitive};
+ghost use Rattle.dfdl_grammar.specs.declared.end.End.{End as AnyEnd};
 ghost use Rattle.dfdl_grammar.specs.declared.end.End.TheVariants.{Done};
 ghost use Rattle.dfdl_grammar.specs.Elements.{left};
-ghost use Rattle.dfdl_grammar.specs.Leaves.{Find};
-ghost use Rattle.dfdl_looks.specs.Asks.{Reading};
+ghost use Rattle.dfdl_grammar.specs.States.{no_box};
 ghost use Rattle.dfdl_looks.specs.Tallies.{nothing};
-ghost use Rattle.dfdl_parse.specs.Machines.{HasEnded, NeedsFrom, children_of, step, enter, enter_fill, enter_group, enter_element, fill, fill_move, read_leaf, read_move, leave, leave_done, go_on, pass};
+ghost use Rattle.dfdl_parse.specs.Machines.{HasEnded, NeedsFrom, children_of, step, enter, enter_fill, enter_group, enter_element, fill, fill_move, leave, leave_done, go_on, pass};
 ghost use Rattle.dfdl_parse.specs.Answers.{answer_at, answer_of};
-ghost use Rattle.dfdl_parse.specs.Steps.{Answers, IsWithin, Moved};
-ghost use Rattle.dfdl_parse.specs.Shown.{state_of};
+ghost use Rattle.dfdl_parse.specs.Steps.{Moved};
+ghost use Rattle.dfdl_parse.specs.Shown.{HasSameLimits, limits_of, state_of};
 
 use crate::frame::{Focus, Frame};
 use crate::framing::{aligned, last_byte, look_beyond};
-use crate::leaf::{Found, Glance, bits_of, read_leaf};
+use crate::leaf::Scratch;
 use crate::outcome::Outcome;
 use crate::stack::Stack;
 use dfdl_bits::{Seen, Steps, Window};
-use dfdl_grammar::End;
-use dfdl_region::{Content, Node, NodeRegion};
+use dfdl_grammar::{End, Limits};
+use dfdl_region::{Content, Node, NodeRegion, TextRegion};
 use dfdl_report::{LimitCause, ParseCause};
-use dfdl_terms::{Primitive, Row, RowId, Terms};
+use dfdl_terms::{Row, RowId, Terms};
 use std::alloc::{AllocError, Global};
 use std::sync::ledger::Ledger;
+
+// The bit at which a box would end that is around everything.
+const NO_BOX: u64 = u64::MAX;
 
 // How many frames the stack has room for at first.
 const FRAMES: usize = 64;
@@ -34,25 +36,33 @@ pub struct Parser {
     pub(crate) focus: Focus,
     pub(crate) stack: Stack,
     pub(crate) at: u64,
+    pub(crate) stop: u64,
     pub(crate) inside: u32,
     pub(crate) region: NodeRegion,
+    pub(crate) text: TextRegion,
+    pub(crate) scratch: Scratch,
     pub(crate) far: u64,
 }
 
 impl Parser {
-    /// The machine before the root element's row, with the memory for so many elements.
-    pub(crate) fn open(alloc: Global, terms: &Terms, nodes: u32) -> Result<Parser, AllocError>
+    /// The machine before the root element's row, with the memory for as many elements and bytes of text as there may be.
+    pub(crate) fn open(alloc: Global, terms: &Terms, limits: Limits) -> Result<Parser, AllocError>
         ensures focus { IfOk result (λ p. p.focus ≡ Focus.Enter (length terms.now.rows - 1)) }
         ensures stack { IfOk result (λ p. p.stack ≡ []) }
         ensures front { IfOk result (λ p. (p.at ≡ 0) × (p.inside ≡ 0) × (p.far ≡ 0)) }
-        ensures region { IfOk result (λ p. p.region ≡ record { nodes = []; most = nodes }) }
+        ensures stop { IfOk result (λ p. p.stop ≡ no_box) }
+        ensures region { IfOk result (λ p. p.region ≡ record { nodes = []; most = limits.nodes }) }
+        ensures text { IfOk result (λ p. p.text ≡ record { bytes = []; most = limits.text }) }
     {
         Ok(Parser {
             focus: Focus::Enter(RowId::new(terms.rows() - 1)),
             stack: Stack::open(alloc, FRAMES)?,
             at: 0,
+            stop: NO_BOX,
             inside: 0,
-            region: NodeRegion::open(alloc, nodes)?,
+            region: NodeRegion::open(alloc, limits.nodes)?,
+            text: TextRegion::open(alloc, limits.text)?,
+            scratch: Scratch::open(alloc),
             far: 0,
         })
     }
@@ -65,6 +75,7 @@ impl Parser {
         match focus {
             Focus::Enter(_) => Outcome::Open,
             Focus::Pass(_) => Outcome::Open,
+            Focus::PassRest { .. } => Outcome::Open,
             Focus::Leave(end) => {
                 if self.stack.is_empty() {
                     answer_of(end)
@@ -82,6 +93,7 @@ impl Parser {
         match self.focus {
             Focus::Enter(_) => false,
             Focus::Pass(_) => false,
+            Focus::PassRest { .. } => false,
             Focus::Leave(_) => self.stack.is_empty(),
         }
     }
@@ -93,13 +105,13 @@ impl Parser {
         sight: &mut Window,
         steps: &mut Steps<L>,
     ) -> Result<bool, AllocError>
-        requires base { NeedsFrom sight.old.base self.old.focus self.old.at }
+        requires base { NeedsFrom sight.old.base self.old.focus (state_of self.old) }
         requires at { self.old.at ≤ 8 * end_of sight.old }
         ensures moved { IfOk result (λ waits. Moved
-            (step self.old.region.most terms.now sight.old self.old.focus self.old.stack (state_of self.old))
+            (step (limits_of self.old sight.old) terms.now sight.old self.old.focus self.old.stack (state_of self.old))
             waits self.old.far self.new sight.new (steps.new - steps.old)) }
         ensures steps { steps.old ≤ steps.new }
-        ensures most { OnOk result (self.new.region.most ≡ self.old.region.most) }
+        ensures most { OnOk result (HasSameLimits self.old self.new) }
         ensures at { OnOk result (self.new.at ≤ 8 * end_of sight.new) }
     {
         let focus = self.focus;
@@ -109,6 +121,7 @@ impl Parser {
                 Ok(waits)
             }
             Focus::Pass(to) => Ok(self.pass(to, sight, steps)),
+            Focus::PassRest { bit, outer } => Ok(self.pass_rest(bit, outer, sight, steps)),
             Focus::Leave(end) => {
                 self.leave(terms, end)?;
                 Ok(false)
@@ -128,10 +141,10 @@ impl Parser {
         requires base { sight.old.base ≤ self.old.at / 8 }
         requires at { self.old.at ≤ 8 * end_of sight.old }
         ensures moved { IfOk result (λ waits. Moved
-            (enter self.old.region.most terms.now sight.old id (slice_get terms.now.rows id) self.old.stack (state_of self.old))
+            (enter (limits_of self.old sight.old) terms.now sight.old id (slice_get terms.now.rows id) self.old.stack (state_of self.old))
             waits self.old.far self.new sight.new (steps.new - steps.old)) }
         ensures steps { steps.old ≤ steps.new }
-        ensures most { OnOk result (self.new.region.most ≡ self.old.region.most) }
+        ensures most { OnOk result (HasSameLimits self.old self.new) }
         ensures at { OnOk result (self.new.at ≤ 8 * end_of sight.new) }
     {
         if id.number() >= terms.rows() {
@@ -141,7 +154,8 @@ impl Parser {
         match terms.row(id) {
             Row::Leaf { prim } => {
                 let primitive = &terms.tables().primitives()[*prim as usize];
-                Ok(self.read(primitive, id, sight, steps))
+                let waits = self.read(primitive, id, sight, steps)?;
+                Ok(waits)
             }
             Row::Elem { simple, body, .. } => {
                 self.begin(id, simple.is_none(), *body)?;
@@ -161,79 +175,27 @@ impl Parser {
                 self.begin_fill(aligned(*bits, self.at));
                 Ok(false)
             }
-        }
-    }
-
-    // A leaf is read.
-    #[tactic(auto, using(crate::proofs::Windows::end_from))]
-    fn read<L: Ledger>(
-        &mut self,
-        primitive: &Primitive,
-        id: RowId,
-        sight: &mut Window,
-        steps: &mut Steps<L>,
-    ) -> bool
-        requires focus { self.old.focus ≡ Focus.Enter id }
-        requires base { sight.old.base ≤ self.old.at / 8 }
-        requires at { self.old.at ≤ 8 * end_of sight.old }
-        requires primitive { IsPrimitive primitive.now }
-        ensures moved { Moved (read_leaf sight.old id (Some primitive.now) self.old.stack (state_of self.old))
-            result self.old.far self.new sight.new (steps.new - steps.old) }
-        ensures steps { steps.old ≤ steps.new }
-        ensures most { self.new.region.most ≡ self.old.region.most }
-        ensures at { self.new.at ≤ 8 * end_of sight.new }
-    {
-        let _end = sight.end();
-        sight.drop_before(self.at / 8);
-        let glance = read_leaf(primitive, self.at, sight, steps);
-        self.land(glance, bits_of(primitive), sight.size() as u64)
-    }
-
-    // The reading of a leaf of so many bits is taken.
-    fn land(&mut self, glance: Glance, bits: u32, window: u64) -> bool
-        requires few { bits ≤ 156 }
-        requires bound { self.old.at ≤ 2 ^ 63 }
-        ensures moved { (sight : Held) (id looks : ℕ) (reading : Reading Find) → self.old.focus ≡ Focus.Enter id
-            → Answers reading bits glance looks
-            → Moved (read_move window sight id reading self.old.stack (state_of self.old)) result self.old.far self.new sight looks }
-        ensures most { self.new.region.most ≡ self.old.region.most }
-        ensures at { (end : ℕ) → self.old.at ≤ 8 * end → IsWithin glance.found (self.old.at + bits) end → self.new.at ≤ 8 * end }
-    {
-        match &glance.found {
-            Found::NotYet => return true,
-            Found::Reads(content) => {
-                self.region.set_content(self.inside, *content);
-                self.at += u64::from(bits);
-                self.focus = Focus::Leave(End::Done);
-            }
-            Found::Fails(cause) => {
-                self.focus = Focus::Leave(End::Failed {
-                    cause: *cause,
-                    bit: self.at,
-                });
-            }
-            Found::Past => {
-                self.focus = Focus::Leave(End::Stopped {
-                    cause: LimitCause::Window,
-                    quantity: window,
-                });
+            Row::Boxed { bits, body } => {
+                let _end = sight.end();
+                self.begin_box(*bits, *body)?;
+                Ok(false)
             }
         }
-        self.far = self.far.max(glance.far);
-        false
     }
 
-    // Fill up to a bit begins, where there is any.
+    // Fill up to a bit begins, where there is any. It can't pass the end of the box.
     fn begin_fill(&mut self, to: u64)
         ensures moved { (held : Held) → Moved
             (enter_fill held to self.old.stack (state_of self.old)) false self.old.far self.new held 0 }
-        ensures most { self.new.region.most ≡ self.old.region.most }
+        ensures most { HasSameLimits self.old self.new }
         ensures at { self.new.at ≡ self.old.at }
     {
         if to <= self.at {
             self.focus = Focus::Leave(End::Done);
-        } else {
+        } else if to <= self.stop {
             self.focus = Focus::Pass(to);
+        } else {
+            self.fail(ParseCause::LengthOutOfRange);
         }
     }
 
@@ -242,10 +204,10 @@ impl Parser {
         requires focus { self.old.focus ≡ Focus.Pass to }
         requires base { sight.old.base ≤ (to - 1) / 8 }
         requires at { self.old.at ≤ 8 * end_of sight.old }
-        ensures moved { Moved (fill sight.old to self.old.stack (state_of self.old))
+        ensures moved { Moved (fill (limits_of self.old sight.old) sight.old to self.old.stack (state_of self.old))
             result self.old.far self.new sight.new (steps.new - steps.old) }
         ensures steps { steps.old ≤ steps.new }
-        ensures most { self.new.region.most ≡ self.old.region.most }
+        ensures most { HasSameLimits self.old self.new }
         ensures at { self.new.at ≤ 8 * end_of sight.new }
     {
         let window = sight.size() as u64;
@@ -258,9 +220,8 @@ impl Parser {
         requires focus { self.old.focus ≡ Focus.Pass to }
         ensures moved { (sight : Held) → Moved
             (fill_move window sight to seen self.old.stack (state_of self.old)) result self.old.far self.new sight 1 }
-        ensures most { self.new.region.most ≡ self.old.region.most }
+        ensures most { HasSameLimits self.old self.new }
     {
-        let first = self.at;
         let far = self.far.max(last_byte(to) + 1);
         match seen {
             Seen::NotYet => return true,
@@ -270,18 +231,10 @@ impl Parser {
                 self.far = far;
             }
             Seen::End => {
-                self.focus = Focus::Leave(End::Failed {
-                    cause: ParseCause::DataEnds,
-                    bit: first,
-                });
+                self.fail(ParseCause::DataEnds);
                 self.far = far;
             }
-            Seen::Over => {
-                self.focus = Focus::Leave(End::Stopped {
-                    cause: LimitCause::Window,
-                    quantity: window,
-                });
-            }
+            Seen::Over => self.stop_at(LimitCause::Window, window),
         }
         false
     }
@@ -291,7 +244,7 @@ impl Parser {
         ensures moved { (held : Held) → OnOk result (Moved
             (enter_element self.old.region.most held id complex body self.old.stack (state_of self.old))
             false self.old.far self.new held 0) }
-        ensures most { OnOk result (self.new.region.most ≡ self.old.region.most) }
+        ensures most { OnOk result (HasSameLimits self.old self.new) }
         ensures at { OnOk result (self.new.at ≡ self.old.at) }
     {
         let outer = self.inside;
@@ -307,10 +260,8 @@ impl Parser {
                 self.focus = Focus::Enter(body);
             }
             Err(_) => {
-                self.focus = Focus::Leave(End::Stopped {
-                    cause: LimitCause::Nodes,
-                    quantity: u64::from(self.region.most()),
-                });
+                let most = u64::from(self.region.most());
+                self.stop_at(LimitCause::Nodes, most);
             }
         }
         Ok(())
@@ -320,7 +271,7 @@ impl Parser {
     fn first_child(&mut self, id: RowId, children: &[RowId]) -> Result<(), AllocError>
         ensures moved { (held : Held) → OnOk result (Moved
             (enter_group held id children.now self.old.stack (state_of self.old)) false self.old.far self.new held 0) }
-        ensures most { OnOk result (self.new.region.most ≡ self.old.region.most) }
+        ensures most { OnOk result (HasSameLimits self.old self.new) }
         ensures at { OnOk result (self.new.at ≡ self.old.at) }
     {
         match children {
@@ -339,9 +290,9 @@ impl Parser {
     fn leave(&mut self, terms: &Terms, end: End) -> Result<(), AllocError>
         requires focus { self.old.focus ≡ Focus.Leave end }
         ensures moved { (held : Held) → OnOk result (Moved
-            (step self.old.region.most terms.now held (Focus.Leave end) self.old.stack (state_of self.old))
+            (step (limits_of self.old held) terms.now held (Focus.Leave end) self.old.stack (state_of self.old))
             false self.old.far self.new held 0) }
-        ensures most { OnOk result (self.new.region.most ≡ self.old.region.most) }
+        ensures most { OnOk result (HasSameLimits self.old self.new) }
         ensures at { OnOk result (self.new.at ≡ self.old.at) }
     {
         match self.stack.pop() {
@@ -354,7 +305,7 @@ impl Parser {
     fn resume(&mut self, terms: &Terms, frame: Frame, end: End) -> Result<(), AllocError>
         ensures moved { (held : Held) → OnOk result (Moved
             (leave terms.now held frame end self.old.stack (state_of self.old)) false self.old.far self.new held 0) }
-        ensures most { OnOk result (self.new.region.most ≡ self.old.region.most) }
+        ensures most { OnOk result (HasSameLimits self.old self.new) }
         ensures at { OnOk result (self.new.at ≡ self.old.at) }
     {
         match end {
@@ -374,13 +325,17 @@ impl Parser {
     fn go_on(&mut self, terms: &Terms, frame: Frame) -> Result<(), AllocError>
         ensures moved { (held : Held) → OnOk result (Moved
             (leave_done terms.now held frame self.old.stack (state_of self.old)) false self.old.far self.new held 0) }
-        ensures most { OnOk result (self.new.region.most ≡ self.old.region.most) }
+        ensures most { OnOk result (HasSameLimits self.old self.new) }
         ensures at { OnOk result (self.new.at ≡ self.old.at) }
     {
         match frame {
             Frame::Rest { group, next } => self.next_child(terms, group, next),
             Frame::Element { outer, complex } => {
                 self.close(outer, complex);
+                Ok(())
+            }
+            Frame::Box { outer } => {
+                self.leave_box(outer);
                 Ok(())
             }
         }
@@ -391,7 +346,7 @@ impl Parser {
         ensures moved { (held : Held) → OnOk result (Moved
             (go_on held group next (slice_get (children_of (slice_get terms.now.rows group)) next) self.old.stack (state_of self.old))
             false self.old.far self.new held 0) }
-        ensures most { OnOk result (self.new.region.most ≡ self.old.region.most) }
+        ensures most { OnOk result (HasSameLimits self.old self.new) }
         ensures at { OnOk result (self.new.at ≡ self.old.at) }
     {
         match child_of(terms, group, next) {
@@ -413,7 +368,7 @@ impl Parser {
     fn close(&mut self, outer: u32, complex: bool)
         ensures moved { (held : Held) → Moved
             (pass nothing held (Focus.Leave Done) self.old.stack (left outer complex (state_of self.old))) false self.old.far self.new held 0 }
-        ensures most { self.new.region.most ≡ self.old.region.most }
+        ensures most { HasSameLimits self.old self.new }
         ensures at { self.new.at ≡ self.old.at }
     {
         if complex {
@@ -421,6 +376,27 @@ impl Parser {
         }
         self.inside = outer;
         self.focus = Focus::Leave(End::Done);
+    }
+
+    // The work ends for a cause, at the bit that comes next.
+    pub(crate) fn fail(&mut self, cause: ParseCause)
+        ensures { self.new ≡ record self.old { focus = Focus.Leave (AnyEnd.Failed cause self.old.at) } }
+    {
+        self.fail_at(cause, self.at);
+    }
+
+    // The work ends for a cause, at a bit.
+    pub(crate) fn fail_at(&mut self, cause: ParseCause, bit: u64)
+        ensures { self.new ≡ record self.old { focus = Focus.Leave (AnyEnd.Failed cause bit) } }
+    {
+        self.focus = Focus::Leave(End::Failed { cause, bit });
+    }
+
+    // The work ends at a limit, which allows this quantity.
+    pub(crate) fn stop_at(&mut self, cause: LimitCause, quantity: u64)
+        ensures { self.new ≡ record self.old { focus = Focus.Leave (AnyEnd.Stopped cause quantity) } }
+    {
+        self.focus = Focus::Leave(End::Stopped { cause, quantity });
     }
 }
 
@@ -438,6 +414,7 @@ fn child_of(terms: &Terms, group: RowId, place: usize) -> Option<RowId>
         Row::Elem { .. } => None,
         Row::Skip { .. } => None,
         Row::Align { .. } => None,
+        Row::Boxed { .. } => None,
     }
 }
 

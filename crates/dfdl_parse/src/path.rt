@@ -74,6 +74,7 @@ fn push_name(
         Row::Group { .. } => Ok(()),
         Row::Skip { .. } => Ok(()),
         Row::Align { .. } => Ok(()),
+        Row::Boxed { .. } => Ok(()),
     }
 }
 

@@ -3,6 +3,7 @@ ghost use Rattle.std.specs.Prelude.{◌≡◌, ◌*◌, ◌≤◌, ◌-◌, IfOk
 ghost use Rattle.dfdl_bits.specs.Window.{end_of};
 ghost use Rattle.dfdl_parse.specs.Machines.{HasEnded, NeedsFrom};
 ghost use Rattle.dfdl_parse.specs.Running.{Advanced, Waited};
+ghost use Rattle.dfdl_parse.specs.Shown.{HasSameLimits, state_of};
 
 use crate::parser::Parser;
 use dfdl_bits::{Steps, Window};
@@ -17,7 +18,7 @@ pub(crate) fn run<L: Ledger>(
     sight: &mut Window,
     steps: &mut Steps<L>,
 ) -> Result<bool, AllocError>
-    requires base { NeedsFrom sight.old.base parser.old.focus parser.old.at }
+    requires base { NeedsFrom sight.old.base parser.old.focus (state_of parser.old) }
     requires at { parser.old.at ≤ 8 * end_of sight.old }
     ensures waits { IfOk result (λ waits. waits ≡ true
         → Waited terms.now parser.old parser.new sight.old sight.new (steps.new - steps.old)) }
@@ -25,8 +26,8 @@ pub(crate) fn run<L: Ledger>(
         → Advanced terms.now parser.old parser.new sight.old sight.new (steps.new - steps.old)) }
     ensures over { IfOk result (λ waits. waits ≡ false → HasEnded parser.new.focus parser.new.stack) }
     ensures steps { steps.old ≤ steps.new }
-    ensures most { OnOk result (parser.new.region.most ≡ parser.old.region.most) }
-    ensures low { OnOk result (NeedsFrom sight.new.base parser.new.focus parser.new.at) }
+    ensures most { OnOk result (HasSameLimits parser.old parser.new) }
+    ensures low { OnOk result (NeedsFrom sight.new.base parser.new.focus (state_of parser.new)) }
     ensures at { OnOk result (parser.new.at ≤ 8 * end_of sight.new) }
 {
     let _rows = terms.rows();

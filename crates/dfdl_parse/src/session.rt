@@ -4,6 +4,7 @@ ghost use Rattle.dfdl_bits.specs.Window.{end_of, room_of};
 ghost use Rattle.dfdl_grammar.specs.Paths.{path_of};
 ghost use Rattle.dfdl_parse.specs.Machines.{HasEnded, NeedsFrom};
 ghost use Rattle.dfdl_parse.specs.Running.{Advanced, Waited};
+ghost use Rattle.dfdl_parse.specs.Shown.{HasSameLimits, state_of};
 ghost use Rattle.dfdl_parse.specs.Sessions.{StandsFor, IsReady, Ends, Finished, document_of};
 ghost use Rattle.dfdl_parse.specs.Answers.{answer_at, answer_of};
 ghost use Rattle.dfdl_grammar.specs.Outcomes.{Outcome as Meaning};
@@ -30,7 +31,7 @@ pub struct Session<'t> {
 }
 
 impl<'t> Session<'t> {
-    /// A session over no data yet, with the memory for the window and the elements.
+    /// A session over no data yet, with the memory for the window, the elements and the bytes of their texts.
     pub fn open(alloc: Global, terms: &'t Terms, limits: Limits) -> Result<Session<'t>, AllocError>
         requires window { 1 ≤ limits.window }
         requires nodes { 1 ≤ limits.nodes }
@@ -44,7 +45,7 @@ impl<'t> Session<'t> {
             terms,
             limits,
             sight: Window::open(alloc, limits.window)?,
-            parser: Parser::open(alloc, terms, limits.nodes)?,
+            parser: Parser::open(alloc, terms, limits)?,
             lost: false,
         })
     }
@@ -75,7 +76,7 @@ impl<'t> Session<'t> {
 
     // Runs the machine, and keeps in mind where memory was wanting.
     fn run<L: Ledger>(&mut self, steps: &mut Steps<L>) -> Result<bool, AllocError>
-        requires base { NeedsFrom self.old.sight.base self.old.parser.focus self.old.parser.at }
+        requires base { NeedsFrom self.old.sight.base self.old.parser.focus (state_of self.old.parser) }
         requires at { self.old.parser.at ≤ 8 * end_of self.old.sight }
         ensures waits { IfOk result (λ waits. waits ≡ true
             → Waited self.old.terms.now self.old.parser self.new.parser self.old.sight self.new.sight (steps.new - steps.old)) }
@@ -83,8 +84,8 @@ impl<'t> Session<'t> {
             → Advanced self.old.terms.now self.old.parser self.new.parser self.old.sight self.new.sight (steps.new - steps.old)) }
         ensures over { IfOk result (λ waits. waits ≡ false → HasEnded self.new.parser.focus self.new.parser.stack) }
         ensures steps { steps.old ≤ steps.new }
-        ensures most { OnOk result (self.new.parser.region.most ≡ self.old.parser.region.most) }
-        ensures low { OnOk result (NeedsFrom self.new.sight.base self.new.parser.focus self.new.parser.at) }
+        ensures most { OnOk result (HasSameLimits self.old.parser self.new.parser) }
+        ensures low { OnOk result (NeedsFrom self.new.sight.base self.new.parser.focus (state_of self.new.parser)) }
         ensures at { OnOk result (self.new.parser.at ≤ 8 * end_of self.new.sight) }
         ensures same { (self.new.terms ≡ self.old.terms) × (self.new.limits ≡ self.old.limits) }
         ensures kept { OnOk result (self.new.lost ≡ self.old.lost) }
@@ -137,6 +138,14 @@ impl<'t> Session<'t> {
         ensures ended { (o : Meaning) (steps allowed : ℕ) → Ends self.now o steps allowed → result.now ≡ o.state.nodes }
     {
         self.parser.region.nodes()
+    }
+
+    /// The bytes of the strings, as UTF-8, and hexBinary values of these elements, in the order in which they were read.
+    pub fn text(&self) -> &[u8]
+        ensures now { result.now ≡ self.now.parser.text.bytes }
+        ensures ended { (o : Meaning) (steps allowed : ℕ) → Ends self.now o steps allowed → result.now ≡ o.state.text }
+    {
+        self.parser.text.all()
     }
 
     /// The number of the innermost element that is open.

@@ -114,6 +114,7 @@ fn outcome<L: Ledger>(
 const LIMITS: Limits = Limits {
     window: 16,
     nodes: 10,
+    text: 10,
 };
 
 fn documents<L: Ledger>(rt: &impl Abort, alloc: Global, blank: Blank) -> Result<(), Fail>
@@ -158,6 +159,7 @@ fn limits<L: Ledger>(rt: &impl Abort, alloc: Global, blank: Blank) -> Result<(),
     let narrow = Limits {
         window: 1,
         nodes: 10,
+        text: 10,
     };
     let mut session = Session::open(alloc, &terms, narrow)?;
     let window = Outcome::Limit {
@@ -171,6 +173,7 @@ fn limits<L: Ledger>(rt: &impl Abort, alloc: Global, blank: Blank) -> Result<(),
     let few = Limits {
         window: 16,
         nodes: 2,
+        text: 10,
     };
     let mut session = Session::open(alloc, &terms, few)?;
     let nodes = Outcome::Limit {

@@ -1,15 +1,15 @@
-use Rattle.std.proofs.Common.{◌-◌, Bool, false, refl, subst, sym, ◌∙◌, arith}
+use Rattle.std.proofs.Common.{◌-◌, Bool, false, refl, subst, arith}
 use Rattle.dfdl_parse.specs.Machines.{step}
-use Rattle.dfdl_parse.specs.Shown.{state_of}
+use Rattle.dfdl_parse.specs.Shown.{limits_of, state_of}
 use Rattle.dfdl_parse.specs.Steps.{Moved}
-use Rattle.dfdl_parse.proofs.Goes.{advance, wait, stay, go_further, go_and_wait, agrees_padded, still_agrees, still_low, step-smaller, padded}
+use Rattle.dfdl_parse.proofs.Goes.{advance, wait, stay, go_further, go_and_wait, agrees_padded, keeps_first, same_twice, still_agrees, still_low, step-smaller, padded}
 use Rattle.dfdl_parse.proofs.run.run.Goals as goal
 
 pub steps-init : goal.steps-init
 steps-init g c = record {
   low = c.requires.base;
   at = c.requires.at;
-  most = refl;
+  most = (refl, refl);
   steps = omega arith;
   gone = stay c.args.terms.now c.args.parser.now c.args.sight.now c.args.steps.now;
   agrees = agrees_padded c.args.sight.now;
@@ -23,7 +23,7 @@ returns-then-waits-clause-waits g c _ =
     (wait c.args.terms.now c.rows-rows.ensures.table.nests c.steps.parser c.step.new.self c.steps.sight c.step.new.sight
     (c.step.new.steps - c.steps.steps) c.steps.invariant.low c.steps.invariant.at
     (subst (λ (w : Bool). Moved
-    (step c.steps.parser.region.most c.args.terms.now c.steps.sight c.steps.parser.focus c.steps.parser.stack (state_of c.steps.parser))
+    (step (limits_of c.steps.parser c.steps.sight) c.args.terms.now c.steps.sight c.steps.parser.focus c.steps.parser.stack (state_of c.steps.parser))
     w c.steps.parser.far c.step.new.self c.step.new.sight (c.step.new.steps - c.steps.steps))
     c.if-waits.true c.in_ok-waits.ensures.moved))
 
@@ -35,14 +35,14 @@ returns-then-waits-clause-low g c =
 pub steps-preserved : goal.steps-preserved
 steps-preserved g c =
     let moved = subst (λ (w : Bool). Moved
-    (step c.steps.parser.region.most c.args.terms.now c.steps.sight c.steps.parser.focus c.steps.parser.stack (state_of c.steps.parser))
+    (step (limits_of c.steps.parser c.steps.sight) c.args.terms.now c.steps.sight c.steps.parser.focus c.steps.parser.stack (state_of c.steps.parser))
     w c.steps.parser.far c.step.new.self c.step.new.sight (c.step.new.steps - c.steps.steps))
     c.if-waits.false c.in_ok-waits.ensures.moved in
     record {
       low = still_low c.args.terms.now c.rows-rows.ensures.table.nests c.steps.parser c.step.new.self c.steps.sight c.step.new.sight
           (c.step.new.steps - c.steps.steps) c.steps.invariant.low c.steps.invariant.at false moved;
       at = c.in_ok-waits.ensures.at;
-      most = c.in_ok-waits.ensures.most ∙ c.steps.invariant.most;
+      most = same_twice c.args.parser.now c.steps.parser c.step.new.self c.steps.invariant.most c.in_ok-waits.ensures.most;
       steps = omega (arith, c.in_ok-waits.ensures.steps, c.steps.invariant.steps);
       gone = go_further c.args.terms.now c.args.parser.now c.steps.parser c.step.new.self c.args.sight.now c.steps.sight c.step.new.sight
           (c.steps.steps - c.args.steps.now) (c.step.new.steps - c.steps.steps) (c.step.new.steps - c.args.steps.now)
@@ -56,11 +56,11 @@ steps-preserved g c =
 pub steps-smaller : goal.steps-smaller
 steps-smaller g c =
     let moved = subst (λ (w : Bool). Moved
-    (step c.steps.parser.region.most c.args.terms.now c.steps.sight c.steps.parser.focus c.steps.parser.stack (state_of c.steps.parser))
+    (step (limits_of c.steps.parser c.steps.sight) c.args.terms.now c.steps.sight c.steps.parser.focus c.steps.parser.stack (state_of c.steps.parser))
     w c.steps.parser.far c.step.new.self c.step.new.sight (c.step.new.steps - c.steps.steps))
     c.if-waits.false c.in_ok-waits.ensures.moved in
     step-smaller c.args.terms.now c.rows-rows.ensures.table.nests c.steps.parser c.step.new.self c.steps.sight c.step.new.sight
     (c.step.new.steps - c.steps.steps)
-    (record { bytes = padded c.args.sight.now; limits = record { window = c.args.sight.now.size; nodes = c.args.parser.now.region.most } })
-    c.steps.invariant.low c.steps.invariant.at (sym c.steps.invariant.most) c.steps.invariant.gone.slid.size c.steps.invariant.agrees
+    (record { bytes = padded c.args.sight.now; limits = limits_of c.args.parser.now c.args.sight.now })
+    c.steps.invariant.low c.steps.invariant.at (keeps_first c.args.parser.now c.steps.parser c.args.sight.now c.steps.invariant.most) c.steps.invariant.gone.slid.size c.steps.invariant.agrees
     (λ ended. absurd (cc (c.if-has_ended.ensures.1 ended))) moved

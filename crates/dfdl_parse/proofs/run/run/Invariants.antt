@@ -1,18 +1,18 @@
-use Rattle.std.proofs.Common.{◌≡◌, ◌-◌, ◌*◌, ◌≤◌}
+use Rattle.std.proofs.Common.{◌-◌, ◌*◌, ◌≤◌}
 use Rattle.dfdl_bits.specs.Window.{end_of}
 use Rattle.dfdl_looks.specs.Looks.{Agrees}
 use Rattle.dfdl_parse.specs.Machines.{NeedsFrom}
 use Rattle.dfdl_parse.specs.Running.{Advanced}
-use Rattle.dfdl_parse.specs.Shown.{shown}
+use Rattle.dfdl_parse.specs.Shown.{HasSameLimits, limits_of, shown, state_of}
 use Rattle.dfdl_parse.proofs.Falls.{measure}
 use Rattle.dfdl_parse.proofs.Goes.{padded}
 use Rattle.dfdl_parse.proofs.run.run.Given as goal
 
 abbrev pub invariant-steps : goal.invariant-steps
 invariant-steps g l = record {
-  low : NeedsFrom l.sight.base l.parser.focus l.parser.at;
+  low : NeedsFrom l.sight.base l.parser.focus (state_of l.parser);
   at : l.parser.at ≤ 8 * end_of l.sight;
-  most : l.parser.region.most ≡ l.fn.parser.region.most;
+  most : HasSameLimits l.fn.parser l.parser;
   steps : l.fn.steps ≤ l.steps;
   gone : Advanced l.terms l.fn.parser l.parser l.fn.sight l.sight (l.steps - l.fn.steps);
   agrees : Agrees l.sight (padded l.fn.sight);
@@ -20,5 +20,5 @@ invariant-steps g l = record {
 
 abbrev pub decreases-steps : goal.decreases-steps
 decreases-steps g l = measure
-    (record { bytes = padded l.fn.sight; limits = record { window = l.fn.sight.size; nodes = l.fn.parser.region.most } })
+    (record { bytes = padded l.fn.sight; limits = limits_of l.fn.parser l.fn.sight })
     l.terms (shown l.parser)

@@ -2,7 +2,7 @@ use Rattle.std.proofs.Common.{◌≡◌, ℕ, ◌-◌, ◌*◌, ◌/◌, ◌≤�
 use Rattle.dfdl_bits.specs.Window.{Held, end_of, from_byte}
 use Rattle.dfdl_bits.specs.declared.window.Seen.{Seen}
 use Rattle.dfdl_parse.specs.Machines.{Machine, fill, fill_move, seen_beyond}
-use Rattle.dfdl_parse.specs.Shown.{state_of}
+use Rattle.dfdl_parse.specs.Shown.{limits_of, state_of}
 use Rattle.dfdl_parse.specs.Steps.{Moved}
 use Rattle.dfdl_parse.proofs.Lows.{fill-within}
 use Rattle.dfdl_parse.proofs.Windows.{end_from}
@@ -32,8 +32,8 @@ returns-clause-at g c =
     let moved = returns-clause-moved g c in
     let last : ℕ = (c.args.to - 1) / 8 in
     let near : ℕ = min last (end_of c.args.sight.now) in
-    let at : (fill c.args.sight.now c.args.to c.args.self.now.stack (state_of c.args.self.now)).machine.state.at ≤ 8 * end_of c.args.sight.now =
-    fill-within c.args.sight.now c.args.to c.args.self.now.stack (state_of c.args.self.now) c.requires.base c.requires.at in
+    let at : (fill (limits_of c.args.self.now c.args.sight.now) c.args.sight.now c.args.to c.args.self.now.stack (state_of c.args.self.now)).machine.state.at ≤ 8 * end_of c.args.sight.now =
+    fill-within (limits_of c.args.self.now c.args.sight.now) c.args.sight.now c.args.to c.args.self.now.stack (state_of c.args.self.now) c.requires.base c.requires.at in
     let is : c.look_beyond-seen.new.sight ≡ from_byte c.args.sight.now near =
     c.look_beyond-seen.ensures.held ∙ ap (λ (k : ℕ). from_byte c.args.sight.now (min k (end_of c.args.sight.now))) c.last_byte.ensures.last in
     let ends : end_of c.look_beyond-seen.new.sight ≡ end_of c.args.sight.now =

@@ -1,0 +1,65 @@
+-- Where the looks of a leaf lie.
+use Rattle.std.proofs.Common.{ℕ, zero, suc, ◌+◌, ◌-◌, ◌/◌, ◌%◌, ◌≤◌, Bool, true, false, cond, nat_eq, [], arith}
+use Rattle.dfdl_looks.specs.Asks.{Ask, Answer, Look, AsksFrom, and_then}
+use Rattle.dfdl_looks.proofs.Sequels.{and_then-from}
+use Rattle.dfdl_looks.proofs.Stretched.{look_at-from}
+use Rattle.dfdl_report.specs.declared.cause.ParseCause.TheVariants.{DataEnds, NotFilled}
+use Rattle.dfdl_terms.specs.declared.row.Primitive.{Primitive}
+use Rattle.dfdl_terms.specs.declared.row.Primitive.TheVariants.{Integer, Packed, Truth, Octets, Text}
+use Rattle.dfdl_terms.specs.declared.text.TextForm.{TextForm}
+use Rattle.dfdl_terms.specs.declared.text.TextSize.{TextSize}
+use Rattle.dfdl_terms.specs.declared.text.TextSize.TheVariants.{Bits, Characters}
+use Rattle.dfdl_texts.specs.Texts.{text_at}
+use Rattle.dfdl_texts.specs.declared.extent.Extent.{Extent}
+use Rattle.dfdl_texts.specs.declared.extent.Extent.TheVariants as extent
+use Rattle.dfdl_texts.proofs.Whole.{text-from}
+use Rattle.dfdl_grammar.specs.Framing.{aligned}
+use Rattle.dfdl_grammar.specs.Leaves.{Find, Fails, FindsOctets, bits_of, bytes_spanned, field, find_in, program, text_begins, text_find, text_of_size}
+
+-- looks that lie behind a byte lie behind one before it
+lower : {F : Type 0} (low k : ℕ) → low ≤ k → (a : Ask F) → AsksFrom k a → AsksFrom low a
+lower low k before (Answer f) from = tt
+lower low k before (Look j next) from = (omega (arith, from.0), λ o. lower low k before (next o) (from.1 o))
+
+-- a program that is one of two by a test
+from-either : (low : ℕ) (test : Bool) (p q : Ask Find) → AsksFrom low p → AsksFrom low q → AsksFrom low (cond test p q)
+from-either low true p q first second = first
+from-either low false p q first second = second
+
+-- a text begins at its box or behind it
+pub text_begins-behind : (size : TextSize) (bit : ℕ) → bit ≤ text_begins size bit
+text_begins-behind (Bits zero) bit = omega arith
+text_begins-behind (Bits (suc bits)) bit = omega arith
+text_begins-behind (Characters count) bit = omega arith
+
+-- the program of a text from a byte on
+characters-from : (form : TextForm) (of : Extent) (bit stop low k : ℕ) → low ≤ k
+    → AsksFrom low (and_then (text_at form.encoding form.replaces of stop k) (λ text. Answer (text_find form bit text)))
+characters-from form of bit stop low k before =
+    and_then-from low (text_at form.encoding form.replaces of stop k) (λ text. Answer (text_find form bit text))
+    (lower low k before (text_at form.encoding form.replaces of stop k) (text-from form.encoding form.replaces of stop k)) (λ text. tt)
+
+size-from : (low : ℕ) (form : TextForm) (size : TextSize) (bit stop : ℕ) → low ≤ bit / 8 → AsksFrom low (text_of_size form size bit stop)
+size-from low form (Bits bits) bit stop base =
+    let first : ℕ = text_begins (Bits bits) bit in
+    let behind : bit ≤ first = text_begins-behind (Bits bits) bit in
+    from-either low (nat_eq ((bit + bits - first) % 8) 0)
+    (and_then (text_at form.encoding form.replaces extent.Box (bit + bits) (first / 8)) (λ text. Answer (text_find form bit text)))
+    (Answer (Fails NotFilled)) (characters-from form extent.Box bit (bit + bits) low (first / 8) (omega arith)) tt
+size-from low form (Characters count) bit stop base =
+    characters-from form (extent.Characters count) bit stop low (aligned 8 bit / 8) (omega arith)
+
+field-from : (low : ℕ) (primitive : Primitive) (bit : ℕ) → low ≤ bit / 8 → AsksFrom low (field primitive bit)
+field-from low primitive bit base =
+    look_at-from (bytes_spanned bit (bits_of primitive)) low (bit / 8) (Fails DataEnds) (find_in primitive (bit % 8)) base
+
+-- each look of a leaf is at the byte of its box's first bit or behind it
+pub program-from : (low : ℕ) (primitive : Primitive) (bit stop : ℕ) → low ≤ bit / 8 → AsksFrom low (program primitive bit stop)
+program-from low (Integer form) bit stop base = field-from low (Integer form) bit base
+program-from low (Packed form) bit stop base = field-from low (Packed form) bit base
+program-from low (Truth form) bit stop base = field-from low (Truth form) bit base
+program-from low (Octets form) bit stop base =
+    let whole : Ask Find = cond (nat_eq (form.bits % 8) 0) (field (Octets form) bit) (Answer (Fails NotFilled)) in
+    from-either low (nat_eq form.bits 0) (Answer (FindsOctets [] 0)) whole tt
+    (from-either low (nat_eq (form.bits % 8) 0) (field (Octets form) bit) (Answer (Fails NotFilled)) (field-from low (Octets form) bit base) tt)
+program-from low (Text form) bit stop base = size-from low form form.size bit stop base

@@ -1,0 +1,158 @@
+-- The reading of a string, by that of its text.
+use Rattle.std.proofs.Common.{◌≡◌, ℕ, zero, suc, ◌+◌, ◌-◌, ◌*◌, ◌/◌, ◌%◌, ◌≤◌, Bool, true, false, cond, nat_eq, nat_le, refl, List, ap, sym, subst, ◌∙◌, arith}
+use Rattle.std.proofs.lemmas.Bool.Decides.{nat_tests}
+use Rattle.dfdl_bits.specs.Window.{Held, end_of, seen_at}
+use Rattle.dfdl_bits.specs.declared.window.Seen.{Seen}
+use Rattle.dfdl_report.specs.declared.cause.ParseCause.TheVariants.{NotFilled}
+use Rattle.dfdl_looks.specs.Asks.{Ask, Answer, Reached, Told, TooFar, Missing, Reading, and_then, ask, go_on}
+use Rattle.dfdl_looks.specs.Tallies.{Tally, nothing}
+use Rattle.dfdl_looks.proofs.Seeing.{seen_within}
+use Rattle.dfdl_looks.proofs.Sequels.{ask-then}
+use Rattle.dfdl_terms.specs.declared.text.TextForm.{TextForm}
+use Rattle.dfdl_terms.specs.declared.text.TextSize.{TextSize}
+use Rattle.dfdl_terms.specs.declared.text.TextSize.TheVariants.{Bits, Characters}
+use Rattle.dfdl_terms.specs.declared.row.Primitive.TheVariants.{Text as PlacedText}
+use Rattle.dfdl_texts.specs.declared.extent.Extent.{Extent}
+use Rattle.dfdl_texts.specs.declared.extent.Extent.TheVariants as extent
+use Rattle.dfdl_texts.specs.Texts.{Text, Reads, HasBad, IsCut, IsBoxed, IsRead as TextEnds, text_at}
+use Rattle.dfdl_texts.proofs.Whole.{text-lies}
+use Rattle.dfdl_grammar.specs.Framing.{aligned}
+use Rattle.dfdl_grammar.specs.Leaves.{Find, Fails, Finds, FindsOctets, FindsText, boxed_text, has_room, text_begins, text_behind, text_ends, text_find, text_of_size}
+use Rattle.dfdl_parse.specs.declared.leaf.Found.{Found}
+use Rattle.dfdl_parse.specs.declared.leaf.Found.TheVariants.{Reads as IsRead, Octets as HasOctets, Text as HasText, Fails as HasFailed, Past, NotYet}
+use Rattle.dfdl_parse.specs.declared.leaf.Glance.{Glance}
+use Rattle.dfdl_parse.specs.declared.leaf.Scratch.{Scratch}
+use Rattle.dfdl_parse.specs.Steps.{Answers, IsWithin, found_shown}
+use Rattle.dfdl_texts.specs.Readings.{Answers as TextAnswers, found_shown as text_shown}
+use Rattle.dfdl_texts.specs.declared.found.Glance.{Glance as TextGlance}
+use Rattle.dfdl_parse.specs.Strings.{text_reached}
+
+-- a string is what its text is found as
+abbrev pub string_of : TextForm → ℕ → Ask Text → Ask Find
+string_of form bit text = and_then text (λ read. Answer (text_find form bit read))
+
+module _ (look : ℕ → Seen) (form : TextForm) (bit : ℕ) where
+  behind-text : (r : Reached Text) (t : Tally)
+      → go_on look (λ read. Answer (text_find form bit read)) r t ≡ record { reached = text_reached form bit r; tally = t }
+  behind-text (Told read) t = refl
+  behind-text TooFar t = refl
+  behind-text Missing t = refl
+
+  pub string-read : (text : Ask Text)
+      → ask look (string_of form bit text) nothing ≡ record { reached = text_reached form bit (ask look text nothing).reached; tally = (ask look text nothing).tally }
+  string-read text = ask-then look (λ read. Answer (text_find form bit read)) text nothing ∙ behind-text _ _
+
+  -- the answer of a string, by that of its text
+  pub characters_read : (text : Ask Text) (chars : List ℕ) (glance : TextGlance) (looks bits : ℕ) (scratch : Scratch) (found : Found)
+      → TextAnswers (ask look text nothing) chars glance looks
+      → found_shown bits scratch found ≡ text_reached form bit (text_shown chars glance.found)
+      → Answers (ask look (string_of form bit text) nothing) bits scratch (record { found = found; far = glance.far }) looks
+  characters_read text chars glance looks bits scratch found answers shown =
+      let whole = string-read text in
+      record {
+        reached = ap (λ (r : Reading Find). r.reached) whole ∙ ap (text_reached form bit) answers.reached ∙ sym shown;
+        looks = ap (λ (r : Reading Find). r.tally.looks) whole ∙ answers.looks;
+        far = ap (λ (r : Reading Find). r.tally.far) whole ∙ answers.far;
+      }
+
+module _ (look : ℕ → Seen) (form : TextForm) (bit stop : ℕ) where
+  abbrev pub Is : Ask Find → ℕ → Scratch → Glance → ℕ → Type 0
+  Is program bits scratch glance looks = Answers (ask look program nothing) bits scratch glance looks
+
+  abbrev pub text_of : Extent → ℕ → ℕ → Ask Find
+  text_of of end first = string_of form bit (text_at form.encoding form.replaces of end (first / 8))
+
+  -- a string in a box of so many bits, which are whole bytes behind its first bit
+  pub boxed_read : (size : TextSize) (bits first : ℕ) → size ≡ Bits bits → first ≡ text_begins size bit → (bit + bits - first) % 8 ≡ 0
+      → (of_bits looks : ℕ) (scratch : Scratch) (glance : Glance) → Is (text_of extent.Box (bit + bits) first) of_bits scratch glance looks
+      → Is (text_of_size form size bit stop) of_bits scratch glance looks
+  boxed_read size bits first is begins whole of_bits looks scratch glance answers =
+      let test : nat_eq ((bit + bits - first) % 8) 0 ≡ true = grind (arith, nat_tests) in
+      let boxed : Is (boxed_text form bit first (bit + bits)) of_bits scratch glance looks =
+      subst (λ (b : Bool). Is (cond b (text_of extent.Box (bit + bits) first) (Answer (Fails NotFilled))) of_bits scratch glance looks) (sym test) answers in
+      let there : first ≡ text_begins (Bits bits) bit = begins ∙ ap (λ s. text_begins s bit) is in
+      subst (λ s. Is (text_of_size form s bit stop) of_bits scratch glance looks) (sym is)
+      (subst (λ (f : ℕ). Is (boxed_text form bit f (bit + bits)) of_bits scratch glance looks) there boxed)
+
+  -- a string whose characters are counted
+  pub counted_read : (size : TextSize) (count first : ℕ) → size ≡ Characters count → first ≡ text_begins size bit
+      → (of_bits looks : ℕ) (scratch : Scratch) (glance : Glance) → Is (text_of (extent.Characters count) stop first) of_bits scratch glance looks
+      → Is (text_of_size form size bit stop) of_bits scratch glance looks
+  counted_read size count first is begins of_bits looks scratch glance answers =
+      let there : first ≡ text_begins (Characters count) bit = begins ∙ ap (λ s. text_begins s bit) is in
+      subst (λ s. Is (text_of_size form s bit stop) of_bits scratch glance looks) (sym is)
+      (subst (λ (f : ℕ). Is (text_of (extent.Characters count) stop f) of_bits scratch glance looks) there answers)
+
+-- a string that is read has its box before this byte
+abbrev pub EndsAt : ℕ → Reached Find → Type 0
+EndsAt last (Told (FindsText bytes end)) = end ≤ 8 * last
+EndsAt last (Told (Fails cause)) = Unit {0}
+EndsAt last (Told (Finds content bits)) = ⊥
+EndsAt last (Told (FindsOctets bytes bits)) = ⊥
+EndsAt last TooFar = Unit {0}
+EndsAt last Missing = Unit {0}
+
+ends-found : (last behind bits : ℕ) (scratch : Scratch) (found : Found) → EndsAt last (found_shown bits scratch found) → IsWithin found behind last
+ends-found last behind bits scratch (IsRead content) ends = absurd ends
+ends-found last behind bits scratch HasOctets ends = absurd ends
+ends-found last behind bits scratch (HasText from to end) ends = ends
+ends-found last behind bits scratch (HasFailed cause) ends = tt
+ends-found last behind bits scratch Past ends = tt
+ends-found last behind bits scratch NotYet ends = tt
+
+module _ (held : Held) (form : TextForm) (bit : ℕ) (come : bit ≤ 8 * end_of held) (base : held.base ≤ bit / 8) where
+  abbrev look : ℕ → Seen
+  look = seen_at held
+
+  abbrev last : ℕ
+  last = end_of held
+
+  -- the text's own end, and that of the string's box
+  ends-text : (of : Extent) (stop k : ℕ) → bit / 8 ≤ k → ((chars : List ℕ) (end : ℕ) → TextEnds of stop last k chars end → text_behind form.size bit end ≤ 8 * last)
+      → (r : Reached Text) → (ask look (text_at form.encoding form.replaces of stop k) nothing).reached ≡ r → EndsAt last (text_reached form bit r)
+  ends-text of stop k from near (Told (Reads chars end)) is =
+      near chars end (text-lies form.encoding form.replaces of stop look last k nothing chars end
+      (λ j byte after seen. seen_within held j byte (omega arith) seen) is)
+  ends-text of stop k from near (Told HasBad) is = tt
+  ends-text of stop k from near (Told IsCut) is = tt
+  ends-text of stop k from near (Told IsBoxed) is = tt
+  ends-text of stop k from near TooFar is = tt
+  ends-text of stop k from near Missing is = tt
+
+  ends-string : (of : Extent) (stop k : ℕ) → bit / 8 ≤ k → ((chars : List ℕ) (end : ℕ) → TextEnds of stop last k chars end → text_behind form.size bit end ≤ 8 * last)
+      → EndsAt last (ask look (string_of form bit (text_at form.encoding form.replaces of stop k)) nothing).reached
+  ends-string of stop k from near =
+      let text : Ask Text = text_at form.encoding form.replaces of stop k in
+      subst (λ (r : Reading Find). EndsAt last r.reached) (sym (string-read look form bit text)) (ends-text of stop k from near _ refl)
+
+  ends-boxed : (first end : ℕ) → ((end - first) % 8 ≡ 0 → EndsAt last (ask look (string_of form bit (text_at form.encoding form.replaces extent.Box end (first / 8))) nothing).reached)
+      → (test : Bool) → nat_eq ((end - first) % 8) 0 ≡ test
+      → EndsAt last (ask look (cond test (string_of form bit (text_at form.encoding form.replaces extent.Box end (first / 8))) (Answer (Fails NotFilled))) nothing).reached
+  ends-boxed first end whole true is = whole (grind (arith, nat_tests))
+  ends-boxed first end whole false is = tt
+
+  ends-size : (stop : ℕ) (size : TextSize) → form.size ≡ size → nat_le (text_begins size bit) (text_ends size bit stop) ≡ true
+      → EndsAt last (ask look (text_of_size form size bit stop) nothing).reached
+  ends-size stop (Bits zero) is room =
+      ends-boxed bit (bit + 0)
+      (λ whole. ends-string extent.Box (bit + 0) (bit / 8) (omega arith)
+      (λ chars end ends. subst (λ s. text_behind s bit end ≤ 8 * last) (sym is) (omega arith))) _ refl
+  ends-size stop (Bits (suc bits)) is room =
+      let first : ℕ = aligned 8 bit in
+      let inside : first ≤ bit + suc bits = grind (arith, nat_tests) in
+      ends-boxed first (bit + suc bits)
+      (λ whole. ends-string extent.Box (bit + suc bits) (first / 8) (omega arith)
+      (λ chars end ends. let reaches = ends.whole refl in let there = ends.come in
+      subst (λ s. text_behind s bit end ≤ 8 * last) (sym is) (omega arith))) _ refl
+  ends-size stop (Characters count) is room =
+      ends-string (extent.Characters count) stop (aligned 8 bit / 8) (omega arith)
+      (λ chars end ends. let there = ends.come in
+      subst (λ s. text_behind s bit end ≤ 8 * last) (sym is) (omega arith))
+
+  -- a string that is read has its box in the bytes that have come
+  pub string-within : (stop : ℕ) → has_room (PlacedText form) bit stop ≡ true → (bits looks behind : ℕ) (scratch : Scratch) (glance : Glance)
+      → Answers (ask look (text_of_size form form.size bit stop) nothing) bits scratch glance looks → IsWithin glance.found behind last
+  string-within stop room bits looks behind scratch glance answers =
+      let begins : nat_le (text_begins form.size bit) (text_ends form.size bit stop) ≡ true = grind (arith, nat_tests) in
+      ends-found last behind bits scratch glance.found
+      (subst (λ (r : Reached Find). EndsAt last r) answers.reached (ends-size stop form.size refl begins))

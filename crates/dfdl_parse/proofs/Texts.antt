@@ -1,0 +1,133 @@
+-- The text that a leaf finds ends at its first bit or behind it.
+use Rattle.std.proofs.Common.{◌≡◌, ℕ, zero, suc, ◌+◌, ◌-◌, ◌*◌, ◌/◌, ◌%◌, ◌≤◌, Bool, true, false, cond, nat_eq, refl, List, [], ◌∷◌, Option, Some, None, Result, Ok, Err, subst, sym, arith}
+use Rattle.dfdl_bits.specs.declared.window.Seen.{Seen}
+use Rattle.dfdl_bits.specs.declared.window.Seen.TheVariants.{Byte, End, NotYet, Over}
+use Rattle.dfdl_report.specs.declared.cause.ParseCause.TheVariants.{DataEnds, NotFilled}
+use Rattle.dfdl_value.specs.declared.value.Value.{Value}
+use Rattle.dfdl_value.specs.declared.value.Value.TheVariants as value
+use Rattle.dfdl_int_binary.specs.Integers.{field_of, integer_reading}
+use Rattle.dfdl_int_binary.specs.Truths.{truth_field_of, truth_reading}
+use Rattle.dfdl_packed.specs.Packed.{nibbles_in, packed_reading}
+use Rattle.dfdl_packed.specs.declared.fault.PackedFault.{PackedFault}
+use Rattle.dfdl_packed.specs.declared.fault.PackedFault.TheVariants as packed
+use Rattle.dfdl_terms.specs.declared.row.Primitive.{Primitive}
+use Rattle.dfdl_terms.specs.declared.row.Primitive.TheVariants.{Integer, Packed, Truth, Octets, Text}
+use Rattle.dfdl_terms.specs.declared.text.TextForm.{TextForm}
+use Rattle.dfdl_terms.specs.declared.text.TextSize.{TextSize}
+use Rattle.dfdl_terms.specs.declared.text.TextSize.TheVariants.{Bits, Characters}
+use Rattle.dfdl_texts.specs.Texts.{Text as TextRead, Reads, HasBad, IsCut, IsBoxed, text_at}
+use Rattle.dfdl_texts.specs.declared.extent.Extent.{Extent}
+use Rattle.dfdl_texts.specs.declared.extent.Extent.TheVariants as extent
+use Rattle.dfdl_texts.proofs.Whole.{text-ends}
+use Rattle.dfdl_looks.specs.Asks.{Ask, Answer, Reached, Told, TooFar, Missing, Reading, ask, and_then, go_on, look_at}
+use Rattle.dfdl_looks.specs.Tallies.{Tally, saw_byte, saw_end}
+use Rattle.dfdl_looks.proofs.Resumed.{on_seen}
+use Rattle.dfdl_looks.proofs.Sequels.{ask-then}
+use Rattle.dfdl_grammar.specs.Leaves.{Find, Fails, Finds, FindsOctets, FindsText, bytes_spanned, field, find_in, find_of, packed_find, program, text_behind, text_begins, text_find, text_of_size, truth_find}
+use Rattle.dfdl_grammar.specs.Framing.{aligned}
+
+-- a text that is found ends at this bit or behind it
+abbrev pub EndsBehind : ℕ → Reached Find → Type 0
+EndsBehind bit (Told (FindsText bytes end)) = bit ≤ end
+EndsBehind bit (Told (Fails cause)) = Unit {0}
+EndsBehind bit (Told (Finds content bits)) = Unit {0}
+EndsBehind bit (Told (FindsOctets bytes bits)) = Unit {0}
+EndsBehind bit TooFar = Unit {0}
+EndsBehind bit Missing = Unit {0}
+
+-- no number is a text
+number-ends : (bit bits : ℕ) (number : Option Value) → EndsBehind bit (Told (find_of bits number))
+number-ends bit bits (Some (value.Int z)) = tt
+number-ends bit bits (Some (value.Uns n)) = tt
+number-ends bit bits (Some (value.Dec d)) = tt
+number-ends bit bits (Some (value.Text t)) = tt
+number-ends bit bits (Some (value.Truth t)) = tt
+number-ends bit bits (Some (value.Bytes b)) = tt
+number-ends bit bits None = tt
+
+packed-ends : (bit bits : ℕ) (number : Result Value PackedFault) → EndsBehind bit (Told (packed_find bits number))
+packed-ends bit bits (Ok number) = number-ends bit bits (Some number)
+packed-ends bit bits (Err packed.BadNibble) = tt
+packed-ends bit bits (Err packed.PastType) = tt
+
+truth-ends : (bit bits : ℕ) (truth : Option Bool) → EndsBehind bit (Told (truth_find bits truth))
+truth-ends bit bits (Some truth) = tt
+truth-ends bit bits None = tt
+
+module _ (look : ℕ → Seen) where
+  -- nor is what is found in a run of bytes
+  run-seen : (bit : ℕ) (next : Option ℕ → Ask Find) (k : ℕ) (t : Tally) → ((o : Option ℕ) (u : Tally) → EndsBehind bit (ask look (next o) u).reached)
+      → (s : Seen) → EndsBehind bit (on_seen look next k t s).reached
+  run-seen bit next k t more (Byte b) = more (Some b) (saw_byte k t)
+  run-seen bit next k t more End = more None (saw_end k t)
+  run-seen bit next k t more NotYet = tt
+  run-seen bit next k t more Over = tt
+
+  run-next : (bit count k : ℕ) (go : List ℕ → Find)
+      → ((more : List ℕ → Find) (v : Tally) → ((bytes : List ℕ) → EndsBehind bit (Told (more bytes)))
+      → EndsBehind bit (ask look (look_at count (k + 1) (Fails DataEnds) more) v).reached)
+      → ((bytes : List ℕ) → EndsBehind bit (Told (go bytes))) → (o : Option ℕ) (u : Tally)
+      → EndsBehind bit (ask look (elim o as (λ _. Ask Find)
+      [ None ↦ Answer (Fails DataEnds) | Some byte ↦ look_at count (k + 1) (Fails DataEnds) (λ bytes. go (byte ∷ bytes)) ]) u).reached
+  run-next bit count k go rest all None u = tt
+  run-next bit count k go rest all (Some byte) u = rest (λ bytes. go (byte ∷ bytes)) u (λ bytes. all (byte ∷ bytes))
+
+  run-ends : (bit count k : ℕ) (go : List ℕ → Find) (t : Tally) → ((bytes : List ℕ) → EndsBehind bit (Told (go bytes)))
+      → EndsBehind bit (ask look (look_at count k (Fails DataEnds) go) t).reached
+  run-ends bit zero k go t all = all []
+  run-ends bit (suc count) k go t all =
+      run-seen bit (λ o. elim o [ None ↦ Answer (Fails DataEnds) | Some byte ↦ look_at count (k + 1) (Fails DataEnds) (λ bytes. go (byte ∷ bytes)) ]) k t
+      (λ o u. run-next bit count k go (λ more v each. run-ends bit count (k + 1) more v each) all o u) (look k)
+
+  either-ends : (bit : ℕ) (b : Bool) (p q : Ask Find) (t : Tally) → EndsBehind bit (ask look p t).reached → EndsBehind bit (ask look q t).reached
+      → EndsBehind bit (ask look (cond b p q) t).reached
+  either-ends bit true p q t first second = first
+  either-ends bit false p q t first second = second
+
+  -- the bit behind the box of a text whose characters end at this byte or behind it, which is where they begin if they are counted
+  reads-behind : (size : TextSize) (bit k end : ℕ) → ((count : ℕ) → size ≡ Characters count → bit ≤ 8 * k) → k ≤ end → bit ≤ text_behind size bit end
+  reads-behind (Bits bits) bit k end at behind = omega arith
+  reads-behind (Characters count) bit k end at behind = let first = at count refl in omega arith
+
+  found-ends : (form : TextForm) (bit k : ℕ) → ((count : ℕ) → form.size ≡ Characters count → bit ≤ 8 * k) → (r : Reached TextRead) (u : Tally)
+      → ((chars : List ℕ) (end : ℕ) → r ≡ Told (Reads chars end) → k ≤ end)
+      → EndsBehind bit (go_on look (λ text. Answer (text_find form bit text)) r u).reached
+  found-ends form bit k at (Told (Reads chars end)) u behind = reads-behind form.size bit k end at (behind chars end refl)
+  found-ends form bit k at (Told HasBad) u behind = tt
+  found-ends form bit k at (Told IsCut) u behind = tt
+  found-ends form bit k at (Told IsBoxed) u behind = tt
+  found-ends form bit k at TooFar u behind = tt
+  found-ends form bit k at Missing u behind = tt
+
+  read-ends : (form : TextForm) (e : Extent) (bit stop k : ℕ) (t : Tally) → ((count : ℕ) → form.size ≡ Characters count → bit ≤ 8 * k)
+      → EndsBehind bit (ask look (and_then (text_at form.encoding form.replaces e stop k) (λ text. Answer (text_find form bit text))) t).reached
+  read-ends form e bit stop k t at =
+      let text : Ask TextRead = text_at form.encoding form.replaces e stop k in
+      subst (λ (r : Reading Find). EndsBehind bit r.reached) (sym (ask-then look (λ text. Answer (text_find form bit text)) text t))
+      (found-ends form bit k at (ask look text t).reached (ask look text t).tally
+      (λ chars end is. (text-ends form.encoding form.replaces e stop look ⊥ ⊥ 0 k
+      (λ j b behind seen. ((λ never. absurd never), (λ never. absurd never))) t chars end is).behind))
+
+  size-ends : (form : TextForm) (size : TextSize) → form.size ≡ size → (bit stop : ℕ) (t : Tally) → EndsBehind bit (ask look (text_of_size form size bit stop) t).reached
+  size-ends form (Bits bits) is bit stop t =
+      let first : ℕ = text_begins (Bits bits) bit in
+      either-ends bit (nat_eq ((bit + bits - first) % 8) 0) _ (Answer (Fails NotFilled)) t
+      (read-ends form extent.Box bit (bit + bits) (first / 8) t (λ count counted. absurd (cc))) tt
+  size-ends form (Characters count) is bit stop t =
+      read-ends form (extent.Characters count) bit stop (aligned 8 bit / 8) t (λ n counted. omega arith)
+
+  pub program-ends : (primitive : Primitive) (bit stop : ℕ) (t : Tally) → EndsBehind bit (ask look (program primitive bit stop) t).reached
+  program-ends (Integer form) bit stop t =
+      run-ends bit (bytes_spanned bit form.bits) (bit / 8) (find_in (Integer form) (bit % 8)) t
+      (λ bytes. number-ends bit form.bits (integer_reading form (field_of form bytes (bit % 8))))
+  program-ends (Packed form) bit stop t =
+      run-ends bit (bytes_spanned bit (4 * form.nibbles)) (bit / 8) (find_in (Packed form) (bit % 8)) t
+      (λ bytes. packed-ends bit (4 * form.nibbles) (packed_reading form (nibbles_in form bytes (bit % 8))))
+  program-ends (Truth form) bit stop t =
+      run-ends bit (bytes_spanned bit form.bits) (bit / 8) (find_in (Truth form) (bit % 8)) t
+      (λ bytes. truth-ends bit form.bits (truth_reading form (truth_field_of form bytes (bit % 8))))
+  program-ends (Octets form) bit stop t =
+      either-ends bit (nat_eq form.bits 0) (Answer (FindsOctets [] 0)) _ t tt
+      (either-ends bit (nat_eq (form.bits % 8) 0) (field (Octets form) bit) (Answer (Fails NotFilled)) t
+      (run-ends bit (bytes_spanned bit form.bits) (bit / 8) (find_in (Octets form) (bit % 8)) t (λ bytes. tt)) tt)
+  program-ends (Text form) bit stop t = size-ends form form.size refl bit stop t

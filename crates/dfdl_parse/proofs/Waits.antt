@@ -1,0 +1,268 @@
+-- A step that waits.
+use Rattle.std.proofs.Common.{◌≡◌, ℕ, zero, suc, ◌+◌, ◌-◌, ◌*◌, ◌/◌, ◌<◌, ◌≤◌, max, min, nat_le, refl, List, [], ◌∷◌, length, Bool, true, false, cond, nat_lt, Option, Some, None, ap, sym, subst, ◌∙◌, arith}
+use Rattle.std.specs.Prelude.{slice_get}
+use Rattle.dfdl_bits.specs.Window.{Held, end_of, room_of, from_byte, seen_at}
+use Rattle.dfdl_bits.specs.declared.window.Seen.{Seen}
+use Rattle.dfdl_bits.specs.declared.window.Seen.TheVariants.{Byte, End as DataEnded, NotYet, Over}
+use Rattle.dfdl_report.specs.declared.cause.LimitCause.TheVariants.{Nodes}
+use Rattle.dfdl_report.specs.declared.cause.ParseCause.TheVariants.{DataEnds, LengthOutOfRange}
+use Rattle.dfdl_terms.specs.declared.row.Primitive.{Primitive}
+use Rattle.dfdl_terms.specs.declared.row.Row.{Row}
+use Rattle.dfdl_terms.specs.declared.row.Row.TheVariants.{Leaf, Elem, Group, Skip, Align, Boxed}
+use Rattle.dfdl_terms.specs.Rows.{Table}
+use Rattle.dfdl_looks.specs.Looks.{seen_in}
+use Rattle.dfdl_looks.specs.Asks.{Reached, Told, TooFar, Missing, Reading, ask}
+use Rattle.dfdl_looks.specs.Tallies.{first_of, nothing, one_row, plus, saw_byte, saw_end}
+use Rattle.dfdl_looks.proofs.Waiting.{missed, waits_while, counted}
+use Rattle.dfdl_grammar.specs.declared.end.End.{End}
+use Rattle.dfdl_grammar.specs.declared.end.End.TheVariants.{Done, Failed, Stopped}
+use Rattle.dfdl_grammar.specs.declared.limits.Limits.{Limits}
+use Rattle.dfdl_grammar.specs.States.{Input, State, anchor, anchor_at}
+use Rattle.dfdl_grammar.specs.Outcomes.{Outcome, ended, spend}
+use Rattle.dfdl_grammar.specs.Leaves.{Find, content_begins, has_room, land, leaf, program}
+use Rattle.dfdl_grammar.specs.Framing.{aligned, fill_to}
+use Rattle.dfdl_grammar.specs.Elements.{begun, has_elements}
+use Rattle.dfdl_grammar.specs.Rows.{below, meaning, row}
+use Rattle.dfdl_grammar.proofs.Spending.{spend-spend}
+use Rattle.dfdl_parse.specs.declared.frame.Frame.{Frame}
+use Rattle.dfdl_parse.specs.declared.frame.Frame.TheVariants.{Rest, Element, Box}
+use Rattle.dfdl_parse.specs.declared.frame.Focus.{Focus}
+use Rattle.dfdl_parse.specs.declared.frame.Focus.TheVariants.{Enter, Pass, PassRest, Leave}
+use Rattle.dfdl_parse.specs.Machines.{Move, children_of, enter, enter_group, fill, fill_move, go_on, is_missing, landed, leave, pass, pass_rest, read_leaf, read_move, rest_move, seen_beyond, step}
+use Rattle.dfdl_parse.specs.Ahead.{finish}
+use Rattle.dfdl_parse.proofs.Windows.{agrees_from, end_from}
+use Rattle.dfdl_parse.proofs.Beyond.{beyond-missed, beyond-waits}
+use Rattle.dfdl_parse.proofs.Programs.{program-from}
+use Rattle.dfdl_parse.proofs.Ahead.{Fits, filled, finish-spend, from_here, rest-seen, rested}
+
+-- a step that waits
+pub record Waits (table : Table) (held : Held) (focus : Focus) (k : List Frame) (s : State) (move : Move) : Type 0 where
+  pub machine : move.machine ≡ record { focus = focus; stack = k; state = s }
+  pub on : held.ended ≡ false
+  pub room : 0 < room_of move.held
+  pub missed : (input : Input) → Fits held input focus s → length input.bytes ≡ end_of held
+      → ((from_here input table focus k s).tally.tail ≡ move.tally.looks) × (end_of held < (from_here input table focus k s).tally.far)
+
+is_lost : (reached : Reached Find) → is_missing reached ≡ true → reached ≡ Missing
+is_lost (Told f) is = absurd (cc)
+is_lost TooFar is = absurd (cc)
+is_lost Missing is = refl
+
+-- the first of two costs that missed a byte
+first_told : (n t : ℕ) → 0 < n → first_of n t ≡ n
+first_told zero t some = absurd (omega arith)
+first_told (suc n) t some = refl
+
+module _ (table : Table) (held : Held) (s : State) where
+  -- the outcome of a leaf that has room
+  abbrev read_over : Input → Primitive → Outcome
+  read_over input primitive =
+      let whole : Reading Find = ask (seen_in input.bytes input.limits.window (anchor s)) (program primitive s.at s.stop) nothing in
+      spend whole.tally (land input.limits (content_begins primitive s.at) whole.reached s)
+
+  leaf-lost : (input : Input) (id : ℕ) (primitive : Primitive) (k : List Frame) → Fits held input (Enter id) s → length input.bytes ≡ end_of held
+      → (ask (seen_at (from_byte held (anchor s))) (program primitive s.at s.stop) nothing).reached ≡ Missing → held.ended ≡ false
+      → ((finish input table k (spend one_row (read_over input primitive))).tally.tail
+      ≡ (ask (seen_at (from_byte held (anchor s))) (program primitive s.at s.stop) nothing).tally.looks)
+      × (end_of held < (finish input table k (spend one_row (read_over input primitive))).tally.far)
+  leaf-lost input id primitive k fits all missing on =
+      let sight : Held = from_byte held (anchor s) in
+      let here : Reading Find = ask (seen_at sight) (program primitive s.at s.stop) nothing in
+      let whole : Reading Find = ask (seen_in input.bytes input.limits.window (anchor s)) (program primitive s.at s.stop) nothing in
+      let ends : end_of sight ≡ end_of held = end_from held (anchor s) fits.stands.base fits.stands.end in
+      let told = missed sight input.bytes (agrees_from held input.bytes (anchor s) fits.stands.base fits.stands.end fits.agrees) (all ∙ sym ends) on
+      (program primitive s.at s.stop) (program-from (anchor s) primitive s.at s.stop fits.stands.low) nothing refl missing in
+      let same : ask (seen_in input.bytes held.size (anchor s)) (program primitive s.at s.stop) nothing ≡ whole =
+      ap (λ (size : ℕ). ask (seen_in input.bytes size (anchor s)) (program primitive s.at s.stop) nothing) fits.size in
+      let tail : whole.tally.tail ≡ here.tally.looks = ap (λ (r : Reading Find). r.tally.tail) (sym same) ∙ told.0 in
+      let far : length input.bytes < whole.tally.far = subst (λ (r : Reading Find). length input.bytes < r.tally.far) same told.1 in
+      let some : 0 < here.tally.looks = counted (seen_at sight) (program primitive s.at s.stop) nothing missing in
+      let landed_at : Outcome = land input.limits (content_begins primitive s.at) whole.reached s in
+      let rest : Outcome = finish input table k landed_at in
+      let is : finish input table k (spend one_row (read_over input primitive)) ≡ spend (plus one_row whole.tally) rest =
+      ap (finish input table k) (spend-spend one_row whole.tally landed_at)
+      ∙ finish-spend input table k (plus one_row whole.tally) landed_at in
+      let is_tail : (finish input table k (spend one_row (read_over input primitive))).tally.tail ≡ first_of whole.tally.tail rest.tally.tail =
+      ap (λ (o : Outcome). o.tally.tail) is in
+      let is_far : (finish input table k (spend one_row (read_over input primitive))).tally.far ≡ max (max 0 whole.tally.far) rest.tally.far =
+      ap (λ (o : Outcome). o.tally.far) is in
+      let told_some : 0 < whole.tally.tail = omega arith in
+      (is_tail ∙ first_told whole.tally.tail rest.tally.tail told_some ∙ tail, omega arith)
+
+  read-waits : (limits : Limits) (id prim : ℕ) (primitive : Primitive) (k : List Frame) → slice_get table.primitives prim ≡ Some primitive
+      → slice_get table.rows id ≡ Some (Leaf prim) → (room : Bool) → has_room primitive s.at s.stop ≡ room
+      → let sight : Held = from_byte held (anchor s) in
+      let move : Move = cond room
+      (read_move limits (content_begins primitive s.at) sight id (ask (seen_at sight) (program primitive s.at s.stop) nothing) k s)
+      (pass one_row held (Leave (Failed LengthOutOfRange s.at)) k s) in
+      move.waits ≡ true → Waits table held (Enter id) k s move
+  unfolding meaning
+  read-waits limits id prim primitive k is at false has waits = absurd (cc)
+  read-waits limits id prim primitive k is at true has waits =
+      let sight : Held = from_byte held (anchor s) in
+      let here : Reading Find = ask (seen_at sight) (program primitive s.at s.stop) nothing in
+      let missing : here.reached ≡ Missing = is_lost here.reached waits in
+      let stands = waits_while sight (program primitive s.at s.stop) nothing missing in
+      let short : length sight.bytes < sight.size = stands.1 in
+      record {
+        machine = ap (λ (r : Reached Find). landed limits (content_begins primitive s.at) id r k s) missing;
+        on = stands.0;
+        room = omega arith;
+        missed = λ input fits all.
+            let leaf_is : from_here input table (Enter id) k s ≡ finish input table k (spend one_row (read_over input primitive)) =
+            ap (λ (r : Option Row). finish input table k (spend one_row (row input table (below input table id) id r s))) at
+            ∙ ap (λ (p : Option Primitive). finish input table k (spend one_row (leaf input p s))) is
+            ∙ ap (λ (b : Bool). finish input table k (spend one_row (cond b (read_over input primitive) (ended (Failed LengthOutOfRange s.at) s)))) has in
+            let lost = leaf-lost input id primitive k fits all missing stands.0 in
+            let looks : here.tally.looks ≡ (plus one_row here.tally).looks = omega arith in (
+              ap (λ (o : Outcome). o.tally.tail) leaf_is ∙ lost.0 ∙ looks,
+              subst (λ (o : Outcome). end_of held < o.tally.far) (sym leaf_is) lost.1,
+            );
+      }
+
+  leaf-waits : (limits : Limits) (id prim : ℕ) (primitive : Option Primitive) (k : List Frame) → slice_get table.primitives prim ≡ primitive
+      → slice_get table.rows id ≡ Some (Leaf prim) → (read_leaf limits held id primitive k s).waits ≡ true
+      → Waits table held (Enter id) k s (read_leaf limits held id primitive k s)
+  leaf-waits limits id prim None k is at waits = absurd (cc)
+  leaf-waits limits id prim (Some primitive) k is at waits = read-waits limits id prim primitive k is at (has_room primitive s.at s.stop) refl waits
+
+  begin-on : (to : ℕ) (k : List Frame) (over inside : Bool)
+      → (cond over (pass one_row held (Leave Done) k s)
+      (cond inside (pass one_row held (Pass to) k s) (pass one_row held (Leave (Failed LengthOutOfRange s.at)) k s))).waits ≡ true → ⊥
+  begin-on to k true inside waits = absurd (cc)
+  begin-on to k false true waits = absurd (cc)
+  begin-on to k false false waits = absurd (cc)
+
+  box-on : (bits body : ℕ) (k : List Frame) (inside : Bool)
+      → (cond inside
+      (pass one_row held (Enter body) (Box s.stop ∷ k) (record s { stop = s.at + bits }))
+      (pass one_row held (Leave (Failed LengthOutOfRange s.at)) k s)).waits ≡ true → ⊥
+  box-on bits body k true waits = absurd (cc)
+  box-on bits body k false waits = absurd (cc)
+
+  leave-box-on : (outer : ℕ) (k : List Frame) (over : Bool)
+      → (cond over (pass nothing held (Leave Done) k (record s { stop = outer })) (pass nothing held (PassRest s.at outer) k s)).waits ≡ true → ⊥
+  leave-box-on outer k true waits = absurd (cc)
+  leave-box-on outer k false waits = absurd (cc)
+
+  -- a look over fill that is in vain
+  in_vain : (window : ℕ) (sight : Held) (to : ℕ) (v : Seen) (k : List Frame) → (fill_move window sight to v k s).waits ≡ true → v ≡ NotYet
+  in_vain window sight to (Byte b) k waits = absurd (cc)
+  in_vain window sight to DataEnded k waits = absurd (cc)
+  in_vain window sight to NotYet k waits = refl
+  in_vain window sight to Over k waits = absurd (cc)
+
+  fill-waits : (limits : Limits) (to : ℕ) (k : List Frame) → (fill limits held to k s).waits ≡ true → Waits table held (Pass to) k s (fill limits held to k s)
+  fill-waits limits to k waits =
+      let last : ℕ = (to - 1) / 8 in
+      let sight : Held = from_byte held (min last (end_of held)) in
+      let none : seen_beyond held last ≡ NotYet = in_vain limits.window sight to (seen_beyond held last) k waits in
+      let here = beyond-waits held last none in
+      let move_is : fill limits held to k s ≡ fill_move limits.window sight to NotYet k s = ap (λ (v : Seen). fill_move limits.window sight to v k s) none in
+      record {
+        machine = ap (λ (m : Move). m.machine) move_is;
+        on = here.0;
+        room = subst (λ (m : Move). 0 < room_of m.held) (sym move_is) here.1;
+        missed = λ input fits all.
+            let lost = beyond-missed held last fits.stands.0 input.bytes fits.agrees all none in
+            let past : end_of held ≤ last = lost.1 in
+            let seen : seen_in input.bytes input.limits.window (anchor_at s (to - 1)) last ≡ DataEnded =
+            ap (λ (low : ℕ). seen_in input.bytes input.limits.window low last) fits.stands.1
+            ∙ ap (λ (size : ℕ). seen_in input.bytes size last last) (sym fits.size) ∙ lost.0 in
+            let rest : Outcome = finish input table k (ended (Failed DataEnds s.at) s) in
+            let is : finish input table k (fill_to input to s) ≡ spend (saw_end last nothing) rest =
+            ap (λ (v : Seen). finish input table k (filled input table to v s)) seen
+            ∙ finish-spend input table k (saw_end last nothing) (ended (Failed DataEnds s.at) s) in
+            let looks : (fill limits held to k s).tally.looks ≡ 1 = ap (λ (m : Move). m.tally.looks) move_is in
+            let is_tail : (finish input table k (fill_to input to s)).tally.tail ≡ 1 = ap (λ (o : Outcome). o.tally.tail) is in
+            let is_far : (finish input table k (fill_to input to s)).tally.far ≡ max (max 0 (last + 1)) rest.tally.far = ap (λ (o : Outcome). o.tally.far) is in
+            (is_tail ∙ sym looks, omega arith);
+      }
+
+  -- a byte of the rest of a box that is looked at in vain
+  past-on : (sight : Held) (byte outer : ℕ) (k : List Frame) (last : Bool)
+      → (cond last (pass (saw_byte byte nothing) sight (Leave Done) k (record s { at = s.stop; stop = outer }))
+      (pass (saw_byte byte nothing) sight (PassRest (8 * (byte + 1)) outer) k s)).waits ≡ true → ⊥
+  past-on sight byte outer k true waits = absurd (cc)
+  past-on sight byte outer k false waits = absurd (cc)
+
+  rest-in_vain : (window : ℕ) (sight : Held) (bit outer : ℕ) (v : Seen) (k : List Frame) → (rest_move window sight bit outer v k s).waits ≡ true → v ≡ NotYet
+  rest-in_vain window sight bit outer (Byte b) k waits = absurd (past-on sight (bit / 8) outer k (nat_le ((s.stop - 1) / 8) (bit / 8)) waits)
+  rest-in_vain window sight bit outer DataEnded k waits = absurd (cc)
+  rest-in_vain window sight bit outer NotYet k waits = refl
+  rest-in_vain window sight bit outer Over k waits = absurd (cc)
+
+  rest-waits : (limits : Limits) (bit outer : ℕ) (k : List Frame) → (pass_rest limits held bit outer k s).waits ≡ true
+      → Waits table held (PassRest bit outer) k s (pass_rest limits held bit outer k s)
+  rest-waits limits bit outer k waits =
+      let byte : ℕ = bit / 8 in
+      let sight : Held = from_byte held (min byte (end_of held)) in
+      let none : seen_beyond held byte ≡ NotYet = rest-in_vain limits.window sight bit outer (seen_beyond held byte) k waits in
+      let here = beyond-waits held byte none in
+      let move_is : pass_rest limits held bit outer k s ≡ rest_move limits.window sight bit outer NotYet k s =
+      ap (λ (v : Seen). rest_move limits.window sight bit outer v k s) none in
+      record {
+        machine = ap (λ (m : Move). m.machine) move_is;
+        on = here.0;
+        room = subst (λ (m : Move). 0 < room_of m.held) (sym move_is) here.1;
+        missed = λ input fits all.
+            let lost = beyond-missed held byte fits.stands.0 input.bytes fits.agrees all none in
+            let past : end_of held ≤ byte = lost.1 in
+            let seen : seen_in input.bytes input.limits.window (anchor_at s (8 * byte)) byte ≡ DataEnded =
+            ap (λ (low : ℕ). seen_in input.bytes input.limits.window low byte) fits.stands.2
+            ∙ ap (λ (size : ℕ). seen_in input.bytes size byte byte) (sym fits.size) ∙ lost.0 in
+            let rest : Outcome = finish input table k (ended (Failed DataEnds s.at) s) in
+            let is : from_here input table (PassRest bit outer) k s ≡ spend (saw_end byte nothing) rest =
+            rest-seen input table bit outer k s fits.stands.1
+            ∙ ap (λ (v : Seen). finish input table k (rested input table byte outer v s)) seen
+            ∙ finish-spend input table k (saw_end byte nothing) (ended (Failed DataEnds s.at) s) in
+            let looks : (pass_rest limits held bit outer k s).tally.looks ≡ 1 = ap (λ (m : Move). m.tally.looks) move_is in
+            let is_tail : (from_here input table (PassRest bit outer) k s).tally.tail ≡ 1 = ap (λ (o : Outcome). o.tally.tail) is in
+            let is_far : (from_here input table (PassRest bit outer) k s).tally.far ≡ max (max 0 (byte + 1)) rest.tally.far = ap (λ (o : Outcome). o.tally.far) is in
+            (is_tail ∙ sym looks, omega arith);
+      }
+
+  element-on : (most id : ℕ) (complex : Bool) (body : ℕ) (k : List Frame) (room : Bool)
+      → (cond room (pass one_row held (Enter body) (Element s.inside complex ∷ k) (begun id s)) (pass one_row held (Leave (Stopped Nodes most)) k s)).waits ≡ true → ⊥
+  element-on most id complex body k true waits = absurd (cc)
+  element-on most id complex body k false waits = absurd (cc)
+
+  group-on : (id : ℕ) (children : List ℕ) (k : List Frame) → (enter_group held id children k s).waits ≡ true → ⊥
+  group-on id [] k waits = absurd (cc)
+  group-on id (child ∷ rest) k waits = absurd (cc)
+
+  enter-waits : (limits : Limits) (id : ℕ) (r : Option Row) (k : List Frame) → slice_get table.rows id ≡ r → (enter limits table held id r k s).waits ≡ true
+      → Waits table held (Enter id) k s (enter limits table held id r k s)
+  enter-waits limits id None k at waits = absurd (cc)
+  enter-waits limits id (Some (Leaf prim)) k at waits = leaf-waits limits id prim (slice_get table.primitives prim) k refl at waits
+  enter-waits limits id (Some (Elem name simple body)) k at waits =
+      absurd (element-on limits.nodes id (has_elements simple) body k (nat_lt (length s.nodes) limits.nodes) waits)
+  enter-waits limits id (Some (Skip bits)) k at waits =
+      absurd (begin-on (s.at + bits) k (nat_le (s.at + bits) s.at) (nat_le (s.at + bits) s.stop) waits)
+  enter-waits limits id (Some (Align bits)) k at waits =
+      absurd (begin-on (aligned bits s.at) k (nat_le (aligned bits s.at) s.at) (nat_le (aligned bits s.at) s.stop) waits)
+  enter-waits limits id (Some (Group children)) k at waits = absurd (group-on id children k waits)
+  enter-waits limits id (Some (Boxed bits body)) k at waits = absurd (box-on bits body k (nat_le (s.at + bits) s.stop) waits)
+
+  go-on : (id next : ℕ) (child : Option ℕ) (k : List Frame) → (go_on held id next child k s).waits ≡ true → ⊥
+  go-on id next None k waits = absurd (cc)
+  go-on id next (Some child) k waits = absurd (cc)
+
+  leave-on : (frame : Frame) (told : End) (k : List Frame) → (leave table held frame told k s).waits ≡ true → ⊥
+  leave-on (Rest id next) Done k waits = go-on id next (slice_get (children_of (slice_get table.rows id)) next) k waits
+  leave-on (Rest id next) (Failed cause bit) k waits = absurd (cc)
+  leave-on (Rest id next) (Stopped cause quantity) k waits = absurd (cc)
+  leave-on (Element outer complex) Done k waits = absurd (cc)
+  leave-on (Element outer complex) (Failed cause bit) k waits = absurd (cc)
+  leave-on (Element outer complex) (Stopped cause quantity) k waits = absurd (cc)
+  leave-on (Box outer) Done k waits = leave-box-on outer k (nat_le s.stop s.at) waits
+  leave-on (Box outer) (Failed cause bit) k waits = absurd (cc)
+  leave-on (Box outer) (Stopped cause quantity) k waits = absurd (cc)
+
+  pub step-waits : (limits : Limits) (focus : Focus) (k : List Frame) → (step limits table held focus k s).waits ≡ true
+      → Waits table held focus k s (step limits table held focus k s)
+  step-waits limits (Enter id) k waits = enter-waits limits id (slice_get table.rows id) k refl waits
+  step-waits limits (Pass to) k waits = fill-waits limits to k waits
+  step-waits limits (PassRest bit outer) k waits = rest-waits limits bit outer k waits
+  step-waits limits (Leave told) [] waits = absurd (cc)
+  step-waits limits (Leave told) (frame ∷ k) waits = absurd (leave-on frame told k waits)

@@ -1,0 +1,178 @@
+// A leaf is read, and what it comes to is taken.
+ghost use Rattle.std.specs.Prelude.{◌≡◌, ℕ, ◌+◌, ◌-◌, ◌*◌, ◌/◌, ◌^◌, ◌≤◌, Some, true, IfOk, OnOk, take, drop, length};
+ghost use Rattle.dfdl_bits.specs.Window.{Held, end_of, from_byte, seen_at};
+ghost use Rattle.dfdl_terms.specs.Rows.{IsPrimitive};
+ghost use Rattle.dfdl_region.specs.Bytes.{utf8_of};
+ghost use Rattle.dfdl_report.specs.declared.cause.LimitCause.TheVariants.{Text};
+ghost use Rattle.dfdl_region.specs.Nodes.{with_content};
+ghost use Rattle.dfdl_grammar.specs.declared.end.End.{End as AnyEnd};
+ghost use Rattle.dfdl_grammar.specs.declared.end.End.TheVariants.{Done};
+ghost use Rattle.dfdl_grammar.specs.Outcomes.{ended};
+ghost use Rattle.dfdl_grammar.specs.Leaves.{Find, content_begins, failing_bit, has_room, hold, program};
+ghost use Rattle.dfdl_looks.specs.Asks.{Reading, ask};
+ghost use Rattle.dfdl_looks.specs.Tallies.{nothing};
+ghost use Rattle.dfdl_parse.specs.Machines.{read_leaf, read_move};
+ghost use Rattle.dfdl_parse.specs.Steps.{Answers, HasPiece, IsWithin, Moved};
+ghost use Rattle.dfdl_parse.specs.Shown.{Comes, HasSameLimits, limits_of, state_of};
+
+use crate::frame::Focus;
+use crate::leaf::{Found, Glance, bits_of, content_begins, has_room, read_leaf};
+use crate::parser::Parser;
+use dfdl_bits::{Steps, Window};
+use dfdl_grammar::End;
+use dfdl_region::Content;
+use dfdl_report::{LimitCause, ParseCause};
+use dfdl_terms::{Primitive, RowId};
+use std::alloc::AllocError;
+use std::sync::ledger::Ledger;
+
+impl Parser {
+    // A leaf is read. Its box can't pass the end of the one around it.
+    pub(crate) fn read<L: Ledger>(
+        &mut self,
+        primitive: &Primitive,
+        id: RowId,
+        sight: &mut Window,
+        steps: &mut Steps<L>,
+    ) -> Result<bool, AllocError>
+        requires focus { self.old.focus ≡ Focus.Enter id }
+        requires base { sight.old.base ≤ self.old.at / 8 }
+        requires at { self.old.at ≤ 8 * end_of sight.old }
+        requires primitive { IsPrimitive primitive.now }
+        ensures moved { IfOk result (λ waits. Moved
+            (read_leaf (limits_of self.old sight.old) sight.old id (Some primitive.now) self.old.stack (state_of self.old))
+            waits self.old.far self.new sight.new (steps.new - steps.old)) }
+        ensures steps { steps.old ≤ steps.new }
+        ensures most { OnOk result (HasSameLimits self.old self.new) }
+        ensures at { OnOk result (self.new.at ≤ 8 * end_of sight.new) }
+    {
+        let _end = sight.end();
+        if !has_room(primitive, self.at, self.stop) {
+            self.fail(ParseCause::LengthOutOfRange);
+            return Ok(false);
+        }
+        let waits = self.read_in_box(primitive, id, sight, steps)?;
+        Ok(waits)
+    }
+
+    // A leaf is read whose box ends in the one around it.
+    #[tactic(auto, using(crate::proofs::Windows::end_from))]
+    fn read_in_box<L: Ledger>(
+        &mut self,
+        primitive: &Primitive,
+        id: RowId,
+        sight: &mut Window,
+        steps: &mut Steps<L>,
+    ) -> Result<bool, AllocError>
+        requires focus { self.old.focus ≡ Focus.Enter id }
+        requires base { sight.old.base ≤ self.old.at / 8 }
+        requires at { self.old.at ≤ 8 * end_of sight.old }
+        requires primitive { IsPrimitive primitive.now }
+        requires room { has_room primitive.now self.old.at self.old.stop ≡ true }
+        ensures moved { IfOk result (λ waits. Moved
+            (read_move (limits_of self.old sight.old) (content_begins primitive.now self.old.at) (from_byte sight.old (self.old.at / 8)) id
+            (ask (seen_at (from_byte sight.old (self.old.at / 8))) (program primitive.now self.old.at self.old.stop) nothing)
+            self.old.stack (state_of self.old))
+            waits self.old.far self.new sight.new (steps.new - steps.old)) }
+        ensures steps { steps.old ≤ steps.new }
+        ensures most { OnOk result (HasSameLimits self.old self.new) }
+        ensures at { OnOk result (self.new.at ≤ 8 * end_of sight.new) }
+    {
+        let _end = sight.end();
+        let first = content_begins(primitive, self.at);
+        sight.drop_before(self.at / 8);
+        let glance = read_leaf(
+            primitive,
+            self.at,
+            self.stop,
+            sight,
+            &mut self.scratch,
+            steps,
+        )?;
+        Ok(self.land(glance, bits_of(primitive), first, sight.size() as u64))
+    }
+
+    // The reading of a leaf of so many bits is taken, whose content begins at a bit.
+    fn land(&mut self, glance: Glance, bits: u64, first: u64, window: u64) -> bool
+        requires few { bits ≤ 2 ^ 33 }
+        requires bound { self.old.at ≤ 2 ^ 63 }
+        requires pieces { HasPiece glance.found self.old.scratch }
+        ensures moved { (sight : Held) (id looks : ℕ) (reading : Reading Find) → self.old.focus ≡ Focus.Enter id
+            → Answers reading bits self.old.scratch glance looks → sight.size ≡ window
+            → Moved (read_move (limits_of self.old sight) first sight id reading self.old.stack (state_of self.old)) result self.old.far self.new sight looks }
+        ensures most { HasSameLimits self.old self.new }
+        ensures at { (end : ℕ) → self.old.at ≤ 8 * end → IsWithin glance.found (self.old.at + bits) end → self.new.at ≤ 8 * end }
+    {
+        match &glance.found {
+            Found::NotYet => return true,
+            Found::Reads(content) => self.put(*content, self.at + bits),
+            Found::Octets => self.hold_octets(self.at + bits),
+            Found::Text { from, to, end } => self.hold_text(*from, *to, *end),
+            Found::Fails(cause) => {
+                self.fail_at(*cause, failing_bit(*cause, self.at, first));
+            }
+            Found::Past => self.stop_at(LimitCause::Window, window),
+        }
+        self.far = self.far.max(glance.far);
+        false
+    }
+
+    // The innermost open element gets its content, which ends at a bit.
+    fn put(&mut self, content: Content, end: u64)
+        ensures { Comes self.old (ended Done (record (state_of self.old) {
+          at = end;
+          nodes = with_content self.old.region.nodes self.old.inside content;
+        })) self.new }
+    {
+        self.region.set_content(self.inside, content);
+        self.at = end;
+        self.focus = Focus::Leave(End::Done);
+    }
+
+    // The innermost open element gets the bytes that were read as its content, which ends at a bit.
+    fn hold_octets(&mut self, end: u64)
+        ensures { Comes self.old (hold self.old.text.most Content.Octets self.old.scratch.octets.items end (state_of self.old)) self.new }
+    {
+        match self.text.add(self.scratch.octets.as_slice()) {
+            Ok(from) => {
+                let len = self.text.count() - from;
+                self.put(Content::Octets { from, len }, end);
+            }
+            Err(_) => self.stop_at_text(),
+        }
+    }
+
+    // The innermost open element gets the characters that were read, from one place to another, as its content, which ends at
+    // a bit.
+    fn hold_text(&mut self, from: usize, to: usize, end: u64)
+        requires { (from ≤ to) × (to ≤ length self.old.scratch.characters.items) }
+        ensures { Comes self.old (hold self.old.text.most Content.Text
+            (utf8_of (take (to - from) (drop from self.old.scratch.characters.items))) end (state_of self.old)) self.new }
+    {
+        match self.text.add_characters(&self.scratch.characters[from..to]) {
+            Ok(from) => {
+                let len = self.text.count() - from;
+                self.put(Content::Text { from, len }, end);
+            }
+            Err(_) => self.stop_at_text(),
+        }
+    }
+
+    // There are as many bytes of texts as there may be.
+    fn stop_at_text(&mut self)
+        ensures { self.new ≡ record self.old { focus = Focus.Leave (AnyEnd.Stopped Text self.old.text.most) } }
+    {
+        let most = u64::from(self.text.most());
+        self.stop_at(LimitCause::Text, most);
+    }
+}
+
+// The bit at which a leaf fails: that of its box where this is longer than it can be, and else that of its content.
+fn failing_bit(cause: ParseCause, of_box: u64, of_content: u64) -> u64
+    ensures { result ≡ failing_bit cause of_box of_content }
+{
+    match cause {
+        ParseCause::LengthOutOfRange => of_box,
+        _ => of_content,
+    }
+}

@@ -1,0 +1,158 @@
+// The characters of a string.
+ghost use Rattle.std.specs.Prelude.{◌≡◌, ℕ, ◌+◌, ◌-◌, ◌*◌, ◌/◌, ◌^◌, ◌≤◌, IfOk, true};
+ghost use Rattle.dfdl_bits.specs.Window.{end_of, seen_at};
+ghost use Rattle.dfdl_terms.specs.declared.row.Primitive.TheVariants.{Text};
+ghost use Rattle.dfdl_terms.specs.Rows.{IsTextSize};
+ghost use Rattle.dfdl_grammar.specs.Leaves.{bits_of_text, has_room, text_behind, text_find, text_of_size};
+ghost use Rattle.dfdl_looks.specs.Asks.{Answer, and_then, ask};
+ghost use Rattle.dfdl_looks.specs.Tallies.{nothing};
+ghost use Rattle.dfdl_texts.specs.Texts.{text_at};
+ghost use Rattle.dfdl_texts.specs.Readings.{found_shown as text_shown};
+ghost use Rattle.dfdl_parse.specs.declared.leaf.Scratch.{Scratch as AnyScratch};
+ghost use Rattle.dfdl_parse.specs.Steps.{Answers, HasPiece, IsWithin, found_shown};
+ghost use Rattle.dfdl_parse.specs.Strings.{EndsBefore, text_reached};
+
+use crate::framing::aligned;
+use crate::leaf::{Found, Glance, Scratch, text_begins};
+use dfdl_bits::{Steps, Window};
+use dfdl_report::ParseCause;
+use dfdl_terms::{TextForm, TextSize};
+use dfdl_text_string::trim;
+use dfdl_texts::{Extent, Found as TextFound, read_text};
+use std::alloc::AllocError;
+use std::sync::ledger::Ledger;
+
+/// Reads a string whose box begins at a bit, inside of a box that ends at another bit. Its characters stand in the scratch
+/// then, before they are trimmed.
+pub(crate) fn read_string<L: Ledger>(
+    form: &TextForm,
+    bit: u64,
+    stop: u64,
+    sight: &Window,
+    scratch: &mut Scratch,
+    steps: &mut Steps<L>,
+) -> Result<Glance, AllocError>
+    requires base { sight.now.base ≤ bit / 8 }
+    requires at { bit ≤ 8 * end_of sight.now }
+    requires bound { end_of sight.now ≤ 2 ^ 60 }
+    requires size { IsTextSize form.now.size }
+    requires room { has_room (Text form.now) bit stop ≡ true }
+    ensures answers { IfOk result (λ g. Answers (ask (seen_at sight.now) (text_of_size form.now form.now.size bit stop) nothing) (bits_of_text form.now.size) scratch.new g (steps.new - steps.old)) }
+    ensures steps { steps.old ≤ steps.new }
+    ensures within { IfOk result (λ g. IsWithin g.found (bit + bits_of_text form.now.size) (end_of sight.now)) }
+    ensures pieces { IfOk result (λ g. HasPiece g.found scratch.new) }
+{
+    let first = text_begins(form.size, bit);
+    match form.size {
+        TextSize::Bits(bits) => {
+            let end = bit + bits;
+            if (end - first) % 8 != 0 {
+                return Ok(Glance {
+                    found: Found::Fails(ParseCause::NotFilled),
+                    far: 0,
+                });
+            }
+            let glance = read_characters(
+                form,
+                Extent::Box,
+                bit,
+                first / 8,
+                end,
+                sight,
+                scratch,
+                steps,
+            )?;
+            Ok(glance)
+        }
+        TextSize::Characters(count) => {
+            let extent = Extent::Characters(count);
+            let glance = read_characters(
+                form,
+                extent,
+                bit,
+                first / 8,
+                stop,
+                sight,
+                scratch,
+                steps,
+            )?;
+            Ok(glance)
+        }
+    }
+}
+
+// Reads the characters of an extent from a byte on, in a box that ends at bit `stop`, for a string whose box begins at bit `bit`.
+fn read_characters<L: Ledger>(
+    form: &TextForm,
+    extent: Extent,
+    bit: u64,
+    byte: u64,
+    stop: u64,
+    sight: &Window,
+    scratch: &mut Scratch,
+    steps: &mut Steps<L>,
+) -> Result<Glance, AllocError>
+    requires base { sight.now.base ≤ byte }
+    requires byte { byte ≤ 2 ^ 60 }
+    requires bit { bit ≤ 2 ^ 63 }
+    requires bound { end_of sight.now ≤ 2 ^ 60 }
+    requires size { IsTextSize form.now.size }
+    ensures answers { IfOk result (λ g. (bits : ℕ) → Answers (ask (seen_at sight.now) (and_then (text_at form.now.encoding form.now.replaces extent stop byte) (λ text. Answer (text_find form.now bit text))) nothing) bits scratch.new g (steps.new - steps.old)) }
+    ensures steps { steps.old ≤ steps.new }
+    ensures pieces { IfOk result (λ g. HasPiece g.found scratch.new) }
+{
+    let text = read_text(
+        form.encoding,
+        form.replaces,
+        extent,
+        sight,
+        byte,
+        stop,
+        &mut scratch.characters,
+        steps,
+    )?;
+    let found = text_found(form, bit, text.found, scratch);
+    Ok(Glance {
+        found,
+        far: text.far,
+    })
+}
+
+// What a text of these characters is found as, for a string whose box begins at a bit.
+fn text_found(form: &TextForm, bit: u64, text: TextFound, scratch: &Scratch) -> Found
+    requires bit { bit ≤ 2 ^ 63 }
+    requires size { IsTextSize form.now.size }
+    requires end { EndsBefore text (2 ^ 60) }
+    ensures shown { (bits : ℕ) → found_shown bits scratch.now result
+        ≡ text_reached form.now bit (text_shown scratch.now.characters.items text) }
+    ensures piece { HasPiece result scratch.now }
+{
+    match text {
+        TextFound::Reads { end } => {
+            let (from, to) = trim(&form.pad, scratch.characters.as_slice());
+            Found::Text {
+                from,
+                to,
+                end: text_behind(form.size, bit, end),
+            }
+        }
+        TextFound::HasBad => Found::Fails(ParseCause::BadCharacter),
+        TextFound::IsCut => Found::Fails(ParseCause::DataEnds),
+        TextFound::IsBoxed => Found::Fails(ParseCause::LengthOutOfRange),
+        TextFound::TooFar => Found::Past,
+        TextFound::NotYet => Found::NotYet,
+    }
+}
+
+// The bit behind the box of a string that begins at a bit, where its characters end before a byte.
+fn text_behind(size: TextSize, bit: u64, end: u64) -> u64
+    requires bit { bit ≤ 2 ^ 63 }
+    requires size { IsTextSize size }
+    requires end { end ≤ 2 ^ 60 }
+    ensures { result ≡ text_behind size bit end }
+{
+    match size {
+        TextSize::Bits(bits) => bit + bits,
+        TextSize::Characters(_) => 8 * end,
+    }
+}

@@ -6,7 +6,7 @@ use Rattle.serde_json.specs.Data.{Data, null, boolean, number, string, array, ob
 use Rattle.serde_json.specs.Find.{get_member}
 use Rattle.serde_json.specs.declared.value.Value.{Value}
 use Rattle.dfdl_forms.specs.declared.simple.Simple.{Simple}
-use Rattle.dfdl_terms.specs.declared.row.Row.TheVariants.{Leaf, Elem, Group, Skip, Align}
+use Rattle.dfdl_terms.specs.declared.row.Row.TheVariants.{Leaf, Elem, Group, Skip, Align, Boxed}
 use Rattle.dfdl_terms.specs.declared.event.Event.TheVariants.{Start, End}
 use Rattle.dfdl_terms.specs.Rows.{Table}
 use Rattle.dfdl_json.specs.ByRows.{below}
@@ -63,6 +63,9 @@ module _ (t : Table) (row : ℕ) (content : Data) (around : Names) where
 
   pub align_says : (bits : ℕ) → slice_get t.rows row ≡ Some (Align bits) → findings t row content around ≡ []
   align_says bits is = ap (λ f. f content around) (row_is (findings_by t) (λ c a. []) t.rows row (Some (Align bits)) is)
+
+  pub box_says : (bits body : ℕ) → slice_get t.rows row ≡ Some (Boxed bits body) → findings t row content around ≡ []
+  box_says bits body is = ap (λ f. f content around) (row_is (findings_by t) (λ c a. []) t.rows row (Some (Boxed bits body)) is)
 
   pub group_says : (children : List ℕ) → slice_get t.rows row ≡ Some (Group children) → findings t row content around ≡ []
   group_says children is = ap (λ f. f content around) (row_is (findings_by t) (λ c a. []) t.rows row (Some (Group children)) is)

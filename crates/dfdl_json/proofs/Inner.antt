@@ -10,32 +10,32 @@ use Rattle.serde_json.specs.Written.{has_float, members_have_float, compact_text
 use Rattle.serde_json.specs.declared.value.Value.{Value}
 use Rattle.dfdl_region.specs.declared.node.Node.{Node}
 use Rattle.dfdl_region.specs.declared.node.Content.{Content}
-use Rattle.dfdl_region.specs.declared.node.Content.TheVariants.{Begun, Complex, Signed, Unsigned, Decimal, Truth}
+use Rattle.dfdl_region.specs.declared.node.Content.TheVariants.{Begun, Complex, Signed, Unsigned, Decimal, Truth, Text, Octets}
 use Rattle.dfdl_terms.specs.Rows.{Table}
 use Rattle.dfdl_json.specs.Children.{name_of}
 use Rattle.dfdl_json.specs.Inside.{HaveMembers, put_if}
 use Rattle.dfdl_json.specs.Lines.{data_of, infoset_of, line_of, members_of}
 
 -- the members by a node and those behind it
-more_members : (t : Table) (nodes : List Node) (k at : ℕ) (node : Node) (j : ℕ) → at ≡ suc k → at ≤ length nodes → node ≡ get_or nodes k node
-    → put_if (nat_eq node.parent j) (name_of t node.element) (data_of node.content (members_of t at (drop at nodes) k)) (members_of t at (drop at nodes) j)
-    ≡ members_of t k (drop k nodes) j
-more_members t nodes k at node j is within node_is =
+more_members : (t : Table) (bytes : List ℕ) (nodes : List Node) (k at : ℕ) (node : Node) (j : ℕ) → at ≡ suc k → at ≤ length nodes → node ≡ get_or nodes k node
+    → put_if (nat_eq node.parent j) (name_of t node.element) (data_of bytes node.content (members_of t bytes at (drop at nodes) k)) (members_of t bytes at (drop at nodes) j)
+    ≡ members_of t bytes k (drop k nodes) j
+more_members t bytes nodes k at node j is within node_is =
     let next : at ≡ k + 1 = omega (arith, is) in
-    ap (λ n. put_if (nat_eq node.parent j) (name_of t node.element) (data_of node.content (members_of t n (drop at nodes) k)) (members_of t n (drop at nodes) j)) next
-    ∙ ap (λ ns. members_of t k ns j) (sym (left_here is within node_is))
+    ap (λ n. put_if (nat_eq node.parent j) (name_of t node.element) (data_of bytes node.content (members_of t bytes n (drop at nodes) k)) (members_of t bytes n (drop at nodes) j)) next
+    ∙ ap (λ ns. members_of t bytes k ns j) (sym (left_here is within node_is))
   where
     left_here : at ≡ suc k → at ≤ length nodes → node ≡ get_or nodes k node → drop k nodes ≡ node ∷ drop at nodes
     left_here e w n = drop-cons nodes k node (omega (arith, e, w)) ∙ rw (← n, e) refl
 
-pub node_put : (t : Table) (nodes : List Node) (at : ℕ) (node : Node) (objects : List (BTreeMap (String Global) Value)) → 1 ≤ at → at ≤ length nodes
+pub node_put : (t : Table) (bytes : List ℕ) (nodes : List Node) (at : ℕ) (node : Node) (objects : List (BTreeMap (String Global) Value)) → 1 ≤ at → at ≤ length nodes
     → node ≡ get_or nodes (at - 1) node
     → HaveMembers objects (at - 1) (λ j. put_if (nat_eq node.parent j) (name_of t node.element)
-    (data_of node.content (members_of t at (drop at nodes) (at - 1))) (members_of t at (drop at nodes) j))
-    → HaveMembers objects (at - 1) (λ j. members_of t (at - 1) (drop (at - 1) nodes) j)
-node_put t nodes at node objects some within node_is have = record {
+    (data_of bytes node.content (members_of t bytes at (drop at nodes) (at - 1))) (members_of t bytes at (drop at nodes) j))
+    → HaveMembers objects (at - 1) (λ j. members_of t bytes (at - 1) (drop (at - 1) nodes) j)
+node_put t bytes nodes at node objects some within node_is have = record {
   counted = have.counted;
-  each = λ j other here. have.each j other here ∙ more_members t nodes (at - 1) at node j (omega (arith, some)) within node_is;
+  each = λ j other here. have.each j other here ∙ more_members t bytes nodes (at - 1) at node j (omega (arith, some)) within node_is;
 }
 
 -- a count by its predecessor
@@ -52,31 +52,33 @@ put-no_float k d (member l e ms) plain none =
       | Greater ↦ or_from (has_float e) (members_have_float (put k d ms)) parts.0 (put-no_float k d ms plain parts.1)
     ]
 
-data-no_float : (content : Content) (entries : Members) → members_have_float entries ≡ false → has_float (data_of content entries) ≡ false
-data-no_float (Signed z) entries none = refl
-data-no_float (Unsigned n) entries none = refl
-data-no_float (Decimal d) entries none = refl
-data-no_float (Truth truth) entries none = refl
-data-no_float Complex entries none = none
-data-no_float Begun entries none = none
+data-no_float : (bytes : List ℕ) (content : Content) (entries : Members) → members_have_float entries ≡ false → has_float (data_of bytes content entries) ≡ false
+data-no_float bytes (Signed z) entries none = refl
+data-no_float bytes (Unsigned n) entries none = refl
+data-no_float bytes (Decimal d) entries none = refl
+data-no_float bytes (Truth truth) entries none = refl
+data-no_float bytes (Text from len) entries none = refl
+data-no_float bytes (Octets from len) entries none = refl
+data-no_float bytes Complex entries none = none
+data-no_float bytes Begun entries none = none
 
 put_if-no_float : (here : Bool) (k : List ℕ) (d : Data) (ms : Members) → has_float d ≡ false → members_have_float ms ≡ false → members_have_float (put_if here k d ms) ≡ false
 put_if-no_float true k d ms plain none = put-no_float k d ms plain none
 put_if-no_float false k d ms plain none = none
 
-members-no_float : (t : Table) (from : ℕ) (nodes : List Node) (number : ℕ) → members_have_float (members_of t from nodes number) ≡ false
-members-no_float t from [] number = refl
-members-no_float t from (node ∷ nodes) number =
-    put_if-no_float (nat_eq node.parent number) (name_of t node.element) (data_of node.content (members_of t (from + 1) nodes from)) (members_of t (from + 1) nodes number)
-    (data-no_float node.content (members_of t (from + 1) nodes from) (members-no_float t (from + 1) nodes from)) (members-no_float t (from + 1) nodes number)
+members-no_float : (t : Table) (bytes : List ℕ) (from : ℕ) (nodes : List Node) (number : ℕ) → members_have_float (members_of t bytes from nodes number) ≡ false
+members-no_float t bytes from [] number = refl
+members-no_float t bytes from (node ∷ nodes) number =
+    put_if-no_float (nat_eq node.parent number) (name_of t node.element) (data_of bytes node.content (members_of t bytes (from + 1) nodes from)) (members_of t bytes (from + 1) nodes number)
+    (data-no_float bytes node.content (members_of t bytes (from + 1) nodes from) (members-no_float t bytes (from + 1) nodes from)) (members-no_float t bytes (from + 1) nodes number)
 
-infoset-no_float : (t : Table) (nodes : List Node) → has_float (infoset_of t nodes) ≡ false
-infoset-no_float t [] = refl
-infoset-no_float t (root ∷ nodes) =
-    put-no_float (name_of t root.element) (data_of root.content (members_of t 1 nodes 0)) no_members (data-no_float root.content (members_of t 1 nodes 0) (members-no_float t 1 nodes 0)) refl
+infoset-no_float : (t : Table) (nodes : List Node) (bytes : List ℕ) → has_float (infoset_of t nodes bytes) ≡ false
+infoset-no_float t [] bytes = refl
+infoset-no_float t (root ∷ nodes) bytes =
+    put-no_float (name_of t root.element) (data_of bytes root.content (members_of t bytes 1 nodes 0)) no_members (data-no_float bytes root.content (members_of t bytes 1 nodes 0) (members-no_float t bytes 1 nodes 0)) refl
 
 -- the line of a value
-pub line_is : (t : Table) (nodes : List Node) (whole : Data) (text line : List ℕ) → whole ≡ infoset_of t nodes → (has_float whole ≡ false → text ≡ compact_text whole)
-    → line ≡ text ++ 10 ∷ [] → line ≡ line_of t nodes
-line_is t nodes whole text line is written ended =
-    ended ∙ ap (λ xs. xs ++ 10 ∷ []) (written (ap has_float is ∙ infoset-no_float t nodes) ∙ ap compact_text is)
+pub line_is : (t : Table) (nodes : List Node) (bytes : List ℕ) (whole : Data) (text line : List ℕ) → whole ≡ infoset_of t nodes bytes → (has_float whole ≡ false → text ≡ compact_text whole)
+    → line ≡ text ++ 10 ∷ [] → line ≡ line_of t nodes bytes
+line_is t nodes bytes whole text line is written ended =
+    ended ∙ ap (λ xs. xs ++ 10 ∷ []) (written (ap has_float is ∙ infoset-no_float t nodes bytes) ∙ ap compact_text is)

@@ -39,7 +39,7 @@ pub fn name_of(terms: &Terms, id: RowId) -> &str
     }
 }
 
-/// The elements that the content of this row declares, through groups in groups, in schema order.
+/// The elements that the content of this row declares, through groups and boxes, in schema order.
 pub fn elements_in(alloc: Global, terms: &Terms, id: RowId) -> Result<Vec<RowId>, AllocError>
     ensures { IfOk result (λ rows. rows.items ≡ children.elements_in terms.now id) }
 {
@@ -52,7 +52,7 @@ pub fn elements_in(alloc: Global, terms: &Terms, id: RowId) -> Result<Vec<RowId>
     Ok(elements)
 }
 
-// An element is put behind the others, and the children of a group before the rows that are left.
+// An element is put behind the others, and the children of a group or the body of a box before the rows that are left.
 fn visit(
     terms: &Terms,
     row: RowId,
@@ -73,6 +73,7 @@ fn visit(
         Some(Row::Leaf { .. }) => Ok(()),
         Some(Row::Skip { .. }) => Ok(()),
         Some(Row::Align { .. }) => Ok(()),
+        Some(Row::Boxed { body, .. }) => push_all(left, &[*body]),
         None => Ok(()),
     }
 }

@@ -1,6 +1,8 @@
 // The line of the infoset of parsed data.
-ghost use Rattle.std.specs.Prelude.{◌≡◌, ◌≤◌, ℕ, suc, nat_eq, IfOk, OnOk, length, drop, string_bytes};
+ghost use Rattle.std.specs.Prelude.{◌≡◌, ◌+◌, ◌≤◌, ℕ, suc, nat_eq, IfOk, OnOk, IsUtf8, length, drop, string_bytes};
 ghost use Rattle.dfdl_value.specs.Writing.{text_of};
+ghost use Rattle.dfdl_region.specs.Bytes.{bytes_at as part_of};
+ghost use Rattle.dfdl_region.specs.Texts.{HasText, HaveTexts};
 ghost use Rattle.serde_json.specs.Data.{Members, no_members};
 ghost use Rattle.serde_json.specs.View.{view};
 ghost use Rattle.dfdl_json.specs.Inside.{HaveMembers, IsPut, put_if, shown};
@@ -15,27 +17,39 @@ use dfdl_value::{TextValue, Value};
 use serde_json::{Map, Value as Json};
 use std::alloc::{AllocError, Global};
 
-/// The line of an infoset whose elements are these nodes, the root element first: compact JSON and one line feed
-/// ('The DFDL Information Set').
-pub fn line_of(alloc: Global, terms: &Terms, nodes: &[Node]) -> Result<TextValue, AllocError>
-    ensures { IfOk result (λ line. line ≡ lines.line_of terms.now nodes.now) }
+/// The line of an infoset whose elements are these nodes, the root element first, with the bytes of their texts and
+/// hexBinary values: compact JSON and one line feed ('The DFDL Information Set').
+pub fn line_of(
+    alloc: Global,
+    terms: &Terms,
+    nodes: &[Node],
+    text: &[u8],
+) -> Result<TextValue, AllocError>
+    requires texts { HaveTexts nodes.now text.now }
+    ensures { IfOk result (λ line. line ≡ lines.line_of terms.now nodes.now text.now) }
 {
-    let value = value_of(alloc, terms, nodes)?;
-    let mut text = value.to_string(alloc)?;
-    text.push('\n')?;
-    Ok(TextValue::from_string(text))
+    let value = value_of(alloc, terms, nodes, text)?;
+    let mut line = value.to_string(alloc)?;
+    line.push('\n')?;
+    Ok(TextValue::from_string(line))
 }
 
-/// The infoset whose elements are these nodes, as JSON.
-pub fn value_of(alloc: Global, terms: &Terms, nodes: &[Node]) -> Result<Json, AllocError>
-    ensures { IfOk result (λ value. view value ≡ lines.infoset_of terms.now nodes.now) }
+/// The infoset whose elements are these nodes, with the bytes of their texts and hexBinary values, as JSON.
+pub fn value_of(
+    alloc: Global,
+    terms: &Terms,
+    nodes: &[Node],
+    text: &[u8],
+) -> Result<Json, AllocError>
+    requires texts { HaveTexts nodes.now text.now }
+    ensures { IfOk result (λ value. view value ≡ lines.infoset_of terms.now nodes.now text.now) }
 {
     let mut whole = Map::new(alloc);
     let [root, ..] = nodes else {
         return Ok(Json::Object(whole));
     };
-    let members = members_of_root(alloc, terms, nodes)?;
-    let value = value_with(alloc, root.content, members)?;
+    let members = members_of_root(alloc, terms, nodes, text)?;
+    let value = value_with(alloc, root.content, members, text)?;
     serde_json::put(&mut whole, alloc, name_of(terms, root.element), value)?;
     Ok(Json::Object(whole))
 }
@@ -46,13 +60,15 @@ fn members_of_root(
     alloc: Global,
     terms: &Terms,
     nodes: &[Node],
+    text: &[u8],
 ) -> Result<Map<String, Json>, AllocError>
-    requires { 1 ≤ length nodes.now }
-    ensures { IfOk result (λ members. shown members ≡ lines.members_of terms.now 1 (drop 1 nodes.now) 0) }
+    requires some { 1 ≤ length nodes.now }
+    requires texts { HaveTexts nodes.now text.now }
+    ensures { IfOk result (λ members. shown members ≡ lines.members_of terms.now text.now 1 (drop 1 nodes.now) 0) }
 {
     let mut objects = empty_objects(alloc, nodes.len())?;
     for at in (1..nodes.len()).rev() {
-        put_node(alloc, terms, &mut objects, nodes[at])?;
+        put_node(alloc, terms, &mut objects, nodes[at], text)?;
     }
     let Some(members) = objects.pop() else {
         unreachable!()
@@ -77,16 +93,18 @@ fn put_node(
     terms: &Terms,
     objects: &mut Vec<Map<String, Json>>,
     node: Node,
+    text: &[u8],
 ) -> Result<(), AllocError>
-    requires { 1 ≤ length objects.old.items }
+    requires some { 1 ≤ length objects.old.items }
+    requires text { HasText text.now node.content }
     ensures { OnOk result ((told : ℕ → Members) (count : ℕ) → HaveMembers objects.old.items (suc count) told
         → HaveMembers objects.new.items count (λ j. put_if (nat_eq node.parent j)
-        (children.name_of terms.now node.element) (lines.data_of node.content (told count)) (told j))) }
+        (children.name_of terms.now node.element) (lines.data_of text.now node.content (told count)) (told j))) }
 {
     let Some(members) = objects.pop() else {
         unreachable!()
     };
-    let value = value_with(alloc, node.content, members)?;
+    let value = value_with(alloc, node.content, members, text)?;
     put_member(
         alloc,
         objects,
@@ -119,16 +137,46 @@ fn value_with(
     alloc: Global,
     content: Content,
     members: Map<String, Json>,
+    text: &[u8],
 ) -> Result<Json, AllocError>
-    ensures { IfOk result (λ value. view value ≡ lines.data_of content (shown members)) }
+    requires { HasText text.now content }
+    ensures { IfOk result (λ value. view value ≡ lines.data_of text.now content (shown members)) }
 {
     match content {
         Content::Signed(number) => Ok(Json::String(number.to_string(alloc)?)),
         Content::Unsigned(number) => Ok(Json::String(number.to_string(alloc)?)),
         Content::Decimal(number) => Ok(Json::String(decimal_text(alloc, number)?)),
         Content::Truth(truth) => Ok(Json::String(truth.to_string(alloc)?)),
+        Content::Text { from, len } => Ok(Json::String(string_of(
+            alloc,
+            bytes_at(text, from, len),
+        )?)),
+        Content::Octets { from, len } => Ok(Json::String(hex::encode_upper(
+            alloc,
+            bytes_at(text, from, len),
+        )?)),
         Content::Complex => Ok(Json::Object(members)),
         Content::Begun => Ok(Json::Object(members)),
+    }
+}
+
+// So many bytes of a text from one on.
+fn bytes_at(text: &[u8], from: u32, len: u32) -> &[u8]
+    requires { from + len ≤ length text.now }
+    ensures { result.now ≡ part_of text.now from len }
+{
+    let from = from as usize;
+    &text[from..from + len as usize]
+}
+
+// The string of bytes that are UTF-8.
+fn string_of(alloc: Global, bytes: &[u8]) -> Result<String, AllocError>
+    requires { IsUtf8 bytes.now }
+    ensures { IfOk result (λ string. string_bytes string ≡ bytes.now) }
+{
+    match str::from_utf8(bytes) {
+        Ok(string) => Ok(String::from_str(alloc, string)?),
+        Err(_) => unreachable!(),
     }
 }
 

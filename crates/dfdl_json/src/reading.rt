@@ -137,6 +137,7 @@ impl<'t, 'v> Reading<'t, 'v> {
             Some(Row::Group { .. }) => Ok(()),
             Some(Row::Skip { .. }) => Ok(()),
             Some(Row::Align { .. }) => Ok(()),
+            Some(Row::Boxed { .. }) => Ok(()),
             None => Ok(()),
         }
     }

@@ -1,4 +1,5 @@
-// Infosets of `r`, which has `a` with `x` and, in a group inside, `y`, and behind `a` and fill the number `b`.
+// Infosets of `r`, which has `a`, whose content is in a box, with `x` and, in a group inside, `y`, and behind `a` and fill
+// the number `b`.
 ghost use Rattle.std.specs.Prelude.{◌≡◌, ◌≤◌, IfOk};
 ghost use Rattle.dfdl_forms.specs.Types.{form_of};
 ghost use Rattle.dfdl_forms.specs.Binary.{most_bits};
@@ -47,7 +48,7 @@ fn group(alloc: Global, children: &[RowId]) -> Result<Row, AllocError>
     })
 }
 
-// The row 9 is the root element.
+// The row 10 is the root element.
 fn nested(alloc: Global) -> Result<Terms, Fail>
     ensures { IfOk result HasElementLast }
 {
@@ -58,11 +59,15 @@ fn nested(alloc: Global) -> Result<Terms, Fail>
         element(alloc, "y", byte, 0)?,
         group(alloc, &[RowId::new(2)])?,
         group(alloc, &[RowId::new(1), RowId::new(3)])?,
-        element(alloc, "a", None, 4)?,
+        Row::Boxed {
+            bits: 24,
+            body: RowId::new(4)
+        },
+        element(alloc, "a", None, 5)?,
         element(alloc, "b", byte, 0)?,
         Row::Skip { bits: 8 },
-        group(alloc, &[RowId::new(5), RowId::new(7), RowId::new(6)])?,
-        element(alloc, "r", None, 8)?,
+        group(alloc, &[RowId::new(6), RowId::new(8), RowId::new(7)])?,
+        element(alloc, "r", None, 9)?,
     ]?;
     let forms = vec![in alloc; form(8, Simple::UnsignedByte)]?;
     Ok(Terms::build(alloc, rows, Tables::new(forms))?)
@@ -146,7 +151,9 @@ fn the_outermost_refusal_counts_and_of_one_level_the_first(rt: HostRuntime) -> R
     Ok(())
 }
 
-fn node(element: u32, parent: u32, content: Content) -> Node {
+fn node(element: u32, parent: u32, content: Content) -> Node
+    ensures { result.content ≡ content }
+{
     Node {
         element: RowId::new(element),
         parent,
@@ -158,13 +165,13 @@ fn node(element: u32, parent: u32, content: Content) -> Node {
 fn the_members_of_a_line_are_in_the_order_of_their_names(rt: HostRuntime) -> Result<(), Fail> {
     let terms = nested(rt.alloc())?;
     let nodes = [
-        node(9, 0, Content::Complex),
-        node(6, 0, Content::Unsigned(3)),
-        node(5, 0, Content::Complex),
+        node(10, 0, Content::Complex),
+        node(7, 0, Content::Unsigned(3)),
+        node(6, 0, Content::Complex),
         node(2, 2, Content::Unsigned(2)),
         node(1, 2, Content::Unsigned(1)),
     ];
-    let line = line_of(rt.alloc(), &terms, &nodes)?;
+    let line = line_of(rt.alloc(), &terms, &nodes, &[])?;
     assert_eq!(rt;
         line.as_str(),
         "{\"r\":{\"a\":{\"x\":\"1\",\"y\":\"2\"},\"b\":\"3\"}}\n"
@@ -176,13 +183,13 @@ fn the_members_of_a_line_are_in_the_order_of_their_names(rt: HostRuntime) -> Res
 fn numbers_of_a_line_are_in_plain_decimal_digits(rt: HostRuntime) -> Result<(), Fail> {
     let terms = nested(rt.alloc())?;
     let nodes = [
-        node(9, 0, Content::Complex),
-        node(5, 0, Content::Complex),
+        node(10, 0, Content::Complex),
+        node(6, 0, Content::Complex),
         node(1, 1, Content::Signed(-2)),
         node(2, 1, Content::Decimal(Fixed::new(-1234, 2))),
-        node(6, 0, Content::Decimal(Fixed::new(5, 0))),
+        node(7, 0, Content::Decimal(Fixed::new(5, 0))),
     ];
-    let line = line_of(rt.alloc(), &terms, &nodes)?;
+    let line = line_of(rt.alloc(), &terms, &nodes, &[])?;
     assert_eq!(rt;
         line.as_str(),
         "{\"r\":{\"a\":{\"x\":\"-2\",\"y\":\"-12.34\"},\"b\":\"5\"}}\n"
@@ -194,16 +201,51 @@ fn numbers_of_a_line_are_in_plain_decimal_digits(rt: HostRuntime) -> Result<(), 
 fn booleans_of_a_line_are_true_and_false(rt: HostRuntime) -> Result<(), Fail> {
     let terms = nested(rt.alloc())?;
     let nodes = [
-        node(9, 0, Content::Complex),
-        node(5, 0, Content::Complex),
+        node(10, 0, Content::Complex),
+        node(6, 0, Content::Complex),
         node(1, 1, Content::Truth(true)),
         node(2, 1, Content::Truth(false)),
     ];
-    let line = line_of(rt.alloc(), &terms, &nodes)?;
+    let line = line_of(rt.alloc(), &terms, &nodes, &[])?;
     assert_eq!(rt;
         line.as_str(),
         "{\"r\":{\"a\":{\"x\":\"true\",\"y\":\"false\"}}}\n"
     );
+    Ok(())
+}
+
+#[test]
+fn strings_of_a_line_are_escaped_and_hex_binary_is_in_upper_case(
+    rt: HostRuntime,
+) -> Result<(), Fail> {
+    let terms = nested(rt.alloc())?;
+    let text = [0xCA, 0xFE, 0x22, 0xC3, 0xA9, 0x09];
+    let nodes = [
+        node(10, 0, Content::Complex),
+        node(6, 0, Content::Complex),
+        node(1, 1, Content::Octets { from: 0, len: 2 }),
+        node(2, 1, Content::Text { from: 2, len: 4 }),
+    ];
+    let line = line_of(rt.alloc(), &terms, &nodes, &text)?;
+    assert_eq!(rt;
+        line.as_str(),
+        "{\"r\":{\"a\":{\"x\":\"CAFE\",\"y\":\"\\\"\u{E9}\\t\"}}}\n"
+    );
+    Ok(())
+}
+
+#[test]
+fn empty_values_of_a_line_are_empty_strings(rt: HostRuntime) -> Result<(), Fail> {
+    let terms = nested(rt.alloc())?;
+    let text = [0x61];
+    let nodes = [
+        node(10, 0, Content::Complex),
+        node(6, 0, Content::Complex),
+        node(1, 1, Content::Octets { from: 1, len: 0 }),
+        node(2, 1, Content::Text { from: 0, len: 0 }),
+    ];
+    let line = line_of(rt.alloc(), &terms, &nodes, &text)?;
+    assert_eq!(rt; line.as_str(), "{\"r\":{\"a\":{\"x\":\"\",\"y\":\"\"}}}\n");
     Ok(())
 }
 

@@ -1,20 +1,19 @@
 -- How a row is laid, by its kind.
-use Rattle.std.proofs.Common.{◌≡◌, ℕ, suc, ◌+◌, ◌<◌, ◌≤◌, List, [], ◌∷◌, ◌++◌, All, drop, map, Option, None, Some, slice_get, refl, sym, ap, subst, ◌∙◌, arith}
+use Rattle.std.proofs.Common.{◌≡◌, ℕ, ◌+◌, ◌<◌, List, [], ◌∷◌, ◌++◌, All, map, None, Some, slice_get, refl, ap, ◌∙◌, arith}
 use Rattle.std.proofs.lemmas.List.Elements.{All-head, All-tail}
 use Rattle.dfdl_forms.specs.declared.simple.Simple.{Simple as SimpleType}
 use Rattle.dfdl_terms.specs.Rows.{Table}
-use Rattle.dfdl_terms.specs.declared.event.Event.{Event}
-use Rattle.dfdl_terms.specs.declared.row.Row.TheVariants.{Leaf, Elem, Group, Skip, Align}
+use Rattle.dfdl_terms.specs.declared.row.Row.TheVariants.{Leaf, Elem, Group, Skip, Align, Boxed}
 use Rattle.dfdl_json.specs.ByRows.{below}
 use Rattle.dfdl_json.specs.Paths.{Names}
 use Rattle.dfdl_json.specs.Steps.{steps_of, total}
 use Rattle.dfdl_json.proofs.RowValues.{row_is, below_is}
-use Rattle.dfdl_json.proofs.Declares.{elem_steps, group_steps, leaf_steps, no_row_steps}
+use Rattle.dfdl_json.proofs.Declares.{elem_steps, group_steps}
 use Rattle.dfdl_json.proofs.Below.{some_steps}
-use Rattle.dfdl_pieces.specs.Laying.{Laying, Ended, Lays, Misses, Takes, begins, begun_laying, form_at, in_turn, laid, laying, laying_by, value_for, value_laying}
-use Rattle.dfdl_pieces.specs.Unparsing.{left, outcome, steps_left, task_steps}
+use Rattle.dfdl_pieces.specs.Laying.{Laying, Takes, begins, begun_laying, form_at, in_turn, laying, laying_by, value_for, value_laying}
+use Rattle.dfdl_pieces.specs.Unparsing.{left, steps_left}
 use Rattle.dfdl_pieces.specs.declared.unparsing.Task.{Task}
-use Rattle.dfdl_pieces.specs.declared.unparsing.Task.TheVariants.{Lay, Close}
+use Rattle.dfdl_pieces.specs.declared.unparsing.Task.TheVariants.{Lay}
 
 turn_same : (bound : ℕ) (f g : ℕ → Names → Laying → Laying) → ((c : ℕ) → c < bound → f c ≡ g c) → (rows : List ℕ) → All (λ c. c < bound) rows
     → (around : Names) (more : Laying) → in_turn f rows around more ≡ in_turn g rows around more
@@ -49,6 +48,9 @@ module _ (t : Table) (row : ℕ) (around : Names) (more : Laying) where
 
   pub laid_align : (bits : ℕ) → slice_get t.rows row ≡ Some (Align bits) → laying t row around more ≡ more
   laid_align bits is = ap (λ (h : Names → Laying → Laying). h around more) (row_is (laying_by t) (λ a m. m) t.rows row (Some (Align bits)) is)
+
+  pub laid_boxed : (bits body : ℕ) → slice_get t.rows row ≡ Some (Boxed bits body) → laying t row around more ≡ more
+  laid_boxed bits body is = ap (λ (h : Names → Laying → Laying). h around more) (row_is (laying_by t) (λ a m. m) t.rows row (Some (Boxed bits body)) is)
 
   pub laid_no_row : slice_get t.rows row ≡ None → laying t row around more ≡ more
   laid_no_row is = ap (λ (h : Names → Laying → Laying). h around more) (row_is (laying_by t) (λ a m. m) t.rows row None is)

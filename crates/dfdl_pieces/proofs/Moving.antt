@@ -1,5 +1,5 @@
 -- What is laid by the next event, and what that does to the pieces so far.
-use Rattle.std.proofs.Common.{◌≡◌, ℕ, zero, suc, ◌+◌, ◌<◌, ◌≤◌, Bool, true, false, cond, nat_eq, List, [], ◌∷◌, ◌++◌, length, drop, get_or, All, Option, None, Some, Result, Ok, Err, IfOk, slice_get, refl, sym, ap, subst, ◌∙◌, arith, append_assoc, inl, inr}
+use Rattle.std.proofs.Common.{◌≡◌, ℕ, zero, suc, ◌+◌, ◌<◌, true, false, nat_eq, List, [], ◌∷◌, ◌++◌, length, drop, get_or, All, Option, None, Some, Result, Ok, Err, IfOk, slice_get, refl, sym, ap, subst, ◌∙◌, arith, append_assoc, inl, inr}
 use Rattle.std.proofs.lemmas.Bool.{cases_Bool, eqb-true}
 use Rattle.std.proofs.lemmas.List.{append-nil}
 use Rattle.std.proofs.lemmas.Option.{slice_get_within, slice_get_past, slice_get_read, get_or_from_slice_get}
@@ -14,8 +14,7 @@ use Rattle.dfdl_terms.specs.Rows.{Table}
 use Rattle.dfdl_terms.specs.declared.event.Event.{Event}
 use Rattle.dfdl_terms.specs.declared.event.Event.TheVariants.{Start, Simple, Nil, End}
 use Rattle.dfdl_terms.specs.declared.row.Row.TheVariants.{Elem}
-use Rattle.dfdl_json.specs.Paths.{Names, path_of}
-use Rattle.dfdl_pieces.specs.Laying.{Laying, Ended, Lays, Misses, Takes, begins, begun_laying, form_at, in_turn, laid, laying, piece_by, value_for, value_laying, with_piece}
+use Rattle.dfdl_pieces.specs.Laying.{Laying, Lays, Misses, Takes, form_at, in_turn, laid, laying, value_for}
 use Rattle.dfdl_pieces.specs.Unparsing.{IsLess, IsTyped, Moves, left, outcome, steps_left, with_pieces}
 use Rattle.dfdl_pieces.specs.declared.unparsing.Task.TheVariants.{Lay}
 use Rattle.dfdl_pieces.specs.declared.unparsing.Task.{Task}

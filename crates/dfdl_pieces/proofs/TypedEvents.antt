@@ -1,5 +1,5 @@
 -- The values of events that fit are of their elements' types.
-use Rattle.std.proofs.Common.{◌≡◌, ℕ, List, [], ◌∷◌, ◌++◌, All, Option, Some, slice_get, sym, ap, subst, ◌∙◌}
+use Rattle.std.proofs.Common.{◌≡◌, ℕ, List, [], ◌∷◌, ◌++◌, All, Some, slice_get, subst}
 use Rattle.std.proofs.lemmas.List.Elements.{All-cons, All-nil, All-append}
 use Rattle.dfdl_forms.specs.declared.simple.Simple.{Simple as SimpleType}
 use Rattle.dfdl_value.specs.Types.{IsOfType}
@@ -7,7 +7,6 @@ use Rattle.dfdl_value.specs.declared.value.Value.{Value}
 use Rattle.dfdl_terms.specs.Rows.{Table}
 use Rattle.dfdl_terms.specs.declared.event.Event.{Event}
 use Rattle.dfdl_terms.specs.declared.event.Event.TheVariants.{Start, Simple, End}
-use Rattle.dfdl_terms.specs.declared.row.Row.{Row}
 use Rattle.dfdl_terms.specs.declared.row.Row.TheVariants.{Elem}
 use Rattle.dfdl_json.specs.Fitting.{IsElement, AreInside, simple, complex, nothing, absent, present}
 use Rattle.dfdl_pieces.specs.Unparsing.{IsTyped}

@@ -6,9 +6,9 @@ use Rattle.dfdl_value.specs.declared.value.Value.{Value}
 use Rattle.dfdl_terms.specs.declared.event.Event.{Event}
 use Rattle.dfdl_terms.specs.declared.event.Event.TheVariants.{Start, Simple, Nil, End}
 use Rattle.dfdl_terms.specs.declared.row.Primitive.{Primitive}
-use Rattle.dfdl_terms.specs.declared.row.Primitive.TheVariants.{Integer, Packed, Truth}
+use Rattle.dfdl_terms.specs.declared.row.Primitive.TheVariants.{Integer, Packed, Truth, Octets, Text}
 use Rattle.dfdl_terms.specs.declared.row.Row.{Row}
-use Rattle.dfdl_terms.specs.declared.row.Row.TheVariants.{Leaf, Elem, Group, Skip, Align}
+use Rattle.dfdl_terms.specs.declared.row.Row.TheVariants.{Leaf, Elem, Group, Skip, Align, Boxed}
 use Rattle.dfdl_terms.specs.Rows.{Table}
 use Rattle.dfdl_json.specs.ByRows.{by_rows}
 use Rattle.dfdl_json.specs.Children.{root_row}
@@ -32,6 +32,8 @@ abbrev pub integer_form : Primitive → Option IntForm
 integer_form (Integer form) = Some form
 integer_form (Packed form) = None
 integer_form (Truth form) = None
+integer_form (Octets form) = None
+integer_form (Text form) = None
 
 -- the form of the binary integer that a row writes
 abbrev pub form_in : Table → Option Row → Option IntForm
@@ -40,6 +42,7 @@ form_in t (Some (Elem name simple body)) = None
 form_in t (Some (Group children)) = None
 form_in t (Some (Skip bits)) = None
 form_in t (Some (Align bits)) = None
+form_in t (Some (Boxed bits body)) = None
 form_in t None = None
 
 -- the form of the binary integer that the row of this number writes
@@ -92,6 +95,7 @@ laying_by t inside row (Some (Group children)) around more = in_turn inside chil
 laying_by t inside row (Some (Leaf prim)) around more = more
 laying_by t inside row (Some (Skip bits)) around more = more
 laying_by t inside row (Some (Align bits)) around more = more
+laying_by t inside row (Some (Boxed bits body)) around more = more
 laying_by t inside row None around more = more
 
 -- how the row of this number is laid before others

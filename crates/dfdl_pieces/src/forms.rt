@@ -17,6 +17,8 @@ pub(crate) fn form_at(terms: &Terms, row: RowId) -> Option<&IntForm>
         Some(Primitive::Integer(form)) => Some(form),
         Some(Primitive::Packed(_)) => None,
         Some(Primitive::Truth(_)) => None,
+        Some(Primitive::Octets(_)) => None,
+        Some(Primitive::Text(_)) => None,
         None => None,
     }
 }

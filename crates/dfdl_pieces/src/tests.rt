@@ -1,7 +1,7 @@
 // Pieces of `r`, which has the unsignedShort `a`.
 ghost use Rattle.std.specs.Prelude.{◌≡◌, IfOk};
 ghost use Rattle.dfdl_terms.specs.declared.row.Row.TheVariants.{Elem, Group};
-ghost use Rattle.dfdl_terms.specs.Rows.{HasElementLast, HasNoFill};
+ghost use Rattle.dfdl_terms.specs.Rows.{HasElementLast, HasPlainRows};
 ghost use Rattle.dfdl_pieces.specs.Whole.{AreWholeFields};
 
 use crate::{Unparsed, unparse};
@@ -46,7 +46,7 @@ fn group(alloc: Global, children: &[RowId]) -> Result<Row, AllocError>
 fn one_field(alloc: Global, bytes_by: ByteOrder) -> Result<Terms, Fail>
     ensures last { IfOk result HasElementLast }
     ensures whole { IfOk result AreWholeFields }
-    ensures no_fill { IfOk result (λ t. HasNoFill t.rows) }
+    ensures plain { IfOk result (λ t. HasPlainRows t.rows) }
 {
     let rows = vec![in alloc;
         Row::Leaf { prim: 0 },

@@ -1,7 +1,7 @@
 // The laying of pieces while the events of an infoset come.
 ghost use Rattle.std.specs.Prelude.{◌≡◌, ◌+◌, ◌++◌, ◌∷◌, [], All, IfOk, IfNone, None, Some, drop, map, slice_get};
 ghost use Rattle.dfdl_json.specs.Paths.{path_of};
-ghost use Rattle.dfdl_terms.specs.Rows.{HasNoFill};
+ghost use Rattle.dfdl_terms.specs.Rows.{HasPlainRows};
 ghost use Rattle.dfdl_terms.specs.declared.row.Row.TheVariants.{Elem};
 ghost use Rattle.dfdl_json.specs.Fitting.{Fits};
 ghost use Rattle.dfdl_json.specs.Steps.{steps_of};
@@ -48,7 +48,7 @@ pub(crate) struct Unparser<'t> {
 /// The pieces of the values that these events of an infoset have.
 pub fn unparse(alloc: Global, terms: &Terms, events: &[Event]) -> Result<Unparsed, AllocError>
     requires whole { AreWholeFields terms.now }
-    requires no_fill { HasNoFill terms.now.rows }
+    requires plain { HasPlainRows terms.now.rows }
     requires fits { Fits terms.now events.now }
     ensures { IfOk result (λ unparsed. unparsed ≡ lays.unparsed_of terms.now events.now) }
 {
@@ -162,6 +162,7 @@ impl<'t> Unparser<'t> {
             Some(Row::Leaf { .. }) => Ok(None),
             Some(Row::Skip { .. }) => Ok(None),
             Some(Row::Align { .. }) => Ok(None),
+            Some(Row::Boxed { .. }) => Ok(None),
             None => Ok(None),
         }
     }

@@ -1,4 +1,4 @@
-use Rattle.dfdl_json.proofs.Declares.{there, on_ok, below_elem, below_group, elem_visited, elem_less, group_visited, group_less, bare_visited, bare_less, leaf_declares, leaf_steps, skip_declares, skip_steps, align_declares, align_steps, no_row_declares, no_row_steps}
+use Rattle.dfdl_json.proofs.Declares.{there, on_ok, below_elem, below_group, elem_visited, elem_less, group_visited, group_less, bare_visited, bare_less, leaf_declares, leaf_steps, skip_declares, skip_steps, align_declares, align_steps, below_box, box_visited, box_less, no_row_declares, no_row_steps}
 use Rattle.std.proofs.Common.{sym, ◌∙◌, ap, [], ◌++◌}
 use Rattle.dfdl_json.proofs.children.visit.Goals as goal
 
@@ -43,6 +43,16 @@ returns-in-Some-Align-clause-same c =
 pub returns-in-Some-Align-clause-less : goal.returns-in-Some-Align-clause-less
 returns-in-Some-Align-clause-less c =
     bare_less c.args.terms.now c.args.row [] _ (align_steps c.args.terms.now c.args.row _ (there _ _ _ c.in-Some-Align.ensures.row c.in-Some-Align.field-0-is))
+
+pub returns-in-Some-Boxed-clause-same : goal.returns-in-Some-Boxed-clause-same
+returns-in-Some-Boxed-clause-same c = on_ok c.push_all-in-Some-Boxed.result _ _ c.push_all-in-Some-Boxed.ensures
+    (box_visited c.args.terms.now c.args.row c.args.elements.now.items _ _ _ _ (there _ _ _ c.in-Some-Boxed.ensures.row c.in-Some-Boxed.field-0-is)
+    (below_box _ _ _ _ c.in-Some-Boxed.field-0-is c.in-Some-Boxed.ensures.nests))
+
+pub returns-in-Some-Boxed-clause-less : goal.returns-in-Some-Boxed-clause-less
+returns-in-Some-Boxed-clause-less c = on_ok c.push_all-in-Some-Boxed.result _ _ c.push_all-in-Some-Boxed.ensures
+    (box_less c.args.terms.now c.args.row [] _ _ _ _ (there _ _ _ c.in-Some-Boxed.ensures.row c.in-Some-Boxed.field-0-is)
+    (below_box _ _ _ _ c.in-Some-Boxed.field-0-is c.in-Some-Boxed.ensures.nests))
 
 pub returns-in-None-clause-same : goal.returns-in-None-clause-same
 returns-in-None-clause-same c = bare_visited c.args.terms.now c.args.row _ _ (no_row_declares c.args.terms.now c.args.row (sym c.in-None.ensures.row))

@@ -7,11 +7,12 @@ pub loop-at-preserved : goal.loop-at-preserved
 loop-at-preserved c =
     let t = c.args.terms.now in
     let nodes = c.args.nodes.now in
+    let text = c.args.text.now in
     let at = c.loop-at.at in
     let before = c.loop-at.invariant in
     record {
       some = omega (arith, c.loop-at-test.true);
       within = omega (arith, before.within);
-      objects = node_put t nodes at c.index-nodes-at.result c.put_node.new.objects.items before.some before.within c.index-nodes-at.is
-          (c.in_ok-put_node.ensures (λ j. members_of t at (drop at nodes) j) (at - 1) (counted_up c.loop-at.objects.items at (λ j. members_of t at (drop at nodes) j) before.some before.objects));
+      objects = node_put t text nodes at c.index-nodes-at.result c.put_node.new.objects.items before.some before.within c.index-nodes-at.is
+          (c.in_ok-put_node.ensures (λ j. members_of t text at (drop at nodes) j) (at - 1) (counted_up c.loop-at.objects.items at (λ j. members_of t text at (drop at nodes) j) before.some before.objects));
     }

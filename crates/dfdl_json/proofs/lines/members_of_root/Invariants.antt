@@ -7,5 +7,5 @@ abbrev pub invariant-loop-at : goal.invariant-loop-at
 invariant-loop-at l = record {
   some : 1 ≤ l.at;
   within : l.at ≤ length l.nodes;
-  objects : HaveMembers l.objects.items l.at (λ j. members_of l.terms l.at (drop l.at l.nodes) j);
+  objects : HaveMembers l.objects.items l.at (λ j. members_of l.terms l.text l.at (drop l.at l.nodes) j);
 }

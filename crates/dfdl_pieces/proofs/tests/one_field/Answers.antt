@@ -9,7 +9,7 @@ use Rattle.dfdl_terms.specs.declared.row.Primitive.{Primitive}
 use Rattle.dfdl_terms.specs.declared.row.Primitive.TheVariants.{Integer}
 use Rattle.dfdl_terms.specs.declared.row.Row.{Row}
 use Rattle.dfdl_terms.specs.declared.row.Row.TheVariants.{Leaf, Elem, Group}
-use Rattle.dfdl_terms.specs.Rows.{HasElementLast, HasNoFill, IsNoFill, IsPrimitive, NamesWithin, Table}
+use Rattle.dfdl_terms.specs.Rows.{HasElementLast, HasPlainRows, IsPlainRow, IsPrimitive, NamesWithin, Table}
 use Rattle.dfdl_pieces.specs.Laying.{form_at}
 use Rattle.dfdl_pieces.specs.Whole.{AreWholeFields, IsWholeForm}
 use Rattle.dfdl_pieces.proofs.tests.one_field.Goals as goal
@@ -61,15 +61,15 @@ whole_there : (t : Table) (rows : List Row) (forms : List Primitive) (f : IntFor
 whole_there t rows forms f by a g r x y children t_is rows_are forms_are f_is a_is g_is r_is =
     rw (t_is, rows_are, forms_are, f_is, a_is, g_is, r_is) (whole_at by x y children)
 
-element_no_fill : (row : Row) (x : List ℕ) (s : Option Simple) (i : ℕ) → row ≡ Elem x s i → IsNoFill row
-element_no_fill row x s i is = rw is tt
+element_plain : (row : Row) (x : List ℕ) (s : Option Simple) (i : ℕ) → row ≡ Elem x s i → IsPlainRow row
+element_plain row x s i is = rw is tt
 
-group_no_fill : (row : Row) (children : List ℕ) → row ≡ Group children → IsNoFill row
-group_no_fill row children is = rw is tt
+group_plain : (row : Row) (children : List ℕ) → row ≡ Group children → IsPlainRow row
+group_plain row children is = rw is tt
 
-no_fill_there : (t : Table) (rows : List Row) (forms : List Primitive) (a g r : Row)
-    → t ≡ record { rows = rows; primitives = forms } → rows ≡ Leaf 0 ∷ a ∷ g ∷ r ∷ [] → IsNoFill a → IsNoFill g → IsNoFill r → HasNoFill t.rows
-no_fill_there t rows forms a g r t_is rows_are at_a at_g at_r = rw (t_is, rows_are) (all_four IsNoFill (Leaf 0) a g r tt at_a at_g at_r)
+plain_there : (t : Table) (rows : List Row) (forms : List Primitive) (a g r : Row)
+    → t ≡ record { rows = rows; primitives = forms } → rows ≡ Leaf 0 ∷ a ∷ g ∷ r ∷ [] → IsPlainRow a → IsPlainRow g → IsPlainRow r → HasPlainRows t.rows
+plain_there t rows forms a g r t_is rows_are at_a at_g at_r = rw (t_is, rows_are) (all_four IsPlainRow (Leaf 0) a g r tt at_a at_g at_r)
 
 pub build-requires-clause-named : goal.build-requires-clause-named
 build-requires-clause-named c =
@@ -91,7 +91,7 @@ returns-clause-whole c =
     whole_there _ c.in_ok-rows.rows.items _ c.form.result c.args.bytes_by _ _ _ _ _ _ c.in_ok-build.ensures.ok c.in_ok-rows.ensures.items
     (c.new-2.ensures ∙ c.in_ok-forms.ensures.items) c.form.ensures c.in_ok-element.ensures c.in_ok-group.ensures c.in_ok-element-2.ensures
 
-pub returns-clause-no_fill : goal.returns-clause-no_fill
-returns-clause-no_fill c =
-    no_fill_there _ c.in_ok-rows.rows.items _ _ _ _ c.in_ok-build.ensures.ok c.in_ok-rows.ensures.items
-    (element_no_fill _ _ _ _ c.in_ok-element.ensures) (group_no_fill _ _ c.in_ok-group.ensures) (element_no_fill _ _ _ _ c.in_ok-element-2.ensures)
+pub returns-clause-plain : goal.returns-clause-plain
+returns-clause-plain c =
+    plain_there _ c.in_ok-rows.rows.items _ _ _ _ c.in_ok-build.ensures.ok c.in_ok-rows.ensures.items
+    (element_plain _ _ _ _ c.in_ok-element.ensures) (group_plain _ _ c.in_ok-group.ensures) (element_plain _ _ _ _ c.in_ok-element-2.ensures)

@@ -1,11 +1,11 @@
-use Rattle.std.proofs.Common.{◌≡◌, ◌∙◌, ◌∷◌, ◌++◌, ◌+◌, Some, None, ap, sym, refl, map, slice_get}
+use Rattle.std.proofs.Common.{◌∙◌, ◌∷◌, ◌++◌, ◌+◌, Some, None, ap, sym, refl, map}
 use Rattle.dfdl_json.proofs.Declares.{there, below_elem, below_group}
 use Rattle.dfdl_terms.specs.declared.row.Row.TheVariants.{Elem}
 use Rattle.dfdl_pieces.specs.declared.unparsing.Task.TheVariants.{Lay}
-use Rattle.dfdl_pieces.specs.Laying.{Laying, Takes, begins, begun_laying, form_at, laying, value_for, value_laying}
+use Rattle.dfdl_pieces.specs.Laying.{Takes, begins, begun_laying, form_at, laying, value_for, value_laying}
 use Rattle.dfdl_pieces.specs.Unparsing.{left, outcome, steps_left}
 use Rattle.dfdl_json.specs.Steps.{steps_of}
-use Rattle.dfdl_pieces.proofs.Layings.{laid_simple, laid_complex, laid_group, laid_leaf, laid_skip, laid_align, laid_no_row, same_less, group_less, complex_less}
+use Rattle.dfdl_pieces.proofs.Layings.{laid_simple, laid_complex, laid_group, laid_leaf, laid_skip, laid_align, laid_boxed, laid_no_row, same_less, group_less, complex_less}
 use Rattle.dfdl_pieces.proofs.Moving.{if_ok, if_ok_both, if_ok_any, is_less, less_too, moves_too, moves_same, moves_group}
 use Rattle.dfdl_pieces.proofs.unparsing.Unparser.lay.Goals as goal
 
@@ -103,6 +103,15 @@ returns-in-Some-Align-clause-moves c =
 
 pub returns-in-Some-Align-clause-less : goal.returns-in-Some-Align-clause-less
 returns-in-Some-Align-clause-less c = same_less c.args.terms.now c.args.row c.args.self.now.tasks.items c.args.self.now.tasks.items refl
+
+pub returns-in-Some-Boxed-clause-moves : goal.returns-in-Some-Boxed-clause-moves
+returns-in-Some-Boxed-clause-moves c =
+    let old = c.args.self.now in
+    let t = c.args.terms.now in
+    ap (outcome old c.args.events.now) (sym (laid_boxed t c.args.row old.around (left t old.tasks.items old.around) _ _ (there _ _ _ c.in-Some-Boxed.ensures.row c.in-Some-Boxed.field-0-is)))
+
+pub returns-in-Some-Boxed-clause-less : goal.returns-in-Some-Boxed-clause-less
+returns-in-Some-Boxed-clause-less c = same_less c.args.terms.now c.args.row c.args.self.now.tasks.items c.args.self.now.tasks.items refl
 
 pub returns-in-None-clause-moves : goal.returns-in-None-clause-moves
 returns-in-None-clause-moves c =

@@ -1,6 +1,6 @@
-use Rattle.std.proofs.Common.{◌≡◌, ◌∙◌, ◌∷◌, drop, ap, sym}
+use Rattle.std.proofs.Common.{◌∙◌, ◌∷◌, drop, ap, sym}
 use Rattle.dfdl_json.specs.Paths.{path_of}
-use Rattle.dfdl_pieces.specs.Laying.{Laying, Takes, begins, begun_laying, laid, laying}
+use Rattle.dfdl_pieces.specs.Laying.{Takes, begins, begun_laying, laid, laying}
 use Rattle.dfdl_pieces.specs.Unparsing.{left}
 use Rattle.dfdl_pieces.proofs.Moving.{if_ok, moves_missing}
 use Rattle.dfdl_pieces.proofs.unparsing.Unparser.lay_complex.Goals as goal

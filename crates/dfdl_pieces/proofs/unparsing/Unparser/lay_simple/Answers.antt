@@ -1,7 +1,6 @@
-use Rattle.std.proofs.Common.{◌≡◌, ◌∙◌, ◌∷◌, ◌++◌, [], Option, drop, option_map, ap, sym}
+use Rattle.std.proofs.Common.{◌∙◌, ◌∷◌, drop, ap, sym}
 use Rattle.dfdl_json.specs.Paths.{path_of}
-use Rattle.dfdl_terms.specs.declared.event.Event.{Event}
-use Rattle.dfdl_pieces.specs.Laying.{Laying, Lays, Takes, piece_by, form_at, laid, value_for, value_laying}
+use Rattle.dfdl_pieces.specs.Laying.{Lays, Takes, piece_by, form_at, laid, value_for, value_laying}
 use Rattle.dfdl_pieces.proofs.Moving.{if_ok, laid_piece, moves_missing, value_of_form}
 use Rattle.dfdl_pieces.proofs.unparsing.Unparser.lay_simple.Goals as goal
 

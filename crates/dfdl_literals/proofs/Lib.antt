@@ -2,3 +2,4 @@ mod Table
 mod Laws
 pub mod Reader
 pub mod Bytes
+mod PadLaws

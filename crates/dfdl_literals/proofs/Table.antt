@@ -1,7 +1,7 @@
 -- What is begun of a name can become one, and what names are written with.
-use Rattle.std.proofs.Common.{◌≡◌, ℕ, List, [], ◌∷◌, ◌++◌, length, drop, Some, None, Bool, true, not, ◌&&◌, ◌==◌, eqb, refl, sym, subst, ◌∙◌}
+use Rattle.std.proofs.Common.{◌≡◌, ℕ, ◌≤◌, List, [], ◌∷◌, ◌++◌, length, drop, Some, None, Bool, true, false, not, ◌&&◌, ◌==◌, nat_le, eqb, refl, sym, ap, subst, ◌∙◌, arith, length-append}
 use Rattle.std.proofs.lemmas.Bool.{cond_both, cond-true}
-use Rattle.std.proofs.lemmas.Bool.Decides.{Decides-eqb}
+use Rattle.std.proofs.lemmas.Bool.Decides.{Decides-eqb, nat_tests}
 use Rattle.std.proofs.lemmas.List.Folds.{list_all-append}
 use Rattle.std.proofs.lemmas.Slice.Eq.{starts_is}
 use Rattle.std.specs.Cmp.Lexicographic.{pointwise, same_text, other_text}
@@ -90,3 +90,40 @@ begins_es = refl
 pub empty_unnamed : named (69 ∷ 83 ∷ []) ≡ None
 unfolding named names
 empty_unnamed = refl
+
+abbrev are_short : List Entry → Bool
+are_short entries = list_all (λ e. nat_le (length e.name) 4) entries
+
+at_most : (n : ℕ) → nat_le n 4 ≡ true → n ≤ 4
+at_most n is = grind (arith, nat_tests)
+
+short_in : (entries : List Entry) (front : List ℕ) → are_short entries ≡ true → begins_in entries front ≡ true → length front ≤ 4
+short_in [] front are is = let no : ⊥ = cc in absurd no
+short_in (e ∷ entries) front are is =
+    let parts = both (nat_le (length e.name) 4) (are_short entries) are in
+    cond_both (starts_with eqb e.name front) true (begins_in entries front) (λ b. b ≡ true → length front ≤ 4)
+    (λ starts got.
+    (let same = ap length ((starts_is Decides-eqb e.name front (starts_with eqb e.name front) refl).0 starts) in
+    let sum = length-append front (drop (length front) e.name) in
+    let size = at_most (length e.name) parts.0 in
+    omega (arith, same, sum, size)))
+    (λ other got. short_in entries front parts.1 got)
+    is
+
+all_short : are_short names ≡ true
+unfolding names
+all_short = refl
+
+short_name : (front : List ℕ) → begins_name front ≡ true → length front ≤ 4
+unfolding begins_name
+short_name front is = short_in names front all_short is
+
+-- no name has five letters
+pub too_long : (front : List ℕ) (c : ℕ) → 4 ≤ length front → begins_name (front ++ c ∷ []) ≡ false
+too_long front c four =
+    cond_both (begins_name (front ++ c ∷ [])) true false (λ _. begins_name (front ++ c ∷ []) ≡ false)
+    (λ is.
+    (let least = short_name (front ++ c ∷ []) is in
+    let sum = length-append front (c ∷ []) in
+    absurd (omega (arith, least, sum, four))))
+    (λ other. other)

@@ -2,3 +2,5 @@ pub mod Names
 pub mod Lists
 pub mod Steps
 pub mod Faults
+pub mod Pads
+pub mod PadSteps

@@ -2,7 +2,8 @@
 //!
 //! `specs/Lists.antt` says how a list is written and which pieces its literals are made of,
 //! `specs/Names.antt` which names there are, and `specs/Faults.antt` where a list is refused:
-//! `read_literals` answers by them. It serves 'DFDL Syntax Basics', on string literals, entities
+//! `read_literals` answers by them. `specs/Pads.antt` says what the text of a pad character stands
+//! for, which `pad_character` answers. It serves 'DFDL Syntax Basics', on string literals, entities
 //! and character classes.
 #![tactic(auto)]
 
@@ -14,7 +15,9 @@ ghost use Rattle.dfdl_literals.specs.Lists.{Reads, closed, is_optional, matches_
 ghost use Rattle.dfdl_literals.specs.Steps.{accepts, start, step};
 ghost use Rattle.dfdl_machines.specs.Machines.{run};
 
+mod letters;
 mod names;
+mod pad;
 mod plain;
 mod scan;
 #[cfg(test)]
@@ -23,6 +26,7 @@ mod tests;
 pub use dfdl_forms::{
     CharList, EscapeKind, EscapeScheme, Justify, Literals, PadForm, Piece, PlainTexts, TruthForm,
 };
+pub use pad::{PadCharacter, pad_character, pad_texts_stand_for_one};
 pub use plain::{PlainFault, plain_texts};
 use scan::Scan;
 use std::alloc::Global;

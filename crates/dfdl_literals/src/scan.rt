@@ -7,7 +7,8 @@ ghost use Rattle.dfdl_literals.specs.Names.{named};
 ghost use Rattle.dfdl_literals.specs.Lists.{closed, is_divider, is_scalar, with_digit};
 ghost use Rattle.dfdl_literals.specs.Steps.{State, accepts, act, acted, at_hash, code_end, entity, in_name, raw_low, start, step, whole};
 
-use crate::names::{begins_some_name, names_nothing, piece_named};
+use crate::letters::Letters;
+use crate::names::{names_nothing, piece_named};
 use crate::{Ending, Literals, Piece};
 use std::alloc::{AllocError, Global};
 use std::marker::Model;
@@ -36,7 +37,7 @@ pub enum Act {
     Letter(char),
 }
 
-fn is_space(c: char) -> bool
+pub fn is_space(c: char) -> bool
     ensures { result ≡ is_divider c }
 {
     matches!(c, ' ' | '\t' | '\r' | '\n')
@@ -128,7 +129,8 @@ fn act_raw_low(high: u32, c: char) -> Option<Act>
     Some(Act::Move(Mark::RawByte(byte)))
 }
 
-fn act_at(alone: bool, name: &[char], mark: Mark, c: char) -> Option<Act>
+// What a character does at a mark; `alone` where the literal may be `%ES;`.
+pub fn act_at(alone: bool, name: &[char], mark: Mark, c: char) -> Option<Act>
     ensures { result ≡ act alone name.now mark c }
 {
     match mark {
@@ -161,7 +163,7 @@ fn act_at(alone: bool, name: &[char], mark: Mark, c: char) -> Option<Act>
 pub struct Scan {
     ended: Vec<Vec<Piece>>,
     pieces: Vec<Piece>,
-    name: Vec<char>,
+    name: Letters,
     mark: Mark,
 }
 
@@ -171,7 +173,7 @@ impl Model for Scan {
     ghost view = { λ s. record {
       ended = map (λ v. v.items) s.ended.items;
       open_pieces = s.pieces.items;
-      name = s.name.items;
+      name = s.name;
       mark = s.mark;
     } };
 }
@@ -183,7 +185,7 @@ impl Scan {
         Scan {
             ended: Vec::new(alloc),
             pieces: Vec::new(alloc),
-            name: Vec::new(alloc),
+            name: Letters::new(),
             mark: Mark::Whole(Ending::Ordinary),
         }
     }
@@ -194,7 +196,7 @@ impl Scan {
             ≡ (if goes then Some self.new else None)) }
     {
         let alone = empty_allowed && self.pieces.is_empty();
-        match act_at(alone, &self.name, self.mark, c) {
+        match act_at(alone, self.name.as_slice(), self.mark, c) {
             Some(act) => self.take(alloc, act),
             None => Ok(false),
         }
@@ -208,14 +210,13 @@ impl Scan {
             Act::Move(mark) => self.mark = mark,
             Act::Add(piece, before) => {
                 self.pieces.push(piece)?;
-                self.name.clear();
+                self.name = Letters::new();
                 self.mark = Mark::Whole(before);
             }
             Act::Close => self.close(alloc)?,
             Act::Letter(c) => {
-                self.name.push(c)?;
                 self.mark = Mark::Name;
-                return Ok(begins_some_name(&self.name));
+                return Ok(self.name.push(c));
             }
         }
         Ok(true)
@@ -228,7 +229,7 @@ impl Scan {
             let literal = mem::replace(&mut self.pieces, Vec::new(alloc));
             self.ended.push(literal)?;
         }
-        self.name.clear();
+        self.name = Letters::new();
         self.mark = Mark::Whole(Ending::Ordinary);
         Ok(())
     }

@@ -1,7 +1,10 @@
 // Lists as they are read, and where they are refused.
 #![tactic(auto)]
 
-use crate::{LiteralFault, Piece, PlainFault, can_match_nothing, plain_texts, read_literals};
+use crate::{
+    LiteralFault, PadCharacter, Piece, PlainFault, can_match_nothing, pad_character, plain_texts,
+    read_literals,
+};
 use std::test::Fail;
 
 #[test]
@@ -133,5 +136,65 @@ fn a_long_list(rt: HostRuntime) -> Result<(), Fail> {
     assert_eq!(rt; copy.pieces(2999), literals.pieces(2999));
     let texts = plain_texts(rt.alloc(), &copy)?;
     assert_eq!(rt; texts.text(2999), ['a', 'b', ' '].as_slice());
+    Ok(())
+}
+
+#[test]
+fn pad_characters(rt: HostRuntime) -> Result<(), Fail> {
+    let table = [
+        ("0", '0'),
+        ("\u{e9}", '\u{e9}'),
+        (";", ';'),
+        ("%%", '%'),
+        ("%SP;", ' '),
+        ("%NBSP;", '\u{a0}'),
+        ("%#233;", '\u{e9}'),
+        ("%#xE9;", '\u{e9}'),
+        ("%#x10FFFF;", '\u{10ffff}'),
+    ];
+    for (text, character) in table {
+        assert_eq!(rt; pad_character(text), PadCharacter::Character(character));
+        let literals = read_literals(rt.alloc(), text, true)?;
+        assert_eq!(rt; literals.len(), 1);
+        assert_eq!(rt; literals.pieces(0), [Piece::Char(character)].as_slice());
+    }
+    Ok(())
+}
+
+#[test]
+fn no_pad_characters(rt: HostRuntime) -> Result<(), Fail> {
+    let table = [
+        "", " ", "\t", " 0", "0 ", "%SP; ", "00", "%SP;%SP;", "0 0", "%#r30;", "%NL;", "%WSP;",
+        "%WSP+;", "%WSP*;", "%ES;", "0 %ES;",
+    ];
+    for text in table {
+        assert_eq!(rt; pad_character(text), PadCharacter::Other);
+        assert!(rt; read_literals(rt.alloc(), text, true).is_ok());
+    }
+    Ok(())
+}
+
+#[test]
+fn malformed_pad_characters(rt: HostRuntime) -> Result<(), Fail> {
+    let table = [
+        ("%", 1),
+        ("%;", 1),
+        ("% ", 1),
+        ("%SP", 3),
+        ("%sp;", 1),
+        ("%NBSPX;", 5),
+        ("%%;", 2),
+        ("%#;", 2),
+        ("%#xD800;", 7),
+        ("0%ES;", 4),
+        ("%ES;0", 4),
+    ];
+    for (text, at) in table {
+        assert_eq!(rt; pad_character(text), PadCharacter::Malformed);
+        match read_literals(rt.alloc(), text, true) {
+            Ok(_) => assert!(rt; false, "{text} was read"),
+            Err(fault) => assert_eq!(rt; fault, LiteralFault::Malformed { at }),
+        }
+    }
     Ok(())
 }

@@ -1,5 +1,5 @@
 -- What is kept of elements and formats, and the elements of chains.
-use Rattle.std.proofs.Common.{◌≡◌, refl, sym, ap, subst, ◌∙◌, ℕ, zero, ◌+◌, ◌<◌, List, [], ◌∷◌, ◌++◌, length, take, get_or, map, Option, Some, None, option_map, IfSome, arith}
+use Rattle.std.proofs.Common.{◌≡◌, refl, sym, ap, subst, ◌∙◌, ℕ, zero, ◌+◌, ◌<◌, List, [], ◌∷◌, ◌++◌, length, take, get_or, map, Option, Some, None, option_map, IfSome, codes, arith}
 use Rattle.dfdl_documents.specs.Documents.{SchemaDocument}
 use Rattle.std.proofs.lemmas.List.{get_or-map, map-append, take_more}
 use Rattle.std.proofs.lemmas.Slice.Zip.{all_zipped_more}
@@ -9,7 +9,8 @@ use Rattle.dfdl_components.specs.Recursion.{count_of, number_of}
 use Rattle.dfdl_components.specs.Sites.{IsSite}
 use Rattle.dfdl_checks.specs.Alike.{AreAlikeChains, IsAlike, IsAlikeElement}
 use Rattle.dfdl_checks.specs.Judged.{Judged}
-use Rattle.dfdl_scope.specs.Scoping.{Element, nothing}
+use Rattle.dfdl_checks.specs.Orders.{bit_order}
+use Rattle.dfdl_scope.specs.Scoping.{Element, nothing, told}
 use Rattle.dfdl_scope.specs.Shown.{format_given}
 use Rattle.dfdl_scope.specs.declared.format.Format.{Format}
 use Rattle.dfdl_chains.specs.Chains.{chain_sites}
@@ -23,6 +24,7 @@ use Rattle.dfdl_breaches.specs.Elements.{element_at, place_of}
 use Rattle.dfdl_breaches.specs.Formats.{format_value, given_by}
 use Rattle.dfdl_breaches.specs.Judging.{judged_at}
 use Rattle.dfdl_breaches.specs.KeptShown.{IsFormatIf}
+use Rattle.dfdl_breaches.specs.Roots.{bit_order_at, root_bits_by}
 use Rattle.dfdl_breaches.specs.References.{default_of, format_of}
 use Rattle.dfdl_breaches.specs.Tabled.{AreJoined, AreTabled}
 
@@ -99,11 +101,21 @@ same_place place document at one other =
 -- a component whose parts are those of the documents
 pub alike_judged : (documents : List SchemaDocument) (own : Site) (sites : List Site) (j : Judged) → j.kind ≡ kind_at documents own
     → j.place.document ≡ (place_of documents own).document → j.place.at ≡ (place_of documents own).at → sites ≡ chain_sites documents own
-    → AreAlikeChains j.chain (map (element_at documents) sites) → j.facts ≡ facts_at documents own → IsAlike j (judged_at j.purpose documents own)
-alike_judged documents own sites j kind document at is chain facts = record {
+    → AreAlikeChains j.chain (map (element_at documents) sites) → j.facts ≡ facts_at documents own → j.root_bits_by ≡ root_bits_by documents
+    → IsAlike j (judged_at j.purpose documents own)
+alike_judged documents own sites j kind document at is chain facts root = record {
   purpose = refl;
   kind = kind;
   place = same_place j.place (place_of documents own).document (place_of documents own).at document at;
   chain = subst (λ (xs : List Site). AreAlikeChains j.chain (map (element_at documents) xs)) is chain;
   facts = facts;
+  root_bits_by = root;
 }
+
+-- the order of bits that a component's chain tells
+pub order_told : (documents : List SchemaDocument) (own : Site) (sites : List Site) (chain : List Element)
+    → ((xs ys : List Element) (name : List ℕ) → AreAlikeChains xs ys → told xs name ≡ told ys name) → sites ≡ chain_sites documents own
+    → AreAlikeChains chain (map (element_at documents) sites) → bit_order (told chain (codes "bitOrder")) ≡ bit_order_at documents own
+order_told documents own sites chain same is alike =
+    ap bit_order (same chain (map (element_at documents) sites) (codes "bitOrder") alike
+    ∙ ap (λ (xs : List Site). told (map (element_at documents) xs) (codes "bitOrder")) is)

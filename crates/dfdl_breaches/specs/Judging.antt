@@ -1,22 +1,24 @@
 -- What is wrong at each component of a schema by itself, how the values of its simple elements lie in the data, and which
--- fill stands around its content.
-use Rattle.std.specs.Prelude.{List, map, Option, None, if◌then◌else◌}
+-- fill and which box stand around its content.
+use Rattle.std.specs.Prelude.{ℕ, List, Option, None, if◌then◌else◌}
 use Rattle.dfdl_documents.specs.Documents.{SchemaDocument}
 use Rattle.dfdl_components.specs.declared.site.Site.{Site}
 use Rattle.dfdl_components.specs.Sites.{role_of}
 use Rattle.dfdl_checks.specs.Judged.{Judged}
 use Rattle.dfdl_checks.specs.Rules.{first_breach, rules}
-use Rattle.dfdl_checks.specs.Framing.{framing_of, no_fill}
+use Rattle.dfdl_checks.specs.Boxes.{size_of_box}
+use Rattle.dfdl_checks.specs.Framing.{framing_of}
 use Rattle.dfdl_checks.specs.Numbers.{primitive_of}
 use Rattle.dfdl_checks.specs.declared.purpose.Purpose.{Purpose}
 use Rattle.dfdl_checks.specs.declared.subject.Breach.{Breach}
-use Rattle.dfdl_chains.specs.Chains.{chain_sites}
 use Rattle.dfdl_chains.specs.Facts.{facts_at}
 use Rattle.dfdl_chains.specs.Kinds.{kind_at}
 use Rattle.dfdl_chains.specs.Parts.{is_component}
+use Rattle.dfdl_terms.specs.Framing.{no_fill}
 use Rattle.dfdl_terms.specs.declared.framing.Framing.{Framing}
 use Rattle.dfdl_terms.specs.declared.row.Primitive.{Primitive}
-use Rattle.dfdl_breaches.specs.Elements.{place_of, element_at}
+use Rattle.dfdl_breaches.specs.Elements.{place_of}
+use Rattle.dfdl_breaches.specs.Roots.{chain_at, root_bits_by}
 use Rattle.dfdl_breaches.specs.declared.judgement.Judgement.{Judgement}
 
 -- a component as the rules see it
@@ -25,8 +27,9 @@ judged_at purpose documents own = record {
   purpose = purpose;
   kind = kind_at documents own;
   place = place_of documents own;
-  chain = map (element_at documents) (chain_sites documents own);
+  chain = chain_at documents own;
   facts = facts_at documents own;
+  root_bits_by = root_bits_by documents;
 }
 
 -- the first rule that a component breaks
@@ -41,9 +44,13 @@ primitive_at purpose documents own = primitive_of (judged_at purpose documents o
 abbrev pub framing_at : Purpose → List SchemaDocument → Site → Framing
 framing_at purpose documents own = framing_of (judged_at purpose documents own)
 
+-- how many bits the box has around the content of a component, if it has one
+abbrev pub size_at : Purpose → List SchemaDocument → Site → Option ℕ
+size_at purpose documents own = size_of_box (judged_at purpose documents own)
+
 -- nothing is told of what is no component
 abbrev pub no_judgement : Judgement
-no_judgement = record { breach = None; primitive = None; framing = no_fill }
+no_judgement = record { breach = None; primitive = None; framing = no_fill; size = None }
 
 -- what is told of an element of the documents
 unfoldable pub judgement_at : Purpose → List SchemaDocument → Site → Judgement
@@ -53,5 +60,6 @@ judgement_at purpose documents own =
       breach = breach_at purpose documents own;
       primitive = primitive_at purpose documents own;
       framing = framing_at purpose documents own;
+      size = size_at purpose documents own;
     }
     else no_judgement

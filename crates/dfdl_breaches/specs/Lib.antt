@@ -1,6 +1,7 @@
 pub mod References
 pub mod Formats
 pub mod Elements
+pub mod Roots
 pub mod Judging
 pub mod Numbered
 pub mod Tabled

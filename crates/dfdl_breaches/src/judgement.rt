@@ -11,4 +11,6 @@ pub struct Judgement {
     pub primitive: Option<Primitive>,
     /// The fill around its content.
     pub framing: Framing,
+    /// How many bits the box has around the content of a complex element with a length of its own.
+    pub size: Option<u64>,
 }

@@ -1,12 +1,10 @@
 // Laws of the definitions that the contracts cite. The calls do nothing.
 ghost use Rattle.std.specs.Prelude.{◌≡◌, List, Some, None, IsTrue, IsSome};
-ghost use Rattle.dfdl_forms.specs.declared.binary.IntForm.{IntForm};
 ghost use Rattle.dfdl_terms.specs.Rows.{IsPrimitive};
 ghost use Rattle.dfdl_terms.specs.declared.row.Primitive.{Primitive};
-ghost use Rattle.dfdl_terms.specs.declared.row.Primitive.TheVariants.{Integer};
 ghost use Rattle.dfdl_documents.specs.Documents.{SchemaDocument};
 ghost use Rattle.dfdl_components.specs.declared.site.Site.{Site};
-ghost use Rattle.dfdl_checks.specs.Forms.{IsWhole, IsWholeUnsigned};
+ghost use Rattle.dfdl_checks.specs.Forms.{IsWhole};
 ghost use Rattle.dfdl_checks.specs.Numbers.{type_of};
 ghost use Rattle.dfdl_checks.specs.Subjects.{is_simple};
 ghost use Rattle.dfdl_checks.specs.declared.purpose.Purpose.{Purpose};
@@ -29,9 +27,7 @@ pub fn sound_elements_have_bounded_primitives()
         → primitive_at purpose documents own ≡ Some p → IsPrimitive p }
     ensures kind { (purpose : Purpose) (documents : List SchemaDocument) (own : Site) (p : Primitive)
         → primitive_at purpose documents own ≡ Some p → kind_at documents own ≡ SimpleElement (type_of p) }
-    ensures whole { (documents : List SchemaDocument) (own : Site) (form : IntForm)
-        → primitive_at Unparsing documents own ≡ Some (Integer form) → IsWholeUnsigned form }
-    ensures whole_alone { (documents : List SchemaDocument) (own : Site) (p : Primitive)
+    ensures whole { (documents : List SchemaDocument) (own : Site) (p : Primitive)
         → primitive_at Unparsing documents own ≡ Some p → IsWhole p }
 {
     sound_elements_have_primitives();

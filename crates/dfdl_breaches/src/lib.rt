@@ -14,10 +14,12 @@ mod judgement;
 mod kept;
 pub mod laws;
 mod referring;
+mod root;
 mod sites;
 mod telling;
 #[cfg(test)]
 mod tests;
 
 pub use judgement::Judgement;
+pub use root::root_of;
 pub use telling::breaches;

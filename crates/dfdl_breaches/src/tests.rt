@@ -69,6 +69,8 @@ fn told_of(alloc: Global, judgement: Judgement) -> Result<String, AllocError> {
             form.bits
         ),
         Some(Primitive::Integer(form)) => format!(in alloc; "{fill}big{} ", form.bits),
+        Some(Primitive::Octets(form)) => format!(in alloc; "{fill}octets{} ", form.bits),
+        Some(Primitive::Text(_)) => format!(in alloc; "{fill}text "),
         None => Ok(String::new(alloc)),
     }
 }
@@ -154,7 +156,10 @@ fn breaches_are_told_by_their_numbers(rt: HostRuntime) -> Result<(), Fail> {
             "<x:element name=\"r\" type=\"x:unsignedByte\" d:lengthKind=\"delimited\"/>",
             "C15@0 ",
         ),
-        ("<x:element name=\"r\" type=\"x:string\"/>", "C3@0 "),
+        (
+            "<x:element name=\"r\" type=\"x:string\" d:encoding=\"UTF-8\"/>",
+            "C14@0 ",
+        ),
     ];
     for (components, expected) in cases {
         let line = one(alloc, Purpose::Parsing, "", "", components)?;
@@ -189,6 +194,27 @@ fn packed_numbers_booleans_and_fill_are_told(rt: HostRuntime) -> Result<(), Fail
     assert_eq!(rt; parsed.as_str(), "truth32 packed6 2/4/1:big8 ");
     let unparsed = one(alloc, Purpose::Unparsing, order, "", components)?;
     assert_eq!(rt; unparsed.as_str(), "C3@0 C3@0 C3@0 ");
+    Ok(())
+}
+
+#[test]
+fn each_component_has_the_order_of_bits_of_the_root(rt: HostRuntime) -> Result<(), Fail> {
+    let alloc = rt.alloc();
+    let least = "byteOrder=\"littleEndian\" bitOrder=\"leastSignificantBitFirst\"";
+    let most = "d:bitOrder=\"mostSignificantBitFirst\"";
+    let cases = [
+        ("", "", "little16 little16 "),
+        ("", most, "little16 C22@0 "),
+        (most, "", "little16 C22@0 "),
+        (most, most, "little16 little16 "),
+    ];
+    for (root, other, expected) in cases {
+        let components = format!(in alloc;
+            "<x:element name=\"r\" type=\"x:unsignedShort\" {root}/><x:element name=\"s\" type=\"x:unsignedShort\" {other}/>"
+        )?;
+        let line = one(alloc, Purpose::Parsing, least, "", components.as_str())?;
+        assert_eq!(rt; line.as_str(), expected);
+    }
     Ok(())
 }
 

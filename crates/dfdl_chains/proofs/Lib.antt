@@ -2,3 +2,4 @@ pub mod Within
 pub mod Numbering
 mod Deriving
 mod Finding
+mod Digits

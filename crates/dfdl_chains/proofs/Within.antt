@@ -1,13 +1,13 @@
 -- What is found in documents is an element of them.
-use Rattle.std.proofs.Common.{◌≡◌, ℕ, zero, suc, ◌<◌, List, [], ◌∷◌, ◌++◌, length, All, Option, Some, None, Bool, true, false, ◌&&◌, nat_lt, if◌then◌else◌, ◌⊎◌, bytes_eq, ap, sym, subst, ◌∙◌, refl, arith, inl, inr, option_map, IfSome, is_some, codes}
+use Rattle.std.proofs.Common.{◌≡◌, ℕ, zero, suc, ◌<◌, List, [], ◌∷◌, length, All, Option, Some, None, Bool, true, false, ◌&&◌, nat_lt, if◌then◌else◌, ◌⊎◌, bytes_eq, sym, subst, refl, arith, inl, inr, option_map, IfSome, is_some, codes}
 use Rattle.std.specs.List.{find, flat_map}
 use Rattle.std.proofs.lemmas.Bool.{ltb-true}
-use Rattle.std.proofs.lemmas.List.Elements.{All-nil, All-append, All-push, All-cons}
+use Rattle.std.proofs.lemmas.List.Elements.{All-nil, All-append, All-cons}
 use Rattle.dfdl_markup.specs.Trees.{Node, node_at}
 use Rattle.dfdl_constructs.specs.declared.role.Role.{Role}
 use Rattle.dfdl_constructs.specs.declared.role.Role.TheVariants as role
 use Rattle.dfdl_constructs.specs.Elements.{schema_namespace}
-use Rattle.dfdl_constructs.specs.Roles.{is_single_at, is_single, part_at, single_in, single_at, role_at}
+use Rattle.dfdl_constructs.specs.Roles.{is_single_at, single_at}
 use Rattle.dfdl_documents.specs.Documents.{SchemaDocument}
 use Rattle.dfdl_forms.specs.declared.simple.Simple.{Simple}
 use Rattle.dfdl_components.specs.declared.kind.ComponentKind.{ComponentKind}
@@ -33,6 +33,7 @@ use Rattle.dfdl_chains.specs.Parts.{is_particle, is_particle_at, if_particle, pa
 use Rattle.std.specs.Option.{option_and_then}
 use Rattle.dfdl_components.specs.Recursion.{count_of}
 use Rattle.dfdl_chains.specs.Chains.{listed, declaration_sites, group_content, chain_by, chain_sites}
+use Rattle.dfdl_chains.specs.Lengths.{types_by}
 use Rattle.dfdl_chains.specs.Shown.{IsTypeOf}
 
 -- one of two answers
@@ -257,6 +258,21 @@ declared_sites_within documents own within = All-cons (IsSite documents) (declar
     (declaration_is_within documents own within)
     (derived_within documents (count_of documents) (derivation.given_type documents (declarations.declaration documents own))
     (given_is_within documents (declarations.declaration documents own) (declaration_is_within documents own within)))
+
+-- the simple types of an element
+pub types_within : (documents : List SchemaDocument) (own : Site) (r : Role) (types : List Site) → IsSite documents own → types ≡ types_by documents own r → All (IsSite documents) types
+unfolding derivation.simple_types_of
+types_within documents own r types within is = subst (λ (sites : List Site). All (IsSite documents) sites) (sym is) (by_role r)
+  where
+    derived : All (IsSite documents) (derivation.simple_types_of documents own)
+    derived = derived_within documents (count_of documents) (derivation.given_type documents (declarations.declaration documents own))
+        (given_is_within documents (declarations.declaration documents own) (declaration_is_within documents own within))
+
+    by_role : (q : Role) → All (IsSite documents) (types_by documents own q)
+    by_role role.GlobalElement = derived
+    by_role role.LocalElement = derived
+    by_role role.ElementReference = derived
+    by_role _ = All-nil (IsSite documents)
 
 group_within : (documents : List SchemaDocument) (own : Site) → IfSome (group_content documents own) (IsSite documents)
 group_within documents own = by_group (referred documents own kind.Group) (referred_is_within documents own kind.Group)

@@ -14,6 +14,7 @@ use Rattle.dfdl_components.specs.Sites.{nodes_of, role_of}
 use Rattle.dfdl_checks.specs.declared.subject.Facts.{Facts}
 use Rattle.dfdl_chains.specs.Declarations.{attribute_of, declaration}
 use Rattle.dfdl_chains.specs.Chains.{chain_sites}
+use Rattle.dfdl_chains.specs.Lengths.{max_length}
 use Rattle.dfdl_chains.specs.Parts.{inside_of, is_none_of}
 
 -- no character is left
@@ -100,4 +101,5 @@ facts_at documents own = record {
   has_default = has_default documents own;
   has_statements = list_any (has_own_statements documents) (chain_sites documents own);
   is_empty = is_none_of (inside_of documents own);
+  max_length = max_length documents own;
 }

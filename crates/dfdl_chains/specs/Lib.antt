@@ -4,6 +4,7 @@ pub mod Derivation
 pub mod Chains
 pub mod Parts
 pub mod Kinds
+pub mod Lengths
 pub mod Facts
 pub mod Everywhere
 pub mod Shown

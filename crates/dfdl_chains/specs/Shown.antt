@@ -2,7 +2,6 @@
 -- as the code keeps them.
 use Rattle.std.specs.Prelude.{◌≡◌, ℕ, ◌<◌, ◌^◌, List, length, get_or}
 use Rattle.dfdl_documents.specs.Documents.{SchemaDocument}
-use Rattle.dfdl_components.specs.declared.site.Site.{Site}
 use Rattle.dfdl_components.specs.Sites.{IsSite}
 use Rattle.dfdl_components.specs.Recursion.{start_of, count_of}
 use Rattle.dfdl_chains.specs.declared.typed.Typed.{Typed}

@@ -8,6 +8,7 @@ ghost use Rattle.dfdl_chains.specs.Chains as chains;
 ghost use Rattle.dfdl_chains.specs.Facts as spec;
 
 use crate::declaring::{attribute, declaration};
+use crate::lengths::max_length;
 use crate::parts::is_empty;
 use dfdl_checks::Facts;
 use dfdl_components::{Schema, Site};
@@ -209,5 +210,6 @@ pub fn facts_at(schema: &Schema, site: Site, chain: &[Site]) -> Facts
         has_default: has_default(schema, site),
         has_statements: have_statements(schema, chain),
         is_empty: is_empty(schema, site),
+        max_length: max_length(schema, site, chain),
     }
 }

@@ -2,7 +2,7 @@
 //! elements with properties, its parts, its kind and what it states besides properties.
 //!
 //! Contracts cite `specs/Declarations.antt`, `specs/Derivation.antt`, `specs/Chains.antt`, `specs/Parts.antt`,
-//! `specs/Kinds.antt` and `specs/Facts.antt`. The chapters are 'DFDL Schema Component Model' and 'Property Scoping and DFDL
+//! `specs/Kinds.antt`, `specs/Lengths.antt` and `specs/Facts.antt`. The chapters are 'DFDL Schema Component Model' and 'Property Scoping and DFDL
 //! Schema Checking'.
 #![tactic(auto)]
 
@@ -12,9 +12,12 @@ mod derivation;
 mod everywhere;
 mod facts;
 mod kinds;
+mod lengths;
 mod numbers;
 mod parts;
 mod simple;
+#[cfg(test)]
+mod tests;
 mod typed;
 
 pub use chain::chain_sites;

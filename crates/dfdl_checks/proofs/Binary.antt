@@ -12,11 +12,11 @@ use Rattle.dfdl_scope.specs.Table.{Row, row, Words, Missing, property_table, row
 use Rattle.dfdl_checks.proofs.Flawless.{flawless, HasNoFlaw, HasBuilt, value-built, given-built, among-words}
 use Rattle.dfdl_checks.proofs.Kept.{IsKept, keeps-all, second-fails}
 use Rattle.dfdl_checks.proofs.Once.{told-once}
-use Rattle.dfdl_checks.proofs.Types.{IsBuiltElement, built-element, built-value, element-represented}
+use Rattle.dfdl_checks.proofs.Types.{IsBuiltElement, built-element, represented-simple, represented-value}
 use Rattle.dfdl_checks.specs.Applying.{is_bearer}
 use Rattle.dfdl_checks.specs.Flaws.{has_flaw}
 use Rattle.dfdl_checks.specs.Rules.{first_breach, rules, has_later_type, is_delimited_boolean, is_later_component, is_length_by_content, is_length_without_size, is_number_length_not_allowed}
-use Rattle.dfdl_checks.specs.Subjects.{binary_bits, is_simple, is_choice, is_represented, is_truths, value_bits, is_word, is_told, is_binary, is_binary_boolean, is_binary_number, is_boolean, number_bits, told_at}
+use Rattle.dfdl_checks.specs.Subjects.{binary_bits, is_choice, is_represented, is_truths, value_bits, is_word, is_told, is_binary, is_binary_boolean, is_binary_number, is_boolean, number_bits, told_at}
 use Rattle.dfdl_checks.specs.Table.{Applicability, Built, applies, applies_by, built_for, Words as BuiltWords, EveryValue, word, applicability_table}
 use Rattle.dfdl_checks.specs.declared.applicability.Bearers.{Bearers}
 use Rattle.dfdl_checks.specs.declared.applicability.Bearers.TheVariants as bearers
@@ -26,7 +26,7 @@ use Rattle.dfdl_checks.specs.declared.purpose.Purpose.TheVariants.{Parsing, Unpa
 use Rattle.dfdl_checks.specs.Judged.{Judged}
 
 -- a property that applies to a component without a breach has no flaw
-flawless-by : (s : Judged) → IsKept s → (i : ℕ) (a : Applicability) → slice_get applicability_table i ≡ Some a → is_bearer a.bearers s ≡ true
+pub flawless-by : (s : Judged) → IsKept s → (i : ℕ) (a : Applicability) → slice_get applicability_table i ≡ Some a → is_bearer a.bearers s ≡ true
     → (r : Row) → row_named property_table a.name ≡ Some r → HasNoFlaw r (built_for s.purpose a) (told_at s a.name)
 flawless-by s kept i a there bearer r named = record {
   unbuilt = flawless flaws.Unbuilt s (last (is_later_component s) (has_flaw flaws.Unbuilt s) kept.built) i a there bearer r named;
@@ -126,14 +126,14 @@ pub record HasLengthKind (purpose : Purpose) (t : Told) : Type 0 where
   pub implicit : purpose ≡ Unparsing → is_word (codes "explicit") t ≡ false
 
 -- a length that is that of the type is none of its own
-implicit-kind : (purpose : Purpose) (t : Told) → is_word (codes "implicit") t ≡ true → HasLengthKind purpose t
+pub implicit-kind : (purpose : Purpose) (t : Told) → is_word (codes "implicit") t ≡ true → HasLengthKind purpose t
 implicit-kind purpose t is = record {
   kind = grind (arith, is);
   implicit = λ unparsing. other-word (codes "implicit") (codes "explicit") refl t is;
 }
 
 -- for parsing
-either-kind : (t : Told) → (is_word (codes "implicit") t || is_word (codes "explicit") t) ≡ true → HasLengthKind Parsing t
+pub either-kind : (t : Told) → (is_word (codes "implicit") t || is_word (codes "explicit") t) ≡ true → HasLengthKind Parsing t
 either-kind t is = record { kind = is; implicit = λ unparsing. absurd (apart unparsing) }
   where
     apart : Parsing ≡ Unparsing → ⊥
@@ -167,7 +167,7 @@ boolean-kind Parsing r t has other = either-kind t (boolean-either r t has other
 boolean-kind Unparsing r t has other = implicit-kind Unparsing t (one-word (codes "implicit") r t has)
 
 -- the row of the kind of a length
-abbrev kind_row : Row
+abbrev pub kind_row : Row
 kind_row = row (codes "lengthKind") (Words (codes "explicit" ∷ codes "implicit" ∷ codes "prefixed" ∷ codes "delimited" ∷ codes "pattern" ∷ [])) Missing
 
 -- of a component without a breach, what is told of its length as a number
@@ -176,7 +176,7 @@ unfolding applicability_table property_table
 number-length s kept binary = number-kind s.purpose _ _ kinds not-by-content
   where
     kinds : HasBuilt kind_row (built_for s.purpose length_kinds) (told_at s (codes "lengthKind"))
-    kinds = built-by s kept 4 length_kinds refl binary _ refl refl
+    kinds = built-by s kept 7 length_kinds refl binary _ refl refl
 
     first-of : (a b c d : Bool) → a ≡ true → ((a && (b || c)) || d) ≡ false → b ≡ false
     first-of a b c d x y = grind (arith, x, y)
@@ -191,7 +191,7 @@ unfolding applicability_table property_table
 boolean-length s kept binary = boolean-kind s.purpose _ _ kinds not-delimited
   where
     kinds : HasBuilt kind_row (built_for s.purpose boolean_kinds) (told_at s (codes "lengthKind"))
-    kinds = built-by s kept 5 boolean_kinds refl binary _ refl refl
+    kinds = built-by s kept 8 boolean_kinds refl binary _ refl refl
 
     last-of : (a b c : Bool) → b ≡ true → (a || (b && c)) ≡ false → c ≡ false
     last-of a b c x y = grind (arith, x, y)
@@ -213,7 +213,7 @@ number-or-truth forms.Octets some apart = grind (arith, some)
 pub both : (a b : Bool) → a ≡ true → b ≡ true → (a && b) ≡ true
 both a b x y = grind (arith, x, y)
 
--- what is known of a simple element without a breach
+-- what is known of a simple element with a representation and without a breach
 pub record IsSound (s : Judged) : Type 0 where
   pub kept : IsKept s
   pub element : IsBuiltElement s.purpose s.kind
@@ -223,9 +223,9 @@ pub record IsSound (s : Judged) : Type 0 where
   pub truths : is_truths (form_of element.simple) ≡ true → is_binary_boolean s ≡ true
   pub length : HasLengthKind s.purpose (told_at s (codes "lengthKind"))
 
-pub is-sound : (s : Judged) → first_breach rules s ≡ None → IsTrue (is_simple s.kind) → IsSound s
+pub is-sound : (s : Judged) → first_breach rules s ≡ None → IsTrue (is_represented s.kind) → IsSound s
 unfolding applicability_table property_table
-is-sound s none simple = record {
+is-sound s none represented = record {
   kept = kept;
   element = element;
   representation = representation;
@@ -239,21 +239,19 @@ is-sound s none simple = record {
     kept = keeps-all s none
 
     element : IsBuiltElement s.purpose s.kind
-    element = built-element s.purpose s.kind (second-fails (is_choice s.kind) (has_later_type s.purpose s.kind) _ _ _ kept.built) kept.typed simple
+    element = built-element s.purpose s.kind (second-fails (is_choice s.kind) (has_later_type s.purpose s.kind) _ _ _ kept.built) kept.typed
+        (represented-simple s.kind represented)
 
     some : nat_lt 0 (binary_bits (form_of element.simple)) ≡ true
-    some = built-value s.purpose element.simple element.built
+    some = represented-value element.simple (sym (ap is_represented element.kind_is) ∙ represented)
 
     some-bits : nat_lt 0 (value_bits s.kind) ≡ true
     some-bits = ap (λ k. nat_lt 0 (value_bits k)) element.kind_is ∙ some
 
-    is-represented : is_represented s.kind ≡ true
-    is-represented = ap is_represented element.kind_is ∙ element-represented element.simple some
-
     representation : is_told s (codes "representation") (codes "binary") ≡ true
     representation =
         one-word (codes "binary") _ _
-        (built-at s kept 0 (codes "representation") bearers.RepresentedElements (word (codes "binary")) refl is-represented _ refl refl)
+        (built-at s kept 0 (codes "representation") bearers.RepresentedElements (word (codes "binary")) refl represented _ refl refl)
 
     number : is_truths (form_of element.simple) ≡ false → is_binary_number s ≡ true
     number apart =

@@ -7,6 +7,8 @@ use Rattle.std.proofs.lemmas.Str.Parse.{numerals_by_value, parse_digits, tells_a
 use Rattle.std.proofs.lemmas.Bool.{lt-leb}
 use Rattle.std.proofs.Math.Bool.{and-false}
 use Rattle.std.proofs.Math.Nat.{le-mul_of_pos_right}
+use Rattle.dfdl_terms.specs.Rows.{most_length}
+use Rattle.dfdl_checks.specs.Boxes.{units_within}
 use Rattle.dfdl_checks.specs.Lengths.{length_in, number_of_digits, size_within}
 use Rattle.dfdl_checks.specs.Numbers.{places_of_digits}
 use Rattle.dfdl_checks.specs.Values.{is_number, is_within, number_within}
@@ -47,6 +49,16 @@ too-many most unit text r e few some at h is =
     sym (ap (λ b. size_within most (length_in unit (if b then Some (digits_value 10 text) else None))) at
     ∙ ap (λ b. if b then Some (digits_value 10 text * unit) else None)
     (ap (λ b. nat_le 1 (digits_value 10 text * unit) && b) past ∙ and-false (nat_le 1 (digits_value 10 text * unit))))
+
+-- units with a bit at least in each, longer than each machine's number, are past the greatest length
+pub too-far : {E : Type 0} (unit : ℕ) (text : List ℕ) (r : Result ℕ E) (e : E) → 1 ≤ unit → is_number text ≡ true
+    → ParsesUnsigned 64 10 text r → r ≡ Err e → None ≡ units_within unit (number_of_digits text)
+too-far unit text r e some at h is =
+    let long : 2 ^ 64 ≤ digits_value 10 text = long-number 64 text r e at h is in
+    let longer : digits_value 10 text ≤ digits_value 10 text * unit = le-mul_of_pos_right (digits_value 10 text) some in
+    let past : nat_le (digits_value 10 text * unit) most_length ≡ false = lt-leb (digits_value 10 text * unit) most_length (omega (arith, long, longer)) in
+    sym (ap (λ b. units_within unit (if b then Some (digits_value 10 text) else None)) at
+    ∙ ap (λ b. if b then Some (digits_value 10 text) else None) past)
 
 -- a number that is in a range is not past its end
 not-past : (least most : ℕ) (text : List ℕ) → is_within least most text ≡ true → (is_number text ≡ true) × (nat_le (digits_value 10 text) most ≡ true)

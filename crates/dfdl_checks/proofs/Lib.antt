@@ -4,10 +4,14 @@ pub mod Flawless
 pub mod Once
 pub mod Types
 pub mod Binary
+pub mod BoxBounds
 pub mod Primitives
+pub mod Ordered
 pub mod Told
+pub mod SoundBoxes
 pub mod Sound
 pub mod Made
 pub mod AlikeChains
+pub mod AlikeBoxes
 pub mod AlikeJudged
 pub mod AlikeForms

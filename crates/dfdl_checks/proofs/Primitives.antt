@@ -1,5 +1,5 @@
 -- What is known of each component with a primitive.
-use Rattle.std.proofs.Common.{◌≡◌, refl, sym, ap, subst, ◌∙◌, ℕ, List, ◌≤◌, ◌*◌, ◌/◌, ◌%◌, ◌==◌, Option, Some, None, Bool, true, false, if◌then◌else◌, ◌&&◌, nat_le, nat_lt, codes, IsTrue, arith}
+use Rattle.std.proofs.Common.{◌≡◌, refl, sym, ap, subst, ◌∙◌, ℕ, List, ◌≤◌, ◌*◌, ◌/◌, ◌%◌, ◌==◌, Option, Some, None, Bool, true, false, if◌then◌else◌, ◌&&◌, nat_le, nat_lt, option_map, codes, IsTrue, arith}
 use Rattle.std.specs.Str.Parse.{digits_value}
 use Rattle.dfdl_forms.specs.Binary.{most_bits, most_places}
 use Rattle.dfdl_forms.specs.Types.{form_of}
@@ -9,6 +9,7 @@ use Rattle.dfdl_forms.specs.declared.packed.PackedForm.{PackedForm}
 use Rattle.dfdl_forms.specs.declared.packed.PackedRep.{PackedRep}
 use Rattle.dfdl_forms.specs.declared.packed.PackedRep.TheVariants as reps
 use Rattle.dfdl_forms.specs.Packed.{are_allowed, most_nibbles}
+use Rattle.dfdl_forms.specs.declared.encoding.Encoding.{Encoding}
 use Rattle.dfdl_forms.specs.declared.order.BitOrder.TheVariants.{MostFirst}
 use Rattle.dfdl_forms.specs.declared.simple.Form.{Form}
 use Rattle.dfdl_forms.specs.declared.simple.Form.TheVariants as forms
@@ -16,32 +17,32 @@ use Rattle.dfdl_forms.specs.declared.simple.Simple.{Simple}
 use Rattle.dfdl_forms.specs.declared.simple.Simple.TheVariants as types
 use Rattle.dfdl_scope.specs.Expressions.{literal}
 use Rattle.dfdl_scope.specs.Scoping.{Told, Value, Absent, Twice}
-use Rattle.dfdl_terms.specs.Rows.{IsPrimitive}
+use Rattle.dfdl_terms.specs.Rows.{IsPrimitive, IsTextSize, most_length}
 use Rattle.dfdl_terms.specs.declared.row.Primitive.{Primitive}
-use Rattle.dfdl_terms.specs.declared.row.Primitive.TheVariants.{Integer, Packed, Truth}
-use Rattle.dfdl_checks.proofs.Types.{boolean-type, built-value, few-bits, whole-number}
+use Rattle.dfdl_terms.specs.declared.row.Primitive.TheVariants.{Integer, Packed, Truth, Octets, Text}
+use Rattle.dfdl_terms.specs.declared.text.OctetForm.{OctetForm}
+use Rattle.dfdl_terms.specs.declared.text.TextForm.{TextForm}
+use Rattle.dfdl_terms.specs.declared.text.TextSize.{TextSize}
+use Rattle.dfdl_checks.proofs.BoxBounds.{bits-within, none-some, some-is, units-within}
+use Rattle.dfdl_checks.proofs.Types.{boolean-type, bytes-type, few-bits, represented-else, represented-value, string-type, whole-number}
 use Rattle.dfdl_checks.proofs.Binary.{number-or-truth}
 use Rattle.dfdl_checks.specs.Booleans.{falsity_told, truth_told}
+use Rattle.dfdl_checks.specs.Boxes.{box_bits, box_unit, box_units, is_in_characters}
+use Rattle.dfdl_checks.specs.Encodings.{encoding_told}
 use Rattle.dfdl_checks.specs.Forms.{IsWhole, IsWholeUnsigned, is_whole}
 use Rattle.dfdl_checks.specs.Lengths.{constant_length, size_within}
-use Rattle.dfdl_checks.specs.Numbers.{byte_order, field_bits, field_nibbles, number_by, number_of_rep, number_of_type, own_size, packed_by, packed_of_type, places_of, places_told, primitive_for, primitive_of, primitive_of_kind, primitive_of_type, primitive_parsed, truth_by, truth_of, type_of}
+use Rattle.dfdl_checks.specs.Numbers.{HasBitOrder, binary_of_type, field_bits, field_nibbles, number_by, number_of_rep, number_of_type, own_size, packed_by, packed_of_type, places_of, places_told, primitive_for, primitive_of, primitive_of_kind, primitive_of_type, primitive_parsed, truth_by, truth_of, type_of}
+use Rattle.dfdl_checks.specs.Orders.{field_order, order_for, orders_of}
 use Rattle.dfdl_checks.specs.Packed.{allowed_codes, codes_for, codes_in, codes_of_text, codes_told, is_strict, nibbles_in, nibbles_within, are_four, rep_of, usual_codes}
 use Rattle.dfdl_checks.specs.Rules.{is_built_type, is_whole_type}
-use Rattle.dfdl_checks.specs.Subjects.{has_point, is_told, is_truths, told_at}
+use Rattle.dfdl_checks.specs.Subjects.{binary_bits, has_point, is_characters, is_octets, is_told, is_truths, told_at}
+use Rattle.dfdl_checks.specs.Texts.{is_replaced, octets_by, octets_of, pad_of, size_in, text_by, text_of, text_size}
 use Rattle.dfdl_checks.specs.Values.{is_number}
 use Rattle.dfdl_checks.specs.declared.purpose.Purpose.{Purpose}
 use Rattle.dfdl_checks.specs.declared.purpose.Purpose.TheVariants.{Parsing, Unparsing}
 use Rattle.dfdl_checks.specs.declared.subject.Kind.{Kind}
 use Rattle.dfdl_checks.specs.declared.subject.Kind.TheVariants.{ComplexElement, SimpleElement, UncarriedElement, Sequence, Choice}
 use Rattle.dfdl_checks.specs.Judged.{Judged}
-
--- what is there is one thing
-pub some-is : {A : Type 0} (a b : A) → Some a ≡ Some b → a ≡ b
-some-is a b is = cc
-
--- what is there is not nothing
-pub none-some : {A : Type 0} (a : A) → None ≡ Some a → ⊥
-none-some a is = cc
 
 -- the primitive of a component is a binary integer or decimal of its type, by what is told of it
 pub record IsIntegerOf (s : Judged) (form : IntForm) : Type 0 where
@@ -51,7 +52,7 @@ pub record IsIntegerOf (s : Judged) (form : IntForm) : Type 0 where
   pub plain : s.purpose ≡ Parsing → rep_of s ≡ None
   pub bits : field_bits s (most_bits (form_of form.kind)) ≡ Some form.bits
   pub places : places_of form.kind (told_at s (codes "binaryDecimalVirtualPoint")) ≡ Some form.point
-  pub bits_by : form.bits_by ≡ MostFirst
+  pub bits_by : form.bits_by ≡ field_order s
 
 -- it is a packed number
 pub record IsPackedOf (s : Judged) (form : PackedForm) : Type 0 where
@@ -61,18 +62,35 @@ pub record IsPackedOf (s : Judged) (form : PackedForm) : Type 0 where
   pub nibbles : field_nibbles s form.rep ≡ Some form.nibbles
   pub signs : codes_for form.rep (told_at s (codes "binaryPackedSignCodes")) ≡ Some form.codes
   pub places : places_of form.kind (told_at s (codes "binaryDecimalVirtualPoint")) ≡ Some form.point
+  pub bits_by : form.bits_by ≡ field_order s
 
 -- it is a boolean
 pub record IsTruthOf (s : Judged) (form : BitTruthForm) : Type 0 where
   pub kind : s.kind ≡ SimpleElement types.Boolean
   pub parsing : s.purpose ≡ Parsing
   pub bits : field_bits s 32 ≡ Some form.bits
+  pub bits_by : form.bits_by ≡ field_order s
+
+-- it is the bytes of a box
+pub record IsOctetsOf (s : Judged) (form : OctetForm) : Type 0 where
+  pub kind : s.kind ≡ SimpleElement types.HexBinary
+  pub parsing : s.purpose ≡ Parsing
+  pub bits : box_bits s ≡ Some form.bits
+  pub bits_by : form.bits_by ≡ field_order s
+
+-- it is a text
+pub record IsTextOf (s : Judged) (form : TextForm) : Type 0 where
+  pub kind : s.kind ≡ SimpleElement types.String
+  pub parsing : s.purpose ≡ Parsing
+  pub size : text_size s ≡ Some form.size
 
 -- what is known of the primitive of a component
 abbrev pub IsOf : Judged → Primitive → Type 0
 IsOf s (Integer form) = IsIntegerOf s form
 IsOf s (Packed form) = IsPackedOf s form
 IsOf s (Truth form) = IsTruthOf s form
+IsOf s (Octets form) = IsOctetsOf s form
+IsOf s (Text form) = IsTextOf s form
 
 -- the same, where there is one
 abbrev IsOfIf : Judged → Option Primitive → Type 0
@@ -86,7 +104,7 @@ number-of s simple kind built some plain =
   where
     by : (bits places : Option ℕ) → field_bits s (most_bits (form_of simple)) ≡ bits
         → places_of simple (told_at s (codes "binaryDecimalVirtualPoint")) ≡ places
-        → IsOfIf s (number_by simple (byte_order (told_at s (codes "byteOrder"))) bits places)
+        → IsOfIf s (number_by simple (orders_of s) bits places)
     by (Some b) (Some p) sized placed =
         record { kind = kind; built = built; some = some; plain = plain; bits = sized; places = placed; bits_by = refl }
     by None p sized placed = tt
@@ -101,9 +119,9 @@ packed-of s simple rep kind parsing rep_is =
     by : (nibbles : Option ℕ) (signs : Option (List ℕ)) (places : Option ℕ) → field_nibbles s rep ≡ nibbles
         → codes_for rep (told_at s (codes "binaryPackedSignCodes")) ≡ signs
         → places_of simple (told_at s (codes "binaryDecimalVirtualPoint")) ≡ places
-        → IsOfIf s (packed_by simple rep (byte_order (told_at s (codes "byteOrder"))) (is_strict rep (told_at s (codes "binaryNumberCheckPolicy"))) nibbles signs places)
+        → IsOfIf s (packed_by simple rep (orders_of s) (is_strict rep (told_at s (codes "binaryNumberCheckPolicy"))) nibbles signs places)
     by (Some n) (Some c) (Some p) sized signed placed =
-        record { kind = kind; parsing = parsing; rep = rep_is; nibbles = sized; signs = signed; places = placed }
+        record { kind = kind; parsing = parsing; rep = rep_is; nibbles = sized; signs = signed; places = placed; bits_by = refl }
     by None c p sized signed placed = tt
     by (Some n) None p sized signed placed = tt
     by (Some n) (Some c) None sized signed placed = tt
@@ -113,24 +131,51 @@ truth-of s kind parsing =
     by (field_bits s 32) (truth_told (told_at s (codes "binaryBooleanTrueRep"))) (falsity_told (told_at s (codes "binaryBooleanFalseRep"))) refl
   where
     by : (bits : Option ℕ) (truth : Option (Option ℕ)) (falsity : Option ℕ) → field_bits s 32 ≡ bits
-        → IsOfIf s (truth_by (byte_order (told_at s (codes "byteOrder"))) bits truth falsity)
-    by (Some b) (Some t) (Some f) sized = record { kind = kind; parsing = parsing; bits = sized }
+        → IsOfIf s (truth_by (orders_of s) bits truth falsity)
+    by (Some b) (Some t) (Some f) sized = record { kind = kind; parsing = parsing; bits = sized; bits_by = refl }
     by None t f sized = tt
     by (Some b) None f sized = tt
     by (Some b) (Some t) None sized = tt
 
-parsed-of : (s : Judged) (simple : Simple) → s.purpose ≡ Parsing → s.kind ≡ SimpleElement simple → is_built_type s.purpose simple ≡ true
-    → IsOfIf s (primitive_parsed s simple)
-parsed-of s simple parsing kind built = by (is_truths (form_of simple)) refl
+octets-of : (s : Judged) → s.kind ≡ SimpleElement types.HexBinary → s.purpose ≡ Parsing → IsOfIf s (octets_of s)
+octets-of s kind parsing = by (box_bits s) refl
+  where
+    by : (bits : Option ℕ) → box_bits s ≡ bits → IsOfIf s (option_map (octets_by (field_order s)) bits)
+    by (Some b) sized = record { kind = kind; parsing = parsing; bits = sized; bits_by = refl }
+    by None sized = tt
+
+text-of : (s : Judged) → s.kind ≡ SimpleElement types.String → s.purpose ≡ Parsing → IsOfIf s (text_of s)
+text-of s kind parsing = by (encoding_told (told_at s (codes "encoding"))) (text_size s) refl
+  where
+    by : (e : Option Encoding) (size : Option TextSize) → text_size s ≡ size
+        → IsOfIf s (text_by e (is_replaced (told_at s (codes "encodingErrorPolicy"))) size (pad_of s))
+    by (Some e) (Some z) sized = record { kind = kind; parsing = parsing; size = sized }
+    by None z sized = tt
+    by (Some e) None sized = tt
+
+binary-of : (s : Judged) (simple : Simple) → s.purpose ≡ Parsing → s.kind ≡ SimpleElement simple → is_built_type s.purpose simple ≡ true
+    → nat_lt 0 (binary_bits (form_of simple)) ≡ true → IsOfIf s (binary_of_type s simple)
+binary-of s simple parsing kind built some = by (is_truths (form_of simple)) refl
   where
     by-rep : (o : Option PackedRep) → rep_of s ≡ o → is_truths (form_of simple) ≡ false → IsOfIf s (number_of_rep s simple o)
     by-rep None none apart =
-        number-of s simple kind built (number-or-truth (form_of simple) (built-value s.purpose simple built) apart) (λ same. none)
+        number-of s simple kind built (number-or-truth (form_of simple) some apart) (λ same. none)
     by-rep (Some rep) is apart = packed-of s simple rep kind parsing is
 
     by : (b : Bool) → is_truths (form_of simple) ≡ b → IsOfIf s (if b then truth_of s else number_of_rep s simple (rep_of s))
     by true is = truth-of s (kind ∙ ap SimpleElement (boolean-type simple is)) parsing
     by false apart = by-rep (rep_of s) refl apart
+
+parsed-of : (s : Judged) (simple : Simple) → s.purpose ≡ Parsing → s.kind ≡ SimpleElement simple → is_built_type s.purpose simple ≡ true
+    → IsOfIf s (primitive_parsed s simple)
+parsed-of s simple parsing kind built = by (is_characters (form_of simple)) (is_octets (form_of simple)) refl refl
+  where
+    by : (a b : Bool) → is_characters (form_of simple) ≡ a → is_octets (form_of simple) ≡ b
+        → IsOfIf s (if a then text_of s else if b then octets_of s else binary_of_type s simple)
+    by true b is other = text-of s (kind ∙ ap SimpleElement (string-type simple is)) parsing
+    by false true no-text is = octets-of s (kind ∙ ap SimpleElement (bytes-type simple is)) parsing
+    by false false no-text no-bytes =
+        binary-of s simple parsing kind built (represented-value simple (represented-else (form_of simple) no-text no-bytes))
 
 -- a purpose is not the other one
 apart : Parsing ≡ Unparsing → ⊥
@@ -298,9 +343,29 @@ packed-bounded s form of =
       places = places-within (form_of form.kind) (told_at s (codes "binaryDecimalVirtualPoint")) form.point of.places;
     }
 
+-- a text has no more characters or bits than the greatest length
+size-few : (are_characters : Bool) (unit n : ℕ) → n ≤ most_length → n * unit ≤ most_length → IsTextSize (size_in are_characters unit n)
+size-few true unit n few bits = few
+size-few false unit n few bits = bits
+
+text-bounded : (s : Judged) (form : TextForm) → IsTextOf s form → IsPrimitive (Text form)
+text-bounded s form of = by (box_units s) refl of.size
+  where
+    by : (units : Option ℕ) → box_units s ≡ units → option_map (size_in (is_in_characters s) (box_unit s)) units ≡ Some form.size
+        → IsTextSize form.size
+    by (Some n) within sized =
+        let few = units-within s n within in
+        subst (λ size. IsTextSize size) (some-is _ _ sized) (size-few (is_in_characters s) (box_unit s) n few.0 few.1)
+    by None within sized = absurd (none-some _ sized)
+
 pub bounded : (s : Judged) (p : Primitive) → primitive_of s ≡ Some p → IsPrimitive p
 bounded s (Integer form) is = integer-bounded s form (of-component s (Integer form) is)
 bounded s (Packed form) is = packed-bounded s form (of-component s (Packed form) is)
+bounded s (Octets form) is = octets-bounded (of-component s (Octets form) is)
+  where
+    octets-bounded : IsOctetsOf s form → IsPrimitive (Octets form)
+    octets-bounded of = bits-within s form.bits of.bits
+bounded s (Text form) is = text-bounded s form (of-component s (Text form) is)
 bounded s (Truth form) is = truth-bounded (of-component s (Truth form) is)
   where
     truth-bounded : IsTruthOf s form → IsPrimitive (Truth form)
@@ -311,9 +376,22 @@ kind-is : (s : Judged) (p : Primitive) → IsOf s p → s.kind ≡ SimpleElement
 kind-is s (Integer form) of = of.kind
 kind-is s (Packed form) of = of.kind
 kind-is s (Truth form) of = of.kind
+kind-is s (Octets form) of = of.kind
+kind-is s (Text form) of = of.kind
 
 pub typed : (s : Judged) (p : Primitive) → primitive_of s ≡ Some p → s.kind ≡ SimpleElement (type_of p)
 typed s p is = kind-is s p (of-component s p is)
+
+-- the bits of its fields come in the order of the component's
+in-order : (s : Judged) (p : Primitive) → IsOf s p → HasBitOrder (field_order s) p
+in-order s (Integer form) of = of.bits_by
+in-order s (Packed form) of = of.bits_by
+in-order s (Truth form) of = of.bits_by
+in-order s (Octets form) of = of.bits_by
+in-order s (Text form) of = tt
+
+pub ordered : (s : Judged) (p : Primitive) → primitive_of s ≡ Some p → HasBitOrder (field_order s) p
+ordered s p is = in-order s p (of-component s p is)
 
 -- for unparsing, a field has the size of its type
 whole-field : (s : Judged) (most bits : ℕ) → s.purpose ≡ Unparsing → field_bits s most ≡ Some bits → bits ≡ most
@@ -365,12 +443,15 @@ whole-integer s form purpose of =
     let built : is_whole_type form.kind ≡ true = sym (ap (λ p. is_built_type p form.kind) purpose) ∙ of.built in
     let without : Some 0 ≡ Some form.point =
     sym (ap (λ b. if b then places_told (told_at s (codes "binaryDecimalVirtualPoint")) else Some 0) (no-point form.kind built)) ∙ of.places in
-    by-whole-type form.kind form built refl (whole-field s _ _ purpose of.bits) of.bits_by (sym (some-is _ _ without))
+    let most-first : form.bits_by ≡ MostFirst = of.bits_by ∙ ap (λ p. order_for p (told_at s (codes "bitOrder"))) purpose in
+    by-whole-type form.kind form built refl (whole-field s _ _ purpose of.bits) most-first (sym (some-is _ _ without))
 
 whole-of : (s : Judged) (p : Primitive) → s.purpose ≡ Unparsing → IsOf s p → IsWhole p
 whole-of s (Integer form) purpose of = whole-integer s form purpose of
 whole-of s (Packed form) purpose of = apart (sym of.parsing ∙ purpose)
 whole-of s (Truth form) purpose of = apart (sym of.parsing ∙ purpose)
+whole-of s (Octets form) purpose of = apart (sym of.parsing ∙ purpose)
+whole-of s (Text form) purpose of = apart (sym of.parsing ∙ purpose)
 
 pub whole : (s : Judged) (p : Primitive) → s.purpose ≡ Unparsing → primitive_of s ≡ Some p → IsWhole p
 whole s p purpose is = whole-of s p purpose (of-component s p is)

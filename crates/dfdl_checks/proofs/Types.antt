@@ -7,20 +7,79 @@ use Rattle.dfdl_forms.specs.declared.simple.Form.TheVariants as forms
 use Rattle.dfdl_forms.specs.declared.simple.Simple.{Simple}
 use Rattle.dfdl_forms.specs.declared.simple.Simple.TheVariants as types
 use Rattle.dfdl_checks.specs.Rules.{is_built_type, is_whole_type, has_later_type, is_type_not_carried}
-use Rattle.dfdl_checks.specs.Subjects.{binary_bits, is_simple, is_represented, is_truths, has_representation}
+use Rattle.dfdl_checks.specs.Subjects.{binary_bits, is_characters, is_octets, is_simple, is_represented, is_truths, has_representation}
 use Rattle.dfdl_checks.specs.declared.purpose.Purpose.{Purpose}
-use Rattle.dfdl_checks.specs.declared.purpose.Purpose.TheVariants.{Parsing, Unparsing}
 use Rattle.dfdl_checks.specs.declared.subject.Kind.{Kind}
 use Rattle.dfdl_checks.specs.declared.subject.Kind.TheVariants.{ComplexElement, SimpleElement, UncarriedElement, Sequence, Choice}
 
--- a value with a binary form has a representation
-represented : (form : Form) → nat_lt 0 (binary_bits form) ≡ true → has_representation form ≡ true
-represented (forms.Signed bits) some = refl
-represented (forms.Unsigned bits) some = refl
-represented forms.Fixed some = refl
-represented forms.Characters some = grind (arith, some)
-represented forms.Truths some = refl
-represented forms.Octets some = grind (arith, some)
+-- a value with a representation has a binary form
+pub represented-value : (simple : Simple) → has_representation (form_of simple) ≡ true → nat_lt 0 (binary_bits (form_of simple)) ≡ true
+represented-value types.UnsignedByte has = refl
+represented-value types.UnsignedShort has = refl
+represented-value types.UnsignedInt has = refl
+represented-value types.UnsignedLong has = refl
+represented-value types.String has = grind (arith, has)
+represented-value types.HexBinary has = grind (arith, has)
+represented-value types.Boolean has = refl
+represented-value types.Decimal has = refl
+represented-value types.Integer has = refl
+represented-value types.NonNegativeInteger has = refl
+represented-value types.Byte has = refl
+represented-value types.Short has = refl
+represented-value types.Int has = refl
+represented-value types.Long has = refl
+
+-- and it is neither text nor bytes
+pub represented-apart : (form : Form) → has_representation form ≡ true → (is_characters form ≡ false) × (is_octets form ≡ false)
+represented-apart (forms.Signed bits) has = (refl, refl)
+represented-apart (forms.Unsigned bits) has = (refl, refl)
+represented-apart forms.Fixed has = (refl, refl)
+represented-apart forms.Characters has = grind (arith, has)
+represented-apart forms.Truths has = (refl, refl)
+represented-apart forms.Octets has = grind (arith, has)
+
+-- what is neither has a representation
+pub represented-else : (form : Form) → is_characters form ≡ false → is_octets form ≡ false → has_representation form ≡ true
+represented-else (forms.Signed bits) no-text no-bytes = refl
+represented-else (forms.Unsigned bits) no-text no-bytes = refl
+represented-else forms.Fixed no-text no-bytes = refl
+represented-else forms.Characters no-text no-bytes = grind (arith, no-text)
+represented-else forms.Truths no-text no-bytes = refl
+represented-else forms.Octets no-text no-bytes = grind (arith, no-bytes)
+
+-- a type of texts is string
+pub string-type : (simple : Simple) → is_characters (form_of simple) ≡ true → simple ≡ types.String
+string-type types.UnsignedByte is = grind (arith, is)
+string-type types.UnsignedShort is = grind (arith, is)
+string-type types.UnsignedInt is = grind (arith, is)
+string-type types.UnsignedLong is = grind (arith, is)
+string-type types.String is = refl
+string-type types.HexBinary is = grind (arith, is)
+string-type types.Boolean is = grind (arith, is)
+string-type types.Decimal is = grind (arith, is)
+string-type types.Integer is = grind (arith, is)
+string-type types.NonNegativeInteger is = grind (arith, is)
+string-type types.Byte is = grind (arith, is)
+string-type types.Short is = grind (arith, is)
+string-type types.Int is = grind (arith, is)
+string-type types.Long is = grind (arith, is)
+
+-- a type of bytes is hexBinary
+pub bytes-type : (simple : Simple) → is_octets (form_of simple) ≡ true → simple ≡ types.HexBinary
+bytes-type types.UnsignedByte is = grind (arith, is)
+bytes-type types.UnsignedShort is = grind (arith, is)
+bytes-type types.UnsignedInt is = grind (arith, is)
+bytes-type types.UnsignedLong is = grind (arith, is)
+bytes-type types.String is = grind (arith, is)
+bytes-type types.HexBinary is = refl
+bytes-type types.Boolean is = grind (arith, is)
+bytes-type types.Decimal is = grind (arith, is)
+bytes-type types.Integer is = grind (arith, is)
+bytes-type types.NonNegativeInteger is = grind (arith, is)
+bytes-type types.Byte is = grind (arith, is)
+bytes-type types.Short is = grind (arith, is)
+bytes-type types.Int is = grind (arith, is)
+bytes-type types.Long is = grind (arith, is)
 
 -- what has a binary form and isn't true or false is a number, of as many bits
 pub number-bits : (form : Form) → is_truths form ≡ false → binary_bits form ≡ most_bits form
@@ -79,19 +138,19 @@ pub whole-apart : (simple : Simple) → is_whole_type simple ≡ true → is_tru
 whole-apart types.Boolean whole = grind (arith, whole)
 whole-apart _ whole = refl
 
--- a number has a binary form
-number-value : (form : Form) → nat_lt 0 (most_bits form) ≡ true → nat_lt 0 (binary_bits form) ≡ true
-number-value (forms.Signed bits) some = some
-number-value (forms.Unsigned bits) some = some
-number-value forms.Fixed some = refl
-number-value forms.Characters some = grind (arith, some)
-number-value forms.Truths some = refl
-number-value forms.Octets some = grind (arith, some)
+-- its values have a representation
+pub whole-represented : (simple : Simple) → is_whole_type simple ≡ true → has_representation (form_of simple) ≡ true
+whole-represented types.String whole = grind (arith, whole)
+whole-represented types.HexBinary whole = grind (arith, whole)
+whole-represented _ whole = refl
 
--- a type that is built is one whose values have a binary form
-pub built-value : (purpose : Purpose) (simple : Simple) → is_built_type purpose simple ≡ true → nat_lt 0 (binary_bits (form_of simple)) ≡ true
-built-value Parsing simple built = built
-built-value Unparsing simple built = number-value (form_of simple) (whole-number simple built)
+-- a simple element with a representation is one of a simple type
+pub represented-simple : (kind : Kind) → is_represented kind ≡ true → is_simple kind ≡ true
+represented-simple ComplexElement is = grind (arith, is)
+represented-simple (SimpleElement simple) is = refl
+represented-simple UncarriedElement is = refl
+represented-simple Sequence is = grind (arith, is)
+represented-simple Choice is = grind (arith, is)
 
 -- no type has more than 128 bits
 pub few-bits : (simple : Simple) → most_bits (form_of simple) ≤ 128
@@ -126,7 +185,3 @@ built-element purpose (SimpleElement simple) later typed is = record { simple = 
 built-element purpose UncarriedElement later typed is = grind (arith, typed)
 built-element purpose Sequence later typed is = grind (arith, is)
 built-element purpose Choice later typed is = grind (arith, is)
-
--- such an element has a representation
-pub element-represented : (simple : Simple) → nat_lt 0 (binary_bits (form_of simple)) ≡ true → is_represented (SimpleElement simple) ≡ true
-element-represented simple some = represented (form_of simple) some

@@ -23,3 +23,4 @@ pub record IsAlike (a b : Judged) : Type 0 where
   pub place : a.place ≡ b.place
   pub chain : AreAlikeChains a.chain b.chain
   pub facts : a.facts ≡ b.facts
+  pub root_bits_by : a.root_bits_by ≡ b.root_bits_by

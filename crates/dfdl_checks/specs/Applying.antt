@@ -1,21 +1,32 @@
 -- Which components a property applies to.
-use Rattle.std.specs.Prelude.{Bool, true, not, nat_lt, ◌&&◌, codes}
-use Rattle.dfdl_checks.specs.Subjects.{is_element, is_simple, is_sequence, is_group, is_represented, is_decimal, value_bits, is_binary, is_binary_boolean, is_binary_number, is_explicit_binary, is_packed, is_word, told_at}
+use Rattle.std.specs.Prelude.{Bool, true, not, nat_lt, ◌&&◌, ◌||◌, codes}
+use Rattle.dfdl_checks.specs.Boxes.{is_explicit_box, is_implicit_string}
+use Rattle.dfdl_checks.specs.Orders.{is_least_first}
+use Rattle.dfdl_checks.specs.Subjects.{is_boxed, is_element, is_simple, is_string, is_sequence, is_group, is_represented, is_decimal, value_bits, is_binary, is_binary_boolean, is_binary_number, is_explicit_binary, is_packed, is_word, told_at}
 use Rattle.dfdl_checks.specs.Judged.{Judged}
 use Rattle.dfdl_checks.specs.declared.applicability.Bearers.{Bearers}
-use Rattle.dfdl_checks.specs.declared.applicability.Bearers.TheVariants.{EveryComponent, Elements, OtherElements, SimpleElements, RepresentedElements, BinaryNumbers, BinaryBooleans, WideBinaries, ExplicitBinaries, PackedNumbers, BinaryDecimals, PatternElements, Groups, Sequences, EmptySequences}
+use Rattle.dfdl_checks.specs.declared.applicability.Bearers.TheVariants.{EveryComponent, Elements, OtherElements, SimpleElements, RepresentedElements, BoxedElements, Strings, BinaryNumbers, BinaryBooleans, OrderedBinaries, ExplicitBinaries, ExplicitBoxes, ImplicitStrings, PackedNumbers, BinaryDecimals, PatternElements, Groups, Sequences, EmptySequences}
+
+-- a binary number or boolean whose bytes have an order: of a type with more than 8 bits, or with its least significant bits
+-- first
+abbrev pub is_ordered_binary : Judged → Bool
+is_ordered_binary subject = is_binary subject && (nat_lt 8 (value_bits subject.kind) || is_least_first subject)
 
 -- a component is one of these
 abbrev pub is_bearer : Bearers → Judged → Bool
 is_bearer EveryComponent subject = true
 is_bearer Elements subject = is_element subject.kind
-is_bearer OtherElements subject = is_element subject.kind && not (is_binary subject)
+is_bearer OtherElements subject = is_element subject.kind && not (is_boxed subject.kind) && not (is_binary subject)
 is_bearer SimpleElements subject = is_simple subject.kind
 is_bearer RepresentedElements subject = is_represented subject.kind
+is_bearer BoxedElements subject = is_boxed subject.kind
+is_bearer Strings subject = is_string subject.kind
 is_bearer BinaryNumbers subject = is_binary_number subject
 is_bearer BinaryBooleans subject = is_binary_boolean subject
-is_bearer WideBinaries subject = nat_lt 8 (value_bits subject.kind) && is_binary subject
+is_bearer OrderedBinaries subject = is_ordered_binary subject
 is_bearer ExplicitBinaries subject = is_explicit_binary subject
+is_bearer ExplicitBoxes subject = is_explicit_box subject
+is_bearer ImplicitStrings subject = is_implicit_string subject
 is_bearer PackedNumbers subject = is_packed subject
 is_bearer BinaryDecimals subject = is_decimal subject.kind && is_binary_number subject
 is_bearer PatternElements subject = is_element subject.kind && is_word (codes "pattern") (told_at subject (codes "lengthKind"))

@@ -5,6 +5,7 @@ use Rattle.dfdl_forms.specs.declared.simple.Simple.{Simple}
 use Rattle.dfdl_forms.specs.declared.simple.Simple.TheVariants.{Boolean, Short, Int as IntType, Long, UnsignedShort, UnsignedInt, UnsignedLong}
 use Rattle.dfdl_scope.specs.Expressions.{literal}
 use Rattle.dfdl_scope.specs.Scoping.{Told, Value, Absent, Twice}
+use Rattle.dfdl_terms.specs.Framing.{no_fill}
 use Rattle.dfdl_terms.specs.declared.framing.Framing.{Framing}
 use Rattle.dfdl_checks.specs.Judged.{Judged}
 use Rattle.dfdl_checks.specs.Packed.{rep_of}
@@ -74,10 +75,6 @@ abbrev pub alignment_of : Judged → ℕ
 alignment_of subject =
     if is_told subject (codes "alignment") (codes "implicit") then implicit_alignment subject subject.kind
     else explicit_alignment subject
-
--- no fill
-abbrev pub no_fill : Framing
-no_fill = record { leading_skip = 0; alignment = 1; trailing_skip = 0 }
 
 -- the fill that is told of the component
 abbrev pub fill_of : Judged → Framing

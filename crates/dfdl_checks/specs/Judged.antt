@@ -1,16 +1,18 @@
 -- A component as the rules see it.
 use Rattle.std.specs.Prelude.{List}
+use Rattle.dfdl_forms.specs.declared.order.BitOrder.{BitOrder}
 use Rattle.dfdl_report.specs.declared.place.Place.{Place}
 use Rattle.dfdl_scope.specs.Scoping.{Element}
 use Rattle.dfdl_checks.specs.declared.purpose.Purpose.{Purpose}
 use Rattle.dfdl_checks.specs.declared.subject.Facts.{Facts}
 use Rattle.dfdl_checks.specs.declared.subject.Kind.{Kind}
 
--- a component: what its rows are made for, its kind, its start tag, the chain that its properties are asked of, and what
--- else it states
+-- a component: what its rows are made for, its kind, its start tag, the chain that its properties are asked of, what else
+-- it states, and the order of bits of the schema's root
 pub record Judged : Type 0 where
   pub purpose : Purpose
   pub kind : Kind
   pub place : Place
   pub chain : List Element
   pub facts : Facts
+  pub root_bits_by : BitOrder

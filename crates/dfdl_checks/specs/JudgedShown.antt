@@ -11,4 +11,5 @@ judged_of subject = record {
   place = subject.place;
   chain = chain_of subject.chain.now;
   facts = subject.facts;
+  root_bits_by = subject.root_bits_by;
 }

@@ -2,8 +2,11 @@ pub mod Judged
 pub mod JudgedShown
 pub mod Alike
 pub mod Subjects
+pub mod Orders
+pub mod Encodings
 pub mod Values
 pub mod Lengths
+pub mod Boxes
 pub mod Packed
 pub mod Booleans
 pub mod Applying
@@ -11,6 +14,7 @@ pub mod Table
 pub mod TableShown
 pub mod Flaws
 pub mod Rules
+pub mod Texts
 pub mod Numbers
 pub mod Framing
 pub mod Forms

@@ -1,7 +1,6 @@
 -- The rules that a component has to keep, and the first that it breaks. The numbers are those of the causes.
-use Rattle.std.specs.Prelude.{ℕ, List, [], ◌∷◌, Bool, true, false, not, nat_lt, ◌&&◌, ◌||◌, Option, Some, None, is_some, codes, if◌then◌else◌}
+use Rattle.std.specs.Prelude.{ℕ, List, [], ◌∷◌, Bool, true, false, not, ◌&&◌, ◌||◌, Option, Some, None, is_some, codes, if◌then◌else◌}
 use Rattle.std.specs.Option.{option_map_or}
-use Rattle.dfdl_forms.specs.Types.{form_of}
 use Rattle.dfdl_forms.specs.declared.packed.PackedRep.{PackedRep}
 use Rattle.dfdl_forms.specs.declared.simple.Simple.{Simple}
 use Rattle.dfdl_forms.specs.declared.simple.Simple.TheVariants.{Decimal, Integer, NonNegativeInteger, UnsignedByte, UnsignedShort, UnsignedInt, UnsignedLong}
@@ -11,9 +10,11 @@ use Rattle.dfdl_report.specs.declared.place.Place.{Place}
 use Rattle.dfdl_scope.specs.Scoping.{repeated_at}
 use Rattle.dfdl_scope.specs.Table.{names_of, property_table}
 use Rattle.dfdl_checks.specs.Booleans.{falsity_told, truth_told}
+use Rattle.dfdl_checks.specs.Boxes.{is_box_too_long, is_explicit_box, is_implicit_box}
 use Rattle.dfdl_checks.specs.Lengths.{constant_length, size_within}
+use Rattle.dfdl_checks.specs.Orders.{is_least_first, is_same_order, told_order}
 use Rattle.dfdl_checks.specs.Packed.{codes_told, nibbles_within, rep_of}
-use Rattle.dfdl_checks.specs.Subjects.{binary_bits, is_element, is_choice, is_binary_boolean, is_binary_number, is_explicit_binary, is_packed, is_simple, is_told, told_at, value_bits}
+use Rattle.dfdl_checks.specs.Subjects.{is_element, is_choice, is_binary_boolean, is_binary_number, is_explicit_binary, is_packed, is_simple, is_string, is_told, told_at, value_bits}
 use Rattle.dfdl_checks.specs.Flaws.{has_flaw}
 use Rattle.dfdl_checks.specs.declared.flaw.Flaw.TheVariants as flaws
 use Rattle.dfdl_checks.specs.declared.purpose.Purpose.{Purpose}
@@ -32,9 +33,9 @@ is_whole_type UnsignedInt = true
 is_whole_type UnsignedLong = true
 is_whole_type _ = false
 
--- elements of these types are built: for parsing those of all numbers, and booleans
+-- elements of these types are built: all for parsing
 abbrev pub is_built_type : Purpose → Simple → Bool
-is_built_type Parsing simple = nat_lt 0 (binary_bits (form_of simple))
+is_built_type Parsing simple = true
 is_built_type Unparsing simple = is_whole_type simple
 
 -- an element of a simple type that is carried, and built later
@@ -77,6 +78,10 @@ abbrev pub is_type_not_carried : Kind → Bool
 is_type_not_carried UncarriedElement = true
 is_type_not_carried _ = false
 
+-- 14: a string, or an element of type hexBinary, whose length is that of its type, which has no greatest length
+abbrev pub is_max_length_missing : Judged → Bool
+is_max_length_missing subject = is_implicit_box subject && not (is_some subject.facts.max_length)
+
 -- the length is delimited or by a pattern
 abbrev pub is_length_by_content : Judged → Bool
 is_length_by_content subject =
@@ -106,9 +111,13 @@ is_delimited_boolean subject = is_binary_boolean subject && is_told subject (cod
 abbrev pub is_length_kind_not_allowed : Judged → Bool
 is_length_kind_not_allowed subject = is_number_length_not_allowed subject || is_delimited_boolean subject
 
--- 16: a binary number or boolean whose length is counted in characters
+-- an element with a length of its own and without characters
+abbrev pub is_explicit_without_characters : Judged → Bool
+is_explicit_without_characters subject = is_explicit_binary subject || (is_explicit_box subject && not (is_string subject.kind))
+
+-- 16: what is no text has a length that is counted in characters
 abbrev pub is_length_in_characters : Judged → Bool
-is_length_in_characters subject = is_explicit_binary subject && is_told subject (codes "lengthUnits") (codes "characters")
+is_length_in_characters subject = is_explicit_without_characters subject && is_told subject (codes "lengthUnits") (codes "characters")
 
 -- a length that a field can have: of a packed representation, else of a binary value of at most so many bits
 abbrev pub is_size : Option PackedRep → ℕ → Option ℕ → Bool
@@ -123,9 +132,22 @@ has_size subject = is_size (rep_of subject) (value_bits subject.kind) (constant_
 abbrev pub is_no_size : Judged → Bool
 is_no_size subject = is_some (constant_length subject) && not (has_size subject)
 
--- 17: a binary number or boolean with a constant length that its field can't have
+-- a binary number or boolean with a constant length that its field can't have
+abbrev pub is_field_out_of_range : Judged → Bool
+is_field_out_of_range subject = is_explicit_binary subject && is_no_size subject
+
+-- 17: a constant length that the component's field can't have, or that its box can't
 abbrev pub is_length_out_of_range : Judged → Bool
-is_length_out_of_range subject = is_explicit_binary subject && is_no_size subject
+is_length_out_of_range subject = is_field_out_of_range subject || is_box_too_long subject
+
+-- 21: a binary number whose least significant bits come first, of which littleEndian isn't told
+abbrev pub are_orders_apart : Judged → Bool
+are_orders_apart subject =
+    is_binary_number subject && is_least_first subject && not (is_told subject (codes "byteOrder") (codes "littleEndian"))
+
+-- 22: an order of bits that isn't that of the schema's root
+abbrev pub is_second_bit_order : Judged → Bool
+is_second_bit_order subject = not (is_same_order (told_order subject) subject.root_bits_by)
 
 -- 24: an implicit alignment of what is no simple element
 abbrev pub is_alignment_not_allowed : Judged → Bool
@@ -169,9 +191,12 @@ rules =
     ∷ at_itself causes.PropertyNotCarried is_value_not_carried
     ∷ at_itself causes.ExpressionNotAllowed is_expression_not_allowed
     ∷ at_itself causes.TypeNotCarried (λ subject. is_type_not_carried subject.kind)
+    ∷ at_itself causes.MaxLengthMissing is_max_length_missing
     ∷ at_itself causes.LengthKind is_length_kind_not_allowed
     ∷ at_itself causes.LengthUnits is_length_in_characters
     ∷ at_itself causes.ConstantLength is_length_out_of_range
+    ∷ at_itself causes.OrdersApart are_orders_apart
+    ∷ at_itself causes.SecondBitOrder is_second_bit_order
     ∷ at_itself causes.Alignment is_alignment_not_allowed
     ∷ at_itself causes.SignCodes are_codes_malformed
     ∷ at_itself causes.BooleanRepresentations are_truths_malformed

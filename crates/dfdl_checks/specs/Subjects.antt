@@ -19,6 +19,11 @@ is_element UncarriedElement = true
 is_element Sequence = false
 is_element Choice = false
 
+-- an element of a complex type
+abbrev pub is_complex : Kind → Bool
+is_complex ComplexElement = true
+is_complex _ = false
+
 -- an element of a simple type
 abbrev pub is_simple : Kind → Bool
 is_simple ComplexElement = false
@@ -40,6 +45,35 @@ is_choice _ = false
 -- a sequence or a choice
 abbrev pub is_group : Kind → Bool
 is_group kind = is_sequence kind || is_choice kind
+
+-- values of this form are texts
+abbrev pub is_characters : Form → Bool
+is_characters Characters = true
+is_characters _ = false
+
+-- values of this form are bytes
+abbrev pub is_octets : Form → Bool
+is_octets Octets = true
+is_octets _ = false
+
+-- an element of type string
+abbrev pub is_string : Kind → Bool
+is_string (SimpleElement simple) = is_characters (form_of simple)
+is_string _ = false
+
+-- an element of type hexBinary
+abbrev pub is_hex_binary : Kind → Bool
+is_hex_binary (SimpleElement simple) = is_octets (form_of simple)
+is_hex_binary _ = false
+
+-- an element of type string or hexBinary
+abbrev pub is_string_or_bytes : Kind → Bool
+is_string_or_bytes kind = is_string kind || is_hex_binary kind
+
+-- an element whose content stands in a box of its own length or that of its type: a string, one of type hexBinary, or a
+-- complex element, which has a box by its own length alone
+abbrev pub is_boxed : Kind → Bool
+is_boxed kind = is_string_or_bytes kind || is_complex kind
 
 -- values of this form are written as text or in binary, by the property representation; texts and bytes are not
 abbrev pub has_representation : Form → Bool

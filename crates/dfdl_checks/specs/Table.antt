@@ -1,11 +1,10 @@
 -- Which properties are asked of which components, and which of their values are built. Each property of the profile that
--- is not here applies to components of later forms alone: to text, to delimiters, to escapes, to elements of prefixed
--- length, to elements that may be nil or occur otherwise than once, and to choices and their branches. Where the least
--- significant bit comes first, which is a later form too, byteOrder will be asked of each binary number.
+-- is not here applies to components of later forms alone: to text that is no string, to padding, to delimiters, to escapes,
+-- to elements of prefixed length, to elements that may be nil or occur otherwise than once, and to choices and their branches.
 use Rattle.std.specs.Prelude.{ℕ, List, [], ◌∷◌, Bool, true, false, codes}
 use Rattle.dfdl_checks.specs.Values.{is_among, is_number, is_within}
 use Rattle.dfdl_checks.specs.declared.applicability.Bearers.{Bearers}
-use Rattle.dfdl_checks.specs.declared.applicability.Bearers.TheVariants.{EveryComponent, Elements, OtherElements, SimpleElements, RepresentedElements, BinaryNumbers, BinaryBooleans, WideBinaries, ExplicitBinaries, PackedNumbers, BinaryDecimals, PatternElements, Groups, Sequences, EmptySequences}
+use Rattle.dfdl_checks.specs.declared.applicability.Bearers.TheVariants.{EveryComponent, Elements, OtherElements, SimpleElements, RepresentedElements, BoxedElements, Strings, BinaryNumbers, BinaryBooleans, OrderedBinaries, ExplicitBinaries, ExplicitBoxes, ImplicitStrings, PackedNumbers, BinaryDecimals, PatternElements, Groups, Sequences, EmptySequences}
 use Rattle.dfdl_checks.specs.declared.purpose.Purpose.{Purpose}
 use Rattle.dfdl_checks.specs.declared.purpose.Purpose.TheVariants.{Parsing, Unparsing}
 
@@ -56,15 +55,21 @@ word text = Words (text ∷ [])
 unfoldable pub applicability_table : List Applicability
 applicability_table =
     applies (codes "representation") RepresentedElements (word (codes "binary"))
-    ∷ applies (codes "byteOrder") WideBinaries EveryValue
-    ∷ applies (codes "bitOrder") EveryComponent (word (codes "mostSignificantBitFirst"))
+    ∷ applies (codes "encoding") Strings EveryValue
+    ∷ applies (codes "encodingErrorPolicy") Strings EveryValue
+    ∷ applies (codes "byteOrder") OrderedBinaries EveryValue
+    ∷ applies_by (codes "bitOrder") EveryComponent EveryValue (word (codes "mostSignificantBitFirst"))
     ∷ applies (codes "lengthKind") OtherElements (word (codes "implicit"))
+    ∷ applies_by (codes "lengthKind") BoxedElements (Words (codes "implicit" ∷ codes "explicit" ∷ [])) (word (codes "implicit"))
     ∷ applies_by (codes "lengthKind") BinaryNumbers
     (Words (codes "implicit" ∷ codes "explicit" ∷ codes "delimited" ∷ codes "pattern" ∷ []))
     (Words (codes "implicit" ∷ codes "delimited" ∷ codes "pattern" ∷ []))
     ∷ applies_by (codes "lengthKind") BinaryBooleans (Words (codes "implicit" ∷ codes "explicit" ∷ codes "delimited" ∷ [])) (word (codes "implicit"))
     ∷ applies (codes "length") ExplicitBinaries EachNumber
+    ∷ applies (codes "length") ExplicitBoxes EachNumber
     ∷ applies (codes "lengthUnits") ExplicitBinaries EveryValue
+    ∷ applies (codes "lengthUnits") ExplicitBoxes EveryValue
+    ∷ applies (codes "lengthUnits") ImplicitStrings EveryValue
     ∷ applies (codes "lengthPattern") PatternElements EveryValue
     ∷ applies_by (codes "alignment") EveryComponent EveryValue (Number 1)
     ∷ applies_by (codes "alignmentUnits") EveryComponent EveryValue (word (codes "bits"))
@@ -77,6 +82,11 @@ applicability_table =
     ∷ applies (codes "initiatedContent") Groups (word (codes "no"))
     ∷ applies (codes "sequenceKind") Sequences (word (codes "ordered"))
     ∷ applies (codes "hiddenGroupRef") EmptySequences NoValue
+    ∷ applies (codes "textTrimKind") Strings (word (codes "none"))
+    ∷ applies (codes "textPadKind") Strings (word (codes "none"))
+    ∷ applies (codes "textStringJustification") Strings EveryValue
+    ∷ applies (codes "truncateSpecifiedLengthString") Strings EveryValue
+    ∷ applies (codes "escapeSchemeRef") Strings (word (codes ""))
     ∷ applies (codes "binaryBooleanTrueRep") BinaryBooleans EveryValue
     ∷ applies (codes "binaryBooleanFalseRep") BinaryBooleans EveryValue
     ∷ applies_by (codes "binaryNumberRep") BinaryNumbers EveryValue (word (codes "binary"))

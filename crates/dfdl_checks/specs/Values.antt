@@ -1,12 +1,13 @@
 -- Whether a text is a value of a property: 'Property Scoping and DFDL Schema Checking', and the chapters on each property.
-use Rattle.std.specs.Prelude.{ℕ, List, Bool, true, false, not, nat_le, length, ◌==◌, ◌&&◌, ◌||◌, Option, Some, None, codes, if◌then◌else◌}
+use Rattle.std.specs.Prelude.{ℕ, List, Bool, true, false, not, nat_le, length, ◌==◌, ◌&&◌, ◌||◌, Option, Some, None, is_some, codes, if◌then◌else◌}
 use Rattle.std.specs.List.{list_any}
 use Rattle.std.specs.Str.{all_ascii_digits, bytes_eq}
 use Rattle.std.specs.Str.Parse.{digits_value}
 use Rattle.dfdl_scope.specs.Expressions.{is_expression, literal}
 use Rattle.dfdl_scope.specs.Table.{Values, Words, Range, Formed}
 use Rattle.dfdl_scope.specs.declared.row.Form.{Form}
-use Rattle.dfdl_scope.specs.declared.row.Form.TheVariants.{Number, NumberOrEmpty, NumberOrExpression, Alignment, Expression}
+use Rattle.dfdl_scope.specs.declared.row.Form.TheVariants.{Encoding, Number, NumberOrEmpty, NumberOrExpression, Alignment, Expression}
+use Rattle.dfdl_checks.specs.Encodings.{encoding_named}
 
 -- one of these words
 abbrev pub is_among : List (List ℕ) → List ℕ → Bool
@@ -30,6 +31,7 @@ number_within least most text = if is_within least most text then Some (digits_v
 
 -- a text has the form. Those whose form is left to what takes them, as literals and names, are taken as they are here
 abbrev pub has_form : Form → List ℕ → Bool
+has_form Encoding text = is_some (encoding_named text)
 has_form Number text = is_number text
 has_form NumberOrEmpty text = is_empty text || is_number text
 has_form NumberOrExpression text = is_number text

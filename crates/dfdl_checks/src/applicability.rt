@@ -5,19 +5,28 @@
 pub enum Bearers {
     EveryComponent,
     Elements,
-    /// Elements that are neither binary numbers nor binary booleans.
+    /// Elements that are neither boxed elements nor binary numbers nor binary booleans.
     OtherElements,
     SimpleElements,
     /// Simple elements but those of type string and hexBinary.
     RepresentedElements,
+    /// Elements whose content stands in a box: those of type string and hexBinary, and complex elements.
+    BoxedElements,
+    /// Elements of type string.
+    Strings,
     /// Simple elements of an integer or decimal type whose representation is binary.
     BinaryNumbers,
     /// Elements of type boolean whose representation is binary.
     BinaryBooleans,
-    /// Binary numbers of a type with more than 8 bits, and binary booleans.
-    WideBinaries,
+    /// Binary numbers of a type with more than 8 bits, and binary booleans; and each binary number whose least
+    /// significant bits come first.
+    OrderedBinaries,
     /// Binary numbers and booleans of lengthKind explicit.
     ExplicitBinaries,
+    /// Boxed elements of lengthKind explicit.
+    ExplicitBoxes,
+    /// Elements of type string and lengthKind implicit.
+    ImplicitStrings,
     /// Binary numbers of the representation packed, which have a sign behind their digits.
     PackedNumbers,
     /// Binary numbers of type decimal.

@@ -1,33 +1,40 @@
 // Which components a property applies to.
 ghost use Rattle.std.specs.Prelude.{◌≡◌};
-ghost use Rattle.dfdl_forms.specs.Binary.{most_bits};
-ghost use Rattle.dfdl_forms.specs.Types.{form_of};
 ghost use Rattle.dfdl_checks.specs.JudgedShown.{judged_of};
 ghost use Rattle.dfdl_checks.specs.Subjects as subjects;
-ghost use Rattle.dfdl_checks.specs.Applying.{is_bearer};
+ghost use Rattle.dfdl_checks.specs.Applying as applying;
 ghost use Rattle.dfdl_scope.specs.Scoping.{told};
 ghost use Rattle.dfdl_scope.specs.Shown.{chain_of};
 
 use crate::applicability::Bearers;
-use crate::subject::{Kind, Subject};
-use dfdl_forms::{Form, Simple};
+use crate::boxes::{is_explicit_box, is_implicit_string};
+use crate::kinds::{
+    is_boolean, is_boxed, is_choice, is_decimal, is_element, is_represented, is_sequence,
+    is_simple, is_string, number_bits, value_bits,
+};
+use crate::orders::is_least_first;
+use crate::subject::Subject;
 use dfdl_scope::{Asked, Component, literal, property};
 
 /// Whether a component is one of these.
 pub(crate) fn is_bearer(bearers: Bearers, subject: &Subject<'_, '_, '_>) -> bool
-    ensures { result ≡ is_bearer bearers (judged_of subject.now) }
+    ensures { result ≡ applying.is_bearer bearers (judged_of subject.now) }
 {
     let kind = subject.kind;
     match bearers {
         Bearers::EveryComponent => true,
         Bearers::Elements => is_element(kind),
-        Bearers::OtherElements => is_element(kind) && !is_binary(subject),
+        Bearers::OtherElements => is_element(kind) && !is_boxed(kind) && !is_binary(subject),
         Bearers::SimpleElements => is_simple(kind),
         Bearers::RepresentedElements => is_represented(kind),
+        Bearers::BoxedElements => is_boxed(kind),
+        Bearers::Strings => is_string(kind),
         Bearers::BinaryNumbers => is_binary_number(subject),
         Bearers::BinaryBooleans => is_binary_boolean(subject),
-        Bearers::WideBinaries => value_bits(kind) > 8 && is_binary(subject),
+        Bearers::OrderedBinaries => is_ordered_binary(subject),
         Bearers::ExplicitBinaries => is_explicit_binary(subject),
+        Bearers::ExplicitBoxes => is_explicit_box(subject),
+        Bearers::ImplicitStrings => is_implicit_string(subject),
         Bearers::PackedNumbers => is_packed(subject),
         Bearers::BinaryDecimals => is_decimal(kind) && is_binary_number(subject),
         Bearers::PatternElements => {
@@ -36,67 +43,6 @@ pub(crate) fn is_bearer(bearers: Bearers, subject: &Subject<'_, '_, '_>) -> bool
         Bearers::Groups => is_sequence(kind) || is_choice(kind),
         Bearers::Sequences => is_sequence(kind),
         Bearers::EmptySequences => is_sequence(kind) && subject.facts.is_empty,
-    }
-}
-
-/// Whether it is an element.
-pub(crate) fn is_element(kind: Kind) -> bool
-    ensures { result ≡ subjects.is_element kind }
-{
-    match kind {
-        Kind::ComplexElement | Kind::SimpleElement(_) | Kind::UncarriedElement => true,
-        Kind::Sequence | Kind::Choice => false,
-    }
-}
-
-/// Whether it is an element of a simple type.
-pub(crate) fn is_simple(kind: Kind) -> bool
-    ensures { result ≡ subjects.is_simple kind }
-{
-    match kind {
-        Kind::SimpleElement(_) | Kind::UncarriedElement => true,
-        Kind::ComplexElement | Kind::Sequence | Kind::Choice => false,
-    }
-}
-
-/// Whether it is a sequence.
-fn is_sequence(kind: Kind) -> bool
-    ensures { result ≡ subjects.is_sequence kind }
-{
-    match kind {
-        Kind::Sequence => true,
-        _ => false,
-    }
-}
-
-/// Whether it is a choice.
-pub(crate) fn is_choice(kind: Kind) -> bool
-    ensures { result ≡ subjects.is_choice kind }
-{
-    match kind {
-        Kind::Choice => true,
-        _ => false,
-    }
-}
-
-/// Whether it is a simple element that has a representation.
-fn is_represented(kind: Kind) -> bool
-    ensures { result ≡ subjects.is_represented kind }
-{
-    match kind {
-        Kind::SimpleElement(simple) => has_representation(simple.form()),
-        Kind::UncarriedElement => true,
-        _ => false,
-    }
-}
-
-/// Whether values of a form are written as text or in binary.
-fn has_representation(form: Form) -> bool
-    ensures { result ≡ subjects.has_representation form }
-{
-    match form {
-        Form::Signed { .. } | Form::Unsigned { .. } | Form::Fixed | Form::Truths => true,
-        Form::Characters | Form::Octets => false,
     }
 }
 
@@ -121,6 +67,13 @@ pub(crate) fn is_binary(subject: &Subject<'_, '_, '_>) -> bool
     value_bits(subject.kind) > 0 && is_word(subject.chain, "representation", "binary")
 }
 
+/// Whether it is a binary number or boolean whose bytes have an order.
+fn is_ordered_binary(subject: &Subject<'_, '_, '_>) -> bool
+    ensures { result ≡ applying.is_ordered_binary (judged_of subject.now) }
+{
+    is_binary(subject) && (value_bits(subject.kind) > 8 || is_least_first(subject))
+}
+
 /// Whether it is a binary number or boolean with a length of its own.
 pub(crate) fn is_explicit_binary(subject: &Subject<'_, '_, '_>) -> bool
     ensures { result ≡ subjects.is_explicit_binary (judged_of subject.now) }
@@ -133,89 +86,6 @@ pub(crate) fn is_packed(subject: &Subject<'_, '_, '_>) -> bool
     ensures { result ≡ subjects.is_packed (judged_of subject.now) }
 {
     is_binary_number(subject) && is_word(subject.chain, "binaryNumberRep", "packed")
-}
-
-/// Whether it is an element of type boolean.
-fn is_boolean(kind: Kind) -> bool
-    ensures { result ≡ subjects.is_boolean kind }
-{
-    match kind {
-        Kind::SimpleElement(simple) => is_truths(simple),
-        _ => false,
-    }
-}
-
-/// Whether values of a type are true and false.
-pub(crate) fn is_truths(simple: Simple) -> bool
-    ensures { result ≡ subjects.is_truths (form_of simple) }
-{
-    match simple.form() {
-        Form::Truths => true,
-        _ => false,
-    }
-}
-
-/// Whether it is an element of type decimal.
-fn is_decimal(kind: Kind) -> bool
-    ensures { result ≡ subjects.is_decimal kind }
-{
-    match kind {
-        Kind::SimpleElement(simple) => has_point(simple),
-        _ => false,
-    }
-}
-
-/// Whether values of a type have digits behind a point.
-pub(crate) fn has_point(simple: Simple) -> bool
-    ensures { result ≡ subjects.has_point (form_of simple) }
-{
-    match simple.form() {
-        Form::Fixed => true,
-        _ => false,
-    }
-}
-
-/// How many bits an element of an integer or decimal type has at most in binary, else 0.
-fn number_bits(kind: Kind) -> u32
-    ensures { result ≡ subjects.number_bits kind }
-{
-    match kind {
-        Kind::SimpleElement(simple) => most_bits(simple),
-        _ => 0,
-    }
-}
-
-/// How many bits a number of the type has at most in binary, 0 where it is no number.
-pub(crate) fn most_bits(simple: Simple) -> u32
-    ensures { result ≡ most_bits (form_of simple) }
-{
-    match simple.form() {
-        Form::Signed { bits } | Form::Unsigned { bits } => bits,
-        Form::Fixed => 128,
-        Form::Characters | Form::Truths | Form::Octets => 0,
-    }
-}
-
-/// How many bits a value of an element has at most in binary, 0 where it has no binary form.
-pub(crate) fn value_bits(kind: Kind) -> u32
-    ensures { result ≡ subjects.value_bits kind }
-{
-    match kind {
-        Kind::SimpleElement(simple) => binary_bits(simple),
-        _ => 0,
-    }
-}
-
-/// How many bits a value of the type has at most in binary, 0 where it has no binary form.
-pub(crate) fn binary_bits(simple: Simple) -> u32
-    ensures { result ≡ subjects.binary_bits (form_of simple) }
-{
-    match simple.form() {
-        Form::Signed { bits } | Form::Unsigned { bits } => bits,
-        Form::Fixed => 128,
-        Form::Truths => 32,
-        Form::Characters | Form::Octets => 0,
-    }
 }
 
 /// Whether what is told of a property stands for this word.

@@ -21,11 +21,7 @@ pub fn framing(subject: &Subject<'_, '_, '_>) -> Framing
 {
     match subject.purpose {
         Purpose::Parsing => fill_of(subject),
-        Purpose::Unparsing => Framing {
-            leading_skip: 0,
-            alignment: 1,
-            trailing_skip: 0,
-        },
+        Purpose::Unparsing => Framing::none(),
     }
 }
 

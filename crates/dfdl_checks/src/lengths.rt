@@ -34,7 +34,7 @@ pub(crate) fn constant_size(most: u32, chain: &Component<'_, '_>) -> Option<u32>
 }
 
 /// How many bits the units have that a chain gives.
-fn unit_bits(chain: &Component<'_, '_>) -> u32
+pub(crate) fn unit_bits(chain: &Component<'_, '_>) -> u32
     ensures unit { result ≡ lengths.unit_bits (told (chain_of chain.now) (codes "lengthUnits")) }
     ensures some { 1 ≤ result }
     ensures few { result ≤ 8 }

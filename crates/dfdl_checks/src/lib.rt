@@ -4,28 +4,37 @@
 //! A component comes as a `Subject`: what kind it is, what it states, and the chain that its properties are asked of.
 //! `breach` gives the first rule that it breaks; its contract cites `specs/Rules.antt`, and the table of the properties
 //! that apply to components is `specs/Table.antt`. `primitive` says how the values of a simple element without a breach
-//! lie in the data, by `specs/Numbers.antt`, and `framing` which fill stands around a component, by `specs/Framing.antt`.
-//! The chapters are 'Property Scoping and DFDL Schema Checking', 'Framing' and 'Simple Types'.
+//! lie in the data, by `specs/Numbers.antt` and `specs/Texts.antt`. `framing` says which fill stands around a component, by
+//! `specs/Framing.antt`, and `size_of_box` how long a complex element's box is, by `specs/Boxes.antt`. The chapters are
+//! 'Property Scoping and DFDL Schema Checking', 'Framing', 'Lengths' and 'Simple Types'.
 #![tactic(auto)]
 
 mod applicability;
 mod applying;
 mod booleans;
+mod boxes;
+mod encodings;
 mod fill;
 mod flaw;
 mod flaws;
+mod kinds;
 pub mod laws;
+mod length_rules;
 mod lengths;
 mod number;
+mod orders;
 mod packed;
 mod purpose;
 mod rules;
 mod subject;
 mod table;
+mod text;
 mod values;
 
+pub use boxes::size_of_box;
 pub use fill::framing;
 pub use number::primitive;
+pub use orders::bit_order;
 pub use purpose::Purpose;
 pub use rules::breach;
 pub use subject::{Breach, Facts, Kind, Subject};
@@ -33,4 +42,8 @@ pub use subject::{Breach, Facts, Kind, Subject};
 #[cfg(test)]
 mod binary_tests;
 #[cfg(test)]
+mod order_tests;
+#[cfg(test)]
 mod tests;
+#[cfg(test)]
+mod text_tests;

@@ -1,23 +1,24 @@
 // How the values of a simple element lie in the data.
-ghost use Rattle.std.specs.Prelude.{◌≡◌, None, IsTrue, IsSome, codes};
+ghost use Rattle.std.specs.Prelude.{◌≡◌, None, IsTrue, IsSome};
 ghost use Rattle.dfdl_checks.specs.JudgedShown.{judged_of};
 ghost use Rattle.dfdl_checks.specs.Numbers as numbers;
 ghost use Rattle.dfdl_checks.specs.Rules.{first_breach, rules};
 ghost use Rattle.dfdl_checks.specs.Subjects.{is_simple};
-ghost use Rattle.dfdl_scope.specs.Scoping.{told};
-ghost use Rattle.dfdl_scope.specs.Shown.{chain_of};
 ghost use Rattle.dfdl_scope.specs.Told.{told_by};
 
-use crate::applying::{has_point, is_truths, is_word, most_bits};
+use crate::applying::is_word;
 use crate::booleans::{falsity_told, truth_told};
+use crate::kinds::{has_point, is_characters, is_octets, is_truths, most_bits};
 use crate::lengths::constant_size;
+use crate::orders::{Orders, orders_of};
 use crate::packed::{codes_for, constant_nibbles, is_strict, rep_of};
 use crate::purpose::Purpose;
 use crate::rules::is_built_type;
 use crate::subject::{Kind, Subject};
+use crate::text::{octets_of, text_of};
 use crate::values::is_within;
-use dfdl_forms::{BitOrder, BitTruthForm, ByteOrder, IntForm, PackedForm, PackedRep, Simple};
-use dfdl_scope::{Asked, Component, literal, property};
+use dfdl_forms::{BitTruthForm, IntForm, PackedForm, PackedRep, Simple};
+use dfdl_scope::{Asked, literal, property};
 use dfdl_terms::Primitive;
 
 /// How the values of a component lie in the data, where they are of a type and of a size that are built:
@@ -56,6 +57,19 @@ fn of_type(simple: Simple, subject: &Subject<'_, '_, '_>) -> Option<Primitive>
 fn for_parsing(simple: Simple, subject: &Subject<'_, '_, '_>) -> Option<Primitive>
     ensures { result ≡ numbers.primitive_parsed (judged_of subject.now) simple }
 {
+    if is_characters(simple) {
+        return text_of(subject);
+    }
+    if is_octets(simple) {
+        return octets_of(subject);
+    }
+    binary_of_type(simple, subject)
+}
+
+/// The values of a component as those of the type, in binary.
+fn binary_of_type(simple: Simple, subject: &Subject<'_, '_, '_>) -> Option<Primitive>
+    ensures { result ≡ numbers.binary_of_type (judged_of subject.now) simple }
+{
     if is_truths(simple) {
         return truth_of(subject);
     }
@@ -71,26 +85,26 @@ fn number_of_type(simple: Simple, subject: &Subject<'_, '_, '_>) -> Option<Primi
 {
     number_by(
         simple,
-        byte_order(subject.chain),
+        orders_of(subject),
         field_bits(subject, most_bits(simple)),
         places_of(simple, property(subject.chain, "binaryDecimalVirtualPoint")),
     )
 }
 
-/// A number of the type, with so many bits and so many digits behind its point.
+/// A number of the type, in these orders, with so many bits and so many digits behind its point.
 fn number_by(
     simple: Simple,
-    order: ByteOrder,
+    orders: Orders,
     bits: Option<u32>,
     places: Option<u8>,
 ) -> Option<Primitive>
-    ensures { result ≡ numbers.number_by simple order bits places }
+    ensures { result ≡ numbers.number_by simple orders bits places }
 {
     match (bits, places) {
         (Some(bits), Some(point)) => Some(Primitive::Integer(IntForm {
             bits,
-            bytes_by: order,
-            bits_by: BitOrder::MostFirst,
+            bytes_by: orders.bytes_by,
+            bits_by: orders.bits_by,
             point,
             kind: simple,
         })),
@@ -109,7 +123,7 @@ fn packed_of_type(
     packed_by(
         simple,
         rep,
-        byte_order(subject.chain),
+        orders_of(subject),
         is_strict(rep, subject.chain),
         field_nibbles(rep, subject),
         codes_for(rep, property(subject.chain, "binaryPackedSignCodes")),
@@ -117,17 +131,17 @@ fn packed_of_type(
     )
 }
 
-/// A packed number, with so many nibbles, these sign codes and so many digits behind its point.
+/// A packed number, in these orders, with so many nibbles, these sign codes and so many digits behind its point.
 fn packed_by(
     simple: Simple,
     rep: PackedRep,
-    order: ByteOrder,
+    orders: Orders,
     strict: bool,
     nibbles: Option<u32>,
     codes: Option<[u8; 4]>,
     places: Option<u8>,
 ) -> Option<Primitive>
-    ensures { result ≡ numbers.packed_by simple rep order strict nibbles codes places }
+    ensures { result ≡ numbers.packed_by simple rep orders strict nibbles codes places }
 {
     match (nibbles, codes, places) {
         (Some(nibbles), Some(codes), Some(point)) => Some(Primitive::Packed(PackedForm {
@@ -137,8 +151,8 @@ fn packed_by(
             strict,
             point,
             kind: simple,
-            bytes_by: order,
-            bits_by: BitOrder::MostFirst,
+            bytes_by: orders.bytes_by,
+            bits_by: orders.bits_by,
         })),
         _ => None,
     }
@@ -160,42 +174,31 @@ fn truth_of(subject: &Subject<'_, '_, '_>) -> Option<Primitive>
     ensures { result ≡ numbers.truth_of (judged_of subject.now) }
 {
     truth_by(
-        byte_order(subject.chain),
+        orders_of(subject),
         field_bits(subject, 32),
         truth_told(property(subject.chain, "binaryBooleanTrueRep")),
         falsity_told(property(subject.chain, "binaryBooleanFalseRep")),
     )
 }
 
-/// A boolean with so many bits, a number of true, if there is one, and a number of false.
+/// A boolean in these orders, with so many bits, a number of true, if there is one, and a number of false.
 fn truth_by(
-    order: ByteOrder,
+    orders: Orders,
     bits: Option<u32>,
     truth: Option<Option<u32>>,
     falsity: Option<u32>,
 ) -> Option<Primitive>
-    ensures { result ≡ numbers.truth_by order bits truth falsity }
+    ensures { result ≡ numbers.truth_by orders bits truth falsity }
 {
     match (bits, truth, falsity) {
         (Some(bits), Some(truth), Some(falsity)) => Some(Primitive::Truth(BitTruthForm {
             bits,
-            bytes_by: order,
-            bits_by: BitOrder::MostFirst,
+            bytes_by: orders.bytes_by,
+            bits_by: orders.bits_by,
             truth,
             falsity,
         })),
         _ => None,
-    }
-}
-
-/// The order of bytes that a chain gives, big endian where it gives none.
-fn byte_order(chain: &Component<'_, '_>) -> ByteOrder
-    ensures { result ≡ numbers.byte_order (told (chain_of chain.now) (codes "byteOrder")) }
-{
-    if is_word(chain, "byteOrder", "littleEndian") {
-        ByteOrder::Little
-    } else {
-        ByteOrder::Big
     }
 }
 

@@ -3,15 +3,17 @@ ghost use Rattle.std.specs.Prelude.{◌≡◌, Some};
 ghost use Rattle.dfdl_checks.specs.JudgedShown.{judged_of};
 ghost use Rattle.dfdl_checks.specs.Rules as spec;
 
-use crate::applying::{
-    binary_bits, is_binary_boolean, is_binary_number, is_choice, is_element, is_explicit_binary,
-    is_packed, is_simple, is_word, value_bits,
-};
+use crate::applying::{is_binary_boolean, is_binary_number, is_packed, is_word};
 use crate::booleans::{falsity_told, truth_told};
 use crate::flaw::Flaw;
 use crate::flaws::has_flaw;
-use crate::lengths::{constant_size, has_constant_length};
-use crate::packed::{codes_told, constant_nibbles, rep_of};
+use crate::kinds::{is_choice, is_element, is_simple};
+use crate::length_rules::{
+    is_length_in_characters, is_length_kind_not_allowed, is_length_out_of_range,
+    is_max_length_missing,
+};
+use crate::orders::{bit_order, is_least_first, is_same_order};
+use crate::packed::codes_told;
 use crate::purpose::Purpose;
 use crate::subject::{Breach, Facts, Kind, Subject};
 use dfdl_forms::Simple;
@@ -45,6 +47,9 @@ pub fn breach(subject: &Subject<'_, '_, '_>) -> Option<Breach>
     if is_type_not_carried(subject.kind) {
         return told_here(SchemaCause::TypeNotCarried, subject);
     }
+    if is_max_length_missing(subject) {
+        return told_here(SchemaCause::MaxLengthMissing, subject);
+    }
     if is_length_kind_not_allowed(subject) {
         return told_here(SchemaCause::LengthKind, subject);
     }
@@ -53,6 +58,12 @@ pub fn breach(subject: &Subject<'_, '_, '_>) -> Option<Breach>
     }
     if is_length_out_of_range(subject) {
         return told_here(SchemaCause::ConstantLength, subject);
+    }
+    if are_orders_apart(subject) {
+        return told_here(SchemaCause::OrdersApart, subject);
+    }
+    if is_second_bit_order(subject) {
+        return told_here(SchemaCause::SecondBitOrder, subject);
     }
     if is_alignment_not_allowed(subject) {
         return told_here(SchemaCause::Alignment, subject);
@@ -109,7 +120,7 @@ pub(crate) fn is_built_type(purpose: Purpose, simple: Simple) -> bool
     ensures { result ≡ spec.is_built_type purpose simple }
 {
     match purpose {
-        Purpose::Parsing => binary_bits(simple) > 0,
+        Purpose::Parsing => true,
         Purpose::Unparsing => is_whole_type(simple),
     }
 }
@@ -142,83 +153,21 @@ fn is_type_not_carried(kind: Kind) -> bool
     }
 }
 
-/// Whether it is a binary number or boolean with a kind of length that it can't have.
-fn is_length_kind_not_allowed(subject: &Subject<'_, '_, '_>) -> bool
-    ensures { result ≡ spec.is_length_kind_not_allowed (judged_of subject.now) }
+/// Whether it is a binary number whose least significant bits come first, and its bytes in another order
+/// than little endian.
+fn are_orders_apart(subject: &Subject<'_, '_, '_>) -> bool
+    ensures { result ≡ spec.are_orders_apart (judged_of subject.now) }
 {
-    is_number_length_not_allowed(subject) || is_delimited_boolean(subject)
+    is_binary_number(subject)
+        && is_least_first(subject)
+        && !is_word(subject.chain, "byteOrder", "littleEndian")
 }
 
-/// Whether it is a binary number of delimited length, with a length by a pattern, or with the length
-/// of a type that has none.
-fn is_number_length_not_allowed(subject: &Subject<'_, '_, '_>) -> bool
-    ensures { result ≡ spec.is_number_length_not_allowed (judged_of subject.now) }
+/// Whether the order of bits isn't that of the schema's root.
+fn is_second_bit_order(subject: &Subject<'_, '_, '_>) -> bool
+    ensures { result ≡ spec.is_second_bit_order (judged_of subject.now) }
 {
-    is_binary_number(subject) && (is_length_by_content(subject) || is_length_without_size(subject))
-}
-
-/// Whether it is a binary boolean of delimited length.
-fn is_delimited_boolean(subject: &Subject<'_, '_, '_>) -> bool
-    ensures { result ≡ spec.is_delimited_boolean (judged_of subject.now) }
-{
-    is_binary_boolean(subject) && is_word(subject.chain, "lengthKind", "delimited")
-}
-
-/// Whether the length is delimited or by a pattern.
-fn is_length_by_content(subject: &Subject<'_, '_, '_>) -> bool
-    ensures { result ≡ spec.is_length_by_content (judged_of subject.now) }
-{
-    is_word(subject.chain, "lengthKind", "delimited")
-        || is_word(subject.chain, "lengthKind", "pattern")
-}
-
-/// Whether the length is that of the type, and the type has none or the number is packed.
-fn is_length_without_size(subject: &Subject<'_, '_, '_>) -> bool
-    ensures { result ≡ spec.is_length_without_size (judged_of subject.now) }
-{
-    (is_unsized(subject.kind) || rep_of(subject).is_some())
-        && is_word(subject.chain, "lengthKind", "implicit")
-}
-
-/// Whether numbers of an element's type have no size of their own.
-fn is_unsized(kind: Kind) -> bool
-    ensures { result ≡ spec.is_unsized kind }
-{
-    match kind {
-        Kind::SimpleElement(Simple::Integer | Simple::NonNegativeInteger | Simple::Decimal) => true,
-        _ => false,
-    }
-}
-
-/// Whether it is a binary number or boolean whose length is counted in characters.
-fn is_length_in_characters(subject: &Subject<'_, '_, '_>) -> bool
-    ensures { result ≡ spec.is_length_in_characters (judged_of subject.now) }
-{
-    is_explicit_binary(subject) && is_word(subject.chain, "lengthUnits", "characters")
-}
-
-/// Whether it is a binary number or boolean with a constant length that its field can't have.
-fn is_length_out_of_range(subject: &Subject<'_, '_, '_>) -> bool
-    ensures { result ≡ spec.is_length_out_of_range (judged_of subject.now) }
-{
-    is_explicit_binary(subject) && is_no_size(subject)
-}
-
-/// Whether the length is constant, and the component's field can't have it.
-fn is_no_size(subject: &Subject<'_, '_, '_>) -> bool
-    ensures { result ≡ spec.is_no_size (judged_of subject.now) }
-{
-    has_constant_length(subject.chain) && !has_size(subject)
-}
-
-/// Whether the length is constant, and the component's field can have it.
-fn has_size(subject: &Subject<'_, '_, '_>) -> bool
-    ensures { result ≡ spec.has_size (judged_of subject.now) }
-{
-    match rep_of(subject) {
-        Some(rep) => constant_nibbles(rep, subject.chain).is_some(),
-        None => constant_size(value_bits(subject.kind), subject.chain).is_some(),
-    }
+    !is_same_order(bit_order(subject.chain), subject.root_bits_by)
 }
 
 /// Whether the alignment of what is no simple element is implicit.

@@ -1,6 +1,6 @@
 // A component as the rules see it.
 use crate::purpose::Purpose;
-use dfdl_forms::Simple;
+use dfdl_forms::{BitOrder, Simple};
 use dfdl_report::{Place, SchemaCause};
 use dfdl_scope::Component;
 
@@ -30,6 +30,9 @@ pub struct Facts {
     pub has_statements: bool,
     /// Of a sequence or a choice: nothing is in it.
     pub is_empty: bool,
+    /// Of an element of a simple type: the greatest length of its values, where the type has one; a number past 64 bits is the
+    /// greatest of these.
+    pub max_length: Option<u64>,
 }
 
 /// A component of a schema, with what the rules ask of it.
@@ -43,6 +46,8 @@ pub struct Subject<'s, 'e, 'c> {
     /// What its properties are asked of.
     pub chain: &'s Component<'e, 'c>,
     pub facts: Facts,
+    /// The order of bits of the schema's root.
+    pub root_bits_by: BitOrder,
 }
 
 /// A rule that a component breaks, by its cause, and where that is told.

@@ -13,7 +13,7 @@ pub(crate) fn applicabilities() -> &'static [Applicability]
     &APPLICABILITIES
 }
 
-static APPLICABILITIES: [Applicability; 30] = [
+static APPLICABILITIES: [Applicability; 41] = [
     Applicability {
         name: "representation",
         bearers: Bearers::RepresentedElements,
@@ -21,21 +21,39 @@ static APPLICABILITIES: [Applicability; 30] = [
         unparsing: Built::Words(&["binary"]),
     },
     Applicability {
+        name: "encoding",
+        bearers: Bearers::Strings,
+        parsing: Built::EveryValue,
+        unparsing: Built::EveryValue,
+    },
+    Applicability {
+        name: "encodingErrorPolicy",
+        bearers: Bearers::Strings,
+        parsing: Built::EveryValue,
+        unparsing: Built::EveryValue,
+    },
+    Applicability {
         name: "byteOrder",
-        bearers: Bearers::WideBinaries,
+        bearers: Bearers::OrderedBinaries,
         parsing: Built::EveryValue,
         unparsing: Built::EveryValue,
     },
     Applicability {
         name: "bitOrder",
         bearers: Bearers::EveryComponent,
-        parsing: Built::Words(&["mostSignificantBitFirst"]),
+        parsing: Built::EveryValue,
         unparsing: Built::Words(&["mostSignificantBitFirst"]),
     },
     Applicability {
         name: "lengthKind",
         bearers: Bearers::OtherElements,
         parsing: Built::Words(&["implicit"]),
+        unparsing: Built::Words(&["implicit"]),
+    },
+    Applicability {
+        name: "lengthKind",
+        bearers: Bearers::BoxedElements,
+        parsing: Built::Words(&["implicit", "explicit"]),
         unparsing: Built::Words(&["implicit"]),
     },
     Applicability {
@@ -57,8 +75,26 @@ static APPLICABILITIES: [Applicability; 30] = [
         unparsing: Built::EachNumber,
     },
     Applicability {
+        name: "length",
+        bearers: Bearers::ExplicitBoxes,
+        parsing: Built::EachNumber,
+        unparsing: Built::EachNumber,
+    },
+    Applicability {
         name: "lengthUnits",
         bearers: Bearers::ExplicitBinaries,
+        parsing: Built::EveryValue,
+        unparsing: Built::EveryValue,
+    },
+    Applicability {
+        name: "lengthUnits",
+        bearers: Bearers::ExplicitBoxes,
+        parsing: Built::EveryValue,
+        unparsing: Built::EveryValue,
+    },
+    Applicability {
+        name: "lengthUnits",
+        bearers: Bearers::ImplicitStrings,
         parsing: Built::EveryValue,
         unparsing: Built::EveryValue,
     },
@@ -133,6 +169,36 @@ static APPLICABILITIES: [Applicability; 30] = [
         bearers: Bearers::EmptySequences,
         parsing: Built::NoValue,
         unparsing: Built::NoValue,
+    },
+    Applicability {
+        name: "textTrimKind",
+        bearers: Bearers::Strings,
+        parsing: Built::Words(&["none"]),
+        unparsing: Built::Words(&["none"]),
+    },
+    Applicability {
+        name: "textPadKind",
+        bearers: Bearers::Strings,
+        parsing: Built::Words(&["none"]),
+        unparsing: Built::Words(&["none"]),
+    },
+    Applicability {
+        name: "textStringJustification",
+        bearers: Bearers::Strings,
+        parsing: Built::EveryValue,
+        unparsing: Built::EveryValue,
+    },
+    Applicability {
+        name: "truncateSpecifiedLengthString",
+        bearers: Bearers::Strings,
+        parsing: Built::EveryValue,
+        unparsing: Built::EveryValue,
+    },
+    Applicability {
+        name: "escapeSchemeRef",
+        bearers: Bearers::Strings,
+        parsing: Built::Words(&[""]),
+        unparsing: Built::Words(&[""]),
     },
     Applicability {
         name: "binaryBooleanTrueRep",

@@ -1,5 +1,5 @@
 // The first breach at a component, by its kind, its chain and what it states.
-use super::{Facts, Kind, Purpose, Subject, breach, framing, primitive};
+use super::{Facts, Kind, Purpose, Subject, breach, framing, primitive, size_of_box};
 use dfdl_forms::{BitOrder, ByteOrder, IntForm, Simple};
 use dfdl_report::Place;
 use dfdl_scope::{Component, Element, Format, Properties};
@@ -9,15 +9,16 @@ use std::process::Abort;
 use std::test::Fail;
 
 /// What stands at a plain component.
-const PLAIN: Facts = Facts {
+pub(crate) const PLAIN: Facts = Facts {
     occurs_once: true,
     is_nillable: false,
     has_default: false,
     has_statements: false,
     is_empty: false,
+    max_length: None,
 };
 
-const BYTE: Kind = Kind::SimpleElement(Simple::UnsignedByte);
+pub(crate) const BYTE: Kind = Kind::SimpleElement(Simple::UnsignedByte);
 
 pub(crate) const SHORT: Kind = Kind::SimpleElement(Simple::UnsignedShort);
 
@@ -85,7 +86,7 @@ const TYPES: [Judged; 11] = [
     (BOOLEAN, "byteOrder", "bigEndian", 0),
     (BOOLEAN, "representation", "text", 3),
     (Kind::ComplexElement, "alignment", "implicit", 24),
-    (Kind::SimpleElement(Simple::String), "alignment", "1", 3),
+    (Kind::SimpleElement(Simple::String), "alignment", "1", 7),
     (BYTE, "fillByte", "x", 3),
 ];
 
@@ -178,12 +179,13 @@ pub(crate) fn explicit(
 }
 
 /// What is told of a component: the number of its first breach, 0 where there is none, how its values lie
-/// in the data, and the fill around its content.
+/// in the data, the fill around its content, and the bits of its box.
 #[derive(Drop)]
 pub(crate) struct Told {
     pub(crate) number: u8,
     pub(crate) primitive: Option<Primitive>,
     pub(crate) framing: Framing,
+    pub(crate) size: Option<u64>,
 }
 
 /// What is told of a component with properties of its own, over those of integers.
@@ -191,6 +193,29 @@ pub(crate) fn told_of(
     alloc: Global,
     purpose: Purpose,
     kind: Kind,
+    own: &Properties<'static>,
+) -> Result<Told, AllocError> {
+    told_with(alloc, purpose, kind, PLAIN, own)
+}
+
+/// The same of a component that states this.
+pub(crate) fn told_with(
+    alloc: Global,
+    purpose: Purpose,
+    kind: Kind,
+    facts: Facts,
+    own: &Properties<'static>,
+) -> Result<Told, AllocError> {
+    told_below(alloc, purpose, kind, facts, BitOrder::MostFirst, own)
+}
+
+/// The same of a component of a schema whose root has this order of bits.
+pub(crate) fn told_below(
+    alloc: Global,
+    purpose: Purpose,
+    kind: Kind,
+    facts: Facts,
+    root_bits_by: BitOrder,
     own: &Properties<'static>,
 ) -> Result<Told, AllocError> {
     let format = Format::new(integers(alloc)?);
@@ -207,7 +232,8 @@ pub(crate) fn told_of(
         kind,
         place: at(40),
         chain: &chain,
-        facts: PLAIN,
+        facts,
+        root_bits_by,
     };
     let number = match breach(&subject) {
         Some(breach) => breach.cause.number(),
@@ -217,6 +243,7 @@ pub(crate) fn told_of(
         number,
         primitive: primitive(&subject),
         framing: framing(&subject),
+        size: size_of_box(&subject),
     })
 }
 
@@ -303,6 +330,7 @@ fn a_property_given_twice_is_told_where_it_is_given_first(rt: HostRuntime) -> Re
         place: at(40),
         chain: &chain,
         facts: PLAIN,
+        root_bits_by: BitOrder::MostFirst,
     });
     assert!(rt; told.map(|breach| breach.cause.number()) == Some(6));
     assert!(rt; told.map(|breach| breach.place) == Some(at(8)));

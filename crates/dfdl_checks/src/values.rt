@@ -4,6 +4,7 @@ ghost use Rattle.std.specs.Str.{all_ascii_digits};
 ghost use Rattle.dfdl_checks.specs.Values as values;
 ghost use Rattle.dfdl_scope.specs.TableShown.{values_shown};
 
+use crate::encodings::encoding_named;
 use dfdl_scope::{Form, Values, is_expression, literal};
 
 /// Whether what is written is a value.
@@ -54,6 +55,7 @@ fn has_form(form: Form, text: &str) -> bool
     ensures { result ≡ values.has_form form text.now }
 {
     match form {
+        Form::Encoding => encoding_named(text).is_some(),
         Form::Number => is_number(text),
         Form::NumberOrEmpty => text.is_empty() || is_number(text),
         Form::NumberOrExpression => is_number(text),

@@ -1,5 +1,5 @@
 -- What rows and faults say of a schema.
-use Rattle.std.proofs.Common.{◌≡◌, ℕ, zero, suc, ◌+◌, ◌<◌, ◌≤◌, List, [], ◌∷◌, length, map, All, Option, Some, None, Result, Ok, Err, Bool, true, false, nat_lt, if◌then◌else◌, ap, sym, subst, ◌∙◌, refl, arith}
+use Rattle.std.proofs.Common.{◌≡◌, ℕ, ◌<◌, List, length, Some, None, Result, Ok, Err, Bool, if◌then◌else◌, ap, sym, subst, ◌∙◌, arith}
 use Rattle.std.proofs.lemmas.Bool.{le-ltb, lt-ltb}
 use Rattle.dfdl_report.specs.declared.cause.LimitCause.{LimitCause}
 use Rattle.dfdl_report.specs.declared.cause.LimitCause.TheVariants as limit
@@ -11,7 +11,6 @@ use Rattle.dfdl_rows.specs.Depths.{depth_of}
 use Rattle.dfdl_rows.specs.Refusals.{first_refusal}
 use Rattle.dfdl_rows.specs.RowLists.{rows_of}
 use Rattle.dfdl_rows.specs.Sizes.{size_of}
-use Rattle.dfdl_rows.specs.declared.refusal.Refusal.{Refusal}
 use Rattle.dfdl_rows.specs.declared.fault.RowsFault.{RowsFault}
 use Rattle.dfdl_rows.specs.declared.fault.RowsFault.TheVariants as rows
 use Rattle.dfdl_rows.specs.Answers.{asked}

@@ -1,18 +1,17 @@
 -- The components of documents are those of one schema.
-use Rattle.std.proofs.Common.{◌≡◌, ℕ, zero, suc, ◌+◌, ◌<◌, ◌≤◌, List, [], ◌∷◌, ◌++◌, length, map, get_or, All, Option, Some, None, ap, sym, subst, ◌∙◌, refl, arith}
+use Rattle.std.proofs.Common.{◌≡◌, ℕ, zero, suc, ◌<◌, ◌≤◌, List, [], ◌∷◌, length, map, get_or, All, Option, Some, None, ap, sym, subst, ◌∙◌, refl, arith}
 use Rattle.std.proofs.lemmas.List.{length-map}
 use Rattle.std.proofs.lemmas.List.Elements.{All-nil, All-append, All-push, All-cons}
 use Rattle.dfdl_constructs.specs.declared.role.Role.{Role}
 use Rattle.dfdl_constructs.specs.declared.role.Role.TheVariants as role
 use Rattle.dfdl_documents.specs.Documents.{SchemaDocument}
-use Rattle.dfdl_order.specs.Parts.{IsClosed, uses_of}
+use Rattle.dfdl_order.specs.Parts.{IsClosed}
 use Rattle.dfdl_components.specs.declared.kind.ComponentKind.TheVariants as names
 use Rattle.dfdl_components.specs.declared.site.Site.{Site}
 use Rattle.dfdl_components.specs.Globals.{site}
 use Rattle.dfdl_components.specs.Sites.{IsSite, nodes_of, role_of}
 use Rattle.dfdl_components.specs.Recursion.{count_of, number_of}
 use Rattle.dfdl_checks.specs.declared.purpose.Purpose.{Purpose}
-use Rattle.dfdl_checks.specs.declared.subject.Kind.{Kind}
 use Rattle.dfdl_chains.specs.declared.typed.Typed.{Typed}
 use Rattle.dfdl_chains.specs.declared.typed.Typed.TheVariants.{Carried, NotCarried, Defined}
 use Rattle.dfdl_chains.specs.Chains.{listed}
@@ -25,8 +24,8 @@ use Rattle.dfdl_chains.proofs.Numbering.{number_below, length_all}
 use Rattle.dfdl_chains.proofs.Within.{parts_are_within}
 use Rattle.dfdl_breaches.specs.Judging.{judgement_at}
 use Rattle.dfdl_compile.specs.Primitives.{primitive_by}
-use Rattle.dfdl_rows.specs.Components.{Schema, AreOfOne, CanHave, component_at as part_at}
-use Rattle.dfdl_rows.specs.Fill.{no_fill}
+use Rattle.dfdl_rows.specs.Components.{Schema, AreOfOne, CanHave}
+use Rattle.dfdl_terms.specs.Framing.{no_fill}
 use Rattle.dfdl_rows.specs.declared.component.Component.{Component}
 use Rattle.dfdl_rows.specs.declared.component.Component.TheVariants.{Sequence}
 use Rattle.dfdl_rows.specs.declared.refusal.Refusal.{Refusal}
@@ -93,16 +92,16 @@ module _ (purpose : Purpose) (documents : List SchemaDocument) (own : Site) wher
   abbrev pub made : Role → Component
   made role.GroupReference = reference_by (judgement_at purpose documents own).framing (referred documents own names.Group)
   made r = component_by (element_name documents own) (primitive_by (judgement_at purpose documents own)) (number_of documents own)
-      (judgement_at purpose documents own).framing (kind_by documents own r)
+      (judgement_at purpose documents own).framing (judgement_at purpose documents own).size (kind_by documents own r)
 
   pub made_is : (r : Role) → r ≡ role_of documents own → component_of documents own (judgement_at purpose documents own) r ≡ made r
   unfolding kind_at
   made_is role.GroupReference is = refl
   made_is r is = ap (λ (q : Role). component_by (element_name documents own) (primitive_by (judgement_at purpose documents own)) (number_of documents own)
-      (judgement_at purpose documents own).framing (kind_by documents own q)) (sym is)
+      (judgement_at purpose documents own).framing (judgement_at purpose documents own).size (kind_by documents own q)) (sym is)
 
   typed_fits : (t : Typed) → CanHave (component_by (element_name documents own) (primitive_by (judgement_at purpose documents own)) (number_of documents own)
-      (judgement_at purpose documents own).framing (kind_of_type t)) (map (number_of documents) (contents documents t))
+      (judgement_at purpose documents own).framing (judgement_at purpose documents own).size (kind_of_type t)) (map (number_of documents) (contents documents t))
   typed_fits (Carried simple) = refl
   typed_fits NotCarried = refl
   typed_fits (Defined type) = refl

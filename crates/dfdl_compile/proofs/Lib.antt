@@ -1,5 +1,4 @@
 mod Fitting
 mod Searches
-mod Roots
 mod Ending
 mod Taken

@@ -1,5 +1,5 @@
 -- Each simple element is read by a primitive of its type, and the last row is the root's.
-use Rattle.std.proofs.Common.{◌≡◌, ℕ, ◌<◌, ◌-◌, Bool, true, false, List, length, map, slice_get, get_or, All, Option, None, Some, option_map, unwrap_or, ap, sym, subst, ◌∙◌, refl, arith, if◌then◌else◌}
+use Rattle.std.proofs.Common.{◌≡◌, ℕ, ◌<◌, Bool, true, false, List, length, map, slice_get, get_or, All, Option, None, Some, option_map, unwrap_or, ap, sym, subst, ◌∙◌, refl, arith, if◌then◌else◌}
 use Rattle.std.proofs.lemmas.List.{length-map}
 use Rattle.std.proofs.lemmas.Option.{slice_get-map, slice_get-get_or, slice_get_within}
 use Rattle.dfdl_forms.specs.declared.simple.Simple.{Simple}
@@ -25,22 +25,24 @@ use Rattle.dfdl_chains.specs.Everywhere.{all_sites, for_each}
 use Rattle.dfdl_chains.specs.Kinds.{kind_at, kind_of_type}
 use Rattle.dfdl_chains.specs.Parts.{is_component}
 use Rattle.dfdl_chains.proofs.Numbering.{number_below, length_all}
-use Rattle.dfdl_breaches.specs.Judging.{breach_at, primitive_at as judged, framing_at, judgement_at, no_judgement}
+use Rattle.dfdl_breaches.specs.Judging.{breach_at, primitive_at as judged, framing_at, judgement_at, no_judgement, size_at}
 use Rattle.dfdl_breaches.specs.declared.judgement.Judgement.{Judgement}
 use Rattle.dfdl_breaches.proofs.Numbering.{value-at}
 use Rattle.dfdl_terms.specs.Leaves.{ReadsBy, leaf, grouped}
+use Rattle.dfdl_terms.specs.Framing.{no_fill}
 use Rattle.dfdl_terms.specs.declared.framing.Framing.{Framing}
 use Rattle.dfdl_terms.specs.Rows.{HasElementLast, IsElementRow, IsPrimitive, Table}
 use Rattle.dfdl_terms.specs.declared.row.Primitive.{Primitive}
 use Rattle.dfdl_terms.specs.declared.row.Row.{Row}
-use Rattle.dfdl_terms.specs.declared.row.Row.TheVariants.{Leaf, Elem, Group, Skip, Align}
+use Rattle.dfdl_terms.specs.declared.row.Row.TheVariants.{Leaf, Elem, Group, Skip, Align, Boxed}
 use Rattle.dfdl_rows.specs.Answers.{EndsWith}
-use Rattle.dfdl_rows.specs.Components.{Schema, HasPrimitive, IsUnframed, component_at as part_at}
-use Rattle.dfdl_rows.specs.Fill.{has_fill, no_fill}
+use Rattle.dfdl_rows.specs.Components.{Schema, HasPrimitive, IsBareComponent, component_at as part_at}
+use Rattle.dfdl_rows.specs.Fill.{has_fill}
 use Rattle.dfdl_rows.specs.Leaves.{HaveLeaves, HaveBareLeaves, IsAmong, IsLeafOf}
 use Rattle.dfdl_rows.specs.declared.component.Component.{Component}
 use Rattle.dfdl_rows.specs.declared.component.Component.TheVariants.{Sequence, SimpleElement}
-use Rattle.dfdl_compile.specs.Components.{component_by, reference_by, component_of, component_at, components_of, element_name, is_global_element, primitive_at, primitives_of}
+use Rattle.dfdl_breaches.specs.Roots.{is_global_element}
+use Rattle.dfdl_compile.specs.Components.{component_by, reference_by, component_of, component_at, components_of, element_name, primitive_at, primitives_of}
 use Rattle.dfdl_compile.specs.Primitives.{HasTypedLeaves, HasBareTypedLeaves, IsLeafOfType, IsOfType, a_byte, primitive_by}
 use Rattle.dfdl_compile.proofs.Fitting.{all_within, each, made, made_is, twice}
 
@@ -51,7 +53,7 @@ module _ (P : Primitive → Type 0) (byte : P a_byte) (purpose : Purpose) (docum
   by_some own (Some p) holds = holds p refl
 
   by_component : (own : Site) (b : Bool) → ((p : Primitive) → judged purpose documents own ≡ Some p → P p)
-      → P (primitive_by (if b then record { breach = breach_at purpose documents own; primitive = judged purpose documents own; framing = framing_at purpose documents own } else no_judgement))
+      → P (primitive_by (if b then record { breach = breach_at purpose documents own; primitive = judged purpose documents own; framing = framing_at purpose documents own; size = size_at purpose documents own } else no_judgement))
   by_component own true holds = by_some own (judged purpose documents own) holds
   by_component own false holds = byte
 
@@ -102,7 +104,8 @@ module _ (purpose : Purpose) (documents : List SchemaDocument) where
       by_group (Some group) = tt
 
       by_kind : (k : Kind) → HasPrimitive (count_of documents)
-          (component_by (element_name documents own) (primitive_at purpose documents own) (number_of documents own) (judgement_at purpose documents own).framing k)
+          (component_by (element_name documents own) (primitive_at purpose documents own) (number_of documents own) (judgement_at purpose documents own).framing
+          (judgement_at purpose documents own).size k)
       by_kind kind.ComplexElement = tt
       by_kind (kind.SimpleElement simple) = number_below documents own within
       by_kind kind.UncarriedElement = number_below documents own within
@@ -135,7 +138,8 @@ module _ (purpose : Purpose) (documents : List SchemaDocument) where
       by_group (Some group) is = absurd (cc)
 
       by_kind : (k : Kind)
-          → component_by (element_name documents own) (primitive_at purpose documents own) (number_of documents own) (judgement_at purpose documents own).framing k
+          → component_by (element_name documents own) (primitive_at purpose documents own) (number_of documents own) (judgement_at purpose documents own).framing
+          (judgement_at purpose documents own).size k
           ≡ SimpleElement name simple prim framing
           → (type_of (primitive_at purpose documents own) ≡ simple) × (number_of documents own ≡ prim)
       by_kind kind.ComplexElement is = absurd (cc)
@@ -184,6 +188,7 @@ module _ (purpose : Purpose) (documents : List SchemaDocument) where
   leaf_typed simple (Some (Group children)) one = absurd one
   leaf_typed simple (Some (Skip bits)) one = absurd one
   leaf_typed simple (Some (Align bits)) one = absurd one
+  leaf_typed simple (Some (Boxed bits inside)) one = absurd one
   leaf_typed simple None one = absurd one
 
   -- what the body of a simple element reads has the element's type
@@ -210,48 +215,56 @@ module _ (purpose : Purpose) (documents : List SchemaDocument) where
       (leaf_typed simple (slice_get t.rows body)
       (subst (λ (s : Schema). IsLeafOf s.components simple (slice_get t.rows body)) schema_is (leaves row name simple body is)))
 
--- no component has fill for unparsing
+-- no component has fill or a box for unparsing
 module _ (documents : List SchemaDocument) where
-  unframed_by : (own : Site) (b : Bool)
-      → has_fill (if b then record { breach = breach_at Unparsing documents own; primitive = judged Unparsing documents own; framing = framing_at Unparsing documents own } else no_judgement).framing ≡ false
-  unframed_by own true = refl
-  unframed_by own false = refl
+  bare_by : (own : Site) (b : Bool) → let told = if b then record {
+    breach = breach_at Unparsing documents own;
+    primitive = judged Unparsing documents own;
+    framing = framing_at Unparsing documents own;
+    size = size_at Unparsing documents own;
+  } else no_judgement in (has_fill told.framing ≡ false) × (told.size ≡ None)
+  bare_by own true = (refl, refl)
+  bare_by own false = (refl, refl)
 
-  unframed_judgement : (own : Site) → has_fill (judgement_at Unparsing documents own).framing ≡ false
+  bare_judgement : (own : Site) → (has_fill (judgement_at Unparsing documents own).framing ≡ false) × ((judgement_at Unparsing documents own).size ≡ None)
   unfolding judgement_at
-  unframed_judgement own = unframed_by own (is_component (role_of documents own))
+  bare_judgement own = bare_by own (is_component (role_of documents own))
 
-  unframed_component : (own : Site) → IsUnframed (component_at Unparsing documents own)
-  unframed_component own = by_role (role_of documents own)
+  -- without fill, and with a box only where the judgement has one
+  bare_component : (own : Site) → IsBareComponent (component_at Unparsing documents own)
+  bare_component own = by_role (role_of documents own)
     where
-      by_group : (o : Option Site) → IsUnframed (reference_by (judgement_at Unparsing documents own).framing o)
-      by_group None = unframed_judgement own
-      by_group (Some group) = unframed_judgement own
+      unfilled : has_fill (judgement_at Unparsing documents own).framing ≡ false
+      unfilled = (bare_judgement own).0
 
-      by_kind : (k : Kind) → IsUnframed (component_by (element_name documents own) (primitive_at Unparsing documents own) (number_of documents own)
-          (judgement_at Unparsing documents own).framing k)
-      by_kind kind.ComplexElement = unframed_judgement own
-      by_kind (kind.SimpleElement simple) = unframed_judgement own
-      by_kind kind.UncarriedElement = unframed_judgement own
-      by_kind kind.Sequence = unframed_judgement own
-      by_kind kind.Choice = unframed_judgement own
+      by_group : (o : Option Site) → IsBareComponent (reference_by (judgement_at Unparsing documents own).framing o)
+      by_group None = record { unfilled = unfilled; unboxed = refl }
+      by_group (Some group) = record { unfilled = unfilled; unboxed = refl }
 
-      by_role : (r : Role) → IsUnframed (component_of documents own (judgement_at Unparsing documents own) r)
+      by_kind : (k : Kind) → IsBareComponent (component_by (element_name documents own) (primitive_at Unparsing documents own) (number_of documents own)
+          (judgement_at Unparsing documents own).framing (judgement_at Unparsing documents own).size k)
+      by_kind kind.ComplexElement = record { unfilled = unfilled; unboxed = (bare_judgement own).1 }
+      by_kind (kind.SimpleElement simple) = record { unfilled = unfilled; unboxed = refl }
+      by_kind kind.UncarriedElement = record { unfilled = unfilled; unboxed = refl }
+      by_kind kind.Sequence = record { unfilled = unfilled; unboxed = refl }
+      by_kind kind.Choice = record { unfilled = unfilled; unboxed = refl }
+
+      by_role : (r : Role) → IsBareComponent (component_of documents own (judgement_at Unparsing documents own) r)
       by_role role.GroupReference = by_group (referred documents own names.Group)
       by_role _ = by_kind (kind_at documents own)
 
-  pub unframed_components : (purpose : Purpose) (schema : Schema) → purpose ≡ Unparsing → schema ≡ components_of purpose documents → All IsUnframed schema.components
+  pub bare_components : (purpose : Purpose) (schema : Schema) → purpose ≡ Unparsing → schema ≡ components_of purpose documents → All IsBareComponent schema.components
   unfolding components_of
-  unframed_components purpose schema unparsing schema_is =
-      subst (λ (s : Schema). All IsUnframed s.components) (sym (schema_is ∙ ap (λ (q : Purpose). components_of q documents) unparsing))
-      (each (IsSite documents) IsUnframed (component_at Unparsing documents) (λ own within. unframed_component own) (all_sites documents) (all_within documents))
+  bare_components purpose schema unparsing schema_is =
+      subst (λ (s : Schema). All IsBareComponent s.components) (sym (schema_is ∙ ap (λ (q : Purpose). components_of q documents) unparsing))
+      (each (IsSite documents) IsBareComponent (component_at Unparsing documents) (λ own within. bare_component own) (all_sites documents) (all_within documents))
 
 -- the row of an element of a type is an element
-typed_last : (t : Table) (name : List ℕ) (primitive : Primitive) (number : ℕ) (framing : Framing) (typed : Typed)
-    → EndsWith (component_by name primitive number framing (kind_of_type typed)) t.rows → HasElementLast t
-typed_last t name primitive number framing (Carried simple) ends = subst IsElementRow (sym ends) tt
-typed_last t name primitive number framing NotCarried ends = subst IsElementRow (sym ends) tt
-typed_last t name primitive number framing (Defined own) ends = subst IsElementRow (sym ends) tt
+typed_last : (t : Table) (name : List ℕ) (primitive : Primitive) (number : ℕ) (framing : Framing) (size : Option ℕ) (typed : Typed)
+    → EndsWith (component_by name primitive number framing size (kind_of_type typed)) t.rows → HasElementLast t
+typed_last t name primitive number framing size (Carried simple) ends = subst IsElementRow (sym ends) tt
+typed_last t name primitive number framing size NotCarried ends = subst IsElementRow (sym ends) tt
+typed_last t name primitive number framing size (Defined own) ends = subst IsElementRow (sym ends) tt
 
 global_role : (r : Role) → is_global_element r ≡ true → r ≡ role.GlobalElement
 global_role role.GlobalElement is = refl
@@ -261,7 +274,7 @@ global_role _ is = absurd (cc)
 global_is : (purpose : Purpose) (documents : List SchemaDocument) (own : Site) → is_global_element (role_of documents own) ≡ true
     → component_at purpose documents own
     ≡ component_by (element_name documents own) (primitive_at purpose documents own) (number_of documents own)
-    (judgement_at purpose documents own).framing (kind_of_type (element_type documents own))
+    (judgement_at purpose documents own).framing (judgement_at purpose documents own).size (kind_of_type (element_type documents own))
 global_is purpose documents own global =
     let is : role_of documents own ≡ role.GlobalElement = global_role (role_of documents own) global in
     made_is purpose documents own (role_of documents own) refl
@@ -280,7 +293,7 @@ pub root_element : (purpose : Purpose) (documents : List SchemaDocument) (root :
     → EndsWith (part_at schema.components number) t.rows → HasElementLast t
 root_element purpose documents root schema number t schema_is number_is within global ends =
     typed_last t (element_name documents root) (primitive_at purpose documents root) (number_of documents root)
-    (judgement_at purpose documents root).framing (element_type documents root)
+    (judgement_at purpose documents root).framing (judgement_at purpose documents root).size (element_type documents root)
     (subst (λ (k : Component). EndsWith k t.rows)
     (ap (λ (s : Schema). part_at s.components number) schema_is
     ∙ (ap (λ (n : ℕ). part_at (components_of purpose documents).components n) number_is

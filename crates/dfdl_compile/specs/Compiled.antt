@@ -1,5 +1,5 @@
 -- THE meaning of a schema: its rows, or why it has none.
-use Rattle.std.specs.Prelude.{ℕ, List, nat_lt, length, Option, None, Some, Result, Ok, Err, true, if◌then◌else◌}
+use Rattle.std.specs.Prelude.{ℕ, List, nat_lt, length, Option, None, Some, Result, Ok, Err, if◌then◌else◌}
 use Rattle.dfdl_report.specs.declared.cause.LimitCause.{LimitCause}
 use Rattle.dfdl_report.specs.declared.cause.LimitCause.TheVariants.{Depth, Rows}
 use Rattle.dfdl_report.specs.declared.cause.SchemaCause.{SchemaCause}
@@ -13,6 +13,7 @@ use Rattle.dfdl_components.specs.Searching.{first_below}
 use Rattle.dfdl_terms.specs.Rows.{Table}
 use Rattle.dfdl_chains.specs.Everywhere.{site_at}
 use Rattle.dfdl_breaches.specs.Elements.{place_of}
+use Rattle.dfdl_breaches.specs.Roots.{root_of}
 use Rattle.dfdl_rows.specs.Answers.{Asked, asked}
 use Rattle.dfdl_rows.specs.Depths.{depth_of}
 use Rattle.dfdl_rows.specs.Refusals.{first_refusal}
@@ -21,7 +22,7 @@ use Rattle.dfdl_rows.specs.Sizes.{size_of}
 use Rattle.dfdl_rows.specs.declared.refusal.Refusal.{Refusal}
 use Rattle.dfdl_checks.specs.declared.purpose.Purpose.{Purpose}
 use Rattle.dfdl_terms.specs.declared.row.Primitive.{Primitive}
-use Rattle.dfdl_compile.specs.Components.{components_of, primitives_of, root_of}
+use Rattle.dfdl_compile.specs.Components.{components_of, primitives_of}
 
 -- why a schema has no rows: a rule is broken, told at a place, or a limit of this number is reached
 pub data CompileEnd : Type 0 where

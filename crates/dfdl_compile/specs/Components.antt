@@ -1,19 +1,15 @@
 -- The components of a schema's documents: each element of them is one, by its number among those of all
 -- documents. What is no component is an empty sequence, and nothing reaches it ('DFDL Schema Component
 -- Model').
-use Rattle.std.specs.Prelude.{ℕ, List, [], map, length, Option, None, Some, option_map, codes, if◌then◌else◌, Bool, true, false}
+use Rattle.std.specs.Prelude.{ℕ, List, [], map, Option, None, Some, option_map, codes}
 use Rattle.std.specs.Option.{unwrap_or}
-use Rattle.dfdl_markup.specs.Trees.{Node}
 use Rattle.dfdl_constructs.specs.declared.role.Role.{Role}
 use Rattle.dfdl_constructs.specs.declared.role.Role.TheVariants as role
-use Rattle.dfdl_constructs.specs.Roles.{role_at}
 use Rattle.dfdl_documents.specs.Documents.{SchemaDocument}
 use Rattle.dfdl_components.specs.declared.kind.ComponentKind.TheVariants as names
 use Rattle.dfdl_components.specs.declared.site.Site.{Site}
-use Rattle.dfdl_components.specs.Globals.{site}
 use Rattle.dfdl_components.specs.Recursion.{number_of}
-use Rattle.dfdl_components.specs.Searching.{first_below}
-use Rattle.dfdl_components.specs.Sites.{nodes_of, role_of}
+use Rattle.dfdl_components.specs.Sites.{role_of}
 use Rattle.dfdl_checks.specs.Numbers.{type_of}
 use Rattle.dfdl_checks.specs.declared.purpose.Purpose.{Purpose}
 use Rattle.dfdl_checks.specs.declared.subject.Breach.{Breach}
@@ -38,13 +34,14 @@ use Rattle.dfdl_compile.specs.Primitives.{primitive_by}
 abbrev pub element_name : List SchemaDocument → Site → List ℕ
 element_name documents own = unwrap_or (attribute_of documents (declaration documents own) (codes "name")) []
 
--- an element or a group, of which this is its name, how its values lie in the data, its number, and the fill around its content
-abbrev pub component_by : List ℕ → Primitive → ℕ → Framing → Kind → Component
-component_by name primitive number framing kind.ComplexElement = ComplexElement name framing
-component_by name primitive number framing (kind.SimpleElement simple) = SimpleElement name (type_of primitive) number framing
-component_by name primitive number framing kind.UncarriedElement = SimpleElement name (type_of primitive) number framing
-component_by name primitive number framing kind.Sequence = Sequence framing
-component_by name primitive number framing kind.Choice = Sequence framing
+-- an element or a group, of which this is its name, how its values lie in the data, its number, and the fill and the box around
+-- its content
+abbrev pub component_by : List ℕ → Primitive → ℕ → Framing → Option ℕ → Kind → Component
+component_by name primitive number framing size kind.ComplexElement = ComplexElement name framing size
+component_by name primitive number framing size (kind.SimpleElement simple) = SimpleElement name (type_of primitive) number framing
+component_by name primitive number framing size kind.UncarriedElement = SimpleElement name (type_of primitive) number framing
+component_by name primitive number framing size kind.Sequence = Sequence framing
+component_by name primitive number framing size kind.Choice = Sequence framing
 
 -- a group reference with this fill stands for the group that it names
 abbrev pub reference_by : Framing → Option Site → Component
@@ -55,7 +52,7 @@ reference_by framing (Some own) = Reference framing
 abbrev pub component_of : List SchemaDocument → Site → Judgement → Role → Component
 component_of documents own judgement role.GroupReference = reference_by judgement.framing (referred documents own names.Group)
 component_of documents own judgement _ =
-    component_by (element_name documents own) (primitive_by judgement) (number_of documents own) judgement.framing
+    component_by (element_name documents own) (primitive_by judgement) (number_of documents own) judgement.framing judgement.size
     (kind_at documents own)
 
 -- what an element of the documents is, of which this is told
@@ -94,17 +91,3 @@ primitive_at purpose documents own = primitive_by (judgement_at purpose document
 -- the primitives of the documents, by the numbers of their elements
 unfoldable pub primitives_of : Purpose → List SchemaDocument → List Primitive
 primitives_of purpose documents = for_each documents (primitive_at purpose documents)
-
--- a global element
-abbrev pub is_global_element : Role → Bool
-is_global_element role.GlobalElement = true
-is_global_element _ = false
-
--- the element of the first document, if it is global
-abbrev pub if_global_element : List Node → ℕ → Option ℕ
-if_global_element nodes element = if is_global_element (role_at nodes element) then Some element else None
-
--- the root: the first global element of the first document
-unfoldable pub root_of : List SchemaDocument → Option Site
-root_of documents =
-    option_map (site 0) (first_below (if_global_element (nodes_of documents 0)) (length (nodes_of documents 0)))

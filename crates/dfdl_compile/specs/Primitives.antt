@@ -10,7 +10,7 @@ use Rattle.dfdl_terms.specs.Rows.{Table}
 use Rattle.dfdl_terms.specs.declared.row.Primitive.{Primitive}
 use Rattle.dfdl_terms.specs.declared.row.Primitive.TheVariants.{Integer}
 use Rattle.dfdl_terms.specs.declared.row.Row.{Row}
-use Rattle.dfdl_terms.specs.declared.row.Row.TheVariants.{Leaf, Elem, Group, Skip, Align}
+use Rattle.dfdl_terms.specs.declared.row.Row.TheVariants.{Leaf, Elem, Group, Skip, Align, Boxed}
 use Rattle.dfdl_checks.specs.Numbers.{type_of}
 use Rattle.dfdl_breaches.specs.declared.judgement.Judgement.{Judgement}
 
@@ -40,6 +40,7 @@ IsLeafOfType primitives simple (Some (Elem name other body)) = ⊥
 IsLeafOfType primitives simple (Some (Group children)) = ⊥
 IsLeafOfType primitives simple (Some (Skip bits)) = ⊥
 IsLeafOfType primitives simple (Some (Align bits)) = ⊥
+IsLeafOfType primitives simple (Some (Boxed bits inside)) = ⊥
 IsLeafOfType primitives simple None = ⊥
 
 -- the body of each simple element is itself a leaf of a primitive of the element's type

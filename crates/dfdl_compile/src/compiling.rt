@@ -1,6 +1,6 @@
 // The terms of a schema, or why it has none.
 ghost use Rattle.std.specs.Prelude.{◌≡◌, ◌<◌, ◌≤◌, true, length, All, Ok, Some, None, IfOk, IfErr};
-ghost use Rattle.dfdl_terms.specs.Rows.{HasElementLast, HasNoFill, most_rows};
+ghost use Rattle.dfdl_terms.specs.Rows.{HasElementLast, HasPlainRows, most_rows};
 ghost use Rattle.dfdl_report.specs.declared.cause.SchemaCause.TheVariants.{Recursive};
 ghost use Rattle.dfdl_components.specs.Rules.{AllKeep, loading_rules};
 ghost use Rattle.dfdl_components.specs.Sites.{IsSite, role_of};
@@ -8,13 +8,14 @@ ghost use Rattle.dfdl_chains.specs.Everywhere as everywhere;
 ghost use Rattle.dfdl_chains.specs.Shown.{AreNumbers};
 ghost use Rattle.dfdl_breaches.specs.Elements.{place_of};
 ghost use Rattle.dfdl_compile.specs.declared.fault.CompileFault.TheVariants.{Refused, OutOfMemory};
-ghost use Rattle.dfdl_compile.specs.Components.{components_of, is_global_element};
+ghost use Rattle.dfdl_compile.specs.Components.{components_of};
 ghost use Rattle.dfdl_compile.specs.Compiled.{by_root, compiled, first_recursive};
 ghost use Rattle.dfdl_compile.specs.Primitives.{HasTypedLeaves, HasBareTypedLeaves};
 ghost use Rattle.dfdl_checks.specs.Forms.{IsWhole};
 ghost use Rattle.dfdl_checks.specs.declared.purpose.Purpose.TheVariants.{Parsing, Unparsing};
 ghost use Rattle.dfdl_chains.specs.Everywhere.{for_each};
 ghost use Rattle.dfdl_breaches.specs.Judging.{judgement_at};
+ghost use Rattle.dfdl_breaches.specs.Roots.{is_global_element};
 ghost use Rattle.dfdl_compile.specs.Faults.{IsFaultOf, IsRecursionFault};
 ghost use Rattle.dfdl_compile.specs.FaultsShown.{fault_of};
 ghost use Rattle.dfdl_compile.specs.Shown.{AreGathered};
@@ -22,9 +23,8 @@ ghost use Rattle.dfdl_compile.specs.Shown.{AreGathered};
 use crate::fault::CompileFault;
 use crate::gathering::{components, place_at, places, refusals, uses};
 use crate::primitives::tables;
-use crate::root::root_of;
 use dfdl_breaches::laws::sound_elements_have_bounded_primitives;
-use dfdl_breaches::{Judgement, breaches};
+use dfdl_breaches::{Judgement, breaches, root_of};
 use dfdl_chains::{Numbers, all_sites};
 use dfdl_checks::Purpose;
 use dfdl_components::{Schema, Site};
@@ -147,7 +147,7 @@ fn compile_root(
     ensures leaves { IfOk result HasTypedLeaves }
     ensures whole { purpose ≡ Unparsing → IfOk result (λ t. All IsWhole t.primitives) }
     ensures bare { purpose ≡ Unparsing → IfOk result HasBareTypedLeaves }
-    ensures no_fill { purpose ≡ Unparsing → IfOk result (λ t. HasNoFill t.rows) }
+    ensures plain { purpose ≡ Unparsing → IfOk result (λ t. HasPlainRows t.rows) }
 {
     sound_elements_have_bounded_primitives();
     let numbers = Numbers::of(alloc, schema)?;
@@ -179,7 +179,7 @@ fn compile_for(
     ensures leaves { IfOk result HasTypedLeaves }
     ensures whole { purpose ≡ Unparsing → IfOk result (λ t. All IsWhole t.primitives) }
     ensures bare { purpose ≡ Unparsing → IfOk result HasBareTypedLeaves }
-    ensures no_fill { purpose ≡ Unparsing → IfOk result (λ t. HasNoFill t.rows) }
+    ensures plain { purpose ≡ Unparsing → IfOk result (λ t. HasPlainRows t.rows) }
 {
     match root_of(schema) {
         Some(root) => compile_root(alloc, schema, purpose, root, depth, rows),
@@ -218,7 +218,7 @@ pub fn compile_for_unparse(
     ensures element { IfOk result HasElementLast }
     ensures leaves { IfOk result HasBareTypedLeaves }
     ensures whole { IfOk result (λ t. All IsWhole t.primitives) }
-    ensures no_fill { IfOk result (λ t. HasNoFill t.rows) }
+    ensures plain { IfOk result (λ t. HasPlainRows t.rows) }
 {
     compile_for(alloc, schema, Purpose::Unparsing, depth, rows)
 }

@@ -35,19 +35,24 @@ fn element_name(alloc: Global, schema: &Schema, site: Site) -> Result<TextValue,
     TextValue::from_str(alloc, name.unwrap_or(""))
 }
 
-// An element or a group of this name, with its primitive, its number and the fill around its content.
+// An element or a group of this name, with its primitive, its number, and the fill and the box around its content.
 fn component_by(
     name: TextValue,
     primitive: Primitive,
     prim: u32,
     framing: Framing,
+    size: Option<u64>,
     kind: Kind,
 ) -> Component
-    ensures { result ≡ spec.component_by name primitive prim framing kind }
+    ensures { result ≡ spec.component_by name primitive prim framing size kind }
 {
     let simple = type_of(primitive);
     match kind {
-        Kind::ComplexElement => Component::ComplexElement { name, framing },
+        Kind::ComplexElement => Component::ComplexElement {
+            name,
+            framing,
+            size,
+        },
         Kind::SimpleElement(_) => Component::SimpleElement {
             name,
             simple,
@@ -98,7 +103,8 @@ fn component_of(
             let primitive = primitive_by(judgement);
             let number = numbers.number(schema, site);
             let kind = kind_at(schema, numbers, site);
-            Ok(component_by(name, primitive, number, judgement.framing, kind))
+            let Judgement { framing, size, .. } = judgement;
+            Ok(component_by(name, primitive, number, framing, size, kind))
         }
     }
 }

@@ -9,7 +9,6 @@ mod compiling;
 mod fault;
 mod gathering;
 mod primitives;
-mod root;
 
 pub use compiling::{compile, compile_for_unparse};
 pub use fault::CompileFault;

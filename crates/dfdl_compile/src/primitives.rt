@@ -39,6 +39,8 @@ pub(crate) fn type_of(primitive: Primitive) -> Simple
         Primitive::Integer(form) => form.kind,
         Primitive::Packed(form) => form.kind,
         Primitive::Truth(_) => Simple::Boolean,
+        Primitive::Octets(_) => Simple::HexBinary,
+        Primitive::Text(_) => Simple::String,
     }
 }
 

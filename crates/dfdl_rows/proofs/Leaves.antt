@@ -9,13 +9,16 @@ use Rattle.dfdl_terms.specs.Leaves.{ReadsBy, leaf}
 use Rattle.dfdl_terms.specs.declared.framing.Framing.{Framing}
 use Rattle.dfdl_terms.specs.declared.row.Row.{Row}
 use Rattle.dfdl_terms.specs.declared.row.Row.TheVariants.{Leaf, Elem, Group}
-use Rattle.dfdl_rows.specs.Components.{Schema, component_at, AreOfOne, HasOrder, IsUnframed}
+use Rattle.dfdl_terms.specs.Framing.{no_fill}
+use Rattle.dfdl_rows.specs.Components.{Schema, component_at, AreOfOne, HasOrder, IsBareComponent}
 use Rattle.dfdl_rows.specs.declared.component.Component.{Component}
 use Rattle.dfdl_rows.specs.declared.component.Component.TheVariants.{Sequence, Reference, ComplexElement, SimpleElement}
-use Rattle.dfdl_rows.specs.Fill.{no_fill, framed, framed_row}
-use Rattle.dfdl_rows.specs.RowLists.{Numbered, own_rows, in_turn, last_rows, rows_at, rows_of}
+use Rattle.dfdl_rows.specs.Fill.{framed, framed_row}
+use Rattle.dfdl_rows.specs.Boxes.{box_rows, boxed_row, box_size}
+use Rattle.dfdl_rows.specs.RowLists.{Numbered, element_rows, own_rows, in_turn, last_rows, rows_at, rows_of}
 use Rattle.dfdl_rows.specs.Leaves.{IsAmong, IsLeafOf, HaveLeaves, HaveBareLeaves}
 use Rattle.dfdl_rows.proofs.Framed.{unframed_row, framed_all}
+use Rattle.dfdl_rows.proofs.Boxed.{box_all, element_all}
 use Rattle.dfdl_rows.proofs.Placed.{left, right, nothing_there, Sits, sits_left, sits_right, sits_first, sits_tail, framed_reads}
 use Rattle.dfdl_rows.proofs.Parts.{by_parts}
 use Rattle.dfdl_rows.proofs.RowsOf.{rows_step}
@@ -82,11 +85,14 @@ module _ (components : List Component) (all : List Row) (Q : Simple → ℕ → 
   own_bodies (Sequence f) lasts first number there = bodies_none first (Group lasts ∷ framed f first (first + 1))
       (All-cons IsNotSimple (Group lasts) (framed f first (first + 1)) (λ name simple body is. absurd (cc)) (framed_not_simple f first (first + 1)))
   own_bodies (Reference f) lasts first number there = bodies_none first (framed f (get_or lasts 0 0) first) (framed_not_simple f (get_or lasts 0 0) first)
-  own_bodies (ComplexElement own f) lasts first number there =
-      let row : Row = Elem own None (framed_row f (get_or lasts 0 0) first) in
-      bodies_none first (framed f (get_or lasts 0 0) first ++ Elem own None (framed_row f (get_or lasts 0 0) first) ∷ [])
-      (All-append IsNotSimple (framed f (get_or lasts 0 0) first) (row ∷ []) (framed_not_simple f (get_or lasts 0 0) first)
-      (All-cons IsNotSimple row [] (λ name simple body is. absurd (cc)) (All-nil IsNotSimple)))
+  own_bodies (ComplexElement own f size) lasts first number there =
+      let content : ℕ = boxed_row size (get_or lasts 0 0) first in
+      let element : List Row = element_rows own None f (boxed_row size (get_or lasts 0 0) first) (first + box_size size) in
+      bodies_none first (box_rows size (get_or lasts 0 0) ++ element)
+      (All-append IsNotSimple (box_rows size (get_or lasts 0 0)) element
+      (box_all IsNotSimple (λ bits body name simple other is. absurd (cc)) size (get_or lasts 0 0))
+      (element_all IsNotSimple own None f content (first + box_size size) (framed_not_simple f content (first + box_size size))
+      (λ name simple body is. absurd (cc))))
   own_bodies (SimpleElement own kind prim f) lasts first number there = λ sits i name simple body is.
       let same : Elem own (Some kind) (framed_row f first (first + 1)) ≡ Elem name (Some simple) body
       = only_last (Leaf prim ∷ framed f first (first + 1)) (Elem own (Some kind) (framed_row f first (first + 1))) i name simple body
@@ -133,18 +139,18 @@ module _ (s : Schema) (ordered : HasOrder s.uses) (one : AreOfOne s.uses s.compo
       framed_reads (rows_of s root) (IsAmong s.components simple) f content (content + 1) sits (leaf content prim is (number, name, f, component)))
       root within 0 (root_sits (rows_of s root))
 
-  -- where there is no fill, the component of a number has none
-  unframed_at : All IsUnframed s.components → (number : ℕ) (component : Component) → slice_get s.components number ≡ Some component → IsUnframed component
-  unframed_at bare number component is =
-      subst IsUnframed (get_or_from_slice_get s.components number component component is)
+  -- where there is neither fill nor a box, the component of a number has none
+  bare_at : All IsBareComponent s.components → (number : ℕ) (component : Component) → slice_get s.components number ≡ Some component → IsBareComponent component
+  bare_at bare number component is =
+      subst IsBareComponent (get_or_from_slice_get s.components number component component is)
       (bare number component (slice_get_within s.components number component is))
 
-  pub rows_have_bare_leaves : All IsUnframed s.components → (root : ℕ) → root < length s.uses → HaveBareLeaves s.components (rows_of s root)
+  pub rows_have_bare_leaves : All IsBareComponent s.components → (root : ℕ) → root < length s.uses → HaveBareLeaves s.components (rows_of s root)
   rows_have_bare_leaves bare root within =
       bodies_at (rows_of s root) (λ simple body. IsLeafOf s.components simple (slice_get (rows_of s root) body))
       (λ number content prim name simple f component is sits.
       let content_is : framed_row f content (content + 1) ≡ content
-      = unframed_row f content (content + 1) (unframed_at bare number (SimpleElement name simple prim f) component) in
+      = unframed_row f content (content + 1) (bare_at bare number (SimpleElement name simple prim f) component).unfilled in
       subst (λ (n : ℕ). IsLeafOf s.components simple (slice_get (rows_of s root) n)) (sym content_is)
       (subst (IsLeafOf s.components simple) (sym is) (number, name, f, component)))
       root within 0 (root_sits (rows_of s root))

@@ -1,5 +1,6 @@
 mod Parts
 mod Framed
+mod Boxed
 mod Pushed
 mod Placed
 mod Counts

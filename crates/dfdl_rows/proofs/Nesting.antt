@@ -1,20 +1,24 @@
--- The rows of a component nest, name primitives that are there, are no fill where there is none, and end with the component's own.
-use Rattle.std.proofs.Common.{◌≡◌, ℕ, zero, suc, ◌+◌, ◌-◌, ◌<◌, ◌≤◌, List, [], ◌∷◌, ◌++◌, length, map, get_or, slice_get, All, Option, None, Some, sym, ap, subst, ◌∙◌, refl, arith, append_assoc, length-append}
-use Rattle.std.proofs.lemmas.List.Elements.{All-tail, All-cons, All-append, All-get_or}
+-- The rows of a component nest, name primitives that are there, are plain where there is neither fill nor a box, and end with the
+-- component's own.
+use Rattle.std.proofs.Common.{◌≡◌, ℕ, zero, suc, ◌+◌, ◌-◌, ◌<◌, ◌≤◌, false, List, [], ◌∷◌, ◌++◌, length, map, get_or, slice_get, All, Option, None, Some, sym, ap, subst, ◌∙◌, refl, arith, append_assoc, length-append}
+use Rattle.std.proofs.lemmas.List.Elements.{All-nil, All-tail, All-cons, All-append, All-get_or}
 use Rattle.std.proofs.lemmas.Option.{slice_get_within}
 use Rattle.dfdl_forms.specs.declared.simple.Simple.{Simple}
 use Rattle.dfdl_order.specs.Parts.{uses_of}
 use Rattle.dfdl_terms.specs.declared.framing.Framing.{Framing}
 use Rattle.dfdl_terms.specs.declared.row.Row.{Row}
-use Rattle.dfdl_terms.specs.declared.row.Row.TheVariants.{Leaf, Elem, Group}
-use Rattle.dfdl_terms.specs.Rows.{ChildrenBelow, Nests, NamesWithin, IsNoFill, HasNoFill}
-use Rattle.dfdl_rows.specs.Components.{Schema, component_at, CanHave, AreOfOne, HasOrder, HasPrimitive, IsUnframed}
+use Rattle.dfdl_terms.specs.declared.row.Row.TheVariants.{Leaf, Elem, Group, Boxed}
+use Rattle.dfdl_terms.specs.Rows.{ChildrenBelow, Nests, NamesWithin, IsPlainRow, HasPlainRows}
+use Rattle.dfdl_terms.specs.Framing.{no_fill}
+use Rattle.dfdl_rows.specs.Components.{Schema, component_at, CanHave, AreOfOne, HasOrder, HasPrimitive, IsBareComponent}
 use Rattle.dfdl_rows.specs.declared.component.Component.{Component}
 use Rattle.dfdl_rows.specs.declared.component.Component.TheVariants.{Sequence, Reference, ComplexElement, SimpleElement}
-use Rattle.dfdl_rows.specs.RowLists.{Numbered, own_rows, in_turn, last_rows, rows_at, rows_of}
+use Rattle.dfdl_rows.specs.Boxes.{box_rows, boxed_row, box_size}
+use Rattle.dfdl_rows.specs.RowLists.{Numbered, element_rows, own_rows, in_turn, last_rows, rows_at, rows_of}
 use Rattle.dfdl_rows.specs.Answers.{EndsWith}
-use Rattle.dfdl_rows.specs.Fill.{no_fill, rows_before, rows_behind, numbers, in_group, framed, framed_row}
+use Rattle.dfdl_rows.specs.Fill.{has_fill, rows_before, rows_behind, numbers, in_group, framed, framed_row}
 use Rattle.dfdl_rows.proofs.Framed.{framed_cases, unframed, length_framed, framed_end, framed_below, before_all, behind_all, framed_all}
+use Rattle.dfdl_rows.proofs.Boxed.{length_box, box_end, box_below, box_all, element_all}
 use Rattle.dfdl_rows.proofs.Parts.{by_parts, parts_within}
 use Rattle.dfdl_rows.proofs.RowsOf.{rows_step, length_rows, length_lasts, some_rows}
 
@@ -101,22 +105,32 @@ module _ (f : Framing) (content first : ℕ) (low : content < first) where
       (nests_none (first + length (rows_before f) + length (rows_behind f) + 1)))))
 
   -- the row of an element behind them
-  nests_element : (name : List ℕ) (simple : Option Simple) → NestsFrom first (framed f content first ++ Elem name simple (framed_row f content first) ∷ [])
+  nests_element : (name : List ℕ) (simple : Option Simple) → NestsFrom first (element_rows name simple f content first)
   nests_element name simple =
       let below : framed_row f content first < first + length (framed f content first) = omega (arith, framed_below f content first low, length_framed f content first) in
       nests_append (framed f content first) (Elem name simple (framed_row f content first) ∷ []) first nests_framed
       (nests_cons (first + length (framed f content first)) (Elem name simple (framed_row f content first)) [] below
       (nests_none (first + length (framed f content first) + 1)))
 
+-- a content in its box
+nests_box : (size : Option ℕ) (content first : ℕ) → content < first → NestsFrom first (box_rows size content)
+nests_box None content first low = nests_none first
+nests_box (Some bits) content first low = nests_cons first (Boxed bits content) [] low (nests_none (first + 1))
+
 own_nest : (component : Component) (ps lasts : List ℕ) (first : ℕ) → CanHave component ps → length lasts ≡ length ps → All (λ n. n < first) lasts
     → NestsFrom first (own_rows component lasts first)
 own_nest (Sequence f) ps lasts first can long below =
     nests_cons first (Group lasts) (framed f first (first + 1)) below (nests_framed f first (first + 1) (omega arith))
 own_nest (Reference f) ps lasts first can long below = nests_framed f (get_or lasts 0 0) first (below 0 0 (omega (arith, can, long)))
-own_nest (ComplexElement name f) ps lasts first can long below =
-    nests_element f (get_or lasts 0 0) first (below 0 0 (omega (arith, can, long))) name None
+own_nest (ComplexElement name f size) ps lasts first can long below =
+    let content : ℕ = boxed_row size (get_or lasts 0 0) first in
+    let element : List Row = element_rows name None f (boxed_row size (get_or lasts 0 0) first) (first + box_size size) in
+    let low : get_or lasts 0 0 < first = below 0 0 (omega (arith, can, long)) in
+    nests_append (box_rows size (get_or lasts 0 0)) element first (nests_box size (get_or lasts 0 0) first low)
+    (subst (λ (n : ℕ). NestsFrom (first + n) element) (sym (length_box size (get_or lasts 0 0)))
+    (nests_element f content (first + box_size size) (box_below size (get_or lasts 0 0) first low) name None))
 own_nest (SimpleElement name simple prim f) ps lasts first can long below =
-    nests_cons first (Leaf prim) (framed f first (first + 1) ++ Elem name (Some simple) (framed_row f first (first + 1)) ∷ []) tt
+    nests_cons first (Leaf prim) (element_rows name (Some simple) f first (first + 1)) tt
     (nests_element f first (first + 1) (omega arith) name (Some simple))
 
 module _ (s : Schema) (ordered : HasOrder s.uses) (one : AreOfOne s.uses s.components s.refusals s.places) where
@@ -170,29 +184,32 @@ framed_named count = framed_all (NamesWithin count) (λ bits. tt) (λ bits. tt) 
 own_named : (count : ℕ) (component : Component) (lasts : List ℕ) (first : ℕ) → HasPrimitive count component → All (NamesWithin count) (own_rows component lasts first)
 own_named count (Sequence f) lasts first has = All-cons (NamesWithin count) (Group lasts) (framed f first (first + 1)) tt (framed_named count f first (first + 1))
 own_named count (Reference f) lasts first has = framed_named count f (get_or lasts 0 0) first
-own_named count (ComplexElement name f) lasts first has =
-    let row : Row = Elem name None (framed_row f (get_or lasts 0 0) first) in
-    All-append (NamesWithin count) (framed f (get_or lasts 0 0) first) (row ∷ []) (framed_named count f (get_or lasts 0 0) first)
-    (All-cons (NamesWithin count) row [] tt (λ i d less. absurd (omega arith)))
+own_named count (ComplexElement name f size) lasts first has =
+    let content : ℕ = boxed_row size (get_or lasts 0 0) first in
+    let element : List Row = element_rows name None f (boxed_row size (get_or lasts 0 0) first) (first + box_size size) in
+    All-append (NamesWithin count) (box_rows size (get_or lasts 0 0)) element (box_all (NamesWithin count) (λ bits body. tt) size (get_or lasts 0 0))
+    (element_all (NamesWithin count) name None f content (first + box_size size) (framed_named count f content (first + box_size size)) tt)
 own_named count (SimpleElement name simple prim f) lasts first has =
-    let row : Row = Elem name (Some simple) (framed_row f first (first + 1)) in
-    All-cons (NamesWithin count) (Leaf prim) (framed f first (first + 1) ++ row ∷ []) has
-    (All-append (NamesWithin count) (framed f first (first + 1)) (row ∷ []) (framed_named count f first (first + 1))
-    (All-cons (NamesWithin count) row [] tt (λ i d less. absurd (omega arith))))
+    All-cons (NamesWithin count) (Leaf prim) (element_rows name (Some simple) f first (first + 1)) has
+    (element_all (NamesWithin count) name (Some simple) f first (first + 1) (framed_named count f first (first + 1)) tt)
 
--- no row is fill where there is none
-own_bare : (component : Component) (lasts : List ℕ) (first : ℕ) → IsUnframed component → All IsNoFill (own_rows component lasts first)
-own_bare (Sequence f) lasts first none = subst (λ (rows : List Row). All IsNoFill (Group lasts ∷ rows)) (sym (unframed f first (first + 1) none))
-    (All-cons IsNoFill (Group lasts) [] tt (λ i d less. absurd (omega arith)))
-own_bare (Reference f) lasts first none = subst (λ (rows : List Row). All IsNoFill rows) (sym (unframed f (get_or lasts 0 0) first none)) (λ i d less. absurd (omega arith))
-own_bare (ComplexElement name f) lasts first none =
-    let row : Row = Elem name None (framed_row f (get_or lasts 0 0) first) in
-    subst (λ (rows : List Row). All IsNoFill (rows ++ Elem name None (framed_row f (get_or lasts 0 0) first) ∷ [])) (sym (unframed f (get_or lasts 0 0) first none))
-    (All-cons IsNoFill row [] tt (λ i d less. absurd (omega arith)))
-own_bare (SimpleElement name simple prim f) lasts first none =
-    let row : Row = Elem name (Some simple) (framed_row f first (first + 1)) in
-    subst (λ (rows : List Row). All IsNoFill (Leaf prim ∷ (rows ++ Elem name (Some simple) (framed_row f first (first + 1)) ∷ []))) (sym (unframed f first (first + 1) none))
-    (All-cons IsNoFill (Leaf prim) (row ∷ []) tt (All-cons IsNoFill row [] tt (λ i d less. absurd (omega arith))))
+-- each row is plain where there is neither fill nor a box
+unframed_plain : (f : Framing) (content first : ℕ) → has_fill f ≡ false → All IsPlainRow (framed f content first)
+unframed_plain f content first none = subst (All IsPlainRow) (sym (unframed f content first none)) (All-nil IsPlainRow)
+
+element_plain : (name : List ℕ) (simple : Option Simple) (f : Framing) (content first : ℕ) → has_fill f ≡ false
+    → All IsPlainRow (element_rows name simple f content first)
+element_plain name simple f content first none = element_all IsPlainRow name simple f content first (unframed_plain f content first none) tt
+
+own_bare : (component : Component) (lasts : List ℕ) (first : ℕ) → IsBareComponent component → All IsPlainRow (own_rows component lasts first)
+own_bare (Sequence f) lasts first bare =
+    All-cons IsPlainRow (Group lasts) (framed f first (first + 1)) tt (unframed_plain f first (first + 1) bare.unfilled)
+own_bare (Reference f) lasts first bare = unframed_plain f (get_or lasts 0 0) first bare.unfilled
+own_bare (ComplexElement name f None) lasts first bare = element_plain name None f (get_or lasts 0 0) (first + 0) bare.unfilled
+own_bare (ComplexElement name f (Some bits)) lasts first bare = absurd (let none = bare.unboxed in cc)
+own_bare (SimpleElement name simple prim f) lasts first bare =
+    All-cons IsPlainRow (Leaf prim) (element_rows name (Some simple) f first (first + 1)) tt
+    (element_plain name (Some simple) f first (first + 1) bare.unfilled)
 
 module _ (s : Schema) (ordered : HasOrder s.uses) (one : AreOfOne s.uses s.components s.refusals s.places) where
   pub rows_named : (count : ℕ) → All (HasPrimitive count) s.components → (c : ℕ) → c < length s.uses → IsAll (NamesWithin count) (rows_at s c)
@@ -200,10 +217,10 @@ module _ (s : Schema) (ordered : HasOrder s.uses) (one : AreOfOne s.uses s.compo
       (λ c within lasts first. own_named count (component_at s.components c) lasts first
       (All-get_or (HasPrimitive count) s.components c (Sequence no_fill) (omega (arith, within, one.counted)) has))
 
-  pub rows_bare : All IsUnframed s.components → (root : ℕ) → root < length s.uses → HasNoFill (rows_of s root)
-  rows_bare bare root within = rows_all s ordered IsNoFill
+  pub rows_bare : All IsBareComponent s.components → (root : ℕ) → root < length s.uses → HasPlainRows (rows_of s root)
+  rows_bare bare root within = rows_all s ordered IsPlainRow
       (λ c within lasts first. own_bare (component_at s.components c) lasts first
-      (All-get_or IsUnframed s.components c (Sequence no_fill) (omega (arith, within, one.counted)) bare))
+      (All-get_or IsBareComponent s.components c (Sequence no_fill) (omega (arith, within, one.counted)) bare))
       root within 0
 
 -- an element's own row is the last one
@@ -221,9 +238,8 @@ last_of (b ∷ (d ∷ before)) x =
 
 -- an element behind its content and fill
 element_last : (before : List Row) (f : Framing) (content first : ℕ) (name : List ℕ) (simple : Option Simple) → first ≡ length before → content + 1 ≡ first
-    → slice_get (before ++ (framed f content first ++ Elem name simple (framed_row f content first) ∷ []))
-    (length (before ++ (framed f content first ++ Elem name simple (framed_row f content first) ∷ [])) - 1)
-    ≡ Some (Elem name simple (length (before ++ (framed f content first ++ Elem name simple (framed_row f content first) ∷ [])) - 2))
+    → slice_get (before ++ element_rows name simple f content first) (length (before ++ element_rows name simple f content first) - 1)
+    ≡ Some (Elem name simple (length (before ++ element_rows name simple f content first) - 2))
 element_last before f content first name simple begins is =
     let row : Row = Elem name simple (framed_row f content first) in
     let regrouped : before ++ (framed f content first ++ row ∷ []) ≡ (before ++ framed f content first) ++ row ∷ [] = sym (append_assoc before (framed f content first) (row ∷ [])) in
@@ -245,13 +261,22 @@ own_last : (component : Component) (f : ℕ → Numbered) (ps : List ℕ) → Ca
     → EndsWith component (in_turn (map f ps) 0 ++ own_rows component (last_rows (map f ps) 0) (0 + length (in_turn (map f ps) 0)))
 own_last (Sequence framing) f ps can some = tt
 own_last (Reference framing) f ps can some = tt
-own_last (ComplexElement name framing) f ps can some =
-    element_last (in_turn (map f ps) 0) framing (get_or (last_rows (map f ps) 0) 0 0) (0 + length (in_turn (map f ps) 0)) name None (omega arith)
-    (omega (arith, one_part f ps can, turn_some f ps can some))
+own_last (ComplexElement name framing size) f ps can some =
+    let turn : List Row = in_turn (map f ps) 0 in
+    let first : ℕ = 0 + length (in_turn (map f ps) 0) in
+    let last : ℕ = get_or (last_rows (map f ps) 0) 0 0 in
+    let box : List Row = box_rows size (get_or (last_rows (map f ps) 0) 0 0) in
+    let content : ℕ = boxed_row size (get_or (last_rows (map f ps) 0) 0 0) (0 + length (in_turn (map f ps) 0)) in
+    let begin : ℕ = 0 + length (in_turn (map f ps) 0) + box_size size in
+    let regrouped : turn ++ (box ++ element_rows name None framing content begin) ≡ (turn ++ box) ++ element_rows name None framing content begin
+    = sym (append_assoc turn box (element_rows name None framing content begin)) in
+    let behind : last + 1 ≡ first = omega (arith, one_part f ps can, turn_some f ps can some) in
+    subst (λ (rows : List Row). slice_get rows (length rows - 1) ≡ Some (Elem name None (length rows - 2))) (sym regrouped)
+    (element_last (turn ++ box) framing content begin name None (omega (arith, length-append turn box, length_box size last)) (box_end size last first behind))
 own_last (SimpleElement name simple prim framing) f ps can some =
     let turn : List Row = in_turn (map f ps) 0 in
     let first : ℕ = 0 + length (in_turn (map f ps) 0) in
-    let own : List Row = framed framing first (first + 1) ++ Elem name (Some simple) (framed_row framing first (first + 1)) ∷ [] in
+    let own : List Row = element_rows name (Some simple) framing first (first + 1) in
     let regrouped : turn ++ (Leaf prim ∷ own) ≡ (turn ++ Leaf prim ∷ []) ++ own = sym (append_assoc turn (Leaf prim ∷ []) own) in
     subst (λ (rows : List Row). slice_get rows (length rows - 1) ≡ Some (Elem name (Some simple) (length rows - 2))) (sym regrouped)
     (element_last (turn ++ Leaf prim ∷ []) framing first (first + 1) name (Some simple) (omega (arith, length-append turn (Leaf prim ∷ []))) refl)

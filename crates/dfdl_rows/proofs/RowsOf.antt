@@ -4,14 +4,14 @@ use Rattle.std.proofs.lemmas.List.Elements.{All-tail}
 use Rattle.dfdl_order.specs.Parts.{uses_of}
 use Rattle.dfdl_order.proofs.Over.{value_step}
 use Rattle.dfdl_terms.specs.declared.row.Row.{Row}
-use Rattle.dfdl_terms.specs.declared.row.Row.TheVariants.{Elem}
 use Rattle.dfdl_rows.specs.Components.{Schema, component_at, CanHave, AreOfOne, HasOrder}
 use Rattle.dfdl_rows.specs.declared.component.Component.{Component}
 use Rattle.dfdl_rows.specs.declared.component.Component.TheVariants.{Sequence, Reference, ComplexElement, SimpleElement}
 use Rattle.dfdl_rows.specs.Sizes.{total, own_size, size_from, size_of}
-use Rattle.dfdl_rows.specs.RowLists.{Numbered, own_rows, in_turn, last_rows, rows_from, no_rows, rows_at}
-use Rattle.dfdl_rows.specs.Fill.{framed, framed_row}
+use Rattle.dfdl_rows.specs.Boxes.{box_rows, boxed_row, box_size}
+use Rattle.dfdl_rows.specs.RowLists.{Numbered, element_rows, own_rows, in_turn, last_rows, rows_from, no_rows, rows_at}
 use Rattle.dfdl_rows.proofs.Framed.{length_framed}
+use Rattle.dfdl_rows.proofs.Boxed.{length_box, length_element}
 use Rattle.dfdl_rows.proofs.Parts.{by_parts}
 
 pub rows_step : (s : Schema) → HasOrder s.uses → (c : ℕ) → c < length s.uses → rows_at s c ≡ rows_from s.components c (map (rows_at s) (uses_of s.uses c))
@@ -28,12 +28,17 @@ length_lasts f (p ∷ ps) first = omega (arith, length_lasts f ps (first + lengt
 pub length_own : (component : Component) (parts : List ℕ) (first : ℕ) → length (own_rows component parts first) ≡ own_size component
 length_own (Sequence framing) parts first = omega (arith, length_framed framing first (first + 1))
 length_own (Reference framing) parts first = length_framed framing (get_or parts 0 0) first
-length_own (ComplexElement name framing) parts first =
-    let row : Row = Elem name None (framed_row framing (get_or parts 0 0) first) in
-    omega (arith, length-append (framed framing (get_or parts 0 0) first) (row ∷ []), length_framed framing (get_or parts 0 0) first)
+length_own (ComplexElement name framing size) parts first =
+    let content : ℕ = boxed_row size (get_or parts 0 0) first in
+    let element : List Row = element_rows name None framing (boxed_row size (get_or parts 0 0) first) (first + box_size size) in
+    omega (
+      arith,
+      length-append (box_rows size (get_or parts 0 0)) element,
+      length_box size (get_or parts 0 0),
+      length_element name None framing content (first + box_size size),
+    )
 length_own (SimpleElement name simple prim framing) parts first =
-    let row : Row = Elem name (Some simple) (framed_row framing first (first + 1)) in
-    omega (arith, length-append (framed framing first (first + 1)) (row ∷ []), length_framed framing first (first + 1))
+    omega (arith, length_element name (Some simple) framing first (first + 1))
 
 -- so many rows, wherever they begin
 abbrev pub IsLong : Numbered → ℕ → Type 0
@@ -68,7 +73,7 @@ some_of_one size (p ∷ ps) one all =
 some_own : (size : ℕ → ℕ) (component : Component) (ps : List ℕ) → CanHave component ps → All (λ p. 0 < size p) ps → 0 < own_size component + total (map size ps)
 some_own size (Sequence framing) ps can all = omega arith
 some_own size (Reference framing) ps can all = let some : 0 < total (map size ps) = some_of_one size ps can all in omega (arith, some)
-some_own size (ComplexElement name framing) ps can all = omega arith
+some_own size (ComplexElement name framing box) ps can all = omega arith
 some_own size (SimpleElement name simple prim framing) ps can all = omega arith
 
 -- each component has a row

@@ -1,11 +1,12 @@
 -- The components of a schema: what each one is, and which components it has as its parts ('DFDL Schema Component Model').
-use Rattle.std.specs.Prelude.{◌≡◌, ℕ, ◌<◌, List, [], length, get_or, Option, false}
+use Rattle.std.specs.Prelude.{◌≡◌, ℕ, ◌<◌, List, [], length, get_or, Option, None, false}
 use Rattle.dfdl_report.specs.declared.place.Place.{Place}
 use Rattle.dfdl_terms.specs.declared.framing.Framing.{Framing}
+use Rattle.dfdl_terms.specs.Framing.{no_fill}
 use Rattle.dfdl_order.specs.Parts.{uses_of, IsOrder, Places}
 use Rattle.dfdl_rows.specs.declared.component.Component.{Component}
 use Rattle.dfdl_rows.specs.declared.component.Component.TheVariants.{Sequence, Reference, ComplexElement, SimpleElement}
-use Rattle.dfdl_rows.specs.Fill.{no_fill, has_fill}
+use Rattle.dfdl_rows.specs.Fill.{has_fill}
 use Rattle.dfdl_rows.specs.declared.refusal.Refusal.{Refusal}
 
 -- by a component's number: its parts in schema order, what it is, the refusal of its own, if it has one, and where it begins
@@ -28,7 +29,7 @@ place_at places c = get_or places c (record { document = 0; at = 0 })
 abbrev pub CanHave : Component → List ℕ → Type 0
 CanHave (Sequence framing) parts = Unit {0}
 CanHave (Reference framing) parts = length parts ≡ 1
-CanHave (ComplexElement name framing) parts = length parts ≡ 1
+CanHave (ComplexElement name framing size) parts = length parts ≡ 1
 CanHave (SimpleElement name simple prim framing) parts = parts ≡ []
 
 -- the lists are those of one schema
@@ -46,16 +47,24 @@ HasOrder uses = (order : Places) × IsOrder uses order
 abbrev pub HasPrimitive : ℕ → Component → Type 0
 HasPrimitive count (Sequence framing) = Unit {0}
 HasPrimitive count (Reference framing) = Unit {0}
-HasPrimitive count (ComplexElement name framing) = Unit {0}
+HasPrimitive count (ComplexElement name framing size) = Unit {0}
 HasPrimitive count (SimpleElement name simple prim framing) = prim < count
 
 -- the fill around the content of a component
 abbrev pub framing_in : Component → Framing
 framing_in (Sequence framing) = framing
 framing_in (Reference framing) = framing
-framing_in (ComplexElement name framing) = framing
+framing_in (ComplexElement name framing size) = framing
 framing_in (SimpleElement name simple prim framing) = framing
 
--- there is no fill around the content of a component
-abbrev pub IsUnframed : Component → Type 0
-IsUnframed component = has_fill (framing_in component) ≡ false
+-- the bits of the box around the content of a component, where there is one
+abbrev pub size_in : Component → Option ℕ
+size_in (Sequence framing) = None
+size_in (Reference framing) = None
+size_in (ComplexElement name framing size) = size
+size_in (SimpleElement name simple prim framing) = None
+
+-- there is neither fill nor a box around the content of a component
+pub record IsBareComponent (component : Component) : Type 0 where
+  pub unfilled : has_fill (framing_in component) ≡ false
+  pub unboxed : size_in component ≡ None

@@ -5,10 +5,6 @@ use Rattle.dfdl_terms.specs.declared.framing.Framing.{Framing}
 use Rattle.dfdl_terms.specs.declared.row.Row.{Row}
 use Rattle.dfdl_terms.specs.declared.row.Row.TheVariants.{Group, Skip, Align}
 
--- no fill around a content
-abbrev pub no_fill : Framing
-no_fill = record { leading_skip = 0; alignment = 1; trailing_skip = 0 }
-
 -- there is a skip, or an alignment to more than one bit
 abbrev pub has_fill : Framing → Bool
 has_fill f = nat_lt 0 f.leading_skip || nat_lt 1 f.alignment || nat_lt 0 f.trailing_skip

@@ -4,7 +4,7 @@ use Rattle.dfdl_forms.specs.declared.simple.Simple.{Simple}
 use Rattle.dfdl_terms.specs.Leaves.{ReadsBy}
 use Rattle.dfdl_terms.specs.declared.framing.Framing.{Framing}
 use Rattle.dfdl_terms.specs.declared.row.Row.{Row}
-use Rattle.dfdl_terms.specs.declared.row.Row.TheVariants.{Leaf, Elem, Group, Skip, Align}
+use Rattle.dfdl_terms.specs.declared.row.Row.TheVariants.{Leaf, Elem, Group, Skip, Align, Boxed}
 use Rattle.dfdl_rows.specs.declared.component.Component.{Component}
 use Rattle.dfdl_rows.specs.declared.component.Component.TheVariants.{SimpleElement}
 
@@ -26,6 +26,7 @@ IsLeafOf components simple (Some (Elem name other body)) = ⊥
 IsLeafOf components simple (Some (Group children)) = ⊥
 IsLeafOf components simple (Some (Skip bits)) = ⊥
 IsLeafOf components simple (Some (Align bits)) = ⊥
+IsLeafOf components simple (Some (Boxed bits body)) = ⊥
 IsLeafOf components simple None = ⊥
 
 -- the body of each simple element is itself the leaf of a component of its type

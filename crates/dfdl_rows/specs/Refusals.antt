@@ -54,7 +54,7 @@ at_element place name inside names =
 abbrev pub at_component : Component → Place → Look → Look
 at_component (Sequence framing) place parts = parts
 at_component (Reference framing) place parts = parts
-at_component (ComplexElement name framing) place parts = at_element place name parts
+at_component (ComplexElement name framing size) place parts = at_element place name parts
 at_component (SimpleElement name simple prim framing) place parts = at_element place name parts
 
 -- the refusal of a component's own

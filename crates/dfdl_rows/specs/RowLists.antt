@@ -1,10 +1,13 @@
 -- The rows of components: children first, in schema order, the component's own row last, once for each use ('DFDL Data
 -- Syntax Grammar').
-use Rattle.std.specs.Prelude.{ℕ, ◌+◌, ◌-◌, List, [], ◌∷◌, ◌++◌, length, get_or, None, Some}
+use Rattle.std.specs.Prelude.{ℕ, ◌+◌, ◌-◌, List, [], ◌∷◌, ◌++◌, length, get_or, Option, None, Some}
+use Rattle.dfdl_forms.specs.declared.simple.Simple.{Simple}
 use Rattle.dfdl_order.specs.Folds.{value_by}
+use Rattle.dfdl_terms.specs.declared.framing.Framing.{Framing}
 use Rattle.dfdl_terms.specs.declared.row.Row.{Row}
 use Rattle.dfdl_terms.specs.declared.row.Row.TheVariants.{Leaf, Elem, Group}
 use Rattle.dfdl_rows.specs.Components.{Schema, component_at}
+use Rattle.dfdl_rows.specs.Boxes.{box_rows, boxed_row, box_size}
 use Rattle.dfdl_rows.specs.Fill.{framed, framed_row}
 use Rattle.dfdl_rows.specs.declared.component.Component.{Component}
 use Rattle.dfdl_rows.specs.declared.component.Component.TheVariants.{Sequence, Reference, ComplexElement, SimpleElement}
@@ -13,15 +16,21 @@ use Rattle.dfdl_rows.specs.declared.component.Component.TheVariants.{Sequence, R
 abbrev pub Numbered : Type 0
 Numbered = ℕ → List Row
 
+-- the rows of an element around the row of its content, from a number on: those of fill around it, and its own
+abbrev pub element_rows : List ℕ → Option Simple → Framing → ℕ → ℕ → List Row
+element_rows name simple framing content first =
+    framed framing content first ++ Elem name simple (framed_row framing content first) ∷ []
+
 -- the rows of a component's own, from a number on, where these are the last rows of its parts: that of its content, which is a
--- part's for a reference and a complex element, then those of fill around it, and for an element its own
+-- part's for a reference and a complex element, that of a box around it, then those of fill, and for an element its own
 abbrev pub own_rows : Component → List ℕ → ℕ → List Row
 own_rows (Sequence framing) parts first = Group parts ∷ framed framing first (first + 1)
 own_rows (Reference framing) parts first = framed framing (get_or parts 0 0) first
-own_rows (ComplexElement name framing) parts first =
-    framed framing (get_or parts 0 0) first ++ Elem name None (framed_row framing (get_or parts 0 0) first) ∷ []
+own_rows (ComplexElement name framing size) parts first =
+    box_rows size (get_or parts 0 0)
+    ++ element_rows name None framing (boxed_row size (get_or parts 0 0) first) (first + box_size size)
 own_rows (SimpleElement name simple prim framing) parts first =
-    Leaf prim ∷ (framed framing first (first + 1) ++ Elem name (Some simple) (framed_row framing first (first + 1)) ∷ [])
+    Leaf prim ∷ element_rows name (Some simple) framing first (first + 1)
 
 -- the rows of parts, one part after the other
 abbrev pub in_turn : List Numbered → Numbered

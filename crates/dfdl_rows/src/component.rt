@@ -20,8 +20,10 @@ pub enum Component {
     ComplexElement {
         /// The local name.
         name: TextValue,
-        /// The fill around its content.
+        /// The fill around its content, outside of the box.
         framing: Framing,
+        /// How many bits the box around its content has, where there is one ('Lengths').
+        size: Option<u64>,
     },
     /// An element without parts.
     SimpleElement {

@@ -6,6 +6,7 @@
 //! rows. What components share is computed once.
 #![tactic(auto)]
 
+mod boxes;
 mod component;
 mod components;
 mod depths;

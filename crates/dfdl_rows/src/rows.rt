@@ -1,7 +1,7 @@
 // The rows of a root, or why there are none.
 ghost use Rattle.std.specs.Prelude.{◌≡◌, ◌<◌, ◌≤◌, ℕ, length, All, IfOk, IfErr, vec_len};
-ghost use Rattle.dfdl_terms.specs.Rows.{most_rows as table_rows, Nests, NamesWithin, IsPrimitive, HasNoFill};
-ghost use Rattle.dfdl_rows.specs.Components.{component_at, HasPrimitive, IsUnframed};
+ghost use Rattle.dfdl_terms.specs.Rows.{most_rows as table_rows, Nests, NamesWithin, IsPrimitive, HasPlainRows};
+ghost use Rattle.dfdl_rows.specs.Components.{component_at, HasPrimitive, IsBareComponent};
 ghost use Rattle.dfdl_rows.specs.Leaves.{HaveLeaves, HaveBareLeaves};
 ghost use Rattle.dfdl_rows.specs.Answers.{asked, AreRowsOf, IsFaultOf, EndsWith};
 
@@ -33,9 +33,9 @@ pub fn rows_of(
     ensures named { (count : ℕ) → All (HasPrimitive count) components.now.components
         → IfOk result (λ made. All (NamesWithin count) made.items) }
     ensures leaves { IfOk result (λ made. HaveLeaves components.now.components made.items) }
-    ensures bare { All IsUnframed components.now.components
+    ensures bare { All IsBareComponent components.now.components
         → IfOk result (λ made. HaveBareLeaves components.now.components made.items) }
-    ensures no_fill { All IsUnframed components.now.components → IfOk result (λ made. HasNoFill made.items) }
+    ensures plain { All IsBareComponent components.now.components → IfOk result (λ made. HasPlainRows made.items) }
 {
     components.facts();
     if depth(alloc, components, root)? > u64::from(most_depth) {
@@ -74,9 +74,9 @@ pub fn terms_of(
     ensures fault { IfErr result (IsFaultOf (asked components.now root most_depth most_rows)) }
     ensures root { IfOk result (λ made. EndsWith (component_at components.now.components root) made.rows) }
     ensures leaves { IfOk result (λ made. HaveLeaves components.now.components made.rows) }
-    ensures bare { All IsUnframed components.now.components
+    ensures bare { All IsBareComponent components.now.components
         → IfOk result (λ made. HaveBareLeaves components.now.components made.rows) }
-    ensures no_fill { All IsUnframed components.now.components → IfOk result (λ made. HasNoFill made.rows) }
+    ensures plain { All IsBareComponent components.now.components → IfOk result (λ made. HasPlainRows made.rows) }
 {
     match rows_of(alloc, components, root, most_depth, most_rows) {
         Ok(rows) => Ok(built(alloc, rows, tables)),

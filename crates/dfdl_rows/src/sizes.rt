@@ -3,18 +3,21 @@ ghost use Rattle.std.specs.Prelude.{◌≡◌, ◌<◌, ◌+◌, ℕ, length, ma
 ghost use Rattle.dfdl_rows.specs.Sizes as sizes;
 ghost use Rattle.dfdl_rows.specs.Saturated.{saturated};
 
+use crate::boxes::box_size;
 use crate::fill::framing_size;
 use crate::{Component, Components};
 use std::alloc::{AllocError, Global};
 
-// The rows of a component that are not its parts', those of fill among them.
+// The rows of a component that are not its parts', those of a box and of fill among them.
 fn own_size(component: &Component) -> u64
     ensures { result ≡ sizes.own_size component.now }
 {
     match component {
         Component::Sequence { framing } => 1 + framing_size(*framing),
         Component::Reference { framing } => framing_size(*framing),
-        Component::ComplexElement { framing, .. } => 1 + framing_size(*framing),
+        Component::ComplexElement { framing, size, .. } => {
+            1 + box_size(*size) + framing_size(*framing)
+        }
         Component::SimpleElement { framing, .. } => 2 + framing_size(*framing),
     }
 }

@@ -76,11 +76,6 @@ fn refusal(at: u64) -> Refusal {
     }
 }
 
-// No fill.
-fn bare() -> Framing {
-    fill(0, 1, 0)
-}
-
 fn fill(leading_skip: u32, alignment: u32, trailing_skip: u32) -> Framing {
     Framing {
         leading_skip,
@@ -90,7 +85,9 @@ fn fill(leading_skip: u32, alignment: u32, trailing_skip: u32) -> Framing {
 }
 
 fn bare_sequence() -> Component {
-    Component::Sequence { framing: bare() }
+    Component::Sequence {
+        framing: Framing::none(),
+    }
 }
 
 fn simple(alloc: Global) -> Result<Component, AllocError> {
@@ -103,14 +100,15 @@ fn named(alloc: Global, name: &str) -> Result<Component, AllocError> {
         name: TextValue::from_str(alloc, name)?,
         simple: Simple::Int,
         prim: 0,
-        framing: bare(),
+        framing: Framing::none(),
     })
 }
 
 fn complex(alloc: Global) -> Result<Component, AllocError> {
     Ok(Component::ComplexElement {
         name: TextValue::from_str(alloc, "r")?,
-        framing: bare(),
+        framing: Framing::none(),
+        size: None,
     })
 }
 
@@ -120,7 +118,12 @@ fn used_twice(alloc: Global) -> Result<Gathered, RowsFault> {
     gathered.push(complex(alloc)?, &[1])?;
     gathered.push(bare_sequence(), &[3, 2])?;
     gathered.push(simple(alloc)?, &[])?;
-    gathered.push(Component::Reference { framing: bare() }, &[4])?;
+    gathered.push(
+        Component::Reference {
+            framing: Framing::none(),
+        },
+        &[4],
+    )?;
     gathered.push(named(alloc, "b")?, &[])?;
     Ok(gathered)
 }
@@ -273,6 +276,7 @@ fn filled(alloc: Global) -> Result<Gathered, RowsFault> {
     let root = Component::ComplexElement {
         name: TextValue::from_str(alloc, "r")?,
         framing: fill(8, 16, 0),
+        size: None,
     };
     gathered.push(root, &[1])?;
     let framing = fill(0, 32, 4);
@@ -290,33 +294,52 @@ fn filled(alloc: Global) -> Result<Gathered, RowsFault> {
 }
 
 // What a row is, and the numbers in it.
-fn shown(alloc: Global, row: &Row) -> Result<(&'static str, Vec<u32>), AllocError> {
+fn shown(alloc: Global, row: &Row) -> Result<(&'static str, Vec<u64>), AllocError> {
     let mut numbers = Vec::new(alloc);
     let kind = match row {
         Row::Leaf { prim } => {
-            numbers.push(*prim)?;
+            numbers.push(u64::from(*prim))?;
             "leaf"
         }
         Row::Elem { body, .. } => {
-            numbers.push(body.number())?;
+            numbers.push(u64::from(body.number()))?;
             "element"
         }
         Row::Group { children } => {
             for child in children.as_slice() {
-                numbers.push(child.number())?;
+                numbers.push(u64::from(child.number()))?;
             }
             "group"
         }
         Row::Skip { bits } => {
-            numbers.push(*bits)?;
+            numbers.push(u64::from(*bits))?;
             "skip"
         }
         Row::Align { bits } => {
-            numbers.push(*bits)?;
+            numbers.push(u64::from(*bits))?;
             "align"
+        }
+        Row::Boxed { bits, body } => {
+            numbers.push(*bits)?;
+            numbers.push(u64::from(body.number()))?;
+            "box"
         }
     };
     Ok((kind, numbers))
+}
+
+// Whether the rows are these.
+fn are_shown(alloc: Global, rows: &[Row], expected: &[(&str, &[u64])]) -> Result<bool, AllocError> {
+    if rows.len() != expected.len() {
+        return Ok(false);
+    }
+    for ((kind, numbers), row) in expected.iter().zip(rows.iter()) {
+        let found = shown(alloc, row)?;
+        if found.0 != *kind || found.1.as_slice() != *numbers {
+            return Ok(false);
+        }
+    }
+    Ok(true)
 }
 
 #[test]
@@ -328,7 +351,7 @@ fn puts_fill_around_each_kind_of_content(rt: HostRuntime) -> Result<(), Fail> {
         return Err(Fail::new("no components"));
     }
     let rows = rows_of(alloc, &components, 0, 2, 16)?;
-    let expected: [(&str, &[u32]); 16] = [
+    let expected: [(&str, &[u64]); 16] = [
         ("leaf", &[0]),
         ("skip", &[1]),
         ("align", &[8]),
@@ -346,12 +369,7 @@ fn puts_fill_around_each_kind_of_content(rt: HostRuntime) -> Result<(), Fail> {
         ("group", &[12, 13, 11]),
         ("element", &[14]),
     ];
-    assert_eq!(rt; rows.len(), expected.len());
-    for ((kind, numbers), row) in expected.iter().zip(rows.iter()) {
-        let found = shown(alloc, row)?;
-        assert_eq!(rt; found.0, *kind);
-        assert_eq!(rt; found.1.as_slice(), *numbers);
-    }
+    assert_eq!(rt; are_shown(alloc, &rows, &expected)?, true);
     Ok(())
 }
 
@@ -362,6 +380,64 @@ fn counts_the_rows_of_fill(rt: HostRuntime) -> Result<(), Fail> {
     assert_eq!(rt;
         count_of(alloc, filled(alloc)?, 2, 15),
         limit(LimitCause::Rows, 15)
+    );
+    Ok(())
+}
+
+// A root in a box, over an element with a box and fill, over a simple element; both over sequences.
+fn boxed(alloc: Global) -> Result<Gathered, RowsFault> {
+    let mut gathered = Gathered::new(alloc);
+    let root = Component::ComplexElement {
+        name: TextValue::from_str(alloc, "r")?,
+        framing: Framing::none(),
+        size: Some(8589934592),
+    };
+    gathered.push(root, &[1])?;
+    gathered.push(bare_sequence(), &[2])?;
+    let inner = Component::ComplexElement {
+        name: TextValue::from_str(alloc, "c")?,
+        framing: fill(8, 1, 4),
+        size: Some(64),
+    };
+    gathered.push(inner, &[3])?;
+    gathered.push(bare_sequence(), &[4])?;
+    gathered.push(simple(alloc)?, &[])?;
+    Ok(gathered)
+}
+
+#[test]
+fn puts_a_box_around_a_content_and_fill_around_the_box(rt: HostRuntime) -> Result<(), Fail> {
+    let alloc = rt.alloc();
+    let components = boxed(alloc)?.whole(alloc).expect(&rt, "components");
+    assert_eq!(rt; components.count(), 5);
+    if components.count() == 0 {
+        return Err(Fail::new("no components"));
+    }
+    let rows = rows_of(alloc, &components, 0, 3, 11)?;
+    let expected: [(&str, &[u64]); 11] = [
+        ("leaf", &[0]),
+        ("element", &[0]),
+        ("group", &[1]),
+        ("box", &[64, 2]),
+        ("skip", &[8]),
+        ("skip", &[4]),
+        ("group", &[4, 3, 5]),
+        ("element", &[6]),
+        ("group", &[7]),
+        ("box", &[8589934592, 8]),
+        ("element", &[9]),
+    ];
+    assert_eq!(rt; are_shown(alloc, &rows, &expected)?, true);
+    Ok(())
+}
+
+#[test]
+fn counts_the_rows_of_boxes(rt: HostRuntime) -> Result<(), Fail> {
+    let alloc = rt.alloc();
+    assert_eq!(rt; count_of(alloc, boxed(alloc)?, 3, 11), Ok(11));
+    assert_eq!(rt;
+        count_of(alloc, boxed(alloc)?, 3, 10),
+        limit(LimitCause::Rows, 10)
     );
     Ok(())
 }

@@ -9,6 +9,7 @@ ghost use Rattle.dfdl_rows.specs.Walk.{made, closed, all_done, component_of, ste
 ghost use Rattle.dfdl_terms.specs.declared.row.Row.TheVariants.{Elem, Group};
 ghost use Rattle.dfdl_rows.specs.declared.walk.Task.TheVariants.{Enter, Close};
 
+use crate::boxes::push_boxed;
 use crate::ends::ends;
 use crate::fill::push_framed;
 use crate::{Component, Components};
@@ -182,8 +183,13 @@ fn push_own(
             push_framed(alloc, rows, *framing, first_of(parts))?;
             Ok(())
         }
-        Component::ComplexElement { name, framing } => {
-            let body = push_framed(alloc, rows, *framing, first_of(parts))?;
+        Component::ComplexElement {
+            name,
+            framing,
+            size,
+        } => {
+            let boxed = push_boxed(rows, *size, first_of(parts))?;
+            let body = push_framed(alloc, rows, *framing, boxed)?;
             push_element(alloc, rows, name, None, body)
         }
         Component::SimpleElement {

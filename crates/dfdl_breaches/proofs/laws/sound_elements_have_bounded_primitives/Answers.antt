@@ -1,13 +1,8 @@
 use Rattle.std.proofs.Common.{refl}
-use Rattle.dfdl_terms.specs.declared.row.Primitive.TheVariants.{Integer}
 use Rattle.dfdl_breaches.specs.Judging.{judged_at}
 use Rattle.dfdl_checks.specs.declared.purpose.Purpose.TheVariants.{Unparsing}
 use Rattle.dfdl_breaches.proofs.laws.sound_elements_have_bounded_primitives.Goals as goal
 
 pub returns-clause-whole : goal.returns-clause-whole
 returns-clause-whole c =
-    λ documents own form is. c.primitives_for_unparsing_are_whole.ensures (judged_at Unparsing documents own) (Integer form) refl is
-
-pub returns-clause-whole_alone : goal.returns-clause-whole_alone
-returns-clause-whole_alone c =
     λ documents own p is. c.primitives_for_unparsing_are_whole.ensures (judged_at Unparsing documents own) p refl is

@@ -1,4 +1,4 @@
-use Rattle.std.proofs.Common.{◌≡◌, ◌-◌, sym, ◌∙◌, arith}
+use Rattle.std.proofs.Common.{◌-◌, sym, ◌∙◌, arith}
 use Rattle.dfdl_chains.proofs.Deriving.{primitive_all, primitive_none, primitive_step}
 use Rattle.dfdl_chains.proofs.derivation.primitive.Goals as goal
 

@@ -1,4 +1,4 @@
-use Rattle.std.proofs.Common.{◌≡◌, ◌-◌, sym, ◌∙◌, arith}
+use Rattle.std.proofs.Common.{◌-◌, sym, ◌∙◌, arith}
 use Rattle.dfdl_chains.proofs.Deriving.{derived_all, derived_none, derived_step}
 use Rattle.dfdl_chains.proofs.derivation.push_derived.Goals as goal
 

@@ -1,6 +1,5 @@
-use Rattle.std.proofs.Common.{◌≡◌, ℕ, ◌<◌, List, length, bytes_eq, ap, sym, subst, ◌∙◌}
+use Rattle.std.proofs.Common.{ℕ, List, bytes_eq, ap, sym, ◌∙◌}
 use Rattle.std.specs.List.{find}
-use Rattle.dfdl_forms.specs.declared.simple.Simple.{Simple}
 use Rattle.dfdl_forms.specs.declared.simple.Simple.TheVariants as simple
 use Rattle.dfdl_chains.specs.Types.{name_of}
 use Rattle.dfdl_chains.proofs.Finding.{found_at}

@@ -1,4 +1,4 @@
-use Rattle.dfdl_checks.proofs.AlikeForms.{same-framing, same-primitive}
+use Rattle.dfdl_checks.proofs.AlikeForms.{same-box, same-framing, same-primitive}
 use Rattle.dfdl_checks.proofs.AlikeJudged.{same-breach}
 use Rattle.dfdl_checks.proofs.laws.alike_components_are_judged_alike.Goals as goal
 
@@ -10,3 +10,6 @@ returns-clause-primitive c = same-primitive
 
 pub returns-clause-framing : goal.returns-clause-framing
 returns-clause-framing c = same-framing
+
+pub returns-clause-size : goal.returns-clause-size
+returns-clause-size c = same-box

@@ -1,4 +1,5 @@
 use Rattle.dfdl_checks.proofs.Sound.{has-primitive}
+use Rattle.dfdl_checks.proofs.SoundBoxes.{are-others}
 use Rattle.dfdl_checks.proofs.Told.{are-values}
 use Rattle.dfdl_checks.proofs.laws.sound_elements_have_primitives.Goals as goal
 
@@ -7,3 +8,6 @@ returns-clause-primitive c = has-primitive
 
 pub returns-clause-properties : goal.returns-clause-properties
 returns-clause-properties c = are-values
+
+pub returns-clause-others : goal.returns-clause-others
+returns-clause-others c = are-others

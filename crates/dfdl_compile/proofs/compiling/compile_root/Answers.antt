@@ -3,8 +3,8 @@ use Rattle.dfdl_checks.specs.declared.purpose.Purpose.{Purpose}
 use Rattle.dfdl_compile.specs.Compiled.{by_root, first_recursive}
 use Rattle.dfdl_compile.specs.Components.{components_of}
 use Rattle.dfdl_compile.specs.Faults.{IsFaultOf}
-use Rattle.dfdl_compile.proofs.Ending.{root_table, root_fault, root_within, recursion_fault}
-use Rattle.dfdl_compile.proofs.Taken.{bare_typed, bounded, have, leaves_typed, root_element, tables_are, unframed_components, wholes}
+use Rattle.dfdl_compile.proofs.Ending.{root_table, root_fault, root_within}
+use Rattle.dfdl_compile.proofs.Taken.{bare_typed, bounded, have, leaves_typed, root_element, tables_are, bare_components, wholes}
 use Rattle.dfdl_compile.proofs.compiling.compile_root.Goals as goal
 
 pub terms_of-requires-clause-within : goal.terms_of-requires-clause-within
@@ -57,7 +57,7 @@ returns-in-Ok-clause-leaves c =
 
 pub returns-in-Ok-clause-whole : goal.returns-in-Ok-clause-whole
 returns-in-Ok-clause-whole c = λ unparsing.
-    wholes c.args.purpose c.args.schema.now unparsing c.sound_elements_have_bounded_primitives.ensures.whole_alone c.in-Ok.terms.primitives
+    wholes c.args.purpose c.args.schema.now unparsing c.sound_elements_have_bounded_primitives.ensures.whole c.in-Ok.terms.primitives
     (c.in-Ok.ensures.tables ∙ (tables_are c.args.purpose c.args.schema.now c.as_slice-2.result.now c.in_ok-tables.tables (c.as_slice-2.ensures.value ∙ c.in_ok-judgements.ensures) c.in_ok-tables.ensures))
 
 pub returns-in-Ok-clause-bare : goal.returns-in-Ok-clause-bare
@@ -65,10 +65,10 @@ returns-in-Ok-clause-bare c = λ unparsing.
     bare_typed c.args.purpose c.args.schema.now c.in_ok-components.components c.in-Ok.terms
     (c.in_ok-components.ensures.components ∙ ap (λ (q : Purpose). components_of q c.args.schema.now) c.in_ok-gathered.ensures.purpose)
     (c.in-Ok.ensures.tables ∙ (tables_are c.args.purpose c.args.schema.now c.as_slice-2.result.now c.in_ok-tables.tables (c.as_slice-2.ensures.value ∙ c.in_ok-judgements.ensures) c.in_ok-tables.ensures))
-    (c.in-Ok.ensures.bare (unframed_components c.args.schema.now c.args.purpose c.in_ok-components.components unparsing
+    (c.in-Ok.ensures.bare (bare_components c.args.schema.now c.args.purpose c.in_ok-components.components unparsing
     (c.in_ok-components.ensures.components ∙ ap (λ (q : Purpose). components_of q c.args.schema.now) c.in_ok-gathered.ensures.purpose)))
 
-pub returns-in-Ok-clause-no_fill : goal.returns-in-Ok-clause-no_fill
-returns-in-Ok-clause-no_fill c = λ unparsing.
-    c.in-Ok.ensures.no_fill (unframed_components c.args.schema.now c.args.purpose c.in_ok-components.components unparsing
+pub returns-in-Ok-clause-plain : goal.returns-in-Ok-clause-plain
+returns-in-Ok-clause-plain c = λ unparsing.
+    c.in-Ok.ensures.plain (bare_components c.args.schema.now c.args.purpose c.in_ok-components.components unparsing
     (c.in_ok-components.ensures.components ∙ ap (λ (q : Purpose). components_of q c.args.schema.now) c.in_ok-gathered.ensures.purpose))

@@ -1,4 +1,4 @@
-use Rattle.std.proofs.Common.{◌≡◌, ◌∙◌, List, map, length, option_map, ap, sym}
+use Rattle.std.proofs.Common.{◌∙◌, List, map, length, option_map, ap, sym}
 use Rattle.std.proofs.lemmas.List.{length-map}
 use Rattle.dfdl_components.specs.declared.site.Site.{Site}
 use Rattle.dfdl_chains.specs.Everywhere.{all_sites}

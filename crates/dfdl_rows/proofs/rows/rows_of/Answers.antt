@@ -1,6 +1,6 @@
 use Rattle.std.proofs.Common.{List, length, All, sym, ap, subst, arith}
 use Rattle.dfdl_terms.specs.declared.row.Row.{Row}
-use Rattle.dfdl_terms.specs.Rows.{Nests, NamesWithin, HasNoFill}
+use Rattle.dfdl_terms.specs.Rows.{Nests, NamesWithin, HasPlainRows}
 use Rattle.dfdl_rows.specs.Components.{component_at}
 use Rattle.dfdl_rows.specs.Answers.{EndsWith}
 use Rattle.dfdl_rows.proofs.Nesting.{rows_nest, rows_some, rows_named, rows_bare, rows_end}
@@ -55,7 +55,7 @@ returns-clause-bare c = λ bare.
     subst (λ (rows : List Row). HaveBareLeaves c.args.components.now.components rows) (sym c.in_ok-all_rows.ensures)
     (rows_have_bare_leaves c.args.components.now c.facts.ensures.ordered c.facts.ensures.of_one bare c.args.root c.requires)
 
-pub returns-clause-no_fill : goal.returns-clause-no_fill
-returns-clause-no_fill c = λ bare.
-    subst HasNoFill (sym c.in_ok-all_rows.ensures)
+pub returns-clause-plain : goal.returns-clause-plain
+returns-clause-plain c = λ bare.
+    subst HasPlainRows (sym c.in_ok-all_rows.ensures)
     (rows_bare c.args.components.now c.facts.ensures.ordered c.facts.ensures.of_one bare c.args.root c.requires)

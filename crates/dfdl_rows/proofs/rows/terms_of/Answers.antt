@@ -1,5 +1,5 @@
 use Rattle.std.proofs.Common.{length, sym, subst}
-use Rattle.dfdl_terms.specs.Rows.{HasNoFill, Table}
+use Rattle.dfdl_terms.specs.Rows.{HasPlainRows, Table}
 use Rattle.dfdl_rows.specs.Leaves.{HaveLeaves, HaveBareLeaves}
 use Rattle.dfdl_rows.proofs.rows.terms_of.Goals as goal
 
@@ -14,6 +14,6 @@ pub returns-in-Ok-clause-bare : goal.returns-in-Ok-clause-bare
 returns-in-Ok-clause-bare c = λ bare.
     subst (λ (t : Table). HaveBareLeaves c.args.components.now.components t.rows) (sym c.built.ensures) (c.in-Ok.ensures.bare bare)
 
-pub returns-in-Ok-clause-no_fill : goal.returns-in-Ok-clause-no_fill
-returns-in-Ok-clause-no_fill c = λ bare.
-    subst (λ (t : Table). HasNoFill t.rows) (sym c.built.ensures) (c.in-Ok.ensures.no_fill bare)
+pub returns-in-Ok-clause-plain : goal.returns-in-Ok-clause-plain
+returns-in-Ok-clause-plain c = λ bare.
+    subst (λ (t : Table). HasPlainRows t.rows) (sym c.built.ensures) (c.in-Ok.ensures.plain bare)

@@ -1,4 +1,4 @@
-use Rattle.std.proofs.Common.{◌≡◌, ℕ, zero, suc, ◌<◌, ◌^◌, ◌+◌, List, [], ◌∷◌, length, get_or, arith, refl, ◌∙◌}
+use Rattle.std.proofs.Common.{◌≡◌, ℕ, zero, suc, ◌<◌, List, [], ◌∷◌, length, get_or, arith, refl, ◌∙◌}
 use Rattle.dfdl_components.specs.Recursion.{start_of, count_of, number_of}
 use Rattle.dfdl_chains.proofs.Numbering.{number_below}
 use Rattle.dfdl_chains.proofs.numbers.Numbers.number.Goals as goal

@@ -1,8 +1,8 @@
-use Rattle.std.proofs.Common.{◌≡◌, ap, ◌∙◌, option_map, arith}
+use Rattle.std.proofs.Common.{ap, option_map, arith}
 use Rattle.dfdl_components.specs.Globals.{site}
-use Rattle.dfdl_compile.specs.Components.{root_of}
-use Rattle.dfdl_compile.proofs.Roots.{no_documents}
-use Rattle.dfdl_compile.proofs.root.root_of.Goals as goal
+use Rattle.dfdl_breaches.specs.Roots.{root_of}
+use Rattle.dfdl_breaches.proofs.Roots.{no_documents}
+use Rattle.dfdl_breaches.proofs.root.root_of.Goals as goal
 
 pub count-requires : goal.count-requires
 count-requires c = tt

@@ -2,7 +2,7 @@
 use Rattle.std.proofs.Common.{◌≡◌, List, [], ◌∷◌, length, Option, None, ap, refl, arith}
 use Rattle.dfdl_documents.specs.Documents.{SchemaDocument}
 use Rattle.dfdl_components.specs.Searching.{first_below}
-use Rattle.dfdl_compile.specs.Components.{root_of}
+use Rattle.dfdl_breaches.specs.Roots.{root_of}
 
 pub no_documents : (documents : List SchemaDocument) → length documents ≡ 0 → None ≡ root_of documents
 unfolding root_of first_below

@@ -3,7 +3,7 @@ ghost use Rattle.std.specs.Prelude.{◌≡◌, ◌<◌, true, length, IfSome};
 ghost use Rattle.dfdl_components.specs.Searching.{first_below};
 ghost use Rattle.dfdl_components.specs.Sites.{IsSite, nodes_of, role_of};
 ghost use Rattle.dfdl_constructs.specs.Roles.{role_at};
-ghost use Rattle.dfdl_compile.specs.Components as spec;
+ghost use Rattle.dfdl_breaches.specs.Roots as spec;
 
 use dfdl_components::{Schema, Site};
 use dfdl_constructs::Role;
@@ -35,8 +35,8 @@ fn first_global(schema: &Schema) -> Option<u32>
     None
 }
 
-/// The root: the first global element of the first document.
-pub(crate) fn root_of(schema: &Schema) -> Option<Site>
+/// The root: the first global element of the first document ('DFDL Schema Component Model'). Takes no memory.
+pub fn root_of(schema: &Schema) -> Option<Site>
     ensures root { result ≡ spec.root_of schema.now }
     ensures within { IfSome result (IsSite schema.now) }
     ensures global { IfSome result (λ site. spec.is_global_element (role_of schema.now site) ≡ true) }

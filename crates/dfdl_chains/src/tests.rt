@@ -1,0 +1,80 @@
+// The greatest lengths of the elements of schemas in memory.
+ghost use Rattle.dfdl_components.specs.Sites.{IsSite};
+ghost use Rattle.dfdl_chains.specs.Shown.{AreNumbers};
+
+use crate::{Numbers, chain_sites, facts_at, is_component};
+use dfdl_components::{Schema, Site, load};
+use dfdl_edge::{MemoryFile, MemoryFiles};
+use std::alloc::{AllocError, Global};
+use std::test::Fail;
+
+/// What is told of an element: of a component its greatest length or a hyphen, else nothing.
+fn told_of(
+    alloc: Global,
+    schema: &Schema,
+    numbers: &Numbers,
+    site: Site,
+) -> Result<String, AllocError>
+    requires site { IsSite schema.now site }
+    requires numbers { AreNumbers schema.now numbers.now }
+{
+    if !is_component(schema.role(site)) {
+        return Ok(String::new(alloc));
+    }
+    let mut chain = Vec::new(alloc);
+    chain_sites(schema, numbers, site, &mut chain)?;
+    match facts_at(schema, site, chain.as_slice()).max_length {
+        Some(length) => format!(in alloc; "{length} "),
+        None => String::from_str(alloc, "- "),
+    }
+}
+
+/// What is told of the elements of the first document.
+fn told_of_all(alloc: Global, schema: &Schema) -> Result<String, AllocError> {
+    let numbers = Numbers::of(alloc, schema)?;
+    let mut line = String::new(alloc);
+    for document in 0..schema.count() {
+        for element in 0..schema.tree(document).count() {
+            let site = Site { document, element };
+            line.push_str(told_of(alloc, schema, &numbers, site)?.as_str())?;
+        }
+    }
+    Ok(line)
+}
+
+/// What is told of a schema of one document with these components.
+fn told(alloc: Global, components: &str) -> Result<String, AllocError> {
+    let text = format!(in alloc;
+        "<x:schema xmlns:x=\"http://www.w3.org/2001/XMLSchema\">{components}</x:schema>"
+    )?;
+    let mut files = Vec::new(alloc);
+    files.push(MemoryFile {
+        name: String::from_str(alloc, "a")?,
+        bytes: text.into_bytes(),
+    })?;
+    let mut files = MemoryFiles::new(files, Vec::new(alloc));
+    match load(alloc, &mut files, "a", 10_000, 2) {
+        Ok(schema) => told_of_all(alloc, &schema),
+        Err(_) => String::from_str(alloc, "refused"),
+    }
+}
+
+#[test]
+fn the_nearest_greatest_length_counts(rt: HostRuntime) -> Result<(), Fail> {
+    let alloc = rt.alloc();
+    let components = "<x:simpleType name=\"far\"><x:restriction base=\"x:string\">\
+        <x:minLength value=\"1\"/><x:maxLength value=\"40\"/></x:restriction></x:simpleType>\
+        <x:simpleType name=\"near\"><x:restriction base=\"far\"><x:maxLength value=\"007\"/></x:restriction></x:simpleType>\
+        <x:simpleType name=\"last\"><x:restriction base=\"near\"/></x:simpleType>\
+        <x:element name=\"a\"><x:simpleType><x:restriction base=\"x:string\">\
+        <x:maxLength value=\"12\"/><x:maxLength value=\"9\"/></x:restriction></x:simpleType></x:element>\
+        <x:element name=\"b\" type=\"far\"/>\
+        <x:element name=\"c\" type=\"last\"/>\
+        <x:element name=\"d\" type=\"x:string\"/>\
+        <x:element name=\"e\"><x:complexType><x:sequence><x:element ref=\"b\"/></x:sequence></x:complexType></x:element>\
+        <x:element name=\"f\"><x:simpleType><x:restriction base=\"far\">\
+        <x:maxLength value=\"18446744073709551616\"/></x:restriction></x:simpleType></x:element>";
+    let line = told(alloc, components)?;
+    assert_eq!(rt; line.as_str(), "12 40 7 - - - 40 18446744073709551615 ");
+    Ok(())
+}

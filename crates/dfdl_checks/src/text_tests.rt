@@ -1,0 +1,209 @@
+// Strings, elements of type hexBinary, and boxes of complex elements.
+use super::tests::{PLAIN, explicit, one, told_of, told_with};
+use super::{Facts, Kind, Purpose};
+use dfdl_forms::{BitOrder, Encoding, Justify, PadForm, Simple};
+use dfdl_terms::{OctetForm, Primitive, TextForm, TextSize};
+use std::alloc::AllocGlobal;
+use std::process::Abort;
+use std::test::Fail;
+
+const STRING: Kind = Kind::SimpleElement(Simple::String);
+
+const BYTES: Kind = Kind::SimpleElement(Simple::HexBinary);
+
+/// A kind of element, the encoding, its length and its units, and the number of its first breach, 0 where it
+/// has none.
+type Boxed = (Kind, &'static str, &'static str, &'static str, u8);
+
+const LENGTHS: [Boxed; 21] = [
+    (STRING, "UTF-8", "0", "bytes", 0),
+    (STRING, "utf-8", "3", "bits", 0),
+    (STRING, "ascii", "3", "bytes", 0),
+    (STRING, "EBCDIC", "3", "bytes", 9),
+    (STRING, "{x}", "3", "bytes", 10),
+    (STRING, "UTF-8", "3", "words", 9),
+    (STRING, "UTF-8", "{3}", "bytes", 3),
+    (STRING, "UTF-8", "1073741824", "bytes", 0),
+    (STRING, "UTF-8", "1073741825", "bytes", 17),
+    (STRING, "UTF-8", "1073741824", "characters", 0),
+    (STRING, "UTF-16LE", "536870912", "characters", 0),
+    (STRING, "UTF-16LE", "536870913", "characters", 17),
+    (STRING, "UTF-16BE", "1073741824", "bytes", 0),
+    (BYTES, "", "7", "bits", 0),
+    (BYTES, "", "7", "characters", 16),
+    (BYTES, "", "8589934592", "bits", 0),
+    (BYTES, "", "8589934593", "bits", 17),
+    (Kind::ComplexElement, "", "0", "bytes", 0),
+    (Kind::ComplexElement, "", "1", "characters", 16),
+    (Kind::ComplexElement, "", "1073741825", "bytes", 17),
+    (Kind::ComplexElement, "", "18446744073709551617", "bits", 17),
+];
+
+fn is_sized<R: Abort + AllocGlobal>(rt: &R, case: Boxed) -> Result<(), Fail> {
+    let (kind, encoding, length, units, wanted) = case;
+    let mut own = explicit(rt.alloc(), length, units)?;
+    own.add("encoding", encoding)?;
+    let told = told_of(rt.alloc(), Purpose::Parsing, kind, &own)?;
+    assert_eq!(rt; told.number, wanted, "{encoding} {length} {units}");
+    Ok(())
+}
+
+#[test]
+fn boxes_are_no_longer_than_the_greatest_length(rt: HostRuntime) -> Result<(), Fail> {
+    for case in LENGTHS.iter() {
+        is_sized(&rt, *case)?;
+    }
+    Ok(())
+}
+
+/// A property of a string of explicit length, and the number of its first breach.
+const PROPERTIES: [(&str, &str, u8); 7] = [
+    ("encodingErrorPolicy", "error", 0),
+    ("textTrimKind", "padChar", 3),
+    ("textPadKind", "padChar", 3),
+    ("textStringJustification", "middle", 9),
+    ("escapeSchemeRef", "e", 3),
+    ("textStringPadCharacter", "", 0),
+    ("lengthKind", "delimited", 3),
+];
+
+fn is_told<R: Abort + AllocGlobal>(
+    rt: &R,
+    name: &'static str,
+    value: &'static str,
+    wanted: u8,
+) -> Result<(), Fail> {
+    let mut own = one(rt.alloc(), name, value)?;
+    own.add("encoding", "UTF-8")?;
+    own.add("length", "1")?;
+    if name != "lengthKind" {
+        own.add("lengthKind", "explicit")?;
+    }
+    let told = told_of(rt.alloc(), Purpose::Parsing, STRING, &own)?;
+    assert_eq!(rt; told.number, wanted, "{name} {value}");
+    Ok(())
+}
+
+#[test]
+fn a_string_is_asked_for_what_is_of_text(rt: HostRuntime) -> Result<(), Fail> {
+    for case in PROPERTIES.iter() {
+        let (name, value, wanted) = *case;
+        is_told(&rt, name, value, wanted)?;
+    }
+    Ok(())
+}
+
+/// A string at the left that is cut nowhere.
+fn text_of(encoding: Encoding, replaces: bool, size: TextSize) -> Option<Primitive> {
+    Some(Primitive::Text(TextForm {
+        encoding,
+        replaces,
+        size,
+        pad: PadForm {
+            justify: Justify::Left,
+            pad: None,
+            trim: None,
+            truncate: false,
+            keeps_zero: false,
+        },
+    }))
+}
+
+/// An element of a type with a greatest length.
+fn at_most(max_length: u64) -> Facts {
+    Facts {
+        max_length: Some(max_length),
+        ..PLAIN
+    }
+}
+
+#[test]
+fn a_string_lies_as_its_properties_say(rt: HostRuntime) -> Result<(), Fail> {
+    let alloc = rt.alloc();
+    let mut own = explicit(alloc, "3", "bytes")?;
+    own.add("encoding", "us-ascii")?;
+    own.add("encodingErrorPolicy", "error")?;
+    let told = told_of(alloc, Purpose::Parsing, STRING, &own)?;
+    let wanted = text_of(Encoding::UsAscii, false, TextSize::Bits(24));
+    assert!(rt; told.primitive == wanted);
+    assert!(rt; told.size.is_none());
+    let unparsed = told_of(alloc, Purpose::Unparsing, STRING, &own)?;
+    assert_eq!(rt; unparsed.number, 3);
+    assert!(rt; unparsed.primitive.is_none());
+    let mut own = explicit(alloc, "3", "characters")?;
+    own.add("encoding", "UTF-16BE")?;
+    let told = told_of(alloc, Purpose::Parsing, STRING, &own)?;
+    let wanted = text_of(Encoding::Utf16Be, true, TextSize::Characters(3));
+    assert!(rt; told.primitive == wanted);
+    Ok(())
+}
+
+#[test]
+fn implicit_lengths_are_the_greatest_ones(rt: HostRuntime) -> Result<(), Fail> {
+    let alloc = rt.alloc();
+    let mut own = one(alloc, "encoding", "ISO-8859-1")?;
+    let missing = told_of(alloc, Purpose::Parsing, STRING, &own)?;
+    assert_eq!(rt; missing.number, 14);
+    let bytes = told_with(alloc, Purpose::Parsing, STRING, at_most(5), &own)?;
+    assert_eq!(rt; bytes.number, 0);
+    let wanted = text_of(Encoding::Iso88591, true, TextSize::Bits(40));
+    assert!(rt; bytes.primitive == wanted);
+    own.add("lengthUnits", "characters")?;
+    let characters = told_with(alloc, Purpose::Parsing, STRING, at_most(5), &own)?;
+    let wanted = text_of(Encoding::Iso88591, true, TextSize::Characters(5));
+    assert!(rt; characters.primitive == wanted);
+    let long = told_with(
+        alloc,
+        Purpose::Parsing,
+        STRING,
+        at_most(18446744073709551615),
+        &own,
+    )?;
+    assert_eq!(rt; long.number, 17);
+    Ok(())
+}
+
+#[test]
+fn bytes_lie_in_boxes_of_their_length(rt: HostRuntime) -> Result<(), Fail> {
+    let alloc = rt.alloc();
+    let own = explicit(alloc, "20", "bits")?;
+    let told = told_of(alloc, Purpose::Parsing, BYTES, &own)?;
+    let wanted = Some(Primitive::Octets(OctetForm {
+        bits: 20,
+        bits_by: BitOrder::MostFirst,
+    }));
+    assert!(rt; told.primitive == wanted);
+    let own = one(alloc, "lengthUnits", "bits")?;
+    let implicit = told_with(alloc, Purpose::Parsing, BYTES, at_most(2), &own)?;
+    assert_eq!(rt; implicit.number, 0);
+    let wanted = Some(Primitive::Octets(OctetForm {
+        bits: 16,
+        bits_by: BitOrder::MostFirst,
+    }));
+    assert!(rt; implicit.primitive == wanted);
+    let missing = told_of(alloc, Purpose::Parsing, BYTES, &own)?;
+    assert_eq!(rt; missing.number, 14);
+    Ok(())
+}
+
+#[test]
+fn complex_elements_of_explicit_length_have_a_box(rt: HostRuntime) -> Result<(), Fail> {
+    let alloc = rt.alloc();
+    let own = explicit(alloc, "3", "bytes")?;
+    let told = told_of(alloc, Purpose::Parsing, Kind::ComplexElement, &own)?;
+    assert!(rt; told.size == Some(24));
+    let unparsed = told_of(alloc, Purpose::Unparsing, Kind::ComplexElement, &own)?;
+    assert_eq!(rt; unparsed.number, 3);
+    assert!(rt; unparsed.size.is_none());
+    let own = one(alloc, "length", "3")?;
+    let implicit = told_with(
+        alloc,
+        Purpose::Parsing,
+        Kind::ComplexElement,
+        at_most(3),
+        &own,
+    )?;
+    assert_eq!(rt; implicit.number, 0);
+    assert!(rt; implicit.size.is_none());
+    Ok(())
+}

@@ -1,21 +1,26 @@
 -- A document stops by a limit on data alone.
-use Rattle.std.proofs.Common.{ℕ, zero, suc, ◌+◌, ◌-◌, ◌/◌, nat_eq, nat_le, nat_lt, true, false, Bool, if◌then◌else◌, List, [], ◌∷◌, length, Option, None, Some, slice_get}
+use Rattle.std.proofs.Common.{ℕ, zero, suc, ◌+◌, ◌-◌, ◌*◌, ◌/◌, nat_eq, nat_le, nat_lt, true, false, Bool, if◌then◌else◌, List, [], ◌∷◌, ◌++◌, length, Option, None, Some, slice_get}
 use Rattle.dfdl_report.specs.declared.cause.LimitCause.{LimitCause}
 use Rattle.dfdl_report.specs.declared.cause.LimitCause.TheVariants.{Window, Nodes, Text}
+use Rattle.dfdl_report.specs.declared.cause.ParseCause.TheVariants.{LengthOutOfRange}
 use Rattle.dfdl_looks.specs.Asks.{Reached, Told, TooFar, Missing, ask}
 use Rattle.dfdl_looks.specs.Looks.{seen_in}
 use Rattle.dfdl_looks.specs.Tallies.{nothing}
 use Rattle.dfdl_terms.specs.Rows.{Table}
 use Rattle.dfdl_terms.specs.declared.row.Primitive.{Primitive}
 use Rattle.dfdl_terms.specs.declared.row.Row.{Row}
-use Rattle.dfdl_terms.specs.declared.row.Row.TheVariants.{Leaf, Elem, Group, Skip, Align}
+use Rattle.dfdl_terms.specs.declared.row.Row.TheVariants.{Leaf, Elem, Group, Skip, Align, Boxed}
+use Rattle.dfdl_region.specs.declared.node.Content.{Content}
+use Rattle.dfdl_region.specs.declared.node.Content.TheVariants as content
+use Rattle.dfdl_region.specs.Nodes.{with_content}
 use Rattle.dfdl_grammar.specs.declared.end.End.{End}
 use Rattle.dfdl_grammar.specs.declared.end.End.TheVariants.{Done, Failed, Stopped}
 use Rattle.dfdl_grammar.specs.declared.limits.Limits.{Limits}
 use Rattle.dfdl_grammar.specs.States.{Input, State, anchor, anchor_at}
-use Rattle.dfdl_grammar.specs.Outcomes.{Outcome, ended, follow, then_do}
-use Rattle.dfdl_grammar.specs.Leaves.{Find, Fails, Finds, land, leaf, program}
+use Rattle.dfdl_grammar.specs.Outcomes.{Outcome, ended, follow, spend, then_do}
+use Rattle.dfdl_grammar.specs.Leaves.{Find, Fails, Finds, FindsOctets, FindsText, content_begins, has_room, hold, land, leaf, program}
 use Rattle.dfdl_grammar.specs.Framing.{aligned, fill_to, has_byte, pass_to, passed}
+use Rattle.dfdl_grammar.specs.Boxes.{boxed, bytes_up_to, pass_bytes, past_byte, rest as rest_of, unboxed}
 use Rattle.dfdl_grammar.specs.Elements.{begun, close, element, has_elements}
 use Rattle.dfdl_grammar.specs.Rows.{below, group, meaning, row, row_at}
 use Rattle.dfdl_grammar.specs.Documents.{document}
@@ -33,17 +38,38 @@ StopsByData Done = Unit {0}
 StopsByData (Failed cause bit) = Unit {0}
 StopsByData (Stopped cause quantity) = IsOfData cause
 
-land-stops : (window : ℕ) (reached : Reached Find) (s : State) → StopsByData (land window reached s).end
-land-stops window (Told (Fails cause)) s = tt
-land-stops window (Told (Finds content bits)) s = tt
-land-stops window TooFar s = tt
-land-stops window Missing s = tt
+hold-stops : (most : ℕ) (made : ℕ → ℕ → Content) (bytes : List ℕ) (end : ℕ) (s : State) (room : Bool)
+    → StopsByData (let whole : Outcome = (if room then ended Done (record s {
+      at = end;
+      text = s.text ++ bytes;
+      nodes = with_content s.nodes s.inside (made (length s.text) (length bytes));
+    }) else ended (Stopped Text most) s) in whole.end)
+hold-stops most made bytes end s true = tt
+hold-stops most made bytes end s false = tt
+
+land-stops : (limits : Limits) (first : ℕ) (reached : Reached Find) (s : State) → StopsByData (land limits first reached s).end
+land-stops limits first (Told (Fails cause)) s = tt
+land-stops limits first (Told (Finds content bits)) s = tt
+land-stops limits first (Told (FindsOctets bytes bits)) s =
+    hold-stops limits.text content.Octets bytes (s.at + bits) s (nat_le (length s.text + length bytes) limits.text)
+land-stops limits first (Told (FindsText bytes end)) s =
+    hold-stops limits.text content.Text bytes end s (nat_le (length s.text + length bytes) limits.text)
+land-stops limits first TooFar s = tt
+land-stops limits first Missing s = tt
+
+room-stops : (input : Input) (primitive : Primitive) (s : State) (room : Bool)
+    → StopsByData (let whole : Outcome = (if room then
+    (let reading = ask (seen_in input.bytes input.limits.window (anchor s)) (program primitive s.at s.stop) nothing in
+    spend reading.tally (land input.limits (content_begins primitive s.at) reading.reached s))
+    else ended (Failed LengthOutOfRange s.at) s) in whole.end)
+room-stops input primitive s true =
+    land-stops input.limits (content_begins primitive s.at)
+    (ask (seen_in input.bytes input.limits.window (anchor s)) (program primitive s.at s.stop) nothing).reached s
+room-stops input primitive s false = tt
 
 leaf-stops : (input : Input) (primitive : Option Primitive) (s : State) → StopsByData (leaf input primitive s).end
 leaf-stops input None s = tt
-leaf-stops input (Some primitive) s =
-    land-stops input.limits.window
-    (ask (seen_in input.bytes input.limits.window (anchor s)) (program primitive s.at) nothing).reached s
+leaf-stops input (Some primitive) s = room-stops input primitive s (has_room primitive s.at s.stop)
 
 passed-stops : (window to : ℕ) (reached : Reached Bool) (s : State) → StopsByData (passed window to reached s).end
 passed-stops window to (Told true) s = tt
@@ -51,13 +77,35 @@ passed-stops window to (Told false) s = tt
 passed-stops window to TooFar s = tt
 passed-stops window to Missing s = tt
 
+fill-stops : (input : Input) (to : ℕ) (s : State) (over room : Bool)
+    → StopsByData (let whole : Outcome = (if over then ended Done s else if room then fill_to input to s
+    else ended (Failed LengthOutOfRange s.at) s) in whole.end)
+fill-stops input to s true room = tt
+fill-stops input to s false true =
+    passed-stops input.limits.window to
+    (ask (seen_in input.bytes input.limits.window (anchor_at s (to - 1))) (has_byte ((to - 1) / 8)) nothing).reached s
+fill-stops input to s false false = tt
+
 pass-stops : (input : Input) (to : ℕ) (s : State) → StopsByData (pass_to input to s).end
-pass-stops input to s = elim (nat_le to s.at) as (λ (b : Bool).
-    StopsByData (let whole : Outcome = (if b then ended Done s else fill_to input to s) in whole.end)) [
-      | true ↦ tt
-      | false ↦ passed-stops input.limits.window to
-          (ask (seen_in input.bytes input.limits.window (anchor_at s (to - 1))) (has_byte ((to - 1) / 8)) nothing).reached s
-    ]
+pass-stops input to s = fill-stops input to s (nat_le to s.at) (nat_le to s.stop)
+
+byte-stops : (window : ℕ) (reached : Reached Bool) (next : State → Outcome) → ((s : State) → StopsByData (next s).end)
+    → (s : State) → StopsByData (past_byte window reached next s).end
+byte-stops window (Told true) next after s = after s
+byte-stops window (Told false) next after s = tt
+byte-stops window TooFar next after s = tt
+byte-stops window Missing next after s = tt
+
+bytes-stop : (input : Input) (left k : ℕ) (s : State) → StopsByData (pass_bytes input left k s).end
+bytes-stop input zero k s = tt
+bytes-stop input (suc left) k s =
+    byte-stops input.limits.window (ask (seen_in input.bytes input.limits.window (anchor_at s (8 * k))) (has_byte k) nothing).reached
+    (pass_bytes input left (k + 1)) (bytes-stop input left (k + 1)) s
+
+rest-stops : (input : Input) (s : State) (over : Bool)
+    → StopsByData (let whole : Outcome = (if over then ended Done s else pass_bytes input (bytes_up_to s.stop (s.at / 8)) (s.at / 8) s) in whole.end)
+rest-stops input s true = tt
+rest-stops input s false = bytes-stop input (bytes_up_to s.stop (s.at / 8)) (s.at / 8) s
 
 follow-stops : (end : End) (o : Outcome) (next : State → Outcome) → StopsByData o.end
     → ((s : State) → StopsByData (next s).end) → StopsByData (follow end o next).end
@@ -86,6 +134,22 @@ element-stops input id complex body each s = elim (nat_lt (length s.nodes) input
       | false ↦ tt
     ]
 
+unboxed-stops : (end : End) (outer : ℕ) (o : Outcome) → StopsByData o.end → StopsByData (unboxed end outer o).end
+unboxed-stops Done outer o own = own
+unboxed-stops (Failed cause bit) outer o own = own
+unboxed-stops (Stopped cause quantity) outer o own = own
+
+boxed-stops : (input : Input) (bits : ℕ) (body : State → Outcome) → ((s : State) → StopsByData (body s).end) → (s : State) (room : Bool)
+    → StopsByData (let whole : Outcome = (if room then
+    (let o : Outcome = then_do (body (record s { stop = s.at + bits })) (rest_of input) in unboxed o.end s.stop o)
+    else ended (Failed LengthOutOfRange s.at) s) in whole.end)
+boxed-stops input bits body each s true =
+    let inside : State = record s { stop = s.at + bits } in
+    let o : Outcome = then_do (body inside) (rest_of input) in
+    unboxed-stops o.end s.stop o
+    (follow-stops (body inside).end (body inside) (rest_of input) (each inside) (λ t. rest-stops input t (nat_le t.stop t.at)))
+boxed-stops input bits body each s false = tt
+
 row-stops : (input : Input) (table : Table) (child : ℕ → State → Outcome) → ((id : ℕ) (s : State) → StopsByData (child id s).end)
     → (id : ℕ) (o : Option Row) (s : State) → StopsByData (row input table child id o s).end
 row-stops input table child each id None s = tt
@@ -95,6 +159,8 @@ row-stops input table child each id (Some (Elem name simple body)) s =
 row-stops input table child each id (Some (Group children)) s = group-stops child each children s
 row-stops input table child each id (Some (Skip bits)) s = pass-stops input (s.at + bits) s
 row-stops input table child each id (Some (Align bits)) s = pass-stops input (aligned bits s.at) s
+row-stops input table child each id (Some (Boxed bits body)) s =
+    boxed-stops input bits (child body) (each body) s (nat_le (s.at + bits) s.stop)
 
 below-stops : (input : Input) (table : Table) (n id : ℕ) (s : State) → StopsByData (below input table n id s).end
 unfolding below

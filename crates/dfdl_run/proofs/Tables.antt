@@ -8,9 +8,9 @@ use Rattle.dfdl_forms.specs.declared.binary.IntForm.{IntForm}
 use Rattle.dfdl_forms.specs.declared.simple.Simple.{Simple}
 use Rattle.dfdl_terms.specs.Rows.{Table}
 use Rattle.dfdl_terms.specs.declared.row.Primitive.{Primitive}
-use Rattle.dfdl_terms.specs.declared.row.Primitive.TheVariants.{Integer, Packed, Truth}
+use Rattle.dfdl_terms.specs.declared.row.Primitive.TheVariants.{Integer, Packed, Truth, Octets, Text}
 use Rattle.dfdl_terms.specs.declared.row.Row.{Row}
-use Rattle.dfdl_terms.specs.declared.row.Row.TheVariants.{Leaf, Elem, Group, Skip, Align}
+use Rattle.dfdl_terms.specs.declared.row.Row.TheVariants.{Leaf, Elem, Group, Skip, Align, Boxed}
 use Rattle.dfdl_checks.specs.Forms.{IsWhole, IsWholeUnsigned}
 use Rattle.dfdl_compile.specs.Primitives.{HasBareTypedLeaves, IsLeafOfType, IsOfType}
 use Rattle.dfdl_pieces.specs.Laying.{form_in, integer_form}
@@ -53,6 +53,8 @@ whole_in primitives prim simple (Some (Integer form)) is wholes typed =
     (typed, field_of form (whole_at primitives prim (Integer form) is wholes))
 whole_in primitives prim simple (Some (Packed form)) is wholes typed = absurd (whole_at primitives prim (Packed form) is wholes)
 whole_in primitives prim simple (Some (Truth form)) is wholes typed = absurd (whole_at primitives prim (Truth form) is wholes)
+whole_in primitives prim simple (Some (Octets form)) is wholes typed = absurd (whole_at primitives prim (Octets form) is wholes)
+whole_in primitives prim simple (Some (Text form)) is wholes typed = absurd (whole_at primitives prim (Text form) is wholes)
 
 whole_row : (t : Table) → All IsWhole t.primitives → (simple : Simple) (o : Option Row) → IsLeafOfType t.primitives simple o
     → IsWholeForm simple (form_in t o)
@@ -61,6 +63,7 @@ whole_row t wholes simple (Some (Elem name other body)) leaf = absurd leaf
 whole_row t wholes simple (Some (Group children)) leaf = absurd leaf
 whole_row t wholes simple (Some (Skip bits)) leaf = absurd leaf
 whole_row t wholes simple (Some (Align bits)) leaf = absurd leaf
+whole_row t wholes simple (Some (Boxed bits body)) leaf = absurd leaf
 whole_row t wholes simple None leaf = absurd leaf
 
 -- rows whose simple elements have leaves of their types, which are all whole

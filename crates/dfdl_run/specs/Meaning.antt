@@ -24,14 +24,14 @@ use Rattle.dfdl_run.specs.declared.command.Verb.{Verb}
 use Rattle.dfdl_run.specs.declared.command.Verb.TheVariants.{Parse, Unparse}
 use Rattle.dfdl_run.specs.Answer.{End}
 
--- the most bytes that are held of the data, and the most elements of a document
+-- the most bytes that are held of the data, the most elements of a document, and the most bytes of its strings and hexBinary values
 abbrev pub limits : Limits
-limits = record { window = 33554432; nodes = 1000000 }
+limits = record { window = 33554432; nodes = 1000000; text = 33554432 }
 
 -- the answer of a document that is read up to a bit, of so many bits of data: what is left is told from a whole byte on
 abbrev pub answer_at : Table → ℕ → State → Answer
 answer_at t bits s =
-    if nat_le (s.at + 8) bits then LeftOver (line_of t s.nodes) s.at else Done (line_of t s.nodes)
+    if nat_le (s.at + 8) bits then LeftOver (line_of t s.nodes s.text) s.at else Done (line_of t s.nodes s.text)
 
 -- what the end of a document comes to, of so many bits of data
 abbrev pub document_end : Table → ℕ → DocumentEnd → State → End

@@ -1,7 +1,7 @@
 // What a run comes to, before anything is written.
 ghost use Rattle.std.specs.Prelude.{◌≡◌, ◌⊎◌, ◌<◌, ◌+◌, ◌^◌, ◌≤◌, Err, length, map};
 ghost use Rattle.std.specs.Prelude.{string_bytes};
-ghost use Rattle.dfdl_terms.specs.Rows.{HasElementLast, HasNoFill};
+ghost use Rattle.dfdl_terms.specs.Rows.{HasElementLast, HasPlainRows};
 ghost use Rattle.dfdl_pieces.specs.Whole.{AreWholeFields};
 ghost use Rattle.dfdl_run.specs.Decided.{Decided, IsReadEnd};
 ghost use Rattle.dfdl_run.specs.Meaning.{end_of};
@@ -27,7 +27,7 @@ fn meaning(alloc: Global, verb: Verb, terms: &Terms, bytes: &[u8]) -> Result<Ans
     requires small { length bytes.now ≤ 2 ^ 60 }
     requires element { HasElementLast terms.now }
     requires whole { verb ≡ Unparse → AreWholeFields terms.now }
-    requires no_fill { verb ≡ Unparse → HasNoFill terms.now.rows }
+    requires plain { verb ≡ Unparse → HasPlainRows terms.now.rows }
     ensures { (result ≡ Err OutOfMemory) ⊎ (result ≡ end_of verb terms.now bytes.now) }
 {
     match verb {
@@ -45,7 +45,7 @@ fn read_answer<S: Source>(
 ) -> Result<Answer, Stop>
     requires element { HasElementLast terms.now }
     requires whole { verb ≡ Unparse → AreWholeFields terms.now }
-    requires no_fill { verb ≡ Unparse → HasNoFill terms.now.rows }
+    requires plain { verb ≡ Unparse → HasPlainRows terms.now.rows }
     ensures { IsReadEnd verb terms.now (S.seen source.old) (S.seen source.new) result }
 {
     match read_to_limit(alloc, source, MOST_INPUT) {

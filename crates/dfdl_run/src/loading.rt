@@ -2,7 +2,7 @@
 ghost use Rattle.std.specs.Prelude.{◌≡◌, ◌⊎◌, Ok, IfOk, IfErr};
 ghost use Rattle.dfdl_components.specs.Rules.{AllKeep, loading_rules};
 ghost use Rattle.dfdl_documents.specs.Loading.{document_at};
-ghost use Rattle.dfdl_terms.specs.Rows.{HasElementLast, HasNoFill};
+ghost use Rattle.dfdl_terms.specs.Rows.{HasElementLast, HasPlainRows};
 ghost use Rattle.dfdl_compile.specs.Compiled as compiler;
 ghost use Rattle.dfdl_compile.specs.Faults.{IsFaultOf};
 ghost use Rattle.dfdl_pieces.specs.Whole.{AreWholeFields};
@@ -92,7 +92,7 @@ fn compiled(alloc: Global, verb: Verb, schema: &Schema) -> Result<Terms, Compile
     ensures fault { IfErr result (IsFaultOf (compiler.compiled (purpose_of verb) schema.now most_depth most_rows)) }
     ensures element { IfOk result HasElementLast }
     ensures whole { verb ≡ Unparse → IfOk result AreWholeFields }
-    ensures no_fill { verb ≡ Unparse → IfOk result (λ t. HasNoFill t.rows) }
+    ensures plain { verb ≡ Unparse → IfOk result (λ t. HasPlainRows t.rows) }
 {
     match verb {
         Verb::Parse => compile(alloc, schema, MOST_DEPTH, MOST_ROWS),
@@ -109,7 +109,7 @@ pub(crate) fn load_terms<F: Files>(
 ) -> Result<Terms, Stop>
     ensures element { IfOk result HasElementLast }
     ensures whole { verb ≡ Unparse → IfOk result AreWholeFields }
-    ensures no_fill { verb ≡ Unparse → IfOk result (λ t. HasNoFill t.rows) }
+    ensures plain { verb ≡ Unparse → IfOk result (λ t. HasPlainRows t.rows) }
     ensures ok { IfOk result (IsDescribed verb (F.seen files.old) (F.seen files.new) name.now) }
     ensures err { IfErr result (IsLoadFault verb (F.seen files.old) (F.seen files.new) name.now) }
     ensures few { AreFewLoads (F.seen files.old) (F.seen files.new) }

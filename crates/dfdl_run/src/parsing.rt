@@ -1,5 +1,5 @@
 // The parsing of data.
-ghost use Rattle.std.specs.Prelude.{◌≡◌, ◌⊎◌, ◌<◌, ◌+◌, ◌*◌, ◌^◌, ◌≤◌, nat_le, if◌then◌else◌, Err, IfOk, length, take, drop, string_bytes};
+ghost use Rattle.std.specs.Prelude.{◌≡◌, ◌⊎◌, ◌<◌, ◌+◌, ◌*◌, ◌^◌, ◌≤◌, nat_le, if◌then◌else◌, Err, IfOk, All, length, take, drop, string_bytes};
 ghost use Rattle.dfdl_grammar.specs.Documents.{document};
 ghost use Rattle.dfdl_run.specs.Meaning.{limits, parse_end};
 ghost use Rattle.dfdl_run.specs.Parsed.{HasParsed};
@@ -10,6 +10,7 @@ use crate::answer::Answer;
 use crate::loading::limit;
 use crate::stop::Stop;
 use dfdl_bits::Steps;
+use dfdl_grammar::laws::documents_have_texts;
 use dfdl_json::line_of;
 use dfdl_parse::{Limits, Outcome, Session};
 use dfdl_report::ParseCause;
@@ -19,13 +20,15 @@ use std::alloc::{AllocError, Global};
 use std::marker::Brand;
 use std::sync::ledger::{Blank, Ledger};
 
-// What parsing may take: the bytes of the data that are held, and the elements of a document.
+// What parsing may take: the bytes of the data that are held, the elements of a document, and the bytes of its strings and
+// hexBinary values.
 fn limits() -> Limits
     ensures { result ≡ limits }
 {
     Limits {
         window: 33_554_432,
         nodes: 1_000_000,
+        text: 33_554_432,
     }
 }
 
@@ -88,8 +91,10 @@ pub(crate) fn parse(alloc: Global, terms: &Terms, bytes: &[u8]) -> Result<Answer
     let Ok(session) = parsed::<Brand>(alloc, terms, bytes, Blank::new(1)) else {
         return Err(Stop::OutOfMemory);
     };
+    documents_have_texts();
+    are_bytes(bytes);
     match session.outcome() {
-        Outcome::Done => match line_of(alloc, terms, session.nodes()) {
+        Outcome::Done => match line_of(alloc, terms, session.nodes(), session.text()) {
             Ok(line) => Ok(answer_of(line, session.position(), bytes.len())),
             Err(_) => Err(Stop::OutOfMemory),
         },
@@ -100,6 +105,13 @@ pub(crate) fn parse(alloc: Global, terms: &Terms, bytes: &[u8]) -> Result<Answer
         Outcome::Limit { cause, quantity } => Err(limit(cause, quantity)),
         Outcome::Open | Outcome::OutOfMemory => Err(Stop::OutOfMemory),
     }
+}
+
+// Each byte is one.
+fn are_bytes(bytes: &[u8])
+    ensures { All (λ byte. byte < 256) bytes.now }
+{
+    let _bytes = bytes;
 }
 
 // The answer of a processing error.

@@ -5,6 +5,7 @@ mod numbers;
 mod packed;
 mod schemas;
 mod sizes;
+mod texts;
 
 use crate::{FirstReady, run};
 use dfdl_edge::{MemoryFile, MemoryFiles, MemoryPatterns, MemorySink, MemorySource};

@@ -1,6 +1,6 @@
 // The unparsing of an infoset.
 ghost use Rattle.std.specs.Prelude.{◌≡◌, ◌⊎◌, Err, IfOk};
-ghost use Rattle.dfdl_terms.specs.Rows.{HasElementLast, HasNoFill};
+ghost use Rattle.dfdl_terms.specs.Rows.{HasElementLast, HasPlainRows};
 ghost use Rattle.dfdl_pieces.specs.Whole.{AreWholeFields};
 ghost use Rattle.dfdl_run.specs.Meaning.{laid_answer, unparse_end};
 ghost use Rattle.dfdl_run.specs.declared.stop.Stop.TheVariants.{OutOfMemory};
@@ -32,7 +32,7 @@ fn answer_of(unparsed: Unparsed) -> Answer
 pub(crate) fn unparse(alloc: Global, terms: &Terms, text: &[u8]) -> Result<Answer, Stop>
     requires element { HasElementLast terms.now }
     requires whole { AreWholeFields terms.now }
-    requires no_fill { HasNoFill terms.now.rows }
+    requires plain { HasPlainRows terms.now.rows }
     ensures { (result ≡ Err OutOfMemory) ⊎ (result ≡ unparse_end terms.now text.now) }
 {
     let events = match events_of_json(alloc, terms, text) {

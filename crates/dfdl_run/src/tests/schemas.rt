@@ -25,7 +25,7 @@ fn parses<R: Abort + AllocGlobal>(
 
 #[test]
 fn components_that_are_refused(rt: HostRuntime) -> Result<(), Fail> {
-    let cases: [(&str, &str, &str); 7] = [
+    let cases: [(&str, &str, &str); 8] = [
         (
             "name=\"b\"",
             "name=\"a\"",
@@ -54,6 +54,11 @@ fn components_that_are_refused(rt: HostRuntime) -> Result<(), Fail> {
         (
             "xs:unsignedByte",
             "xs:string",
+            "error C7 at s.xsd:181: property missing\n",
+        ),
+        (
+            "xs:unsignedByte\"",
+            "xs:unsignedByte\" minOccurs=\"0\"",
             "error C3 at s.xsd:181: construct outside the subset\n",
         ),
         (

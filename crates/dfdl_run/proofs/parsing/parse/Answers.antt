@@ -1,0 +1,19 @@
+use Rattle.std.proofs.Common.{ℕ, List, sym, subst}
+use Rattle.dfdl_region.specs.declared.node.Node.{Node}
+use Rattle.dfdl_region.specs.Texts.{HaveTexts}
+use Rattle.dfdl_grammar.specs.Documents.{document}
+use Rattle.dfdl_grammar.specs.Outcomes.{Outcome}
+use Rattle.dfdl_run.specs.Meaning.{limits}
+use Rattle.dfdl_run.proofs.parsing.parse.Goals as goal
+
+-- the bytes of the values are those of the document
+pub line_of-requires : goal.line_of-requires
+line_of-requires c =
+    let o : Outcome = document limits c.args.terms.now c.args.bytes.now in
+    let parsed = c.in-Ok.ensures.ended in
+    let have : HaveTexts o.state.nodes o.state.text =
+    c.documents_have_texts.ensures limits c.args.terms.now c.args.bytes.now c.are_bytes.ensures in
+    record {
+      texts = subst (λ (nodes : List Node). HaveTexts nodes c.text.result.now) (sym (c.nodes.ensures.ended o parsed.steps parsed.allowed parsed.ends))
+          (subst (λ (text : List ℕ). HaveTexts o.state.nodes text) (sym (c.text.ensures.ended o parsed.steps parsed.allowed parsed.ends)) have);
+    }

@@ -11,7 +11,7 @@ use Rattle.dfdl_scope.specs.Scoping.{Element, told}
 use Rattle.dfdl_terms.specs.declared.framing.Framing.{Framing}
 use Rattle.dfdl_checks.proofs.AlikeChains.{both, three, told-alike}
 use Rattle.dfdl_checks.proofs.AlikeBoxes.{bits-alike, box-alike, in-characters-alike, unit-alike, units-alike, with}
-use Rattle.dfdl_checks.proofs.AlikeJudged.{by-chains, constant-alike, rep-alike, value-alike}
+use Rattle.dfdl_checks.proofs.AlikeJudged.{by-chains, constant-alike, pad-at-alike, padded-alike, rep-alike, trimmed-alike, value-alike}
 use Rattle.dfdl_checks.specs.Alike.{AreAlikeChains, IsAlike}
 use Rattle.dfdl_checks.specs.Booleans.{falsity_told, truth_told}
 use Rattle.dfdl_checks.specs.Boxes.{size_of_box}
@@ -21,9 +21,10 @@ use Rattle.dfdl_checks.specs.Judged.{Judged}
 use Rattle.dfdl_checks.specs.Numbers.{binary_of_type, field_bits, field_nibbles, number_by, number_of_rep, number_of_type, own_size, packed_by, packed_of_type, places_of, primitive_for, primitive_of, primitive_of_kind, primitive_parsed, truth_by, truth_of}
 use Rattle.dfdl_checks.specs.Orders.{byte_order, order_for, orders_of}
 use Rattle.dfdl_checks.specs.Packed.{codes_for, is_strict, nibbles_within, rep_of}
+use Rattle.dfdl_checks.specs.Pads.{is_padded, is_trimmed, pad_at, used_where}
 use Rattle.dfdl_checks.specs.Rules.{is_built_type}
 use Rattle.dfdl_checks.specs.Subjects.{is_characters, is_octets, is_truths, is_word}
-use Rattle.dfdl_checks.specs.Texts.{is_replaced, justify_told, octets_by, octets_of, pad_of, plain_pad, size_in, text_by, text_of, text_size}
+use Rattle.dfdl_checks.specs.Texts.{is_replaced, justify_told, octets_by, octets_of, pad_of, padded, size_in, text_by, text_of, text_size}
 use Rattle.dfdl_checks.specs.declared.orders.Orders.{Orders}
 use Rattle.dfdl_checks.specs.declared.purpose.Purpose.{Purpose}
 use Rattle.dfdl_checks.specs.declared.purpose.Purpose.TheVariants.{Parsing, Unparsing}
@@ -89,8 +90,12 @@ module _ (purpose : Purpose) (kind : Kind) (place : Place) (facts : Facts) (root
 
   pad-alike : pad_of one ≡ pad_of other
   pad-alike =
-      both (λ t u. plain_pad (justify_told t) (is_word (codes "yes") u)) (told-alike xs ys alike (codes "textStringJustification"))
-      (told-alike xs ys alike (codes "truncateSpecifiedLengthString"))
+      both (λ t u. padded (justify_told t) (used_where (is_padded one) (pad_at one)) (used_where (is_trimmed one) (pad_at one)) (is_word (codes "yes") u))
+      (told-alike xs ys alike (codes "textStringJustification")) (told-alike xs ys alike (codes "truncateSpecifiedLengthString"))
+      ∙ three (λ p t c. padded (justify_told (told ys (codes "textStringJustification"))) (used_where p c) (used_where t c)
+      (is_word (codes "yes") (told ys (codes "truncateSpecifiedLengthString"))))
+      (padded-alike purpose kind place facts root xs ys alike) (trimmed-alike purpose kind place facts root xs ys alike)
+      (pad-at-alike purpose kind place facts root xs ys alike)
 
   text-size-alike : text_size one ≡ text_size other
   text-size-alike =

@@ -11,13 +11,15 @@ use Rattle.dfdl_checks.proofs.AlikeBoxes.{explicit-box-alike, implicit-box-alike
 use Rattle.dfdl_checks.proofs.AlikeChains.{both, three, same-any, told-alike, repeated-alike}
 use Rattle.dfdl_checks.specs.Alike.{AreAlikeChains, IsAlike}
 use Rattle.dfdl_checks.specs.Applying.{is_bearer}
+use Rattle.dfdl_checks.specs.Encodings.{encoding_told}
 use Rattle.dfdl_checks.specs.Flaws.{has_flaw, is_flawed, is_flawed_at}
 use Rattle.dfdl_checks.specs.Judged.{Judged}
 use Rattle.dfdl_checks.specs.Booleans.{falsity_told, truth_told}
 use Rattle.dfdl_checks.specs.Lengths.{length_in, number_told, unit_bits, constant_length}
 use Rattle.dfdl_checks.specs.Orders.{bit_order, is_least_first, is_same_order}
+use Rattle.dfdl_checks.specs.Pads.{is_malformed, is_other, is_padded, is_padded_string, is_trimmed, lacks_character, pad_at, pad_told, single}
 use Rattle.dfdl_checks.specs.Packed.{codes_told, rep_of, rep_told}
-use Rattle.dfdl_checks.specs.Rules.{are_codes_malformed, are_orders_apart, are_truths_malformed, breach_of, first_breach, rules, is_alignment_not_allowed, is_delimited_boolean, is_length_by_content, is_length_in_characters, is_length_out_of_range, is_length_without_size, is_later_component, is_max_length_missing, is_no_size, is_number_length_not_allowed, is_second_bit_order, is_size, is_type_not_carried, is_unsized}
+use Rattle.dfdl_checks.specs.Rules.{are_codes_malformed, are_orders_apart, are_truths_malformed, breach_of, first_breach, rules, is_alignment_not_allowed, is_delimited_boolean, is_length_by_content, is_length_in_characters, is_length_out_of_range, is_length_without_size, is_later_component, is_max_length_missing, is_no_size, is_number_length_not_allowed, is_pad_malformed, is_pad_no_character, is_pad_not_encoded, is_second_bit_order, is_size, is_type_not_carried, is_unsized}
 use Rattle.dfdl_checks.specs.Subjects.{is_binary, is_binary_boolean, is_binary_number, is_boolean, is_boxed, is_decimal, is_element, is_explicit_binary, is_packed, is_simple, is_string, is_word, number_bits, value_bits}
 use Rattle.dfdl_checks.specs.Table.{Applicability, built_for, applicability_table}
 use Rattle.dfdl_checks.specs.declared.applicability.Bearers.{Bearers}
@@ -58,6 +60,18 @@ module _ (purpose : Purpose) (kind : Kind) (place : Place) (facts : Facts) (root
   pub rep-alike : rep_of one ≡ rep_of other
   rep-alike = both (λ b t. if b then rep_told t else None) binary-alike (told-alike xs ys alike (codes "binaryNumberRep"))
 
+  pub trimmed-alike : is_trimmed one ≡ is_trimmed other
+  trimmed-alike = ap (is_word (codes "padChar")) (told-alike xs ys alike (codes "textTrimKind"))
+
+  pub padded-alike : is_padded one ≡ is_padded other
+  padded-alike = ap (is_word (codes "padChar")) (told-alike xs ys alike (codes "textPadKind"))
+
+  padded-string-alike : is_padded_string one ≡ is_padded_string other
+  padded-string-alike = both (λ t p. is_string kind && (t || p)) trimmed-alike padded-alike
+
+  pub pad-at-alike : pad_at one ≡ pad_at other
+  pad-at-alike = ap pad_told (told-alike xs ys alike (codes "textStringPadCharacter"))
+
   bearer-alike : (b : Bearers) → is_bearer b one ≡ is_bearer b other
   bearer-alike bearers.EveryComponent = refl
   bearer-alike bearers.Elements = refl
@@ -66,6 +80,7 @@ module _ (purpose : Purpose) (kind : Kind) (place : Place) (facts : Facts) (root
   bearer-alike bearers.RepresentedElements = refl
   bearer-alike bearers.BoxedElements = refl
   bearer-alike bearers.Strings = refl
+  bearer-alike bearers.PaddedStrings = padded-string-alike
   bearer-alike bearers.BinaryNumbers = binary-alike
   bearer-alike bearers.BinaryBooleans = boolean-alike
   bearer-alike bearers.OrderedBinaries = both (λ b l. b && (nat_lt 8 (value_bits kind) || l)) value-alike least-alike
@@ -129,6 +144,16 @@ module _ (purpose : Purpose) (kind : Kind) (place : Place) (facts : Facts) (root
       three (λ b t u. b && not (is_some (truth_told t) && is_some (falsity_told u))) boolean-alike
       (told-alike xs ys alike (codes "binaryBooleanTrueRep")) (told-alike xs ys alike (codes "binaryBooleanFalseRep"))
 
+  malformed-alike : is_pad_malformed one ≡ is_pad_malformed other
+  malformed-alike = both (λ b p. b && is_malformed p) padded-string-alike pad-at-alike
+
+  encoded-alike : is_pad_not_encoded one ≡ is_pad_not_encoded other
+  encoded-alike =
+      three (λ b e p. b && lacks_character (encoding_told e) (single p)) padded-string-alike (told-alike xs ys alike (codes "encoding")) pad-at-alike
+
+  no-character-alike : is_pad_no_character one ≡ is_pad_no_character other
+  no-character-alike = both (λ b p. b && is_other p) padded-string-alike pad-at-alike
+
   characters-alike : is_length_in_characters one ≡ is_length_in_characters other
   characters-alike =
       three (λ e x t. (e || (x && not (is_string kind))) && is_word (codes "characters") t) explicit-alike
@@ -154,6 +179,7 @@ module _ (purpose : Purpose) (kind : Kind) (place : Place) (facts : Facts) (root
       (itself-alike causes.PropertyMissing (flaw-alike flaws.Missing)
       (itself-alike causes.PropertyNotCarried (flaw-alike flaws.NotCarried)
       (itself-alike causes.ExpressionNotAllowed (flaw-alike flaws.Expression)
+      (itself-alike causes.LiteralMalformed malformed-alike
       (itself-alike causes.TypeNotCarried {x = is_type_not_carried kind} refl
       (itself-alike causes.MaxLengthMissing missing-alike
       (itself-alike causes.LengthKind (both (λ x y. x || y) number-length-alike delimited-alike)
@@ -161,9 +187,11 @@ module _ (purpose : Purpose) (kind : Kind) (place : Place) (facts : Facts) (root
       (itself-alike causes.ConstantLength range-alike
       (itself-alike causes.OrdersApart apart-alike
       (itself-alike causes.SecondBitOrder second-alike
+      (itself-alike causes.EncodingNotAllowed encoded-alike
       (itself-alike causes.Alignment alignment-alike
       (itself-alike causes.SignCodes codes-alike
-      (itself-alike causes.BooleanRepresentations truths-alike refl))))))))))))))
+      (itself-alike causes.BooleanRepresentations truths-alike
+      (itself-alike causes.PadCharacter no-character-alike refl)))))))))))))))))
 
 -- what is so of two components that differ in their chains alone is so of components that are alike
 pub by-chains : {X : Type 0} (f : Judged → X) (a b : Judged) → IsAlike a b

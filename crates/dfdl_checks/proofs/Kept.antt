@@ -4,7 +4,7 @@ use Rattle.std.specs.Option.{option_map_or}
 use Rattle.dfdl_report.specs.declared.cause.SchemaCause.{SchemaCause}
 use Rattle.dfdl_report.specs.declared.cause.SchemaCause.TheVariants as causes
 use Rattle.dfdl_report.specs.declared.place.Place.{Place}
-use Rattle.dfdl_checks.specs.Rules.{breach_of, first_breach, rules, is_unbuilt, property_twice, is_property_missing, is_value_not_carried, is_expression_not_allowed, is_type_not_carried, is_max_length_missing, is_length_kind_not_allowed, is_length_in_characters, is_length_out_of_range, are_orders_apart, is_second_bit_order, is_alignment_not_allowed, are_codes_malformed, are_truths_malformed}
+use Rattle.dfdl_checks.specs.Rules.{breach_of, first_breach, rules, is_unbuilt, property_twice, is_property_missing, is_value_not_carried, is_expression_not_allowed, is_pad_malformed, is_type_not_carried, is_max_length_missing, is_length_kind_not_allowed, is_length_in_characters, is_length_out_of_range, are_orders_apart, is_second_bit_order, is_pad_not_encoded, is_alignment_not_allowed, are_codes_malformed, are_truths_malformed, is_pad_no_character}
 use Rattle.dfdl_checks.specs.Judged.{Judged}
 use Rattle.dfdl_checks.specs.declared.subject.Breach.{Breach}
 
@@ -15,6 +15,7 @@ pub record IsKept (s : Judged) : Type 0 where
   pub given : is_property_missing s ≡ false
   pub carried : is_value_not_carried s ≡ false
   pub allowed : is_expression_not_allowed s ≡ false
+  pub pad_written : is_pad_malformed s ≡ false
   pub typed : is_type_not_carried s.kind ≡ false
   pub max_length : is_max_length_missing s ≡ false
   pub length_kind : is_length_kind_not_allowed s ≡ false
@@ -22,9 +23,11 @@ pub record IsKept (s : Judged) : Type 0 where
   pub length : is_length_out_of_range s ≡ false
   pub orders : are_orders_apart s ≡ false
   pub bit_order : is_second_bit_order s ≡ false
+  pub pad_encoded : is_pad_not_encoded s ≡ false
   pub alignment : is_alignment_not_allowed s ≡ false
   pub codes : are_codes_malformed s ≡ false
   pub truths : are_truths_malformed s ≡ false
+  pub pad_single : is_pad_no_character s ≡ false
 
 -- no rule of some is broken: neither the first one nor another
 first-kept : (cause : SchemaCause) (at : Option Place) (rest : Option Breach)
@@ -46,22 +49,26 @@ keeps-all s none =
     let c = first-kept causes.PropertyMissing _ _ b.1 in
     let d = first-kept causes.PropertyNotCarried _ _ c.1 in
     let e = first-kept causes.ExpressionNotAllowed _ _ d.1 in
-    let f = first-kept causes.TypeNotCarried _ _ e.1 in
+    let p = first-kept causes.LiteralMalformed _ _ e.1 in
+    let f = first-kept causes.TypeNotCarried _ _ p.1 in
     let m = first-kept causes.MaxLengthMissing _ _ f.1 in
     let g = first-kept causes.LengthKind _ _ m.1 in
     let h = first-kept causes.LengthUnits _ _ g.1 in
     let i = first-kept causes.ConstantLength _ _ h.1 in
     let n = first-kept causes.OrdersApart _ _ i.1 in
     let o = first-kept causes.SecondBitOrder _ _ n.1 in
-    let j = first-kept causes.Alignment _ _ o.1 in
+    let q = first-kept causes.EncodingNotAllowed _ _ o.1 in
+    let j = first-kept causes.Alignment _ _ q.1 in
     let k = first-kept causes.SignCodes _ _ j.1 in
     let l = first-kept causes.BooleanRepresentations _ _ k.1 in
+    let r = first-kept causes.PadCharacter _ _ l.1 in
     record {
       built = itself-kept _ s.place a.0;
       once = b.0;
       given = itself-kept _ s.place c.0;
       carried = itself-kept _ s.place d.0;
       allowed = itself-kept _ s.place e.0;
+      pad_written = itself-kept _ s.place p.0;
       typed = itself-kept _ s.place f.0;
       max_length = itself-kept _ s.place m.0;
       length_kind = itself-kept _ s.place g.0;
@@ -69,9 +76,11 @@ keeps-all s none =
       length = itself-kept _ s.place i.0;
       orders = itself-kept _ s.place n.0;
       bit_order = itself-kept _ s.place o.0;
+      pad_encoded = itself-kept _ s.place q.0;
       alignment = itself-kept _ s.place j.0;
       codes = itself-kept _ s.place k.0;
       truths = itself-kept _ s.place l.0;
+      pad_single = itself-kept _ s.place r.0;
     }
 
 -- where none of some holds, the second doesn't

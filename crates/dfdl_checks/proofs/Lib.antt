@@ -10,6 +10,7 @@ pub mod Ordered
 pub mod Told
 pub mod SoundBoxes
 pub mod Sound
+pub mod SoundPads
 pub mod Made
 pub mod AlikeChains
 pub mod AlikeBoxes

@@ -138,7 +138,7 @@ places s simple sound number is = by (has_point (form_of simple)) refl
     decimal : has_point (form_of simple) ≡ true → is_some (places_told (told_at s (codes "binaryDecimalVirtualPoint"))) ≡ true
     decimal point =
         some-places (codes "binaryDecimalVirtualPoint") _
-        (no-flaw s sound.kept 36 (codes "binaryDecimalVirtualPoint") bearers.BinaryDecimals EveryValue refl
+        (no-flaw s sound.kept 37 (codes "binaryDecimalVirtualPoint") bearers.BinaryDecimals EveryValue refl
         (both _ _ (ap is_decimal is ∙ point) number) _ refl)
         (told-once s.chain property_table (codes "binaryDecimalVirtualPoint") _ refl sound.kept.once)
 

@@ -2,10 +2,11 @@
 use Rattle.std.specs.Prelude.{Bool, true, not, nat_lt, ◌&&◌, ◌||◌, codes}
 use Rattle.dfdl_checks.specs.Boxes.{is_explicit_box, is_implicit_string}
 use Rattle.dfdl_checks.specs.Orders.{is_least_first}
+use Rattle.dfdl_checks.specs.Pads.{is_padded_string}
 use Rattle.dfdl_checks.specs.Subjects.{is_boxed, is_element, is_simple, is_string, is_sequence, is_group, is_represented, is_decimal, value_bits, is_binary, is_binary_boolean, is_binary_number, is_explicit_binary, is_packed, is_word, told_at}
 use Rattle.dfdl_checks.specs.Judged.{Judged}
 use Rattle.dfdl_checks.specs.declared.applicability.Bearers.{Bearers}
-use Rattle.dfdl_checks.specs.declared.applicability.Bearers.TheVariants.{EveryComponent, Elements, OtherElements, SimpleElements, RepresentedElements, BoxedElements, Strings, BinaryNumbers, BinaryBooleans, OrderedBinaries, ExplicitBinaries, ExplicitBoxes, ImplicitStrings, PackedNumbers, BinaryDecimals, PatternElements, Groups, Sequences, EmptySequences}
+use Rattle.dfdl_checks.specs.declared.applicability.Bearers.TheVariants.{EveryComponent, Elements, OtherElements, SimpleElements, RepresentedElements, BoxedElements, Strings, PaddedStrings, BinaryNumbers, BinaryBooleans, OrderedBinaries, ExplicitBinaries, ExplicitBoxes, ImplicitStrings, PackedNumbers, BinaryDecimals, PatternElements, Groups, Sequences, EmptySequences}
 
 -- a binary number or boolean whose bytes have an order: of a type with more than 8 bits, or with its least significant bits
 -- first
@@ -21,6 +22,7 @@ is_bearer SimpleElements subject = is_simple subject.kind
 is_bearer RepresentedElements subject = is_represented subject.kind
 is_bearer BoxedElements subject = is_boxed subject.kind
 is_bearer Strings subject = is_string subject.kind
+is_bearer PaddedStrings subject = is_padded_string subject
 is_bearer BinaryNumbers subject = is_binary_number subject
 is_bearer BinaryBooleans subject = is_binary_boolean subject
 is_bearer OrderedBinaries subject = is_ordered_binary subject

@@ -9,6 +9,7 @@ pub mod Lengths
 pub mod Boxes
 pub mod Packed
 pub mod Booleans
+pub mod Pads
 pub mod Applying
 pub mod Table
 pub mod TableShown

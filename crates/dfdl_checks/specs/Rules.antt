@@ -13,6 +13,7 @@ use Rattle.dfdl_checks.specs.Booleans.{falsity_told, truth_told}
 use Rattle.dfdl_checks.specs.Boxes.{is_box_too_long, is_explicit_box, is_implicit_box}
 use Rattle.dfdl_checks.specs.Lengths.{constant_length, size_within}
 use Rattle.dfdl_checks.specs.Orders.{is_least_first, is_same_order, told_order}
+use Rattle.dfdl_checks.specs.Pads.{is_malformed, is_other, is_pad_outside, is_padded_string, pad_at}
 use Rattle.dfdl_checks.specs.Packed.{codes_told, nibbles_within, rep_of}
 use Rattle.dfdl_checks.specs.Subjects.{is_element, is_choice, is_binary_boolean, is_binary_number, is_explicit_binary, is_packed, is_simple, is_string, is_told, told_at, value_bits}
 use Rattle.dfdl_checks.specs.Flaws.{has_flaw}
@@ -72,6 +73,10 @@ is_value_not_carried subject = has_flaw flaws.NotCarried subject
 -- 10: a property that applies to the component has an expression where none may stand
 abbrev pub is_expression_not_allowed : Judged → Bool
 is_expression_not_allowed subject = has_flaw flaws.Expression subject
+
+-- 11: a string that is padded or trimmed, whose pad character's text is no string literal and no list of them
+abbrev pub is_pad_malformed : Judged → Bool
+is_pad_malformed subject = is_padded_string subject && is_malformed (pad_at subject)
 
 -- 13: an element of a simple type that is not carried
 abbrev pub is_type_not_carried : Kind → Bool
@@ -149,6 +154,10 @@ are_orders_apart subject =
 abbrev pub is_second_bit_order : Judged → Bool
 is_second_bit_order subject = not (is_same_order (told_order subject) subject.root_bits_by)
 
+-- 23: such a string, whose encoding lacks its pad character
+abbrev pub is_pad_not_encoded : Judged → Bool
+is_pad_not_encoded subject = is_padded_string subject && is_pad_outside subject
+
 -- 24: an implicit alignment of what is no simple element
 abbrev pub is_alignment_not_allowed : Judged → Bool
 is_alignment_not_allowed subject = not (is_simple subject.kind) && is_told subject (codes "alignment") (codes "implicit")
@@ -173,6 +182,10 @@ are_truths_told subject = has_truth subject && has_falsity subject
 abbrev pub are_truths_malformed : Judged → Bool
 are_truths_malformed subject = is_binary_boolean subject && not (are_truths_told subject)
 
+-- 28: such a string, whose pad character is no single character
+abbrev pub is_pad_no_character : Judged → Bool
+is_pad_no_character subject = is_padded_string subject && is_other (pad_at subject)
+
 -- a rule: its cause, and where a component breaks it, if it does
 pub record Rule : Type 0 where
   pub cause : SchemaCause
@@ -190,6 +203,7 @@ rules =
     ∷ at_itself causes.PropertyMissing is_property_missing
     ∷ at_itself causes.PropertyNotCarried is_value_not_carried
     ∷ at_itself causes.ExpressionNotAllowed is_expression_not_allowed
+    ∷ at_itself causes.LiteralMalformed is_pad_malformed
     ∷ at_itself causes.TypeNotCarried (λ subject. is_type_not_carried subject.kind)
     ∷ at_itself causes.MaxLengthMissing is_max_length_missing
     ∷ at_itself causes.LengthKind is_length_kind_not_allowed
@@ -197,9 +211,11 @@ rules =
     ∷ at_itself causes.ConstantLength is_length_out_of_range
     ∷ at_itself causes.OrdersApart are_orders_apart
     ∷ at_itself causes.SecondBitOrder is_second_bit_order
+    ∷ at_itself causes.EncodingNotAllowed is_pad_not_encoded
     ∷ at_itself causes.Alignment is_alignment_not_allowed
     ∷ at_itself causes.SignCodes are_codes_malformed
     ∷ at_itself causes.BooleanRepresentations are_truths_malformed
+    ∷ at_itself causes.PadCharacter is_pad_no_character
     ∷ []
 
 -- a breach of a rule

@@ -1,10 +1,10 @@
 -- Which properties are asked of which components, and which of their values are built. Each property of the profile that
--- is not here applies to components of later forms alone: to text that is no string, to padding, to delimiters, to escapes,
--- to elements of prefixed length, to elements that may be nil or occur otherwise than once, and to choices and their branches.
+-- is not here applies to components of later forms alone: to text that is no string, to the least length of texts, to delimiters, to
+-- escapes, to elements of prefixed length, to elements that may be nil or occur otherwise than once, and to choices and their branches.
 use Rattle.std.specs.Prelude.{ℕ, List, [], ◌∷◌, Bool, true, false, codes}
 use Rattle.dfdl_checks.specs.Values.{is_among, is_number, is_within}
 use Rattle.dfdl_checks.specs.declared.applicability.Bearers.{Bearers}
-use Rattle.dfdl_checks.specs.declared.applicability.Bearers.TheVariants.{EveryComponent, Elements, OtherElements, SimpleElements, RepresentedElements, BoxedElements, Strings, BinaryNumbers, BinaryBooleans, OrderedBinaries, ExplicitBinaries, ExplicitBoxes, ImplicitStrings, PackedNumbers, BinaryDecimals, PatternElements, Groups, Sequences, EmptySequences}
+use Rattle.dfdl_checks.specs.declared.applicability.Bearers.TheVariants.{EveryComponent, Elements, OtherElements, SimpleElements, RepresentedElements, BoxedElements, Strings, PaddedStrings, BinaryNumbers, BinaryBooleans, OrderedBinaries, ExplicitBinaries, ExplicitBoxes, ImplicitStrings, PackedNumbers, BinaryDecimals, PatternElements, Groups, Sequences, EmptySequences}
 use Rattle.dfdl_checks.specs.declared.purpose.Purpose.{Purpose}
 use Rattle.dfdl_checks.specs.declared.purpose.Purpose.TheVariants.{Parsing, Unparsing}
 
@@ -82,9 +82,10 @@ applicability_table =
     ∷ applies (codes "initiatedContent") Groups (word (codes "no"))
     ∷ applies (codes "sequenceKind") Sequences (word (codes "ordered"))
     ∷ applies (codes "hiddenGroupRef") EmptySequences NoValue
-    ∷ applies (codes "textTrimKind") Strings (word (codes "none"))
-    ∷ applies (codes "textPadKind") Strings (word (codes "none"))
+    ∷ applies_by (codes "textTrimKind") Strings EveryValue (word (codes "none"))
+    ∷ applies_by (codes "textPadKind") Strings EveryValue (word (codes "none"))
     ∷ applies (codes "textStringJustification") Strings EveryValue
+    ∷ applies (codes "textStringPadCharacter") PaddedStrings EveryValue
     ∷ applies (codes "truncateSpecifiedLengthString") Strings EveryValue
     ∷ applies (codes "escapeSchemeRef") Strings (word (codes ""))
     ∷ applies (codes "binaryBooleanTrueRep") BinaryBooleans EveryValue

@@ -15,6 +15,7 @@ use Rattle.dfdl_checks.specs.Boxes.{box_bits, box_unit, box_units, is_in_charact
 use Rattle.dfdl_checks.specs.Encodings.{encoding_told}
 use Rattle.dfdl_checks.specs.Judged.{Judged}
 use Rattle.dfdl_checks.specs.Orders.{field_order}
+use Rattle.dfdl_checks.specs.Pads.{is_padded, is_trimmed, pad_at, used_where}
 use Rattle.dfdl_checks.specs.Subjects.{is_told, is_word, told_at}
 
 -- a place at which no character can be decoded is replaced, as it is where nothing is told
@@ -25,14 +26,15 @@ is_replaced told = not (is_word (codes "error") told)
 abbrev pub justify_told : Told → Justify
 justify_told told = if is_word (codes "right") told then Right else if is_word (codes "center") told then Center else Left
 
--- a text that stands at this side, and may be cut; it is neither padded nor trimmed
-abbrev pub plain_pad : Justify → Bool → PadForm
-plain_pad justify truncate = record { justify = justify; pad = None; trim = None; truncate = truncate; keeps_zero = false }
+-- a text that stands at this side, padded and trimmed by these characters, if there are any, and that may be cut
+abbrev pub padded : Justify → Option ℕ → Option ℕ → Bool → PadForm
+padded justify pad trim truncate = record { justify = justify; pad = pad; trim = trim; truncate = truncate; keeps_zero = false }
 
 -- how the component's text stands in its box
 abbrev pub pad_of : Judged → PadForm
 pad_of subject =
-    plain_pad (justify_told (told_at subject (codes "textStringJustification"))) (is_told subject (codes "truncateSpecifiedLengthString") (codes "yes"))
+    padded (justify_told (told_at subject (codes "textStringJustification"))) (used_where (is_padded subject) (pad_at subject))
+    (used_where (is_trimmed subject) (pad_at subject)) (is_told subject (codes "truncateSpecifiedLengthString") (codes "yes"))
 
 -- so many units of a text, which are characters or have so many bits
 abbrev pub size_in : Bool → ℕ → ℕ → TextSize

@@ -14,6 +14,8 @@ pub enum Bearers {
     BoxedElements,
     /// Elements of type string.
     Strings,
+    /// Elements of type string that are padded or trimmed by a pad character.
+    PaddedStrings,
     /// Simple elements of an integer or decimal type whose representation is binary.
     BinaryNumbers,
     /// Elements of type boolean whose representation is binary.

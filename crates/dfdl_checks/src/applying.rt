@@ -13,6 +13,7 @@ use crate::kinds::{
     is_simple, is_string, number_bits, value_bits,
 };
 use crate::orders::is_least_first;
+use crate::pads::is_padded_string;
 use crate::subject::Subject;
 use dfdl_scope::{Asked, Component, literal, property};
 
@@ -29,6 +30,7 @@ pub(crate) fn is_bearer(bearers: Bearers, subject: &Subject<'_, '_, '_>) -> bool
         Bearers::RepresentedElements => is_represented(kind),
         Bearers::BoxedElements => is_boxed(kind),
         Bearers::Strings => is_string(kind),
+        Bearers::PaddedStrings => is_padded_string(subject),
         Bearers::BinaryNumbers => is_binary_number(subject),
         Bearers::BinaryBooleans => is_binary_boolean(subject),
         Bearers::OrderedBinaries => is_ordered_binary(subject),

@@ -1,16 +1,19 @@
 // Laws of the definitions that the contracts cite. The calls do nothing.
-ghost use Rattle.std.specs.Prelude.{◌≡◌, ℕ, List, ◌≤◌, Some, None, IsTrue, IsSome};
+ghost use Rattle.std.specs.Prelude.{◌≡◌, ℕ, List, ◌≤◌, Some, None, IsTrue, IsSome, codes};
+ghost use Rattle.dfdl_forms.specs.declared.encoding.Encoding.{Encoding};
 ghost use Rattle.dfdl_terms.specs.Rows.{IsPrimitive, most_length};
 ghost use Rattle.dfdl_terms.specs.declared.row.Primitive.{Primitive};
 ghost use Rattle.dfdl_scope.specs.Scoping.{Element, told};
 ghost use Rattle.dfdl_checks.specs.Alike.{AreAlikeChains, IsAlike};
 ghost use Rattle.dfdl_checks.specs.Boxes.{is_explicit_complex, size_of_box};
+ghost use Rattle.dfdl_checks.specs.Encodings.{encoding_told};
 ghost use Rattle.dfdl_checks.specs.Forms.{IsWhole};
 ghost use Rattle.dfdl_checks.specs.Framing.{framing_of};
 ghost use Rattle.dfdl_checks.specs.Judged.{Judged};
 ghost use Rattle.dfdl_checks.specs.Numbers.{IsBinaryValue, IsStringOrBytesValue, primitive_of, type_of};
+ghost use Rattle.dfdl_checks.specs.Pads.{has_character, is_padded_string, pad_at, single};
 ghost use Rattle.dfdl_checks.specs.Rules.{first_breach, rules};
-ghost use Rattle.dfdl_checks.specs.Subjects.{is_represented, is_simple, is_string_or_bytes};
+ghost use Rattle.dfdl_checks.specs.Subjects.{is_represented, is_simple, is_string_or_bytes, told_at};
 ghost use Rattle.dfdl_checks.specs.declared.purpose.Purpose.TheVariants.{Parsing, Unparsing};
 ghost use Rattle.dfdl_checks.specs.declared.subject.Kind.TheVariants.{ComplexElement, SimpleElement};
 
@@ -20,6 +23,13 @@ pub fn sound_elements_have_primitives()
     ensures primitive { (j : Judged) → first_breach rules j ≡ None → IsTrue (is_simple j.kind) → IsSome (primitive_of j) }
     ensures properties { (j : Judged) → first_breach rules j ≡ None → IsTrue (is_represented j.kind) → IsBinaryValue j }
     ensures others { (j : Judged) → first_breach rules j ≡ None → IsTrue (is_string_or_bytes j.kind) → IsStringOrBytesValue j }
+{}
+
+/// A string without a breach that is padded or trimmed has a single pad character, one of its encoding.
+pub fn sound_strings_have_pad_characters()
+    ensures single { (j : Judged) → first_breach rules j ≡ None → IsTrue (is_padded_string j) → IsSome (single (pad_at j)) }
+    ensures encoded { (j : Judged) (e : Encoding) (c : ℕ) → first_breach rules j ≡ None → IsTrue (is_padded_string j)
+        → encoding_told (told_at j (codes "encoding")) ≡ Some e → single (pad_at j) ≡ Some c → IsTrue (has_character e c) }
 {}
 
 /// A component with a primitive, whether it breaks rules or not, is an element of the primitive's type,

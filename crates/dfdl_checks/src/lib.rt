@@ -4,8 +4,9 @@
 //! A component comes as a `Subject`: what kind it is, what it states, and the chain that its properties are asked of.
 //! `breach` gives the first rule that it breaks; its contract cites `specs/Rules.antt`, and the table of the properties
 //! that apply to components is `specs/Table.antt`. `primitive` says how the values of a simple element without a breach
-//! lie in the data, by `specs/Numbers.antt` and `specs/Texts.antt`. `framing` says which fill stands around a component, by
-//! `specs/Framing.antt`, and `size_of_box` how long a complex element's box is, by `specs/Boxes.antt`. The chapters are
+//! lie in the data, by `specs/Numbers.antt` and `specs/Texts.antt`; the characters by which strings are padded and trimmed are
+//! those of `specs/Pads.antt`. `framing` says which fill stands around a component, by `specs/Framing.antt`, and `size_of_box`
+//! how long a complex element's box is, by `specs/Boxes.antt`. The chapters are
 //! 'Property Scoping and DFDL Schema Checking', 'Framing', 'Lengths' and 'Simple Types'.
 #![tactic(auto)]
 
@@ -24,6 +25,7 @@ mod lengths;
 mod number;
 mod orders;
 mod packed;
+mod pads;
 mod purpose;
 mod rules;
 mod subject;

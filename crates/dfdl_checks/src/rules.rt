@@ -14,6 +14,7 @@ use crate::length_rules::{
 };
 use crate::orders::{bit_order, is_least_first, is_same_order};
 use crate::packed::codes_told;
+use crate::pads::{is_pad_malformed, is_pad_no_character, is_pad_not_encoded};
 use crate::purpose::Purpose;
 use crate::subject::{Breach, Facts, Kind, Subject};
 use dfdl_forms::Simple;
@@ -44,6 +45,9 @@ pub fn breach(subject: &Subject<'_, '_, '_>) -> Option<Breach>
     if has_flaw(Flaw::Expression, subject) {
         return told_here(SchemaCause::ExpressionNotAllowed, subject);
     }
+    if is_pad_malformed(subject) {
+        return told_here(SchemaCause::LiteralMalformed, subject);
+    }
     if is_type_not_carried(subject.kind) {
         return told_here(SchemaCause::TypeNotCarried, subject);
     }
@@ -65,6 +69,9 @@ pub fn breach(subject: &Subject<'_, '_, '_>) -> Option<Breach>
     if is_second_bit_order(subject) {
         return told_here(SchemaCause::SecondBitOrder, subject);
     }
+    if is_pad_not_encoded(subject) {
+        return told_here(SchemaCause::EncodingNotAllowed, subject);
+    }
     if is_alignment_not_allowed(subject) {
         return told_here(SchemaCause::Alignment, subject);
     }
@@ -73,6 +80,9 @@ pub fn breach(subject: &Subject<'_, '_, '_>) -> Option<Breach>
     }
     if are_truths_malformed(subject) {
         return told_here(SchemaCause::BooleanRepresentations, subject);
+    }
+    if is_pad_no_character(subject) {
+        return told_here(SchemaCause::PadCharacter, subject);
     }
     None
 }

@@ -13,7 +13,7 @@ pub(crate) fn applicabilities() -> &'static [Applicability]
     &APPLICABILITIES
 }
 
-static APPLICABILITIES: [Applicability; 41] = [
+static APPLICABILITIES: [Applicability; 42] = [
     Applicability {
         name: "representation",
         bearers: Bearers::RepresentedElements,
@@ -173,18 +173,24 @@ static APPLICABILITIES: [Applicability; 41] = [
     Applicability {
         name: "textTrimKind",
         bearers: Bearers::Strings,
-        parsing: Built::Words(&["none"]),
+        parsing: Built::EveryValue,
         unparsing: Built::Words(&["none"]),
     },
     Applicability {
         name: "textPadKind",
         bearers: Bearers::Strings,
-        parsing: Built::Words(&["none"]),
+        parsing: Built::EveryValue,
         unparsing: Built::Words(&["none"]),
     },
     Applicability {
         name: "textStringJustification",
         bearers: Bearers::Strings,
+        parsing: Built::EveryValue,
+        unparsing: Built::EveryValue,
+    },
+    Applicability {
+        name: "textStringPadCharacter",
+        bearers: Bearers::PaddedStrings,
         parsing: Built::EveryValue,
         unparsing: Built::EveryValue,
     },

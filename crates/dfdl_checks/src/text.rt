@@ -10,6 +10,7 @@ use crate::applying::is_word;
 use crate::boxes::{box_bits, box_unit, box_units, is_in_characters};
 use crate::encodings::encoding_told;
 use crate::orders::field_order;
+use crate::pads::{is_padded, is_trimmed, pad_at, used_where};
 use crate::subject::Subject;
 use dfdl_forms::{Encoding, Justify, PadForm};
 use dfdl_scope::{Component, property};
@@ -80,10 +81,11 @@ fn size_in(are_characters: bool, unit: u32, units: u64) -> TextSize
 fn pad_of(subject: &Subject<'_, '_, '_>) -> PadForm
     ensures { result ≡ texts.pad_of (judged_of subject.now) }
 {
+    let pad = pad_at(subject);
     PadForm {
         justify: justify_told(subject.chain),
-        pad: None,
-        trim: None,
+        pad: used_where(is_padded(subject), pad),
+        trim: used_where(is_trimmed(subject), pad),
         truncate: is_word(subject.chain, "truncateSpecifiedLengthString", "yes"),
         keeps_zero: false,
     }

@@ -59,8 +59,8 @@ fn boxes_are_no_longer_than_the_greatest_length(rt: HostRuntime) -> Result<(), F
 /// A property of a string of explicit length, and the number of its first breach.
 const PROPERTIES: [(&str, &str, u8); 7] = [
     ("encodingErrorPolicy", "error", 0),
-    ("textTrimKind", "padChar", 3),
-    ("textPadKind", "padChar", 3),
+    ("textTrimKind", "padChar", 0),
+    ("textPadKind", "padChar", 0),
     ("textStringJustification", "middle", 9),
     ("escapeSchemeRef", "e", 3),
     ("textStringPadCharacter", "", 0),
@@ -107,6 +107,92 @@ fn text_of(encoding: Encoding, replaces: bool, size: TextSize) -> Option<Primiti
             keeps_zero: false,
         },
     }))
+}
+
+/// An encoding, a pad character, and the number of the first breach of a string that is trimmed by it.
+const PADS: [(&str, &str, u8); 15] = [
+    ("UTF-8", "0", 0),
+    ("UTF-8", "%SP;", 0),
+    ("UTF-8", "%", 11),
+    ("UTF-8", "%SP", 11),
+    ("UTF-8", "", 28),
+    ("UTF-8", " ", 28),
+    ("UTF-8", "ab", 28),
+    ("UTF-8", "%#r20;", 28),
+    ("UTF-8", "{0}", 10),
+    ("US-ASCII", "%#x7F;", 0),
+    ("US-ASCII", "%#x80;", 23),
+    ("ISO-8859-1", "%#xFF;", 0),
+    ("ISO-8859-1", "%#x100;", 23),
+    ("UTF-16LE", "%#x1F600;", 0),
+    ("EBCDIC", "%#x100;", 9),
+];
+
+fn is_trimmed<R: Abort + AllocGlobal>(
+    rt: &R,
+    encoding: &'static str,
+    pad: &'static str,
+    wanted: u8,
+) -> Result<(), Fail> {
+    let mut own = explicit(rt.alloc(), "3", "bytes")?;
+    own.add("encoding", encoding)?;
+    own.add("textStringPadCharacter", pad)?;
+    let plain = told_of(rt.alloc(), Purpose::Parsing, STRING, &own)?;
+    assert_eq!(rt; plain.number, without_pads(wanted), "{encoding} {pad}");
+    own.add("textTrimKind", "padChar")?;
+    let told = told_of(rt.alloc(), Purpose::Parsing, STRING, &own)?;
+    assert_eq!(rt; told.number, wanted, "{encoding} {pad}");
+    Ok(())
+}
+
+/// The number where no pad character is asked for.
+fn without_pads(number: u8) -> u8 {
+    if number == 9 { 9 } else { 0 }
+}
+
+#[test]
+fn a_pad_character_is_one_of_the_encoding(rt: HostRuntime) -> Result<(), Fail> {
+    for case in PADS.iter() {
+        let (encoding, pad, wanted) = *case;
+        is_trimmed(&rt, encoding, pad, wanted)?;
+    }
+    Ok(())
+}
+
+/// A string of 3 bytes in ASCII at the left, with these characters.
+fn padded_by(pad: Option<char>, trim: Option<char>) -> Option<Primitive> {
+    Some(Primitive::Text(TextForm {
+        encoding: Encoding::UsAscii,
+        replaces: true,
+        size: TextSize::Bits(24),
+        pad: PadForm {
+            justify: Justify::Left,
+            pad,
+            trim,
+            truncate: false,
+            keeps_zero: false,
+        },
+    }))
+}
+
+#[test]
+fn a_string_is_padded_and_trimmed_by_its_character(rt: HostRuntime) -> Result<(), Fail> {
+    let alloc = rt.alloc();
+    let mut own = explicit(alloc, "3", "bytes")?;
+    own.add("encoding", "US-ASCII")?;
+    own.add("textTrimKind", "padChar")?;
+    let trimmed = told_of(alloc, Purpose::Parsing, STRING, &own)?;
+    assert!(rt; trimmed.primitive == padded_by(None, Some(' ')));
+    own.add("textPadKind", "padChar")?;
+    own.add("textStringPadCharacter", "%#x2A;")?;
+    let both = told_of(alloc, Purpose::Parsing, STRING, &own)?;
+    assert!(rt; both.primitive == padded_by(Some('*'), Some('*')));
+    let mut own = explicit(alloc, "3", "bytes")?;
+    own.add("encoding", "US-ASCII")?;
+    own.add("textPadKind", "padChar")?;
+    let padded = told_of(alloc, Purpose::Parsing, STRING, &own)?;
+    assert!(rt; padded.primitive == padded_by(Some(' '), None));
+    Ok(())
 }
 
 /// An element of a type with a greatest length.

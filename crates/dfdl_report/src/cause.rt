@@ -78,7 +78,7 @@ pub enum SchemaCause {
     PatternRefused,
     /// An order of bytes that does not go with the order of bits.
     OrdersApart,
-    /// An order of bits other than that of the components before.
+    /// An order of bits other than that of the root.
     SecondBitOrder,
     /// An encoding that lacks a character which is needed, or can't be that of the content.
     EncodingNotAllowed,

@@ -1,6 +1,7 @@
 -- The forms of text numbers. 'Properties Specific to Number with Text Representation'.
-use Rattle.std.specs.Prelude.{ℕ, ◌==◌, Bool, true, not, ◌&&◌, ◌||◌, Option, Some, None}
+use Rattle.std.specs.Prelude.{ℕ, ◌+◌, ◌≤◌, ◌==◌, Bool, true, not, ◌&&◌, ◌||◌, IsTrue, Option, Some, None}
 use Rattle.std.specs.Char.{is_ascii_digit}
+use Rattle.dfdl_forms.specs.declared.number.NumberForm.{NumberForm}
 use Rattle.dfdl_forms.specs.declared.number_pattern.NumberPattern.{NumberPattern}
 use Rattle.dfdl_forms.specs.declared.number_pattern.Point.{Point}
 use Rattle.dfdl_forms.specs.declared.number_pattern.Point.TheVariants.{Absent, Written, Implied}
@@ -32,3 +33,22 @@ goes_with base (Some p) = base == 10
 -- parts go together in a form: a base of text numbers, with a pattern exactly in base 10, and plain separators
 abbrev pub is_form : ℕ → Option NumberPattern → ℕ → ℕ → Bool
 is_form base pattern decimal grouping = is_base base && (goes_with base pattern && are_plain pattern decimal grouping)
+
+-- a pattern has at most 38 signs, no more digits are written at least than there are signs, and a group has no more
+pub record IsNumberPattern (p : NumberPattern) : Type 0 where
+  pub few : p.greatest_integer + p.greatest_fraction + p.implied ≤ 38
+  pub least_integer_within : p.least_integer ≤ p.greatest_integer
+  pub least_fraction_within : p.least_fraction ≤ p.greatest_fraction
+  pub group_within : p.group_size ≤ 38
+
+-- the same, where there is a pattern
+abbrev pub HasPattern : Option NumberPattern → Type 0
+HasPattern None = Unit {0}
+HasPattern (Some p) = IsNumberPattern p
+
+-- the parts of the form of a text number go together
+pub record IsNumberForm (form : NumberForm) : Type 0 where
+  pub based : IsTrue (is_base form.base)
+  pub patterned : IsTrue (goes_with form.base form.pattern)
+  pub plain : IsTrue (are_plain form.pattern form.decimal form.grouping)
+  pub bounded : HasPattern form.pattern

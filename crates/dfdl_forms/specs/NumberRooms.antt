@@ -16,7 +16,7 @@ pub record IsFormOf (form : NumberForm) (base : ℕ) (pattern : Option NumberPat
 abbrev pub room_with : Option NumberPattern → ℕ
 room_with None = 128
 room_with (Some p) =
-    128 + max (length p.prefix.items) (length p.negative_prefix.items) + max (length p.suffix.items) (length p.negative_suffix.items)
+    max (length p.prefix) (length p.negative_prefix) + max (length p.suffix) (length p.negative_suffix) + 128
 
 -- how many characters a number in the form may take
 abbrev pub room_of : NumberForm → ℕ

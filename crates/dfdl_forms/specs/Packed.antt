@@ -1,6 +1,7 @@
 -- Which sizes and codes packed fields can have. 'Simple Types' (binaryNumberRep, binaryPackedSignCodes).
 use Rattle.std.specs.Prelude.{◌≡◌, ℕ, ◌/◌, ◌%◌, ◌≤◌, ◌==◌, ◌||◌, ◌&&◌, Bool, List, slice_index}
 use Rattle.dfdl_forms.specs.declared.packed.PackedRep.{PackedRep}
+use Rattle.dfdl_forms.specs.declared.packed.ZonedForm.{ZonedForm}
 use Rattle.dfdl_forms.specs.declared.packed.PackedRep.TheVariants.{Bcd}
 
 -- how many nibbles a field can have (profile)
@@ -23,3 +24,7 @@ are_allowed codes =
     && (slice_index codes 1 == 11 || slice_index codes 1 == 13)
     && slice_index codes 2 == 15
     && (is_positive_code (slice_index codes 3) || slice_index codes 3 == 0)
+
+-- a zoned number has no more digits behind its virtual point than a pattern has signs
+abbrev pub IsZonedForm : ZonedForm → Type 0
+IsZonedForm form = form.point ≤ 38

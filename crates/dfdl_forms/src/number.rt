@@ -1,6 +1,5 @@
 // The forms of text numbers.
-ghost use Rattle.std.specs.Prelude.{◌≡◌, ◌==◌, IsTrue, is_some};
-ghost use Rattle.dfdl_forms.specs.NumberForms.{is_base, are_plain};
+ghost use Rattle.std.specs.Prelude.{◌≡◌};
 
 use crate::number_pattern::NumberPattern;
 use crate::separators::{are_plain, goes_with, is_base};
@@ -27,7 +26,7 @@ pub enum Rounding {
 }
 
 /// The form of a text number.
-#[derive(Drop)]
+#[derive(Debug, Drop)]
 pub struct NumberForm {
     /// 2, 8, 10 or 16.
     pub base: u8,
@@ -38,14 +37,11 @@ pub struct NumberForm {
     /// The grouping separator.
     pub grouping: char,
     pub rounding: Rounding,
-    pub ghost patterned: { is_some pattern ≡ (base == 10) },
-    pub ghost based: { IsTrue (is_base base) },
-    pub ghost plain: { IsTrue (are_plain pattern decimal grouping) },
 }
 
 impl NumberForm {
-    ghost use Rattle.std.specs.Prelude.{◌≤◌, ◌+◌, ◌↔◌, IfSome, IsSome, length, max};
-    ghost use Rattle.dfdl_forms.specs.NumberForms.{is_form};
+    ghost use Rattle.std.specs.Prelude.{◌-◌, ◌^◌, ◌↔◌, IfSome, IsSome, IsTrue, min};
+    ghost use Rattle.dfdl_forms.specs.NumberForms.{is_form, HasPattern, IsNumberForm};
     ghost use Rattle.dfdl_forms.specs.NumberRooms.{IsFormOf, room_of};
 
     /// The form with these parts, if they go together: a pattern stands exactly in base 10, and the separators that it
@@ -59,6 +55,7 @@ impl NumberForm {
     ) -> Option<NumberForm>
         ensures fits { IsSome result ↔ IsTrue (is_form base pattern decimal grouping) }
         ensures form { IfSome result (λ form. IsFormOf form base pattern decimal grouping rounding) }
+        ensures sound { HasPattern pattern → IfSome result IsNumberForm }
     {
         if !is_base(base) || !goes_with(base, &pattern) || !are_plain(&pattern, decimal, grouping) {
             return None;
@@ -74,12 +71,13 @@ impl NumberForm {
 
     /// How many characters a number in this form may take.
     pub fn room(&self) -> usize
-        ensures { result ≡ room_of self.now }
+        ensures { result ≡ min (room_of self.now) (2 ^ 64 - 1) }
     {
         match &self.pattern {
             Some(pattern) => {
-                128 + pattern.prefix.len().max(pattern.negative_prefix.len())
-                    + pattern.suffix.len().max(pattern.negative_suffix.len())
+                let before = pattern.prefix.len().max(pattern.negative_prefix.len());
+                let behind = pattern.suffix.len().max(pattern.negative_suffix.len());
+                before.saturating_add(behind).saturating_add(128)
             }
             None => 128,
         }

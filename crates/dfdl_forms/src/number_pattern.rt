@@ -1,5 +1,5 @@
 // Number patterns, the values of `dfdl:textNumberPattern`.
-ghost use Rattle.std.specs.Prelude.{◌≤◌, ◌+◌, ◌^◌, max, length};
+use crate::text::CharList;
 
 /// How the fraction of a pattern is written.
 #[derive(Clone, Copy, Debug, PartialEq, Eq)]
@@ -13,12 +13,12 @@ pub enum Point {
 }
 
 /// A number pattern.
-#[derive(Drop)]
+#[derive(Debug, Drop)]
 pub struct NumberPattern {
-    pub prefix: Vec<char>,
-    pub suffix: Vec<char>,
-    pub negative_prefix: Vec<char>,
-    pub negative_suffix: Vec<char>,
+    pub prefix: CharList,
+    pub suffix: CharList,
+    pub negative_prefix: CharList,
+    pub negative_suffix: CharList,
     /// How many integer digits are written at least.
     pub least_integer: u16,
     /// How many signs stand for integer digits.
@@ -30,9 +30,4 @@ pub struct NumberPattern {
     pub greatest_fraction: u16,
     /// How many digits stand behind the implied decimal point.
     pub implied: u16,
-    pub ghost short: { max (length prefix.items) (length negative_prefix.items) + max (length suffix.items) (length negative_suffix.items) ≤ 2 ^ 63 },
-    pub ghost few: { greatest_integer + greatest_fraction + implied ≤ 38 },
-    pub ghost least_integer_within: { least_integer ≤ greatest_integer },
-    pub ghost least_fraction_within: { least_fraction ≤ greatest_fraction },
-    pub ghost group_within: { group_size ≤ 38 },
 }

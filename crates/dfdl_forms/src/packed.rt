@@ -53,8 +53,6 @@ pub struct ZonedForm {
     /// how many digits stand behind the virtual point of the pattern, integers among them
     pub point: u8,
     pub kind: Simple,
-    // A pattern has at most 38 digits.
-    pub ghost places: { point ≤ 38 },
 }
 
 impl PackedForm {

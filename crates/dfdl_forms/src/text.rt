@@ -77,6 +77,12 @@ impl CharList {
     {
         self.characters.as_slice()
     }
+
+    pub fn len(&self) -> usize
+        ensures { result ≡ length self.now }
+    {
+        self.characters.len()
+    }
 }
 
 /// Texts that stand for themselves, at least one. A contract sees them as lists of characters.

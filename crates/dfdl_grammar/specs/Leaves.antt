@@ -2,21 +2,28 @@
 use Rattle.std.specs.Prelude.{ℕ, zero, suc, ◌+◌, ◌-◌, ◌*◌, ◌/◌, ◌%◌, Bool, nat_eq, nat_le, ◌&&◌, List, [], ◌++◌, length, Option, Some, None, Result, Ok, Err, if◌then◌else◌}
 use Rattle.dfdl_report.specs.declared.cause.LimitCause.TheVariants.{Window, Text as TextLimit}
 use Rattle.dfdl_report.specs.declared.cause.ParseCause.{ParseCause}
-use Rattle.dfdl_report.specs.declared.cause.ParseCause.TheVariants.{BadCharacter, BadNibble, DataEnds, LengthOutOfRange, NotFilled, PastType, UnknownBoolean}
+use Rattle.dfdl_report.specs.declared.cause.ParseCause.TheVariants.{BadCharacter, BadNibble, DataEnds, LengthOutOfRange, NotANumber, NotFilled, PastType, UnknownBoolean}
 use Rattle.dfdl_value.specs.declared.value.Value.{Value}
 use Rattle.dfdl_value.specs.declared.value.Value.TheVariants.{Int, Uns, Dec}
 use Rattle.dfdl_int_binary.specs.Integers.{field_of, integer_reading}
 use Rattle.dfdl_int_binary.specs.Truths.{truth_field_of, truth_reading}
+use Rattle.dfdl_number_text.specs.NumberReading.{reading as number_reading}
+use Rattle.dfdl_number_text.specs.declared.fault.NumberFault.{NumberFault}
+use Rattle.dfdl_number_text.specs.declared.fault.NumberFault.TheVariants as number
 use Rattle.dfdl_packed.specs.Packed.{nibbles_in, packed_reading}
+use Rattle.dfdl_packed.specs.Zoned.{zoned_reading}
 use Rattle.dfdl_packed.specs.declared.fault.PackedFault.{PackedFault}
 use Rattle.dfdl_packed.specs.declared.fault.PackedFault.TheVariants as packed
 use Rattle.dfdl_terms.specs.declared.row.Primitive.{Primitive}
 use Rattle.dfdl_terms.specs.declared.row.Primitive.TheVariants.{Integer, Packed, Truth, Octets, Text}
 use Rattle.dfdl_terms.specs.declared.text.OctetForm.{OctetForm}
+use Rattle.dfdl_terms.specs.declared.text.TextContent.{TextContent}
+use Rattle.dfdl_terms.specs.declared.text.TextContent.TheVariants.{Plain, Number, Zoned, Truth as TextTruth}
 use Rattle.dfdl_terms.specs.declared.text.TextForm.{TextForm}
 use Rattle.dfdl_terms.specs.declared.text.TextSize.{TextSize}
 use Rattle.dfdl_terms.specs.declared.text.TextSize.TheVariants.{Bits, Characters}
 use Rattle.dfdl_text_string.specs.Padding.{trimmed}
+use Rattle.dfdl_text_string.specs.Truths.{truth_of}
 use Rattle.dfdl_texts.specs.Texts.{Text as TextRead, Reads, HasBad, IsCut, IsBoxed, text_at}
 use Rattle.dfdl_texts.specs.declared.extent.Extent.TheVariants as extent
 use Rattle.dfdl_region.specs.Bytes.{utf8_of}
@@ -34,8 +41,8 @@ use Rattle.dfdl_grammar.specs.Outcomes.{Outcome, ended, spend}
 use Rattle.dfdl_grammar.specs.Framing.{aligned}
 use Rattle.dfdl_grammar.specs.Octets.{octets_from}
 
--- What a leaf finds: why it fails; its content and how many bits it has; the bytes of a hexBinary and how many bits they have;
--- or the bytes of a string, as UTF-8, and the bit behind its box.
+-- What a leaf finds: why it fails; or its content, the bytes of a hexBinary or those of a string, as UTF-8, and the bit behind
+-- its box.
 pub data Find : Type 0 where
   Fails : ParseCause → Find
   Finds : Content → ℕ → Find
@@ -91,40 +98,46 @@ abbrev pub has_room : Primitive → ℕ → ℕ → Bool
 has_room primitive bit stop =
     nat_le (content_ends primitive bit stop) stop && nat_le (content_begins primitive bit) (content_ends primitive bit stop)
 
--- What a number of so many bits is found as, by its value. Where it is no value of its type, it fails.
+-- What a number before this bit is found as, by its value. Where it is no value of its type, it fails.
 abbrev pub find_of : ℕ → Option Value → Find
-find_of bits (Some (Int z)) = Finds (Signed z) bits
-find_of bits (Some (Uns n)) = Finds (Unsigned n) bits
-find_of bits (Some (Dec d)) = Finds (Decimal d) bits
-find_of bits _ = Fails PastType
+find_of end (Some (Int z)) = Finds (Signed z) end
+find_of end (Some (Uns n)) = Finds (Unsigned n) end
+find_of end (Some (Dec d)) = Finds (Decimal d) end
+find_of end _ = Fails PastType
 
--- what a packed number of so many bits is found as
+-- what a packed or zoned number before this bit is found as
 abbrev pub packed_find : ℕ → Result Value PackedFault → Find
-packed_find bits (Ok value) = find_of bits (Some value)
-packed_find bits (Err packed.BadNibble) = Fails BadNibble
-packed_find bits (Err packed.PastType) = Fails PastType
+packed_find end (Ok value) = find_of end (Some value)
+packed_find end (Err packed.BadNibble) = Fails BadNibble
+packed_find end (Err packed.PastType) = Fails PastType
 
--- what a boolean of so many bits is found as; where its number is neither that of true nor that of false, it fails
+-- what a text number before this bit is found as
+abbrev pub number_find : ℕ → Result Value NumberFault → Find
+number_find end (Ok value) = find_of end (Some value)
+number_find end (Err number.NotANumber) = Fails NotANumber
+number_find end (Err number.PastType) = Fails PastType
+
+-- what a boolean before this bit is found as; where it is neither true nor false, it fails
 abbrev pub truth_find : ℕ → Option Bool → Find
-truth_find bits (Some truth) = Finds (content.Truth truth) bits
-truth_find bits None = Fails UnknownBoolean
+truth_find end (Some truth) = Finds (content.Truth truth) end
+truth_find end None = Fails UnknownBoolean
 
--- what the leaf of a primitive finds in the bytes that its bits lie in, of which so many of the first byte come before it
+-- what the leaf of a primitive finds whose box begins at a bit, in the bytes that its bits lie in
 abbrev pub find_in : Primitive → ℕ → List ℕ → Find
-find_in (Integer form) before bytes = find_of form.bits (integer_reading form (field_of form bytes before))
-find_in (Packed form) before bytes = packed_find (4 * form.nibbles) (packed_reading form (nibbles_in form bytes before))
-find_in (Truth form) before bytes = truth_find form.bits (truth_reading form (truth_field_of form bytes before))
-find_in (Octets form) before bytes = FindsOctets (octets_from form.bits_by bytes before (form.bits / 8)) form.bits
-find_in (Text form) before bytes = FindsText [] before
+find_in (Integer form) bit bytes = find_of (bit + form.bits) (integer_reading form (field_of form bytes (bit % 8)))
+find_in (Packed form) bit bytes = packed_find (bit + 4 * form.nibbles) (packed_reading form (nibbles_in form bytes (bit % 8)))
+find_in (Truth form) bit bytes = truth_find (bit + form.bits) (truth_reading form (truth_field_of form bytes (bit % 8)))
+find_in (Octets form) bit bytes = FindsOctets (octets_from form.bits_by bytes (bit % 8) (form.bits / 8)) (bit + form.bits)
+find_in (Text form) bit bytes = FindsText [] bit
 
 -- The bits of a field are found by a look at each byte that they lie in, in the order of the data.
 abbrev pub field : Primitive → ℕ → Ask Find
-field primitive bit = look_at (bytes_spanned bit (bits_of primitive)) (bit / 8) (Fails DataEnds) (find_in primitive (bit % 8))
+field primitive bit = look_at (bytes_spanned bit (bits_of primitive)) (bit / 8) (Fails DataEnds) (find_in primitive bit)
 
 -- the bytes of a hexBinary: a box without bits has none, and one that is no whole number of bytes is refused before any look
 abbrev pub octets : OctetForm → ℕ → Ask Find
 octets form bit =
-    if nat_eq form.bits 0 then Answer (FindsOctets [] 0)
+    if nat_eq form.bits 0 then Answer (FindsOctets [] bit)
     else if nat_eq (form.bits % 8) 0 then field (Octets form) bit
     else Answer (Fails NotFilled)
 
@@ -133,9 +146,16 @@ abbrev pub text_behind : TextSize → ℕ → ℕ → ℕ
 text_behind (Bits bits) bit end = bit + bits
 text_behind (Characters count) bit end = 8 * end
 
--- what the characters of a text that begins at a bit are found as
+-- what characters before this bit are found as, by what they are read as
+abbrev pub content_find : TextContent → List ℕ → ℕ → Find
+content_find Plain characters end = FindsText (utf8_of characters) end
+content_find (Number form kind) characters end = number_find end (number_reading form kind characters)
+content_find (Zoned form) characters end = packed_find end (zoned_reading form characters)
+content_find (TextTruth form) characters end = truth_find end (truth_of form characters)
+
+-- what the characters of a text whose box begins at a bit are found as: they are read after trimming
 abbrev pub text_find : TextForm → ℕ → TextRead → Find
-text_find form bit (Reads characters end) = FindsText (utf8_of (trimmed form.pad characters)) (text_behind form.size bit end)
+text_find form bit (Reads characters end) = content_find form.content (trimmed form.pad characters) (text_behind form.size bit end)
 text_find form bit HasBad = Fails BadCharacter
 text_find form bit IsCut = Fails DataEnds
 text_find form bit IsBoxed = Fails LengthOutOfRange
@@ -180,9 +200,9 @@ hold most content bytes end s =
 -- what a leaf's reading makes of the state, where its content begins at a bit
 abbrev pub land : Limits → ℕ → Reached Find → State → Outcome
 land limits first (Told (Fails cause)) s = ended (Failed cause (failing_bit cause s.at first)) s
-land limits first (Told (Finds content bits)) s =
-    ended Done (record s { at = s.at + bits; nodes = with_content s.nodes s.inside content })
-land limits first (Told (FindsOctets bytes bits)) s = hold limits.text content.Octets bytes (s.at + bits) s
+land limits first (Told (Finds content end)) s =
+    ended Done (record s { at = end; nodes = with_content s.nodes s.inside content })
+land limits first (Told (FindsOctets bytes end)) s = hold limits.text content.Octets bytes end s
 land limits first (Told (FindsText bytes end)) s = hold limits.text content.Text bytes end s
 land limits first TooFar s = ended (Stopped Window limits.window) s
 land limits first Missing s = ended Done s

@@ -5,6 +5,7 @@ pub mod Octets
 pub mod Leaves
 pub mod Boxes
 pub mod Elements
+pub mod Prefixes
 pub mod Rows
 pub mod Documents
 pub mod Paths

@@ -1,7 +1,7 @@
 -- The meaning of each row, by that of the rows inside it, which stand below it. 'DFDL Data Syntax Grammar'.
 use Rattle.std.specs.Prelude.{ℕ, zero, suc, nat_eq, List, [], ◌∷◌, Option, Some, None, slice_get, if◌then◌else◌}
 use Rattle.dfdl_terms.specs.declared.row.Row.{Row}
-use Rattle.dfdl_terms.specs.declared.row.Row.TheVariants.{Leaf, Elem, Group, Skip, Align, Boxed}
+use Rattle.dfdl_terms.specs.declared.row.Row.TheVariants.{Leaf, Elem, Group, Skip, Align, Boxed, PrefixedLeaf, PrefixedBox}
 use Rattle.dfdl_terms.specs.Rows.{Table}
 use Rattle.dfdl_grammar.specs.declared.end.End.TheVariants.{Done}
 use Rattle.dfdl_looks.specs.Tallies.{one_row}
@@ -11,6 +11,7 @@ use Rattle.dfdl_grammar.specs.Leaves.{leaf}
 use Rattle.dfdl_grammar.specs.Framing.{align, skip}
 use Rattle.dfdl_grammar.specs.Boxes.{boxed}
 use Rattle.dfdl_grammar.specs.Elements.{element, has_elements}
+use Rattle.dfdl_grammar.specs.Prefixes.{prefixed_box, prefixed_leaf}
 
 -- rows one after another
 abbrev pub group : (ℕ → State → Outcome) → List ℕ → State → Outcome
@@ -26,6 +27,10 @@ row input table child id (Some (Group children)) s = group child children s
 row input table child id (Some (Skip bits)) s = skip input bits s
 row input table child id (Some (Align bits)) s = align input bits s
 row input table child id (Some (Boxed bits body)) s = boxed input bits (child body) s
+row input table child id (Some (PrefixedLeaf prefix prim)) s =
+    prefixed_leaf input (slice_get table.primitives prefix.prim) prefix (slice_get table.primitives prim) s
+row input table child id (Some (PrefixedBox prefix body)) s =
+    prefixed_box input (slice_get table.primitives prefix.prim) prefix (child body) s
 
 -- the row of this number of the table, with its cost
 abbrev pub row_at : Input → Table → (ℕ → State → Outcome) → ℕ → State → Outcome

@@ -8,6 +8,7 @@
 //! - Octets: the bytes that stand in the data from a bit on ('Simple Types').
 //! - Framing: alignment and skips ('Framing').
 //! - Boxes: a box around a content, and what the content leaves of it ('Lengths').
+//! - Prefixes: a number before a content that tells how long that is ('Lengths').
 //! - Elements: an element begins, and ends ('The DFDL Information Set').
 //! - Rows: the meaning of each row, by those below it ('DFDL Data Syntax Grammar').
 //! - Documents: the meaning of the root element's row at the front of the data.

@@ -1,12 +1,17 @@
 -- Tables of rows: each row's children stand below it.
 use Rattle.std.specs.Prelude.{◌≡◌, ℕ, ◌<◌, ◌≤◌, ◌-◌, List, length, All, slice_get, Option, None, Some}
 use Rattle.dfdl_forms.specs.BinaryNumbers.{IsIntForm, IsPackedForm, IsTruthForm}
+use Rattle.dfdl_forms.specs.NumberForms.{IsNumberForm}
+use Rattle.dfdl_forms.specs.Packed.{IsZonedForm}
+use Rattle.dfdl_terms.specs.declared.text.TextContent.{TextContent}
+use Rattle.dfdl_terms.specs.declared.text.TextContent.TheVariants.{Plain, Number, Zoned, Truth as TextTruth}
+use Rattle.dfdl_terms.specs.declared.text.TextForm.{TextForm}
 use Rattle.dfdl_terms.specs.declared.text.TextSize.{TextSize}
 use Rattle.dfdl_terms.specs.declared.text.TextSize.TheVariants.{Bits, Characters}
 use Rattle.dfdl_terms.specs.declared.row.Primitive.{Primitive}
 use Rattle.dfdl_terms.specs.declared.row.Primitive.TheVariants.{Integer, Packed, Truth, Octets, Text}
 use Rattle.dfdl_terms.specs.declared.row.Row.{Row}
-use Rattle.dfdl_terms.specs.declared.row.Row.TheVariants.{Leaf, Elem, Group, Skip, Align, Boxed}
+use Rattle.dfdl_terms.specs.declared.row.Row.TheVariants.{Leaf, Elem, Group, Skip, Align, Boxed, PrefixedLeaf, PrefixedBox}
 
 -- the rows of a schema, and what they name by numbers
 pub record Table : Type 0 where
@@ -25,6 +30,8 @@ ChildrenBelow bound (Group children) = All (λ c. c < bound) children
 ChildrenBelow bound (Skip bits) = Unit {0}
 ChildrenBelow bound (Align bits) = Unit {0}
 ChildrenBelow bound (Boxed bits body) = body < bound
+ChildrenBelow bound (PrefixedLeaf prefix prim) = Unit {0}
+ChildrenBelow bound (PrefixedBox prefix body) = body < bound
 
 -- each child is below its row, for the first so many rows
 abbrev pub NestsBelow : ℕ → List Row → Type 0
@@ -49,6 +56,8 @@ NamesWithin primitives (Group children) = Unit {0}
 NamesWithin primitives (Skip bits) = Unit {0}
 NamesWithin primitives (Align bits) = Unit {0}
 NamesWithin primitives (Boxed bits body) = Unit {0}
+NamesWithin primitives (PrefixedLeaf prefix prim) = (prefix.prim < primitives) × (prim < primitives)
+NamesWithin primitives (PrefixedBox prefix body) = prefix.prim < primitives
 
 -- the greatest constant length, in bits (profile)
 abbrev pub most_length : ℕ
@@ -59,13 +68,25 @@ abbrev pub IsTextSize : TextSize → Type 0
 IsTextSize (Bits n) = n ≤ most_length
 IsTextSize (Characters n) = n ≤ most_length
 
+-- the form of what characters are read as keeps its bounds
+abbrev pub IsTextContent : TextContent → Type 0
+IsTextContent Plain = Unit {0}
+IsTextContent (Number form kind) = IsNumberForm form
+IsTextContent (Zoned form) = IsZonedForm form
+IsTextContent (TextTruth form) = Unit {0}
+
+-- the form of a text keeps its bounds
+pub record IsTextForm (form : TextForm) : Type 0 where
+  pub size : IsTextSize form.size
+  pub content : IsTextContent form.content
+
 -- the form of a primitive keeps the bounds of its type
 abbrev pub IsPrimitive : Primitive → Type 0
 IsPrimitive (Integer form) = IsIntForm form
 IsPrimitive (Packed form) = IsPackedForm form
 IsPrimitive (Truth form) = IsTruthForm form
 IsPrimitive (Octets form) = form.bits ≤ most_length
-IsPrimitive (Text form) = IsTextSize form.size
+IsPrimitive (Text form) = IsTextForm form
 
 -- the row is an element
 abbrev pub IsElementRow : Option Row → Type 0
@@ -75,6 +96,8 @@ IsElementRow (Some (Group children)) = ⊥
 IsElementRow (Some (Skip bits)) = ⊥
 IsElementRow (Some (Align bits)) = ⊥
 IsElementRow (Some (Boxed bits body)) = ⊥
+IsElementRow (Some (PrefixedLeaf prefix prim)) = ⊥
+IsElementRow (Some (PrefixedBox prefix body)) = ⊥
 IsElementRow None = ⊥
 
 -- the last row is an element
@@ -89,7 +112,7 @@ pub record IsTable (t : Table) : Type 0 where
   pub named : All (NamesWithin (length t.primitives)) t.rows
   pub bounded : All IsPrimitive t.primitives
 
--- a row of the content alone: neither fill nor a box around a content
+-- a row of the content alone: neither fill nor a prefix nor a box around a content
 abbrev pub IsPlainRow : Row → Type 0
 IsPlainRow (Leaf prim) = Unit {0}
 IsPlainRow (Elem name simple body) = Unit {0}
@@ -97,6 +120,8 @@ IsPlainRow (Group children) = Unit {0}
 IsPlainRow (Skip bits) = ⊥
 IsPlainRow (Align bits) = ⊥
 IsPlainRow (Boxed bits body) = ⊥
+IsPlainRow (PrefixedLeaf prefix prim) = ⊥
+IsPlainRow (PrefixedBox prefix body) = ⊥
 
 -- each row is of the content alone
 abbrev pub HasPlainRows : List Row → Type 0

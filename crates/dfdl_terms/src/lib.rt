@@ -6,12 +6,14 @@
 
 pub mod event;
 pub mod framing;
+pub mod prefix;
 pub mod row;
 pub mod terms;
 pub mod text;
 
 pub use event::Event;
 pub use framing::Framing;
+pub use prefix::{LengthUnit, Prefix};
 pub use row::{Primitive, Row, RowId, RowList, Tables};
 pub use terms::{TermFault, Terms};
-pub use text::{OctetForm, TextForm, TextSize};
+pub use text::{OctetForm, TextContent, TextForm, TextSize};

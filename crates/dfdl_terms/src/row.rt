@@ -1,5 +1,6 @@
 ghost use Rattle.std.specs.Prelude.{◌≡◌, ◌<◌, List};
 
+use crate::prefix::Prefix;
 use crate::text::{OctetForm, TextForm};
 use dfdl_forms::{BitTruthForm, IntForm, PackedForm};
 use dfdl_value::{Simple, TextValue};
@@ -64,7 +65,7 @@ impl RowList {
 }
 
 /// How the content of a simple element lies in its box.
-#[derive(Debug, Clone, Copy, PartialEq, Eq)]
+#[derive(Debug, Drop)]
 pub enum Primitive {
     /// A binary integer or decimal ('Simple Types').
     Integer(IntForm),
@@ -74,7 +75,7 @@ pub enum Primitive {
     Truth(BitTruthForm),
     /// Bytes ('Simple Types', hexBinary).
     Octets(OctetForm),
-    /// The characters of a string ('Simple Types').
+    /// Characters: a string, a text number or a text boolean ('Simple Types').
     Text(TextForm),
 }
 
@@ -106,6 +107,18 @@ pub enum Row {
     /// A box of so many bits, with a row in it; what the row leaves of the box is passed over ('Lengths').
     Boxed {
         bits: u64,
+        body: RowId,
+    },
+    /// A length prefix, and behind it the content of the primitive of this number, which has the length that the prefix
+    /// tells in place of one of its own ('Lengths').
+    PrefixedLeaf {
+        prefix: Prefix,
+        prim: u32,
+    },
+    /// A length prefix, and behind it a box of so many units, with a row in it; what the row leaves of the box is passed
+    /// over ('Lengths').
+    PrefixedBox {
+        prefix: Prefix,
         body: RowId,
     },
 }

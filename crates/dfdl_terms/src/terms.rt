@@ -69,6 +69,8 @@ fn has_children_below(row: &Row, bound: RowId) -> bool
         Row::Skip { .. } => true,
         Row::Align { .. } => true,
         Row::Boxed { body, .. } => body.number() < bound.number(),
+        Row::PrefixedLeaf { .. } => true,
+        Row::PrefixedBox { body, .. } => body.number() < bound.number(),
     }
 }
 

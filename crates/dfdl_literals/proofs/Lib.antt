@@ -3,3 +3,4 @@ mod Laws
 pub mod Reader
 pub mod Bytes
 mod PadLaws
+mod TextListLaws

@@ -4,7 +4,7 @@ use Rattle.std.proofs.lemmas.Bool.{eqb-true}
 use Rattle.std.proofs.lemmas.List.{drop_more, drop_all}
 use Rattle.std.specs.Option.{option_and_then}
 use Rattle.std.specs.List.{list_any}
-use Rattle.dfdl_machines.specs.Machines.{run, IsReader}
+use Rattle.dfdl_machines.specs.Machines.{run}
 use Rattle.dfdl_forms.specs.declared.literals.Piece.{Piece}
 use Rattle.dfdl_forms.specs.declared.literals.Piece.TheVariants.{Char, Byte, NewLine, Space, Spaces, MaybeSpaces, Nothing}
 use Rattle.dfdl_literals.specs.declared.scan.Mark.{Mark}
@@ -16,11 +16,11 @@ use Rattle.dfdl_literals.specs.declared.pad.Found.TheVariants.{Blank, One, More}
 use Rattle.dfdl_literals.specs.declared.pad.PadCharacter.{PadCharacter}
 use Rattle.dfdl_literals.specs.declared.pad.PadCharacter.TheVariants.{Character, Malformed, Other}
 use Rattle.dfdl_literals.specs.Names.{begins_name}
-use Rattle.dfdl_literals.specs.Lists.{is_divider, closed, IsList, Reads}
+use Rattle.dfdl_literals.specs.Lists.{is_divider, closed, Reads}
 use Rattle.dfdl_literals.specs.Steps.{State, start, acted, act, step, accepts}
 use Rattle.dfdl_literals.specs.Pads.{IsCharacter, StandsFor}
 use Rattle.dfdl_literals.specs.PadSteps.{PadState, pad_start, found_piece, found_more, pad_acted, pad_step, found_whole, found_text, pad_found, pad_reading}
-use Rattle.dfdl_literals.proofs.Reader.{reader, reads_only}
+use Rattle.dfdl_literals.proofs.Reader.{reads_only, refused, stuck_run}
 
 -- the loop over the characters
 
@@ -172,31 +172,15 @@ by_found text list (One d) true reads is spaces = ((list, reads.spells), λ c on
 by_found text list (One d) false reads is spaces = (subst (λ l. Reads true l text) (literal_of list d is) reads, spaces)
 by_found text list More spaced reads is spaces = ((list, reads.spells), λ c one. more_one c (one_found text list c reads one ∙ is))
 
-refused : (text : List ℕ) (s : State) → run (step true) start text ≡ Some s → accepts s ≡ false → IsList true text → ⊥
-refused text s is refuses list =
-    let t = IsReader.full (reader true) text list in
-    not_both (run (step true) start text) s t.0 is refuses t.1 t.2
-  where
-    not_both : (o : Option State) (u v : State) → o ≡ Some u → accepts u ≡ false → o ≡ Some v → accepts v ≡ true → ⊥
-    not_both o u v first no_end second end = cc
-
-stuck_run : (text : List ℕ) → run (step true) start text ≡ None → IsList true text → ⊥
-stuck_run text is list =
-    let t = IsReader.full (reader true) text list in
-    none_some (run (step true) start text) t.0 is t.1
-  where
-    none_some : (o : Option State) (u : State) → o ≡ None → o ≡ Some u → ⊥
-    none_some o u none some = cc
-
 by_end : (text : List ℕ) (s : State) (b : Bool) → run (step true) start text ≡ Some s → accepts s ≡ b
     → StandsFor text (pad_found (list_any is_divider text) (cond b (Some (found_in (closed s.ended s.open_pieces))) None))
 by_end text s true is whole_it =
     by_found text (closed s.ended s.open_pieces) (found_in (closed s.ended s.open_pieces)) (list_any is_divider text) (reads_only true s text is whole_it) refl refl
-by_end text s false is open_it = refused text s is open_it
+by_end text s false is open_it = refused true text s is open_it
 
 by_run : (text : List ℕ) (o : Option State) → run (step true) start text ≡ o
     → StandsFor text (pad_found (list_any is_divider text) (option_and_then found_whole (option_map summary o)))
-by_run text None is = stuck_run text is
+by_run text None is = stuck_run true text is
 by_run text (Some s) is = by_end text s (accepts s) is refl
 
 pub reading_stands : (text : List ℕ) → StandsFor text (pad_reading text)

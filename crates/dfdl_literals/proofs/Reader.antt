@@ -1,5 +1,5 @@
 -- The reader's machine reads the lists of literals.
-use Rattle.std.proofs.Common.{◌≡◌, ℕ, ◌+◌, ◌*◌, ◌<◌, ◌≤◌, List, [], ◌∷◌, ◌++◌, length, Some, None, Bool, true, false, not, ◌&&◌, ◌==◌, nat_lt, cond, refl, sym, ap, subst, ◌∙◌, append_assoc, arith}
+use Rattle.std.proofs.Common.{◌≡◌, ℕ, ◌+◌, ◌*◌, ◌<◌, ◌≤◌, List, [], ◌∷◌, ◌++◌, length, Option, Some, None, Bool, true, false, not, ◌&&◌, ◌==◌, nat_lt, cond, refl, sym, ap, subst, ◌∙◌, append_assoc, arith}
 use Rattle.std.proofs.lemmas.Bool.{cond_both, cond-true, cond-false}
 use Rattle.std.proofs.lemmas.Bool.Decides.{nat_tests}
 use Rattle.std.proofs.lemmas.List.{append-nil}
@@ -309,3 +309,21 @@ reads_only e s text is whole_it =
           some_same s (state_of spells.written Outside) (sym is ∙ ap (λ l. run (step e) start l) (sym spells.spelled) ∙ full_run e spells.written spells.fits) in
           sym spells.means ∙ ap (λ x. closed x.ended x.open_pieces) (sym same));
     }
+
+-- the characters of a run that is not accepted write no list
+pub refused : (e : Bool) (text : List ℕ) (s : State) → run (step e) start text ≡ Some s → accepts s ≡ false → IsList e text → ⊥
+refused e text s is refuses list =
+    let t = IsReader.full (reader e) text list in
+    not_both (run (step e) start text) s t.0 is refuses t.1 t.2
+  where
+    not_both : (o : Option State) (u v : State) → o ≡ Some u → accepts u ≡ false → o ≡ Some v → accepts v ≡ true → ⊥
+    not_both o u v first no_end second end = cc
+
+-- nor do those of a run that stops
+pub stuck_run : (e : Bool) (text : List ℕ) → run (step e) start text ≡ None → IsList e text → ⊥
+stuck_run e text is list =
+    let t = IsReader.full (reader e) text list in
+    none_some (run (step e) start text) t.0 is t.1
+  where
+    none_some : (o : Option State) (u : State) → o ≡ None → o ≡ Some u → ⊥
+    none_some o u none some = cc

@@ -4,3 +4,5 @@ pub mod Steps
 pub mod Faults
 pub mod Pads
 pub mod PadSteps
+pub mod TextLists
+pub mod TextSteps

@@ -3,8 +3,9 @@
 //! `specs/Lists.antt` says how a list is written and which pieces its literals are made of,
 //! `specs/Names.antt` which names there are, and `specs/Faults.antt` where a list is refused:
 //! `read_literals` answers by them. `specs/Pads.antt` says what the text of a pad character stands
-//! for, which `pad_character` answers. It serves 'DFDL Syntax Basics', on string literals, entities
-//! and character classes.
+//! for, which `pad_character` answers, and `specs/TextLists.antt` which texts a list stands for,
+//! which `text_list` answers. It serves 'DFDL Syntax Basics', on string literals, entities and
+//! character classes.
 #![tactic(auto)]
 
 ghost use Rattle.std.specs.Prelude.{◌≡◌, length, false, ◌<◌, IfErr, IfOk};
@@ -22,6 +23,7 @@ mod plain;
 mod scan;
 #[cfg(test)]
 mod tests;
+mod text_lists;
 
 pub use dfdl_forms::{
     CharList, EscapeKind, EscapeScheme, Justify, Literals, PadForm, Piece, PlainTexts, TruthForm,
@@ -30,6 +32,7 @@ pub use pad::{PadCharacter, pad_character, pad_texts_stand_for_one};
 pub use plain::{PlainFault, plain_texts};
 use scan::Scan;
 use std::alloc::Global;
+pub use text_lists::{TextList, text_list, text_lists_stand_for_one};
 use thiserror::Error;
 
 /// What has to be known of what was read last for what follows it.

@@ -1,5 +1,5 @@
 // Lists of literals that hold characters alone.
-ghost use Rattle.std.specs.Prelude.{◌≡◌, [], map, false, IfSome, IsNone, ◌⊎◌, IfOk, IsErrOf};
+ghost use Rattle.std.specs.Prelude.{◌≡◌, ◌<◌, [], length, map, false, IfSome, IsNone, ◌⊎◌, IfOk, IsErrOf};
 ghost use Rattle.std.specs.List.{list_all};
 ghost use Rattle.dfdl_forms.specs.declared.literals.Piece.TheVariants.{Char};
 ghost use Rattle.dfdl_literals.specs.Lists.{is_character};
@@ -36,6 +36,7 @@ fn characters(alloc: Global, pieces: &[Piece]) -> Result<Option<Vec<char>>, Allo
 /// The texts of a list of literals that hold characters and character entities alone.
 pub fn plain_texts(alloc: Global, literals: &Literals) -> Result<PlainTexts, PlainFault>
     ensures texts { IfOk result (λ texts. map (map Char) texts ≡ literals.now) }
+    ensures some { IfOk result (λ texts. 0 < length texts) }
     ensures not_plain { IsErrOf result PlainFault.NotPlain
         → (literals.now ≡ []) ⊎ (list_all (list_all is_character) literals.now ≡ false) }
 {

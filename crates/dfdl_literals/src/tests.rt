@@ -2,8 +2,8 @@
 #![tactic(auto)]
 
 use crate::{
-    LiteralFault, PadCharacter, Piece, PlainFault, can_match_nothing, pad_character, plain_texts,
-    read_literals,
+    LiteralFault, PadCharacter, Piece, PlainFault, TextList, can_match_nothing, pad_character,
+    plain_texts, read_literals, text_list,
 };
 use std::test::Fail;
 
@@ -195,6 +195,38 @@ fn malformed_pad_characters(rt: HostRuntime) -> Result<(), Fail> {
             Ok(_) => assert!(rt; false, "{text} was read"),
             Err(fault) => assert_eq!(rt; fault, LiteralFault::Malformed { at }),
         }
+    }
+    Ok(())
+}
+
+#[test]
+fn lists_of_texts(rt: HostRuntime) -> Result<(), Fail> {
+    match text_list(rt.alloc(), "yes Y\t%SP;t%%\n1 ")? {
+        TextList::Texts(texts) => {
+            assert_eq!(rt; texts.len(), 4);
+            assert_eq!(rt; texts.text(0), ['y', 'e', 's'].as_slice());
+            assert_eq!(rt; texts.text(1), ['Y'].as_slice());
+            assert_eq!(rt; texts.text(2), [' ', 't', '%'].as_slice());
+            assert_eq!(rt; texts.text(3), ['1'].as_slice());
+        }
+        _ => assert!(rt; false),
+    }
+    Ok(())
+}
+
+#[test]
+fn no_lists_of_texts(rt: HostRuntime) -> Result<(), Fail> {
+    for text in ["", " \t", "y%NL;", "y n%WSP;", "%WSP+;", "%WSP*;", "%#r41;"] {
+        assert!(rt;
+            matches!(text_list(rt.alloc(), text)?, TextList::Other),
+            "{text}"
+        );
+    }
+    for text in ["%ES;", "y %ES;", "a%", "%yes;", "%%;"] {
+        assert!(rt;
+            matches!(text_list(rt.alloc(), text)?, TextList::Malformed),
+            "{text}"
+        );
     }
     Ok(())
 }

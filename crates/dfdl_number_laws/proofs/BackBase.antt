@@ -15,7 +15,7 @@ use Rattle.dfdl_forms.specs.declared.simple.Form.TheVariants.{Signed, Unsigned}
 use Rattle.dfdl_forms.specs.declared.simple.Simple.{Simple}
 use Rattle.dfdl_value.specs.declared.value.Value.{Value}
 use Rattle.dfdl_value.specs.declared.value.Value.TheVariants.{Int, Uns, Dec, Text, Truth, Bytes}
-use Rattle.dfdl_forms.specs.NumberForms.{is_base}
+use Rattle.dfdl_forms.specs.NumberForms.{IsNumberForm, is_base}
 use Rattle.dfdl_forms.specs.declared.number.NumberForm.{NumberForm}
 use Rattle.dfdl_forms.specs.declared.number_pattern.NumberPattern.{NumberPattern}
 use Rattle.dfdl_number_text.specs.Digits.{digits_at, digit_count, digit_character}
@@ -101,10 +101,10 @@ module _ (base : ℕ) (some : 2 ≤ base) (few : base ≤ 36) where
 base_is : (base : ℕ) → is_base base ≡ true → (2 ≤ base) × (base ≤ 36)
 base_is base is = grind (arith, nat_tests)
 
-pub base_law : (form : NumberForm) (kind : Simple) (value : Value) (text : List ℕ) → form.pattern ≡ None → IsOfType kind value
+pub base_law : (form : NumberForm) (kind : Simple) (value : Value) (text : List ℕ) → IsNumberForm form → form.pattern ≡ None → IsOfType kind value
     → writing form value ≡ Some text → reading form kind text ≡ Ok value
-base_law form kind value text none of written =
-    let bounds = base_is form.base form.based in
+base_law form kind value text sound none of written =
+    let bounds = base_is form.base sound.based in
     ap (λ (o : Option NumberPattern). reading_by form o (form_of kind) text) none
     ∙ value_law form.base bounds.0 bounds.1 (form_of kind) value text (few_bits kind) of
     (ap (λ (o : Option NumberPattern). writing_by form o value) (sym none) ∙ written)

@@ -14,6 +14,7 @@ use Rattle.dfdl_value.specs.Types.{IsOfType}
 use Rattle.dfdl_forms.specs.declared.simple.Simple.{Simple}
 use Rattle.dfdl_value.specs.declared.value.Value.{Value}
 use Rattle.dfdl_value.proofs.DecimalLemmas.{number_after-append}
+use Rattle.dfdl_forms.specs.NumberForms.{IsNumberForm}
 use Rattle.dfdl_forms.specs.declared.number.NumberForm.{NumberForm}
 use Rattle.dfdl_forms.specs.declared.number_pattern.NumberPattern.{NumberPattern}
 use Rattle.dfdl_forms.specs.declared.number_pattern.Point.{Point}
@@ -174,18 +175,18 @@ sign_is true size t e = by (size == 0) refl e
     by true told h = let none : size ≡ 0 = eqb-true size 0 told in rw none (zero_signs t)
 
 module _ (form : NumberForm) (pattern : NumberPattern) (kind : Simple) (value : Value) (number : DecimalNumber) (text : List ℕ)
-    (has : form.pattern ≡ Some pattern) (of : IsOfType kind value) (is : number_of_value value ≡ Some number) where
+    (sound : IsNumberForm form) (has : form.pattern ≡ Some pattern) (of : IsOfType kind value) (is : number_of_value value ≡ Some number) where
   abbrev prefix : List ℕ
-  prefix = pattern.prefix.items
+  prefix = pattern.prefix
 
   abbrev suffix : List ℕ
-  suffix = pattern.suffix.items
+  suffix = pattern.suffix
 
   abbrev negative_prefix : List ℕ
-  negative_prefix = pattern.negative_prefix.items
+  negative_prefix = pattern.negative_prefix
 
   abbrev negative_suffix : List ℕ
-  negative_suffix = pattern.negative_suffix.items
+  negative_suffix = pattern.negative_suffix
 
   abbrev size_of : Option ℕ
   size_of = size_at form.rounding pattern.point (places_of pattern pattern.point) number
@@ -205,7 +206,7 @@ module _ (form : NumberForm) (pattern : NumberPattern) (kind : Simple) (value : 
       small = small_integer form.rounding pattern.point places number size told (small_magnitude (form_of kind) value number (few_bits kind) of is)
 
       body : IsNumber form pattern size places (body_text form pattern size)
-      body = body_back form pattern size (plain_separators form pattern has) small
+      body = body_back form pattern size (plain_separators form pattern sound has) small
 
       -- the number between a prefix and a suffix
       inside : (negative : Bool) (front back : List ℕ) → front ++ (body_text form pattern size ++ back) ≡ text

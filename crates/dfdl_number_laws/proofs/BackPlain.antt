@@ -1,8 +1,8 @@
--- The separators of a form, as its bounds keep them.
+-- The separators of a form whose parts go together.
 use Rattle.std.proofs.Common.{◌≡◌, ◌≢◌, ℕ, ◌<◌, ◌==◌, Bool, true, false, not, ◌||◌, ◌&&◌, Option, Some, refl, subst, ap, ◌∙◌, sym, arith}
 use Rattle.std.specs.Char.{is_ascii_digit}
 use Rattle.std.proofs.lemmas.Bool.{eq-eqb, ne_eqb, and_parts}
-use Rattle.dfdl_forms.specs.NumberForms.{are_plain, is_plain_decimal, is_plain_grouping}
+use Rattle.dfdl_forms.specs.NumberForms.{IsNumberForm, are_plain, is_plain_decimal, is_plain_grouping}
 use Rattle.dfdl_forms.specs.declared.number.NumberForm.{NumberForm}
 use Rattle.dfdl_forms.specs.declared.number_pattern.NumberPattern.{NumberPattern}
 use Rattle.dfdl_forms.specs.declared.number_pattern.Point.{Point}
@@ -44,8 +44,8 @@ decimal_is form pattern Written e =
     differ : (form.decimal == form.grouping) ≡ false → form.decimal ≡ form.grouping → ⊥
     differ other same = let is = eq-eqb form.decimal form.grouping same in absurd cc
 
-pub plain_separators : (form : NumberForm) (pattern : NumberPattern) → form.pattern ≡ Some pattern → HasPlainSeparators form pattern
-plain_separators form pattern has =
-    let all : are_plain (Some pattern) form.decimal form.grouping ≡ true = subst (λ (o : Option NumberPattern). are_plain o form.decimal form.grouping ≡ true) has form.plain in
+pub plain_separators : (form : NumberForm) (pattern : NumberPattern) → IsNumberForm form → form.pattern ≡ Some pattern → HasPlainSeparators form pattern
+plain_separators form pattern sound has =
+    let all : are_plain (Some pattern) form.decimal form.grouping ≡ true = subst (λ (o : Option NumberPattern). are_plain o form.decimal form.grouping ≡ true) has sound.plain in
     let parts = and_parts (is_plain_grouping pattern.group_size form.grouping) (is_plain_decimal pattern.point pattern.group_size form.decimal form.grouping) all in
     ((λ some. negated _ _ parts.0 (some_group pattern.group_size some)), decimal_is form pattern pattern.point parts.1)

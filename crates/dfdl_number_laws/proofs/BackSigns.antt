@@ -180,16 +180,16 @@ module _ (form : NumberForm) (pattern : NumberPattern) (body : List ℕ) (told :
   of c = is_of_body form pattern c
 
   abbrev prefix : List ℕ
-  prefix = pattern.prefix.items
+  prefix = pattern.prefix
 
   abbrev suffix : List ℕ
-  suffix = pattern.suffix.items
+  suffix = pattern.suffix
 
   abbrev negative_prefix : List ℕ
-  negative_prefix = pattern.negative_prefix.items
+  negative_prefix = pattern.negative_prefix
 
   abbrev negative_suffix : List ℕ
-  negative_suffix = pattern.negative_suffix.items
+  negative_suffix = pattern.negative_suffix
 
   abbrev text : List ℕ
   text = negative_prefix ++ (body ++ negative_suffix)
@@ -241,11 +241,11 @@ minus_tells of_body (x ∷ prefix) other = by (x == 45) refl (minus_tells of_bod
     by false told rest = refl
     by true told rest = let same : x ≡ 45 = eqb-true x 45 told in ap (λ (c : ℕ). tells of_body prefix (c ∷ prefix)) same ∙ rest
 
-pub minus_law : (form : NumberForm) (pattern : NumberPattern) → pattern.negative_prefix.items ≡ 45 ∷ pattern.prefix.items → is_of_body form pattern 45 ≡ false
+pub minus_law : (form : NumberForm) (pattern : NumberPattern) → pattern.negative_prefix ≡ 45 ∷ pattern.prefix → is_of_body form pattern 45 ≡ false
     → tells_sign form pattern ≡ true
 minus_law form pattern front other =
-    let prefix : List ℕ = pattern.prefix.items in
-    let is : pattern.negative_prefix.items ≡ 45 ∷ prefix = front in
-    let told : tells (is_of_body form pattern) prefix pattern.negative_prefix.items ≡ true =
+    let prefix : List ℕ = pattern.prefix in
+    let is : pattern.negative_prefix ≡ 45 ∷ prefix = front in
+    let told : tells (is_of_body form pattern) prefix pattern.negative_prefix ≡ true =
     ap (tells (is_of_body form pattern) prefix) is ∙ minus_tells (is_of_body form pattern) prefix other in
-    ap (λ b. b || tells (is_of_body form pattern) (reverse pattern.suffix.items) (reverse pattern.negative_suffix.items)) told
+    ap (λ b. b || tells (is_of_body form pattern) (reverse pattern.suffix) (reverse pattern.negative_suffix)) told

@@ -20,7 +20,7 @@ NeedsNoRounding pattern point number = number.scale ≤ places_of pattern point
 
 -- no number stands between the positive prefix and suffix
 abbrev pub IsNotPositive : NumberForm → NumberPattern → List ℕ → Type 0
-IsNotPositive form pattern text = signed_number form pattern false pattern.prefix.items pattern.suffix.items text ≡ None
+IsNotPositive form pattern text = signed_number form pattern false pattern.prefix pattern.suffix text ≡ None
 
 -- a decimal separator, where the pattern writes one
 abbrev pub is_decimal : Point → ℕ → ℕ → Bool
@@ -42,8 +42,8 @@ tells of_body (p ∷ positive) (c ∷ negative) = not (p == c) || tells of_body 
 -- the negative prefix tells the sign, or the negative suffix does, read from its end
 abbrev pub tells_sign : NumberForm → NumberPattern → Bool
 tells_sign form pattern =
-    tells (is_of_body form pattern) pattern.prefix.items pattern.negative_prefix.items
-    || tells (is_of_body form pattern) (reverse pattern.suffix.items) (reverse pattern.negative_suffix.items)
+    tells (is_of_body form pattern) pattern.prefix pattern.negative_prefix
+    || tells (is_of_body form pattern) (reverse pattern.suffix) (reverse pattern.negative_suffix)
 
 -- the text of a negative number is read as no positive one: the pattern tells the sign, or this text does
 abbrev pub HasOneSign : NumberForm → NumberPattern → List ℕ → Type 0

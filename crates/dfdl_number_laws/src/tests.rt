@@ -1,4 +1,7 @@
 // What is written is read back, as the law of the crate says of all numbers.
+ghost use Rattle.std.specs.Prelude.{IfOk};
+ghost use Rattle.dfdl_forms.specs.NumberForms.{HasPattern, IsNumberForm};
+
 use crate::read_back;
 use dfdl_decimal::shortest;
 use dfdl_forms::{NumberForm, NumberPattern, Rounding, Simple};
@@ -8,12 +11,17 @@ use dfdl_value::Value;
 use std::alloc::Global;
 use std::test::Fail;
 
-fn form(base: u8, pattern: Option<NumberPattern>) -> Result<NumberForm, Fail> {
+fn form(base: u8, pattern: Option<NumberPattern>) -> Result<NumberForm, Fail>
+    requires { HasPattern pattern }
+    ensures { IfOk result IsNumberForm }
+{
     Ok(NumberForm::new(base, pattern, '.', ',', Rounding::Unnecessary).ok_or("no form")?)
 }
 
 /// The text of the value that a value's text is read as.
-fn back(alloc: Global, form: &NumberForm, kind: Simple, value: &Value) -> Result<String, Fail> {
+fn back(alloc: Global, form: &NumberForm, kind: Simple, value: &Value) -> Result<String, Fail>
+    requires { IsNumberForm form.now }
+{
     let mut room = vec![in alloc; '~'; 256]?;
     if form.room() > room.len() {
         return Ok(String::new(alloc));

@@ -4,6 +4,5 @@ pub mod Room
 pub mod ReaderLaws
 pub mod Runs
 pub mod Few
-pub mod Lengths
 pub mod Texts
-pub mod Counts
+pub mod Spelled

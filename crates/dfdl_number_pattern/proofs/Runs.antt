@@ -4,12 +4,13 @@ use Rattle.std.specs.Option.{option_and_then}
 use Rattle.std.proofs.lemmas.Bool.{cases_Bool}
 use Rattle.std.proofs.lemmas.Option.{option_and_then_some}
 use Rattle.dfdl_machines.specs.Machines.{run, IsReader}
+use Rattle.dfdl_forms.specs.declared.number_pattern.NumberPattern.{NumberPattern}
 use Rattle.dfdl_number_pattern.specs.declared.quote.Quote.{Quote}
 use Rattle.dfdl_number_pattern.specs.declared.quote.Quote.TheVariants.{Bare, AfterC2, AfterE2, AfterE280, Opened, Quoted, Closed}
 use Rattle.dfdl_number_pattern.specs.declared.digits.Digits.{Digits}
 use Rattle.dfdl_number_pattern.specs.Affix.{is_whole, IsAffix, Nothing}
 use Rattle.dfdl_number_pattern.specs.Digits.{none, sign_count, is_complete, IsDigits, NoSign}
-use Rattle.dfdl_number_pattern.specs.Pattern.{IsSubpattern, Pattern, pattern_of, Spells, IsPattern}
+use Rattle.dfdl_number_pattern.specs.Pattern.{IsSubpattern, pattern_of, Spells, IsPattern}
 use Rattle.dfdl_number_pattern.specs.Machine.{quote_next, told, digit_next, Subpattern, State, start, second_next, with_digits, prefix_or, prefix_next, number_or, number_next, suffix_or, suffix_next, step, accepts, value}
 use Rattle.dfdl_number_pattern.proofs.Affixes.{if_true, if_false, affix_keeps}
 use Rattle.dfdl_number_pattern.proofs.DigitLaws.{IsSign, zero_sign, divider_apart, digits_keep}
@@ -214,7 +215,7 @@ suffix_run f p d c =
     (λ q r w t b next s. suffix_step f p d c q r w t b next s)
 
 -- the pattern of a sub-pattern, alone or behind the first one
-abbrev sub_value : Option Subpattern → List ℕ → List ℕ → Digits → Pattern
+abbrev sub_value : Option Subpattern → List ℕ → List ℕ → Digits → NumberPattern
 sub_value None p x d = pattern_of d p x (45 ∷ p) x
 sub_value (Some f) p x d = pattern_of f.digits f.prefix f.suffix p x
 
@@ -273,13 +274,13 @@ sub_run f p x d t i =
     subst (λ (l : List ℕ). SubRun f p x d l) (append_assoc i.before i.digits i.behind ∙ sym i.spelled) s
 
 -- the text of a pattern is run through, to that pattern
-record PatternRun (p : Pattern) (t : List ℕ) : Type 0 where
-  to : State
-  runs : run step start t ≡ Some to
-  ends : accepts to ≡ true
-  means : value to ≡ p
+pub record PatternRun (p : NumberPattern) (t : List ℕ) : Type 0 where
+  pub to : State
+  pub runs : run step start t ≡ Some to
+  pub ends : accepts to ≡ true
+  pub means : value to ≡ p
 
-pattern_runs : (p : Pattern) (t : List ℕ) → Spells p t → PatternRun p t
+pub pattern_runs : (p : NumberPattern) (t : List ℕ) → Spells p t → PatternRun p t
 pattern_runs p t (inl one) =
     let r = sub_run None one.prefix one.suffix one.digits t one.is_only in
     record { to = r.to; runs = r.runs; ends = r.ends; means = r.means ∙ sym one.means }
@@ -294,7 +295,7 @@ pattern_runs p t (inr two) =
     record { to = s.to; runs = subst (λ (l : List ℕ). run step start l ≡ Some s.to) (sym two.spelled) all; ends = s.ends; means = s.means ∙ sym two.means }
 
 -- a text spells the one pattern to which it is run through
-pub only_pattern : (s : State) (t : List ℕ) → run step start t ≡ Some s → (p : Pattern) → Spells p t → p ≡ value s
+pub only_pattern : (s : State) (t : List ℕ) → run step start t ≡ Some s → (p : NumberPattern) → Spells p t → p ≡ value s
 only_pattern s t is p spells =
     let r = pattern_runs p t spells in
     let same : Some r.to ≡ Some s = sym r.runs ∙ is in

@@ -1,4 +1,4 @@
--- The affixes of a pattern that is text are texts, since what is left out of their spelling is ASCII. Its signs are few.
+-- The affixes of a pattern that is text are texts, since what is left out of their spelling is ASCII.
 use Rattle.std.proofs.Common.{◌≡◌, ℕ, ◌+◌, ◌<◌, ◌≤◌, ◌==◌, Bool, true, false, not, ◌||◌, ◌&&◌, Option, Some, None, List, [], ◌∷◌, ◌++◌, length, get_or, drop, ◌⊎◌, inl, inr, refl, ap, sym, subst, ◌∙◌, arith, append_assoc}
 use Rattle.std.specs.Option.{IfSome}
 use Rattle.std.specs.Str.{IsUtf8}
@@ -11,13 +11,12 @@ use Rattle.dfdl_number_pattern.specs.declared.quote.Quote.{Quote}
 use Rattle.dfdl_number_pattern.specs.declared.digits.Digits.{Digits}
 use Rattle.dfdl_number_pattern.specs.declared.reader.First.{First}
 use Rattle.dfdl_number_pattern.specs.Affix.{IsAffix}
-use Rattle.dfdl_number_pattern.specs.Digits.{none, sign_count, group_size, is_complete, IsDigits}
+use Rattle.dfdl_number_pattern.specs.Digits.{none, is_complete, IsDigits}
 use Rattle.dfdl_number_pattern.specs.Pattern.{IsSubpattern}
 use Rattle.dfdl_number_pattern.specs.Machine.{doubles, says, told, digit_next, Subpattern, State, accepts}
 use Rattle.dfdl_number_pattern.specs.ReaderShown.{first_seen}
 use Rattle.dfdl_number_pattern.proofs.Affixes.{affix_keeps}
 use Rattle.dfdl_number_pattern.proofs.DigitLaws.{IsSign, digits_keep}
-use Rattle.dfdl_number_pattern.proofs.Few.{AreFew, are_few, few_in_group}
 use Rattle.dfdl_number_pattern.proofs.ReaderLaws.{Reached, stands_first, stands_whole}
 
 -- a text may be cut before and behind an ASCII byte
@@ -114,40 +113,29 @@ sub_texts p x d t i u =
     let c = complete_cuts d i.digits i.complete (digits_cut d i.digits i.is_digits) i.before i.behind (subst IsUtf8 i.spelled u) in
     record { is_prefix = meaning_text i.ends_prefix p i.before i.is_prefix c.before; is_suffix = meaning_text i.ends_suffix x i.behind i.is_suffix c.behind }
 
-sub_few : (p x : List ℕ) (d : Digits) (t : List ℕ) → IsSubpattern p x d t → AreFew d
-sub_few p x d t i = are_few d i.digits i.is_digits
-
--- the affixes that a state keeps are texts, and its signs are few
+-- the affixes that a state keeps are texts
 pub record KeepsTexts (s : State) : Type 0 where
   pub last : AreTexts s.prefix s.suffix
-  pub few : AreFew s.digits
-  pub first : IfSome s.first (λ f. AreTexts f.prefix f.suffix × AreFew f.digits)
+  pub first : IfSome s.first (λ f. AreTexts f.prefix f.suffix)
 
 pub keeps_texts : (s : State) (text : List ℕ) → Reached s text → accepts s ≡ true → IsUtf8 text → KeepsTexts s
 keeps_texts s text (inl st) e u =
     record {
       last = sub_texts s.prefix s.suffix s.digits text (stands_whole None s text st e) u;
-      few = sub_few s.prefix s.suffix s.digits text (stands_whole None s text st e);
-      first = subst (λ (o : Option Subpattern). IfSome o (λ f. AreTexts f.prefix f.suffix × AreFew f.digits)) (sym (stands_first None s text st)) tt;
+      first = subst (λ (o : Option Subpattern). IfSome o (λ f. AreTexts f.prefix f.suffix)) (sym (stands_first None s text st)) tt;
     }
 keeps_texts s text (inr se) e u =
     let c = cut_at text se.front se.now 59 se.spelled (omega arith) u in
     record {
       last = sub_texts s.prefix s.suffix s.digits se.now (stands_whole (Some se.sub) s se.now se.stands e) c.behind;
-      few = sub_few s.prefix s.suffix s.digits se.now (stands_whole (Some se.sub) s se.now se.stands e);
       first =
-          subst (λ (o : Option Subpattern). IfSome o (λ f. AreTexts f.prefix f.suffix × AreFew f.digits)) (sym (stands_first (Some se.sub) s se.now se.stands))
-          ((sub_texts se.sub.prefix se.sub.suffix se.sub.digits se.front se.is_first c.before), (sub_few se.sub.prefix se.sub.suffix se.sub.digits se.front se.is_first));
+          subst (λ (o : Option Subpattern). IfSome o (λ f. AreTexts f.prefix f.suffix)) (sym (stands_first (Some se.sub) s se.now se.stands))
+          (sub_texts se.sub.prefix se.sub.suffix se.sub.digits se.front se.is_first c.before);
     }
 
-pub first_texts : (o : Option First) → IfSome (first_seen o) (λ f. AreTexts f.prefix f.suffix × AreFew f.digits) → IfSome o (λ f. IsUtf8 f.prefix.items × IsUtf8 f.suffix.items)
+pub first_texts : (o : Option First) → IfSome (first_seen o) (λ f. AreTexts f.prefix f.suffix) → IfSome o (λ f. IsUtf8 f.prefix.items × IsUtf8 f.suffix.items)
 first_texts None t = tt
-first_texts (Some f) t = (t.0.is_prefix, t.0.is_suffix)
-
-pub first_few : (o : Option First) → IfSome (first_seen o) (λ f. AreTexts f.prefix f.suffix × AreFew f.digits)
-    → IfSome o (λ f. (sign_count f.digits ≤ 38) × (group_size f.digits.groups ≤ 38))
-first_few None t = tt
-first_few (Some f) t = (t.1.signs, few_in_group f.digits t.1)
+first_texts (Some f) t = (t.is_prefix, t.is_suffix)
 
 -- a text behind `-` is text
 minus_is_text : IsUtf8 (45 ∷ [])

@@ -4,4 +4,5 @@ pub mod Pattern
 pub mod Machine
 pub mod Taken
 pub mod ReaderShown
+pub mod Read
 pub mod Fault

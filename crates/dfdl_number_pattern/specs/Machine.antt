@@ -1,4 +1,4 @@
--- How the reader goes over the bytes of a pattern. The grammar is in Pattern; no public contract cites this.
+-- How the reader goes over the bytes of a pattern. The grammar is in Pattern; public contracts cite this by Read alone.
 use Rattle.std.specs.Prelude.{ℕ, ◌+◌, ◌==◌, Bool, true, false, ◌&&◌, ◌||◌, not, if◌then◌else◌, Option, Some, None, List, [], ◌∷◌, ◌++◌}
 use Rattle.dfdl_number_pattern.specs.declared.quote.Quote.{Quote}
 use Rattle.dfdl_number_pattern.specs.declared.quote.Quote.TheVariants.{Bare, AfterC2, AfterE2, AfterE280, Opened, Quoted, Closed}
@@ -8,9 +8,10 @@ use Rattle.dfdl_number_pattern.specs.declared.digits.Groups.{Groups}
 use Rattle.dfdl_number_pattern.specs.declared.digits.Digits.{Digits}
 use Rattle.dfdl_number_pattern.specs.declared.reader.Place.{Place}
 use Rattle.dfdl_number_pattern.specs.declared.reader.Place.TheVariants.{Prefix, Number, Suffix}
+use Rattle.dfdl_forms.specs.declared.number_pattern.NumberPattern.{NumberPattern}
 use Rattle.dfdl_number_pattern.specs.Affix.{is_plain, is_whole}
 use Rattle.dfdl_number_pattern.specs.Digits.{none, sign_count, may_sign, may_group, group_more, group_next, may_end, is_complete}
-use Rattle.dfdl_number_pattern.specs.Pattern.{Pattern, pattern_of}
+use Rattle.dfdl_number_pattern.specs.Pattern.{pattern_of}
 
 -- outside of quoted text, between characters
 abbrev pub plain_next : ℕ → Option Quote
@@ -186,10 +187,10 @@ abbrev pub accepts : State → Bool
 accepts s = accepts_at s.place s.digits
 
 -- the pattern that was read
-abbrev pub value_after : Option Subpattern → State → Pattern
+abbrev pub value_after : Option Subpattern → State → NumberPattern
 value_after None s = pattern_of s.digits s.prefix s.suffix (45 ∷ s.prefix) s.suffix
 value_after (Some f) s = pattern_of f.digits f.prefix f.suffix s.prefix s.suffix
 
 -- the pattern that was read
-abbrev pub value : State → Pattern
+abbrev pub value : State → NumberPattern
 value s = value_after s.first s

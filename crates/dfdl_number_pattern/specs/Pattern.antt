@@ -25,20 +25,6 @@ pub record IsSubpattern (prefix suffix : List ℕ) (d : Digits) (text : List ℕ
   pub is_suffix : IsAffix ends_suffix suffix behind
   pub suffix_whole : is_whole ends_suffix ≡ true
 
--- what a pattern means, with its prefixes and suffixes as characters
-pub record Pattern : Type 0 where
-  pub prefix : List ℕ
-  pub suffix : List ℕ
-  pub negative_prefix : List ℕ
-  pub negative_suffix : List ℕ
-  pub least_integer : ℕ
-  pub greatest_integer : ℕ
-  pub group_size : ℕ
-  pub point : Point
-  pub least_fraction : ℕ
-  pub greatest_fraction : ℕ
-  pub implied : ℕ
-
 -- how the fraction of digits is written
 abbrev pub point_of : Part → Point
 point_of Integer = point.Absent
@@ -46,7 +32,7 @@ point_of Fraction = point.Written
 point_of Implied = point.Implied
 
 -- the pattern of these digits and affixes, which are texts in UTF-8
-abbrev pub pattern_of : Digits → List ℕ → List ℕ → List ℕ → List ℕ → Pattern
+abbrev pub pattern_of : Digits → List ℕ → List ℕ → List ℕ → List ℕ → NumberPattern
 pattern_of d prefix suffix negative_prefix negative_suffix =
     record {
       prefix = chars prefix;
@@ -63,7 +49,7 @@ pattern_of d prefix suffix negative_prefix negative_suffix =
     }
 
 -- one sub-pattern: the negative prefix is `-` before the positive one
-pub record SpellsOne (p : Pattern) (text : List ℕ) : Type 0 where
+pub record SpellsOne (p : NumberPattern) (text : List ℕ) : Type 0 where
   pub prefix : List ℕ
   pub suffix : List ℕ
   pub digits : Digits
@@ -71,7 +57,7 @@ pub record SpellsOne (p : Pattern) (text : List ℕ) : Type 0 where
   pub means : p ≡ pattern_of digits prefix suffix (45 ∷ prefix) suffix
 
 -- two sub-patterns, divided by `;`: the second one gives the negative prefix and suffix alone
-pub record SpellsTwo (p : Pattern) (text : List ℕ) : Type 0 where
+pub record SpellsTwo (p : NumberPattern) (text : List ℕ) : Type 0 where
   pub first : List ℕ
   pub second : List ℕ
   pub prefix : List ℕ
@@ -86,26 +72,9 @@ pub record SpellsTwo (p : Pattern) (text : List ℕ) : Type 0 where
   pub means : p ≡ pattern_of digits prefix suffix negative_prefix negative_suffix
 
 -- the text spells the pattern
-abbrev pub Spells : Pattern → List ℕ → Type 0
+abbrev pub Spells : NumberPattern → List ℕ → Type 0
 Spells p text = SpellsOne p text ⊎ SpellsTwo p text
 
 -- the text is a pattern
 abbrev pub IsPattern : List ℕ → Type 0
-IsPattern text = (p : Pattern) × Spells p text
-
--- what a `NumberPattern` shows
-abbrev pub pattern_seen : NumberPattern → Pattern
-pattern_seen p =
-    record {
-      prefix = p.prefix.items;
-      suffix = p.suffix.items;
-      negative_prefix = p.negative_prefix.items;
-      negative_suffix = p.negative_suffix.items;
-      least_integer = p.least_integer;
-      greatest_integer = p.greatest_integer;
-      group_size = p.group_size;
-      point = p.point;
-      least_fraction = p.least_fraction;
-      greatest_fraction = p.greatest_fraction;
-      implied = p.implied;
-    }
+IsPattern text = (p : NumberPattern) × Spells p text

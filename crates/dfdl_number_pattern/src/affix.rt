@@ -1,6 +1,7 @@
 // The characters of a prefix or a suffix.
-ghost use Rattle.std.specs.Prelude.{◌≡◌, ◌≤◌, IfOk, IsUtf8, chars, length};
+ghost use Rattle.std.specs.Prelude.{◌≡◌, IfOk, IsUtf8, chars};
 
+use dfdl_forms::CharList;
 use std::alloc::{AllocError, Global};
 
 fn collected(alloc: Global, text: &str) -> Result<Vec<char>, AllocError>
@@ -14,15 +15,13 @@ fn collected(alloc: Global, text: &str) -> Result<Vec<char>, AllocError>
 }
 
 /// The characters of a text in UTF-8.
-#[tactic(auto, using(crate::proofs::Counts::few_characters))]
-pub(crate) fn characters(alloc: Global, text: &[u8]) -> Result<Vec<char>, AllocError>
+pub(crate) fn characters(alloc: Global, text: &[u8]) -> Result<CharList, AllocError>
     requires { IsUtf8 text.now }
-    ensures value { IfOk result (λ characters. characters.items ≡ chars text.now) }
-    ensures few { IfOk result (λ characters. length characters.items ≤ length text.now) }
+    ensures { IfOk result (λ characters. characters ≡ chars text.now) }
 {
     let text = match str::from_utf8(text) {
         Ok(text) => text,
         Err(_) => "",
     };
-    collected(alloc, text)
+    Ok(CharList::new(collected(alloc, text)?))
 }

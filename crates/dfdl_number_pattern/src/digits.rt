@@ -1,6 +1,6 @@
-ghost use Rattle.std.specs.Prelude.{◌≡◌, ◌≤◌, ◌+◌, ◌^◌, max, length, IfOk, IsTrue, IsUtf8};
+ghost use Rattle.std.specs.Prelude.{◌≡◌, ◌≤◌, IfOk, IsTrue, IsUtf8};
 ghost use Rattle.dfdl_number_pattern.specs.Digits.{none, sign_count, may_sign, may_group, group_more, group_next, may_end, is_complete, group_size};
-ghost use Rattle.dfdl_number_pattern.specs.Pattern.{point_of, pattern_of, pattern_seen};
+ghost use Rattle.dfdl_number_pattern.specs.Pattern.{point_of, pattern_of};
 ghost use Rattle.dfdl_number_pattern.specs.Machine.{hash_next, zero_next, comma_next, part_next, integer_next, fraction_next, implied_next, digit_next};
 
 use crate::affix::characters;
@@ -297,10 +297,7 @@ impl Digits {
         requires utf8_suffix { IsUtf8 suffix.now }
         requires utf8_negative_prefix { IsUtf8 negative_prefix.now }
         requires utf8_negative_suffix { IsUtf8 negative_suffix.now }
-        requires short { max (length prefix.now) (length negative_prefix.now) + max (length suffix.now) (length negative_suffix.now) ≤ 2 ^ 63 }
-        requires few { sign_count self ≤ 38 }
-        requires group_within { group_size self.groups ≤ 38 }
-        ensures { IfOk result (λ pattern. pattern_seen pattern
+        ensures { IfOk result (λ pattern. pattern
             ≡ pattern_of self prefix.now suffix.now negative_prefix.now negative_suffix.now) }
     {
         let prefix = characters(alloc, prefix)?;

@@ -7,6 +7,7 @@
 mod affix;
 mod digits;
 pub mod fault;
+pub mod laws;
 mod quote;
 mod reader;
 mod reading;

@@ -1,7 +1,5 @@
-ghost use Rattle.std.specs.Prelude.{◌≡◌, ◌≤◌, ◌<◌, ◌+◌, ◌^◌, length, IfOk, IfSome, OnOk, IsTrue, IsUtf8, ◌∷◌};
-ghost use Rattle.dfdl_number_pattern.specs.Digits.{sign_count, group_size};
+ghost use Rattle.std.specs.Prelude.{◌≡◌, IfOk, IfSome, OnOk, IsTrue, IsUtf8, ◌∷◌};
 ghost use Rattle.dfdl_number_pattern.specs.Machine.{told, with_digits, second_next, prefix_next, number_next, suffix_next, step, accepts, value, start, digit_next};
-ghost use Rattle.dfdl_number_pattern.specs.Pattern.{pattern_seen};
 
 use crate::digits::Digits;
 use crate::quote::Quote;
@@ -201,13 +199,7 @@ impl Reader {
         requires utf8_prefix { IsUtf8 self.prefix.items }
         requires utf8_suffix { IsUtf8 self.suffix.items }
         requires utf8_first { IfSome self.first (λ f. IsUtf8 f.prefix.items × IsUtf8 f.suffix.items) }
-        requires short { length self.prefix.items + length self.suffix.items < 2 ^ 63 }
-        requires short_first { IfSome self.first (λ f. length f.prefix.items + length f.suffix.items
-            + (length self.prefix.items + length self.suffix.items) < 2 ^ 63) }
-        requires few { sign_count self.digits ≤ 38 }
-        requires group_within { group_size self.digits.groups ≤ 38 }
-        requires few_first { IfSome self.first (λ f. (sign_count f.digits ≤ 38) × (group_size f.digits.groups ≤ 38)) }
-        ensures { IfOk result (λ pattern. pattern_seen pattern ≡ value (state_seen self)) }
+        ensures { IfOk result (λ pattern. pattern ≡ value (state_seen self)) }
     {
         let Reader {
             alloc,

@@ -45,8 +45,8 @@ signed_number form pattern negative prefix suffix text = option_and_then (body_n
 -- the number by a pattern: that between the positive prefix and suffix, else that between the negative ones
 abbrev pub pattern_number : NumberForm → NumberPattern → List ℕ → Option DecimalNumber
 pattern_number form pattern text =
-    or_else (signed_number form pattern false pattern.prefix.items pattern.suffix.items text)
-    (signed_number form pattern true pattern.negative_prefix.items pattern.negative_suffix.items text)
+    or_else (signed_number form pattern false pattern.prefix pattern.suffix text)
+    (signed_number form pattern true pattern.negative_prefix pattern.negative_suffix text)
 
 -- the number of plain digits in a base, of which there is at least one
 abbrev pub base_number : ℕ → List ℕ → Option ℕ

@@ -95,8 +95,8 @@ body_text form pattern size =
 abbrev pub signed_text : NumberForm → NumberPattern → Bool → ℕ → List ℕ
 signed_text form pattern negative size =
     if negative && not (size == 0)
-    then pattern.negative_prefix.items ++ (body_text form pattern size ++ pattern.negative_suffix.items)
-    else pattern.prefix.items ++ (body_text form pattern size ++ pattern.suffix.items)
+    then pattern.negative_prefix ++ (body_text form pattern size ++ pattern.negative_suffix)
+    else pattern.prefix ++ (body_text form pattern size ++ pattern.suffix)
 
 -- the text of a number by a pattern
 abbrev pub pattern_text : NumberForm → NumberPattern → DecimalNumber → Option (List ℕ)

@@ -1,5 +1,6 @@
 // The reading of a text number whose characters are bytes.
 ghost use Rattle.std.specs.Prelude.{◌≡◌, ◌≤◌, ◌++◌, drop, length};
+ghost use Rattle.dfdl_forms.specs.NumberForms.{IsNumberForm};
 ghost use Rattle.dfdl_number_text.specs.NumberReading.{reading};
 
 use crate::fault::NumberFault;
@@ -29,7 +30,8 @@ fn widen(bytes: &[u8], into: &mut [char])
 /// The value of a type that a text number is, of which each byte is a character: in ISO-8859-1, or where each byte is
 /// below 128 in US-ASCII and UTF-8. The test of the length is against `MOST_BYTES`; longer texts go to `read`.
 pub fn read_bytes(form: &NumberForm, kind: Simple, bytes: &[u8]) -> Result<Value, NumberFault>
-    requires { length bytes.now ≤ 64 }
+    requires form { IsNumberForm form.now }
+    requires few { length bytes.now ≤ 64 }
     ensures { result ≡ reading form.now kind bytes.now }
 {
     let mut room = blank();

@@ -1,5 +1,6 @@
 // The reading of a text number.
 ghost use Rattle.std.specs.Prelude.{◌≡◌};
+ghost use Rattle.dfdl_forms.specs.NumberForms.{IsNumberForm};
 ghost use Rattle.dfdl_number_text.specs.NumberReading.{pattern_number as pattern_number_of, reading, signed_number as signed_number_of};
 ghost use Rattle.dfdl_number_text.specs.ReadShown.{Shows};
 
@@ -31,14 +32,21 @@ fn signed_number(
 fn pattern_number(form: &NumberForm, pattern: &NumberPattern, text: &[char]) -> Option<Number>
     ensures { Shows result (pattern_number_of form.now pattern.now text.now) }
 {
-    match signed_number(form, pattern, false, &pattern.prefix, &pattern.suffix, text) {
+    match signed_number(
+        form,
+        pattern,
+        false,
+        pattern.prefix.as_slice(),
+        pattern.suffix.as_slice(),
+        text,
+    ) {
         Some(number) => Some(number),
         None => signed_number(
             form,
             pattern,
             true,
-            &pattern.negative_prefix,
-            &pattern.negative_suffix,
+            pattern.negative_prefix.as_slice(),
+            pattern.negative_suffix.as_slice(),
             text,
         ),
     }
@@ -46,6 +54,7 @@ fn pattern_number(form: &NumberForm, pattern: &NumberPattern, text: &[char]) -> 
 
 /// The value of a type that a text number is. No memory is taken.
 pub fn read(form: &NumberForm, kind: Simple, chars: &[char]) -> Result<Value, NumberFault>
+    requires form { IsNumberForm form.now }
     ensures { result ≡ reading form.now kind chars.now }
 {
     match &form.pattern {

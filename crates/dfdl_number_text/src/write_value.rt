@@ -1,6 +1,7 @@
 // The unparser of text numbers.
 ghost use Rattle.std.specs.Prelude.{◌≡◌, ℕ, ◌+◌, ◌*◌, ◌^◌, ◌<◌, ◌≤◌, ◌==◌, ◌&&◌, not, ◌↔◌, ◌++◌, Some, None, IsErr, IfOk, IfSome, OnErr, length, take, drop, map, option_and_then, unsigned_abs};
 ghost use Rattle.dfdl_decimal.specs.Decimal.{DecimalNumber};
+ghost use Rattle.dfdl_forms.specs.NumberForms.{IsNumberForm, IsNumberPattern};
 ghost use Rattle.dfdl_forms.specs.NumberRooms.{room_of};
 ghost use Rattle.dfdl_number_text.specs.Rounding.{rounded};
 ghost use Rattle.dfdl_number_text.specs.Writing.{base_digits, base_text, behind_integer, body_text, grouped, integer_digits, least_digits, written_fraction, is_below_zero, number_of_value, pattern_text, places_of, signed_text, size_at, with_separator, writing};
@@ -17,6 +18,7 @@ use dfdl_value::Value;
 /// the form: one that is no number, that would have to be rounded where that isn't allowed or that has digits behind
 /// those of an implied decimal point, and one below zero in another base than 10.
 pub fn write(form: &NumberForm, value: &Value, into: &mut [char]) -> Result<usize, NoFit>
+    requires form { IsNumberForm form.now }
     requires room { room_of form.now ≤ length into.old }
     ensures no_fit { IsErr result ↔ (writing form.now value.now ≡ None) }
     ensures inside { IfOk result (λ count. count ≤ length into.old) }
@@ -62,8 +64,9 @@ fn write_pattern(
     value: &Value,
     into: &mut [char],
 ) -> Result<usize, NoFit>
-    requires room { length pattern.now.prefix.items + length pattern.now.suffix.items + 128 ≤ length into.old }
-    requires negative_room { length pattern.now.negative_prefix.items + length pattern.now.negative_suffix.items + 128 ≤ length into.old }
+    requires pattern { IsNumberPattern pattern.now }
+    requires room { length pattern.now.prefix + length pattern.now.suffix + 128 ≤ length into.old }
+    requires negative_room { length pattern.now.negative_prefix + length pattern.now.negative_suffix + 128 ≤ length into.old }
     ensures { IsWritten result (option_and_then (pattern_text form.now pattern.now) (number_of_value value.now)) into.old into.new }
 {
     let Some(number) = number_of(value) else {
@@ -114,6 +117,7 @@ fn mode_of(rounding: Rounding, point: Point) -> Rounding
 
 // How many fraction digits a number is rounded to, or has behind the implied decimal point.
 fn places_of(pattern: &NumberPattern) -> u16
+    requires pattern { IsNumberPattern pattern.now }
     ensures value { result ≡ places_of pattern.now pattern.now.point }
     ensures few { result ≤ 38 }
 {
@@ -132,8 +136,9 @@ fn put_number(
     negative: bool,
     size: Size,
 ) -> usize
-    requires room { length pattern.now.prefix.items + length pattern.now.suffix.items + 128 ≤ length into.old }
-    requires negative_room { length pattern.now.negative_prefix.items + length pattern.now.negative_suffix.items + 128 ≤ length into.old }
+    requires pattern { IsNumberPattern pattern.now }
+    requires room { length pattern.now.prefix + length pattern.now.suffix + 128 ≤ length into.old }
+    requires negative_room { length pattern.now.negative_prefix + length pattern.now.negative_suffix + 128 ≤ length into.old }
     requires fraction { size.fraction < 10 ^ places_of pattern.now pattern.now.point }
     ensures place { result ≡ length (signed_text form.now pattern.now negative (size.whole * 10 ^ places_of pattern.now pattern.now.point + size.fraction)) }
     ensures inside { result ≤ length into.old }
@@ -142,14 +147,21 @@ fn put_number(
     if negative && !is_zero(size) {
         put_between(
             into,
-            &pattern.negative_prefix,
-            &pattern.negative_suffix,
+            pattern.negative_prefix.as_slice(),
+            pattern.negative_suffix.as_slice(),
             form,
             pattern,
             size,
         )
     } else {
-        put_between(into, &pattern.prefix, &pattern.suffix, form, pattern, size)
+        put_between(
+            into,
+            pattern.prefix.as_slice(),
+            pattern.suffix.as_slice(),
+            form,
+            pattern,
+            size,
+        )
     }
 }
 
@@ -172,6 +184,7 @@ fn put_between(
     pattern: &NumberPattern,
     size: Size,
 ) -> usize
+    requires pattern { IsNumberPattern pattern.now }
     requires room { length prefix.now + length suffix.now + 128 ≤ length into.old }
     requires fraction { size.fraction < 10 ^ places_of pattern.now pattern.now.point }
     ensures inside { result ≤ length into.old }
@@ -190,6 +203,7 @@ fn put_body(
     pattern: &NumberPattern,
     size: Size,
 ) -> usize
+    requires pattern { IsNumberPattern pattern.now }
     requires room { at + 128 ≤ length into.old }
     requires fraction { size.fraction < 10 ^ places_of pattern.now pattern.now.point }
     ensures place { result ≡ at + length (body_text form.now pattern.now (size.whole * 10 ^ places_of pattern.now pattern.now.point + size.fraction)) }
@@ -208,6 +222,7 @@ fn put_body(
 
 // The fraction digits that are written.
 fn fraction_of(pattern: &NumberPattern, fraction: u128) -> Digits
+    requires pattern { IsNumberPattern pattern.now }
     ensures base { result.base ≡ 10 }
     ensures few { result.count ≤ 38 }
     ensures digits { (whole : ℕ) → written_fraction pattern.now pattern.now.point (whole * 10 ^ places_of pattern.now pattern.now.point + fraction)
@@ -234,6 +249,7 @@ fn fraction_of(pattern: &NumberPattern, fraction: u128) -> Digits
 
 // How many integer digits are written at least, in front of so many fraction digits.
 fn least_digits(pattern: &NumberPattern, fraction: u16) -> u16
+    requires pattern { IsNumberPattern pattern.now }
     ensures value { result ≡ least_digits pattern.now fraction }
     ensures few { result ≤ 38 }
 {

@@ -1,4 +1,6 @@
 // What texts are read as: the values follow from the standard's rules.
+ghost use Rattle.dfdl_forms.specs.NumberForms.{IsNumberForm};
+
 use crate::test_forms::{based, patterned};
 use dfdl_forms::{NumberForm, Rounding};
 use dfdl_number_text::{NumberFault, read};
@@ -20,7 +22,9 @@ pub(crate) fn said(
     form: &NumberForm,
     kind: Simple,
     text: &str,
-) -> Result<TextValue, Fail> {
+) -> Result<TextValue, Fail>
+    requires { IsNumberForm form.now }
+{
     let chars: Vec<char> = text.chars().collect(alloc)?;
     named(alloc, read(form, kind, &chars))
 }

@@ -1,6 +1,8 @@
 // Random text numbers: a slow writing and reading, digit by digit, says the same as the calls of dfdl_number_text.
 // The numbers are of Python's `random.Random(20261127)`, the texts and what they are of its decimal module: `quantize` by
 // the mode, and `format` with the separators added.
+ghost use Rattle.dfdl_forms.specs.NumberForms.{IsNumberForm};
+
 use crate::read_tests::{named, said};
 use crate::slow_digits::{digit, digit_char};
 use crate::test_forms::patterned;
@@ -306,7 +308,9 @@ fn slow_texts_are_those_of_the_vectors(rt: HostRuntime) -> Result<(), Fail> {
 
 // ---- the calls
 
-fn of_bytes(alloc: Global, form: &NumberForm, text: &str) -> Result<TextValue, Fail> {
+fn of_bytes(alloc: Global, form: &NumberForm, text: &str) -> Result<TextValue, Fail>
+    requires { IsNumberForm form.now }
+{
     let bytes = text.as_bytes();
     if bytes.len() > MOST_BYTES {
         return Ok(TextValue::from_string(String::new(alloc)));

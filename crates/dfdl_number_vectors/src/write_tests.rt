@@ -1,4 +1,6 @@
 // Texts of the standard's number patterns, and the roundings that Java's documents list.
+ghost use Rattle.dfdl_forms.specs.NumberForms.{IsNumberForm};
+
 use crate::test_forms::{based, patterned};
 use dfdl_decimal::shortest;
 use dfdl_forms::{NumberForm, Rounding};
@@ -84,12 +86,9 @@ pub(crate) fn decimal(digits: i128, scale: u32) -> Value {
 }
 
 /// Puts the text of a value behind a text, or `NoFit`.
-fn put(
-    alloc: Global,
-    text: &mut String,
-    form: &NumberForm,
-    value: &Value,
-) -> Result<(), AllocError> {
+fn put(alloc: Global, text: &mut String, form: &NumberForm, value: &Value) -> Result<(), AllocError>
+    requires { IsNumberForm form.now }
+{
     let mut room = vec![in alloc; '~'; 256]?;
     if form.room() > room.len() {
         return text.push_str("no room");
@@ -105,11 +104,9 @@ fn put(
     }
 }
 
-pub(crate) fn text_of(
-    alloc: Global,
-    form: &NumberForm,
-    value: &Value,
-) -> Result<String, AllocError> {
+pub(crate) fn text_of(alloc: Global, form: &NumberForm, value: &Value) -> Result<String, AllocError>
+    requires { IsNumberForm form.now }
+{
     let mut text = String::new(alloc);
     put(alloc, &mut text, form, value)?;
     Ok(text)

@@ -2,6 +2,7 @@
 // Numbers, nibbles and characters were made by Python: `random.Random(20261127)`, and
 // `str(abs(value)).rjust(..)` with the sign added.
 ghost use Rattle.std.specs.Prelude.{◌≡◌};
+ghost use Rattle.dfdl_forms.specs.Packed.{IsZonedForm};
 
 use crate::slow_digits::{digit, digit_of, followed};
 use ZonedStyle::{AsciiStandard, TranslatedEbcdic};
@@ -162,7 +163,8 @@ fn slow_zoned_char(style: ZonedStyle, negative: bool, digit: u8) -> u8 {
 }
 
 fn zoned_of(style: ZonedStyle, first: bool, width: u32) -> ZonedForm
-    ensures { result.width ≡ width }
+    ensures width { result.width ≡ width }
+    ensures form { IsZonedForm result }
 {
     ZonedForm {
         style,

@@ -3,6 +3,7 @@ use Rattle.std.proofs.Common.{◌≡◌, ℕ, ◌+◌, ◌-◌, ◌*◌, ◌^◌
 use Rattle.std.proofs.lemmas.Int.{unsigned_abs-mul, ints}
 use Rattle.std.proofs.Math.Nat.{le_trans, pow-le-pow_right}
 use Rattle.dfdl_forms.specs.BinaryNumbers.{IsPackedForm}
+use Rattle.dfdl_forms.specs.Packed.{IsZonedForm}
 use Rattle.dfdl_forms.specs.Types.{form_of, HasFewBits}
 use Rattle.dfdl_forms.proofs.KindLemmas.{few_bits}
 use Rattle.dfdl_value.specs.Types.{IsOfType, HasForm}
@@ -71,9 +72,9 @@ small_integer Fixed point (Dec d) z few is places e = by (nat_le d.scale point) 
         rw (← same, unsigned_abs-mul) (small_power (unsigned_abs d.mantissa) (point - d.scale) small (omega arith))
 small_integer kind point value z few is places e = absurd cc
 
-pub zoned_law : (form : ZonedForm) (value : Value) (chars : List ℕ) → IsOfType form.kind value
+pub zoned_law : (form : ZonedForm) (value : Value) (chars : List ℕ) → IsZonedForm form → IsOfType form.kind value
     → zoned_writing form value ≡ Some chars → zoned_reading form chars ≡ Ok value
-zoned_law form value chars of e = by (integer_in kind form.point value) refl e
+zoned_law form value chars is of e = by (integer_in kind form.point value) refl e
   where
     kind : Form
     kind = form_of form.kind
@@ -83,7 +84,7 @@ zoned_law form value chars of e = by (integer_in kind form.point value) refl e
     by (Some z) held h =
         let n : ℕ = unsigned_abs z in
         let count : ℕ = max form.width (digit_count 79 n) in
-        let small : n < 10 ^ 80 = small_integer kind form.point value z (few_bits form.kind) of form.places held in
+        let small : n < 10 ^ 80 = small_integer kind form.point value z (few_bits form.kind) of is held in
         let enough : 10 ^ digit_count 79 n ≤ 10 ^ count = pow-le-pow_right {n = 10} (omega arith) (let less : digit_count 79 n ≤ count = omega arith in less) in
         let some : 1 ≤ count = omega (arith, count_some 79 n) in
         let same : signed_chars kind form (is_negative z) (padded_digits count n) ≡ chars = cc in

@@ -1,7 +1,7 @@
 // Fields written by a COBOL compiler, and fields that say what is refused.
 ghost use Rattle.std.specs.Prelude.{◌≡◌, ◌≤◌};
 ghost use Rattle.dfdl_forms.specs.BinaryNumbers.{IsPackedForm};
-ghost use Rattle.dfdl_forms.specs.Packed.{most_nibbles};
+ghost use Rattle.dfdl_forms.specs.Packed.{IsZonedForm, most_nibbles};
 
 use crate::size::{long_size_of, size_of};
 use crate::*;
@@ -139,7 +139,8 @@ fn packed(nibbles: u32, rep: PackedRep, strict: bool, kind: Simple) -> PackedFor
 }
 
 fn zoned(style: ZonedStyle, first: bool, kind: Simple) -> ZonedForm
-    ensures { result.width ≡ 3 }
+    ensures form { IsZonedForm result }
+    ensures width { result.width ≡ 3 }
 {
     ZonedForm {
         style,

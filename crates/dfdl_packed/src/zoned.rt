@@ -1,5 +1,6 @@
 // Zoned numbers.
 ghost use Rattle.std.specs.Prelude.{◌≡◌, ◌≤◌, ◌↔◌, Some, None, length, take, drop, IsErr, IfOk, OnErr};
+ghost use Rattle.dfdl_forms.specs.Packed.{IsZonedForm};
 ghost use Rattle.dfdl_packed.specs.Zoned.{zoned_reading, zoned_writing};
 
 use crate::fault::PackedFault;
@@ -12,6 +13,7 @@ use dfdl_value::Value;
 
 /// Reads digits of which one carries the sign.
 pub fn read_zoned(digits: &[char], form: &ZonedForm) -> Result<Value, PackedFault>
+    requires form { IsZonedForm form.now }
     ensures { result ≡ zoned_reading form.now digits.now }
 {
     match number_of(digits, form) {
@@ -23,6 +25,7 @@ pub fn read_zoned(digits: &[char], form: &ZonedForm) -> Result<Value, PackedFaul
 /// Writes a value as at least as many digits as the form's width, and answers how many characters these are. A value
 /// that is not of the form's type doesn't fit, nor does one that has digits behind the virtual point.
 pub fn write_zoned(value: &Value, form: &ZonedForm, into: &mut [char]) -> Result<usize, NoFit>
+    requires form { IsZonedForm form.now }
     requires width { form.now.width ≤ length into.old }
     requires room { 80 ≤ length into.old }
     ensures no_fit { IsErr result ↔ (zoned_writing form.now value.now ≡ None) }

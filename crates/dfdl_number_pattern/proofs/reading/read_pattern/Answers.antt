@@ -1,17 +1,17 @@
 use Rattle.std.proofs.Common.{◌≡◌, ℕ, ◌<◌, ◌≤◌, Bool, true, false, Some, length, List, get_or, take, subst, sym, ◌∙◌, arith}
 use Rattle.std.proofs.lemmas.List.{take_all}
+use Rattle.dfdl_forms.specs.declared.number_pattern.NumberPattern.{NumberPattern}
 use Rattle.dfdl_fronts.specs.Fronts.{IsPlace}
 use Rattle.dfdl_machines.specs.Machines.{run}
 use Rattle.dfdl_machines.proofs.Readers.{place_at, place_end, reaches, run_more}
-use Rattle.dfdl_number_pattern.specs.Pattern.{Pattern, Spells, IsPattern, pattern_seen}
+use Rattle.dfdl_number_pattern.specs.Pattern.{Spells, IsPattern}
 use Rattle.dfdl_number_pattern.specs.Machine.{State, start, step, accepts}
 use Rattle.dfdl_number_pattern.specs.Taken.{Takes}
 use Rattle.dfdl_number_pattern.specs.ReaderShown.{state_seen}
 use Rattle.dfdl_number_pattern.proofs.Runs.{reads_patterns, only_pattern}
 use Rattle.dfdl_number_pattern.proofs.ReaderLaws.{Reached, spells_value}
-use Rattle.dfdl_number_pattern.proofs.Few.{few_in_group}
-use Rattle.dfdl_number_pattern.proofs.Lengths.{IsShort, keeps_short, first_short}
-use Rattle.dfdl_number_pattern.proofs.Texts.{KeepsTexts, keeps_texts, first_texts, first_few}
+use Rattle.dfdl_number_pattern.proofs.Texts.{KeepsTexts, keeps_texts, first_texts}
+use Rattle.dfdl_number_pattern.proofs.Spelled.{one_read, spelled_bounded, unread}
 use Rattle.dfdl_number_pattern.proofs.reading.read_pattern.Goals as goal
 
 pub loop-at-preserved : goal.loop-at-preserved
@@ -33,6 +33,11 @@ returns-then-not-branch-clause-place c =
     subst (λ (l : List ℕ). IsPlace IsPattern l c.loop-at.at) c.as_bytes-bytes.ensures.value
     (place_at reads_patterns bytes c.loop-at.at (state_seen c.loop-at.reader) 0 inside c.loop-at.invariant taken)
 
+pub returns-then-not-branch-clause-refused : goal.returns-then-not-branch-clause-refused
+returns-then-not-branch-clause-refused c =
+    let place : IsPlace IsPattern c.args.text.now c.loop-at.at = returns-then-not-branch-clause-place c in
+    unread c.args.text.now place.no_text
+
 pub returns-then-not-accepts-clause-place : goal.returns-then-not-accepts-clause-place
 returns-then-not-accepts-clause-place c =
     let bytes = c.as_bytes-bytes.result.now in
@@ -43,6 +48,11 @@ returns-then-not-accepts-clause-place c =
     let refuses : accepts (state_seen c.loop-at.reader) ≡ false = sym c.accepts.ensures ∙ c.if-not-accepts.true in
     subst (λ (l : List ℕ). IsPlace IsPattern l (length bytes)) c.as_bytes-bytes.ensures.value
     (place_end reads_patterns bytes (state_seen c.loop-at.reader) all refuses)
+
+pub returns-then-not-accepts-clause-refused : goal.returns-then-not-accepts-clause-refused
+returns-then-not-accepts-clause-refused c =
+    let place : IsPlace IsPattern c.args.text.now (length c.as_bytes-bytes.result.now) = returns-then-not-accepts-clause-place c in
+    unread c.args.text.now place.no_text
 
 -- the machine has run through the whole text, and accepts
 record Accepted (bytes : List ℕ) (s : State) : Type 0 where
@@ -70,34 +80,19 @@ finish-requires-clause-utf8_suffix c = (texts c).last.is_suffix
 pub finish-requires-clause-utf8_first : goal.finish-requires-clause-utf8_first
 finish-requires-clause-utf8_first c = first_texts c.loop-at.reader.first (texts c).first
 
-short : (c : goal.Else-not-accepts) → IsShort (state_seen c.loop-at.reader) (length c.as_bytes-bytes.result.now)
-short c =
-    let bytes = c.as_bytes-bytes.result.now in
-    let a = accepted bytes c.loop-at.at (state_seen c.loop-at.reader) (omega arith) c.loop-at.invariant (sym c.accepts.ensures ∙ c.if-not-accepts.false) in
-    keeps_short (state_seen c.loop-at.reader) bytes a.reached a.takes
-
-pub finish-requires-clause-short : goal.finish-requires-clause-short
-finish-requires-clause-short c = omega (arith, (short c).last)
-
-pub finish-requires-clause-short_first : goal.finish-requires-clause-short_first
-finish-requires-clause-short_first c = first_short c.loop-at.reader.first _ (length c.as_bytes-bytes.result.now) (omega arith) (short c).first
-
-pub finish-requires-clause-few : goal.finish-requires-clause-few
-finish-requires-clause-few c = (texts c).few.signs
-
-pub finish-requires-clause-group_within : goal.finish-requires-clause-group_within
-finish-requires-clause-group_within c = few_in_group c.loop-at.reader.digits (texts c).few
-
-pub finish-requires-clause-few_first : goal.finish-requires-clause-few_first
-finish-requires-clause-few_first c = first_few c.loop-at.reader.first (texts c).first
-
 pub returns-clause-found : goal.returns-clause-found
 returns-clause-found c =
     let bytes = c.as_bytes-bytes.result.now in
     let state = state_seen c.loop-at.reader in
     let a = accepted bytes c.loop-at.at state (omega arith) c.loop-at.invariant (sym c.accepts.ensures ∙ c.if-not-accepts.false) in
-    subst (λ (l : List ℕ). Spells (pattern_seen c.in_ok-finish.field-0) l) c.as_bytes-bytes.ensures.value
-    (subst (λ (p : Pattern). Spells p bytes) (sym c.in_ok-finish.ensures) (spells_value state bytes a.reached a.takes))
+    subst (λ (l : List ℕ). Spells c.in_ok-finish.field-0 l) c.as_bytes-bytes.ensures.value
+    (subst (λ (p : NumberPattern). Spells p bytes) (sym c.in_ok-finish.ensures) (spells_value state bytes a.reached a.takes))
+
+pub returns-clause-reading : goal.returns-clause-reading
+returns-clause-reading c = one_read c.args.text.now c.in_ok-finish.field-0 (returns-clause-found c)
+
+pub returns-clause-bounded : goal.returns-clause-bounded
+returns-clause-bounded c = spelled_bounded c.in_ok-finish.field-0 c.args.text.now (returns-clause-found c)
 
 pub returns-clause-only : goal.returns-clause-only
 returns-clause-only c other spells =

@@ -5,4 +5,4 @@ pub returns-clause-packed : goal.returns-clause-packed
 returns-clause-packed c = λ form value nibbles is of e. packed_law form value nibbles is of e
 
 pub returns-clause-zoned : goal.returns-clause-zoned
-returns-clause-zoned c = λ form value chars of e. zoned_law form value chars of e
+returns-clause-zoned c = λ form value chars is of e. zoned_law form value chars is of e

@@ -7,7 +7,7 @@ use Rattle.dfdl_packed.proofs.zoned.write_zoned.Goals as goal
 
 pub put_signed-requires-clause-small : goal.put_signed-requires-clause-small
 put_signed-requires-clause-small c =
-    let less : 39 + c.args.form.now.point ≤ 80 = omega (arith, c.args.form.now.places) in
+    let less : 39 + c.args.form.now.point ≤ 80 = omega (arith, c.requires.form) in
     le_trans c.in-Some.ensures.small (pow-le-pow_right {n = 10} (omega arith) less)
 
 pub returns-in-Some-clause-chars : goal.returns-in-Some-clause-chars

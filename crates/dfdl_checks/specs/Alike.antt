@@ -1,8 +1,8 @@
 -- Components that differ in nothing that is asked of them: their elements give the same values, name by name.
-use Rattle.std.specs.Prelude.{◌≡◌, ℕ, List}
+use Rattle.std.specs.Prelude.{◌≡◌, ℕ, List, Option, Some, None, ⊥}
 use Rattle.std.specs.List.{AllZip}
 use Rattle.dfdl_scope.specs.Scoping.{Element}
-use Rattle.dfdl_checks.specs.Judged.{Judged}
+use Rattle.dfdl_checks.specs.Judged.{Judged, PrefixJudged}
 
 -- two elements of chains stand at one place, and give the same
 pub record IsAlikeElement (a b : Element) : Type 0 where
@@ -16,6 +16,18 @@ pub record IsAlikeElement (a b : Element) : Type 0 where
 abbrev pub AreAlikeChains : List Element → List Element → Type 0
 AreAlikeChains xs ys = AllZip IsAlikeElement xs ys
 
+-- two types of prefixes have alike chains, and are the same else
+pub record IsAlikePrefix (a b : PrefixJudged) : Type 0 where
+  pub simple : a.simple ≡ b.simple
+  pub place : a.place ≡ b.place
+  pub chain : AreAlikeChains a.chain b.chain
+
+-- the same of two that may be lacking
+abbrev pub AreAlikePrefixes : Option PrefixJudged → Option PrefixJudged → Type 0
+AreAlikePrefixes None None = Unit {0}
+AreAlikePrefixes (Some a) (Some b) = IsAlikePrefix a b
+AreAlikePrefixes _ _ = ⊥
+
 -- two components have alike chains, and are the same else
 pub record IsAlike (a b : Judged) : Type 0 where
   pub purpose : a.purpose ≡ b.purpose
@@ -24,3 +36,4 @@ pub record IsAlike (a b : Judged) : Type 0 where
   pub chain : AreAlikeChains a.chain b.chain
   pub facts : a.facts ≡ b.facts
   pub root_bits_by : a.root_bits_by ≡ b.root_bits_by
+  pub prefix : AreAlikePrefixes a.prefix b.prefix

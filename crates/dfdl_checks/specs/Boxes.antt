@@ -1,16 +1,16 @@
--- The boxes of strings, of elements of type hexBinary and of complex elements, by their constant lengths ('Lengths').
+-- The boxes of texts, of elements of type hexBinary and of complex elements, by their constant lengths ('Lengths').
 use Rattle.std.specs.Prelude.{ℕ, Bool, nat_le, not, ◌&&◌, ◌||◌, ◌*◌, Option, Some, None, is_some, codes, if◌then◌else◌}
 use Rattle.dfdl_terms.specs.Rows.{most_length}
 use Rattle.dfdl_checks.specs.Encodings.{character_bits, encoding_told}
 use Rattle.dfdl_checks.specs.Judged.{Judged}
 use Rattle.dfdl_checks.specs.Lengths.{length_in, number_told, unit_bits}
-use Rattle.dfdl_checks.specs.Subjects.{is_boxed, is_complex, is_string, is_string_or_bytes, is_told, told_at}
+use Rattle.dfdl_checks.specs.Subjects.{is_boxed, is_complex, is_explicit, is_prefixed, is_string, is_string_or_bytes, is_text, is_told, told_at}
 use Rattle.dfdl_checks.specs.declared.purpose.Purpose.{Purpose}
 use Rattle.dfdl_checks.specs.declared.purpose.Purpose.TheVariants.{Parsing, Unparsing}
 
 -- such an element has a length of its own
 abbrev pub is_explicit_box : Judged → Bool
-is_explicit_box subject = is_boxed subject.kind && is_told subject (codes "lengthKind") (codes "explicit")
+is_explicit_box subject = is_boxed subject && is_explicit subject
 
 -- a string, or an element of type hexBinary, has the length of its type
 abbrev pub is_implicit_box : Judged → Bool
@@ -22,7 +22,7 @@ is_implicit_string subject = is_string subject.kind && is_told subject (codes "l
 
 -- the length of the component's box is counted in characters
 abbrev pub is_in_characters : Judged → Bool
-is_in_characters subject = is_string subject.kind && is_told subject (codes "lengthUnits") (codes "characters")
+is_in_characters subject = is_text subject && is_told subject (codes "lengthUnits") (codes "characters")
 
 -- how many bits a unit of the component's units has: a bit, a byte, or the smallest unit of the encoding for a character
 abbrev pub told_unit : Judged → ℕ
@@ -32,16 +32,18 @@ told_unit subject =
 
 -- the length is told in the component's units; the greatest length of hexBinary is one in bytes
 abbrev pub counts_units : Judged → Bool
-counts_units subject = is_string subject.kind || is_told subject (codes "lengthKind") (codes "explicit")
+counts_units subject = is_text subject || is_explicit subject
 
 -- how many bits a unit of the box has
 abbrev pub box_unit : Judged → ℕ
 box_unit subject = if counts_units subject then told_unit subject else 8
 
--- how many units the box has, where a number is told: as many as its own length, else as many as the type
+-- How many units the box has, where a number is told: as many as its own length, else as many as the type. Where a prefix tells
+-- them, none stand for them.
 abbrev pub box_number : Judged → Option ℕ
 box_number subject =
-    if is_told subject (codes "lengthKind") (codes "explicit") then number_told (told_at subject (codes "length"))
+    if is_explicit subject then number_told (told_at subject (codes "length"))
+    else if is_prefixed subject then Some 0
     else subject.facts.max_length
 
 -- a number of units of so many bits, where they aren't past the greatest length
@@ -67,7 +69,7 @@ is_box_too_long subject = (is_explicit_box subject || is_implicit_box subject) &
 
 -- a complex element with a length of its own
 abbrev pub is_explicit_complex : Judged → Bool
-is_explicit_complex subject = is_complex subject.kind && is_told subject (codes "lengthKind") (codes "explicit")
+is_explicit_complex subject = is_complex subject.kind && is_explicit subject
 
 -- how many bits the box of a complex element has, which is built for parsing
 abbrev pub size_for : Purpose → Judged → Option ℕ

@@ -1,14 +1,22 @@
 -- A component as the rules see it.
-use Rattle.std.specs.Prelude.{List}
+use Rattle.std.specs.Prelude.{List, Option}
 use Rattle.dfdl_forms.specs.declared.order.BitOrder.{BitOrder}
+use Rattle.dfdl_forms.specs.declared.simple.Simple.{Simple}
 use Rattle.dfdl_report.specs.declared.place.Place.{Place}
 use Rattle.dfdl_scope.specs.Scoping.{Element}
 use Rattle.dfdl_checks.specs.declared.purpose.Purpose.{Purpose}
 use Rattle.dfdl_checks.specs.declared.subject.Facts.{Facts}
 use Rattle.dfdl_checks.specs.declared.subject.Kind.{Kind}
 
+-- the type of a length prefix: which simple type it comes to, if that is carried, its start tag, and the chain that its properties
+-- are asked of
+pub record PrefixJudged : Type 0 where
+  pub simple : Option Simple
+  pub place : Place
+  pub chain : List Element
+
 -- a component: what its rows are made for, its kind, its start tag, the chain that its properties are asked of, what else
--- it states, and the order of bits of the schema's root
+-- it states, the order of bits of the schema's root, and the type that its property prefixLengthType names, if it names one
 pub record Judged : Type 0 where
   pub purpose : Purpose
   pub kind : Kind
@@ -16,3 +24,4 @@ pub record Judged : Type 0 where
   pub chain : List Element
   pub facts : Facts
   pub root_bits_by : BitOrder
+  pub prefix : Option PrefixJudged

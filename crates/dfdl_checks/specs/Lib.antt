@@ -10,12 +10,15 @@ pub mod Boxes
 pub mod Packed
 pub mod Booleans
 pub mod Pads
+pub mod NumberTexts
+pub mod BooleanTexts
 pub mod Applying
 pub mod Table
 pub mod TableShown
 pub mod Flaws
-pub mod Rules
 pub mod Texts
 pub mod Numbers
+pub mod Prefixes
+pub mod Rules
 pub mod Framing
 pub mod Forms

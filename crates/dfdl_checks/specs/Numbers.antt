@@ -14,20 +14,22 @@ use Rattle.dfdl_scope.specs.Expressions.{literal}
 use Rattle.dfdl_scope.specs.Scoping.{Told, Value, Absent, Twice}
 use Rattle.dfdl_terms.specs.declared.row.Primitive.{Primitive}
 use Rattle.dfdl_terms.specs.declared.row.Primitive.TheVariants.{Integer, Packed, Truth, Octets, Text}
+use Rattle.dfdl_terms.specs.declared.text.TextContent.{TextContent}
+use Rattle.dfdl_terms.specs.declared.text.TextContent.TheVariants.{Plain, Number, Zoned, Truth as TextTruth}
 use Rattle.dfdl_checks.specs.Booleans.{falsity_told, truth_told}
 use Rattle.dfdl_checks.specs.Encodings.{encoding_told}
 use Rattle.dfdl_checks.specs.Lengths.{constant_length, size_within}
 use Rattle.dfdl_checks.specs.Orders.{is_least_first, orders_of, told_order}
 use Rattle.dfdl_checks.specs.Packed.{codes_for, is_strict, nibbles_within, rep_of, rep_word}
 use Rattle.dfdl_checks.specs.Rules.{is_built_type}
-use Rattle.dfdl_checks.specs.Subjects.{has_point, is_binary_number, is_characters, is_octets, is_string, is_told, is_truths, told_at, value_bits}
+use Rattle.dfdl_checks.specs.Subjects.{has_point, is_binary, is_binary_number, is_explicit, is_octets, is_prefixed, is_text, is_told, is_truths, told_at, value_bits}
 use Rattle.dfdl_checks.specs.Texts.{octets_of, text_of}
 use Rattle.dfdl_checks.specs.Values.{is_within}
 use Rattle.dfdl_checks.specs.declared.orders.Orders.{Orders}
 use Rattle.dfdl_checks.specs.declared.purpose.Purpose.{Purpose}
 use Rattle.dfdl_checks.specs.declared.purpose.Purpose.TheVariants.{Parsing, Unparsing}
 use Rattle.dfdl_checks.specs.declared.subject.Kind.{Kind}
-use Rattle.dfdl_checks.specs.declared.subject.Kind.TheVariants.{SimpleElement}
+use Rattle.dfdl_checks.specs.declared.subject.Kind.TheVariants.{SimpleElement, PrefixNumber}
 use Rattle.dfdl_checks.specs.Judged.{Judged}
 
 -- the number that digits stand for, if a decimal can have so many digits behind its point
@@ -49,10 +51,10 @@ abbrev pub own_size : Purpose → ℕ → Option ℕ → Option ℕ
 own_size Parsing most length = size_within most length
 own_size Unparsing most length = None
 
--- how many bits the component's field has, where its type has at most so many: its own length, else as many as the type
+-- How many bits the component's field has, where its type has at most so many: its own length, else as many as the type, which also
+-- stand for those that a prefix tells.
 abbrev pub field_bits : Judged → ℕ → Option ℕ
-field_bits subject most =
-    if is_told subject (codes "lengthKind") (codes "explicit") then own_size subject.purpose most (constant_length subject) else Some most
+field_bits subject most = if is_explicit subject then own_size subject.purpose most (constant_length subject) else Some most
 
 -- a number of the type, in these orders, with so many bits and so many digits behind its point
 abbrev pub number_by : Simple → Orders → Option ℕ → Option ℕ → Option Primitive
@@ -66,10 +68,13 @@ number_of_type subject simple =
     number_by simple (orders_of subject) (field_bits subject (most_bits (form_of simple)))
     (places_of simple (told_at subject (codes "binaryDecimalVirtualPoint")))
 
--- how many nibbles the field of a packed number has: those of its own length, since no type has a size in nibbles
+-- How many nibbles the field of a packed number has: those of its own length, since no type has a size in nibbles. Where a prefix
+-- tells them, one stands for them.
 abbrev pub field_nibbles : Judged → PackedRep → Option ℕ
 field_nibbles subject rep =
-    if is_told subject (codes "lengthKind") (codes "explicit") then nibbles_within rep (constant_length subject) else None
+    if is_explicit subject then nibbles_within rep (constant_length subject)
+    else if is_prefixed subject then Some 1
+    else None
 
 -- a packed number of the type, in these orders, with so many nibbles, these sign codes and so many digits behind its point
 abbrev pub packed_by : Simple → PackedRep → Orders → Bool → Option ℕ → Option (List ℕ) → Option ℕ → Option Primitive
@@ -118,7 +123,7 @@ binary_of_type subject simple =
 -- the component's values as those of the type, as they are built for parsing
 abbrev pub primitive_parsed : Judged → Simple → Option Primitive
 primitive_parsed subject simple =
-    if is_characters (form_of simple) then text_of subject
+    if is_text subject then text_of subject simple
     else if is_octets (form_of simple) then octets_of subject
     else binary_of_type subject simple
 
@@ -132,14 +137,22 @@ abbrev pub primitive_of_type : Judged → Simple → Option Primitive
 primitive_of_type subject simple =
     if is_built_type subject.purpose simple then primitive_for subject.purpose subject simple else None
 
--- the same, for an element of a simple type
+-- the same, for an element of a simple type, and for the type of a prefix
 abbrev pub primitive_of_kind : Judged → Kind → Option Primitive
 primitive_of_kind subject (SimpleElement simple) = primitive_of_type subject simple
+primitive_of_kind subject (PrefixNumber simple) = primitive_of_type subject simple
 primitive_of_kind subject _ = None
 
 -- how the component's values lie in the data, where they are of a type and of a size that are built
 abbrev pub primitive_of : Judged → Option Primitive
 primitive_of subject = primitive_of_kind subject subject.kind
+
+-- the type of the values that characters are read as
+abbrev pub text_type : TextContent → Simple
+text_type Plain = String
+text_type (Number form simple) = simple
+text_type (Zoned form) = form.kind
+text_type (TextTruth form) = Boolean
 
 -- the type of a primitive's values
 abbrev pub type_of : Primitive → Simple
@@ -147,7 +160,7 @@ type_of (Integer form) = form.kind
 type_of (Packed form) = form.kind
 type_of (Truth form) = Boolean
 type_of (Octets form) = HexBinary
-type_of (Text form) = String
+type_of (Text form) = text_type form.content
 
 -- the bits of a primitive's fields come in this order; a text has none
 abbrev pub HasBitOrder : BitOrder → Primitive → Type 0
@@ -162,25 +175,27 @@ pub record IsInBitOrder (subject : Judged) : Type 0 where
   pub primitive : (p : Primitive) → primitive_of subject ≡ Some p → HasBitOrder (told_order subject) p
   pub root : told_order subject ≡ subject.root_bits_by
 
--- the properties of a component say that its values are binary, with the length of their type or one of their own, and which
--- bits come first; where the type has more than 8 bits, which bytes come first, and where the least significant bits of a
--- number do, that the least significant bytes do too; and of what is read as a binary integer or as a packed number, that it
--- is one
+-- the properties of a component say that its length is its own, that of its type or that of a prefix
+abbrev pub HasLengthKind : Judged → Type 0
+HasLengthKind subject = IsTrue (is_told subject (codes "lengthKind") (codes "implicit") || is_explicit subject || is_told subject (codes "lengthKind") (codes "prefixed"))
+
+-- the properties of a binary number or boolean say which kind of length it has, and which bits come first; where the type has
+-- more than 8 bits, which bytes come first, and where the least significant bits of a number do, that the least significant bytes
+-- do too; and of what is read as a binary integer or as a packed number, that it is one
 pub record IsBinaryValue (subject : Judged) : Type 0 where
-  pub representation : IsTrue (is_told subject (codes "representation") (codes "binary"))
   pub number : (form : IntForm) → primitive_of subject ≡ Some (Integer form)
       → IsTrue (is_told subject (codes "binaryNumberRep") (codes "binary"))
   pub packed : (form : PackedForm) → primitive_of subject ≡ Some (Packed form)
       → IsTrue (is_told subject (codes "binaryNumberRep") (rep_word form.rep))
-  pub length_kind : IsTrue (is_told subject (codes "lengthKind") (codes "implicit") || is_told subject (codes "lengthKind") (codes "explicit"))
+  pub length_kind : HasLengthKind subject
   pub bits_by : IsInBitOrder subject
   pub bytes_by : 8 < value_bits subject.kind
       → IsTrue (is_told subject (codes "byteOrder") (codes "bigEndian") || is_told subject (codes "byteOrder") (codes "littleEndian"))
   pub orders : IsTrue (is_binary_number subject) → IsTrue (is_least_first subject) → IsTrue (is_told subject (codes "byteOrder") (codes "littleEndian"))
 
--- the properties of a component say that its length is that of its type or one of its own, and which bits come first; and of
--- a string, which encoding its characters have
-pub record IsStringOrBytesValue (subject : Judged) : Type 0 where
-  pub encoding : IsTrue (is_string subject.kind) → IsSome (encoding_told (told_at subject (codes "encoding")))
-  pub length_kind : IsTrue (is_told subject (codes "lengthKind") (codes "implicit") || is_told subject (codes "lengthKind") (codes "explicit"))
+-- the properties of a text, or of an element of type hexBinary, say which kind of length it has, and which bits come first; and of
+-- a text, which encoding its characters have
+pub record IsTextOrBytesValue (subject : Judged) : Type 0 where
+  pub encoding : IsTrue (is_text subject) → IsSome (encoding_told (told_at subject (codes "encoding")))
+  pub length_kind : HasLengthKind subject
   pub bits_by : IsInBitOrder subject

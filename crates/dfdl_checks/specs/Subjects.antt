@@ -1,5 +1,5 @@
 -- Which component it is, and what its properties are told to be.
-use Rattle.std.specs.Prelude.{ℕ, List, Bool, true, false, nat_lt, ◌&&◌, ◌||◌, codes}
+use Rattle.std.specs.Prelude.{ℕ, List, Bool, true, false, nat_lt, not, ◌&&◌, ◌||◌, codes}
 use Rattle.std.specs.Str.{bytes_eq}
 use Rattle.dfdl_forms.specs.Binary.{most_bits}
 use Rattle.dfdl_forms.specs.Types.{form_of}
@@ -8,7 +8,7 @@ use Rattle.dfdl_forms.specs.declared.simple.Form.TheVariants.{Signed, Unsigned, 
 use Rattle.dfdl_scope.specs.Expressions.{literal}
 use Rattle.dfdl_scope.specs.Scoping.{Told, Value, Absent, Twice, told}
 use Rattle.dfdl_checks.specs.declared.subject.Kind.{Kind}
-use Rattle.dfdl_checks.specs.declared.subject.Kind.TheVariants.{ComplexElement, SimpleElement, UncarriedElement, Sequence, Choice}
+use Rattle.dfdl_checks.specs.declared.subject.Kind.TheVariants.{ComplexElement, SimpleElement, UncarriedElement, Sequence, Choice, PrefixNumber}
 use Rattle.dfdl_checks.specs.Judged.{Judged}
 
 -- an element
@@ -18,19 +18,26 @@ is_element (SimpleElement simple) = true
 is_element UncarriedElement = true
 is_element Sequence = false
 is_element Choice = false
+is_element (PrefixNumber simple) = false
+
+-- the type of a prefix
+abbrev pub is_prefix_number : Kind → Bool
+is_prefix_number (PrefixNumber simple) = true
+is_prefix_number _ = false
 
 -- an element of a complex type
 abbrev pub is_complex : Kind → Bool
 is_complex ComplexElement = true
 is_complex _ = false
 
--- an element of a simple type
+-- an element of a simple type, or the type of a prefix
 abbrev pub is_simple : Kind → Bool
 is_simple ComplexElement = false
 is_simple (SimpleElement simple) = true
 is_simple UncarriedElement = true
 is_simple Sequence = false
 is_simple Choice = false
+is_simple (PrefixNumber simple) = true
 
 -- a sequence
 abbrev pub is_sequence : Kind → Bool
@@ -70,11 +77,6 @@ is_hex_binary _ = false
 abbrev pub is_string_or_bytes : Kind → Bool
 is_string_or_bytes kind = is_string kind || is_hex_binary kind
 
--- an element whose content stands in a box of its own length or that of its type: a string, one of type hexBinary, or a
--- complex element, which has a box by its own length alone
-abbrev pub is_boxed : Kind → Bool
-is_boxed kind = is_string_or_bytes kind || is_complex kind
-
 -- values of this form are written as text or in binary, by the property representation; texts and bytes are not
 abbrev pub has_representation : Form → Bool
 has_representation (Signed bits) = true
@@ -87,12 +89,14 @@ has_representation Octets = false
 -- a simple element with a representation; one of a type that is not carried counts as one
 abbrev pub is_represented : Kind → Bool
 is_represented (SimpleElement simple) = has_representation (form_of simple)
+is_represented (PrefixNumber simple) = has_representation (form_of simple)
 is_represented UncarriedElement = true
 is_represented _ = false
 
 -- how many bits an element of an integer or decimal type has at most in binary; 0 for every other component
 abbrev pub number_bits : Kind → ℕ
 number_bits (SimpleElement simple) = most_bits (form_of simple)
+number_bits (PrefixNumber simple) = most_bits (form_of simple)
 number_bits _ = 0
 
 -- values of this form are true and false
@@ -113,6 +117,7 @@ binary_bits form = most_bits form
 -- the same of an element's values; 0 for every other component
 abbrev pub value_bits : Kind → ℕ
 value_bits (SimpleElement simple) = binary_bits (form_of simple)
+value_bits (PrefixNumber simple) = binary_bits (form_of simple)
 value_bits _ = 0
 
 -- values of this form have digits behind a point
@@ -135,7 +140,7 @@ is_word word (Value written) = bytes_eq (literal written) word
 is_word word Absent = false
 is_word word (Twice place) = false
 
--- a binary number: an element of an integer or decimal type whose representation is binary
+-- a binary number: of an integer or decimal type, and its representation is binary
 abbrev pub is_binary_number : Judged → Bool
 is_binary_number subject = nat_lt 0 (number_bits subject.kind) && is_word (codes "binary") (told_at subject (codes "representation"))
 
@@ -158,3 +163,36 @@ is_explicit_binary subject = is_binary subject && is_told subject (codes "length
 -- a binary number with a sign behind its digits, of the representation packed
 abbrev pub is_packed : Judged → Bool
 is_packed subject = is_binary_number subject && is_told subject (codes "binaryNumberRep") (codes "packed")
+
+-- the length is the component's own
+abbrev pub is_explicit : Judged → Bool
+is_explicit subject = is_told subject (codes "lengthKind") (codes "explicit")
+
+-- a text number: an integer or decimal whose representation is text
+abbrev pub is_text_number : Judged → Bool
+is_text_number subject = nat_lt 0 (number_bits subject.kind) && is_told subject (codes "representation") (codes "text")
+
+-- a text boolean
+abbrev pub is_text_boolean : Judged → Bool
+is_text_boolean subject = is_boolean subject.kind && is_told subject (codes "representation") (codes "text")
+
+-- a text: a string, a text number or a text boolean
+abbrev pub is_text : Judged → Bool
+is_text subject = is_string subject.kind || is_text_number subject || is_text_boolean subject
+
+-- a zoned number
+abbrev pub is_zoned : Judged → Bool
+is_zoned subject = is_text_number subject && is_told subject (codes "textNumberRep") (codes "zoned")
+
+-- a text number by a pattern or by the digits of a base, with a sign of its own
+abbrev pub is_standard : Judged → Bool
+is_standard subject = is_text_number subject && not (is_told subject (codes "textNumberRep") (codes "zoned"))
+
+-- a component whose content stands in a box of its own length, that of its type or that of a prefix: a text, an element of type
+-- hexBinary, or a complex element, which has a box by its own length or a prefix alone
+abbrev pub is_boxed : Judged → Bool
+is_boxed subject = is_text subject || is_hex_binary subject.kind || is_complex subject.kind
+
+-- an element with a length prefix
+abbrev pub is_prefixed : Judged → Bool
+is_prefixed subject = is_element subject.kind && is_told subject (codes "lengthKind") (codes "prefixed")

@@ -1,10 +1,10 @@
 -- Which properties are asked of which components, and which of their values are built. Each property of the profile that
--- is not here applies to components of later forms alone: to text that is no string, to the least length of texts, to delimiters, to
--- escapes, to elements of prefixed length, to elements that may be nil or occur otherwise than once, and to choices and their branches.
+-- is not here applies to components of later forms alone: to the least length of strings, to delimiters, to escapes, to elements
+-- that may be nil or occur otherwise than once, and to choices and their branches.
 use Rattle.std.specs.Prelude.{ℕ, List, [], ◌∷◌, Bool, true, false, codes}
 use Rattle.dfdl_checks.specs.Values.{is_among, is_number, is_within}
 use Rattle.dfdl_checks.specs.declared.applicability.Bearers.{Bearers}
-use Rattle.dfdl_checks.specs.declared.applicability.Bearers.TheVariants.{EveryComponent, Elements, OtherElements, SimpleElements, RepresentedElements, BoxedElements, Strings, PaddedStrings, BinaryNumbers, BinaryBooleans, OrderedBinaries, ExplicitBinaries, ExplicitBoxes, ImplicitStrings, PackedNumbers, BinaryDecimals, PatternElements, Groups, Sequences, EmptySequences}
+use Rattle.dfdl_checks.specs.declared.applicability.Bearers.TheVariants.{EveryComponent, FramedComponents, Elements, OtherElements, SimpleElements, RepresentedElements, BoxedElements, Strings, PaddedStrings, PaddedBooleans, PaddedNumbers, Texts, TextNumbers, TextBooleans, StandardNumbers, ZonedNumbers, PatternNumbers, LooseTexts, BinaryNumbers, BinaryBooleans, OrderedBinaries, ExplicitBinaries, ExplicitBoxes, ImplicitStrings, PrefixedElements, PackedNumbers, BinaryDecimals, PatternElements, Groups, Sequences, EmptySequences}
 use Rattle.dfdl_checks.specs.declared.purpose.Purpose.{Purpose}
 use Rattle.dfdl_checks.specs.declared.purpose.Purpose.TheVariants.{Parsing, Unparsing}
 
@@ -54,40 +54,60 @@ word text = Words (text ∷ [])
 -- a binary boolean of delimited length or with a length in characters
 unfoldable pub applicability_table : List Applicability
 applicability_table =
-    applies (codes "representation") RepresentedElements (word (codes "binary"))
-    ∷ applies (codes "encoding") Strings EveryValue
-    ∷ applies (codes "encodingErrorPolicy") Strings EveryValue
+    applies_by (codes "representation") RepresentedElements EveryValue (word (codes "binary"))
+    ∷ applies (codes "encoding") Texts EveryValue
+    ∷ applies (codes "encodingErrorPolicy") Texts EveryValue
     ∷ applies (codes "byteOrder") OrderedBinaries EveryValue
     ∷ applies_by (codes "bitOrder") EveryComponent EveryValue (word (codes "mostSignificantBitFirst"))
     ∷ applies (codes "lengthKind") OtherElements (word (codes "implicit"))
-    ∷ applies_by (codes "lengthKind") BoxedElements (Words (codes "implicit" ∷ codes "explicit" ∷ [])) (word (codes "implicit"))
+    ∷ applies_by (codes "lengthKind") BoxedElements (Words (codes "implicit" ∷ codes "explicit" ∷ codes "prefixed" ∷ [])) (word (codes "implicit"))
     ∷ applies_by (codes "lengthKind") BinaryNumbers
-    (Words (codes "implicit" ∷ codes "explicit" ∷ codes "delimited" ∷ codes "pattern" ∷ []))
+    (Words (codes "implicit" ∷ codes "explicit" ∷ codes "prefixed" ∷ codes "delimited" ∷ codes "pattern" ∷ []))
     (Words (codes "implicit" ∷ codes "delimited" ∷ codes "pattern" ∷ []))
-    ∷ applies_by (codes "lengthKind") BinaryBooleans (Words (codes "implicit" ∷ codes "explicit" ∷ codes "delimited" ∷ [])) (word (codes "implicit"))
+    ∷ applies_by (codes "lengthKind") BinaryBooleans
+    (Words (codes "implicit" ∷ codes "explicit" ∷ codes "prefixed" ∷ codes "delimited" ∷ [])) (word (codes "implicit"))
     ∷ applies (codes "length") ExplicitBinaries EachNumber
     ∷ applies (codes "length") ExplicitBoxes EachNumber
     ∷ applies (codes "lengthUnits") ExplicitBinaries EveryValue
     ∷ applies (codes "lengthUnits") ExplicitBoxes EveryValue
     ∷ applies (codes "lengthUnits") ImplicitStrings EveryValue
+    ∷ applies (codes "lengthUnits") PrefixedElements EveryValue
     ∷ applies (codes "lengthPattern") PatternElements EveryValue
-    ∷ applies_by (codes "alignment") EveryComponent EveryValue (Number 1)
-    ∷ applies_by (codes "alignmentUnits") EveryComponent EveryValue (word (codes "bits"))
-    ∷ applies_by (codes "leadingSkip") EveryComponent EveryValue (Number 0)
-    ∷ applies_by (codes "trailingSkip") EveryComponent EveryValue (Number 0)
-    ∷ applies (codes "fillByte") EveryComponent (word (codes "%#r00;"))
-    ∷ applies (codes "initiator") EveryComponent (word (codes ""))
-    ∷ applies (codes "terminator") EveryComponent (word (codes ""))
+    ∷ applies (codes "prefixLengthType") PrefixedElements EveryValue
+    ∷ applies (codes "prefixIncludesPrefixLength") PrefixedElements EveryValue
+    ∷ applies_by (codes "alignment") FramedComponents EveryValue (Number 1)
+    ∷ applies_by (codes "alignmentUnits") FramedComponents EveryValue (word (codes "bits"))
+    ∷ applies_by (codes "leadingSkip") FramedComponents EveryValue (Number 0)
+    ∷ applies_by (codes "trailingSkip") FramedComponents EveryValue (Number 0)
+    ∷ applies (codes "fillByte") FramedComponents (word (codes "%#r00;"))
+    ∷ applies (codes "initiator") FramedComponents (word (codes ""))
+    ∷ applies (codes "terminator") FramedComponents (word (codes ""))
     ∷ applies (codes "separator") Groups (word (codes ""))
     ∷ applies (codes "initiatedContent") Groups (word (codes "no"))
+    ∷ applies (codes "ignoreCase") TextBooleans EveryValue
     ∷ applies (codes "sequenceKind") Sequences (word (codes "ordered"))
     ∷ applies (codes "hiddenGroupRef") EmptySequences NoValue
-    ∷ applies_by (codes "textTrimKind") Strings EveryValue (word (codes "none"))
-    ∷ applies_by (codes "textPadKind") Strings EveryValue (word (codes "none"))
+    ∷ applies_by (codes "textTrimKind") Texts EveryValue (word (codes "none"))
+    ∷ applies_by (codes "textPadKind") Texts EveryValue (word (codes "none"))
     ∷ applies (codes "textStringJustification") Strings EveryValue
+    ∷ applies (codes "textBooleanJustification") TextBooleans EveryValue
+    ∷ applies (codes "textNumberJustification") TextNumbers EveryValue
     ∷ applies (codes "textStringPadCharacter") PaddedStrings EveryValue
+    ∷ applies (codes "textBooleanPadCharacter") PaddedBooleans EveryValue
+    ∷ applies (codes "textNumberPadCharacter") PaddedNumbers EveryValue
+    ∷ applies (codes "textOutputMinLength") LooseTexts EveryValue
     ∷ applies (codes "truncateSpecifiedLengthString") Strings EveryValue
-    ∷ applies (codes "escapeSchemeRef") Strings (word (codes ""))
+    ∷ applies (codes "escapeSchemeRef") Texts (word (codes ""))
+    ∷ applies (codes "textNumberRep") TextNumbers EveryValue
+    ∷ applies (codes "textNumberPattern") PatternNumbers EveryValue
+    ∷ applies (codes "textStandardBase") StandardNumbers EveryValue
+    ∷ applies (codes "textStandardDecimalSeparator") StandardNumbers EveryValue
+    ∷ applies (codes "textStandardGroupingSeparator") StandardNumbers EveryValue
+    ∷ applies (codes "textNumberRounding") StandardNumbers EveryValue
+    ∷ applies (codes "textNumberRoundingMode") StandardNumbers EveryValue
+    ∷ applies (codes "textZonedSignStyle") ZonedNumbers EveryValue
+    ∷ applies (codes "textBooleanTrueRep") TextBooleans EveryValue
+    ∷ applies (codes "textBooleanFalseRep") TextBooleans EveryValue
     ∷ applies (codes "binaryBooleanTrueRep") BinaryBooleans EveryValue
     ∷ applies (codes "binaryBooleanFalseRep") BinaryBooleans EveryValue
     ∷ applies_by (codes "binaryNumberRep") BinaryNumbers EveryValue (word (codes "binary"))

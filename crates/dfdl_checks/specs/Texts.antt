@@ -1,12 +1,18 @@
--- How the values of a component without a breach lie in the data, where it is a string or of type hexBinary ('Simple Types',
--- on text representation and on hexBinary).
-use Rattle.std.specs.Prelude.{ℕ, Bool, false, not, ◌*◌, Option, Some, None, option_map, codes, if◌then◌else◌}
+-- How the values of a component without a breach lie in the data, where it is a text or of type hexBinary ('Simple Types', on
+-- text representation and on hexBinary).
+use Rattle.std.specs.Prelude.{ℕ, List, Bool, false, not, nat_lt, ◌&&◌, ◌*◌, Option, Some, None, option_map, codes, if◌then◌else◌}
 use Rattle.dfdl_forms.specs.declared.encoding.Encoding.{Encoding}
 use Rattle.dfdl_forms.specs.declared.order.BitOrder.{BitOrder}
 use Rattle.dfdl_forms.specs.declared.text.Justify.{Justify}
 use Rattle.dfdl_forms.specs.declared.text.Justify.TheVariants.{Left, Right, Center}
 use Rattle.dfdl_forms.specs.declared.text.PadForm.{PadForm}
+use Rattle.dfdl_forms.specs.Types.{form_of}
+use Rattle.dfdl_forms.specs.declared.number.NumberForm.{NumberForm}
+use Rattle.dfdl_forms.specs.declared.simple.Form.{Form}
+use Rattle.dfdl_forms.specs.declared.simple.Simple.{Simple}
 use Rattle.dfdl_scope.specs.Scoping.{Told}
+use Rattle.dfdl_terms.specs.declared.text.TextContent.{TextContent}
+use Rattle.dfdl_terms.specs.declared.text.TextContent.TheVariants.{Plain, Number, Zoned, Truth}
 use Rattle.dfdl_terms.specs.declared.row.Primitive.{Primitive}
 use Rattle.dfdl_terms.specs.declared.row.Primitive.TheVariants.{Octets, Text}
 use Rattle.dfdl_terms.specs.declared.text.TextSize.{TextSize}
@@ -15,26 +21,38 @@ use Rattle.dfdl_checks.specs.Boxes.{box_bits, box_unit, box_units, is_in_charact
 use Rattle.dfdl_checks.specs.Encodings.{encoding_told}
 use Rattle.dfdl_checks.specs.Judged.{Judged}
 use Rattle.dfdl_checks.specs.Orders.{field_order}
-use Rattle.dfdl_checks.specs.Pads.{is_padded, is_trimmed, pad_at, used_where}
-use Rattle.dfdl_checks.specs.Subjects.{is_told, is_word, told_at}
+use Rattle.dfdl_checks.specs.BooleanTexts.{truth_form_of}
+use Rattle.dfdl_checks.specs.NumberTexts.{number_form_of, zoned_form_of}
+use Rattle.dfdl_checks.specs.Pads.{is_padded, is_trimmed, name_by, pad_at, used_where}
+use Rattle.dfdl_checks.specs.Subjects.{is_boolean, is_characters, is_string, is_text_number, is_told, is_truths, is_word, told_at}
+use Rattle.dfdl_checks.specs.declared.subject.Kind.{Kind}
 
 -- a place at which no character can be decoded is replaced, as it is where nothing is told
 abbrev pub is_replaced : Told → Bool
 is_replaced told = not (is_word (codes "error") told)
 
--- the side that is told; left where none is
-abbrev pub justify_told : Told → Justify
-justify_told told = if is_word (codes "right") told then Right else if is_word (codes "center") told then Center else Left
+-- the property that gives the side at which such texts stand
+abbrev pub justify_name : Kind → List ℕ
+justify_name kind = name_by kind (codes "textStringJustification") (codes "textBooleanJustification") (codes "textNumberJustification")
 
--- a text that stands at this side, padded and trimmed by these characters, if there are any, and that may be cut
-abbrev pub padded : Justify → Option ℕ → Option ℕ → Bool → PadForm
-padded justify pad trim truncate = record { justify = justify; pad = pad; trim = trim; truncate = truncate; keeps_zero = false }
+-- the side that is told; left where none is, and right of a number
+abbrev pub justify_told : Bool → Told → Justify
+justify_told is_number told =
+    if is_word (codes "right") told then Right
+    else if is_word (codes "center") told then Center
+    else if is_word (codes "left") told then Left
+    else if is_number then Right
+    else Left
 
--- how the component's text stands in its box
+-- how the component's text stands in its box: a string alone may be cut, and a number alone keeps one zero of nothing but zeros
 abbrev pub pad_of : Judged → PadForm
-pad_of subject =
-    padded (justify_told (told_at subject (codes "textStringJustification"))) (used_where (is_padded subject) (pad_at subject))
-    (used_where (is_trimmed subject) (pad_at subject)) (is_told subject (codes "truncateSpecifiedLengthString") (codes "yes"))
+pad_of subject = record {
+  justify = justify_told (is_text_number subject) (told_at subject (justify_name subject.kind));
+  pad = used_where (is_padded subject) (pad_at subject);
+  trim = used_where (is_trimmed subject) (pad_at subject);
+  truncate = is_string subject.kind && is_told subject (codes "truncateSpecifiedLengthString") (codes "yes");
+  keeps_zero = is_text_number subject;
+}
 
 -- so many units of a text, which are characters or have so many bits
 abbrev pub size_in : Bool → ℕ → ℕ → TextSize
@@ -44,16 +62,33 @@ size_in are_characters unit n = if are_characters then Characters n else Bits (n
 abbrev pub text_size : Judged → Option TextSize
 text_size subject = option_map (size_in (is_in_characters subject) (box_unit subject)) (box_units subject)
 
--- a text in this encoding, of this size
-abbrev pub text_by : Option Encoding → Bool → Option TextSize → PadForm → Option Primitive
-text_by (Some encoding) replaces (Some size) pad = Some (Text (record { encoding = encoding; replaces = replaces; size = size; pad = pad }))
-text_by _ replaces _ pad = None
+-- a number of the type in this form
+abbrev pub number_text : Simple → NumberForm → TextContent
+number_text simple form = Number form simple
 
--- the component's values as strings
-abbrev pub text_of : Judged → Option Primitive
-text_of subject =
+-- what the component's characters are read as, by the form of its type's values
+abbrev pub content_by : Form → Judged → Simple → Option TextContent
+content_by form subject simple =
+    if is_characters form then Some Plain
+    else if is_truths form then option_map Truth (truth_form_of subject)
+    else if is_told subject (codes "textNumberRep") (codes "zoned") then option_map Zoned (zoned_form_of subject simple)
+    else option_map (number_text simple) (number_form_of subject)
+
+-- what the component's characters are read as, as values of the type
+abbrev pub content_of : Judged → Simple → Option TextContent
+content_of subject simple = content_by (form_of simple) subject simple
+
+-- a text in this encoding, of this size, which is read as this
+abbrev pub text_by : Option Encoding → Bool → Option TextSize → PadForm → Option TextContent → Option Primitive
+text_by (Some encoding) replaces (Some size) pad (Some content) =
+    Some (Text (record { encoding = encoding; replaces = replaces; size = size; pad = pad; content = content }))
+text_by _ replaces _ pad _ = None
+
+-- the component's values as texts
+abbrev pub text_of : Judged → Simple → Option Primitive
+text_of subject simple =
     text_by (encoding_told (told_at subject (codes "encoding"))) (is_replaced (told_at subject (codes "encodingErrorPolicy"))) (text_size subject)
-    (pad_of subject)
+    (pad_of subject) (content_of subject simple)
 
 -- bytes in this order of bits, in a box of so many
 abbrev pub octets_by : BitOrder → ℕ → Primitive

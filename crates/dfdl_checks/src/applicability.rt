@@ -4,18 +4,33 @@
 #[derive(Debug, Clone, Copy, PartialEq, Eq)]
 pub enum Bearers {
     EveryComponent,
+    /// All components but the types of length prefixes, whose framing is not asked for.
+    FramedComponents,
     Elements,
     /// Elements that are neither boxed elements nor binary numbers nor binary booleans.
     OtherElements,
     SimpleElements,
-    /// Simple elements but those of type string and hexBinary.
+    /// Simple elements and types of prefixes but those of type string and hexBinary.
     RepresentedElements,
-    /// Elements whose content stands in a box: those of type string and hexBinary, and complex elements.
+    /// Components whose content stands in a box: texts, elements of type hexBinary, and complex elements.
     BoxedElements,
     /// Elements of type string.
     Strings,
-    /// Elements of type string that are padded or trimmed by a pad character.
+    /// Strings, text booleans and text numbers that are padded or trimmed by a pad character.
     PaddedStrings,
+    PaddedBooleans,
+    PaddedNumbers,
+    /// Strings, text numbers and text booleans.
+    Texts,
+    TextNumbers,
+    TextBooleans,
+    /// Text numbers of the representation standard, and zoned ones.
+    StandardNumbers,
+    ZonedNumbers,
+    /// Text numbers with a pattern: zoned ones, and those in base ten.
+    PatternNumbers,
+    /// Text numbers and text booleans of another lengthKind than explicit.
+    LooseTexts,
     /// Simple elements of an integer or decimal type whose representation is binary.
     BinaryNumbers,
     /// Elements of type boolean whose representation is binary.
@@ -29,6 +44,8 @@ pub enum Bearers {
     ExplicitBoxes,
     /// Elements of type string and lengthKind implicit.
     ImplicitStrings,
+    /// Elements of lengthKind prefixed.
+    PrefixedElements,
     /// Binary numbers of the representation packed, which have a sign behind their digits.
     PackedNumbers,
     /// Binary numbers of type decimal.

@@ -15,6 +15,8 @@ pub enum Kind {
     UncarriedElement,
     Sequence,
     Choice,
+    /// The type of a length prefix, an integer type.
+    PrefixNumber(Simple),
 }
 
 /// What a component states besides its properties.
@@ -35,6 +37,17 @@ pub struct Facts {
     pub max_length: Option<u64>,
 }
 
+/// The type that a component's property prefixLengthType names.
+#[derive(Clone, Copy)]
+pub struct PrefixType<'s, 'e, 'c> {
+    /// The simple type that it comes to, if that is carried.
+    pub simple: Option<Simple>,
+    /// Its start tag.
+    pub place: Place,
+    /// What its properties are asked of.
+    pub chain: &'s Component<'e, 'c>,
+}
+
 /// A component of a schema, with what the rules ask of it.
 #[derive(Clone, Copy)]
 pub struct Subject<'s, 'e, 'c> {
@@ -48,6 +61,8 @@ pub struct Subject<'s, 'e, 'c> {
     pub facts: Facts,
     /// The order of bits of the schema's root.
     pub root_bits_by: BitOrder,
+    /// The type that its property prefixLengthType names, if it names one.
+    pub prefix: Option<PrefixType<'s, 'e, 'c>>,
 }
 
 /// A rule that a component breaks, by its cause, and where that is told.

@@ -1,5 +1,5 @@
 -- Components that differ in nothing that is asked of them: their elements give the same values, name by name.
-use Rattle.std.specs.Prelude.{◌≡◌, ℕ, List, Option, Some, None, ⊥}
+use Rattle.std.specs.Prelude.{◌≡◌, ℕ, List, Option, Some, None}
 use Rattle.std.specs.List.{AllZip}
 use Rattle.dfdl_scope.specs.Scoping.{Element}
 use Rattle.dfdl_checks.specs.Judged.{Judged, PrefixJudged}

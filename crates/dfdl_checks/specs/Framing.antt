@@ -14,7 +14,7 @@ use Rattle.dfdl_checks.specs.Values.{number_within}
 use Rattle.dfdl_checks.specs.declared.purpose.Purpose.{Purpose}
 use Rattle.dfdl_checks.specs.declared.purpose.Purpose.TheVariants.{Parsing, Unparsing}
 use Rattle.dfdl_checks.specs.declared.subject.Kind.{Kind}
-use Rattle.dfdl_checks.specs.declared.subject.Kind.TheVariants.{ComplexElement, SimpleElement, UncarriedElement, Sequence, Choice}
+use Rattle.dfdl_checks.specs.declared.subject.Kind.TheVariants.{ComplexElement, SimpleElement, UncarriedElement, Sequence, Choice, PrefixNumber}
 
 -- how many bits a unit of fill has, by what is told of the units: bytes, else bits
 abbrev pub fill_unit : Told → ℕ
@@ -65,6 +65,7 @@ implicit_alignment subject UncarriedElement = 8
 implicit_alignment subject ComplexElement = 1
 implicit_alignment subject Sequence = 1
 implicit_alignment subject Choice = 1
+implicit_alignment subject (PrefixNumber simple) = 1
 
 -- an alignment of the component that is a number, in bits
 abbrev pub explicit_alignment : Judged → ℕ

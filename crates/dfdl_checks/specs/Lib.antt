@@ -16,6 +16,7 @@ pub mod Applying
 pub mod Table
 pub mod TableShown
 pub mod Flaws
+pub mod BuiltTypes
 pub mod Texts
 pub mod Numbers
 pub mod Prefixes

@@ -3,13 +3,14 @@ use Rattle.std.specs.Prelude.{ℕ, List, [], ◌∷◌, Bool, true, false, not, 
 use Rattle.std.specs.Option.{option_map_or, option_or}
 use Rattle.dfdl_forms.specs.declared.packed.PackedRep.{PackedRep}
 use Rattle.dfdl_forms.specs.declared.simple.Simple.{Simple}
-use Rattle.dfdl_forms.specs.declared.simple.Simple.TheVariants.{Decimal, Integer, NonNegativeInteger, UnsignedByte, UnsignedShort, UnsignedInt, UnsignedLong}
+use Rattle.dfdl_forms.specs.declared.simple.Simple.TheVariants.{Decimal, Integer, NonNegativeInteger}
 use Rattle.dfdl_report.specs.declared.cause.SchemaCause.{SchemaCause}
 use Rattle.dfdl_report.specs.declared.cause.SchemaCause.TheVariants as causes
 use Rattle.dfdl_report.specs.declared.place.Place.{Place}
 use Rattle.dfdl_scope.specs.Scoping.{repeated_at}
 use Rattle.dfdl_scope.specs.Table.{names_of, property_table}
 use Rattle.dfdl_checks.specs.Booleans.{falsity_told, truth_told}
+use Rattle.dfdl_checks.specs.BuiltTypes.{is_built_type}
 use Rattle.dfdl_checks.specs.Boxes.{is_box_too_long, is_explicit_box, is_implicit_box}
 use Rattle.dfdl_checks.specs.Lengths.{constant_length, size_within}
 use Rattle.dfdl_checks.specs.Orders.{is_least_first, is_same_order, told_order}
@@ -24,29 +25,16 @@ use Rattle.dfdl_checks.specs.Subjects.{is_boxed, is_element, is_choice, is_binar
 use Rattle.dfdl_checks.specs.Flaws.{has_flaw}
 use Rattle.dfdl_checks.specs.declared.flaw.Flaw.TheVariants as flaws
 use Rattle.dfdl_checks.specs.declared.purpose.Purpose.{Purpose}
-use Rattle.dfdl_checks.specs.declared.purpose.Purpose.TheVariants.{Parsing, Unparsing}
 use Rattle.dfdl_checks.specs.declared.subject.Facts.{Facts}
 use Rattle.dfdl_checks.specs.declared.subject.Kind.{Kind}
 use Rattle.dfdl_checks.specs.declared.subject.Kind.TheVariants.{SimpleElement, UncarriedElement, PrefixNumber}
 use Rattle.dfdl_checks.specs.Judged.{Judged}
 use Rattle.dfdl_checks.specs.declared.subject.Breach.{Breach}
 
--- the unsigned integer types whose values have whole bytes
-abbrev pub is_whole_type : Simple → Bool
-is_whole_type UnsignedByte = true
-is_whole_type UnsignedShort = true
-is_whole_type UnsignedInt = true
-is_whole_type UnsignedLong = true
-is_whole_type _ = false
-
--- elements of these types are built: all for parsing
-abbrev pub is_built_type : Purpose → Simple → Bool
-is_built_type Parsing simple = true
-is_built_type Unparsing simple = is_whole_type simple
-
--- an element of a simple type that is carried, and built later
+-- an element of a simple type that is carried, or the type of a prefix, which is built later
 abbrev pub has_later_type : Purpose → Kind → Bool
 has_later_type purpose (SimpleElement simple) = not (is_built_type purpose simple)
+has_later_type purpose (PrefixNumber simple) = not (is_built_type purpose simple)
 has_later_type purpose _ = false
 
 -- an element that does not occur exactly once, may be nil or has a default

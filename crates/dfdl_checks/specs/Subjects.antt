@@ -1,9 +1,10 @@
 -- Which component it is, and what its properties are told to be.
-use Rattle.std.specs.Prelude.{ℕ, List, Bool, true, false, nat_lt, not, ◌&&◌, ◌||◌, codes}
+use Rattle.std.specs.Prelude.{ℕ, List, Bool, true, false, nat_lt, not, ◌&&◌, ◌||◌, Option, Some, None, codes}
 use Rattle.std.specs.Str.{bytes_eq}
 use Rattle.dfdl_forms.specs.Binary.{most_bits}
 use Rattle.dfdl_forms.specs.Types.{form_of}
 use Rattle.dfdl_forms.specs.declared.simple.Form.{Form}
+use Rattle.dfdl_forms.specs.declared.simple.Simple.{Simple}
 use Rattle.dfdl_forms.specs.declared.simple.Form.TheVariants.{Signed, Unsigned, Fixed, Characters, Truths, Octets}
 use Rattle.dfdl_scope.specs.Expressions.{literal}
 use Rattle.dfdl_scope.specs.Scoping.{Told, Value, Absent, Twice, told}
@@ -52,6 +53,12 @@ is_choice _ = false
 -- a sequence or a choice
 abbrev pub is_group : Kind → Bool
 is_group kind = is_sequence kind || is_choice kind
+
+-- the simple type of an element, or of the type of a prefix, where it is carried
+abbrev pub simple_of : Kind → Option Simple
+simple_of (SimpleElement simple) = Some simple
+simple_of (PrefixNumber simple) = Some simple
+simple_of _ = None
 
 -- values of this form are texts
 abbrev pub is_characters : Form → Bool
@@ -193,6 +200,6 @@ is_standard subject = is_text_number subject && not (is_told subject (codes "tex
 abbrev pub is_boxed : Judged → Bool
 is_boxed subject = is_text subject || is_hex_binary subject.kind || is_complex subject.kind
 
--- an element with a length prefix
+-- what is no group has a length prefix
 abbrev pub is_prefixed : Judged → Bool
-is_prefixed subject = is_element subject.kind && is_told subject (codes "lengthKind") (codes "prefixed")
+is_prefixed subject = not (is_group subject.kind) && is_told subject (codes "lengthKind") (codes "prefixed")

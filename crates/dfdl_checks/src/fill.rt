@@ -107,7 +107,7 @@ fn implicit_alignment(subject: &Subject<'_, '_, '_>, kind: Kind) -> u32
     match kind {
         Kind::SimpleElement(simple) => simple_alignment(subject, simple),
         Kind::UncarriedElement => 8,
-        Kind::ComplexElement | Kind::Sequence | Kind::Choice => 1,
+        Kind::ComplexElement | Kind::Sequence | Kind::Choice | Kind::PrefixNumber(_) => 1,
     }
 }
 

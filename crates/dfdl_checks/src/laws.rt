@@ -1,5 +1,6 @@
 // Laws of the definitions that the contracts cite. The calls do nothing.
-ghost use Rattle.std.specs.Prelude.{◌≡◌, ℕ, List, ◌≤◌, Some, None, IsTrue, IsSome, codes};
+ghost use Rattle.std.specs.Prelude.{◌≡◌, ◌||◌, ℕ, List, ◌≤◌, Some, None, IsTrue, IsSome, codes};
+ghost use Rattle.dfdl_forms.specs.Types.{form_of};
 ghost use Rattle.dfdl_forms.specs.declared.encoding.Encoding.{Encoding};
 ghost use Rattle.dfdl_terms.specs.Rows.{IsPrimitive, most_length};
 ghost use Rattle.dfdl_terms.specs.declared.row.Primitive.{Primitive};
@@ -10,33 +11,48 @@ ghost use Rattle.dfdl_checks.specs.Encodings.{encoding_told};
 ghost use Rattle.dfdl_checks.specs.Forms.{IsWhole};
 ghost use Rattle.dfdl_checks.specs.Framing.{framing_of};
 ghost use Rattle.dfdl_checks.specs.Judged.{Judged};
-ghost use Rattle.dfdl_checks.specs.Numbers.{IsBinaryValue, IsStringOrBytesValue, primitive_of, type_of};
-ghost use Rattle.dfdl_checks.specs.Pads.{has_character, is_padded_string, pad_at, single};
-ghost use Rattle.dfdl_checks.specs.Rules.{first_breach, rules};
-ghost use Rattle.dfdl_checks.specs.Subjects.{is_represented, is_simple, is_string_or_bytes, told_at};
+ghost use Rattle.dfdl_checks.specs.Numbers.{IsBinaryValue, IsTextOrBytesValue, primitive_of, type_of};
+ghost use Rattle.dfdl_checks.specs.Pads.{has_character, is_padded_text, pad_at, single};
+ghost use Rattle.dfdl_checks.specs.Prefixes.{is_integer, prefix_of};
+ghost use Rattle.dfdl_checks.specs.Rules.{breach_of_component, first_breach, rules};
+ghost use Rattle.dfdl_checks.specs.Subjects.{is_binary, is_hex_binary, is_prefixed, is_simple, is_text, simple_of, told_at};
+ghost use Rattle.dfdl_checks.specs.declared.prefixes.PrefixForm.{PrefixForm};
 ghost use Rattle.dfdl_checks.specs.declared.purpose.Purpose.TheVariants.{Parsing, Unparsing};
-ghost use Rattle.dfdl_checks.specs.declared.subject.Kind.TheVariants.{ComplexElement, SimpleElement};
+ghost use Rattle.dfdl_checks.specs.declared.subject.Kind.TheVariants.{ComplexElement};
 
-/// A simple element without a breach has a primitive. The properties of one with a representation are
-/// those of a binary number or boolean, and those of every other one are those of a string or of bytes.
+/// A simple element without a breach has a primitive, and so has the type of a prefix. The properties of a binary number or
+/// boolean are those of one, and those of a text or of bytes are theirs.
 pub fn sound_elements_have_primitives()
     ensures primitive { (j : Judged) → first_breach rules j ≡ None → IsTrue (is_simple j.kind) → IsSome (primitive_of j) }
-    ensures properties { (j : Judged) → first_breach rules j ≡ None → IsTrue (is_represented j.kind) → IsBinaryValue j }
-    ensures others { (j : Judged) → first_breach rules j ≡ None → IsTrue (is_string_or_bytes j.kind) → IsStringOrBytesValue j }
+    ensures binary { (j : Judged) → first_breach rules j ≡ None → IsTrue (is_binary j) → IsBinaryValue j }
+    ensures others { (j : Judged) → first_breach rules j ≡ None → IsTrue (is_text j || is_hex_binary j.kind) → IsTextOrBytesValue j }
 {}
 
-/// A string without a breach that is padded or trimmed has a single pad character, one of its encoding.
-pub fn sound_strings_have_pad_characters()
-    ensures single { (j : Judged) → first_breach rules j ≡ None → IsTrue (is_padded_string j) → IsSome (single (pad_at j)) }
-    ensures encoded { (j : Judged) (e : Encoding) (c : ℕ) → first_breach rules j ≡ None → IsTrue (is_padded_string j)
+/// A text without a breach that is padded or trimmed has a single pad character, one of its encoding.
+pub fn sound_texts_have_pad_characters()
+    ensures single { (j : Judged) → first_breach rules j ≡ None → IsTrue (is_padded_text j) → IsSome (single (pad_at j)) }
+    ensures encoded { (j : Judged) (e : Encoding) (c : ℕ) → first_breach rules j ≡ None → IsTrue (is_padded_text j)
         → encoding_told (told_at j (codes "encoding")) ≡ Some e → single (pad_at j) ≡ Some c → IsTrue (has_character e c) }
 {}
 
-/// A component with a primitive, whether it breaks rules or not, is an element of the primitive's type,
-/// and the primitive keeps the bounds of that type.
+/// An element with a length prefix has, where neither it nor the type of its prefix has a breach, a prefix for parsing.
+pub fn sound_elements_have_prefixes()
+    ensures { (j : Judged) → breach_of_component j ≡ None → j.purpose ≡ Parsing → IsTrue (is_prefixed j) → IsSome (prefix_of j) }
+{}
+
+/// A component with a primitive, whether it breaks rules or not, is an element of the primitive's type, or a prefix of it, and
+/// the primitive keeps the bounds of that type.
 pub fn primitives_are_bounded()
     ensures bounded { (j : Judged) (p : Primitive) → primitive_of j ≡ Some p → IsPrimitive p }
-    ensures kind { (j : Judged) (p : Primitive) → primitive_of j ≡ Some p → j.kind ≡ SimpleElement (type_of p) }
+    ensures kind { (j : Judged) (p : Primitive) → primitive_of j ≡ Some p → simple_of j.kind ≡ Some (type_of p) }
+{}
+
+/// A length prefix, whether its component breaks rules or not, is read as an integer, by a primitive that keeps its bounds, and
+/// for parsing alone.
+pub fn prefixes_are_bounded()
+    ensures bounded { (j : Judged) (f : PrefixForm) → prefix_of j ≡ Some f → IsPrimitive f.primitive }
+    ensures integer { (j : Judged) (f : PrefixForm) → prefix_of j ≡ Some f → IsTrue (is_integer (form_of (type_of f.primitive))) }
+    ensures parsing { (j : Judged) → j.purpose ≡ Unparsing → prefix_of j ≡ None }
 {}
 
 /// The primitives that are built for unparsing are whole unsigned integers.
@@ -54,13 +70,14 @@ pub fn boxes_are_bounded()
     ensures sound { (j : Judged) → first_breach rules j ≡ None → j.purpose ≡ Parsing → IsTrue (is_explicit_complex j) → IsSome (size_of_box j) }
 {}
 
-/// Components whose chains give the same, name by name, have the same first breach, the same primitive,
-/// the same fill and the same box.
+/// Components whose chains give the same, name by name, and those of the types of their prefixes, have the same breach, the same
+/// primitive, the same fill, the same box and the same prefix.
 pub fn alike_components_are_judged_alike()
-    ensures breach { (a b : Judged) → IsAlike a b → first_breach rules a ≡ first_breach rules b }
+    ensures breach { (a b : Judged) → IsAlike a b → breach_of_component a ≡ breach_of_component b }
     ensures primitive { (a b : Judged) → IsAlike a b → primitive_of a ≡ primitive_of b }
     ensures framing { (a b : Judged) → IsAlike a b → framing_of a ≡ framing_of b }
     ensures size { (a b : Judged) → IsAlike a b → size_of_box a ≡ size_of_box b }
+    ensures prefix { (a b : Judged) → IsAlike a b → prefix_of a ≡ prefix_of b }
 {}
 
 /// Chains that give the same, name by name, tell the same of each property.

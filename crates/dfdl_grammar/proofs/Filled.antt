@@ -1,51 +1,38 @@
 -- Where a row is done, the elements that began in it are read.
-use Rattle.std.proofs.Common.{◌≡◌, ℕ, zero, suc, ◌+◌, ◌*◌, ◌/◌, ◌%◌, ◌<◌, ◌≤◌, ◌⊎◌, inl, inr, refl, List, [], ◌∷◌, ◌++◌, length, get_or, Bool, true, false, cond, leb, ltb, ◌-◌, nat_eq, nat_lt, Option, Some, None, Result, Ok, Err, All, nat_le, ap, sym, subst, ◌∙◌, arith, length-append}
+use Rattle.std.proofs.Common.{◌≡◌, ℕ, zero, suc, ◌+◌, ◌*◌, ◌/◌, ◌<◌, ◌≤◌, ◌⊎◌, inl, inr, refl, List, [], ◌∷◌, ◌++◌, length, Bool, true, false, cond, ◌-◌, nat_eq, nat_lt, Option, Some, None, All, nat_le, ap, sym, subst, ◌∙◌, arith, length-append}
 use Rattle.std.specs.Prelude.{slice_get}
 use Rattle.std.proofs.lemmas.Option.{get_or_from_slice_get, slice_get_within}
 use Rattle.dfdl_bits.specs.declared.window.Seen.{Seen}
-use Rattle.dfdl_bits.specs.declared.window.Seen.TheVariants.{Byte, End as DataEnded, NotYet, Over}
-use Rattle.dfdl_int_binary.specs.Integers.{field_of, integer_reading}
-use Rattle.dfdl_int_binary.specs.Truths.{truth_field_of, truth_reading}
-use Rattle.dfdl_packed.specs.Packed.{nibbles_in, packed_reading}
-use Rattle.dfdl_packed.specs.declared.fault.PackedFault.{PackedFault}
-use Rattle.dfdl_packed.specs.declared.fault.PackedFault.TheVariants.{BadNibble, PastType}
-use Rattle.dfdl_value.specs.declared.value.Value.{Value}
-use Rattle.dfdl_value.specs.declared.value.Value.TheVariants.{Int, Uns, Dec, Text, Truth as TruthValue, Bytes}
-use Rattle.dfdl_report.specs.declared.cause.ParseCause.TheVariants.{DataEnds, LengthOutOfRange, NotFilled}
+use Rattle.dfdl_report.specs.declared.cause.ParseCause.TheVariants.{LengthOutOfRange}
 use Rattle.dfdl_report.specs.declared.cause.LimitCause.TheVariants.{Nodes, Text as TextLimit}
 use Rattle.dfdl_terms.specs.declared.row.Primitive.{Primitive}
-use Rattle.dfdl_terms.specs.declared.row.Primitive.TheVariants.{Integer, Packed, Truth, Octets, Text as Characters}
 use Rattle.dfdl_terms.specs.declared.row.Row.{Row}
-use Rattle.dfdl_terms.specs.declared.row.Row.TheVariants.{Leaf, Elem, Group, Skip, Align, Boxed}
-use Rattle.dfdl_terms.specs.Leaves.{ReadsBy, leaf as by_leaf, grouped}
+use Rattle.dfdl_terms.specs.declared.row.Row.TheVariants.{Leaf, Elem, Group, Skip, Align, Boxed, PrefixedLeaf, PrefixedBox}
+use Rattle.dfdl_terms.specs.Leaves.{ReadsBy, leaf as by_leaf, prefixed as by_prefix, grouped}
 use Rattle.dfdl_terms.specs.Rows.{Table, Nests}
 use Rattle.dfdl_region.specs.declared.node.Node.{Node}
 use Rattle.dfdl_region.specs.declared.node.Content.{Content}
 use Rattle.dfdl_region.specs.declared.node.Content.TheVariants.{Begun, Complex}
 use Rattle.dfdl_region.specs.declared.node.Content.TheVariants as content
-use Rattle.dfdl_terms.specs.declared.text.OctetForm.{OctetForm}
-use Rattle.dfdl_terms.specs.declared.text.TextForm.{TextForm}
 use Rattle.dfdl_terms.specs.declared.text.TextSize.{TextSize}
-use Rattle.dfdl_terms.specs.declared.text.TextSize.TheVariants.{Bits, Characters as Counted}
-use Rattle.dfdl_texts.specs.Texts.{Text as TextRead, Reads as DoesRead, HasBad, IsCut, IsBoxed, text_at}
-use Rattle.dfdl_texts.specs.declared.extent.Extent.TheVariants as extent
 use Rattle.dfdl_region.specs.Nodes.{with_content}
-use Rattle.dfdl_looks.specs.Asks.{Ask, Answer, Look, Reached, Told, TooFar, Missing, Reading, and_then, ask, go_on, look_at}
+use Rattle.dfdl_looks.specs.Asks.{Ask, Reached, Told, TooFar, Missing, ask}
 use Rattle.dfdl_looks.specs.Looks.{seen_in}
-use Rattle.dfdl_looks.specs.Tallies.{Tally, nothing, one_row, saw_byte, saw_end}
-use Rattle.dfdl_looks.proofs.Resumed.{on_seen}
-use Rattle.dfdl_looks.proofs.Sequels.{ask-then}
+use Rattle.dfdl_looks.specs.Tallies.{nothing, one_row}
 use Rattle.dfdl_grammar.specs.declared.end.End.{End}
 use Rattle.dfdl_grammar.specs.declared.end.End.TheVariants.{Done, Failed, Stopped}
 use Rattle.dfdl_grammar.specs.States.{Input, State, anchor, anchor_at, front}
 use Rattle.dfdl_grammar.specs.Outcomes.{Outcome, ended, follow, spend, then_do}
-use Rattle.dfdl_grammar.specs.Leaves.{Find, Fails, Finds, FindsOctets, FindsText, bits_of, boxed_text, bytes_spanned, content_begins, field, find_in, find_of, has_room, land, leaf, octets, packed_find, program, text_begins, text_find, text_of_size, truth_find}
+use Rattle.dfdl_grammar.specs.Leaves.{Find, Fails, Finds, FindsOctets, FindsText, content_begins, has_room, land, leaf, program}
 use Rattle.dfdl_grammar.specs.Framing.{aligned, fill_to, has_byte, passed}
-use Rattle.dfdl_grammar.specs.Boxes.{bytes_up_to, pass_bytes, past_byte, rest as rest_of, unboxed}
+use Rattle.dfdl_grammar.specs.Boxes.{boxed, bytes_up_to, pass_bytes, past_byte, rest as rest_of, unboxed}
 use Rattle.dfdl_grammar.specs.Elements.{begun, close, left}
+use Rattle.dfdl_grammar.specs.Prefixes.{bits_of_units, leaf_of, prefixed, prefixed_leaf, resized, size_of, sized_leaf}
 use Rattle.dfdl_grammar.specs.Rows.{below, group, meaning, row, row_at}
 use Rattle.dfdl_grammar.specs.Trees.{AreRead, HasLeaves, IsInTables}
 use Rattle.dfdl_grammar.proofs.Towers.{below-meaning}
+use Rattle.dfdl_grammar.proofs.Found.{value, whole-told}
+use Rattle.dfdl_grammar.proofs.Prefixed.{prefixed-comes}
 use Rattle.dfdl_grammar.proofs.Trees.{content-length}
 
 same_at : (nodes : List Node) (number : ℕ) (content : Content) (node : Node) → slice_get (with_content nodes number content) number ≡ Some node → node.content ≡ content
@@ -124,123 +111,6 @@ put s at text content read =
         | inr apart ↦ record { old = node; there = other_at s.nodes s.inside i content node apart is; unread = unread }
       ];
     }
-
--- what a program over a stretch finds is what it makes of some bytes
-pub record Made (go : List ℕ → Find) (found : Find) : Type 0 where
-  pub bytes : List ℕ
-  pub is : go bytes ≡ found
-
-module _ (look : ℕ → Seen) (found : Find) (apart : Fails DataEnds ≡ found → ⊥) where
-  step-made : (count k : ℕ) (go : List ℕ → Find) (t : Tally)
-      → ((more : List ℕ → Find) (u : Tally) → (ask look (look_at count (k + 1) (Fails DataEnds) more) u).reached ≡ Told found → Made more found)
-      → (s : Seen)
-      → (on_seen look (λ o. elim o as (λ _. Ask Find) [ None ↦ Answer (Fails DataEnds) | Some b ↦ look_at count (k + 1) (Fails DataEnds) (λ bytes. go (b ∷ bytes)) ]) k t s).reached ≡ Told found
-      → Made go found
-  step-made count k go t more (Byte b) is =
-      let made = more (λ bytes. go (b ∷ bytes)) (saw_byte k t) is in record { bytes = b ∷ made.bytes; is = made.is }
-  step-made count k go t more DataEnded is = let same : Fails DataEnds ≡ found = cc in absurd (apart same)
-  step-made count k go t more NotYet is = absurd (cc)
-  step-made count k go t more Over is = absurd (cc)
-
-  pub made : (count k : ℕ) (go : List ℕ → Find) (t : Tally) → (ask look (look_at count k (Fails DataEnds) go) t).reached ≡ Told found → Made go found
-  made zero k go t is = let same : go [] ≡ found = cc in record { bytes = []; is = same }
-  made (suc count) k go t is = step-made count k go t (λ more u found. made count (k + 1) more u found) (look k) is
-
--- what a value is found as isn't a beginning
-read_of : (bits : ℕ) (v : Option Value) (content : Content) (n : ℕ) → find_of bits v ≡ Finds content n → content ≡ Begun → ⊥
-read_of bits None content n is unread = absurd (cc)
-read_of bits (Some (Int z)) content n is unread = absurd (cc)
-read_of bits (Some (Uns number)) content n is unread = absurd (cc)
-read_of bits (Some (Dec d)) content n is unread = absurd (cc)
-read_of bits (Some (Text text)) content n is unread = absurd (cc)
-read_of bits (Some (TruthValue truth)) content n is unread = absurd (cc)
-read_of bits (Some (Bytes bytes)) content n is unread = absurd (cc)
-
-packed_read : (bits : ℕ) (r : Result Value PackedFault) (content : Content) (n : ℕ) → packed_find bits r ≡ Finds content n → content ≡ Begun → ⊥
-packed_read bits (Ok v) content n is unread = read_of bits (Some v) content n is unread
-packed_read bits (Err BadNibble) content n is unread = absurd (cc)
-packed_read bits (Err PastType) content n is unread = absurd (cc)
-
-truth_read : (bits : ℕ) (r : Option Bool) (content : Content) (n : ℕ) → truth_find bits r ≡ Finds content n → content ≡ Begun → ⊥
-truth_read bits (Some truth) content n is unread = absurd (cc)
-truth_read bits None content n is unread = absurd (cc)
-
-found_read : (primitive : Primitive) (before : ℕ) (bytes : List ℕ) (content : Content) (n : ℕ) → find_in primitive before bytes ≡ Finds content n → content ≡ Begun → ⊥
-found_read (Integer form) before bytes content n is unread = read_of form.bits (integer_reading form (field_of form bytes before)) content n is unread
-found_read (Packed form) before bytes content n is unread = packed_read (4 * form.nibbles) (packed_reading form (nibbles_in form bytes before)) content n is unread
-found_read (Truth form) before bytes content n is unread = truth_read form.bits (truth_reading form (truth_field_of form bytes before)) content n is unread
-found_read (Octets form) before bytes content n is unread = absurd (cc)
-found_read (Characters form) before bytes content n is unread = absurd (cc)
-
--- what is found of a primitive is a value
-field_value : (look : ℕ → Seen) (primitive : Primitive) (bit : ℕ) (content : Content) (bits : ℕ)
-    → (ask look (field primitive bit) nothing).reached ≡ Told (Finds content bits) → content ≡ Begun → ⊥
-field_value look primitive bit content bits is unread =
-    let here = made look (Finds content bits) (λ same. absurd (cc)) (bytes_spanned bit (bits_of primitive)) (bit / 8) (find_in primitive (bit % 8)) nothing is in
-    found_read primitive (bit % 8) here.bytes content bits here.is unread
-
--- what is found of a hexBinary is no value of a number
-octets_value : (look : ℕ → Seen) (form : OctetForm) (bit : ℕ) (content : Content) (bits : ℕ) (none whole : Bool)
-    → (ask look (cond none (Answer (FindsOctets [] 0)) (cond whole (field (Octets form) bit) (Answer (Fails NotFilled)))) nothing).reached
-    ≡ Told (Finds content bits) → content ≡ Begun → ⊥
-octets_value look form bit content bits true whole is unread = absurd (cc)
-octets_value look form bit content bits false true is unread = field_value look (Octets form) bit content bits is unread
-octets_value look form bit content bits false false is unread = absurd (cc)
-
--- what is found of the characters of a text is none either
-text_value : (form : TextForm) (bit : ℕ) (look : ℕ → Seen) (content : Content) (bits : ℕ) (r : Reached TextRead) (t : Tally)
-    → (go_on look (λ (text : TextRead). Answer (text_find form bit text)) r t).reached ≡ Told (Finds content bits) → content ≡ Begun → ⊥
-text_value form bit look content bits (Told (DoesRead chars end)) t is unread = absurd (cc)
-text_value form bit look content bits (Told HasBad) t is unread = absurd (cc)
-text_value form bit look content bits (Told IsCut) t is unread = absurd (cc)
-text_value form bit look content bits (Told IsBoxed) t is unread = absurd (cc)
-text_value form bit look content bits TooFar t is unread = absurd (cc)
-text_value form bit look content bits Missing t is unread = absurd (cc)
-
-then_value : (form : TextForm) (bit : ℕ) (look : ℕ → Seen) (content : Content) (bits : ℕ) (a : Ask TextRead)
-    → (ask look (and_then a (λ (text : TextRead). Answer (text_find form bit text))) nothing).reached ≡ Told (Finds content bits) → content ≡ Begun → ⊥
-then_value form bit look content bits a is unread =
-    let whole = ask-then look (λ (text : TextRead). Answer (text_find form bit text)) a nothing in
-    text_value form bit look content bits (ask look a nothing).reached (ask look a nothing).tally
-    (sym (ap (λ (r : Reading Find). r.reached) whole) ∙ is) unread
-
-boxed_value : (form : TextForm) (bit first end : ℕ) (look : ℕ → Seen) (content : Content) (bits : ℕ) (whole : Bool)
-    → (ask look (cond whole
-    (and_then (text_at form.encoding form.replaces extent.Box end (first / 8)) (λ (text : TextRead). Answer (text_find form bit text)))
-    (Answer (Fails NotFilled))) nothing).reached ≡ Told (Finds content bits) → content ≡ Begun → ⊥
-boxed_value form bit first end look content bits true is unread =
-    then_value form bit look content bits (text_at form.encoding form.replaces extent.Box end (first / 8)) is unread
-boxed_value form bit first end look content bits false is unread = absurd (cc)
-
-sized_value : (form : TextForm) (size : TextSize) (bit stop : ℕ) (look : ℕ → Seen) (content : Content) (bits : ℕ)
-    → (ask look (text_of_size form size bit stop) nothing).reached ≡ Told (Finds content bits) → content ≡ Begun → ⊥
-sized_value form (Bits n) bit stop look content bits is unread =
-    let first : ℕ = text_begins (Bits n) bit in
-    boxed_value form bit first (bit + n) look content bits (nat_eq ((bit + n - first) % 8) 0) is unread
-sized_value form (Counted n) bit stop look content bits is unread =
-    then_value form bit look content bits (text_at form.encoding form.replaces (extent.Characters n) stop (aligned 8 bit / 8)) is unread
-
-value : (look : ℕ → Seen) (primitive : Primitive) (bit stop : ℕ) (content : Content) (bits : ℕ)
-    → (ask look (program primitive bit stop) nothing).reached ≡ Told (Finds content bits) → content ≡ Begun → ⊥
-value look (Integer form) bit stop content bits is unread = field_value look (Integer form) bit content bits is unread
-value look (Packed form) bit stop content bits is unread = field_value look (Packed form) bit content bits is unread
-value look (Truth form) bit stop content bits is unread = field_value look (Truth form) bit content bits is unread
-value look (Octets form) bit stop content bits is unread =
-    octets_value look form bit content bits (nat_eq form.bits 0) (nat_eq (form.bits % 8) 0) is unread
-value look (Characters form) bit stop content bits is unread = sized_value form form.size bit stop look content bits is unread
-
--- whole data have no byte that hasn't come
-no-missing : {F : Type 0} (bytes : List ℕ) (size low : ℕ) (go : Option ℕ → Ask F) (k : ℕ) (t : Tally)
-    → ((o : Option ℕ) (u : Tally) → (ask (seen_in bytes size low) (go o) u).reached ≡ Missing → ⊥)
-    → (over inside : Bool) → (on_seen (seen_in bytes size low) go k t (cond over Over (cond inside (Byte (get_or bytes k 0)) DataEnded))).reached ≡ Missing → ⊥
-no-missing bytes size low go k t more true inside missing = absurd (cc)
-no-missing bytes size low go k t more false true missing = more (Some (get_or bytes k 0)) (saw_byte k t) missing
-no-missing bytes size low go k t more false false missing = more None (saw_end k t) missing
-
-whole-told : {F : Type 0} (bytes : List ℕ) (size low : ℕ) (a : Ask F) (t : Tally) → (ask (seen_in bytes size low) a t).reached ≡ Missing → ⊥
-whole-told bytes size low (Answer f) t missing = absurd (cc)
-whole-told bytes size low (Look k go) t missing =
-    no-missing bytes size low go k t (λ o u more. whole-told bytes size low (go o) u more) (leb size (k - low)) (ltb k (length bytes)) missing
 
 -- what a row does where it is done
 abbrev Fills : (State → Outcome) → Type 0
@@ -327,12 +197,12 @@ module _ (input : Input) (table : Table) (leaves : HasLeaves table) where
       put_read s end (s.text ++ bytes) (made (length s.text) (length bytes)) (read (length s.text) (length bytes))
   hold-reads made bytes end s read false done = absurd (cc)
 
-  land-reads : (first : ℕ) (reached : Reached Find) (s : State) → ((content : Content) (bits : ℕ) → reached ≡ Told (Finds content bits) → content ≡ Begun → ⊥)
+  land-reads : (first : ℕ) (reached : Reached Find) (s : State) → ((content : Content) (end : ℕ) → reached ≡ Told (Finds content end) → content ≡ Begun → ⊥)
       → (reached ≡ Missing → ⊥) → (land input.limits first reached s).end ≡ Done → IsRead s (land input.limits first reached s).state
   land-reads first (Told (Fails cause)) s read here done = absurd (cc)
-  land-reads first (Told (Finds content bits)) s read here done = put_read s (s.at + bits) s.text content (read content bits refl)
-  land-reads first (Told (FindsOctets bytes bits)) s read here done =
-      hold-reads content.Octets bytes (s.at + bits) s (λ from len same. absurd (cc)) (nat_le (length s.text + length bytes) input.limits.text) done
+  land-reads first (Told (Finds content end)) s read here done = put_read s end s.text content (read content end refl)
+  land-reads first (Told (FindsOctets bytes end)) s read here done =
+      hold-reads content.Octets bytes end s (λ from len same. absurd (cc)) (nat_le (length s.text + length bytes) input.limits.text) done
   land-reads first (Told (FindsText bytes end)) s read here done =
       hold-reads content.Text bytes end s (λ from len same. absurd (cc)) (nat_le (length s.text + length bytes) input.limits.text) done
   land-reads first TooFar s read here done = absurd (cc)
@@ -351,7 +221,7 @@ module _ (input : Input) (table : Table) (leaves : HasLeaves table) where
       let a : Ask Find = program primitive s.at s.stop in
       let look : ℕ → Seen = seen_in input.bytes input.limits.window (anchor s) in
       land-reads (content_begins primitive s.at) (ask look a nothing).reached s
-      (λ content bits is. value look primitive s.at s.stop content bits is)
+      (λ content end is. value look primitive s.at s.stop content end is)
       (λ missing. whole-told input.bytes input.limits.window (anchor s) a nothing missing) done
   room-reads primitive s false done = absurd (cc)
 
@@ -361,6 +231,35 @@ module _ (input : Input) (table : Table) (leaves : HasLeaves table) where
   leaf-fills : (primitive : Option Primitive) → Fills (leaf input primitive)
   leaf-fills None s done = fine s
   leaf-fills (Some primitive) s done = (leaf-reads primitive s done).fine
+
+  -- a leaf of another size
+  of-reads : (primitive : Option Primitive) → Reads (leaf_of input primitive)
+  of-reads None s done = absurd (cc)
+  of-reads (Some primitive) s done = leaf-reads primitive s done
+
+  sized-reads : (primitive : Primitive) (size : TextSize) → Reads (sized_leaf input (Some primitive) size)
+  sized-reads primitive size s done = of-reads (resized size primitive) s done
+
+  sized-fills : (primitive : Option Primitive) (size : TextSize) → Fills (sized_leaf input primitive size)
+  sized-fills None size s done = fine s
+  sized-fills (Some primitive) size s done = (sized-reads primitive size s done).fine
+
+  -- a prefix, and what it tells the size of
+  prefixed-fills : (by : Option Primitive) (own : ℕ) (next : ℕ → State → Outcome) → ((units : ℕ) → Fills (next units)) → Fills (prefixed input by own next)
+  prefixed-fills by own next fills s =
+      prefixed-comes (λ (e : End) (t : State). e ≡ Done → Fine s t) s (λ cause bit done. absurd (cc)) (λ cause quantity done. absurd (cc)) next
+      (λ units at done.
+      let after : State = record s { at = at } in
+      both s after (next units after).state (moved s at s.stop) (fills units after done))
+      input by own
+
+  prefixed-reads : (by : Option Primitive) (own : ℕ) (next : ℕ → State → Outcome) → ((units : ℕ) → Reads (next units)) → Reads (prefixed input by own next)
+  prefixed-reads by own next reads s =
+      prefixed-comes (λ (e : End) (t : State). e ≡ Done → IsRead s t) s (λ cause bit done. absurd (cc)) (λ cause quantity done. absurd (cc)) next
+      (λ units at done.
+      let after : State = record s { at = at } in
+      read_behind s after (next units after).state (moved s at s.stop) (reads units after done))
+      input by own
 
   passed-fills : (to : ℕ) (reached : Reached Bool) (s : State) → (passed input.limits.window to reached s).end ≡ Done
       → Fine s (passed input.limits.window to reached s).state
@@ -500,6 +399,13 @@ module _ (input : Input) (table : Table) (leaves : HasLeaves table) where
         let same : below input table n id s ≡ spend one_row (leaf input (Some primitive) s) =
         row-below n id (Some (Leaf prim)) less row_is s ∙ ap (λ (p : Option Primitive). spend one_row (leaf input p s)) primitive_is in
         subst (λ (o : Outcome). IsRead s o.state) (sym same) (leaf-reads primitive s (ap (λ (o : Outcome). o.end) (sym same) ∙ done))
+    reads-below n fills _ less (by_prefix id prim prefix row_is (primitive, primitive_is)) s done =
+        let by : Option Primitive = slice_get table.primitives prefix.prim in
+        let same : below input table n id s ≡ spend one_row (prefixed_leaf input by prefix (Some primitive) s) =
+        row-below n id (Some (PrefixedLeaf prefix prim)) less row_is s ∙ ap (λ (p : Option Primitive). spend one_row (prefixed_leaf input by prefix p s)) primitive_is in
+        subst (λ (o : Outcome). IsRead s o.state) (sym same)
+        (prefixed-reads by prefix.own (λ units after. sized_leaf input (Some primitive) (size_of prefix.unit units) after)
+        (λ units. sized-reads primitive (size_of prefix.unit units)) s (ap (λ (o : Outcome). o.end) (sym same) ∙ done))
     reads-below n fills _ less (grouped id at child children row_is at_is inner) s done =
         let same : below input table n id s ≡ spend one_row (group (below input table id) children s) = row-below n id (Some (Group children)) less row_is s in
         let all : All (λ c. c < id) children = nests id (Group children) (slice_get_within table.rows id (Group children) row_is) row_is in
@@ -523,6 +429,17 @@ module _ (input : Input) (table : Table) (leaves : HasLeaves table) where
     row-fills id fills (Some (Align bits)) is s done = pass-fills (aligned bits s.at) s (nat_le (aligned bits s.at) s.at) (nat_le (aligned bits s.at) s.stop) done
     row-fills id fills (Some (Boxed bits body)) is s done =
         boxed-fills bits (below input table id body) (fills id (omega arith) body) s (nat_le (s.at + bits) s.stop) done
+    row-fills id fills (Some (PrefixedLeaf prefix prim)) is s done =
+        let primitive : Option Primitive = slice_get table.primitives prim in
+        prefixed-fills (slice_get table.primitives prefix.prim) prefix.own
+        (λ units after. sized_leaf input primitive (size_of prefix.unit units) after)
+        (λ units. sized-fills primitive (size_of prefix.unit units)) s done
+    row-fills id fills (Some (PrefixedBox prefix body)) is s done =
+        let inner : State → Outcome = below input table id body in
+        prefixed-fills (slice_get table.primitives prefix.prim) prefix.own
+        (λ units after. boxed input (bits_of_units prefix.unit units) inner after)
+        (λ units after. boxed-fills (bits_of_units prefix.unit units) inner (fills id (omega arith) body) after
+        (nat_le (after.at + bits_of_units prefix.unit units) after.stop)) s done
 
     choice-fills : (n id : ℕ) → FillBelow n → (s : State) (test : Bool)
         → (cond test (row_at input table (below input table n) n s) (below input table n id s)).end ≡ Done

@@ -1,16 +1,20 @@
 -- The bytes of the values of a document's elements stay there, and those of its strings stay UTF-8, whatever the rows do.
-use Rattle.std.proofs.Common.{◌≡◌, ◌⊎◌, inl, inr, ℕ, zero, suc, ◌+◌, ◌-◌, ◌*◌, ◌/◌, ◌%◌, ◌<◌, ◌≤◌, refl, List, [], ◌∷◌, ◌++◌, length, get_or, Bool, true, false, cond, leb, ltb, nat_eq, nat_le, nat_lt, Option, Some, None, Result, Ok, Err, All, ap, sym, subst, ◌∙◌, arith, IsUtf8, length-append}
+use Rattle.std.proofs.Common.{◌≡◌, ◌⊎◌, inl, inr, ℕ, zero, suc, ◌+◌, ◌-◌, ◌*◌, ◌/◌, ◌%◌, ◌<◌, refl, List, [], ◌∷◌, ◌++◌, length, get_or, Bool, true, false, cond, leb, ltb, nat_eq, nat_le, nat_lt, Option, Some, None, Result, Ok, Err, All, ap, sym, subst, ◌∙◌, arith, IsUtf8, length-append}
 use Rattle.std.proofs.lemmas.Bool.Decides.{nat_tests}
 use Rattle.std.proofs.lemmas.List.Elements.{All-append}
 use Rattle.std.proofs.lemmas.Str.{IsUtf8-nil}
 use Rattle.std.specs.Prelude.{slice_get}
 use Rattle.dfdl_bits.specs.declared.window.Seen.{Seen}
-use Rattle.dfdl_bits.specs.declared.window.Seen.TheVariants.{Byte, End as DataEnded, NotYet, Over}
+use Rattle.dfdl_bits.specs.declared.window.Seen.TheVariants.{Byte, End as DataEnded, Over}
 use Rattle.dfdl_int_binary.specs.Integers.{field_of, integer_reading}
 use Rattle.dfdl_int_binary.specs.Truths.{truth_field_of, truth_reading}
 use Rattle.dfdl_packed.specs.Packed.{nibbles_in, packed_reading}
+use Rattle.dfdl_packed.specs.Zoned.{zoned_reading}
 use Rattle.dfdl_packed.specs.declared.fault.PackedFault.{PackedFault}
 use Rattle.dfdl_packed.specs.declared.fault.PackedFault.TheVariants.{BadNibble, PastType}
+use Rattle.dfdl_number_text.specs.NumberReading.{reading as number_reading}
+use Rattle.dfdl_number_text.specs.declared.fault.NumberFault.{NumberFault}
+use Rattle.dfdl_number_text.specs.declared.fault.NumberFault.TheVariants as fault
 use Rattle.dfdl_value.specs.declared.value.Value.{Value}
 use Rattle.dfdl_value.specs.declared.value.Value.TheVariants.{Int, Uns, Dec, Text as TextValue, Truth as TruthValue, Bytes}
 use Rattle.dfdl_report.specs.declared.cause.LimitCause.TheVariants.{Nodes, Text as TextLimit}
@@ -18,8 +22,10 @@ use Rattle.dfdl_report.specs.declared.cause.ParseCause.TheVariants.{DataEnds, Le
 use Rattle.dfdl_terms.specs.declared.row.Primitive.{Primitive}
 use Rattle.dfdl_terms.specs.declared.row.Primitive.TheVariants.{Integer, Packed, Truth, Octets, Text as Characters}
 use Rattle.dfdl_terms.specs.declared.row.Row.{Row}
-use Rattle.dfdl_terms.specs.declared.row.Row.TheVariants.{Leaf, Elem, Group, Skip, Align, Boxed}
+use Rattle.dfdl_terms.specs.declared.row.Row.TheVariants.{Leaf, Elem, Group, Skip, Align, Boxed, PrefixedLeaf, PrefixedBox}
 use Rattle.dfdl_terms.specs.declared.text.OctetForm.{OctetForm}
+use Rattle.dfdl_terms.specs.declared.text.TextContent.{TextContent}
+use Rattle.dfdl_terms.specs.declared.text.TextContent.TheVariants.{Plain, Number, Zoned, Truth as TextTruth}
 use Rattle.dfdl_terms.specs.declared.text.TextForm.{TextForm}
 use Rattle.dfdl_terms.specs.declared.text.TextSize.{TextSize}
 use Rattle.dfdl_terms.specs.declared.text.TextSize.TheVariants.{Bits, Characters as Counted}
@@ -28,12 +34,13 @@ use Rattle.dfdl_texts.specs.Texts.{Text as TextRead, Reads as DoesRead, HasBad, 
 use Rattle.dfdl_texts.specs.declared.extent.Extent.{Extent}
 use Rattle.dfdl_texts.specs.declared.extent.Extent.TheVariants as extent
 use Rattle.dfdl_text_string.specs.Padding.{trimmed}
+use Rattle.dfdl_text_string.specs.Truths.{truth_of}
 use Rattle.dfdl_texts.proofs.Whole.{text-scalars}
 use Rattle.dfdl_region.specs.declared.node.Node.{Node}
 use Rattle.dfdl_region.specs.declared.node.Content.{Content}
 use Rattle.dfdl_region.specs.declared.node.Content.TheVariants.{Begun, Complex, Signed, Unsigned, Decimal}
 use Rattle.dfdl_region.specs.declared.node.Content.TheVariants as content
-use Rattle.dfdl_region.specs.Bytes.{bytes_at, utf8_of}
+use Rattle.dfdl_region.specs.Bytes.{utf8_of}
 use Rattle.dfdl_region.specs.Nodes.{with_content}
 use Rattle.dfdl_region.specs.Texts.{HasText, HaveTexts}
 use Rattle.dfdl_looks.specs.Asks.{Ask, Answer, Reached, Told, TooFar, Missing, Reading, and_then, ask, go_on}
@@ -44,59 +51,72 @@ use Rattle.dfdl_grammar.specs.declared.end.End.{End}
 use Rattle.dfdl_grammar.specs.declared.end.End.TheVariants.{Done, Failed, Stopped}
 use Rattle.dfdl_grammar.specs.States.{Input, State, anchor, anchor_at, front}
 use Rattle.dfdl_grammar.specs.Outcomes.{Outcome, ended, follow, spend, then_do}
-use Rattle.dfdl_grammar.specs.Leaves.{Find, Fails, Finds, FindsOctets, FindsText, bits_of, bytes_spanned, content_begins, field, find_in, find_of, has_room, land, leaf, packed_find, program, text_begins, text_find, text_of_size, truth_find}
+use Rattle.dfdl_grammar.specs.Leaves.{Find, Fails, Finds, FindsOctets, FindsText, bits_of, bytes_spanned, content_begins, content_find, field, find_in, find_of, has_room, land, leaf, number_find, packed_find, program, text_begins, text_behind, text_find, text_of_size, truth_find}
 use Rattle.dfdl_grammar.specs.Framing.{aligned, fill_to, has_byte, passed}
-use Rattle.dfdl_grammar.specs.Boxes.{bytes_up_to, pass_bytes, past_byte, rest as rest_of, unboxed}
+use Rattle.dfdl_grammar.specs.Boxes.{boxed, bytes_up_to, pass_bytes, past_byte, rest as rest_of, unboxed}
 use Rattle.dfdl_grammar.specs.Elements.{begun, close, has_elements, left}
+use Rattle.dfdl_grammar.specs.Prefixes.{bits_of_units, leaf_of, prefixed, resized, size_of, sized_leaf}
 use Rattle.dfdl_grammar.specs.Rows.{below, group, meaning, row, row_at}
-use Rattle.dfdl_grammar.proofs.Filled.{made}
+use Rattle.dfdl_grammar.proofs.Found.{made, told_one}
 use Rattle.dfdl_grammar.proofs.Holding.{both_have, content-has, last-bytes, text-more, trimmed-scalars, utf8}
+use Rattle.dfdl_grammar.proofs.Prefixed.{prefixed-comes}
 
 -- what a leaf finds has bytes that can be held as a string's, if it is one
 abbrev IsHeld : Find → Type 0
 IsHeld (Fails cause) = Unit {0}
-IsHeld (Finds content bits) = (bytes : List ℕ) → HasText bytes content
-IsHeld (FindsOctets bytes bits) = Unit {0}
+IsHeld (Finds content end) = (bytes : List ℕ) → HasText bytes content
+IsHeld (FindsOctets bytes end) = Unit {0}
 IsHeld (FindsText bytes end) = IsUtf8 bytes
 
-number-held : (bits : ℕ) (v : Option Value) → IsHeld (find_of bits v)
-number-held bits None = tt
-number-held bits (Some (Int z)) = λ bytes. tt
-number-held bits (Some (Uns n)) = λ bytes. tt
-number-held bits (Some (Dec d)) = λ bytes. tt
-number-held bits (Some (TextValue text)) = tt
-number-held bits (Some (TruthValue truth)) = tt
-number-held bits (Some (Bytes octets)) = tt
+number-held : (end : ℕ) (v : Option Value) → IsHeld (find_of end v)
+number-held end None = tt
+number-held end (Some (Int z)) = λ bytes. tt
+number-held end (Some (Uns n)) = λ bytes. tt
+number-held end (Some (Dec d)) = λ bytes. tt
+number-held end (Some (TextValue text)) = tt
+number-held end (Some (TruthValue truth)) = tt
+number-held end (Some (Bytes octets)) = tt
 
-packed-held : (bits : ℕ) (r : Result Value PackedFault) → IsHeld (packed_find bits r)
-packed-held bits (Ok v) = number-held bits (Some v)
-packed-held bits (Err BadNibble) = tt
-packed-held bits (Err PastType) = tt
+packed-held : (end : ℕ) (r : Result Value PackedFault) → IsHeld (packed_find end r)
+packed-held end (Ok v) = number-held end (Some v)
+packed-held end (Err BadNibble) = tt
+packed-held end (Err PastType) = tt
 
-truth-held : (bits : ℕ) (r : Option Bool) → IsHeld (truth_find bits r)
-truth-held bits (Some truth) = λ bytes. tt
-truth-held bits None = tt
+truth-held : (end : ℕ) (r : Option Bool) → IsHeld (truth_find end r)
+truth-held end (Some truth) = λ bytes. tt
+truth-held end None = tt
 
-found-held : (primitive : Primitive) (before : ℕ) (bytes : List ℕ) → IsHeld (find_in primitive before bytes)
-found-held (Integer form) before bytes = number-held form.bits (integer_reading form (field_of form bytes before))
-found-held (Packed form) before bytes = packed-held (4 * form.nibbles) (packed_reading form (nibbles_in form bytes before))
-found-held (Truth form) before bytes = truth-held form.bits (truth_reading form (truth_field_of form bytes before))
-found-held (Octets form) before bytes = tt
-found-held (Characters form) before bytes = IsUtf8-nil
+text-number-held : (end : ℕ) (r : Result Value NumberFault) → IsHeld (number_find end r)
+text-number-held end (Ok v) = number-held end (Some v)
+text-number-held end (Err fault.NotANumber) = tt
+text-number-held end (Err fault.PastType) = tt
+
+content-held : (read : TextContent) (chars : List ℕ) (end : ℕ) → IsUtf8 (utf8_of chars) → IsHeld (content_find read chars end)
+content-held Plain chars end kept = kept
+content-held (Number form kind) chars end kept = text-number-held end (number_reading form kind chars)
+content-held (Zoned form) chars end kept = packed-held end (zoned_reading form chars)
+content-held (TextTruth form) chars end kept = truth-held end (truth_of form chars)
+
+found-held : (primitive : Primitive) (bit : ℕ) (bytes : List ℕ) → IsHeld (find_in primitive bit bytes)
+found-held (Integer form) bit bytes = number-held (bit + form.bits) (integer_reading form (field_of form bytes (bit % 8)))
+found-held (Packed form) bit bytes = packed-held (bit + 4 * form.nibbles) (packed_reading form (nibbles_in form bytes (bit % 8)))
+found-held (Truth form) bit bytes = truth-held (bit + form.bits) (truth_reading form (truth_field_of form bytes (bit % 8)))
+found-held (Octets form) bit bytes = tt
+found-held (Characters form) bit bytes = IsUtf8-nil
 
 -- whether a find is that the data end
 ends-or : (found : Find) → IsHeld found ⊎ (Fails DataEnds ≡ found → ⊥)
 ends-or (Fails cause) = inl tt
-ends-or (Finds content bits) = inr (λ same. absurd (cc))
-ends-or (FindsOctets bytes bits) = inl tt
+ends-or (Finds content end) = inr (λ same. absurd (cc))
+ends-or (FindsOctets bytes end) = inl tt
 ends-or (FindsText bytes end) = inr (λ same. absurd (cc))
 
 field-held : (look : ℕ → Seen) (primitive : Primitive) (bit : ℕ) (found : Find) → (ask look (field primitive bit) nothing).reached ≡ Told found → IsHeld found
 field-held look primitive bit found is = elim (ends-or found) [
   | inl held ↦ held
   | inr apart ↦ (
-      let here = made look found apart (bytes_spanned bit (bits_of primitive)) (bit / 8) (find_in primitive (bit % 8)) nothing is in
-      subst IsHeld here.is (found-held primitive (bit % 8) here.bytes))
+      let here = made look found apart (bytes_spanned bit (bits_of primitive)) (bit / 8) (find_in primitive bit) nothing is in
+      subst IsHeld here.is (found-held primitive bit here.bytes))
 ]
 
 module _ (input : Input) (small : All (λ b. b < 256) input.bytes) where
@@ -115,10 +135,11 @@ module _ (input : Input) (small : All (λ b. b < 256) input.bytes) where
       → ((chars : List ℕ) (end : ℕ) → r ≡ Told (DoesRead chars end) → IsUtf8 (utf8_of (trimmed form.pad chars)))
       → (go_on look (λ (text : TextRead). Answer (text_find form bit text)) r t).reached ≡ Told found → IsHeld found
   text-held form bit look (Told (DoesRead chars end)) t found kept is =
-      let same : text_find form bit (DoesRead chars end) ≡ found = cc in subst IsHeld same (kept chars end refl)
-  text-held form bit look (Told HasBad) t found kept is = let same : text_find form bit HasBad ≡ found = cc in subst IsHeld same tt
-  text-held form bit look (Told IsCut) t found kept is = let same : text_find form bit IsCut ≡ found = cc in subst IsHeld same tt
-  text-held form bit look (Told IsBoxed) t found kept is = let same : text_find form bit IsBoxed ≡ found = cc in subst IsHeld same tt
+      subst IsHeld (told_one (text_find form bit (DoesRead chars end)) found is)
+      (content-held form.content (trimmed form.pad chars) (text_behind form.size bit end) (kept chars end refl))
+  text-held form bit look (Told HasBad) t found kept is = subst IsHeld (told_one (text_find form bit HasBad) found is) tt
+  text-held form bit look (Told IsCut) t found kept is = subst IsHeld (told_one (text_find form bit IsCut) found is) tt
+  text-held form bit look (Told IsBoxed) t found kept is = subst IsHeld (told_one (text_find form bit IsBoxed) found is) tt
   text-held form bit look TooFar t found kept is = absurd (cc)
   text-held form bit look Missing t found kept is = absurd (cc)
 
@@ -151,9 +172,9 @@ module _ (input : Input) (small : All (λ b. b < 256) input.bytes) where
       then-held window low form bit (extent.Characters n) stop (aligned 8 bit / 8) found is
 
   octets-held : (size low : ℕ) (form : OctetForm) (bit : ℕ) (found : Find) (none whole : Bool)
-      → (ask (seen_in input.bytes size low) (cond none (Answer (FindsOctets [] 0)) (cond whole (field (Octets form) bit) (Answer (Fails NotFilled)))) nothing).reached
+      → (ask (seen_in input.bytes size low) (cond none (Answer (FindsOctets [] bit)) (cond whole (field (Octets form) bit) (Answer (Fails NotFilled)))) nothing).reached
       ≡ Told found → IsHeld found
-  octets-held size low form bit found true whole is = let same : FindsOctets [] 0 ≡ found = cc in subst IsHeld same tt
+  octets-held size low form bit found true whole is = let same : FindsOctets [] bit ≡ found = cc in subst IsHeld same tt
   octets-held size low form bit found false true is = field-held (seen_in input.bytes size low) (Octets form) bit found is
   octets-held size low form bit found false false is = let same : Fails NotFilled ≡ found = cc in subst IsHeld same tt
 
@@ -186,11 +207,11 @@ module _ (input : Input) (small : All (λ b. b < 256) input.bytes) where
 
   land-keeps : (first : ℕ) (reached : Reached Find) → ((found : Find) → reached ≡ Told found → IsHeld found) → Keeps (land input.limits first reached)
   land-keeps first (Told (Fails cause)) held s has = has
-  land-keeps first (Told (Finds content bits)) held s has =
-      content-has (HasText s.text) s.nodes s.inside content (held (Finds content bits) refl s.text) has
-  land-keeps first (Told (FindsOctets bytes bits)) held s has =
+  land-keeps first (Told (Finds content end)) held s has =
+      content-has (HasText s.text) s.nodes s.inside content (held (Finds content end) refl s.text) has
+  land-keeps first (Told (FindsOctets bytes end)) held s has =
       let size = length-append s.text bytes in
-      hold-keeps content.Octets bytes (s.at + bits) s has (omega (arith, size)) (nat_le (length s.text + length bytes) input.limits.text)
+      hold-keeps content.Octets bytes end s has (omega (arith, size)) (nat_le (length s.text + length bytes) input.limits.text)
   land-keeps first (Told (FindsText bytes end)) held s has =
       let size = length-append s.text bytes in
       hold-keeps content.Text bytes end s has
@@ -212,6 +233,21 @@ module _ (input : Input) (small : All (λ b. b < 256) input.bytes) where
   leaf-keeps : (primitive : Option Primitive) → Keeps (leaf input primitive)
   leaf-keeps None s has = has
   leaf-keeps (Some primitive) s has = room-keeps primitive s has (has_room primitive s.at s.stop)
+
+  -- a leaf of another size
+  of-keeps : (primitive : Option Primitive) → Keeps (leaf_of input primitive)
+  of-keeps None s has = has
+  of-keeps (Some primitive) s has = leaf-keeps (Some primitive) s has
+
+  sized-keeps : (primitive : Option Primitive) (size : TextSize) → Keeps (sized_leaf input primitive size)
+  sized-keeps None size s has = has
+  sized-keeps (Some primitive) size s has = of-keeps (resized size primitive) s has
+
+  -- a prefix, and what it tells the size of
+  prefixed-keeps : (by : Option Primitive) (own : ℕ) (next : ℕ → State → Outcome) → ((units : ℕ) → Keeps (next units)) → Keeps (prefixed input by own next)
+  prefixed-keeps by own next keeps s has =
+      prefixed-comes (λ (e : End) (t : State). Has t) s (λ cause bit. has) (λ cause quantity. has) next
+      (λ units at. keeps units (record s { at = at }) has) input by own
 
   passed-keeps : (to : ℕ) (reached : Reached Bool) → Keeps (passed input.limits.window to reached)
   passed-keeps to (Told true) s has = has
@@ -301,6 +337,14 @@ module _ (input : Input) (small : All (λ b. b < 256) input.bytes) where
     row-keeps child keeps id (Some (Align bits)) s has =
         pass-keeps (aligned bits s.at) s has (nat_le (aligned bits s.at) s.at) (nat_le (aligned bits s.at) s.stop)
     row-keeps child keeps id (Some (Boxed bits body)) s has = boxed-keeps bits (child body) (keeps body) s has (nat_le (s.at + bits) s.stop)
+    row-keeps child keeps id (Some (PrefixedLeaf prefix prim)) s has =
+        let primitive : Option Primitive = slice_get table.primitives prim in
+        prefixed-keeps (slice_get table.primitives prefix.prim) prefix.own (λ units after. sized_leaf input primitive (size_of prefix.unit units) after)
+        (λ units. sized-keeps primitive (size_of prefix.unit units)) s has
+    row-keeps child keeps id (Some (PrefixedBox prefix body)) s has =
+        prefixed-keeps (slice_get table.primitives prefix.prim) prefix.own (λ units after. boxed input (bits_of_units prefix.unit units) (child body) after)
+        (λ units after kept. boxed-keeps (bits_of_units prefix.unit units) (child body) (keeps body) after kept
+        (nat_le (after.at + bits_of_units prefix.unit units) after.stop)) s has
 
     below-choice : (n id : ℕ) → ((i : ℕ) → Keeps (below input table n i)) → (s : State) → Has s → (test : Bool)
         → Has (cond test (row_at input table (below input table n) n s) (below input table n id s)).state

@@ -1,26 +1,20 @@
 -- The bytes of the values of a document's elements are there, and those of its strings are UTF-8.
-use Rattle.std.proofs.Common.{◌≡◌, ℕ, zero, suc, ◌+◌, ◌-◌, ◌*◌, ◌/◌, ◌%◌, ◌<◌, ◌≤◌, refl, List, [], ◌∷◌, ◌++◌, length, take, drop, get_or, Bool, true, false, cond, leb, ltb, nat_eq, nat_le, nat_lt, Option, Some, None, Result, Ok, Err, All, ap, sym, subst, ◌∙◌, arith, IsUtf8, encode_utf8, length-append}
+use Rattle.std.proofs.Common.{◌≡◌, ℕ, zero, suc, ◌+◌, ◌≤◌, refl, List, [], ◌∷◌, ◌++◌, length, take, drop, Bool, true, false, cond, All, ap, sym, subst, ◌∙◌, arith, IsUtf8, encode_utf8, length-append}
 use Rattle.std.proofs.Math.Seq.{drop-append_seam, take-length}
 use Rattle.std.proofs.lemmas.List.{take-append-le, drop-append-le, length-drop}
-use Rattle.std.proofs.lemmas.List.Elements.{All-append}
 use Rattle.std.proofs.lemmas.Str.{IsUtf8-append, IsUtf8-encode, IsUtf8-nil}
 use Rattle.std.specs.Char.{IsScalar}
-use Rattle.std.specs.Prelude.{slice_get}
-use Rattle.dfdl_bits.specs.declared.window.Seen.{Seen}
-use Rattle.dfdl_bits.specs.declared.window.Seen.TheVariants.{Byte, End as DataEnded, NotYet, Over}
 use Rattle.dfdl_forms.specs.declared.text.Justify.{Justify}
 use Rattle.dfdl_forms.specs.declared.text.Justify.TheVariants.{Left, Right, Center}
 use Rattle.dfdl_forms.specs.declared.text.PadForm.{PadForm}
 use Rattle.dfdl_lemmas.specs.Trimmed.{before_rest, without_leading, without_trailing}
 use Rattle.dfdl_text_string.specs.Padding.{bare, end_trimmed, front_trimmed, is_trim, keeps_one, trimmed}
-use Rattle.dfdl_value.specs.declared.value.Value.{Value}
-use Rattle.dfdl_value.specs.declared.value.Value.TheVariants.{Int, Uns, Dec, Text as TextValue, Truth as TruthValue, Bytes}
 use Rattle.dfdl_region.specs.declared.node.Node.{Node}
 use Rattle.dfdl_region.specs.declared.node.Content.{Content}
 use Rattle.dfdl_region.specs.declared.node.Content.TheVariants.{Begun, Complex, Signed, Unsigned, Decimal, Truth, Text, Octets}
 use Rattle.dfdl_region.specs.Bytes.{bytes_at, utf8_of}
 use Rattle.dfdl_region.specs.Nodes.{with_content}
-use Rattle.dfdl_region.specs.Texts.{HasText, HaveTexts}
+use Rattle.dfdl_region.specs.Texts.{HasText}
 
 -- the rest of a list, and its first element
 rest_has : {A : Type 0} (P : A → Type 0) (x : A) (xs : List A) → All P (x ∷ xs) → All P xs

@@ -1,11 +1,12 @@
 -- The elements stay a tree whatever the rows do.
 use Rattle.std.proofs.Common.{◌≡◌, ℕ, zero, suc, ◌+◌, ◌-◌, ◌*◌, ◌/◌, ◌<◌, ◌≤◌, refl, List, [], ◌∷◌, ◌++◌, length, Bool, true, false, cond, nat_eq, nat_le, nat_lt, Option, Some, None, ap, sym, subst, arith, length-append, zero-add}
 use Rattle.std.specs.Prelude.{slice_get}
-use Rattle.dfdl_report.specs.declared.cause.LimitCause.TheVariants.{Nodes, Window, Text as TextLimit}
+use Rattle.dfdl_report.specs.declared.cause.LimitCause.TheVariants.{Nodes, Text as TextLimit}
 use Rattle.dfdl_report.specs.declared.cause.ParseCause.TheVariants.{LengthOutOfRange}
 use Rattle.dfdl_terms.specs.declared.row.Primitive.{Primitive}
 use Rattle.dfdl_terms.specs.declared.row.Row.{Row}
-use Rattle.dfdl_terms.specs.declared.row.Row.TheVariants.{Leaf, Elem, Group, Skip, Align, Boxed}
+use Rattle.dfdl_terms.specs.declared.row.Row.TheVariants.{Leaf, Elem, Group, Skip, Align, Boxed, PrefixedLeaf, PrefixedBox}
+use Rattle.dfdl_terms.specs.declared.text.TextSize.{TextSize}
 use Rattle.dfdl_terms.specs.Rows.{IsElementRow, Table}
 use Rattle.dfdl_region.specs.declared.node.Node.{Node}
 use Rattle.dfdl_region.specs.declared.node.Content.{Content}
@@ -22,8 +23,10 @@ use Rattle.dfdl_grammar.specs.Leaves.{Find, Fails, Finds, FindsOctets, FindsText
 use Rattle.dfdl_grammar.specs.Framing.{aligned, fill_to, has_byte, passed}
 use Rattle.dfdl_grammar.specs.Boxes.{boxed, bytes_up_to, pass_bytes, past_byte, rest as rest_of, unboxed}
 use Rattle.dfdl_grammar.specs.Elements.{begun, close, has_elements, left}
+use Rattle.dfdl_grammar.specs.Prefixes.{bits_of_units, leaf_of, prefixed, resized, size_of, sized_leaf}
 use Rattle.dfdl_grammar.specs.Rows.{below, group, meaning, row, row_at}
 use Rattle.dfdl_grammar.specs.Trees.{IsNode, IsTree}
+use Rattle.dfdl_grammar.proofs.Prefixed.{prefixed-comes}
 
 -- the elements are a tree, and the innermost open one is among them, where there are any
 record Grows (table : Table) (s : State) : Type 0 where
@@ -130,9 +133,8 @@ module _ (input : Input) (table : Table) where
 
   land-keeps : (first : ℕ) (reached : Reached Find) → Keeps (land input.limits first reached)
   land-keeps first (Told (Fails cause)) s good = (good, same_length (length s.nodes))
-  land-keeps first (Told (Finds content bits)) s good = content-grows s s.inside (s.at + bits) s.inside content good good.few good.open_one
-  land-keeps first (Told (FindsOctets bytes bits)) s good =
-      hold-keeps Octets bytes (s.at + bits) s good (nat_le (length s.text + length bytes) input.limits.text)
+  land-keeps first (Told (Finds content end)) s good = content-grows s s.inside end s.inside content good good.few good.open_one
+  land-keeps first (Told (FindsOctets bytes end)) s good = hold-keeps Octets bytes end s good (nat_le (length s.text + length bytes) input.limits.text)
   land-keeps first (Told (FindsText bytes end)) s good = hold-keeps Text bytes end s good (nat_le (length s.text + length bytes) input.limits.text)
   land-keeps first TooFar s good = (good, same_length (length s.nodes))
   land-keeps first Missing s good = (good, same_length (length s.nodes))
@@ -149,6 +151,22 @@ module _ (input : Input) (table : Table) where
   leaf-keeps : (primitive : Option Primitive) → Keeps (leaf input primitive)
   leaf-keeps None s good = (good, same_length (length s.nodes))
   leaf-keeps (Some primitive) s good = room-keeps primitive s good (has_room primitive s.at s.stop)
+
+  -- a leaf of another size
+  of-keeps : (primitive : Option Primitive) → Keeps (leaf_of input primitive)
+  of-keeps None s good = (good, same_length (length s.nodes))
+  of-keeps (Some primitive) s good = leaf-keeps (Some primitive) s good
+
+  sized-keeps : (primitive : Option Primitive) (size : TextSize) → Keeps (sized_leaf input primitive size)
+  sized-keeps None size s good = (good, same_length (length s.nodes))
+  sized-keeps (Some primitive) size s good = of-keeps (resized size primitive) s good
+
+  -- a prefix, and what it tells the size of
+  prefixed-keeps : (by : Option Primitive) (own : ℕ) (next : ℕ → State → Outcome) → ((units : ℕ) → Keeps (next units)) → Keeps (prefixed input by own next)
+  prefixed-keeps by own next keeps s good =
+      let same : Follows s s = (good, same_length (length s.nodes)) in
+      prefixed-comes (λ (e : End) (t : State). Follows s t) s (λ cause bit. same) (λ cause quantity. same) next
+      (λ units at. keeps units (record s { at = at }) (alike s (record s { at = at }) good refl refl)) input by own
 
   passed-keeps : (to : ℕ) (reached : Reached Bool) → Keeps (passed input.limits.window to reached)
   passed-keeps to (Told true) s good = (record { tree = good.tree; few = good.few; open_one = good.open_one }, same_length (length s.nodes))
@@ -264,6 +282,14 @@ module _ (input : Input) (table : Table) where
   row-keeps child keeps id (Some (Skip bits)) is s good = pass-keeps (s.at + bits) s good (nat_le (s.at + bits) s.at) (nat_le (s.at + bits) s.stop)
   row-keeps child keeps id (Some (Align bits)) is s good = pass-keeps (aligned bits s.at) s good (nat_le (aligned bits s.at) s.at) (nat_le (aligned bits s.at) s.stop)
   row-keeps child keeps id (Some (Boxed bits body)) is s good = boxed-keeps bits (child body) (keeps body) s good (nat_le (s.at + bits) s.stop)
+  row-keeps child keeps id (Some (PrefixedLeaf prefix prim)) is s good =
+      let primitive : Option Primitive = slice_get table.primitives prim in
+      prefixed-keeps (slice_get table.primitives prefix.prim) prefix.own (λ units after. sized_leaf input primitive (size_of prefix.unit units) after)
+      (λ units. sized-keeps primitive (size_of prefix.unit units)) s good
+  row-keeps child keeps id (Some (PrefixedBox prefix body)) is s good =
+      prefixed-keeps (slice_get table.primitives prefix.prim) prefix.own (λ units after. boxed input (bits_of_units prefix.unit units) (child body) after)
+      (λ units after kept. boxed-keeps (bits_of_units prefix.unit units) (child body) (keeps body) after kept
+      (nat_le (after.at + bits_of_units prefix.unit units) after.stop)) s good
 
   below-choice : (n id : ℕ) → ((i : ℕ) → Keeps (below input table n i)) → (s : State) → Grows table s → (test : Bool)
       → Follows s (cond test (row_at input table (below input table n) n s) (below input table n id s)).state

@@ -13,7 +13,6 @@ use dfdl_value::Value;
 
 /// Reads digits of which one carries the sign.
 pub fn read_zoned(digits: &[char], form: &ZonedForm) -> Result<Value, PackedFault>
-    requires form { IsZonedForm form.now }
     ensures { result ≡ zoned_reading form.now digits.now }
 {
     match number_of(digits, form) {

@@ -1,0 +1,177 @@
+-- What a leaf finds is what its bytes or characters are read as, and whole data have each byte or end before it.
+use Rattle.std.proofs.Common.{◌≡◌, ℕ, zero, suc, ◌+◌, ◌*◌, ◌/◌, ◌%◌, List, [], ◌∷◌, length, get_or, Bool, true, false, cond, leb, ltb, ◌-◌, nat_eq, Option, Some, None, Result, Ok, Err, ap, sym, ◌∙◌}
+use Rattle.dfdl_bits.specs.declared.window.Seen.{Seen}
+use Rattle.dfdl_bits.specs.declared.window.Seen.TheVariants.{Byte, End as DataEnded, NotYet, Over}
+use Rattle.dfdl_int_binary.specs.Integers.{field_of, integer_reading}
+use Rattle.dfdl_int_binary.specs.Truths.{truth_field_of, truth_reading}
+use Rattle.dfdl_packed.specs.Packed.{nibbles_in, packed_reading}
+use Rattle.dfdl_packed.specs.Zoned.{zoned_reading}
+use Rattle.dfdl_packed.specs.declared.fault.PackedFault.{PackedFault}
+use Rattle.dfdl_packed.specs.declared.fault.PackedFault.TheVariants.{BadNibble, PastType}
+use Rattle.dfdl_number_text.specs.NumberReading.{reading as number_reading}
+use Rattle.dfdl_number_text.specs.declared.fault.NumberFault.{NumberFault}
+use Rattle.dfdl_number_text.specs.declared.fault.NumberFault.TheVariants as fault
+use Rattle.dfdl_value.specs.declared.value.Value.{Value}
+use Rattle.dfdl_value.specs.declared.value.Value.TheVariants.{Int, Uns, Dec, Text, Truth as TruthValue, Bytes}
+use Rattle.dfdl_report.specs.declared.cause.ParseCause.TheVariants.{DataEnds, NotFilled}
+use Rattle.dfdl_terms.specs.declared.row.Primitive.{Primitive}
+use Rattle.dfdl_terms.specs.declared.row.Primitive.TheVariants.{Integer, Packed, Truth, Octets, Text as Characters}
+use Rattle.dfdl_region.specs.declared.node.Content.{Content}
+use Rattle.dfdl_region.specs.declared.node.Content.TheVariants.{Begun}
+use Rattle.dfdl_terms.specs.declared.text.OctetForm.{OctetForm}
+use Rattle.dfdl_terms.specs.declared.text.TextContent.{TextContent}
+use Rattle.dfdl_terms.specs.declared.text.TextContent.TheVariants.{Plain, Number, Zoned, Truth as TextTruth}
+use Rattle.dfdl_terms.specs.declared.text.TextForm.{TextForm}
+use Rattle.dfdl_terms.specs.declared.text.TextSize.{TextSize}
+use Rattle.dfdl_terms.specs.declared.text.TextSize.TheVariants.{Bits, Characters as Counted}
+use Rattle.dfdl_texts.specs.Texts.{Text as TextRead, Reads as DoesRead, HasBad, IsCut, IsBoxed, text_at}
+use Rattle.dfdl_texts.specs.declared.extent.Extent.TheVariants as extent
+use Rattle.dfdl_text_string.specs.Padding.{trimmed}
+use Rattle.dfdl_text_string.specs.Truths.{truth_of}
+use Rattle.dfdl_looks.specs.Asks.{Ask, Answer, Look, Reached, Told, TooFar, Missing, Reading, and_then, ask, go_on, look_at}
+use Rattle.dfdl_looks.specs.Looks.{seen_in}
+use Rattle.dfdl_looks.specs.Tallies.{Tally, nothing, saw_byte, saw_end}
+use Rattle.dfdl_looks.proofs.Resumed.{on_seen}
+use Rattle.dfdl_looks.proofs.Sequels.{ask-then}
+use Rattle.dfdl_grammar.specs.Leaves.{Find, Fails, Finds, FindsOctets, bits_of, bytes_spanned, field, content_find, find_in, find_of, number_find, packed_find, program, text_begins, text_behind, text_find, text_of_size, truth_find}
+use Rattle.dfdl_grammar.specs.Framing.{aligned}
+
+-- what a program over a stretch finds is what it makes of some bytes
+pub record Made (go : List ℕ → Find) (found : Find) : Type 0 where
+  pub bytes : List ℕ
+  pub is : go bytes ≡ found
+
+module _ (look : ℕ → Seen) (found : Find) (apart : Fails DataEnds ≡ found → ⊥) where
+  step-made : (count k : ℕ) (go : List ℕ → Find) (t : Tally)
+      → ((more : List ℕ → Find) (u : Tally) → (ask look (look_at count (k + 1) (Fails DataEnds) more) u).reached ≡ Told found → Made more found)
+      → (s : Seen)
+      → (on_seen look (λ o. elim o as (λ _. Ask Find) [ None ↦ Answer (Fails DataEnds) | Some b ↦ look_at count (k + 1) (Fails DataEnds) (λ bytes. go (b ∷ bytes)) ]) k t s).reached ≡ Told found
+      → Made go found
+  step-made count k go t more (Byte b) is =
+      let made = more (λ bytes. go (b ∷ bytes)) (saw_byte k t) is in record { bytes = b ∷ made.bytes; is = made.is }
+  step-made count k go t more DataEnded is = let same : Fails DataEnds ≡ found = cc in absurd (apart same)
+  step-made count k go t more NotYet is = absurd (cc)
+  step-made count k go t more Over is = absurd (cc)
+
+  pub made : (count k : ℕ) (go : List ℕ → Find) (t : Tally) → (ask look (look_at count k (Fails DataEnds) go) t).reached ≡ Told found → Made go found
+  made zero k go t is = let same : go [] ≡ found = cc in record { bytes = []; is = same }
+  made (suc count) k go t is = step-made count k go t (λ more u found. made count (k + 1) more u found) (look k) is
+
+-- what a value is found as isn't a beginning
+read_of : (end : ℕ) (v : Option Value) (content : Content) (n : ℕ) → find_of end v ≡ Finds content n → content ≡ Begun → ⊥
+read_of end None content n is unread = absurd (cc)
+read_of end (Some (Int z)) content n is unread = absurd (cc)
+read_of end (Some (Uns number)) content n is unread = absurd (cc)
+read_of end (Some (Dec d)) content n is unread = absurd (cc)
+read_of end (Some (Text text)) content n is unread = absurd (cc)
+read_of end (Some (TruthValue truth)) content n is unread = absurd (cc)
+read_of end (Some (Bytes bytes)) content n is unread = absurd (cc)
+
+packed_read : (end : ℕ) (r : Result Value PackedFault) (content : Content) (n : ℕ) → packed_find end r ≡ Finds content n → content ≡ Begun → ⊥
+packed_read end (Ok v) content n is unread = read_of end (Some v) content n is unread
+packed_read end (Err BadNibble) content n is unread = absurd (cc)
+packed_read end (Err PastType) content n is unread = absurd (cc)
+
+truth_read : (end : ℕ) (r : Option Bool) (content : Content) (n : ℕ) → truth_find end r ≡ Finds content n → content ≡ Begun → ⊥
+truth_read end (Some truth) content n is unread = absurd (cc)
+truth_read end None content n is unread = absurd (cc)
+
+number_read : (end : ℕ) (r : Result Value NumberFault) (content : Content) (n : ℕ) → number_find end r ≡ Finds content n → content ≡ Begun → ⊥
+number_read end (Ok v) content n is unread = read_of end (Some v) content n is unread
+number_read end (Err fault.NotANumber) content n is unread = absurd (cc)
+number_read end (Err fault.PastType) content n is unread = absurd (cc)
+
+-- nor is what characters are found as
+content_read : (read : TextContent) (chars : List ℕ) (end : ℕ) (content : Content) (n : ℕ) → content_find read chars end ≡ Finds content n → content ≡ Begun → ⊥
+content_read Plain chars end content n is unread = absurd (cc)
+content_read (Number form kind) chars end content n is unread = number_read end (number_reading form kind chars) content n is unread
+content_read (Zoned form) chars end content n is unread = packed_read end (zoned_reading form chars) content n is unread
+content_read (TextTruth form) chars end content n is unread = truth_read end (truth_of form chars) content n is unread
+
+-- nor what the leaf of a primitive finds in its bytes
+found_read : (primitive : Primitive) (bit : ℕ) (bytes : List ℕ) (content : Content) (n : ℕ) → find_in primitive bit bytes ≡ Finds content n → content ≡ Begun → ⊥
+found_read (Integer form) bit bytes content n is unread =
+    read_of (bit + form.bits) (integer_reading form (field_of form bytes (bit % 8))) content n is unread
+found_read (Packed form) bit bytes content n is unread =
+    packed_read (bit + 4 * form.nibbles) (packed_reading form (nibbles_in form bytes (bit % 8))) content n is unread
+found_read (Truth form) bit bytes content n is unread =
+    truth_read (bit + form.bits) (truth_reading form (truth_field_of form bytes (bit % 8))) content n is unread
+found_read (Octets form) bit bytes content n is unread = absurd (cc)
+found_read (Characters form) bit bytes content n is unread = absurd (cc)
+
+-- what is found of a primitive is a value
+field_value : (look : ℕ → Seen) (primitive : Primitive) (bit : ℕ) (content : Content) (to : ℕ)
+    → (ask look (field primitive bit) nothing).reached ≡ Told (Finds content to) → content ≡ Begun → ⊥
+field_value look primitive bit content to is unread =
+    let here = made look (Finds content to) (λ same. absurd (cc)) (bytes_spanned bit (bits_of primitive)) (bit / 8) (find_in primitive bit) nothing is in
+    found_read primitive bit here.bytes content to here.is unread
+
+-- what is found of a hexBinary is no value of a number
+octets_value : (look : ℕ → Seen) (form : OctetForm) (bit : ℕ) (content : Content) (to : ℕ) (none whole : Bool)
+    → (ask look (cond none (Answer (FindsOctets [] bit)) (cond whole (field (Octets form) bit) (Answer (Fails NotFilled)))) nothing).reached
+    ≡ Told (Finds content to) → content ≡ Begun → ⊥
+octets_value look form bit content to true whole is unread = absurd (cc)
+octets_value look form bit content to false true is unread = field_value look (Octets form) bit content to is unread
+octets_value look form bit content to false false is unread = absurd (cc)
+
+-- what is told is one answer alone
+pub told_one : (a b : Find) → ◌≡◌ {A = Reached Find} (Told a) (Told b) → a ≡ b
+told_one a b same = cc
+
+-- what is found of the characters of a text is none either
+text_value : (form : TextForm) (bit : ℕ) (look : ℕ → Seen) (content : Content) (to : ℕ) (r : Reached TextRead) (t : Tally)
+    → (go_on look (λ (text : TextRead). Answer (text_find form bit text)) r t).reached ≡ Told (Finds content to) → content ≡ Begun → ⊥
+text_value form bit look content to (Told (DoesRead chars end)) t is unread =
+    content_read form.content (trimmed form.pad chars) (text_behind form.size bit end) content to
+    (told_one (text_find form bit (DoesRead chars end)) (Finds content to) is) unread
+text_value form bit look content to (Told HasBad) t is unread = absurd (cc)
+text_value form bit look content to (Told IsCut) t is unread = absurd (cc)
+text_value form bit look content to (Told IsBoxed) t is unread = absurd (cc)
+text_value form bit look content to TooFar t is unread = absurd (cc)
+text_value form bit look content to Missing t is unread = absurd (cc)
+
+then_value : (form : TextForm) (bit : ℕ) (look : ℕ → Seen) (content : Content) (to : ℕ) (a : Ask TextRead)
+    → (ask look (and_then a (λ (text : TextRead). Answer (text_find form bit text))) nothing).reached ≡ Told (Finds content to) → content ≡ Begun → ⊥
+then_value form bit look content to a is unread =
+    let whole = ask-then look (λ (text : TextRead). Answer (text_find form bit text)) a nothing in
+    text_value form bit look content to (ask look a nothing).reached (ask look a nothing).tally
+    (sym (ap (λ (r : Reading Find). r.reached) whole) ∙ is) unread
+
+boxed_value : (form : TextForm) (bit first end : ℕ) (look : ℕ → Seen) (content : Content) (to : ℕ) (whole : Bool)
+    → (ask look (cond whole
+    (and_then (text_at form.encoding form.replaces extent.Box end (first / 8)) (λ (text : TextRead). Answer (text_find form bit text)))
+    (Answer (Fails NotFilled))) nothing).reached ≡ Told (Finds content to) → content ≡ Begun → ⊥
+boxed_value form bit first end look content to true is unread =
+    then_value form bit look content to (text_at form.encoding form.replaces extent.Box end (first / 8)) is unread
+boxed_value form bit first end look content to false is unread = absurd (cc)
+
+sized_value : (form : TextForm) (size : TextSize) (bit stop : ℕ) (look : ℕ → Seen) (content : Content) (to : ℕ)
+    → (ask look (text_of_size form size bit stop) nothing).reached ≡ Told (Finds content to) → content ≡ Begun → ⊥
+sized_value form (Bits n) bit stop look content to is unread =
+    let first : ℕ = text_begins (Bits n) bit in
+    boxed_value form bit first (bit + n) look content to (nat_eq ((bit + n - first) % 8) 0) is unread
+sized_value form (Counted n) bit stop look content to is unread =
+    then_value form bit look content to (text_at form.encoding form.replaces (extent.Characters n) stop (aligned 8 bit / 8)) is unread
+
+-- what a leaf finds is a value, if it is no bytes
+pub value : (look : ℕ → Seen) (primitive : Primitive) (bit stop : ℕ) (content : Content) (to : ℕ)
+    → (ask look (program primitive bit stop) nothing).reached ≡ Told (Finds content to) → content ≡ Begun → ⊥
+value look (Integer form) bit stop content to is unread = field_value look (Integer form) bit content to is unread
+value look (Packed form) bit stop content to is unread = field_value look (Packed form) bit content to is unread
+value look (Truth form) bit stop content to is unread = field_value look (Truth form) bit content to is unread
+value look (Octets form) bit stop content to is unread =
+    octets_value look form bit content to (nat_eq form.bits 0) (nat_eq (form.bits % 8) 0) is unread
+value look (Characters form) bit stop content to is unread = sized_value form form.size bit stop look content to is unread
+
+-- whole data have no byte that hasn't come
+no-missing : {F : Type 0} (bytes : List ℕ) (size low : ℕ) (go : Option ℕ → Ask F) (k : ℕ) (t : Tally)
+    → ((o : Option ℕ) (u : Tally) → (ask (seen_in bytes size low) (go o) u).reached ≡ Missing → ⊥)
+    → (over inside : Bool) → (on_seen (seen_in bytes size low) go k t (cond over Over (cond inside (Byte (get_or bytes k 0)) DataEnded))).reached ≡ Missing → ⊥
+no-missing bytes size low go k t more true inside missing = absurd (cc)
+no-missing bytes size low go k t more false true missing = more (Some (get_or bytes k 0)) (saw_byte k t) missing
+no-missing bytes size low go k t more false false missing = more None (saw_end k t) missing
+
+pub whole-told : {F : Type 0} (bytes : List ℕ) (size low : ℕ) (a : Ask F) (t : Tally) → (ask (seen_in bytes size low) a t).reached ≡ Missing → ⊥
+whole-told bytes size low (Answer f) t missing = absurd (cc)
+whole-told bytes size low (Look k go) t missing =
+    no-missing bytes size low go k t (λ o u more. whole-told bytes size low (go o) u more) (leb size (k - low)) (ltb k (length bytes)) missing

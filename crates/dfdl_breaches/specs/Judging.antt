@@ -5,7 +5,9 @@ use Rattle.dfdl_documents.specs.Documents.{SchemaDocument}
 use Rattle.dfdl_components.specs.declared.site.Site.{Site}
 use Rattle.dfdl_components.specs.Sites.{role_of}
 use Rattle.dfdl_checks.specs.Judged.{Judged}
-use Rattle.dfdl_checks.specs.Rules.{first_breach, rules}
+use Rattle.dfdl_checks.specs.Prefixes.{prefix_of}
+use Rattle.dfdl_checks.specs.Rules.{breach_of_component}
+use Rattle.dfdl_checks.specs.declared.prefixes.PrefixForm.{PrefixForm}
 use Rattle.dfdl_checks.specs.Boxes.{size_of_box}
 use Rattle.dfdl_checks.specs.Framing.{framing_of}
 use Rattle.dfdl_checks.specs.Numbers.{primitive_of}
@@ -18,6 +20,7 @@ use Rattle.dfdl_terms.specs.Framing.{no_fill}
 use Rattle.dfdl_terms.specs.declared.framing.Framing.{Framing}
 use Rattle.dfdl_terms.specs.declared.row.Primitive.{Primitive}
 use Rattle.dfdl_breaches.specs.Elements.{place_of}
+use Rattle.dfdl_breaches.specs.Prefixes.{prefix_at}
 use Rattle.dfdl_breaches.specs.Roots.{chain_at, root_bits_by}
 use Rattle.dfdl_breaches.specs.declared.judgement.Judgement.{Judgement}
 
@@ -30,11 +33,12 @@ judged_at purpose documents own = record {
   chain = chain_at documents own;
   facts = facts_at documents own;
   root_bits_by = root_bits_by documents;
+  prefix = prefix_at documents own;
 }
 
--- the first rule that a component breaks
+-- the first rule that a component breaks, or else the type of its prefix
 abbrev pub breach_at : Purpose → List SchemaDocument → Site → Option Breach
-breach_at purpose documents own = first_breach rules (judged_at purpose documents own)
+breach_at purpose documents own = breach_of_component (judged_at purpose documents own)
 
 -- how the values of a component lie in the data, where they are of a type and of a size that are built
 abbrev pub primitive_at : Purpose → List SchemaDocument → Site → Option Primitive
@@ -48,9 +52,13 @@ framing_at purpose documents own = framing_of (judged_at purpose documents own)
 abbrev pub size_at : Purpose → List SchemaDocument → Site → Option ℕ
 size_at purpose documents own = size_of_box (judged_at purpose documents own)
 
+-- how the length prefix of a component lies in the data, if it has one
+abbrev pub form_of_prefix : Purpose → List SchemaDocument → Site → Option PrefixForm
+form_of_prefix purpose documents own = prefix_of (judged_at purpose documents own)
+
 -- nothing is told of what is no component
 abbrev pub no_judgement : Judgement
-no_judgement = record { breach = None; primitive = None; framing = no_fill; size = None }
+no_judgement = record { breach = None; primitive = None; framing = no_fill; size = None; prefix = None }
 
 -- what is told of an element of the documents
 unfoldable pub judgement_at : Purpose → List SchemaDocument → Site → Judgement
@@ -61,5 +69,6 @@ judgement_at purpose documents own =
       primitive = primitive_at purpose documents own;
       framing = framing_at purpose documents own;
       size = size_at purpose documents own;
+      prefix = form_of_prefix purpose documents own;
     }
     else no_judgement

@@ -1,7 +1,7 @@
-pub mod References
 pub mod Formats
 pub mod Elements
 pub mod Roots
+pub mod Prefixes
 pub mod Judging
 pub mod Numbered
 pub mod Tabled

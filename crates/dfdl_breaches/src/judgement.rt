@@ -1,11 +1,11 @@
 // What is told of a component.
-use dfdl_checks::Breach;
+use dfdl_checks::{Breach, PrefixForm};
 use dfdl_terms::{Framing, Primitive};
 
 /// What is told of an element of a schema's documents.
-#[derive(Debug, Clone, Copy, PartialEq, Eq)]
+#[derive(Debug, Drop)]
 pub struct Judgement {
-    /// The first rule that the component breaks.
+    /// The first rule that the component breaks, or else the type of its length prefix.
     pub breach: Option<Breach>,
     /// How its values lie in the data, where they are of a type and of a size that are built.
     pub primitive: Option<Primitive>,
@@ -13,4 +13,6 @@ pub struct Judgement {
     pub framing: Framing,
     /// How many bits the box has around the content of a complex element with a length of its own.
     pub size: Option<u64>,
+    /// How its length prefix lies in the data, if it has one.
+    pub prefix: Option<PrefixForm>,
 }

@@ -6,31 +6,36 @@ ghost use Rattle.dfdl_documents.specs.Documents.{SchemaDocument};
 ghost use Rattle.dfdl_components.specs.declared.site.Site.{Site};
 ghost use Rattle.dfdl_checks.specs.Forms.{IsWhole};
 ghost use Rattle.dfdl_checks.specs.Numbers.{type_of};
-ghost use Rattle.dfdl_checks.specs.Subjects.{is_simple};
+ghost use Rattle.dfdl_checks.specs.Subjects.{is_simple, simple_of};
 ghost use Rattle.dfdl_checks.specs.declared.purpose.Purpose.{Purpose};
 ghost use Rattle.dfdl_checks.specs.declared.purpose.Purpose.TheVariants.{Unparsing};
-ghost use Rattle.dfdl_checks.specs.declared.subject.Kind.TheVariants.{SimpleElement};
 ghost use Rattle.dfdl_chains.specs.Kinds.{kind_at};
-ghost use Rattle.dfdl_breaches.specs.Judging.{breach_at, primitive_at};
+ghost use Rattle.dfdl_checks.specs.declared.prefixes.PrefixForm.{PrefixForm};
+ghost use Rattle.dfdl_breaches.specs.Judging.{breach_at, form_of_prefix, primitive_at};
 
 use dfdl_checks::laws::{
-    primitives_are_bounded, primitives_for_unparsing_are_whole, sound_elements_have_primitives,
+    prefixes_are_bounded, primitives_are_bounded, primitives_for_unparsing_are_whole,
+    sound_elements_have_primitives,
 };
 
 /// A simple element without a breach has a primitive. Each primitive, of an element with breaches too,
 /// keeps the bounds of its type, which is that of the element, and each one for unparsing is a whole
-/// unsigned integer.
+/// unsigned integer. So does each primitive of a length prefix, of which there is none for unparsing.
 pub fn sound_elements_have_bounded_primitives()
     ensures sound { (purpose : Purpose) (documents : List SchemaDocument) (own : Site) → breach_at purpose documents own ≡ None
         → IsTrue (is_simple (kind_at documents own)) → IsSome (primitive_at purpose documents own) }
+    ensures prefix { (purpose : Purpose) (documents : List SchemaDocument) (own : Site) (f : PrefixForm)
+        → form_of_prefix purpose documents own ≡ Some f → IsPrimitive f.primitive }
+    ensures parsing { (documents : List SchemaDocument) (own : Site) → form_of_prefix Unparsing documents own ≡ None }
     ensures bounded { (purpose : Purpose) (documents : List SchemaDocument) (own : Site) (p : Primitive)
         → primitive_at purpose documents own ≡ Some p → IsPrimitive p }
     ensures kind { (purpose : Purpose) (documents : List SchemaDocument) (own : Site) (p : Primitive)
-        → primitive_at purpose documents own ≡ Some p → kind_at documents own ≡ SimpleElement (type_of p) }
+        → primitive_at purpose documents own ≡ Some p → simple_of (kind_at documents own) ≡ Some (type_of p) }
     ensures whole { (documents : List SchemaDocument) (own : Site) (p : Primitive)
         → primitive_at Unparsing documents own ≡ Some p → IsWhole p }
 {
     sound_elements_have_primitives();
     primitives_are_bounded();
+    prefixes_are_bounded();
     primitives_for_unparsing_are_whole();
 }

@@ -8,3 +8,4 @@ pub mod Lengths
 pub mod Facts
 pub mod Everywhere
 pub mod Shown
+pub mod Prefixes

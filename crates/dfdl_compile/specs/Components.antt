@@ -1,16 +1,17 @@
 -- The components of a schema's documents: each element of them is one, by its number among those of all
 -- documents. What is no component is an empty sequence, and nothing reaches it ('DFDL Schema Component
 -- Model').
-use Rattle.std.specs.Prelude.{ℕ, List, [], map, Option, None, Some, option_map, codes}
+use Rattle.std.specs.Prelude.{ℕ, ◌+◌, List, [], ◌++◌, map, Option, None, Some, option_map, codes}
 use Rattle.std.specs.Option.{unwrap_or}
 use Rattle.dfdl_constructs.specs.declared.role.Role.{Role}
 use Rattle.dfdl_constructs.specs.declared.role.Role.TheVariants as role
 use Rattle.dfdl_documents.specs.Documents.{SchemaDocument}
 use Rattle.dfdl_components.specs.declared.kind.ComponentKind.TheVariants as names
 use Rattle.dfdl_components.specs.declared.site.Site.{Site}
-use Rattle.dfdl_components.specs.Recursion.{number_of}
+use Rattle.dfdl_components.specs.Recursion.{count_of, number_of}
 use Rattle.dfdl_components.specs.Sites.{role_of}
 use Rattle.dfdl_checks.specs.Numbers.{type_of}
+use Rattle.dfdl_checks.specs.declared.prefixes.PrefixForm.{PrefixForm}
 use Rattle.dfdl_checks.specs.declared.purpose.Purpose.{Purpose}
 use Rattle.dfdl_checks.specs.declared.subject.Breach.{Breach}
 use Rattle.dfdl_checks.specs.declared.subject.Kind.{Kind}
@@ -23,25 +24,44 @@ use Rattle.dfdl_breaches.specs.declared.judgement.Judgement.{Judgement}
 use Rattle.dfdl_breaches.specs.Elements.{place_of}
 use Rattle.dfdl_breaches.specs.Judging.{judgement_at}
 use Rattle.dfdl_terms.specs.declared.framing.Framing.{Framing}
+use Rattle.dfdl_terms.specs.declared.prefix.Prefix.{Prefix}
 use Rattle.dfdl_terms.specs.declared.row.Primitive.{Primitive}
 use Rattle.dfdl_rows.specs.Components.{Schema}
+use Rattle.dfdl_rows.specs.declared.component.ContentBox.{ContentBox}
+use Rattle.dfdl_rows.specs.declared.component.ContentBox.TheVariants.{Unbounded, Sized, Prefixed}
 use Rattle.dfdl_rows.specs.declared.component.Component.{Component}
 use Rattle.dfdl_rows.specs.declared.component.Component.TheVariants.{Sequence, Reference, ComplexElement, SimpleElement}
 use Rattle.dfdl_rows.specs.declared.refusal.Refusal.{Refusal}
-use Rattle.dfdl_compile.specs.Primitives.{primitive_by}
+use Rattle.dfdl_compile.specs.Primitives.{prefix_primitive_by, primitive_by}
 
 -- the local name of an element
 abbrev pub element_name : List SchemaDocument → Site → List ℕ
 element_name documents own = unwrap_or (attribute_of documents (declaration documents own) (codes "name")) []
 
--- an element or a group, of which this is its name, how its values lie in the data, its number, and the fill and the box around
--- its content
-abbrev pub component_by : List ℕ → Primitive → ℕ → Framing → Option ℕ → Kind → Component
-component_by name primitive number framing size kind.ComplexElement = ComplexElement name framing size
-component_by name primitive number framing size (kind.SimpleElement simple) = SimpleElement name (type_of primitive) number framing
-component_by name primitive number framing size kind.UncarriedElement = SimpleElement name (type_of primitive) number framing
-component_by name primitive number framing size kind.Sequence = Sequence framing
-component_by name primitive number framing size kind.Choice = Sequence framing
+-- The number of the primitive that an element's length prefix is read by: those of prefixes stand behind those of all elements, in
+-- the same order.
+abbrev pub prefix_number : List SchemaDocument → Site → ℕ
+prefix_number documents own = count_of documents + number_of documents own
+
+-- a length prefix whose primitive has this number
+abbrev pub prefix_by : ℕ → PrefixForm → Prefix
+prefix_by number form = record { prim = number; unit = form.unit; own = form.own }
+
+-- the box around the content of a complex element: one of so many bits, that of a prefix, or none
+abbrev pub box_by : Option ℕ → Option Prefix → ContentBox
+box_by (Some bits) prefix = Sized bits
+box_by None (Some prefix) = Prefixed prefix
+box_by None None = Unbounded
+
+-- an element or a group, of which this is its name, how its values lie in the data, its number, the fill and the box around its
+-- content, and its length prefix
+abbrev pub component_by : List ℕ → Primitive → ℕ → Framing → Option ℕ → Option Prefix → Kind → Component
+component_by name primitive number framing size prefix kind.ComplexElement = ComplexElement name framing (box_by size prefix)
+component_by name primitive number framing size prefix (kind.SimpleElement simple) = SimpleElement name (type_of primitive) number prefix framing
+component_by name primitive number framing size prefix kind.UncarriedElement = SimpleElement name (type_of primitive) number prefix framing
+component_by name primitive number framing size prefix kind.Sequence = Sequence framing
+component_by name primitive number framing size prefix kind.Choice = Sequence framing
+component_by name primitive number framing size prefix (kind.PrefixNumber simple) = Sequence framing
 
 -- a group reference with this fill stands for the group that it names
 abbrev pub reference_by : Framing → Option Site → Component
@@ -53,7 +73,7 @@ abbrev pub component_of : List SchemaDocument → Site → Judgement → Role �
 component_of documents own judgement role.GroupReference = reference_by judgement.framing (referred documents own names.Group)
 component_of documents own judgement _ =
     component_by (element_name documents own) (primitive_by judgement) (number_of documents own) judgement.framing judgement.size
-    (kind_at documents own)
+    (option_map (prefix_by (prefix_number documents own)) judgement.prefix) (kind_at documents own)
 
 -- what an element of the documents is, of which this is told
 abbrev pub component_with : List SchemaDocument → Site → Judgement → Component
@@ -88,6 +108,10 @@ components_of purpose documents = record {
 abbrev pub primitive_at : Purpose → List SchemaDocument → Site → Primitive
 primitive_at purpose documents own = primitive_by (judgement_at purpose documents own)
 
--- the primitives of the documents, by the numbers of their elements
+-- the primitive of the length prefix of an element of the documents
+abbrev pub prefix_primitive_at : Purpose → List SchemaDocument → Site → Primitive
+prefix_primitive_at purpose documents own = prefix_primitive_by (judgement_at purpose documents own)
+
+-- the primitives of the documents: those of their elements by the elements' numbers, and behind them those of their prefixes
 unfoldable pub primitives_of : Purpose → List SchemaDocument → List Primitive
-primitives_of purpose documents = for_each documents (primitive_at purpose documents)
+primitives_of purpose documents = for_each documents (primitive_at purpose documents) ++ for_each documents (prefix_primitive_at purpose documents)

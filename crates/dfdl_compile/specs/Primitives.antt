@@ -1,5 +1,5 @@
--- The primitives that the leaves of a schema are read by: one for each element of its documents, by the element's number
--- ('Simple Types').
+-- The primitives that the leaves of a schema and their length prefixes are read by: one of each for each element of its documents
+-- ('Simple Types', 'Lengths').
 use Rattle.std.specs.Prelude.{◌≡◌, ℕ, List, slice_get, Option, None, Some, unwrap_or}
 use Rattle.dfdl_forms.specs.declared.order.BitOrder.TheVariants.{MostFirst}
 use Rattle.dfdl_forms.specs.declared.order.ByteOrder.TheVariants.{Big}
@@ -10,8 +10,9 @@ use Rattle.dfdl_terms.specs.Rows.{Table}
 use Rattle.dfdl_terms.specs.declared.row.Primitive.{Primitive}
 use Rattle.dfdl_terms.specs.declared.row.Primitive.TheVariants.{Integer}
 use Rattle.dfdl_terms.specs.declared.row.Row.{Row}
-use Rattle.dfdl_terms.specs.declared.row.Row.TheVariants.{Leaf, Elem, Group, Skip, Align, Boxed}
+use Rattle.dfdl_terms.specs.declared.row.Row.TheVariants.{Leaf, Elem, Group, Skip, Align, Boxed, PrefixedLeaf, PrefixedBox}
 use Rattle.dfdl_checks.specs.Numbers.{type_of}
+use Rattle.dfdl_checks.specs.declared.prefixes.PrefixForm.{PrefixForm}
 use Rattle.dfdl_breaches.specs.declared.judgement.Judgement.{Judgement}
 
 -- the primitive that stands for an element without one of its own, which is no simple element or is refused
@@ -21,6 +22,15 @@ a_byte = Integer (record { bits = 8; bytes_by = Big; bits_by = MostFirst; point 
 -- the primitive of an element of which this is told
 abbrev pub primitive_by : Judgement → Primitive
 primitive_by judgement = unwrap_or judgement.primitive a_byte
+
+-- the primitive of a prefix, or the one that stands for none
+abbrev pub primitive_if : Option PrefixForm → Primitive
+primitive_if None = a_byte
+primitive_if (Some form) = form.primitive
+
+-- the primitive of the length prefix of an element of which this is told
+abbrev pub prefix_primitive_by : Judgement → Primitive
+prefix_primitive_by judgement = primitive_if judgement.prefix
 
 -- there is a primitive, and its values are of the type
 abbrev pub IsOfType : Simple → Option Primitive → Type 0
@@ -41,6 +51,8 @@ IsLeafOfType primitives simple (Some (Group children)) = ⊥
 IsLeafOfType primitives simple (Some (Skip bits)) = ⊥
 IsLeafOfType primitives simple (Some (Align bits)) = ⊥
 IsLeafOfType primitives simple (Some (Boxed bits inside)) = ⊥
+IsLeafOfType primitives simple (Some (PrefixedLeaf prefix prim)) = ⊥
+IsLeafOfType primitives simple (Some (PrefixedBox prefix inside)) = ⊥
 IsLeafOfType primitives simple None = ⊥
 
 -- the body of each simple element is itself a leaf of a primitive of the element's type

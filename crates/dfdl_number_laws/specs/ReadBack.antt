@@ -1,5 +1,5 @@
 -- The conditions under which the text of a number by a pattern is read as that number.
-use Rattle.std.specs.Prelude.{◌≡◌, ◌≢◌, ℕ, ◌<◌, ◌≤◌, ◌==◌, ◌||◌, not, Bool, ◌⊎◌, true, false, List, [], ◌∷◌, length, reverse, chars, None}
+use Rattle.std.specs.Prelude.{◌≡◌, ℕ, ◌≤◌, ◌==◌, ◌||◌, not, Bool, ◌⊎◌, true, false, List, [], ◌∷◌, reverse, None}
 use Rattle.std.specs.Char.{is_ascii_digit}
 use Rattle.dfdl_decimal.specs.Decimal.{DecimalNumber}
 use Rattle.dfdl_forms.specs.declared.number.NumberForm.{NumberForm}
@@ -8,7 +8,7 @@ use Rattle.dfdl_forms.specs.declared.number_pattern.Point.{Point}
 use Rattle.dfdl_forms.specs.declared.number_pattern.Point.TheVariants.{Written, Implied}
 use Rattle.dfdl_number_text.specs.Body.{separator_of, is_separator}
 use Rattle.dfdl_number_text.specs.NumberReading.{signed_number}
-use Rattle.dfdl_number_text.specs.Writing.{body_text, places_of}
+use Rattle.dfdl_number_text.specs.Writing.{places_of}
 
 -- The number has no more fraction digits than the pattern; a whole number has none. Where the decimal point is implied, a
 -- number that has more has no text.

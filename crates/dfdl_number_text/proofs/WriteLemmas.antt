@@ -17,7 +17,7 @@ use Rattle.dfdl_number_text.specs.Writing.{behind_integer, body_text, fraction_d
 use Rattle.dfdl_number_text.specs.Written.{IsFront, IsWritten, ShowsNumber, ShowsSize, digit_text}
 use Rattle.dfdl_number_text.specs.declared.digits.Groups.{Groups}
 use Rattle.dfdl_number_text.proofs.RoundingLemmas.{ten_some}
-use Rattle.dfdl_number_text.proofs.DigitLemmas.{digits_none, digits_behind, length-characters, digit_count_few}
+use Rattle.dfdl_number_text.proofs.DigitLemmas.{digits_behind, length-characters, digit_count_few}
 use Rattle.dfdl_number_text.proofs.WriteLists.{grouped_none, grouped_long}
 
 -- ---- zero

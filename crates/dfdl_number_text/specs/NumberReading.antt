@@ -1,5 +1,5 @@
 -- What the characters of a text number are read as.
-use Rattle.std.specs.Prelude.{ℕ, ◌+◌, ◌*◌, ◌&&◌, Bool, true, false, nat_lt, List, length, fold, chars, Option, Some, None, option_and_then, Result, Ok, Err, pos, if◌then◌else◌}
+use Rattle.std.specs.Prelude.{ℕ, ◌+◌, ◌*◌, ◌&&◌, Bool, true, false, nat_lt, List, length, fold, Option, Some, None, option_and_then, Result, Ok, Err, pos, if◌then◌else◌}
 use Rattle.std.specs.Char.{digit_value}
 use Rattle.std.specs.List.{list_all}
 use Rattle.dfdl_decimal.specs.Decimal.{DecimalNumber}

@@ -1,5 +1,5 @@
 -- What characters a value is written as.
-use Rattle.std.specs.Prelude.{ℕ, ◌*◌, ◌/◌, ◌%◌, ◌^◌, ◌==◌, ◌&&◌, Bool, not, max, nat_lt, List, [], ◌∷◌, ◌++◌, length, take, drop, map, chars, Option, Some, None, option_map, option_and_then, pos, int_lt, unsigned_abs, if◌then◌else◌}
+use Rattle.std.specs.Prelude.{ℕ, ◌*◌, ◌/◌, ◌%◌, ◌^◌, ◌==◌, ◌&&◌, Bool, not, max, nat_lt, List, [], ◌∷◌, ◌++◌, length, take, drop, map, Option, Some, None, option_map, option_and_then, pos, int_lt, unsigned_abs, if◌then◌else◌}
 use Rattle.dfdl_decimal.specs.Decimal.{DecimalNumber}
 use Rattle.dfdl_value.specs.Texts.{is_zero}
 use Rattle.dfdl_lemmas.specs.Trimmed.{without_trailing}

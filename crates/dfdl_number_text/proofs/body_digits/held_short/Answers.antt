@@ -1,4 +1,4 @@
-use Rattle.std.proofs.Common.{◌+◌, ◌*◌, ◌^◌, ◌∙◌, filter, length, ap, sym, arith}
+use Rattle.std.proofs.Common.{◌∙◌, filter, length, ap, sym, arith}
 use Rattle.std.specs.Char.{is_ascii_digit}
 use Rattle.dfdl_value.specs.Texts.{number_after}
 use Rattle.dfdl_value.proofs.DecimalLemmas.{number_after-append}

@@ -1,4 +1,4 @@
-use Rattle.std.proofs.Common.{◌≡◌, ◌==◌, ◌&&◌, not, ap, sym, ◌∙◌}
+use Rattle.std.proofs.Common.{◌==◌, ◌&&◌, not, ap, sym, ◌∙◌}
 use Rattle.std.proofs.lemmas.Bool.{ne_eqb}
 use Rattle.dfdl_number_text.proofs.Grouping.{ends_is}
 use Rattle.dfdl_number_text.proofs.digits.ends_group.Goals as goal

@@ -1,4 +1,4 @@
-use Rattle.std.proofs.Common.{◌≡◌, ℕ, ◌+◌, ◌/◌, ◌^◌, List, length}
+use Rattle.std.proofs.Common.{◌≡◌, ◌+◌, ◌/◌, ◌^◌, length}
 use Rattle.dfdl_number_text.specs.Written.{IsInGroup, IsPut, digit_text}
 use Rattle.dfdl_number_text.proofs.digits.put_in_front.Given as goal
 

@@ -1,4 +1,4 @@
-use Rattle.std.proofs.Common.{◌+◌, ◌*◌, ◌^◌, refl, ◌∙◌, arith}
+use Rattle.std.proofs.Common.{refl, ◌∙◌, arith}
 use Rattle.dfdl_number_text.proofs.DigitLemmas.{digits_behind, digits_none}
 use Rattle.dfdl_number_text.proofs.WriteLemmas.{fraction_of_size}
 use Rattle.dfdl_number_text.proofs.write_value.fraction_of.Goals as goal

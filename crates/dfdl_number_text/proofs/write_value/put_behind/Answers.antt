@@ -1,4 +1,4 @@
-use Rattle.std.proofs.Common.{◌-◌, arith}
+use Rattle.std.proofs.Common.{arith}
 use Rattle.dfdl_number_text.proofs.DigitLemmas.{length-characters}
 use Rattle.dfdl_number_text.proofs.WriteLists.{put_none}
 use Rattle.dfdl_number_text.proofs.write_value.put_behind.Goals as goal

@@ -1,4 +1,4 @@
-use Rattle.std.proofs.Common.{◌≡◌, ℕ, ◌+◌, ◌*◌, ◌^◌, List, ◌++◌, length, map, length-append, ap, ◌∙◌, arith}
+use Rattle.std.proofs.Common.{ℕ, List, map, length-append, arith}
 use Rattle.dfdl_number_text.specs.Digits.{digits_at, digit_character}
 use Rattle.dfdl_number_text.specs.Writing.{behind_integer, grouped, integer_digits}
 use Rattle.dfdl_number_text.proofs.WriteLists.{put_joined}

@@ -1,4 +1,4 @@
-use Rattle.std.proofs.Common.{◌≡◌, ℕ, ◌-◌, ◌&&◌, not, nat_eq, Bool, true, false, List, [], ◌∷◌, ◌++◌, map, length, ap, sym, ◌∙◌, if◌then◌else◌, arith}
+use Rattle.std.proofs.Common.{◌≡◌, ℕ, ◌&&◌, not, nat_eq, Bool, true, false, List, [], ◌∷◌, ◌++◌, map, length, ap, ◌∙◌, if◌then◌else◌, arith}
 use Rattle.dfdl_number_text.specs.Digits.{digits_at, digit_character}
 use Rattle.dfdl_number_text.specs.Writing.{with_separator}
 use Rattle.dfdl_number_text.proofs.DigitLemmas.{length-characters}

@@ -1,4 +1,4 @@
-use Rattle.std.proofs.Common.{◌-◌, length, ap, arith}
+use Rattle.std.proofs.Common.{length, ap, arith}
 use Rattle.dfdl_number_text.proofs.WriteLemmas.{integer_text, integer_long}
 use Rattle.dfdl_number_text.proofs.write_value.put_whole.Goals as goal
 

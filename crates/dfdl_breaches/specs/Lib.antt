@@ -1,4 +1,3 @@
-pub mod References
 pub mod Formats
 pub mod Elements
 pub mod Roots

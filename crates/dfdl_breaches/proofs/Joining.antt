@@ -16,11 +16,11 @@ use Rattle.dfdl_scope.specs.Shown.{given}
 use Rattle.dfdl_scope.specs.declared.properties.Properties.{Properties}
 use Rattle.dfdl_scope.specs.declared.format.Format.{Format}
 use Rattle.dfdl_chains.specs.Everywhere.{all_sites, for_each}
-use Rattle.dfdl_breaches.proofs.Found.{after-found}
+use Rattle.dfdl_references.proofs.Found.{after-found}
 use Rattle.dfdl_breaches.proofs.Numbering.{at-number, length-sites, number-below, value-at}
 use Rattle.dfdl_breaches.specs.Formats.{given_by, format_value, format_within}
-use Rattle.dfdl_breaches.specs.References.{format_after}
-use Rattle.dfdl_breaches.specs.Tabled.{AreJoined, AreTabled, IsFormatOwn, format_own, is_format, number_after}
+use Rattle.dfdl_references.specs.References.{format_after, is_format}
+use Rattle.dfdl_breaches.specs.Tabled.{AreJoined, AreTabled, IsFormatOwn, format_own, number_after}
 
 module _ (documents : List SchemaDocument) (own : List Properties) (tabled : AreTabled (IsFormatOwn documents) (all_sites documents) (count_of documents) own) where
   -- what a format gives by itself, in the table

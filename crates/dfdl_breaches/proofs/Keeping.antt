@@ -17,7 +17,7 @@ use Rattle.dfdl_chains.specs.Chains.{chain_sites}
 use Rattle.dfdl_chains.specs.Everywhere.{all_sites}
 use Rattle.dfdl_chains.specs.Facts.{facts_at}
 use Rattle.dfdl_chains.specs.Kinds.{kind_at}
-use Rattle.dfdl_breaches.proofs.Found.{IsFound, of-found, default-found}
+use Rattle.dfdl_references.proofs.Found.{IsFound, of-found, default-found}
 use Rattle.dfdl_breaches.proofs.Joining.{all-tabled}
 use Rattle.dfdl_breaches.proofs.Numbering.{at-number, length-sites, number-below}
 use Rattle.dfdl_breaches.specs.Elements.{element_at, place_of}
@@ -25,7 +25,7 @@ use Rattle.dfdl_breaches.specs.Formats.{format_value, given_by}
 use Rattle.dfdl_breaches.specs.Judging.{judged_at}
 use Rattle.dfdl_breaches.specs.KeptShown.{IsFormatIf}
 use Rattle.dfdl_breaches.specs.Roots.{bit_order_at, root_bits_by}
-use Rattle.dfdl_breaches.specs.References.{default_of, format_of}
+use Rattle.dfdl_references.specs.References.{default_of, format_of}
 use Rattle.dfdl_breaches.specs.Tabled.{AreJoined, AreTabled}
 
 -- a number that is there

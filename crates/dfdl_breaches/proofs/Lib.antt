@@ -1,4 +1,3 @@
-mod Found
 mod Joining
 mod Keeping
 pub mod Numbering

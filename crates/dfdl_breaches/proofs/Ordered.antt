@@ -18,10 +18,10 @@ use Rattle.dfdl_components.specs.References.{Referring, Plain, referring}
 use Rattle.dfdl_components.specs.Sites.{IsSite, nodes_of, role_of}
 use Rattle.dfdl_properties.specs.Formats as formats
 use Rattle.dfdl_chains.specs.Everywhere.{all_sites, for_each}
-use Rattle.dfdl_breaches.proofs.Found.{IsAfter, IsDefined, is-after}
+use Rattle.dfdl_references.proofs.Found.{IsAfter, IsDefined, is-after}
 use Rattle.dfdl_breaches.proofs.Numbering.{IsNumbered, length-sites, number-below, numbered, uses-each, value-at}
-use Rattle.dfdl_breaches.specs.References.{format_after}
-use Rattle.dfdl_breaches.specs.Tabled.{is_format, number_after}
+use Rattle.dfdl_references.specs.References.{format_after, is_format}
+use Rattle.dfdl_breaches.specs.Tabled.{number_after}
 
 -- what is in a list that a function gives is in all of them
 in-flat : {X : Type 0} (f : X → List ℕ) (xs : List X) (x : X) (n : ℕ) → Contains xs x → Contains (f x) n → Contains (flat_map f xs) n

@@ -7,7 +7,7 @@ use Rattle.dfdl_components.specs.declared.site.Site.{Site}
 use Rattle.dfdl_components.specs.Sites.{nodes_of}
 use Rattle.dfdl_properties.specs.Own.{given_at, repeats_at}
 use Rattle.dfdl_scope.specs.Scoping.{Element}
-use Rattle.dfdl_breaches.specs.References.{format_of}
+use Rattle.dfdl_references.specs.References.{format_of}
 use Rattle.dfdl_breaches.specs.Formats.{given_by, format_value, default_value}
 
 -- the start tag of an element

@@ -7,7 +7,7 @@ use Rattle.dfdl_components.specs.Sites.{nodes_of}
 use Rattle.dfdl_components.specs.Recursion.{count_of}
 use Rattle.dfdl_properties.specs.Own.{format_given_at}
 use Rattle.dfdl_scope.specs.Scoping.{Given, nothing, nearer}
-use Rattle.dfdl_breaches.specs.References.{format_after, default_of}
+use Rattle.dfdl_references.specs.References.{format_after, default_of}
 
 -- what a format gives that may be lacking
 abbrev pub given_by : (Site → Given) → Option Site → Given

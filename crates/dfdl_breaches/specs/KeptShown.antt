@@ -5,7 +5,8 @@ use Rattle.dfdl_components.specs.declared.site.Site.{Site}
 use Rattle.dfdl_components.specs.Recursion.{count_of}
 use Rattle.dfdl_components.specs.Sites.{IsSite, role_of}
 use Rattle.dfdl_breaches.specs.Numbered.{AreSites}
-use Rattle.dfdl_breaches.specs.Tabled.{AreJoined, AreTabled, IsEntry, is_format}
+use Rattle.dfdl_breaches.specs.Tabled.{AreJoined, AreTabled, IsEntry}
+use Rattle.dfdl_references.specs.References.{is_format}
 use Rattle.dfdl_breaches.specs.declared.kept.Kept.{Kept}
 
 -- what is kept: the elements, an entry of each, and the formats

@@ -1,17 +1,16 @@
 -- Mirror for the prover: what is kept of each element of a schema.
-use Rattle.std.specs.Prelude.{◌≡◌, ℕ, ◌<◌, ◌||◌, List, length, get_or, Option, None, option_map, Bool, true, if◌then◌else◌}
-use Rattle.dfdl_constructs.specs.declared.role.Role.{Role}
+use Rattle.std.specs.Prelude.{◌≡◌, ℕ, ◌<◌, List, length, get_or, Option, None, option_map, true, if◌then◌else◌}
 use Rattle.dfdl_documents.specs.Documents.{SchemaDocument}
 use Rattle.dfdl_components.specs.declared.site.Site.{Site}
 use Rattle.dfdl_components.specs.Sites.{IsSite, nodes_of, role_of}
 use Rattle.dfdl_components.specs.Recursion.{number_of}
-use Rattle.dfdl_properties.specs.Own.{format_given_at, given_at, is_default_format, repeats_at}
+use Rattle.dfdl_properties.specs.Own.{format_given_at, given_at, repeats_at}
 use Rattle.dfdl_properties.specs.Shown.{value_by_format}
 use Rattle.dfdl_scope.specs.Scoping.{Given, nothing}
 use Rattle.dfdl_scope.specs.Shown.{given, given_twice}
 use Rattle.dfdl_scope.specs.declared.properties.Properties.{Properties}
 use Rattle.dfdl_scope.specs.declared.format.Format.{Format}
-use Rattle.dfdl_breaches.specs.References.{default_of, format_after, format_of, is_defined_format}
+use Rattle.dfdl_references.specs.References.{default_of, format_after, format_of, is_format}
 use Rattle.dfdl_breaches.specs.Formats.{format_value}
 use Rattle.dfdl_breaches.specs.Elements.{place_of}
 use Rattle.dfdl_breaches.specs.declared.entry.Entry.{Entry}
@@ -20,10 +19,6 @@ use Rattle.dfdl_breaches.specs.declared.entry.Entry.{Entry}
 pub record AreTabled {X : Type 0} (relation : Site → X → Type 0) (sites : List Site) (n : ℕ) (table : List X) : Type 0 where
   pub count : length table ≡ n
   pub each : (i : ℕ) (own : Site) (other : X) → i < n → relation (get_or sites i own) (get_or table i other)
-
--- a format: a document's default one, or one that is defined with a name
-abbrev pub is_format : Role → Bool
-is_format role = is_default_format role || is_defined_format role
 
 -- what a format gives by itself; every other element gives nothing
 abbrev pub format_own : List SchemaDocument → Site → Given

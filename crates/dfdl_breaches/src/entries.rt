@@ -3,11 +3,11 @@ ghost use Rattle.std.specs.Prelude.{◌≡◌, IfOk, IfSome, length, option_map}
 ghost use Rattle.dfdl_components.specs.Recursion.{number_of};
 ghost use Rattle.dfdl_components.specs.Sites.{IsSite};
 ghost use Rattle.dfdl_breaches.specs.Numbered.{AreSites};
-ghost use Rattle.dfdl_breaches.specs.References.{default_of, format_of};
+ghost use Rattle.dfdl_references.specs.References.{default_of, format_of};
 ghost use Rattle.dfdl_breaches.specs.Tabled.{AreDefaults, AreTabled, IsEntry};
 
 use crate::entry::Entry;
-use crate::referring::{default_of, format_of};
+use dfdl_references::{default_of, format_of};
 use crate::sites::Sites;
 use dfdl_components::{Schema, Site};
 use dfdl_properties::own_properties;

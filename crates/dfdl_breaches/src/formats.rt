@@ -5,9 +5,10 @@ ghost use Rattle.dfdl_components.specs.Rules.{loading_rules, AllKeep};
 ghost use Rattle.dfdl_components.specs.Sites.{IsSite};
 ghost use Rattle.dfdl_chains.specs.Everywhere.{for_each};
 ghost use Rattle.dfdl_breaches.specs.Numbered.{AreSites};
-ghost use Rattle.dfdl_breaches.specs.Tabled.{AreJoined, AreTabled, IsFormatOwn, is_format, number_after};
+ghost use Rattle.dfdl_breaches.specs.Tabled.{AreJoined, AreTabled, IsFormatOwn, number_after};
+ghost use Rattle.dfdl_references.specs.References.{is_format};
 
-use crate::referring::format_after;
+use dfdl_references::format_after;
 use crate::sites::Sites;
 use dfdl_components::{Schema, Site, order};
 use dfdl_constructs::Role;

@@ -2,7 +2,7 @@
 //! component there breaks, and how its values lie in the data where it is a simple element.
 //!
 //! A component is judged by what the elements of its chain give: their own properties, the formats that they refer to
-//! (`specs/References.antt`), each joined once with those that it refers to (`specs/Formats.antt`), and the default formats
+//! (`specs/References.antt` of dfdl_references), each joined once with those that it refers to (`specs/Formats.antt`), and the default formats
 //! of their documents (`specs/Elements.antt`). The contract of `breaches` cites `specs/Judging.antt`. It serves the chapter
 //! 'Property Scoping and DFDL Schema Checking'.
 #![tactic(auto)]
@@ -13,7 +13,6 @@ mod formats;
 mod judgement;
 mod kept;
 pub mod laws;
-mod referring;
 mod root;
 mod sites;
 mod telling;

@@ -1,5 +1,5 @@
 use Rattle.dfdl_breaches.proofs.Keeping.{default_format, number_within, of_format}
-use Rattle.dfdl_breaches.specs.References.{default_of, format_of}
+use Rattle.dfdl_references.specs.References.{default_of, format_of}
 use Rattle.dfdl_breaches.proofs.kept.element_at.Goals as goal
 
 pub format_at-requires-clause-within : goal.format_at-requires-clause-within

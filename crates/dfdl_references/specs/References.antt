@@ -1,6 +1,6 @@
 -- The formats that components and formats refer to, and the default formats of documents ('Property Scoping and DFDL
 -- Schema Checking'). A `ref` names a definition, and stands for the format in it.
-use Rattle.std.specs.Prelude.{ℕ, List, [], ◌∷◌, Option, Some, None, Bool, true, false, codes, option_map}
+use Rattle.std.specs.Prelude.{ℕ, List, [], ◌∷◌, Option, Some, None, Bool, true, false, ◌||◌, codes, option_map}
 use Rattle.std.specs.Option.{option_or}
 use Rattle.dfdl_markup.specs.Trees.{Node}
 use Rattle.dfdl_constructs.specs.declared.role.Role.{Role}
@@ -15,12 +15,16 @@ use Rattle.dfdl_components.specs.Sites.{nodes_of}
 use Rattle.dfdl_components.specs.Globals.{site}
 use Rattle.dfdl_components.specs.Naming.{resolved}
 use Rattle.dfdl_properties.specs.Forms.{children_of}
-use Rattle.dfdl_properties.specs.Own.{is_annotation, is_dfdl_information, is_component_properties, default_format_of, first}
+use Rattle.dfdl_properties.specs.Own.{is_annotation, is_dfdl_information, is_component_properties, is_default_format, default_format_of, first}
 
 -- a `dfdl:format` that is defined with a name
 abbrev pub is_defined_format : Role → Bool
 is_defined_format role.DefinedFormat = true
 is_defined_format _ = false
+
+-- a format: a document's default one, or one that is defined with a name
+abbrev pub is_format : Role → Bool
+is_format role = is_default_format role || is_defined_format role
 
 -- the format in a definition
 abbrev pub format_in : List Node → ℕ → Option ℕ
@@ -45,10 +49,10 @@ format_after documents own = format_named documents own (plain_of (nodes_of docu
 abbrev pub format_in_short : List SchemaDocument → Site → Option Site
 format_in_short documents own = format_named documents own (dfdl_of (nodes_of documents own.document) own.element (codes "ref"))
 
--- the first format that is found among some elements
-abbrev pub first_found : (ℕ → Option Site) → List ℕ → Option Site
+-- the first that is found for some
+abbrev pub first_found : {A B : Type 0} → (A → Option B) → List A → Option B
 first_found found [] = None
-first_found found (element ∷ others) = option_or (found element) (first_found found others)
+first_found found (one ∷ others) = option_or (found one) (first_found found others)
 
 -- the first format that an annotation element of a component refers to: in an `xs:appinfo`, in an `xs:annotation`, and in
 -- all annotations of the component

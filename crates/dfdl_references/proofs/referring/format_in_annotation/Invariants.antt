@@ -3,8 +3,8 @@ use Rattle.dfdl_markup.specs.Trees.{node_at}
 use Rattle.dfdl_components.specs.Sites.{nodes_of}
 use Rattle.dfdl_properties.specs.Forms.{is_one}
 use Rattle.dfdl_properties.specs.Own.{is_dfdl_information}
-use Rattle.dfdl_breaches.specs.References.{first_found, format_in_information, format_in_annotation}
-use Rattle.dfdl_breaches.proofs.referring.format_in_annotation.Given as goal
+use Rattle.dfdl_references.specs.References.{first_found, format_in_information, format_in_annotation}
+use Rattle.dfdl_references.proofs.referring.format_in_annotation.Given as goal
 
 -- among what is left the same is found as among all
 abbrev pub invariant-loop-child : goal.invariant-loop-child

@@ -4,8 +4,8 @@ use Rattle.dfdl_components.specs.Globals.{site}
 use Rattle.dfdl_components.specs.Sites.{nodes_of}
 use Rattle.dfdl_properties.specs.Forms.{is_one}
 use Rattle.dfdl_properties.specs.Own.{is_component_properties}
-use Rattle.dfdl_breaches.specs.References.{first_found, format_after, format_in_information}
-use Rattle.dfdl_breaches.proofs.referring.format_in_information.Given as goal
+use Rattle.dfdl_references.specs.References.{first_found, format_after, format_in_information}
+use Rattle.dfdl_references.proofs.referring.format_in_information.Given as goal
 
 -- among what is left the same is found as among all
 abbrev pub invariant-loop-child : goal.invariant-loop-child

@@ -2,8 +2,8 @@ use Rattle.std.proofs.Common.{◌≡◌, drop, filter}
 use Rattle.dfdl_markup.specs.Trees.{node_at}
 use Rattle.dfdl_properties.specs.Forms.{children_of, is_one}
 use Rattle.dfdl_properties.specs.Own.{first}
-use Rattle.dfdl_breaches.specs.References.{is_defined_format}
-use Rattle.dfdl_breaches.proofs.referring.format_in.Given as goal
+use Rattle.dfdl_references.specs.References.{is_defined_format}
+use Rattle.dfdl_references.proofs.referring.format_in.Given as goal
 
 -- among what is left stands the same as among all
 abbrev pub invariant-loop-child : goal.invariant-loop-child

@@ -19,11 +19,10 @@ use Rattle.dfdl_components.specs.Naming.{resolved}
 use Rattle.dfdl_components.specs.Sites.{IsSite, nodes_of, role_of}
 use Rattle.dfdl_properties.specs.Forms.{children_of, is_one}
 use Rattle.dfdl_properties.specs.Own.{first, formats_in, is_annotation, is_default_format, is_dfdl_information, default_format_of}
-use Rattle.dfdl_breaches.specs.References.{is_defined_format, format_in, format_of_named, format_named, format_after, format_in_short, first_found, format_in_information, format_in_annotation, format_in_annotations, format_of, default_of}
-use Rattle.dfdl_breaches.specs.Tabled.{is_format}
+use Rattle.dfdl_references.specs.References.{is_defined_format, is_format, format_in, format_of_named, format_named, format_after, format_in_short, first_found, format_in_information, format_in_annotation, format_in_annotations, format_of, default_of}
 
 -- a value that is there
-abbrev or-zero : Option ℕ → ℕ
+abbrev pub or-zero : Option ℕ → ℕ
 or-zero None = zero
 or-zero (Some n) = n
 
@@ -74,7 +73,7 @@ pub record IsFound (documents : List SchemaDocument) (format : Site) : Type 0 wh
   pub role : is_format (role_of documents format) ≡ true
 
 -- an element of a document that is of a kind
-passed : (nodes : List Node) (test : Role → Bool) (n : ℕ) → is_one nodes test n ≡ true → (n < length nodes) × (test (role_at nodes n) ≡ true)
+pub passed : (nodes : List Node) (test : Role → Bool) (n : ℕ) → is_one nodes test n ≡ true → (n < length nodes) × (test (role_at nodes n) ≡ true)
 passed nodes test n is = (
   ltb-true n (length nodes) (first-passed (nat_lt n (length nodes)) (test (role_at nodes n)) is),
   second-passed (nat_lt n (length nodes)) (test (role_at nodes n)) is,
@@ -93,7 +92,7 @@ default-is r is = by (is_default_format r) (is_defined_format r) is
     by a b h = grind (arith, h)
 
 -- an element that may be lacking, or another
-abbrev or-site : Site → Option Site → Site
+abbrev pub or-site : Site → Option Site → Site
 or-site other None = other
 or-site other (Some own) = own
 

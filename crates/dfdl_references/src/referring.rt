@@ -4,22 +4,13 @@ ghost use Rattle.dfdl_components.specs.Globals.{site};
 ghost use Rattle.dfdl_components.specs.Sites.{IsSite, nodes_of};
 ghost use Rattle.dfdl_constructs.specs.Roles.{AreRoles};
 ghost use Rattle.dfdl_markup.specs.Trees.{node_at};
-ghost use Rattle.dfdl_properties.specs.Forms.{is_one};
-ghost use Rattle.dfdl_properties.specs.Own.{is_annotation, is_component_properties, is_dfdl_information};
-ghost use Rattle.dfdl_breaches.specs.References as spec;
+ghost use Rattle.dfdl_references.specs.References as spec;
 
+use crate::kinds::{is_annotation, is_component_properties, is_defined_format, is_dfdl_information};
 use dfdl_components::{ComponentKind, Named, Schema, Site};
-use dfdl_constructs::{Role, Roles, dfdl, plain};
+use dfdl_constructs::{Roles, dfdl, plain};
 use dfdl_properties::default_format;
 use dfdl_xml_tree::Tree;
-
-// Whether a child is a format that is defined with a name.
-fn is_defined_format(tree: &Tree, roles: &Roles, child: u32) -> bool
-    requires { AreRoles tree.now roles.now }
-    ensures { result ≡ is_one tree.now spec.is_defined_format child }
-{
-    child < tree.count() && matches!(roles.of(child), Role::DefinedFormat)
-}
 
 // The format in a definition.
 fn format_in(tree: &Tree, roles: &Roles, definition: u32) -> Option<u32>
@@ -76,7 +67,7 @@ fn find_after(schema: &Schema, own: Site) -> Option<Site>
 
 /// The format that a format, or an annotation element, refers to by its `ref`.
 #[tactic(auto, using(crate::proofs::Found::after_within))]
-pub(crate) fn format_after(schema: &Schema, own: Site) -> Option<Site>
+pub fn format_after(schema: &Schema, own: Site) -> Option<Site>
     requires { IsSite schema.now own }
     ensures format { result ≡ spec.format_after schema.now own }
     ensures within { IfSome result (IsSite schema.now) }
@@ -93,30 +84,6 @@ fn format_in_short(schema: &Schema, own: Site) -> Option<Site>
         Some(text) => format_named(schema, own, text),
         None => None,
     }
-}
-
-// Whether a child holds the properties of a component.
-fn is_component_properties(tree: &Tree, roles: &Roles, child: u32) -> bool
-    requires { AreRoles tree.now roles.now }
-    ensures { result ≡ is_one tree.now is_component_properties child }
-{
-    child < tree.count() && matches!(roles.of(child), Role::ComponentProperties)
-}
-
-// Whether a child is an `xs:appinfo` with DFDL's annotations.
-fn is_dfdl_information(tree: &Tree, roles: &Roles, child: u32) -> bool
-    requires { AreRoles tree.now roles.now }
-    ensures { result ≡ is_one tree.now is_dfdl_information child }
-{
-    child < tree.count() && matches!(roles.of(child), Role::Annotations(_))
-}
-
-// Whether a child is an `xs:annotation`.
-fn is_annotation(tree: &Tree, roles: &Roles, child: u32) -> bool
-    requires { AreRoles tree.now roles.now }
-    ensures { result ≡ is_one tree.now is_annotation child }
-{
-    child < tree.count() && matches!(roles.of(child), Role::Annotation(_))
 }
 
 // The first format that an annotation element in an `xs:appinfo` refers to.
@@ -175,7 +142,7 @@ fn format_in_annotations(schema: &Schema, own: Site) -> Option<Site>
 
 /// The format that a component refers to.
 #[tactic(auto, using(crate::proofs::Found::of_within))]
-pub(crate) fn format_of(schema: &Schema, own: Site) -> Option<Site>
+pub fn format_of(schema: &Schema, own: Site) -> Option<Site>
     requires { IsSite schema.now own }
     ensures format { result ≡ spec.format_of schema.now own }
     ensures within { IfSome result (IsSite schema.now) }
@@ -196,7 +163,7 @@ fn find_format(schema: &Schema, own: Site) -> Option<Site>
 
 /// The default format of a document.
 #[tactic(auto, using(crate::proofs::Found::default_within))]
-pub(crate) fn default_of(schema: &Schema, document: u32) -> Option<Site>
+pub fn default_of(schema: &Schema, document: u32) -> Option<Site>
     requires { document < length schema.now }
     ensures format { result ≡ spec.default_of schema.now document }
     ensures within { IfSome result (IsSite schema.now) }

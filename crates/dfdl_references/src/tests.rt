@@ -1,0 +1,219 @@
+// Where properties are written, in schemas in memory.
+ghost use Rattle.std.specs.Prelude.{◌<◌, length, IfSome};
+ghost use Rattle.dfdl_components.specs.Sites.{IsSite};
+
+use crate::writer;
+use dfdl_components::{Schema, Site, load};
+use dfdl_constructs::{dfdl, plain};
+use dfdl_edge::{MemoryFile, MemoryFiles};
+use std::alloc::{AllocError, Global};
+use std::test::Fail;
+
+/// What is written in a document: its default format, the attributes of its component, and what stands in an annotation there.
+#[derive(Clone, Copy)]
+struct Part<'t> {
+    default: &'t str,
+    attributes: &'t str,
+    inside: &'t str,
+}
+
+const NOTHING: Part<'static> = Part {
+    default: "",
+    attributes: "",
+    inside: "",
+};
+
+/// An annotation with this in it.
+fn annotated(alloc: Global, inside: &str) -> Result<String, AllocError> {
+    format!(in alloc;
+        "<x:annotation><x:appinfo source=\"http://www.ogf.org/dfdl/\">{inside}</x:appinfo></x:annotation>"
+    )
+}
+
+/// A document with this in the annotation of its schema, and these components.
+fn file_of(
+    alloc: Global,
+    name: &str,
+    formats: &str,
+    components: &str,
+) -> Result<MemoryFile, AllocError> {
+    let annotation = annotated(alloc, formats)?;
+    let text = format!(in alloc;
+        "<x:schema xmlns:x=\"http://www.w3.org/2001/XMLSchema\" xmlns:d=\"http://www.ogf.org/dfdl/dfdl-1.0/\">{annotation}{components}</x:schema>"
+    )?;
+    Ok(MemoryFile {
+        name: String::from_str(alloc, name)?,
+        bytes: text.into_bytes(),
+    })
+}
+
+/// An element, and the document of its type with two formats, one of which refers to the other.
+fn files_of(alloc: Global, element: Part, simple: Part) -> Result<Vec<MemoryFile>, AllocError> {
+    let inside = annotated(alloc, element.inside)?;
+    let attributes = element.attributes;
+    let here = format!(in alloc;
+        "<x:include schemaLocation=\"b\"/><x:element name=\"r\" type=\"t\" {attributes}>{inside}</x:element>"
+    )?;
+    let inside = annotated(alloc, simple.inside)?;
+    let attributes = simple.attributes;
+    let there = format!(in alloc;
+        "<x:simpleType name=\"t\" {attributes}>{inside}<x:restriction base=\"x:string\"/></x:simpleType>"
+    )?;
+    let default = simple.default;
+    let formats = format!(in alloc;
+        "{default}<d:defineFormat name=\"f\"><d:format ref=\"g\"/></d:defineFormat>\
+        <d:defineFormat name=\"g\"><d:format encoding=\"referenced\"/></d:defineFormat>"
+    )?;
+    let mut files = Vec::new(alloc);
+    files.push(file_of(alloc, "a", element.default, here.as_str())?)?;
+    files.push(file_of(alloc, "b", formats.as_str(), there.as_str())?)?;
+    Ok(files)
+}
+
+/// The first element of a document with this `name`.
+fn named(schema: &Schema, document: u32, name: &str) -> Option<Site>
+    ensures { IfSome result (IsSite schema.now) }
+{
+    if document >= schema.count() {
+        return None;
+    }
+    let tree = schema.tree(document);
+    for element in 0..tree.count() {
+        if plain(tree, element, "name") == Some(name) {
+            return Some(Site { document, element });
+        }
+    }
+    None
+}
+
+/// An element that writes the property, by its local name and the value that it gives.
+fn shown(alloc: Global, schema: &Schema, site: Site) -> Result<String, AllocError>
+    requires { IsSite schema.now site }
+{
+    let tree = schema.tree(site.document);
+    let name = tree.name(site.element);
+    let value = match plain(tree, site.element, "encoding") {
+        Some(value) => value,
+        None => match dfdl(tree, site.element, "encoding") {
+            Some(value) => value,
+            None => tree.text(site.element),
+        },
+    };
+    format!(in alloc; "{name} {value}")
+}
+
+/// Where the encoding of the element is written.
+fn written(alloc: Global, element: Part, simple: Part) -> Result<String, AllocError> {
+    let mut files = MemoryFiles::new(files_of(alloc, element, simple)?, Vec::new(alloc));
+    let Ok(schema) = load(alloc, &mut files, "a", 10_000, 2) else {
+        return String::from_str(alloc, "refused");
+    };
+    let Some(first) = named(&schema, 0, "r") else {
+        return String::from_str(alloc, "no element");
+    };
+    let Some(second) = named(&schema, 1, "t") else {
+        return String::from_str(alloc, "no type");
+    };
+    let chain = [first, second];
+    match writer(&schema, &chain, "encoding") {
+        Some(site) => shown(alloc, &schema, site),
+        None => String::from_str(alloc, "none"),
+    }
+}
+
+#[test]
+fn a_property_is_written_in_each_form(rt: HostRuntime) -> Result<(), Fail> {
+    let alloc = rt.alloc();
+    let cases = [
+        ("", "d:encoding=\"short\"", "", "element short"),
+        ("", "", "<d:element encoding=\"attribute\"/>", "element attribute"),
+        (
+            "",
+            "",
+            "<d:element><d:property name=\"byteOrder\">no</d:property><d:property name=\"encoding\">inside</d:property></d:element>",
+            "property inside",
+        ),
+        ("", "d:ref=\"f\"", "", "format referenced"),
+        ("", "", "<d:element ref=\"f\"/>", "format referenced"),
+        ("<d:format encoding=\"default\"/>", "", "", "format default"),
+        ("<d:format ref=\"f\"/>", "", "", "format referenced"),
+        ("", "", "", "none"),
+    ];
+    for (default, attributes, inside, expected) in cases {
+        let element = Part {
+            default,
+            attributes,
+            inside,
+        };
+        let line = written(alloc, element, NOTHING)?;
+        assert_eq!(rt; line.as_str(), expected);
+    }
+    Ok(())
+}
+
+#[test]
+fn the_nearest_is_taken(rt: HostRuntime) -> Result<(), Fail> {
+    let alloc = rt.alloc();
+    let everywhere = Part {
+        default: "<d:format encoding=\"default\"/>",
+        attributes: "d:encoding=\"short\" d:ref=\"f\"",
+        inside: "<d:element encoding=\"attribute\"/>",
+    };
+    let line = written(alloc, everywhere, NOTHING)?;
+    assert_eq!(rt; line.as_str(), "element short");
+    let annotation = Part {
+        attributes: "d:ref=\"f\"",
+        ..everywhere
+    };
+    let line = written(alloc, annotation, NOTHING)?;
+    assert_eq!(rt; line.as_str(), "element attribute");
+    let referenced = Part {
+        inside: "",
+        ..annotation
+    };
+    let line = written(alloc, referenced, NOTHING)?;
+    assert_eq!(rt; line.as_str(), "format referenced");
+    Ok(())
+}
+
+#[test]
+fn what_the_type_gives_stands_behind_the_element(rt: HostRuntime) -> Result<(), Fail> {
+    let alloc = rt.alloc();
+    let simple = Part {
+        default: "<d:format encoding=\"other\"/>",
+        attributes: "d:encoding=\"type\"",
+        inside: "",
+    };
+    let cases = [
+        ("", "d:ref=\"f\"", simple, "format referenced"),
+        ("<d:format encoding=\"default\"/>", "", simple, "simpleType type"),
+        (
+            "<d:format encoding=\"default\"/>",
+            "",
+            Part {
+                attributes: "",
+                ..simple
+            },
+            "format default",
+        ),
+        (
+            "",
+            "",
+            Part {
+                attributes: "",
+                ..simple
+            },
+            "format other",
+        ),
+    ];
+    for (default, attributes, simple, expected) in cases {
+        let element = Part {
+            default,
+            attributes,
+            inside: "",
+        };
+        let line = written(alloc, element, simple)?;
+        assert_eq!(rt; line.as_str(), expected);
+    }
+    Ok(())
+}

@@ -21,7 +21,7 @@ mod rows;
 mod sizes;
 mod walk;
 
-pub use component::Component;
+pub use component::{Component, ContentBox};
 pub use components::{Components, are_of_one, have_primitives};
 pub use fault::RowsFault;
 pub use refusal::Refusal;

@@ -6,7 +6,7 @@ use super::*;
 use dfdl_forms::{BitOrder, ByteOrder, IntForm, Simple};
 use dfdl_order::{Uses, order_of};
 use dfdl_report::{LimitCause, Place, SchemaCause};
-use dfdl_terms::{Framing, Primitive, Row, RowId, Tables, Terms};
+use dfdl_terms::{Framing, LengthUnit, Prefix, Primitive, Row, RowId, Tables, Terms};
 use dfdl_value::TextValue;
 use std::alloc::{AllocError, Global};
 use std::test::Fail;
@@ -101,6 +101,7 @@ fn named(alloc: Global, name: &str) -> Result<Component, AllocError> {
         simple: Simple::Int,
         prim: 0,
         framing: Framing::none(),
+        prefix: None,
     })
 }
 
@@ -108,7 +109,7 @@ fn complex(alloc: Global) -> Result<Component, AllocError> {
     Ok(Component::ComplexElement {
         name: TextValue::from_str(alloc, "r")?,
         framing: Framing::none(),
-        size: None,
+        content_box: ContentBox::Unbounded,
     })
 }
 
@@ -276,7 +277,7 @@ fn filled(alloc: Global) -> Result<Gathered, RowsFault> {
     let root = Component::ComplexElement {
         name: TextValue::from_str(alloc, "r")?,
         framing: fill(8, 16, 0),
-        size: None,
+        content_box: ContentBox::Unbounded,
     };
     gathered.push(root, &[1])?;
     let framing = fill(0, 32, 4);
@@ -288,9 +289,23 @@ fn filled(alloc: Global) -> Result<Gathered, RowsFault> {
         simple: Simple::Int,
         prim: 0,
         framing: fill(1, 8, 2),
+        prefix: None,
     };
     gathered.push(element, &[])?;
     Ok(gathered)
+}
+
+// The numbers of a prefix: its primitive, how many bits its unit has, where that is told, and what of it is its own.
+fn push_prefix(numbers: &mut Vec<u64>, prefix: Prefix) -> Result<(), AllocError> {
+    let unit = match prefix.unit {
+        LengthUnit::Bits => 1,
+        LengthUnit::Bytes => 8,
+        LengthUnit::Characters => 0,
+    };
+    numbers.push(u64::from(prefix.prim))?;
+    numbers.push(unit)?;
+    numbers.push(prefix.own)?;
+    Ok(())
 }
 
 // What a row is, and the numbers in it.
@@ -323,6 +338,16 @@ fn shown(alloc: Global, row: &Row) -> Result<(&'static str, Vec<u64>), AllocErro
             numbers.push(*bits)?;
             numbers.push(u64::from(body.number()))?;
             "box"
+        }
+        Row::PrefixedLeaf { prefix, prim } => {
+            push_prefix(&mut numbers, *prefix)?;
+            numbers.push(u64::from(*prim))?;
+            "prefixed leaf"
+        }
+        Row::PrefixedBox { prefix, body } => {
+            push_prefix(&mut numbers, *prefix)?;
+            numbers.push(u64::from(body.number()))?;
+            "prefixed box"
         }
     };
     Ok((kind, numbers))
@@ -390,14 +415,14 @@ fn boxed(alloc: Global) -> Result<Gathered, RowsFault> {
     let root = Component::ComplexElement {
         name: TextValue::from_str(alloc, "r")?,
         framing: Framing::none(),
-        size: Some(8589934592),
+        content_box: ContentBox::Sized(8589934592),
     };
     gathered.push(root, &[1])?;
     gathered.push(bare_sequence(), &[2])?;
     let inner = Component::ComplexElement {
         name: TextValue::from_str(alloc, "c")?,
         framing: fill(8, 1, 4),
-        size: Some(64),
+        content_box: ContentBox::Sized(64),
     };
     gathered.push(inner, &[3])?;
     gathered.push(bare_sequence(), &[4])?;
@@ -439,5 +464,86 @@ fn counts_the_rows_of_boxes(rt: HostRuntime) -> Result<(), Fail> {
         count_of(alloc, boxed(alloc)?, 3, 10),
         limit(LimitCause::Rows, 10)
     );
+    Ok(())
+}
+
+fn prefix(prim: u32, unit: LengthUnit, own: u64) -> Prefix {
+    Prefix { prim, unit, own }
+}
+
+// A root with a prefixed box and fill, over a sequence of an element with a prefix and fill and one without a prefix.
+fn prefixed(alloc: Global) -> Result<Gathered, RowsFault> {
+    let mut gathered = Gathered::new(alloc);
+    let root = Component::ComplexElement {
+        name: TextValue::from_str(alloc, "r")?,
+        framing: fill(8, 1, 0),
+        content_box: ContentBox::Prefixed(prefix(0, LengthUnit::Bytes, 4)),
+    };
+    gathered.push(root, &[1])?;
+    gathered.push(bare_sequence(), &[2, 3])?;
+    let element = Component::SimpleElement {
+        name: TextValue::from_str(alloc, "a")?,
+        simple: Simple::Int,
+        prim: 0,
+        framing: fill(0, 16, 0),
+        prefix: Some(prefix(0, LengthUnit::Bits, 32)),
+    };
+    gathered.push(element, &[])?;
+    gathered.push(named(alloc, "b")?, &[])?;
+    Ok(gathered)
+}
+
+#[test]
+fn puts_a_prefix_before_a_leaf_and_before_a_box(rt: HostRuntime) -> Result<(), Fail> {
+    let alloc = rt.alloc();
+    let components = prefixed(alloc)?.whole(alloc).expect(&rt, "components");
+    assert_eq!(rt; components.count(), 4);
+    if components.count() == 0 {
+        return Err(Fail::new("no components"));
+    }
+    let rows = rows_of(alloc, &components, 0, 2, 11)?;
+    let expected: [(&str, &[u64]); 11] = [
+        ("prefixed leaf", &[0, 1, 32, 0]),
+        ("align", &[16]),
+        ("group", &[1, 0]),
+        ("element", &[2]),
+        ("leaf", &[0]),
+        ("element", &[4]),
+        ("group", &[3, 5]),
+        ("prefixed box", &[0, 8, 4, 6]),
+        ("skip", &[8]),
+        ("group", &[8, 7]),
+        ("element", &[9]),
+    ];
+    assert_eq!(rt; are_shown(alloc, &rows, &expected)?, true);
+    Ok(())
+}
+
+#[test]
+fn refuses_prefixes_by_primitives_that_are_not_there(rt: HostRuntime) -> Result<(), Fail> {
+    let alloc = rt.alloc();
+    let components = prefixed(alloc)?.components;
+    assert_eq!(rt; have_primitives(&components, 1), true);
+    assert_eq!(rt; have_primitives(&components, 0), false);
+    let element = Component::SimpleElement {
+        name: TextValue::from_str(alloc, "a")?,
+        simple: Simple::Int,
+        prim: 0,
+        framing: Framing::none(),
+        prefix: Some(prefix(1, LengthUnit::Bits, 0)),
+    };
+    let mut leaf = Vec::new(alloc);
+    leaf.push(element)?;
+    assert_eq!(rt; have_primitives(&leaf, 1), false);
+    assert_eq!(rt; have_primitives(&leaf, 2), true);
+    let element = Component::ComplexElement {
+        name: TextValue::from_str(alloc, "c")?,
+        framing: Framing::none(),
+        content_box: ContentBox::Prefixed(prefix(1, LengthUnit::Bits, 0)),
+    };
+    let mut boxed = Vec::new(alloc);
+    boxed.push(element)?;
+    assert_eq!(rt; have_primitives(&boxed, 1), false);
+    assert_eq!(rt; have_primitives(&boxed, 2), true);
     Ok(())
 }

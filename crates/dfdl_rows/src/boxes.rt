@@ -29,22 +29,11 @@ pub(crate) fn push_boxed(
     ensures rows { OnOk result (rows.new.items ≡ rows.old.items ++ boxes.box_rows content_box content) }
     ensures whole { IfOk result (λ whole. whole ≡ boxes.boxed_row content_box content (length rows.old.items)) }
 {
+    let body = content;
     match content_box {
         ContentBox::Unbounded => Ok(content),
-        ContentBox::Sized(bits) => push_last(
-            rows,
-            Row::Boxed {
-                bits,
-                body: content,
-            },
-        ),
-        ContentBox::Prefixed(prefix) => push_last(
-            rows,
-            Row::PrefixedBox {
-                prefix,
-                body: content,
-            },
-        ),
+        ContentBox::Sized(bits) => push_last(rows, Row::Boxed { bits, body }),
+        ContentBox::Prefixed(prefix) => push_last(rows, Row::PrefixedBox { prefix, body }),
     }
 }
 

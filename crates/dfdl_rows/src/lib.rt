@@ -28,4 +28,6 @@ pub use refusal::Refusal;
 pub use rows::{rows_of, terms_of};
 
 #[cfg(test)]
+mod prefix_tests;
+#[cfg(test)]
 mod tests;

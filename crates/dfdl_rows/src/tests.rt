@@ -13,7 +13,7 @@ use std::test::Fail;
 
 // Components while they are gathered.
 #[derive(Drop)]
-struct Gathered {
+pub(super) struct Gathered {
     uses: Uses,
     components: Vec<Component>,
     refusals: Vec<Option<Refusal>>,
@@ -21,7 +21,7 @@ struct Gathered {
 }
 
 impl Gathered {
-    fn new(alloc: Global) -> Gathered {
+    pub(super) fn new(alloc: Global) -> Gathered {
         Gathered {
             uses: Uses::new(alloc),
             components: Vec::new(alloc),
@@ -30,7 +30,7 @@ impl Gathered {
         }
     }
 
-    fn push(&mut self, component: Component, parts: &[u32]) -> Result<(), RowsFault> {
+    pub(super) fn push(&mut self, component: Component, parts: &[u32]) -> Result<(), RowsFault> {
         let Ok(()) = self.uses.push(parts) else {
             return Err(RowsFault::OutOfMemory);
         };
@@ -47,7 +47,7 @@ impl Gathered {
         }
     }
 
-    fn whole(self, alloc: Global) -> Option<Components>
+    pub(super) fn whole(self, alloc: Global) -> Option<Components>
         ensures { IfSome result (λ c. All (HasPrimitive 1) c.components) }
     {
         let Gathered {
@@ -76,7 +76,7 @@ fn refusal(at: u64) -> Refusal {
     }
 }
 
-fn fill(leading_skip: u32, alignment: u32, trailing_skip: u32) -> Framing {
+pub(super) fn fill(leading_skip: u32, alignment: u32, trailing_skip: u32) -> Framing {
     Framing {
         leading_skip,
         alignment,
@@ -84,7 +84,7 @@ fn fill(leading_skip: u32, alignment: u32, trailing_skip: u32) -> Framing {
     }
 }
 
-fn bare_sequence() -> Component {
+pub(super) fn bare_sequence() -> Component {
     Component::Sequence {
         framing: Framing::none(),
     }
@@ -95,7 +95,7 @@ fn simple(alloc: Global) -> Result<Component, AllocError> {
 }
 
 // A simple element of this name.
-fn named(alloc: Global, name: &str) -> Result<Component, AllocError> {
+pub(super) fn named(alloc: Global, name: &str) -> Result<Component, AllocError> {
     Ok(Component::SimpleElement {
         name: TextValue::from_str(alloc, name)?,
         simple: Simple::Int,
@@ -354,7 +354,11 @@ fn shown(alloc: Global, row: &Row) -> Result<(&'static str, Vec<u64>), AllocErro
 }
 
 // Whether the rows are these.
-fn are_shown(alloc: Global, rows: &[Row], expected: &[(&str, &[u64])]) -> Result<bool, AllocError> {
+pub(super) fn are_shown(
+    alloc: Global,
+    rows: &[Row],
+    expected: &[(&str, &[u64])],
+) -> Result<bool, AllocError> {
     if rows.len() != expected.len() {
         return Ok(false);
     }
@@ -464,86 +468,5 @@ fn counts_the_rows_of_boxes(rt: HostRuntime) -> Result<(), Fail> {
         count_of(alloc, boxed(alloc)?, 3, 10),
         limit(LimitCause::Rows, 10)
     );
-    Ok(())
-}
-
-fn prefix(prim: u32, unit: LengthUnit, own: u64) -> Prefix {
-    Prefix { prim, unit, own }
-}
-
-// A root with a prefixed box and fill, over a sequence of an element with a prefix and fill and one without a prefix.
-fn prefixed(alloc: Global) -> Result<Gathered, RowsFault> {
-    let mut gathered = Gathered::new(alloc);
-    let root = Component::ComplexElement {
-        name: TextValue::from_str(alloc, "r")?,
-        framing: fill(8, 1, 0),
-        content_box: ContentBox::Prefixed(prefix(0, LengthUnit::Bytes, 4)),
-    };
-    gathered.push(root, &[1])?;
-    gathered.push(bare_sequence(), &[2, 3])?;
-    let element = Component::SimpleElement {
-        name: TextValue::from_str(alloc, "a")?,
-        simple: Simple::Int,
-        prim: 0,
-        framing: fill(0, 16, 0),
-        prefix: Some(prefix(0, LengthUnit::Bits, 32)),
-    };
-    gathered.push(element, &[])?;
-    gathered.push(named(alloc, "b")?, &[])?;
-    Ok(gathered)
-}
-
-#[test]
-fn puts_a_prefix_before_a_leaf_and_before_a_box(rt: HostRuntime) -> Result<(), Fail> {
-    let alloc = rt.alloc();
-    let components = prefixed(alloc)?.whole(alloc).expect(&rt, "components");
-    assert_eq!(rt; components.count(), 4);
-    if components.count() == 0 {
-        return Err(Fail::new("no components"));
-    }
-    let rows = rows_of(alloc, &components, 0, 2, 11)?;
-    let expected: [(&str, &[u64]); 11] = [
-        ("prefixed leaf", &[0, 1, 32, 0]),
-        ("align", &[16]),
-        ("group", &[1, 0]),
-        ("element", &[2]),
-        ("leaf", &[0]),
-        ("element", &[4]),
-        ("group", &[3, 5]),
-        ("prefixed box", &[0, 8, 4, 6]),
-        ("skip", &[8]),
-        ("group", &[8, 7]),
-        ("element", &[9]),
-    ];
-    assert_eq!(rt; are_shown(alloc, &rows, &expected)?, true);
-    Ok(())
-}
-
-#[test]
-fn refuses_prefixes_by_primitives_that_are_not_there(rt: HostRuntime) -> Result<(), Fail> {
-    let alloc = rt.alloc();
-    let components = prefixed(alloc)?.components;
-    assert_eq!(rt; have_primitives(&components, 1), true);
-    assert_eq!(rt; have_primitives(&components, 0), false);
-    let element = Component::SimpleElement {
-        name: TextValue::from_str(alloc, "a")?,
-        simple: Simple::Int,
-        prim: 0,
-        framing: Framing::none(),
-        prefix: Some(prefix(1, LengthUnit::Bits, 0)),
-    };
-    let mut leaf = Vec::new(alloc);
-    leaf.push(element)?;
-    assert_eq!(rt; have_primitives(&leaf, 1), false);
-    assert_eq!(rt; have_primitives(&leaf, 2), true);
-    let element = Component::ComplexElement {
-        name: TextValue::from_str(alloc, "c")?,
-        framing: Framing::none(),
-        content_box: ContentBox::Prefixed(prefix(1, LengthUnit::Bits, 0)),
-    };
-    let mut boxed = Vec::new(alloc);
-    boxed.push(element)?;
-    assert_eq!(rt; have_primitives(&boxed, 1), false);
-    assert_eq!(rt; have_primitives(&boxed, 2), true);
     Ok(())
 }

@@ -1,32 +1,46 @@
--- The row of a box around a content, and the rows of an element: how many they are, and what holds of each.
+-- The row of a box around a content, that of a leaf, and the rows of an element: how many they are, and what holds of each.
 use Rattle.std.proofs.Common.{◌≡◌, ℕ, ◌+◌, ◌<◌, List, [], ◌∷◌, length, All, Option, None, Some, refl, arith, length-append}
 use Rattle.std.proofs.lemmas.List.Elements.{All-nil, All-cons, All-append}
 use Rattle.dfdl_forms.specs.declared.simple.Simple.{Simple}
 use Rattle.dfdl_terms.specs.declared.framing.Framing.{Framing}
+use Rattle.dfdl_terms.specs.declared.prefix.Prefix.{Prefix}
 use Rattle.dfdl_terms.specs.declared.row.Row.{Row}
-use Rattle.dfdl_terms.specs.declared.row.Row.TheVariants.{Elem, Boxed}
+use Rattle.dfdl_terms.specs.declared.row.Row.TheVariants.{Leaf, Elem, Boxed, PrefixedLeaf, PrefixedBox}
+use Rattle.dfdl_rows.specs.declared.component.ContentBox.{ContentBox}
+use Rattle.dfdl_rows.specs.declared.component.ContentBox.TheVariants.{Unbounded, Sized, Prefixed}
 use Rattle.dfdl_rows.specs.Boxes.{box_rows, boxed_row, box_size}
 use Rattle.dfdl_rows.specs.Fill.{framed, framed_row, framing_size}
-use Rattle.dfdl_rows.specs.RowLists.{element_rows}
+use Rattle.dfdl_rows.specs.RowLists.{leaf_row, element_rows}
 use Rattle.dfdl_rows.proofs.Framed.{length_framed}
 
-pub length_box : (size : Option ℕ) (content : ℕ) → length (box_rows size content) ≡ box_size size
-length_box None content = refl
-length_box (Some bits) content = refl
+pub length_box : (box : ContentBox) (content : ℕ) → length (box_rows box content) ≡ box_size box
+length_box Unbounded content = refl
+length_box (Sized bits) content = refl
+length_box (Prefixed prefix) content = refl
 
 -- the row of the content in its box is the last one, that of the content where there is no box
-pub box_end : (size : Option ℕ) (content first : ℕ) → content + 1 ≡ first → boxed_row size content first + 1 ≡ first + box_size size
-box_end None content first is = omega (arith, is)
-box_end (Some bits) content first is = refl
+pub box_end : (box : ContentBox) (content first : ℕ) → content + 1 ≡ first → boxed_row box content first + 1 ≡ first + box_size box
+box_end Unbounded content first is = omega (arith, is)
+box_end (Sized bits) content first is = refl
+box_end (Prefixed prefix) content first is = refl
 
-pub box_below : (size : Option ℕ) (content first : ℕ) → content < first → boxed_row size content first < first + box_size size
-box_below None content first less = omega (arith, less)
-box_below (Some bits) content first less = omega arith
+pub box_below : (box : ContentBox) (content first : ℕ) → content < first → boxed_row box content first < first + box_size box
+box_below Unbounded content first less = omega (arith, less)
+box_below (Sized bits) content first less = omega arith
+box_below (Prefixed prefix) content first less = omega arith
 
 -- what holds of boxes
-pub box_all : (P : Row → Type 0) → ((bits body : ℕ) → P (Boxed bits body)) → (size : Option ℕ) (content : ℕ) → All P (box_rows size content)
-box_all P boxes None content = All-nil P
-box_all P boxes (Some bits) content = All-cons P (Boxed bits content) [] (boxes bits content) (All-nil P)
+pub box_all : (P : Row → Type 0) → ((bits body : ℕ) → P (Boxed bits body)) → (box : ContentBox) (content : ℕ)
+    → ((prefix : Prefix) → box ≡ Prefixed prefix → P (PrefixedBox prefix content)) → All P (box_rows box content)
+box_all P boxes Unbounded content prefixed = All-nil P
+box_all P boxes (Sized bits) content prefixed = All-cons P (Boxed bits content) [] (boxes bits content) (All-nil P)
+box_all P boxes (Prefixed prefix) content prefixed = All-cons P (PrefixedBox prefix content) [] (prefixed prefix refl) (All-nil P)
+
+-- what holds of leaves
+pub leaf_holds : (P : Row → Type 0) (prefix : Option Prefix) (prim : ℕ) → P (Leaf prim)
+    → ((own : Prefix) → prefix ≡ Some own → P (PrefixedLeaf own prim)) → P (leaf_row prefix prim)
+leaf_holds P None prim bare prefixed = bare
+leaf_holds P (Some own) prim bare prefixed = prefixed own refl
 
 pub length_element : (name : List ℕ) (simple : Option Simple) (f : Framing) (content first : ℕ)
     → length (element_rows name simple f content first) ≡ 1 + framing_size f

@@ -1,24 +1,25 @@
 -- What holds of the body of each simple element among the rows of components, wherever the rows begin.
-use Rattle.std.proofs.Common.{◌≡◌, ℕ, zero, suc, ◌+◌, ◌-◌, ◌<◌, List, [], ◌∷◌, ◌++◌, length, map, slice_get, get_or, All, None, Some, sym, ap, subst, ◌∙◌, arith, inl, inr}
+use Rattle.std.proofs.Common.{◌≡◌, ℕ, zero, suc, ◌+◌, ◌-◌, ◌<◌, List, [], ◌∷◌, ◌++◌, length, map, slice_get, get_or, All, Option, None, Some, sym, ap, subst, ◌∙◌, arith, inl, inr}
 use Rattle.std.proofs.lemmas.Bool.{cases_lt}
 use Rattle.std.proofs.lemmas.List.Elements.{All-tail, All-cons, All-nil, All-append}
 use Rattle.std.proofs.lemmas.Option.{slice_get_within, slice_get-get_or, get_or_from_slice_get}
 use Rattle.dfdl_forms.specs.declared.simple.Simple.{Simple}
 use Rattle.dfdl_order.specs.Parts.{uses_of}
-use Rattle.dfdl_terms.specs.Leaves.{ReadsBy, leaf}
+use Rattle.dfdl_terms.specs.Leaves.{ReadsBy, leaf, prefixed}
 use Rattle.dfdl_terms.specs.declared.framing.Framing.{Framing}
+use Rattle.dfdl_terms.specs.declared.prefix.Prefix.{Prefix}
 use Rattle.dfdl_terms.specs.declared.row.Row.{Row}
-use Rattle.dfdl_terms.specs.declared.row.Row.TheVariants.{Leaf, Elem, Group}
+use Rattle.dfdl_terms.specs.declared.row.Row.TheVariants.{Elem, Group}
 use Rattle.dfdl_terms.specs.Framing.{no_fill}
 use Rattle.dfdl_rows.specs.Components.{Schema, component_at, AreOfOne, HasOrder, IsBareComponent}
 use Rattle.dfdl_rows.specs.declared.component.Component.{Component}
 use Rattle.dfdl_rows.specs.declared.component.Component.TheVariants.{Sequence, Reference, ComplexElement, SimpleElement}
 use Rattle.dfdl_rows.specs.Fill.{framed, framed_row}
 use Rattle.dfdl_rows.specs.Boxes.{box_rows, boxed_row, box_size}
-use Rattle.dfdl_rows.specs.RowLists.{Numbered, element_rows, own_rows, in_turn, last_rows, rows_at, rows_of}
+use Rattle.dfdl_rows.specs.RowLists.{Numbered, leaf_row, element_rows, own_rows, in_turn, last_rows, rows_at, rows_of}
 use Rattle.dfdl_rows.specs.Leaves.{IsAmong, IsLeafOf, HaveLeaves, HaveBareLeaves}
 use Rattle.dfdl_rows.proofs.Framed.{unframed_row, framed_all}
-use Rattle.dfdl_rows.proofs.Boxed.{box_all, element_all}
+use Rattle.dfdl_rows.proofs.Boxed.{box_all, leaf_holds, element_all}
 use Rattle.dfdl_rows.proofs.Placed.{left, right, nothing_there, Sits, sits_left, sits_right, sits_first, sits_tail, framed_reads}
 use Rattle.dfdl_rows.proofs.Parts.{by_parts}
 use Rattle.dfdl_rows.proofs.RowsOf.{rows_step}
@@ -49,10 +50,19 @@ framed_not_simple : (f : Framing) (content first : ℕ) → All IsNotSimple (fra
 framed_not_simple f content first = framed_all IsNotSimple (λ bits name simple body is. absurd (cc)) (λ bits name simple body is. absurd (cc))
     (λ children name simple body is. absurd (cc)) f content first
 
+leaf_not_simple : (prefix : Option Prefix) (prim : ℕ) → IsNotSimple (leaf_row prefix prim)
+leaf_not_simple prefix prim = leaf_holds IsNotSimple prefix prim (λ name simple body is. absurd (cc)) (λ own has name simple body is. absurd (cc))
+
+-- a leaf reads by its primitive, with a prefix and without
+leaf_reads : (rows : List Row) (IsOne : ℕ → Type 0) (id prim : ℕ) (prefix : Option Prefix) → slice_get rows id ≡ Some (leaf_row prefix prim)
+    → IsOne prim → ReadsBy rows IsOne id
+leaf_reads rows IsOne id prim None is one = leaf id prim is one
+leaf_reads rows IsOne id prim (Some prefix) is one = prefixed id prim prefix is one
+
 -- among all rows, this holds of the body of a simple element of the components
 module _ (components : List Component) (all : List Row) (Q : Simple → ℕ → Type 0)
-    (holds : (number content prim : ℕ) (name : List ℕ) (simple : Simple) (f : Framing)
-    → slice_get components number ≡ Some (SimpleElement name simple prim f) → slice_get all content ≡ Some (Leaf prim)
+    (holds : (number content prim : ℕ) (name : List ℕ) (simple : Simple) (f : Framing) (prefix : Option Prefix)
+    → slice_get components number ≡ Some (SimpleElement name simple prim f prefix) → slice_get all content ≡ Some (leaf_row prefix prim)
     → Sits all (content + 1) (framed f content (content + 1)) → Q simple (framed_row f content (content + 1))) where
   -- it holds of each simple element of the rows, where these stand among all rows
   abbrev pub BodiesFrom : ℕ → List Row → Type 0
@@ -85,26 +95,26 @@ module _ (components : List Component) (all : List Row) (Q : Simple → ℕ → 
   own_bodies (Sequence f) lasts first number there = bodies_none first (Group lasts ∷ framed f first (first + 1))
       (All-cons IsNotSimple (Group lasts) (framed f first (first + 1)) (λ name simple body is. absurd (cc)) (framed_not_simple f first (first + 1)))
   own_bodies (Reference f) lasts first number there = bodies_none first (framed f (get_or lasts 0 0) first) (framed_not_simple f (get_or lasts 0 0) first)
-  own_bodies (ComplexElement own f size) lasts first number there =
-      let content : ℕ = boxed_row size (get_or lasts 0 0) first in
-      let element : List Row = element_rows own None f (boxed_row size (get_or lasts 0 0) first) (first + box_size size) in
-      bodies_none first (box_rows size (get_or lasts 0 0) ++ element)
-      (All-append IsNotSimple (box_rows size (get_or lasts 0 0)) element
-      (box_all IsNotSimple (λ bits body name simple other is. absurd (cc)) size (get_or lasts 0 0))
-      (element_all IsNotSimple own None f content (first + box_size size) (framed_not_simple f content (first + box_size size))
+  own_bodies (ComplexElement own f box) lasts first number there =
+      let content : ℕ = boxed_row box (get_or lasts 0 0) first in
+      let element : List Row = element_rows own None f (boxed_row box (get_or lasts 0 0) first) (first + box_size box) in
+      bodies_none first (box_rows box (get_or lasts 0 0) ++ element)
+      (All-append IsNotSimple (box_rows box (get_or lasts 0 0)) element
+      (box_all IsNotSimple (λ bits body name simple other is. absurd (cc)) box (get_or lasts 0 0) (λ prefix boxed name simple other is. absurd (cc)))
+      (element_all IsNotSimple own None f content (first + box_size box) (framed_not_simple f content (first + box_size box))
       (λ name simple body is. absurd (cc))))
-  own_bodies (SimpleElement own kind prim f) lasts first number there = λ sits i name simple body is.
+  own_bodies (SimpleElement own kind prim f prefix) lasts first number there = λ sits i name simple body is.
       let same : Elem own (Some kind) (framed_row f first (first + 1)) ≡ Elem name (Some simple) body
-      = only_last (Leaf prim ∷ framed f first (first + 1)) (Elem own (Some kind) (framed_row f first (first + 1))) i name simple body
-      (All-cons IsNotSimple (Leaf prim) (framed f first (first + 1)) (λ name simple body is. absurd (cc)) (framed_not_simple f first (first + 1))) is in
+      = only_last (leaf_row prefix prim ∷ framed f first (first + 1)) (Elem own (Some kind) (framed_row f first (first + 1))) i name simple body
+      (All-cons IsNotSimple (leaf_row prefix prim) (framed f first (first + 1)) (leaf_not_simple prefix prim) (framed_not_simple f first (first + 1))) is in
       let kinds : kind ≡ simple = cc in
       let bodies : framed_row f first (first + 1) ≡ body = cc in
       let behind : Sits all (first + 1) (framed f first (first + 1))
       = sits_left all (first + 1) (framed f first (first + 1)) (Elem own (Some kind) (framed_row f first (first + 1)) ∷ [])
-      (sits_tail all first (Leaf prim) (framed f first (first + 1) ++ Elem own (Some kind) (framed_row f first (first + 1)) ∷ []) sits) in
+      (sits_tail all first (leaf_row prefix prim) (framed f first (first + 1) ++ Elem own (Some kind) (framed_row f first (first + 1)) ∷ []) sits) in
       subst (λ (k : Simple). Q k body) kinds (subst (λ (n : ℕ). Q kind n) bodies
-      (holds number first prim own kind f there
-      (sits_first all first (Leaf prim) (framed f first (first + 1) ++ Elem own (Some kind) (framed_row f first (first + 1)) ∷ []) sits) behind))
+      (holds number first prim own kind f prefix there
+      (sits_first all first (leaf_row prefix prim) (framed f first (first + 1) ++ Elem own (Some kind) (framed_row f first (first + 1)) ∷ []) sits) behind))
 
 -- the rows of each component of a schema
 module _ (s : Schema) (ordered : HasOrder s.uses) (one : AreOfOne s.uses s.components s.refusals s.places) where
@@ -112,8 +122,8 @@ module _ (s : Schema) (ordered : HasOrder s.uses) (one : AreOfOne s.uses s.compo
   there c within = slice_get-get_or s.components c (Sequence no_fill) (omega (arith, within, one.counted))
 
   bodies_at : (all : List Row) (Q : Simple → ℕ → Type 0)
-      → ((number content prim : ℕ) (name : List ℕ) (simple : Simple) (f : Framing)
-      → slice_get s.components number ≡ Some (SimpleElement name simple prim f) → slice_get all content ≡ Some (Leaf prim)
+      → ((number content prim : ℕ) (name : List ℕ) (simple : Simple) (f : Framing) (prefix : Option Prefix)
+      → slice_get s.components number ≡ Some (SimpleElement name simple prim f prefix) → slice_get all content ≡ Some (leaf_row prefix prim)
       → Sits all (content + 1) (framed f content (content + 1)) → Q simple (framed_row f content (content + 1)))
       → (c : ℕ) → c < length s.uses → (first : ℕ) → Sits all first (rows_at s c first) → (i : ℕ) (name : List ℕ) (simple : Simple) (body : ℕ)
       → slice_get (rows_at s c first) i ≡ Some (Elem name (Some simple) body) → Q simple body
@@ -135,11 +145,12 @@ module _ (s : Schema) (ordered : HasOrder s.uses) (one : AreOfOne s.uses s.compo
   pub rows_have_leaves : (root : ℕ) → root < length s.uses → HaveLeaves s.components (rows_of s root)
   rows_have_leaves root within =
       bodies_at (rows_of s root) (λ simple body. ReadsBy (rows_of s root) (IsAmong s.components simple) body)
-      (λ number content prim name simple f component is sits.
-      framed_reads (rows_of s root) (IsAmong s.components simple) f content (content + 1) sits (leaf content prim is (number, name, f, component)))
+      (λ number content prim name simple f prefix component is sits.
+      framed_reads (rows_of s root) (IsAmong s.components simple) f content (content + 1) sits
+      (leaf_reads (rows_of s root) (IsAmong s.components simple) content prim prefix is (number, name, f, prefix, component)))
       root within 0 (root_sits (rows_of s root))
 
-  -- where there is neither fill nor a box, the component of a number has none
+  -- where there is neither fill nor a box nor a prefix, the component of a number has none
   bare_at : All IsBareComponent s.components → (number : ℕ) (component : Component) → slice_get s.components number ≡ Some component → IsBareComponent component
   bare_at bare number component is =
       subst IsBareComponent (get_or_from_slice_get s.components number component component is)
@@ -148,9 +159,11 @@ module _ (s : Schema) (ordered : HasOrder s.uses) (one : AreOfOne s.uses s.compo
   pub rows_have_bare_leaves : All IsBareComponent s.components → (root : ℕ) → root < length s.uses → HaveBareLeaves s.components (rows_of s root)
   rows_have_bare_leaves bare root within =
       bodies_at (rows_of s root) (λ simple body. IsLeafOf s.components simple (slice_get (rows_of s root) body))
-      (λ number content prim name simple f component is sits.
+      (λ number content prim name simple f prefix component is sits.
       let content_is : framed_row f content (content + 1) ≡ content
-      = unframed_row f content (content + 1) (bare_at bare number (SimpleElement name simple prim f) component).unfilled in
+      = unframed_row f content (content + 1) (bare_at bare number (SimpleElement name simple prim f prefix) component).unfilled in
+      let leaf_is : leaf_row prefix prim ≡ leaf_row None prim
+      = ap (λ (own : Option Prefix). leaf_row own prim) (bare_at bare number (SimpleElement name simple prim f prefix) component).unprefixed in
       subst (λ (n : ℕ). IsLeafOf s.components simple (slice_get (rows_of s root) n)) (sym content_is)
-      (subst (IsLeafOf s.components simple) (sym is) (number, name, f, component)))
+      (subst (IsLeafOf s.components simple) (sym (is ∙ ap (λ (row : Row). Some row) leaf_is)) (number, name, f, prefix, component)))
       root within 0 (root_sits (rows_of s root))

@@ -54,8 +54,8 @@ module _ (s : Schema) (order : Places) (is : IsOrder s.uses order) where
       → (unless_refused own (at_component component place parts) names ≡ parts names) × (b ≡ true)
   idle_at None (Sequence framing) place parts b names are = (refl, are)
   idle_at None (Reference framing) place parts b names are = (refl, are)
-  idle_at None (ComplexElement name framing size) place parts b names are = absurd (cc)
-  idle_at None (SimpleElement name simple prim framing) place parts b names are = absurd (cc)
+  idle_at None (ComplexElement name framing box) place parts b names are = absurd (cc)
+  idle_at None (SimpleElement name simple prim framing prefix) place parts b names are = absurd (cc)
   idle_at (Some refusal) component place parts b names are = absurd (cc)
 
   idle_next : (c : ℕ) → c < length s.uses → All IsIdle (uses_of s.uses c) → IsIdle c

@@ -1,4 +1,4 @@
--- The rows of a component nest, name primitives that are there, are plain where there is neither fill nor a box, and end with the
+-- The rows of a component nest, name primitives that are there, are plain where there is neither fill nor a box nor a prefix, and end with the
 -- component's own.
 use Rattle.std.proofs.Common.{◌≡◌, ℕ, zero, suc, ◌+◌, ◌-◌, ◌<◌, ◌≤◌, false, List, [], ◌∷◌, ◌++◌, length, map, get_or, slice_get, All, Option, None, Some, sym, ap, subst, ◌∙◌, refl, arith, append_assoc, length-append}
 use Rattle.std.proofs.lemmas.List.Elements.{All-nil, All-tail, All-cons, All-append, All-get_or}
@@ -6,19 +6,22 @@ use Rattle.std.proofs.lemmas.Option.{slice_get_within}
 use Rattle.dfdl_forms.specs.declared.simple.Simple.{Simple}
 use Rattle.dfdl_order.specs.Parts.{uses_of}
 use Rattle.dfdl_terms.specs.declared.framing.Framing.{Framing}
+use Rattle.dfdl_terms.specs.declared.prefix.Prefix.{Prefix}
 use Rattle.dfdl_terms.specs.declared.row.Row.{Row}
-use Rattle.dfdl_terms.specs.declared.row.Row.TheVariants.{Leaf, Elem, Group, Boxed}
+use Rattle.dfdl_terms.specs.declared.row.Row.TheVariants.{Leaf, Elem, Group, Boxed, PrefixedLeaf, PrefixedBox}
 use Rattle.dfdl_terms.specs.Rows.{ChildrenBelow, Nests, NamesWithin, IsPlainRow, HasPlainRows}
 use Rattle.dfdl_terms.specs.Framing.{no_fill}
-use Rattle.dfdl_rows.specs.Components.{Schema, component_at, CanHave, AreOfOne, HasOrder, HasPrimitive, IsBareComponent}
+use Rattle.dfdl_rows.specs.Components.{Schema, component_at, CanHave, AreOfOne, HasOrder, HasPrimitive, HasBoxPrimitive, HasPrefixPrimitive, IsBareComponent}
 use Rattle.dfdl_rows.specs.declared.component.Component.{Component}
 use Rattle.dfdl_rows.specs.declared.component.Component.TheVariants.{Sequence, Reference, ComplexElement, SimpleElement}
+use Rattle.dfdl_rows.specs.declared.component.ContentBox.{ContentBox}
+use Rattle.dfdl_rows.specs.declared.component.ContentBox.TheVariants.{Unbounded, Sized, Prefixed}
 use Rattle.dfdl_rows.specs.Boxes.{box_rows, boxed_row, box_size}
-use Rattle.dfdl_rows.specs.RowLists.{Numbered, element_rows, own_rows, in_turn, last_rows, rows_at, rows_of}
+use Rattle.dfdl_rows.specs.RowLists.{Numbered, leaf_row, element_rows, own_rows, in_turn, last_rows, rows_at, rows_of}
 use Rattle.dfdl_rows.specs.Answers.{EndsWith}
 use Rattle.dfdl_rows.specs.Fill.{has_fill, rows_before, rows_behind, numbers, in_group, framed, framed_row}
 use Rattle.dfdl_rows.proofs.Framed.{framed_cases, unframed, length_framed, framed_end, framed_below, before_all, behind_all, framed_all}
-use Rattle.dfdl_rows.proofs.Boxed.{length_box, box_end, box_below, box_all, element_all}
+use Rattle.dfdl_rows.proofs.Boxed.{length_box, box_end, box_below, box_all, leaf_holds, element_all}
 use Rattle.dfdl_rows.proofs.Parts.{by_parts, parts_within}
 use Rattle.dfdl_rows.proofs.RowsOf.{rows_step, length_rows, length_lasts, some_rows}
 
@@ -113,24 +116,26 @@ module _ (f : Framing) (content first : ℕ) (low : content < first) where
       (nests_none (first + length (framed f content first) + 1)))
 
 -- a content in its box
-nests_box : (size : Option ℕ) (content first : ℕ) → content < first → NestsFrom first (box_rows size content)
-nests_box None content first low = nests_none first
-nests_box (Some bits) content first low = nests_cons first (Boxed bits content) [] low (nests_none (first + 1))
+nests_box : (box : ContentBox) (content first : ℕ) → content < first → NestsFrom first (box_rows box content)
+nests_box Unbounded content first low = nests_none first
+nests_box (Sized bits) content first low = nests_cons first (Boxed bits content) [] low (nests_none (first + 1))
+nests_box (Prefixed prefix) content first low = nests_cons first (PrefixedBox prefix content) [] low (nests_none (first + 1))
 
 own_nest : (component : Component) (ps lasts : List ℕ) (first : ℕ) → CanHave component ps → length lasts ≡ length ps → All (λ n. n < first) lasts
     → NestsFrom first (own_rows component lasts first)
 own_nest (Sequence f) ps lasts first can long below =
     nests_cons first (Group lasts) (framed f first (first + 1)) below (nests_framed f first (first + 1) (omega arith))
 own_nest (Reference f) ps lasts first can long below = nests_framed f (get_or lasts 0 0) first (below 0 0 (omega (arith, can, long)))
-own_nest (ComplexElement name f size) ps lasts first can long below =
-    let content : ℕ = boxed_row size (get_or lasts 0 0) first in
-    let element : List Row = element_rows name None f (boxed_row size (get_or lasts 0 0) first) (first + box_size size) in
+own_nest (ComplexElement name f box) ps lasts first can long below =
+    let content : ℕ = boxed_row box (get_or lasts 0 0) first in
+    let element : List Row = element_rows name None f (boxed_row box (get_or lasts 0 0) first) (first + box_size box) in
     let low : get_or lasts 0 0 < first = below 0 0 (omega (arith, can, long)) in
-    nests_append (box_rows size (get_or lasts 0 0)) element first (nests_box size (get_or lasts 0 0) first low)
-    (subst (λ (n : ℕ). NestsFrom (first + n) element) (sym (length_box size (get_or lasts 0 0)))
-    (nests_element f content (first + box_size size) (box_below size (get_or lasts 0 0) first low) name None))
-own_nest (SimpleElement name simple prim f) ps lasts first can long below =
-    nests_cons first (Leaf prim) (element_rows name (Some simple) f first (first + 1)) tt
+    nests_append (box_rows box (get_or lasts 0 0)) element first (nests_box box (get_or lasts 0 0) first low)
+    (subst (λ (n : ℕ). NestsFrom (first + n) element) (sym (length_box box (get_or lasts 0 0)))
+    (nests_element f content (first + box_size box) (box_below box (get_or lasts 0 0) first low) name None))
+own_nest (SimpleElement name simple prim f prefix) ps lasts first can long below =
+    nests_cons first (leaf_row prefix prim) (element_rows name (Some simple) f first (first + 1))
+    (leaf_holds (ChildrenBelow first) prefix prim tt (λ own is. tt))
     (nests_element f first (first + 1) (omega arith) name (Some simple))
 
 module _ (s : Schema) (ordered : HasOrder s.uses) (one : AreOfOne s.uses s.components s.refusals s.places) where
@@ -184,16 +189,18 @@ framed_named count = framed_all (NamesWithin count) (λ bits. tt) (λ bits. tt) 
 own_named : (count : ℕ) (component : Component) (lasts : List ℕ) (first : ℕ) → HasPrimitive count component → All (NamesWithin count) (own_rows component lasts first)
 own_named count (Sequence f) lasts first has = All-cons (NamesWithin count) (Group lasts) (framed f first (first + 1)) tt (framed_named count f first (first + 1))
 own_named count (Reference f) lasts first has = framed_named count f (get_or lasts 0 0) first
-own_named count (ComplexElement name f size) lasts first has =
-    let content : ℕ = boxed_row size (get_or lasts 0 0) first in
-    let element : List Row = element_rows name None f (boxed_row size (get_or lasts 0 0) first) (first + box_size size) in
-    All-append (NamesWithin count) (box_rows size (get_or lasts 0 0)) element (box_all (NamesWithin count) (λ bits body. tt) size (get_or lasts 0 0))
-    (element_all (NamesWithin count) name None f content (first + box_size size) (framed_named count f content (first + box_size size)) tt)
-own_named count (SimpleElement name simple prim f) lasts first has =
-    All-cons (NamesWithin count) (Leaf prim) (element_rows name (Some simple) f first (first + 1)) has
+own_named count (ComplexElement name f box) lasts first has =
+    let content : ℕ = boxed_row box (get_or lasts 0 0) first in
+    let element : List Row = element_rows name None f (boxed_row box (get_or lasts 0 0) first) (first + box_size box) in
+    All-append (NamesWithin count) (box_rows box (get_or lasts 0 0)) element (box_all (NamesWithin count) (λ bits body. tt) box (get_or lasts 0 0)
+    (λ own is. subst (HasBoxPrimitive count) is has))
+    (element_all (NamesWithin count) name None f content (first + box_size box) (framed_named count f content (first + box_size box)) tt)
+own_named count (SimpleElement name simple prim f prefix) lasts first has =
+    All-cons (NamesWithin count) (leaf_row prefix prim) (element_rows name (Some simple) f first (first + 1))
+    (leaf_holds (NamesWithin count) prefix prim has.0 (λ own is. (subst (HasPrefixPrimitive count) is has.1, has.0)))
     (element_all (NamesWithin count) name (Some simple) f first (first + 1) (framed_named count f first (first + 1)) tt)
 
--- each row is plain where there is neither fill nor a box
+-- each row is plain where there is neither fill nor a box nor a prefix
 unframed_plain : (f : Framing) (content first : ℕ) → has_fill f ≡ false → All IsPlainRow (framed f content first)
 unframed_plain f content first none = subst (All IsPlainRow) (sym (unframed f content first none)) (All-nil IsPlainRow)
 
@@ -205,10 +212,12 @@ own_bare : (component : Component) (lasts : List ℕ) (first : ℕ) → IsBareCo
 own_bare (Sequence f) lasts first bare =
     All-cons IsPlainRow (Group lasts) (framed f first (first + 1)) tt (unframed_plain f first (first + 1) bare.unfilled)
 own_bare (Reference f) lasts first bare = unframed_plain f (get_or lasts 0 0) first bare.unfilled
-own_bare (ComplexElement name f None) lasts first bare = element_plain name None f (get_or lasts 0 0) (first + 0) bare.unfilled
-own_bare (ComplexElement name f (Some bits)) lasts first bare = absurd (let none = bare.unboxed in cc)
-own_bare (SimpleElement name simple prim f) lasts first bare =
-    All-cons IsPlainRow (Leaf prim) (element_rows name (Some simple) f first (first + 1)) tt
+own_bare (ComplexElement name f Unbounded) lasts first bare = element_plain name None f (get_or lasts 0 0) (first + 0) bare.unfilled
+own_bare (ComplexElement name f (Sized bits)) lasts first bare = absurd (let none = bare.unboxed in cc)
+own_bare (ComplexElement name f (Prefixed prefix)) lasts first bare = absurd (let none = bare.unboxed in cc)
+own_bare (SimpleElement name simple prim f prefix) lasts first bare =
+    All-cons IsPlainRow (leaf_row prefix prim) (element_rows name (Some simple) f first (first + 1))
+    (leaf_holds IsPlainRow prefix prim tt (λ own is. absurd (let none = bare.unprefixed in cc)))
     (element_plain name (Some simple) f first (first + 1) bare.unfilled)
 
 module _ (s : Schema) (ordered : HasOrder s.uses) (one : AreOfOne s.uses s.components s.refusals s.places) where
@@ -261,25 +270,25 @@ own_last : (component : Component) (f : ℕ → Numbered) (ps : List ℕ) → Ca
     → EndsWith component (in_turn (map f ps) 0 ++ own_rows component (last_rows (map f ps) 0) (0 + length (in_turn (map f ps) 0)))
 own_last (Sequence framing) f ps can some = tt
 own_last (Reference framing) f ps can some = tt
-own_last (ComplexElement name framing size) f ps can some =
+own_last (ComplexElement name framing box) f ps can some =
     let turn : List Row = in_turn (map f ps) 0 in
     let first : ℕ = 0 + length (in_turn (map f ps) 0) in
     let last : ℕ = get_or (last_rows (map f ps) 0) 0 0 in
-    let box : List Row = box_rows size (get_or (last_rows (map f ps) 0) 0 0) in
-    let content : ℕ = boxed_row size (get_or (last_rows (map f ps) 0) 0 0) (0 + length (in_turn (map f ps) 0)) in
-    let begin : ℕ = 0 + length (in_turn (map f ps) 0) + box_size size in
-    let regrouped : turn ++ (box ++ element_rows name None framing content begin) ≡ (turn ++ box) ++ element_rows name None framing content begin
-    = sym (append_assoc turn box (element_rows name None framing content begin)) in
+    let boxes : List Row = box_rows box (get_or (last_rows (map f ps) 0) 0 0) in
+    let content : ℕ = boxed_row box (get_or (last_rows (map f ps) 0) 0 0) (0 + length (in_turn (map f ps) 0)) in
+    let begin : ℕ = 0 + length (in_turn (map f ps) 0) + box_size box in
+    let regrouped : turn ++ (boxes ++ element_rows name None framing content begin) ≡ (turn ++ boxes) ++ element_rows name None framing content begin
+    = sym (append_assoc turn boxes (element_rows name None framing content begin)) in
     let behind : last + 1 ≡ first = omega (arith, one_part f ps can, turn_some f ps can some) in
     subst (λ (rows : List Row). slice_get rows (length rows - 1) ≡ Some (Elem name None (length rows - 2))) (sym regrouped)
-    (element_last (turn ++ box) framing content begin name None (omega (arith, length-append turn box, length_box size last)) (box_end size last first behind))
-own_last (SimpleElement name simple prim framing) f ps can some =
+    (element_last (turn ++ boxes) framing content begin name None (omega (arith, length-append turn boxes, length_box box last)) (box_end box last first behind))
+own_last (SimpleElement name simple prim framing prefix) f ps can some =
     let turn : List Row = in_turn (map f ps) 0 in
     let first : ℕ = 0 + length (in_turn (map f ps) 0) in
     let own : List Row = element_rows name (Some simple) framing first (first + 1) in
-    let regrouped : turn ++ (Leaf prim ∷ own) ≡ (turn ++ Leaf prim ∷ []) ++ own = sym (append_assoc turn (Leaf prim ∷ []) own) in
+    let regrouped : turn ++ (leaf_row prefix prim ∷ own) ≡ (turn ++ leaf_row prefix prim ∷ []) ++ own = sym (append_assoc turn (leaf_row prefix prim ∷ []) own) in
     subst (λ (rows : List Row). slice_get rows (length rows - 1) ≡ Some (Elem name (Some simple) (length rows - 2))) (sym regrouped)
-    (element_last (turn ++ Leaf prim ∷ []) framing first (first + 1) name (Some simple) (omega (arith, length-append turn (Leaf prim ∷ []))) refl)
+    (element_last (turn ++ leaf_row prefix prim ∷ []) framing first (first + 1) name (Some simple) (omega (arith, length-append turn (leaf_row prefix prim ∷ []))) refl)
 
 pub rows_end : (s : Schema) → HasOrder s.uses → AreOfOne s.uses s.components s.refusals s.places → (root : ℕ) → root < length s.uses
     → EndsWith (component_at s.components root) (rows_of s root)

@@ -28,16 +28,16 @@ length_lasts f (p ∷ ps) first = omega (arith, length_lasts f ps (first + lengt
 pub length_own : (component : Component) (parts : List ℕ) (first : ℕ) → length (own_rows component parts first) ≡ own_size component
 length_own (Sequence framing) parts first = omega (arith, length_framed framing first (first + 1))
 length_own (Reference framing) parts first = length_framed framing (get_or parts 0 0) first
-length_own (ComplexElement name framing size) parts first =
-    let content : ℕ = boxed_row size (get_or parts 0 0) first in
-    let element : List Row = element_rows name None framing (boxed_row size (get_or parts 0 0) first) (first + box_size size) in
+length_own (ComplexElement name framing box) parts first =
+    let content : ℕ = boxed_row box (get_or parts 0 0) first in
+    let element : List Row = element_rows name None framing (boxed_row box (get_or parts 0 0) first) (first + box_size box) in
     omega (
       arith,
-      length-append (box_rows size (get_or parts 0 0)) element,
-      length_box size (get_or parts 0 0),
-      length_element name None framing content (first + box_size size),
+      length-append (box_rows box (get_or parts 0 0)) element,
+      length_box box (get_or parts 0 0),
+      length_element name None framing content (first + box_size box),
     )
-length_own (SimpleElement name simple prim framing) parts first =
+length_own (SimpleElement name simple prim framing prefix) parts first =
     omega (arith, length_element name (Some simple) framing first (first + 1))
 
 -- so many rows, wherever they begin
@@ -74,7 +74,7 @@ some_own : (size : ℕ → ℕ) (component : Component) (ps : List ℕ) → CanH
 some_own size (Sequence framing) ps can all = omega arith
 some_own size (Reference framing) ps can all = let some : 0 < total (map size ps) = some_of_one size ps can all in omega (arith, some)
 some_own size (ComplexElement name framing box) ps can all = omega arith
-some_own size (SimpleElement name simple prim framing) ps can all = omega arith
+some_own size (SimpleElement name simple prim framing prefix) ps can all = omega arith
 
 -- each component has a row
 pub some_rows : (s : Schema) → HasOrder s.uses → AreOfOne s.uses s.components s.refusals s.places → (c : ℕ) → c < length s.uses → 0 < size_of s c

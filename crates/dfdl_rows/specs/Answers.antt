@@ -66,5 +66,5 @@ pub record AreRowsOf (a : Asked) (rows : List Row) : Type 0 where
 abbrev pub EndsWith : Component → List Row → Type 0
 EndsWith (Sequence framing) rows = Unit {0}
 EndsWith (Reference framing) rows = Unit {0}
-EndsWith (ComplexElement name framing size) rows = slice_get rows (length rows - 1) ≡ Some (Elem name None (length rows - 2))
-EndsWith (SimpleElement name simple prim framing) rows = slice_get rows (length rows - 1) ≡ Some (Elem name (Some simple) (length rows - 2))
+EndsWith (ComplexElement name framing box) rows = slice_get rows (length rows - 1) ≡ Some (Elem name None (length rows - 2))
+EndsWith (SimpleElement name simple prim framing prefix) rows = slice_get rows (length rows - 1) ≡ Some (Elem name (Some simple) (length rows - 2))

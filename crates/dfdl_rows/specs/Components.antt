@@ -1,11 +1,14 @@
 -- The components of a schema: what each one is, and which components it has as its parts ('DFDL Schema Component Model').
-use Rattle.std.specs.Prelude.{◌≡◌, ℕ, ◌<◌, List, [], length, get_or, Option, None, false}
+use Rattle.std.specs.Prelude.{◌≡◌, ℕ, ◌<◌, List, [], length, get_or, Option, None, Some, false}
 use Rattle.dfdl_report.specs.declared.place.Place.{Place}
 use Rattle.dfdl_terms.specs.declared.framing.Framing.{Framing}
+use Rattle.dfdl_terms.specs.declared.prefix.Prefix.{Prefix}
 use Rattle.dfdl_terms.specs.Framing.{no_fill}
 use Rattle.dfdl_order.specs.Parts.{uses_of, IsOrder, Places}
 use Rattle.dfdl_rows.specs.declared.component.Component.{Component}
 use Rattle.dfdl_rows.specs.declared.component.Component.TheVariants.{Sequence, Reference, ComplexElement, SimpleElement}
+use Rattle.dfdl_rows.specs.declared.component.ContentBox.{ContentBox}
+use Rattle.dfdl_rows.specs.declared.component.ContentBox.TheVariants.{Unbounded, Sized, Prefixed}
 use Rattle.dfdl_rows.specs.Fill.{has_fill}
 use Rattle.dfdl_rows.specs.declared.refusal.Refusal.{Refusal}
 
@@ -29,8 +32,8 @@ place_at places c = get_or places c (record { document = 0; at = 0 })
 abbrev pub CanHave : Component → List ℕ → Type 0
 CanHave (Sequence framing) parts = Unit {0}
 CanHave (Reference framing) parts = length parts ≡ 1
-CanHave (ComplexElement name framing size) parts = length parts ≡ 1
-CanHave (SimpleElement name simple prim framing) parts = parts ≡ []
+CanHave (ComplexElement name framing box) parts = length parts ≡ 1
+CanHave (SimpleElement name simple prim framing prefix) parts = parts ≡ []
 
 -- the lists are those of one schema
 pub record AreOfOne (uses : List (List ℕ)) (components : List Component) (refusals : List (Option Refusal)) (places : List Place) : Type 0 where
@@ -43,28 +46,47 @@ pub record AreOfOne (uses : List (List ℕ)) (components : List Component) (refu
 abbrev pub HasOrder : List (List ℕ) → Type 0
 HasOrder uses = (order : Places) × IsOrder uses order
 
--- the primitive of a simple element is one of so many
+-- the primitive of a length prefix, where there is one, is one of so many
+abbrev pub HasPrefixPrimitive : ℕ → Option Prefix → Type 0
+HasPrefixPrimitive count None = Unit {0}
+HasPrefixPrimitive count (Some prefix) = prefix.prim < count
+
+-- the primitive of the length prefix of a box, where it has one, is one of so many
+abbrev pub HasBoxPrimitive : ℕ → ContentBox → Type 0
+HasBoxPrimitive count Unbounded = Unit {0}
+HasBoxPrimitive count (Sized bits) = Unit {0}
+HasBoxPrimitive count (Prefixed prefix) = prefix.prim < count
+
+-- the primitives of a component are some of so many: that of a simple element, and those of length prefixes
 abbrev pub HasPrimitive : ℕ → Component → Type 0
 HasPrimitive count (Sequence framing) = Unit {0}
 HasPrimitive count (Reference framing) = Unit {0}
-HasPrimitive count (ComplexElement name framing size) = Unit {0}
-HasPrimitive count (SimpleElement name simple prim framing) = prim < count
+HasPrimitive count (ComplexElement name framing box) = HasBoxPrimitive count box
+HasPrimitive count (SimpleElement name simple prim framing prefix) = (prim < count) × HasPrefixPrimitive count prefix
 
 -- the fill around the content of a component
 abbrev pub framing_in : Component → Framing
 framing_in (Sequence framing) = framing
 framing_in (Reference framing) = framing
-framing_in (ComplexElement name framing size) = framing
-framing_in (SimpleElement name simple prim framing) = framing
+framing_in (ComplexElement name framing box) = framing
+framing_in (SimpleElement name simple prim framing prefix) = framing
 
--- the bits of the box around the content of a component, where there is one
-abbrev pub size_in : Component → Option ℕ
-size_in (Sequence framing) = None
-size_in (Reference framing) = None
-size_in (ComplexElement name framing size) = size
-size_in (SimpleElement name simple prim framing) = None
+-- the box around the content of a component
+abbrev pub box_in : Component → ContentBox
+box_in (Sequence framing) = Unbounded
+box_in (Reference framing) = Unbounded
+box_in (ComplexElement name framing box) = box
+box_in (SimpleElement name simple prim framing prefix) = Unbounded
 
--- there is neither fill nor a box around the content of a component
+-- the length prefix before the content of a simple element, where there is one
+abbrev pub prefix_in : Component → Option Prefix
+prefix_in (Sequence framing) = None
+prefix_in (Reference framing) = None
+prefix_in (ComplexElement name framing box) = None
+prefix_in (SimpleElement name simple prim framing prefix) = prefix
+
+-- there is neither fill nor a box around the content of a component, and no length prefix before it
 pub record IsBareComponent (component : Component) : Type 0 where
   pub unfilled : has_fill (framing_in component) ≡ false
-  pub unboxed : size_in component ≡ None
+  pub unboxed : box_in component ≡ Unbounded
+  pub unprefixed : prefix_in component ≡ None

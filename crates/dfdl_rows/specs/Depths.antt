@@ -9,8 +9,8 @@ use Rattle.dfdl_rows.specs.declared.component.Component.TheVariants.{Sequence, R
 abbrev pub own_depth : Component → ℕ
 own_depth (Sequence framing) = 0
 own_depth (Reference framing) = 0
-own_depth (ComplexElement name framing size) = 1
-own_depth (SimpleElement name simple prim framing) = 1
+own_depth (ComplexElement name framing box) = 1
+own_depth (SimpleElement name simple prim framing prefix) = 1
 
 -- the greatest of some numbers
 abbrev pub greatest : List ℕ → ℕ

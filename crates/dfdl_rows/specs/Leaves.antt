@@ -3,23 +3,24 @@ use Rattle.std.specs.Prelude.{◌≡◌, ℕ, List, Option, None, Some, slice_ge
 use Rattle.dfdl_forms.specs.declared.simple.Simple.{Simple}
 use Rattle.dfdl_terms.specs.Leaves.{ReadsBy}
 use Rattle.dfdl_terms.specs.declared.framing.Framing.{Framing}
+use Rattle.dfdl_terms.specs.declared.prefix.Prefix.{Prefix}
 use Rattle.dfdl_terms.specs.declared.row.Row.{Row}
-use Rattle.dfdl_terms.specs.declared.row.Row.TheVariants.{Leaf, Elem, Group, Skip, Align, Boxed}
+use Rattle.dfdl_terms.specs.declared.row.Row.TheVariants.{Leaf, Elem, Group, Skip, Align, Boxed, PrefixedLeaf, PrefixedBox}
 use Rattle.dfdl_rows.specs.declared.component.Component.{Component}
 use Rattle.dfdl_rows.specs.declared.component.Component.TheVariants.{SimpleElement}
 
--- one of the components is a simple element of this type, read by the primitive of this number
+-- one of the components is a simple element of this type, read by the primitive of this number, with a length prefix or without
 abbrev pub IsAmong : List Component → Simple → ℕ → Type 0
 IsAmong components simple prim =
-    (number : ℕ) × (name : List ℕ) × (framing : Framing)
-    × (slice_get components number ≡ Some (SimpleElement name simple prim framing))
+    (number : ℕ) × (name : List ℕ) × (framing : Framing) × (prefix : Option Prefix)
+    × (slice_get components number ≡ Some (SimpleElement name simple prim framing prefix))
 
 -- the body of each simple element reads a value by the primitive of a component of its type
 abbrev pub HaveLeaves : List Component → List Row → Type 0
 HaveLeaves components rows = (row : ℕ) (name : List ℕ) (simple : Simple) (body : ℕ)
     → slice_get rows row ≡ Some (Elem name (Some simple) body) → ReadsBy rows (IsAmong components simple) body
 
--- there is a row, and it is a leaf of the primitive of a component of the type
+-- there is a row, and it is a leaf without a prefix, of the primitive of a component of the type
 abbrev pub IsLeafOf : List Component → Simple → Option Row → Type 0
 IsLeafOf components simple (Some (Leaf prim)) = IsAmong components simple prim
 IsLeafOf components simple (Some (Elem name other body)) = ⊥
@@ -27,6 +28,8 @@ IsLeafOf components simple (Some (Group children)) = ⊥
 IsLeafOf components simple (Some (Skip bits)) = ⊥
 IsLeafOf components simple (Some (Align bits)) = ⊥
 IsLeafOf components simple (Some (Boxed bits body)) = ⊥
+IsLeafOf components simple (Some (PrefixedLeaf prefix prim)) = ⊥
+IsLeafOf components simple (Some (PrefixedBox prefix body)) = ⊥
 IsLeafOf components simple None = ⊥
 
 -- the body of each simple element is itself the leaf of a component of its type

@@ -16,15 +16,15 @@ use Rattle.dfdl_rows.specs.declared.refusal.Refusal.{Refusal}
 abbrev pub is_element : Component → Bool
 is_element (Sequence framing) = false
 is_element (Reference framing) = false
-is_element (ComplexElement name framing size) = true
-is_element (SimpleElement name simple prim framing) = true
+is_element (ComplexElement name framing box) = true
+is_element (SimpleElement name simple prim framing prefix) = true
 
 -- a component is none
 abbrev pub is_plain : Component → Bool
 is_plain (Sequence framing) = true
 is_plain (Reference framing) = true
-is_plain (ComplexElement name framing size) = false
-is_plain (SimpleElement name simple prim framing) = false
+is_plain (ComplexElement name framing box) = false
+is_plain (SimpleElement name simple prim framing prefix) = false
 
 -- all of these
 abbrev pub are_all : List Bool → Bool

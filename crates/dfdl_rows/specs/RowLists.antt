@@ -4,8 +4,9 @@ use Rattle.std.specs.Prelude.{ℕ, ◌+◌, ◌-◌, List, [], ◌∷◌, ◌++�
 use Rattle.dfdl_forms.specs.declared.simple.Simple.{Simple}
 use Rattle.dfdl_order.specs.Folds.{value_by}
 use Rattle.dfdl_terms.specs.declared.framing.Framing.{Framing}
+use Rattle.dfdl_terms.specs.declared.prefix.Prefix.{Prefix}
 use Rattle.dfdl_terms.specs.declared.row.Row.{Row}
-use Rattle.dfdl_terms.specs.declared.row.Row.TheVariants.{Leaf, Elem, Group}
+use Rattle.dfdl_terms.specs.declared.row.Row.TheVariants.{Leaf, Elem, Group, PrefixedLeaf}
 use Rattle.dfdl_rows.specs.Components.{Schema, component_at}
 use Rattle.dfdl_rows.specs.Boxes.{box_rows, boxed_row, box_size}
 use Rattle.dfdl_rows.specs.Fill.{framed, framed_row}
@@ -15,6 +16,12 @@ use Rattle.dfdl_rows.specs.declared.component.Component.TheVariants.{Sequence, R
 -- rows that are numbered from any number on
 abbrev pub Numbered : Type 0
 Numbered = ℕ → List Row
+
+-- the row of the content of a simple element, which is read by the primitive of this number, with the length prefix before it,
+-- where there is one
+abbrev pub leaf_row : Option Prefix → ℕ → Row
+leaf_row None prim = Leaf prim
+leaf_row (Some prefix) prim = PrefixedLeaf prefix prim
 
 -- the rows of an element around the row of its content, from a number on: those of fill around it, and its own
 abbrev pub element_rows : List ℕ → Option Simple → Framing → ℕ → ℕ → List Row
@@ -26,11 +33,11 @@ element_rows name simple framing content first =
 abbrev pub own_rows : Component → List ℕ → ℕ → List Row
 own_rows (Sequence framing) parts first = Group parts ∷ framed framing first (first + 1)
 own_rows (Reference framing) parts first = framed framing (get_or parts 0 0) first
-own_rows (ComplexElement name framing size) parts first =
-    box_rows size (get_or parts 0 0)
-    ++ element_rows name None framing (boxed_row size (get_or parts 0 0) first) (first + box_size size)
-own_rows (SimpleElement name simple prim framing) parts first =
-    Leaf prim ∷ element_rows name (Some simple) framing first (first + 1)
+own_rows (ComplexElement name framing box) parts first =
+    box_rows box (get_or parts 0 0)
+    ++ element_rows name None framing (boxed_row box (get_or parts 0 0) first) (first + box_size box)
+own_rows (SimpleElement name simple prim framing prefix) parts first =
+    leaf_row prefix prim ∷ element_rows name (Some simple) framing first (first + 1)
 
 -- the rows of parts, one part after the other
 abbrev pub in_turn : List Numbered → Numbered

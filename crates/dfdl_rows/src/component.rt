@@ -1,6 +1,17 @@
 use dfdl_forms::Simple;
-use dfdl_terms::Framing;
+use dfdl_terms::{Framing, Prefix};
 use dfdl_value::TextValue;
+
+/// The box around a content ('Lengths').
+#[derive(Debug, Clone, Copy, PartialEq, Eq)]
+pub enum ContentBox {
+    /// No box.
+    Unbounded,
+    /// So many bits.
+    Sized(u64),
+    /// As many units as a length prefix before it tells.
+    Prefixed(Prefix),
+}
 
 /// What a schema component is, with what its own rows need. Its parts are other components.
 #[derive(Debug, Drop)]
@@ -22,8 +33,8 @@ pub enum Component {
         name: TextValue,
         /// The fill around its content, outside of the box.
         framing: Framing,
-        /// How many bits the box around its content has, where there is one ('Lengths').
-        size: Option<u64>,
+        /// The box around its content.
+        content_box: ContentBox,
     },
     /// An element without parts.
     SimpleElement {
@@ -32,7 +43,9 @@ pub enum Component {
         simple: Simple,
         /// The number in the tables of the primitive that its content is read by.
         prim: u32,
-        /// The fill around its content.
+        /// The fill around its content, outside of the prefix.
         framing: Framing,
+        /// The length prefix before its content, if it has one ('Lengths').
+        prefix: Option<Prefix>,
     },
 }

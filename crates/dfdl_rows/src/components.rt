@@ -3,11 +3,12 @@ ghost use Rattle.std.specs.Prelude.{◌≡◌, ◌<◌, ◌↔◌, length, All, 
 ghost use Rattle.dfdl_order.specs.Parts.{uses_of, IsOrder};
 ghost use Rattle.dfdl_rows.specs.Components.{AreOfOne, CanHave, HasOrder, component_at, place_at};
 ghost use Rattle.dfdl_rows.specs.Refusals.{own_refusal};
-ghost use Rattle.dfdl_rows.specs.Components.{HasPrimitive};
+ghost use Rattle.dfdl_rows.specs.Components.{HasPrimitive, HasBoxPrimitive, HasPrefixPrimitive};
 
-use crate::{Component, Refusal};
+use crate::{Component, ContentBox, Refusal};
 use dfdl_order::{Order, Uses};
 use dfdl_report::Place;
+use dfdl_terms::Prefix;
 use std::marker::Model;
 
 /// The components of a schema by number: the parts of each one in schema order, what it is, the refusal
@@ -149,7 +150,7 @@ fn can_have(component: &Component, parts: &[u32]) -> bool
     }
 }
 
-/// Whether the primitive of each simple element is one of so many.
+/// Whether the primitives of each component are some of so many: those of simple elements and of length prefixes.
 pub fn have_primitives(components: &[Component], count: u32) -> bool
     ensures have { IsTrue result → All (HasPrimitive count) components.now }
     ensures other { result ≡ false → All (HasPrimitive count) components.now → ⊥ }
@@ -159,14 +160,37 @@ pub fn have_primitives(components: &[Component], count: u32) -> bool
         .all(|component| has_primitive(component, count))
 }
 
-// Whether the primitive of a simple element is one of so many.
+// Whether the primitives of a component are some of so many.
 fn has_primitive(component: &Component, count: u32) -> bool
     ensures { IsTrue result ↔ HasPrimitive count component.now }
 {
     match component {
         Component::Sequence { .. } => true,
         Component::Reference { .. } => true,
-        Component::ComplexElement { .. } => true,
-        Component::SimpleElement { prim, .. } => *prim < count,
+        Component::ComplexElement { content_box, .. } => has_box_primitive(*content_box, count),
+        Component::SimpleElement { prim, prefix, .. } => {
+            *prim < count && has_prefix_primitive(*prefix, count)
+        }
+    }
+}
+
+// Whether the primitive of the length prefix of a box, where it has one, is one of so many.
+fn has_box_primitive(content_box: ContentBox, count: u32) -> bool
+    ensures { IsTrue result ↔ HasBoxPrimitive count content_box }
+{
+    match content_box {
+        ContentBox::Unbounded => true,
+        ContentBox::Sized(_) => true,
+        ContentBox::Prefixed(prefix) => prefix.prim < count,
+    }
+}
+
+// Whether the primitive of a length prefix, where there is one, is one of so many.
+fn has_prefix_primitive(prefix: Option<Prefix>, count: u32) -> bool
+    ensures { IsTrue result ↔ HasPrefixPrimitive count prefix }
+{
+    match prefix {
+        Some(prefix) => prefix.prim < count,
+        None => true,
     }
 }

@@ -21,11 +21,13 @@ mod rows;
 mod sizes;
 mod walk;
 
-pub use component::Component;
+pub use component::{Component, ContentBox};
 pub use components::{Components, are_of_one, have_primitives};
 pub use fault::RowsFault;
 pub use refusal::Refusal;
 pub use rows::{rows_of, terms_of};
 
+#[cfg(test)]
+mod prefix_tests;
 #[cfg(test)]
 mod tests;

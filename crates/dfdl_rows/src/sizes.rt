@@ -15,9 +15,11 @@ fn own_size(component: &Component) -> u64
     match component {
         Component::Sequence { framing } => 1 + framing_size(*framing),
         Component::Reference { framing } => framing_size(*framing),
-        Component::ComplexElement { framing, size, .. } => {
-            1 + box_size(*size) + framing_size(*framing)
-        }
+        Component::ComplexElement {
+            framing,
+            content_box,
+            ..
+        } => 1 + box_size(*content_box) + framing_size(*framing),
         Component::SimpleElement { framing, .. } => 2 + framing_size(*framing),
     }
 }

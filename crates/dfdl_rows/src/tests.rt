@@ -6,14 +6,14 @@ use super::*;
 use dfdl_forms::{BitOrder, ByteOrder, IntForm, Simple};
 use dfdl_order::{Uses, order_of};
 use dfdl_report::{LimitCause, Place, SchemaCause};
-use dfdl_terms::{Framing, Primitive, Row, RowId, Tables, Terms};
+use dfdl_terms::{Framing, LengthUnit, Prefix, Primitive, Row, RowId, Tables, Terms};
 use dfdl_value::TextValue;
 use std::alloc::{AllocError, Global};
 use std::test::Fail;
 
 // Components while they are gathered.
 #[derive(Drop)]
-struct Gathered {
+pub(super) struct Gathered {
     uses: Uses,
     components: Vec<Component>,
     refusals: Vec<Option<Refusal>>,
@@ -21,7 +21,7 @@ struct Gathered {
 }
 
 impl Gathered {
-    fn new(alloc: Global) -> Gathered {
+    pub(super) fn new(alloc: Global) -> Gathered {
         Gathered {
             uses: Uses::new(alloc),
             components: Vec::new(alloc),
@@ -30,7 +30,7 @@ impl Gathered {
         }
     }
 
-    fn push(&mut self, component: Component, parts: &[u32]) -> Result<(), RowsFault> {
+    pub(super) fn push(&mut self, component: Component, parts: &[u32]) -> Result<(), RowsFault> {
         let Ok(()) = self.uses.push(parts) else {
             return Err(RowsFault::OutOfMemory);
         };
@@ -47,7 +47,7 @@ impl Gathered {
         }
     }
 
-    fn whole(self, alloc: Global) -> Option<Components>
+    pub(super) fn whole(self, alloc: Global) -> Option<Components>
         ensures { IfSome result (λ c. All (HasPrimitive 1) c.components) }
     {
         let Gathered {
@@ -76,7 +76,7 @@ fn refusal(at: u64) -> Refusal {
     }
 }
 
-fn fill(leading_skip: u32, alignment: u32, trailing_skip: u32) -> Framing {
+pub(super) fn fill(leading_skip: u32, alignment: u32, trailing_skip: u32) -> Framing {
     Framing {
         leading_skip,
         alignment,
@@ -84,7 +84,7 @@ fn fill(leading_skip: u32, alignment: u32, trailing_skip: u32) -> Framing {
     }
 }
 
-fn bare_sequence() -> Component {
+pub(super) fn bare_sequence() -> Component {
     Component::Sequence {
         framing: Framing::none(),
     }
@@ -95,12 +95,13 @@ fn simple(alloc: Global) -> Result<Component, AllocError> {
 }
 
 // A simple element of this name.
-fn named(alloc: Global, name: &str) -> Result<Component, AllocError> {
+pub(super) fn named(alloc: Global, name: &str) -> Result<Component, AllocError> {
     Ok(Component::SimpleElement {
         name: TextValue::from_str(alloc, name)?,
         simple: Simple::Int,
         prim: 0,
         framing: Framing::none(),
+        prefix: None,
     })
 }
 
@@ -108,7 +109,7 @@ fn complex(alloc: Global) -> Result<Component, AllocError> {
     Ok(Component::ComplexElement {
         name: TextValue::from_str(alloc, "r")?,
         framing: Framing::none(),
-        size: None,
+        content_box: ContentBox::Unbounded,
     })
 }
 
@@ -276,7 +277,7 @@ fn filled(alloc: Global) -> Result<Gathered, RowsFault> {
     let root = Component::ComplexElement {
         name: TextValue::from_str(alloc, "r")?,
         framing: fill(8, 16, 0),
-        size: None,
+        content_box: ContentBox::Unbounded,
     };
     gathered.push(root, &[1])?;
     let framing = fill(0, 32, 4);
@@ -288,9 +289,23 @@ fn filled(alloc: Global) -> Result<Gathered, RowsFault> {
         simple: Simple::Int,
         prim: 0,
         framing: fill(1, 8, 2),
+        prefix: None,
     };
     gathered.push(element, &[])?;
     Ok(gathered)
+}
+
+// The numbers of a prefix: its primitive, how many bits its unit has, where that is told, and what of it is its own.
+fn push_prefix(numbers: &mut Vec<u64>, prefix: Prefix) -> Result<(), AllocError> {
+    let unit = match prefix.unit {
+        LengthUnit::Bits => 1,
+        LengthUnit::Bytes => 8,
+        LengthUnit::Characters => 0,
+    };
+    numbers.push(u64::from(prefix.prim))?;
+    numbers.push(unit)?;
+    numbers.push(prefix.own)?;
+    Ok(())
 }
 
 // What a row is, and the numbers in it.
@@ -324,12 +339,26 @@ fn shown(alloc: Global, row: &Row) -> Result<(&'static str, Vec<u64>), AllocErro
             numbers.push(u64::from(body.number()))?;
             "box"
         }
+        Row::PrefixedLeaf { prefix, prim } => {
+            push_prefix(&mut numbers, *prefix)?;
+            numbers.push(u64::from(*prim))?;
+            "prefixed leaf"
+        }
+        Row::PrefixedBox { prefix, body } => {
+            push_prefix(&mut numbers, *prefix)?;
+            numbers.push(u64::from(body.number()))?;
+            "prefixed box"
+        }
     };
     Ok((kind, numbers))
 }
 
 // Whether the rows are these.
-fn are_shown(alloc: Global, rows: &[Row], expected: &[(&str, &[u64])]) -> Result<bool, AllocError> {
+pub(super) fn are_shown(
+    alloc: Global,
+    rows: &[Row],
+    expected: &[(&str, &[u64])],
+) -> Result<bool, AllocError> {
     if rows.len() != expected.len() {
         return Ok(false);
     }
@@ -390,14 +419,14 @@ fn boxed(alloc: Global) -> Result<Gathered, RowsFault> {
     let root = Component::ComplexElement {
         name: TextValue::from_str(alloc, "r")?,
         framing: Framing::none(),
-        size: Some(8589934592),
+        content_box: ContentBox::Sized(8589934592),
     };
     gathered.push(root, &[1])?;
     gathered.push(bare_sequence(), &[2])?;
     let inner = Component::ComplexElement {
         name: TextValue::from_str(alloc, "c")?,
         framing: fill(8, 1, 4),
-        size: Some(64),
+        content_box: ContentBox::Sized(64),
     };
     gathered.push(inner, &[3])?;
     gathered.push(bare_sequence(), &[4])?;

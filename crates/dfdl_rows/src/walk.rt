@@ -14,7 +14,7 @@ use crate::ends::ends;
 use crate::fill::push_framed;
 use crate::{Component, Components};
 use dfdl_forms::Simple;
-use dfdl_terms::{Row, RowId, RowList};
+use dfdl_terms::{Prefix, Row, RowId, RowList};
 use dfdl_value::TextValue;
 use std::alloc::{AllocError, Global};
 use std::collections::VecDeque;
@@ -186,9 +186,9 @@ fn push_own(
         Component::ComplexElement {
             name,
             framing,
-            size,
+            content_box,
         } => {
-            let boxed = push_boxed(rows, *size, first_of(parts))?;
+            let boxed = push_boxed(rows, *content_box, first_of(parts))?;
             let body = push_framed(alloc, rows, *framing, boxed)?;
             push_element(alloc, rows, name, None, body)
         }
@@ -197,12 +197,23 @@ fn push_own(
             simple,
             prim,
             framing,
+            prefix,
         } => {
             let content = RowId::new(rows.len() as u32);
-            rows.push(Row::Leaf { prim: *prim })?;
+            rows.push(leaf_row(*prefix, *prim))?;
             let body = push_framed(alloc, rows, *framing, content)?;
             push_element(alloc, rows, name, Some(*simple), body)
         }
+    }
+}
+
+// The row of the content of a simple element, with the length prefix before it, where there is one.
+fn leaf_row(prefix: Option<Prefix>, prim: u32) -> Row
+    ensures { result ≡ lists.leaf_row prefix prim }
+{
+    match prefix {
+        Some(prefix) => Row::PrefixedLeaf { prefix, prim },
+        None => Row::Leaf { prim },
     }
 }
 

@@ -6,7 +6,8 @@ use Rattle.serde_json.specs.Data.{Data, null, boolean, number, string, array, ob
 use Rattle.serde_json.specs.Find.{get_member}
 use Rattle.serde_json.specs.declared.value.Value.{Value}
 use Rattle.dfdl_forms.specs.declared.simple.Simple.{Simple}
-use Rattle.dfdl_terms.specs.declared.row.Row.TheVariants.{Leaf, Elem, Group, Skip, Align, Boxed}
+use Rattle.dfdl_terms.specs.declared.prefix.Prefix.{Prefix}
+use Rattle.dfdl_terms.specs.declared.row.Row.TheVariants.{Leaf, Elem, Group, Skip, Align, Boxed, PrefixedLeaf, PrefixedBox}
 use Rattle.dfdl_terms.specs.declared.event.Event.TheVariants.{Start, End}
 use Rattle.dfdl_terms.specs.Rows.{Table}
 use Rattle.dfdl_json.specs.ByRows.{below}
@@ -66,6 +67,12 @@ module _ (t : Table) (row : ℕ) (content : Data) (around : Names) where
 
   pub box_says : (bits body : ℕ) → slice_get t.rows row ≡ Some (Boxed bits body) → findings t row content around ≡ []
   box_says bits body is = ap (λ f. f content around) (row_is (findings_by t) (λ c a. []) t.rows row (Some (Boxed bits body)) is)
+
+  pub prefixed_leaf_says : (prefix : Prefix) (prim : ℕ) → slice_get t.rows row ≡ Some (PrefixedLeaf prefix prim) → findings t row content around ≡ []
+  prefixed_leaf_says prefix prim is = ap (λ f. f content around) (row_is (findings_by t) (λ c a. []) t.rows row (Some (PrefixedLeaf prefix prim)) is)
+
+  pub prefixed_box_says : (prefix : Prefix) (body : ℕ) → slice_get t.rows row ≡ Some (PrefixedBox prefix body) → findings t row content around ≡ []
+  prefixed_box_says prefix body is = ap (λ f. f content around) (row_is (findings_by t) (λ c a. []) t.rows row (Some (PrefixedBox prefix body)) is)
 
   pub group_says : (children : List ℕ) → slice_get t.rows row ≡ Some (Group children) → findings t row content around ≡ []
   group_says children is = ap (λ f. f content around) (row_is (findings_by t) (λ c a. []) t.rows row (Some (Group children)) is)

@@ -4,8 +4,9 @@ use Rattle.std.specs.List.{flat_map}
 use Rattle.std.proofs.lemmas.Grind.{flat_map-append}
 use Rattle.std.proofs.lemmas.List.{append-nil}
 use Rattle.dfdl_forms.specs.declared.simple.Simple.{Simple}
+use Rattle.dfdl_terms.specs.declared.prefix.Prefix.{Prefix}
 use Rattle.dfdl_terms.specs.declared.row.Row.{Row}
-use Rattle.dfdl_terms.specs.declared.row.Row.TheVariants.{Leaf, Elem, Group, Skip, Align, Boxed}
+use Rattle.dfdl_terms.specs.declared.row.Row.TheVariants.{Leaf, Elem, Group, Skip, Align, Boxed, PrefixedLeaf, PrefixedBox}
 use Rattle.dfdl_terms.specs.Rows.{Table, ChildrenBelow}
 use Rattle.dfdl_json.specs.ByRows.{below}
 use Rattle.dfdl_json.specs.Children.{declared_by, elements_in}
@@ -28,6 +29,14 @@ module _ (t : Table) (row : ℕ) where
   pub box_declares : (bits body : ℕ) → slice_get t.rows row ≡ Some (Boxed bits body) → body < row → elements_in t row ≡ elements_in t body
   box_declares bits body is less =
       row_is declared_by [] t.rows row (Some (Boxed bits body)) is ∙ below_is declared_by [] t.rows row body less
+
+  pub prefixed_leaf_declares : (prefix : Prefix) (prim : ℕ) → slice_get t.rows row ≡ Some (PrefixedLeaf prefix prim) → elements_in t row ≡ []
+  prefixed_leaf_declares prefix prim is = row_is declared_by [] t.rows row (Some (PrefixedLeaf prefix prim)) is
+
+  pub prefixed_box_declares : (prefix : Prefix) (body : ℕ) → slice_get t.rows row ≡ Some (PrefixedBox prefix body) → body < row
+      → elements_in t row ≡ elements_in t body
+  prefixed_box_declares prefix body is less =
+      row_is declared_by [] t.rows row (Some (PrefixedBox prefix body)) is ∙ below_is declared_by [] t.rows row body less
 
   pub elem_declares : (name : List ℕ) (simple : Option Simple) (body : ℕ) → slice_get t.rows row ≡ Some (Elem name simple body) → elements_in t row ≡ row ∷ []
   elem_declares name simple body is = row_is declared_by [] t.rows row (Some (Elem name simple body)) is
@@ -54,6 +63,14 @@ module _ (t : Table) (row : ℕ) where
   box_steps bits body is less =
       row_is steps_by 0 t.rows row (Some (Boxed bits body)) is ∙ ap (λ n. 1 + n) (below_is steps_by 0 t.rows row body less)
 
+  pub prefixed_leaf_steps : (prefix : Prefix) (prim : ℕ) → slice_get t.rows row ≡ Some (PrefixedLeaf prefix prim) → steps_of t row ≡ 1
+  prefixed_leaf_steps prefix prim is = row_is steps_by 0 t.rows row (Some (PrefixedLeaf prefix prim)) is
+
+  pub prefixed_box_steps : (prefix : Prefix) (body : ℕ) → slice_get t.rows row ≡ Some (PrefixedBox prefix body) → body < row
+      → steps_of t row ≡ 1 + steps_of t body
+  prefixed_box_steps prefix body is less =
+      row_is steps_by 0 t.rows row (Some (PrefixedBox prefix body)) is ∙ ap (λ n. 1 + n) (below_is steps_by 0 t.rows row body less)
+
   pub elem_steps : (name : List ℕ) (simple : Option Simple) (body : ℕ) → slice_get t.rows row ≡ Some (Elem name simple body) → body < row
       → steps_of t row ≡ 2 + steps_of t body
   elem_steps name simple body is less =
@@ -79,6 +96,9 @@ below_elem bound r name simple body is below_row = subst (λ (x : Row). Children
 
 pub below_box : (bound : ℕ) (r : Row) (bits body : ℕ) → r ≡ Boxed bits body → ChildrenBelow bound r → body < bound
 below_box bound r bits body is below_row = subst (λ (x : Row). ChildrenBelow bound x) is below_row
+
+pub below_prefixed_box : (bound : ℕ) (r : Row) (prefix : Prefix) (body : ℕ) → r ≡ PrefixedBox prefix body → ChildrenBelow bound r → body < bound
+below_prefixed_box bound r prefix body is below_row = subst (λ (x : Row). ChildrenBelow bound x) is below_row
 
 pub below_group : (bound : ℕ) (r : Row) (children : List ℕ) → r ≡ Group children → ChildrenBelow bound r → All (λ c. c < bound) children
 below_group bound r children is below_row = subst (λ (x : Row). ChildrenBelow bound x) is below_row
@@ -126,17 +146,18 @@ module _ (t : Table) (row : ℕ) (elements left : List ℕ) where
       = ap (λ xs. total (map (steps_of t) xs)) now_is ∙ total_both (steps_of t) children left in
       omega (arith, both, group_steps t row children is below_row)
 
-  pub box_visited : (bits body : ℕ) (now : List ℕ) → slice_get t.rows row ≡ Some (Boxed bits body) → body < row → now ≡ body ∷ left
+  -- of a row that declares what its body does
+  pub body_visited : (body : ℕ) (now : List ℕ) → elements_in t row ≡ elements_in t body → now ≡ body ∷ left
       → elements ++ flat_map (elements_in t) now ≡ elements ++ (elements_in t row ++ flat_map (elements_in t) left)
-  box_visited bits body now is less now_is =
+  body_visited body now same now_is =
       ap (λ xs. elements ++ flat_map (elements_in t) xs) now_is
-      ∙ ap (λ xs. elements ++ (xs ++ flat_map (elements_in t) left)) (sym (box_declares t row bits body is less))
+      ∙ ap (λ xs. elements ++ (xs ++ flat_map (elements_in t) left)) (sym same)
 
-  pub box_less : (bits body : ℕ) (now : List ℕ) → slice_get t.rows row ≡ Some (Boxed bits body) → body < row → now ≡ body ∷ left
+  pub body_less : (body : ℕ) (now : List ℕ) → steps_of t row ≡ 1 + steps_of t body → now ≡ body ∷ left
       → total (map (steps_of t) now) < steps_of t row + total (map (steps_of t) left)
-  box_less bits body now is less now_is =
+  body_less body now more now_is =
       let one : total (map (steps_of t) now) ≡ steps_of t body + total (map (steps_of t) left) = ap (λ xs. total (map (steps_of t) xs)) now_is in
-      omega (arith, one, box_steps t row bits body is less)
+      omega (arith, one, more)
 
   -- of a row that declares nothing
   pub bare_visited : elements_in t row ≡ [] → elements ++ flat_map (elements_in t) left ≡ elements ++ (elements_in t row ++ flat_map (elements_in t) left)

@@ -9,7 +9,7 @@ use Rattle.serde_json.specs.Find.{get_member}
 use Rattle.dfdl_forms.specs.declared.simple.Simple.{Simple}
 use Rattle.dfdl_value.specs.declared.value.Value.{Value}
 use Rattle.dfdl_terms.specs.declared.row.Row.{Row}
-use Rattle.dfdl_terms.specs.declared.row.Row.TheVariants.{Leaf, Elem, Group, Skip, Align, Boxed}
+use Rattle.dfdl_terms.specs.declared.row.Row.TheVariants.{Leaf, Elem, Group, Skip, Align, Boxed, PrefixedLeaf, PrefixedBox}
 use Rattle.dfdl_terms.specs.declared.event.Event.{Event}
 use Rattle.dfdl_terms.specs.declared.event.Event.TheVariants.{Start, End}
 use Rattle.dfdl_terms.specs.Rows.{HasElementLast, IsElementRow, Nests, Table}
@@ -102,6 +102,8 @@ fits_by t nests row each (Some (Leaf prim)) is content around element none = abs
 fits_by t nests row each (Some (Skip bits)) is content around element none = absurd (subst IsElementRow is element)
 fits_by t nests row each (Some (Align bits)) is content around element none = absurd (subst IsElementRow is element)
 fits_by t nests row each (Some (Boxed bits body)) is content around element none = absurd (subst IsElementRow is element)
+fits_by t nests row each (Some (PrefixedLeaf prefix prim)) is content around element none = absurd (subst IsElementRow is element)
+fits_by t nests row each (Some (PrefixedBox prefix body)) is content around element none = absurd (subst IsElementRow is element)
 fits_by t nests row each (Some (Group children)) is content around element none = absurd (subst IsElementRow is element)
 fits_by t nests row each (Some (Elem name (Some kind) body)) is content around element none =
     let says = simple_says t row content around name kind body is in

@@ -74,6 +74,8 @@ fn visit(
         Some(Row::Skip { .. }) => Ok(()),
         Some(Row::Align { .. }) => Ok(()),
         Some(Row::Boxed { body, .. }) => push_all(left, &[*body]),
+        Some(Row::PrefixedLeaf { .. }) => Ok(()),
+        Some(Row::PrefixedBox { body, .. }) => push_all(left, &[*body]),
         None => Ok(()),
     }
 }

@@ -138,6 +138,8 @@ impl<'t, 'v> Reading<'t, 'v> {
             Some(Row::Skip { .. }) => Ok(()),
             Some(Row::Align { .. }) => Ok(()),
             Some(Row::Boxed { .. }) => Ok(()),
+            Some(Row::PrefixedLeaf { .. }) => Ok(()),
+            Some(Row::PrefixedBox { .. }) => Ok(()),
             None => Ok(()),
         }
     }

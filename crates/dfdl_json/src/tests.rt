@@ -1,5 +1,5 @@
-// Infosets of `r`, which has `a`, whose content is in a box, with `x` and, in a group inside, `y`, and behind `a` and fill
-// the number `b`.
+// Infosets of `r`, whose content is in a box behind a prefix. It has `a`, whose content is in a box, with `x` and, in a group
+// inside, `y`, and behind `a` and fill the number `b`, which has a prefix.
 ghost use Rattle.std.specs.Prelude.{◌≡◌, ◌≤◌, IfOk};
 ghost use Rattle.dfdl_forms.specs.Types.{form_of};
 ghost use Rattle.dfdl_forms.specs.Binary.{most_bits};
@@ -10,7 +10,7 @@ use crate::{InfosetFault, OpenElements, events_of, events_of_json, line_of, name
 use dfdl_decimal::Fixed;
 use dfdl_forms::{BitOrder, ByteOrder, IntForm};
 use dfdl_region::{Content, Node};
-use dfdl_terms::{Event, Primitive, Row, RowId, RowList, Tables, Terms};
+use dfdl_terms::{Event, LengthUnit, Prefix, Primitive, Row, RowId, RowList, Tables, Terms};
 use dfdl_value::{Simple, TextValue, Value};
 use std::alloc::{AllocError, Global};
 use std::test::Fail;
@@ -48,7 +48,14 @@ fn group(alloc: Global, children: &[RowId]) -> Result<Row, AllocError>
     })
 }
 
-// The row 10 is the root element.
+// A prefix that counts bytes.
+const IN_BYTES: Prefix = Prefix {
+    prim: 0,
+    unit: LengthUnit::Bytes,
+    own: 0,
+};
+
+// The row 12 is the root element.
 fn nested(alloc: Global) -> Result<Terms, Fail>
     ensures { IfOk result HasElementLast }
 {
@@ -64,10 +71,18 @@ fn nested(alloc: Global) -> Result<Terms, Fail>
             body: RowId::new(4)
         },
         element(alloc, "a", None, 5)?,
-        element(alloc, "b", byte, 0)?,
+        Row::PrefixedLeaf {
+            prefix: IN_BYTES,
+            prim: 0
+        },
+        element(alloc, "b", byte, 7)?,
         Row::Skip { bits: 8 },
-        group(alloc, &[RowId::new(6), RowId::new(8), RowId::new(7)])?,
-        element(alloc, "r", None, 9)?,
+        group(alloc, &[RowId::new(6), RowId::new(9), RowId::new(8)])?,
+        Row::PrefixedBox {
+            prefix: IN_BYTES,
+            body: RowId::new(10)
+        },
+        element(alloc, "r", None, 11)?,
     ]?;
     let forms = vec![in alloc; form(8, Simple::UnsignedByte)]?;
     Ok(Terms::build(alloc, rows, Tables::new(forms))?)
@@ -165,8 +180,8 @@ fn node(element: u32, parent: u32, content: Content) -> Node
 fn the_members_of_a_line_are_in_the_order_of_their_names(rt: HostRuntime) -> Result<(), Fail> {
     let terms = nested(rt.alloc())?;
     let nodes = [
-        node(10, 0, Content::Complex),
-        node(7, 0, Content::Unsigned(3)),
+        node(12, 0, Content::Complex),
+        node(8, 0, Content::Unsigned(3)),
         node(6, 0, Content::Complex),
         node(2, 2, Content::Unsigned(2)),
         node(1, 2, Content::Unsigned(1)),
@@ -183,11 +198,11 @@ fn the_members_of_a_line_are_in_the_order_of_their_names(rt: HostRuntime) -> Res
 fn numbers_of_a_line_are_in_plain_decimal_digits(rt: HostRuntime) -> Result<(), Fail> {
     let terms = nested(rt.alloc())?;
     let nodes = [
-        node(10, 0, Content::Complex),
+        node(12, 0, Content::Complex),
         node(6, 0, Content::Complex),
         node(1, 1, Content::Signed(-2)),
         node(2, 1, Content::Decimal(Fixed::new(-1234, 2))),
-        node(7, 0, Content::Decimal(Fixed::new(5, 0))),
+        node(8, 0, Content::Decimal(Fixed::new(5, 0))),
     ];
     let line = line_of(rt.alloc(), &terms, &nodes, &[])?;
     assert_eq!(rt;
@@ -201,7 +216,7 @@ fn numbers_of_a_line_are_in_plain_decimal_digits(rt: HostRuntime) -> Result<(), 
 fn booleans_of_a_line_are_true_and_false(rt: HostRuntime) -> Result<(), Fail> {
     let terms = nested(rt.alloc())?;
     let nodes = [
-        node(10, 0, Content::Complex),
+        node(12, 0, Content::Complex),
         node(6, 0, Content::Complex),
         node(1, 1, Content::Truth(true)),
         node(2, 1, Content::Truth(false)),
@@ -221,7 +236,7 @@ fn strings_of_a_line_are_escaped_and_hex_binary_is_in_upper_case(
     let terms = nested(rt.alloc())?;
     let text = [0xCA, 0xFE, 0x22, 0xC3, 0xA9, 0x09];
     let nodes = [
-        node(10, 0, Content::Complex),
+        node(12, 0, Content::Complex),
         node(6, 0, Content::Complex),
         node(1, 1, Content::Octets { from: 0, len: 2 }),
         node(2, 1, Content::Text { from: 2, len: 4 }),
@@ -239,7 +254,7 @@ fn empty_values_of_a_line_are_empty_strings(rt: HostRuntime) -> Result<(), Fail>
     let terms = nested(rt.alloc())?;
     let text = [0x61];
     let nodes = [
-        node(10, 0, Content::Complex),
+        node(12, 0, Content::Complex),
         node(6, 0, Content::Complex),
         node(1, 1, Content::Octets { from: 1, len: 0 }),
         node(2, 1, Content::Text { from: 0, len: 0 }),

@@ -3,7 +3,8 @@ use Rattle.std.proofs.Common.{◌≡◌, ℕ, ◌+◌, ◌<◌, List, [], ◌∷
 use Rattle.std.proofs.lemmas.List.Elements.{All-head, All-tail}
 use Rattle.dfdl_forms.specs.declared.simple.Simple.{Simple as SimpleType}
 use Rattle.dfdl_terms.specs.Rows.{Table}
-use Rattle.dfdl_terms.specs.declared.row.Row.TheVariants.{Leaf, Elem, Group, Skip, Align, Boxed}
+use Rattle.dfdl_terms.specs.declared.prefix.Prefix.{Prefix}
+use Rattle.dfdl_terms.specs.declared.row.Row.TheVariants.{Leaf, Elem, Group, Skip, Align, Boxed, PrefixedLeaf, PrefixedBox}
 use Rattle.dfdl_json.specs.ByRows.{below}
 use Rattle.dfdl_json.specs.Paths.{Names}
 use Rattle.dfdl_json.specs.Steps.{steps_of, total}
@@ -51,6 +52,14 @@ module _ (t : Table) (row : ℕ) (around : Names) (more : Laying) where
 
   pub laid_boxed : (bits body : ℕ) → slice_get t.rows row ≡ Some (Boxed bits body) → laying t row around more ≡ more
   laid_boxed bits body is = ap (λ (h : Names → Laying → Laying). h around more) (row_is (laying_by t) (λ a m. m) t.rows row (Some (Boxed bits body)) is)
+
+  pub laid_prefixed_leaf : (prefix : Prefix) (prim : ℕ) → slice_get t.rows row ≡ Some (PrefixedLeaf prefix prim) → laying t row around more ≡ more
+  laid_prefixed_leaf prefix prim is =
+      ap (λ (h : Names → Laying → Laying). h around more) (row_is (laying_by t) (λ a m. m) t.rows row (Some (PrefixedLeaf prefix prim)) is)
+
+  pub laid_prefixed_box : (prefix : Prefix) (body : ℕ) → slice_get t.rows row ≡ Some (PrefixedBox prefix body) → laying t row around more ≡ more
+  laid_prefixed_box prefix body is =
+      ap (λ (h : Names → Laying → Laying). h around more) (row_is (laying_by t) (λ a m. m) t.rows row (Some (PrefixedBox prefix body)) is)
 
   pub laid_no_row : slice_get t.rows row ≡ None → laying t row around more ≡ more
   laid_no_row is = ap (λ (h : Names → Laying → Laying). h around more) (row_is (laying_by t) (λ a m. m) t.rows row None is)

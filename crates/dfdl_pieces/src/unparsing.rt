@@ -163,6 +163,8 @@ impl<'t> Unparser<'t> {
             Some(Row::Skip { .. }) => Ok(None),
             Some(Row::Align { .. }) => Ok(None),
             Some(Row::Boxed { .. }) => Ok(None),
+            Some(Row::PrefixedLeaf { .. }) => Ok(None),
+            Some(Row::PrefixedBox { .. }) => Ok(None),
             None => Ok(None),
         }
     }

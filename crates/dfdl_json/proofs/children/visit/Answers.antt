@@ -1,4 +1,4 @@
-use Rattle.dfdl_json.proofs.Declares.{there, on_ok, below_elem, below_group, elem_visited, elem_less, group_visited, group_less, bare_visited, bare_less, leaf_declares, leaf_steps, skip_declares, skip_steps, align_declares, align_steps, below_box, box_visited, box_less, no_row_declares, no_row_steps}
+use Rattle.dfdl_json.proofs.Declares.{there, on_ok, below_elem, below_group, elem_visited, elem_less, group_visited, group_less, bare_visited, bare_less, leaf_declares, leaf_steps, skip_declares, skip_steps, align_declares, align_steps, below_box, box_declares, box_steps, body_visited, body_less, prefixed_leaf_declares, prefixed_leaf_steps, below_prefixed_box, prefixed_box_declares, prefixed_box_steps, no_row_declares, no_row_steps}
 use Rattle.std.proofs.Common.{sym, ◌∙◌, ap, [], ◌++◌}
 use Rattle.dfdl_json.proofs.children.visit.Goals as goal
 
@@ -46,13 +46,37 @@ returns-in-Some-Align-clause-less c =
 
 pub returns-in-Some-Boxed-clause-same : goal.returns-in-Some-Boxed-clause-same
 returns-in-Some-Boxed-clause-same c = on_ok c.push_all-in-Some-Boxed.result _ _ c.push_all-in-Some-Boxed.ensures
-    (box_visited c.args.terms.now c.args.row c.args.elements.now.items _ _ _ _ (there _ _ _ c.in-Some-Boxed.ensures.row c.in-Some-Boxed.field-0-is)
-    (below_box _ _ _ _ c.in-Some-Boxed.field-0-is c.in-Some-Boxed.ensures.nests))
+    (body_visited c.args.terms.now c.args.row c.args.elements.now.items _ c.in-Some-Boxed.body _
+    (box_declares c.args.terms.now c.args.row _ _ (there _ _ _ c.in-Some-Boxed.ensures.row c.in-Some-Boxed.field-0-is)
+    (below_box _ _ _ _ c.in-Some-Boxed.field-0-is c.in-Some-Boxed.ensures.nests)))
 
 pub returns-in-Some-Boxed-clause-less : goal.returns-in-Some-Boxed-clause-less
 returns-in-Some-Boxed-clause-less c = on_ok c.push_all-in-Some-Boxed.result _ _ c.push_all-in-Some-Boxed.ensures
-    (box_less c.args.terms.now c.args.row [] _ _ _ _ (there _ _ _ c.in-Some-Boxed.ensures.row c.in-Some-Boxed.field-0-is)
-    (below_box _ _ _ _ c.in-Some-Boxed.field-0-is c.in-Some-Boxed.ensures.nests))
+    (body_less c.args.terms.now c.args.row [] _ c.in-Some-Boxed.body _
+    (box_steps c.args.terms.now c.args.row _ _ (there _ _ _ c.in-Some-Boxed.ensures.row c.in-Some-Boxed.field-0-is)
+    (below_box _ _ _ _ c.in-Some-Boxed.field-0-is c.in-Some-Boxed.ensures.nests)))
+
+pub returns-in-Some-PrefixedLeaf-clause-same : goal.returns-in-Some-PrefixedLeaf-clause-same
+returns-in-Some-PrefixedLeaf-clause-same c =
+    bare_visited c.args.terms.now c.args.row _ _
+    (prefixed_leaf_declares c.args.terms.now c.args.row _ _ (there _ _ _ c.in-Some-PrefixedLeaf.ensures.row c.in-Some-PrefixedLeaf.field-0-is))
+
+pub returns-in-Some-PrefixedLeaf-clause-less : goal.returns-in-Some-PrefixedLeaf-clause-less
+returns-in-Some-PrefixedLeaf-clause-less c =
+    bare_less c.args.terms.now c.args.row [] _
+    (prefixed_leaf_steps c.args.terms.now c.args.row _ _ (there _ _ _ c.in-Some-PrefixedLeaf.ensures.row c.in-Some-PrefixedLeaf.field-0-is))
+
+pub returns-in-Some-PrefixedBox-clause-same : goal.returns-in-Some-PrefixedBox-clause-same
+returns-in-Some-PrefixedBox-clause-same c = on_ok c.push_all-in-Some-PrefixedBox.result _ _ c.push_all-in-Some-PrefixedBox.ensures
+    (body_visited c.args.terms.now c.args.row c.args.elements.now.items _ c.in-Some-PrefixedBox.body _
+    (prefixed_box_declares c.args.terms.now c.args.row _ _ (there _ _ _ c.in-Some-PrefixedBox.ensures.row c.in-Some-PrefixedBox.field-0-is)
+    (below_prefixed_box _ _ _ _ c.in-Some-PrefixedBox.field-0-is c.in-Some-PrefixedBox.ensures.nests)))
+
+pub returns-in-Some-PrefixedBox-clause-less : goal.returns-in-Some-PrefixedBox-clause-less
+returns-in-Some-PrefixedBox-clause-less c = on_ok c.push_all-in-Some-PrefixedBox.result _ _ c.push_all-in-Some-PrefixedBox.ensures
+    (body_less c.args.terms.now c.args.row [] _ c.in-Some-PrefixedBox.body _
+    (prefixed_box_steps c.args.terms.now c.args.row _ _ (there _ _ _ c.in-Some-PrefixedBox.ensures.row c.in-Some-PrefixedBox.field-0-is)
+    (below_prefixed_box _ _ _ _ c.in-Some-PrefixedBox.field-0-is c.in-Some-PrefixedBox.ensures.nests)))
 
 pub returns-in-None-clause-same : goal.returns-in-None-clause-same
 returns-in-None-clause-same c = bare_visited c.args.terms.now c.args.row _ _ (no_row_declares c.args.terms.now c.args.row (sym c.in-None.ensures.row))

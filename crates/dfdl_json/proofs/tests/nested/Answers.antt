@@ -17,32 +17,34 @@ group_named n row children is = rw is tt
 all_at : {A : Type 0} (P : A → Type 0) (xs ys : List A) → xs ≡ ys → All P ys → All P xs
 all_at P xs ys same all = rw same all
 
-last_there : (t : Table) (rows : List Row) (forms : List Primitive) (q0 q1 q2 q3 q4 q5 q6 q7 q8 q9 r : Row) (x : List ℕ) (s : Option Simple) (i : ℕ)
-    → t ≡ record { rows = rows; primitives = forms } → rows ≡ q0 ∷ q1 ∷ q2 ∷ q3 ∷ q4 ∷ q5 ∷ q6 ∷ q7 ∷ q8 ∷ q9 ∷ r ∷ [] → r ≡ Elem x s i → HasElementLast t
-last_there t rows forms q0 q1 q2 q3 q4 q5 q6 q7 q8 q9 r x s i t_is rows_are r_is = rw (t_is, rows_are, r_is) tt
+last_there : (t : Table) (rows : List Row) (forms : List Primitive) (q0 q1 q2 q3 q4 q5 q6 q7 q8 q9 q10 q11 r : Row) (x : List ℕ) (s : Option Simple) (i : ℕ)
+    → t ≡ record { rows = rows; primitives = forms } → rows ≡ q0 ∷ q1 ∷ q2 ∷ q3 ∷ q4 ∷ q5 ∷ q6 ∷ q7 ∷ q8 ∷ q9 ∷ q10 ∷ q11 ∷ r ∷ [] → r ≡ Elem x s i → HasElementLast t
+last_there t rows forms q0 q1 q2 q3 q4 q5 q6 q7 q8 q9 q10 q11 r x s i t_is rows_are r_is = rw (t_is, rows_are, r_is) tt
 
-all_eleven : (P : Row → Type 0) (a b c d e f g h i j k : Row) → P a → P b → P c → P d → P e → P f → P g → P h → P i → P j → P k
-    → All P (a ∷ b ∷ c ∷ d ∷ e ∷ f ∷ g ∷ h ∷ i ∷ j ∷ k ∷ [])
-all_eleven P a b c d e f g h i j k at_a at_b at_c at_d at_e at_f at_g at_h at_i at_j at_k =
-    All-cons P a (b ∷ c ∷ d ∷ e ∷ f ∷ g ∷ h ∷ i ∷ j ∷ k ∷ []) at_a (All-cons P b (c ∷ d ∷ e ∷ f ∷ g ∷ h ∷ i ∷ j ∷ k ∷ []) at_b
-    (All-cons P c (d ∷ e ∷ f ∷ g ∷ h ∷ i ∷ j ∷ k ∷ []) at_c (All-cons P d (e ∷ f ∷ g ∷ h ∷ i ∷ j ∷ k ∷ []) at_d
-    (All-cons P e (f ∷ g ∷ h ∷ i ∷ j ∷ k ∷ []) at_e (All-cons P f (g ∷ h ∷ i ∷ j ∷ k ∷ []) at_f
-    (All-cons P g (h ∷ i ∷ j ∷ k ∷ []) at_g (All-cons P h (i ∷ j ∷ k ∷ []) at_h
-    (All-cons P i (j ∷ k ∷ []) at_i (All-cons P j (k ∷ []) at_j (All-cons P k [] at_k (All-nil P)))))))))))
+all_thirteen : (P : Row → Type 0) (a b c d e f g h i j k l m : Row) → P a → P b → P c → P d → P e → P f → P g → P h → P i → P j → P k → P l → P m
+    → All P (a ∷ b ∷ c ∷ d ∷ e ∷ f ∷ g ∷ h ∷ i ∷ j ∷ k ∷ l ∷ m ∷ [])
+all_thirteen P a b c d e f g h i j k l m at_a at_b at_c at_d at_e at_f at_g at_h at_i at_j at_k at_l at_m =
+    All-cons P a (b ∷ c ∷ d ∷ e ∷ f ∷ g ∷ h ∷ i ∷ j ∷ k ∷ l ∷ m ∷ []) at_a (All-cons P b (c ∷ d ∷ e ∷ f ∷ g ∷ h ∷ i ∷ j ∷ k ∷ l ∷ m ∷ []) at_b
+    (All-cons P c (d ∷ e ∷ f ∷ g ∷ h ∷ i ∷ j ∷ k ∷ l ∷ m ∷ []) at_c (All-cons P d (e ∷ f ∷ g ∷ h ∷ i ∷ j ∷ k ∷ l ∷ m ∷ []) at_d
+    (All-cons P e (f ∷ g ∷ h ∷ i ∷ j ∷ k ∷ l ∷ m ∷ []) at_e (All-cons P f (g ∷ h ∷ i ∷ j ∷ k ∷ l ∷ m ∷ []) at_f
+    (All-cons P g (h ∷ i ∷ j ∷ k ∷ l ∷ m ∷ []) at_g (All-cons P h (i ∷ j ∷ k ∷ l ∷ m ∷ []) at_h
+    (All-cons P i (j ∷ k ∷ l ∷ m ∷ []) at_i (All-cons P j (k ∷ l ∷ m ∷ []) at_j
+    (All-cons P k (l ∷ m ∷ []) at_k (All-cons P l (m ∷ []) at_l
+    (All-cons P m [] at_m (All-nil P)))))))))))))
 
 pub build-requires-clause-named : goal.build-requires-clause-named
 build-requires-clause-named c =
-    let P : Row → Type 0 = NamesWithin (length c.new-8.result) in
-    let one : length c.new-8.result ≡ 1 = ap length (c.new-8.ensures ∙ c.in_ok-forms.ensures.items) in
+    let P : Row → Type 0 = NamesWithin (length c.new-9.result) in
+    let one : length c.new-9.result ≡ 1 = ap length (c.new-9.ensures ∙ c.in_ok-forms.ensures.items) in
     all_at P c.in_ok-rows.rows.items _ c.in_ok-rows.ensures.items
-    (all_eleven P _ _ _ _ _ _ _ _ _ _ _ (rw one (lit< tt)) (element_named _ _ _ _ _ c.in_ok-element.ensures) (element_named _ _ _ _ _ c.in_ok-element-2.ensures)
+    (all_thirteen P _ _ _ _ _ _ _ _ _ _ _ _ _ (rw one (lit< tt)) (element_named _ _ _ _ _ c.in_ok-element.ensures) (element_named _ _ _ _ _ c.in_ok-element-2.ensures)
     (group_named _ _ _ c.in_ok-group.ensures) (group_named _ _ _ c.in_ok-group-2.ensures) tt (element_named _ _ _ _ _ c.in_ok-element-3.ensures)
-    (element_named _ _ _ _ _ c.in_ok-element-4.ensures) tt (group_named _ _ _ c.in_ok-group-3.ensures) (element_named _ _ _ _ _ c.in_ok-element-5.ensures))
+    (rw one (lit< tt, lit< tt)) (element_named _ _ _ _ _ c.in_ok-element-4.ensures) tt (group_named _ _ _ c.in_ok-group-3.ensures) (rw one (lit< tt)) (element_named _ _ _ _ _ c.in_ok-element-5.ensures))
 
 pub build-requires-clause-bounded : goal.build-requires-clause-bounded
 build-requires-clause-bounded c =
-    all_at IsPrimitive c.new-8.result (c.form.result ∷ []) (c.new-8.ensures ∙ c.in_ok-forms.ensures.items)
+    all_at IsPrimitive c.new-9.result (c.form.result ∷ []) (c.new-9.ensures ∙ c.in_ok-forms.ensures.items)
     (All-cons IsPrimitive c.form.result [] c.form.ensures (All-nil IsPrimitive))
 
 pub returns : goal.returns
-returns c = last_there _ c.in_ok-rows.rows.items _ _ _ _ _ _ _ _ _ _ _ _ _ _ _ c.in_ok-build.ensures.ok c.in_ok-rows.ensures.items c.in_ok-element-5.ensures
+returns c = last_there _ c.in_ok-rows.rows.items _ _ _ _ _ _ _ _ _ _ _ _ _ _ _ _ _ c.in_ok-build.ensures.ok c.in_ok-rows.ensures.items c.in_ok-element-5.ensures

@@ -5,7 +5,7 @@ use Rattle.dfdl_pieces.specs.declared.unparsing.Task.TheVariants.{Lay}
 use Rattle.dfdl_pieces.specs.Laying.{Takes, begins, begun_laying, form_at, laying, value_for, value_laying}
 use Rattle.dfdl_pieces.specs.Unparsing.{left, outcome, steps_left}
 use Rattle.dfdl_json.specs.Steps.{steps_of}
-use Rattle.dfdl_pieces.proofs.Layings.{laid_simple, laid_complex, laid_group, laid_leaf, laid_skip, laid_align, laid_boxed, laid_no_row, same_less, group_less, complex_less}
+use Rattle.dfdl_pieces.proofs.Layings.{laid_simple, laid_complex, laid_group, laid_leaf, laid_skip, laid_align, laid_boxed, laid_prefixed_leaf, laid_prefixed_box, laid_no_row, same_less, group_less, complex_less}
 use Rattle.dfdl_pieces.proofs.Moving.{if_ok, if_ok_both, if_ok_any, is_less, less_too, moves_too, moves_same, moves_group}
 use Rattle.dfdl_pieces.proofs.unparsing.Unparser.lay.Goals as goal
 
@@ -112,6 +112,26 @@ returns-in-Some-Boxed-clause-moves c =
 
 pub returns-in-Some-Boxed-clause-less : goal.returns-in-Some-Boxed-clause-less
 returns-in-Some-Boxed-clause-less c = same_less c.args.terms.now c.args.row c.args.self.now.tasks.items c.args.self.now.tasks.items refl
+
+pub returns-in-Some-PrefixedLeaf-clause-moves : goal.returns-in-Some-PrefixedLeaf-clause-moves
+returns-in-Some-PrefixedLeaf-clause-moves c =
+    let old = c.args.self.now in
+    let t = c.args.terms.now in
+    ap (outcome old c.args.events.now) (sym (laid_prefixed_leaf t c.args.row old.around (left t old.tasks.items old.around) _ _
+    (there _ _ _ c.in-Some-PrefixedLeaf.ensures.row c.in-Some-PrefixedLeaf.field-0-is)))
+
+pub returns-in-Some-PrefixedLeaf-clause-less : goal.returns-in-Some-PrefixedLeaf-clause-less
+returns-in-Some-PrefixedLeaf-clause-less c = same_less c.args.terms.now c.args.row c.args.self.now.tasks.items c.args.self.now.tasks.items refl
+
+pub returns-in-Some-PrefixedBox-clause-moves : goal.returns-in-Some-PrefixedBox-clause-moves
+returns-in-Some-PrefixedBox-clause-moves c =
+    let old = c.args.self.now in
+    let t = c.args.terms.now in
+    ap (outcome old c.args.events.now) (sym (laid_prefixed_box t c.args.row old.around (left t old.tasks.items old.around) _ _
+    (there _ _ _ c.in-Some-PrefixedBox.ensures.row c.in-Some-PrefixedBox.field-0-is)))
+
+pub returns-in-Some-PrefixedBox-clause-less : goal.returns-in-Some-PrefixedBox-clause-less
+returns-in-Some-PrefixedBox-clause-less c = same_less c.args.terms.now c.args.row c.args.self.now.tasks.items c.args.self.now.tasks.items refl
 
 pub returns-in-None-clause-moves : goal.returns-in-None-clause-moves
 returns-in-None-clause-moves c =

@@ -1,5 +1,5 @@
 -- The machine goes on, a step at a time.
-use Rattle.std.proofs.Common.{◌≡◌, ℕ, ◌+◌, ◌-◌, ◌*◌, ◌/◌, ◌≤◌, max, min, nat_le, refl, List, [], ◌∷◌, length, Bool, true, false, cond, nat_lt, Option, Some, None, ap, sym, subst, arith}
+use Rattle.std.proofs.Common.{◌≡◌, ℕ, ◌+◌, ◌-◌, ◌*◌, ◌/◌, ◌≤◌, max, min, nat_le, refl, List, [], ◌∷◌, length, Bool, true, false, cond, nat_lt, Option, Some, None, ap, sym, subst, ◌∙◌, arith}
 use Rattle.std.specs.Prelude.{slice_get}
 use Rattle.dfdl_bits.specs.Window.{Held, end_of, from_byte, seen_at}
 use Rattle.dfdl_bits.specs.declared.window.Seen.{Seen}
@@ -8,29 +8,34 @@ use Rattle.dfdl_report.specs.declared.cause.LimitCause.TheVariants.{Nodes}
 use Rattle.dfdl_report.specs.declared.cause.ParseCause.TheVariants.{LengthOutOfRange}
 use Rattle.dfdl_terms.specs.declared.row.Primitive.{Primitive}
 use Rattle.dfdl_terms.specs.declared.row.Row.{Row}
-use Rattle.dfdl_terms.specs.declared.row.Row.TheVariants.{Leaf, Elem, Group, Skip, Align, Boxed}
+use Rattle.dfdl_terms.specs.declared.row.Row.TheVariants.{Leaf, Elem, Group, Skip, Align, Boxed, PrefixedLeaf, PrefixedBox}
 use Rattle.dfdl_terms.specs.Rows.{Table}
 use Rattle.dfdl_looks.specs.Looks.{Agrees}
 use Rattle.dfdl_looks.specs.Asks.{ask}
-use Rattle.dfdl_looks.specs.Tallies.{Tally, nothing, one_row, saw_byte}
+use Rattle.dfdl_looks.specs.Tallies.{Tally, first_of, nothing, one_row, plus, saw_byte}
 use Rattle.dfdl_looks.proofs.Waiting.{kept}
 use Rattle.dfdl_grammar.specs.declared.end.End.{End}
 use Rattle.dfdl_grammar.specs.declared.end.End.TheVariants.{Done, Failed, Stopped}
 use Rattle.dfdl_grammar.specs.declared.limits.Limits.{Limits}
 use Rattle.dfdl_grammar.specs.States.{State, anchor}
+use Rattle.dfdl_terms.specs.declared.text.TextSize.{TextSize}
 use Rattle.dfdl_grammar.specs.Leaves.{content_begins, has_room, program}
+use Rattle.dfdl_grammar.specs.Prefixes.{resized}
 use Rattle.dfdl_grammar.specs.Framing.{aligned}
 use Rattle.dfdl_grammar.specs.Elements.{begun, has_elements}
 use Rattle.dfdl_parse.specs.declared.frame.Frame.{Frame}
 use Rattle.dfdl_parse.specs.declared.frame.Frame.TheVariants.{Rest, Element, Box}
 use Rattle.dfdl_parse.specs.declared.frame.Focus.{Focus}
-use Rattle.dfdl_parse.specs.declared.frame.Focus.TheVariants.{Enter, Pass, PassRest, Leave}
-use Rattle.dfdl_parse.specs.Machines.{Move, children_of, enter, enter_group, fill, fill_move, go_on, leave, pass, pass_rest, past_one, read_leaf, read_move, rest_move, seen_beyond, step}
+use Rattle.dfdl_parse.specs.declared.frame.Focus.TheVariants.{Enter, Pass, PassRest, Sized, Leave}
+use Rattle.dfdl_parse.specs.declared.frame.Behind.TheVariants as behind
+use Rattle.dfdl_parse.specs.Moves.{Machine, Move, pass, read_leaf, read_move}
+use Rattle.dfdl_parse.specs.Prefixed.{behind_units, prefix_move, read_prefix, read_resized, read_sized}
+use Rattle.dfdl_parse.specs.Machines.{children_of, enter, enter_group, fill, fill_move, go_on, leave, pass_rest, past_one, rest_move, seen_beyond, step}
 use Rattle.dfdl_parse.specs.Running.{Slid}
 use Rattle.dfdl_parse.proofs.Windows.{agrees_from, end_from}
 use Rattle.dfdl_parse.proofs.Beyond.{beyond-byte, beyond-end}
 use Rattle.dfdl_parse.proofs.Programs.{program-from}
-use Rattle.dfdl_parse.proofs.Ahead.{Anchored, Stands}
+use Rattle.dfdl_parse.proofs.Finishes.{Anchored, Stands}
 
 -- the window behind a step, and what the step cost while the end of the data wasn't told
 pub record Keeps (held : Held) (move : Move) : Type 0 where
@@ -48,26 +53,56 @@ pass-keeps t held focus k s tail far = record {
 }
 
 module _ (held : Held) (s : State) where
-  read-keeps : Anchored held s → (limits : Limits) (id : ℕ) (primitive : Primitive) (k : List Frame) → (room : Bool)
-      → Keeps held (cond room
-      (read_move limits (content_begins primitive s.at) (from_byte held (anchor s)) id
-      (ask (seen_at (from_byte held (anchor s))) (program primitive s.at s.stop) nothing) k s)
-      (pass one_row held (Leave (Failed LengthOutOfRange s.at)) k s))
-  read-keeps stands limits id primitive k false = pass-keeps one_row held _ k s refl refl
-  read-keeps stands limits id primitive k true =
+  -- a step that looks at a leaf
+  looked-keeps : Anchored held s → (cost : Tally) → cost.tail ≡ 0 → cost.far ≡ 0 → (primitive : Primitive) (machine : Machine) (waits : Bool)
+      → let sight : Held = from_byte held (anchor s) in
+      Keeps held (record { tally = plus cost (ask (seen_at sight) (program primitive s.at s.stop) nothing).tally; machine = machine; held = sight; waits = waits })
+  looked-keeps stands cost no_tail no_far primitive machine waits =
       let sight : Held = from_byte held (anchor s) in
       let ends : end_of sight ≡ end_of held = end_from held (anchor s) stands.base stands.end in
       let from = program-from (anchor s) primitive s.at s.stop stands.low in
+      let here : Tally = (ask (seen_at sight) (program primitive s.at s.stop) nothing).tally in
       record {
         slid = record { size = refl; ended = refl; end = ends; base = stands.base };
         agrees = λ whole agrees. agrees_from held whole (anchor s) stands.base stands.end agrees;
-        tail = λ on. (kept sight on (program primitive s.at s.stop) from nothing).0;
+        tail = λ on. ap (λ (n : ℕ). first_of n here.tail) no_tail ∙ (kept sight on (program primitive s.at s.stop) from nothing).0;
         far = λ on. let most = (kept sight on (program primitive s.at s.stop) from nothing).1 in omega (arith, most, ends);
       }
 
-  leaf-keeps : Anchored held s → (limits : Limits) (id : ℕ) (primitive : Option Primitive) (k : List Frame) → Keeps held (read_leaf limits held id primitive k s)
-  leaf-keeps stands limits id None k = pass-keeps one_row held (Leave Done) k s refl refl
-  leaf-keeps stands limits id (Some primitive) k = read-keeps stands limits id primitive k (has_room primitive s.at s.stop)
+  leaf-keeps : Anchored held s → (cost : Tally) → cost.tail ≡ 0 → cost.far ≡ 0 → (limits : Limits) (focus : Focus) (primitive : Option Primitive) (k : List Frame)
+      → Keeps held (read_leaf cost limits focus held primitive k s)
+  leaf-keeps stands cost no_tail no_far limits focus None k = pass-keeps cost held (Leave Done) k s no_tail no_far
+  leaf-keeps stands cost no_tail no_far limits focus (Some primitive) k = by (has_room primitive s.at s.stop)
+    where
+      by : (room : Bool)
+          → Keeps held (cond room
+          (read_move cost limits focus (content_begins primitive s.at) (from_byte held (anchor s))
+          (ask (seen_at (from_byte held (anchor s))) (program primitive s.at s.stop) nothing) k s)
+          (pass cost held (Leave (Failed LengthOutOfRange s.at)) k s))
+      by true = looked-keeps stands cost no_tail no_far primitive _ _
+      by false = pass-keeps cost held _ k s no_tail no_far
+
+  resized-keeps : Anchored held s → (limits : Limits) (focus : Focus) (primitive : Option Primitive) (k : List Frame) → Keeps held (read_resized limits focus held primitive k s)
+  resized-keeps stands limits focus None k = pass-keeps nothing held _ k s refl refl
+  resized-keeps stands limits focus (Some primitive) k = leaf-keeps stands nothing refl refl limits focus (Some primitive) k
+
+  sized-keeps : Anchored held s → (limits : Limits) (prim : ℕ) (size : TextSize) (primitive : Option Primitive) (k : List Frame)
+      → Keeps held (read_sized limits held prim size primitive k s)
+  sized-keeps stands limits prim size None k = pass-keeps nothing held _ k s refl refl
+  sized-keeps stands limits prim size (Some primitive) k = resized-keeps stands limits (Sized prim size) (resized size primitive) k
+
+  prefix-keeps : Anchored held s → (limits : Limits) (id own : ℕ) (next : ℕ → List Frame → State → Machine) (primitive : Option Primitive) (k : List Frame)
+      → Keeps held (read_prefix limits id held own next primitive k s)
+  prefix-keeps stands limits id own next None k = pass-keeps one_row held _ k s refl refl
+  prefix-keeps stands limits id own next (Some primitive) k = by (has_room primitive s.at s.stop)
+    where
+      by : (room : Bool)
+          → Keeps held (cond room
+          (prefix_move limits id own (content_begins primitive s.at) next (from_byte held (anchor s))
+          (ask (seen_at (from_byte held (anchor s))) (program primitive s.at s.stop) nothing) k s)
+          (pass one_row held (Leave (Failed LengthOutOfRange s.at)) k s))
+      by true = looked-keeps stands one_row refl refl primitive _ _
+      by false = pass-keeps one_row held _ k s refl refl
 
   begin-keeps : (to : ℕ) (k : List Frame) (over inside : Bool)
       → Keeps held (cond over (pass one_row held (Leave Done) k s)
@@ -75,13 +110,6 @@ module _ (held : Held) (s : State) where
   begin-keeps to k true inside = pass-keeps one_row held _ _ _ refl refl
   begin-keeps to k false true = pass-keeps one_row held _ _ _ refl refl
   begin-keeps to k false false = pass-keeps one_row held _ _ _ refl refl
-
-  box-keeps : (bits body : ℕ) (k : List Frame) (inside : Bool)
-      → Keeps held (cond inside
-      (pass one_row held (Enter body) (Box s.stop ∷ k) (record s { stop = s.at + bits }))
-      (pass one_row held (Leave (Failed LengthOutOfRange s.at)) k s))
-  box-keeps bits body k true = pass-keeps one_row held _ _ _ refl refl
-  box-keeps bits body k false = pass-keeps one_row held _ _ _ refl refl
 
   leave-box-keeps : (outer : ℕ) (k : List Frame) (over : Bool)
       → Keeps held (cond over (pass nothing held (Leave Done) k (record s { stop = outer })) (pass nothing held (PassRest s.at outer) k s))
@@ -189,14 +217,23 @@ module _ (held : Held) (s : State) where
 
   enter-keeps : Anchored held s → (limits : Limits) (table : Table) (id : ℕ) (r : Option Row) (k : List Frame) → Keeps held (enter limits table held id r k s)
   enter-keeps stands limits table id None k = pass-keeps one_row held _ _ _ refl refl
-  enter-keeps stands limits table id (Some (Leaf prim)) k = leaf-keeps stands limits id (slice_get table.primitives prim) k
+  enter-keeps stands limits table id (Some (Leaf prim)) k = leaf-keeps stands one_row refl refl limits (Enter id) (slice_get table.primitives prim) k
   enter-keeps stands limits table id (Some (Elem name simple body)) k =
       element-keeps limits.nodes id (has_elements simple) body k (nat_lt (length s.nodes) limits.nodes)
   enter-keeps stands limits table id (Some (Group children)) k = group-keeps id children k
   enter-keeps stands limits table id (Some (Skip bits)) k = begin-keeps (s.at + bits) k (nat_le (s.at + bits) s.at) (nat_le (s.at + bits) s.stop)
   enter-keeps stands limits table id (Some (Align bits)) k =
       begin-keeps (aligned bits s.at) k (nat_le (aligned bits s.at) s.at) (nat_le (aligned bits s.at) s.stop)
-  enter-keeps stands limits table id (Some (Boxed bits body)) k = box-keeps bits body k (nat_le (s.at + bits) s.stop)
+  enter-keeps stands limits table id (Some (Boxed bits body)) k = record {
+    slid = record { size = refl; ended = refl; end = refl; base = omega arith };
+    agrees = λ whole agrees. agrees;
+    tail = λ on. refl;
+    far = λ on. omega arith;
+  }
+  enter-keeps stands limits table id (Some (PrefixedLeaf prefix prim)) k =
+      prefix-keeps stands limits id prefix.own (behind_units table.primitives prefix.unit (behind.Leaf prim)) (slice_get table.primitives prefix.prim) k
+  enter-keeps stands limits table id (Some (PrefixedBox prefix body)) k =
+      prefix-keeps stands limits id prefix.own (behind_units table.primitives prefix.unit (behind.Box body)) (slice_get table.primitives prefix.prim) k
 
   go-keeps : (id next : ℕ) (child : Option ℕ) (k : List Frame) → Keeps held (go_on held id next child k s)
   go-keeps id next None k = pass-keeps nothing held _ _ _ refl refl
@@ -217,5 +254,6 @@ module _ (held : Held) (s : State) where
   step-keeps limits table (Enter id) k stands = enter-keeps stands limits table id (slice_get table.rows id) k
   step-keeps limits table (Pass to) k stands = fill-keeps limits to k stands.0
   step-keeps limits table (PassRest bit outer) k stands = rest-keeps limits bit outer k stands.0
+  step-keeps limits table (Sized prim size) k stands = sized-keeps stands limits prim size (slice_get table.primitives prim) k
   step-keeps limits table (Leave end_told) [] stands = pass-keeps nothing held _ _ _ refl refl
   step-keeps limits table (Leave end_told) (frame ∷ k) stands = leave-keeps table frame end_told k

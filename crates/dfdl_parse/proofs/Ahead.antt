@@ -6,152 +6,43 @@ use Rattle.std.proofs.lemmas.Option.{slice_get_within}
 use Rattle.dfdl_bits.specs.Window.{Held, end_of, from_byte, seen_at}
 use Rattle.dfdl_bits.specs.declared.window.Seen.{Seen}
 use Rattle.dfdl_bits.specs.declared.window.Seen.TheVariants.{Byte, End as DataEnded, NotYet, Over}
-use Rattle.dfdl_report.specs.declared.cause.LimitCause.TheVariants.{Nodes, Text as TextLimit, Window}
+use Rattle.dfdl_report.specs.declared.cause.LimitCause.TheVariants.{Nodes, Window}
 use Rattle.dfdl_terms.specs.declared.row.Primitive.{Primitive}
 use Rattle.dfdl_terms.specs.declared.row.Row.{Row}
-use Rattle.dfdl_terms.specs.declared.row.Row.TheVariants.{Leaf, Elem, Group, Skip, Align, Boxed}
+use Rattle.dfdl_terms.specs.declared.row.Row.TheVariants.{Leaf, Elem, Group, Skip, Align, Boxed, PrefixedLeaf, PrefixedBox}
 use Rattle.dfdl_terms.specs.Rows.{Table, Nests}
 use Rattle.dfdl_looks.specs.Looks.{Agrees, seen_in}
-use Rattle.dfdl_looks.specs.Asks.{Answer, Reached, Told, TooFar, Missing, Reading, ask}
+use Rattle.dfdl_looks.specs.Asks.{Answer, Reading}
 use Rattle.dfdl_looks.specs.Tallies.{Tally, nothing, one_row, plus, saw_byte, saw_end, saw_none}
-use Rattle.dfdl_looks.proofs.Resumed.{asked, on_seen}
+use Rattle.dfdl_looks.proofs.Resumed.{on_seen}
 use Rattle.dfdl_grammar.specs.declared.end.End.{End}
 use Rattle.dfdl_grammar.specs.declared.end.End.TheVariants.{Done, Failed, Stopped}
 use Rattle.dfdl_grammar.specs.declared.limits.Limits.{Limits}
 use Rattle.dfdl_grammar.specs.States.{Input, State, anchor, anchor_at}
 use Rattle.dfdl_grammar.specs.Outcomes.{Outcome, ended, spend, then_do}
 use Rattle.dfdl_report.specs.declared.cause.ParseCause.TheVariants.{DataEnds, LengthOutOfRange}
-use Rattle.dfdl_grammar.specs.Leaves.{Find, Fails, Finds, FindsOctets, FindsText, content_begins, has_room, land, leaf, program}
+use Rattle.dfdl_grammar.specs.Prefixes.{bits_of_units, size_of, sized_leaf}
 use Rattle.dfdl_grammar.specs.Framing.{aligned, fill_to, passed}
-use Rattle.dfdl_grammar.specs.Boxes.{bytes_up_to, pass_bytes, past_byte, rest, unboxed}
+use Rattle.dfdl_grammar.specs.Boxes.{boxed, bytes_up_to, pass_bytes, past_byte, rest, unboxed}
 use Rattle.dfdl_grammar.specs.Elements.{begun, close, has_elements, left}
 use Rattle.dfdl_grammar.specs.Rows.{below, group, meaning, row}
-use Rattle.dfdl_grammar.proofs.Spending.{spend-spend, spend-nothing, follow-spend, close-spend}
+use Rattle.dfdl_grammar.proofs.Spending.{spend-nothing}
 use Rattle.dfdl_grammar.proofs.Towers.{below-meaning}
 use Rattle.dfdl_parse.specs.declared.frame.Frame.{Frame}
 use Rattle.dfdl_parse.specs.declared.frame.Frame.TheVariants.{Rest, Element, Box}
 use Rattle.dfdl_parse.specs.declared.frame.Focus.{Focus}
-use Rattle.dfdl_parse.specs.declared.frame.Focus.TheVariants.{Enter, Pass, PassRest, Leave}
-use Rattle.dfdl_parse.specs.Machines.{Move, children_of, enter, enter_group, fill, fill_move, go_on, is_missing, landed, leave, pass, pass_rest, read_leaf, read_move, rest_move, seen_beyond, step}
-use Rattle.dfdl_parse.specs.Ahead.{resume, finish, focused, ahead}
+use Rattle.dfdl_parse.specs.declared.frame.Focus.TheVariants.{Enter, Pass, PassRest, Sized, Leave}
+use Rattle.dfdl_parse.specs.declared.frame.Behind.TheVariants as behind
+use Rattle.dfdl_parse.specs.Moves.{pass}
+use Rattle.dfdl_parse.specs.Prefixed.{behind_units}
+use Rattle.dfdl_parse.specs.Machines.{children_of, enter, enter_group, fill, fill_move, go_on, leave, pass_rest, rest_move, seen_beyond, step}
+use Rattle.dfdl_parse.specs.Ahead.{finish, focused}
 use Rattle.dfdl_parse.proofs.Lists.{drop_some, drop_none, all_at}
-use Rattle.dfdl_parse.proofs.Windows.{agrees_from}
 use Rattle.dfdl_parse.proofs.Beyond.{beyond-same}
-use Rattle.dfdl_parse.proofs.Programs.{program-from}
-
--- the window holds the bytes that a row at this state needs
-pub record Anchored (held : Held) (s : State) : Type 0 where
-  pub base : held.base ≤ anchor s
-  pub end : anchor s ≤ end_of held
-  pub low : anchor s ≤ s.at / 8
-
--- the window holds the bytes that what is done next needs
-abbrev pub Stands : Held → Focus → State → Type 0
-Stands held (Enter id) s = Anchored held s
-Stands held (Pass to) s = (held.base ≤ (to - 1) / 8) × (anchor_at s (to - 1) ≡ (to - 1) / 8)
-Stands held (PassRest bit outer) s = (held.base ≤ bit / 8) × (bit < s.stop) × (anchor_at s (8 * (bit / 8)) ≡ bit / 8)
-Stands held (Leave end) s = Unit {0}
-
--- the window shows the data at this state: it agrees with them, has the size of the limit, and holds the bytes that are needed
-pub record Fits (held : Held) (input : Input) (focus : Focus) (s : State) : Type 0 where
-  pub agrees : Agrees held input.bytes
-  pub size : held.size ≡ input.limits.window
-  pub stands : Stands held focus s
-
--- what is ahead, by the parts of a machine
-abbrev pub from_here : Input → Table → Focus → List Frame → State → Outcome
-from_here input table focus k s = ahead input table (record { focus = focus; stack = k; state = s })
-
--- a step does its part of what is ahead
-abbrev pub Does : Input → Table → Outcome → Move → Type 0
-Does input table o move = o ≡ spend move.tally (ahead input table move.machine)
-
-found : (reached : Reached Find) → is_missing reached ≡ false → reached ≡ Missing → ⊥
-found (Told f) is missing = absurd (cc)
-found TooFar is missing = absurd (cc)
-found Missing is missing = absurd (cc)
-
--- what a reading makes of the state costs nothing more
-hold-nothing : (room : Bool) (s t : State) (most : ℕ) → (cond room (ended Done s) (ended (Stopped TextLimit most) t)).tally ≡ nothing
-hold-nothing true s t most = refl
-hold-nothing false s t most = refl
-
-land-nothing : (limits : Limits) (first : ℕ) (reached : Reached Find) (s : State) → (land limits first reached s).tally ≡ nothing
-land-nothing limits first (Told (Fails cause)) s = refl
-land-nothing limits first (Told (Finds content bits)) s = refl
-land-nothing limits first (Told (FindsOctets bytes bits)) s = hold-nothing (nat_le (length s.text + length bytes) limits.text) _ s limits.text
-land-nothing limits first (Told (FindsText bytes end)) s = hold-nothing (nat_le (length s.text + length bytes) limits.text) _ s limits.text
-land-nothing limits first TooFar s = refl
-land-nothing limits first Missing s = refl
-
--- what was spent in a box was spent before what follows it
-unboxed-spend : (end : End) (t : Tally) (outer : ℕ) (o : Outcome) → unboxed end outer (spend t o) ≡ spend t (unboxed end outer o)
-unboxed-spend Done t outer o = refl
-unboxed-spend (Failed cause bit) t outer o = refl
-unboxed-spend (Stopped cause quantity) t outer o = refl
+use Rattle.dfdl_parse.proofs.Finishes.{Anchored, Does, Fits, after_nothing, finish-spend, from_here, unboxed-spend}
+use Rattle.dfdl_parse.proofs.LeafSteps.{Sees, box-ahead, leaf-of, prefix-of, sized-begin, sized-of}
 
 module _ (input : Input) (table : Table) where
-  resume-spend : (frame : Frame) (t : Tally) (o : Outcome) → resume input table frame (spend t o) ≡ spend t (resume input table frame o)
-  resume-spend (Rest id next) t o = follow-spend o.end t o (group (below input table id) (drop next (children_of (slice_get table.rows id))))
-  resume-spend (Element outer complex) t o = close-spend o.end t outer complex o
-  resume-spend (Box outer) t o =
-      ap (λ (p : Outcome). unboxed p.end outer p) (follow-spend o.end t o (rest input))
-      ∙ unboxed-spend (then_do o (rest input)).end t outer (then_do o (rest input))
-
-  pub finish-spend : (k : List Frame) (t : Tally) (o : Outcome) → finish input table k (spend t o) ≡ spend t (finish input table k o)
-  unfolding finish
-  finish-spend [] t o = refl
-  finish-spend (frame ∷ k) t o = ap (finish input table k) (resume-spend frame t o) ∙ finish-spend k t (resume input table frame o)
-
-  -- behind a row, nothing was spent yet
-  after_nothing : (k : List Frame) (o : Outcome) → finish input table k o ≡ spend nothing (finish input table k o)
-  after_nothing k o = sym (spend-nothing (finish input table k o))
-
-  land-ahead : (first id : ℕ) (reached : Reached Find) (k : List Frame) (s : State) → is_missing reached ≡ false
-      → finish input table k (land input.limits first reached s) ≡ ahead input table (landed input.limits first id reached k s)
-  land-ahead first id (Told found) k s is =
-      let o : Outcome = land input.limits first (Told found) s in
-      ap (λ (t : Tally). finish input table k (record { end = o.end; state = o.state; tally = t })) (land-nothing input.limits first (Told found) s)
-  land-ahead first id TooFar k s is = refl
-  land-ahead first id Missing k s is = absurd (cc)
-
-  -- the reading of a leaf over the data is its reading over the window
-  leaf-reads : (held : Held) (id : ℕ) (primitive : Primitive) (s : State) → Fits held input (Enter id) s
-      → ((ask (seen_at (from_byte held (anchor s))) (program primitive s.at s.stop) nothing).reached ≡ Missing → ⊥)
-      → ask (seen_at (from_byte held (anchor s))) (program primitive s.at s.stop) nothing
-      ≡ ask (seen_in input.bytes input.limits.window (anchor s)) (program primitive s.at s.stop) nothing
-  leaf-reads held id primitive s fits here =
-      asked (from_byte held (anchor s)) input.bytes (agrees_from held input.bytes (anchor s) fits.stands.base fits.stands.end fits.agrees)
-      (program primitive s.at s.stop) (program-from (anchor s) primitive s.at s.stop fits.stands.low) nothing here
-      ∙ ap (λ (size : ℕ). ask (seen_in input.bytes size (anchor s)) (program primitive s.at s.stop) nothing) fits.size
-
-  -- a leaf that has room, and one that hasn't
-  leaf-ahead : (held : Held) (id : ℕ) (primitive : Primitive) (k : List Frame) (s : State) → Fits held input (Enter id) s → (room : Bool)
-      → let sight : Held = from_byte held (anchor s) in
-      let move : Move = cond room
-      (read_move input.limits (content_begins primitive s.at) sight id (ask (seen_at sight) (program primitive s.at s.stop) nothing) k s)
-      (pass one_row held (Leave (Failed LengthOutOfRange s.at)) k s) in
-      let whole : Reading Find = ask (seen_in input.bytes input.limits.window (anchor s)) (program primitive s.at s.stop) nothing in
-      move.waits ≡ false
-      → Does input table (finish input table k (spend one_row (cond room
-      (spend whole.tally (land input.limits (content_begins primitive s.at) whole.reached s))
-      (ended (Failed LengthOutOfRange s.at) s)))) move
-  leaf-ahead held id primitive k s fits true going =
-      let here : Reading Find = ask (seen_at (from_byte held (anchor s))) (program primitive s.at s.stop) nothing in
-      let same = leaf-reads held id primitive s fits (found here.reached going) in
-      let first : ℕ = content_begins primitive s.at in
-      ap (λ (r : Reading Find). finish input table k (spend one_row (spend r.tally (land input.limits first r.reached s)))) (sym same)
-      ∙ ap (finish input table k) (spend-spend one_row here.tally (land input.limits first here.reached s))
-      ∙ finish-spend k (plus one_row here.tally) (land input.limits first here.reached s)
-      ∙ ap (spend (plus one_row here.tally)) (land-ahead first id here.reached k s going)
-  leaf-ahead held id primitive k s fits false going = finish-spend k one_row (ended (Failed LengthOutOfRange s.at) s)
-
-  leaf-of : (held : Held) (id : ℕ) (primitive : Option Primitive) (k : List Frame) (s : State) → Fits held input (Enter id) s
-      → (read_leaf input.limits held id primitive k s).waits ≡ false
-      → Does input table (finish input table k (spend one_row (leaf input primitive s))) (read_leaf input.limits held id primitive k s)
-  leaf-of held id None k s fits going = finish-spend k one_row (ended Done s)
-  leaf-of held id (Some primitive) k s fits going = leaf-ahead held id primitive k s fits (has_room primitive s.at s.stop) going
-
   element-ahead : (most : ℕ) (held : Held) (id : ℕ) (complex : Bool) (body : ℕ) (k : List Frame) (s : State) → body < id → (room : Bool)
       → Does input table
       (finish input table k (spend one_row (cond room
@@ -162,9 +53,9 @@ module _ (input : Input) (table : Table) where
       (pass one_row held (Leave (Stopped Nodes most)) k s))
   unfolding finish
   element-ahead most held id complex body k s less true =
-      finish-spend k one_row _
+      finish-spend input table k one_row _
       ∙ ap (λ (o : Outcome). spend one_row (finish input table k (close o.end s.inside complex o))) (below-meaning input table id body (begun id s) less)
-  element-ahead most held id complex body k s less false = finish-spend k one_row (ended (Stopped Nodes most) s)
+  element-ahead most held id complex body k s less false = finish-spend input table k one_row (ended (Stopped Nodes most) s)
 
   -- fill begins
   enter-fill : (held : Held) (to : ℕ) (k : List Frame) (s : State) → (over inside : Bool)
@@ -172,25 +63,9 @@ module _ (input : Input) (table : Table) where
       (finish input table k (spend one_row (cond over (ended Done s) (cond inside (fill_to input to s) (ended (Failed LengthOutOfRange s.at) s)))))
       (cond over (pass one_row held (Leave Done) k s)
       (cond inside (pass one_row held (Pass to) k s) (pass one_row held (Leave (Failed LengthOutOfRange s.at)) k s)))
-  enter-fill held to k s true inside = finish-spend k one_row (ended Done s)
-  enter-fill held to k s false true = finish-spend k one_row (fill_to input to s)
-  enter-fill held to k s false false = finish-spend k one_row (ended (Failed LengthOutOfRange s.at) s)
-
-  -- a box begins
-  enter-box : (held : Held) (id bits body : ℕ) (k : List Frame) (s : State) → body < id → (inside : Bool)
-      → Does input table
-      (finish input table k (spend one_row (cond inside
-      (let o : Outcome = then_do (below input table id body (record s { stop = s.at + bits })) (rest input) in unboxed o.end s.stop o)
-      (ended (Failed LengthOutOfRange s.at) s))))
-      (cond inside
-      (pass one_row held (Enter body) (Box s.stop ∷ k) (record s { stop = s.at + bits }))
-      (pass one_row held (Leave (Failed LengthOutOfRange s.at)) k s))
-  unfolding finish
-  enter-box held id bits body k s less true =
-      finish-spend k one_row _
-      ∙ ap (λ (o : Outcome). spend one_row (finish input table k (unboxed (then_do o (rest input)).end s.stop (then_do o (rest input)))))
-      (below-meaning input table id body (record s { stop = s.at + bits }) less)
-  enter-box held id bits body k s less false = finish-spend k one_row (ended (Failed LengthOutOfRange s.at) s)
+  enter-fill held to k s true inside = finish-spend input table k one_row (ended Done s)
+  enter-fill held to k s false true = finish-spend input table k one_row (fill_to input to s)
+  enter-fill held to k s false false = finish-spend input table k one_row (ended (Failed LengthOutOfRange s.at) s)
 
   -- the outcome of fill whose last byte is seen as this
   abbrev pub filled : ℕ → Seen → State → Outcome
@@ -200,10 +75,10 @@ module _ (input : Input) (table : Table) where
 
   filled-ahead : (sight : Held) (to : ℕ) (v : Seen) (k : List Frame) (s : State) → (fill_move input.limits.window sight to v k s).waits ≡ false
       → Does input table (finish input table k (filled to v s)) (fill_move input.limits.window sight to v k s)
-  filled-ahead sight to (Byte b) k s going = finish-spend k (saw_byte ((to - 1) / 8) nothing) (ended Done (record s { at = to }))
-  filled-ahead sight to DataEnded k s going = finish-spend k (saw_end ((to - 1) / 8) nothing) (ended (Failed DataEnds s.at) s)
+  filled-ahead sight to (Byte b) k s going = finish-spend input table k (saw_byte ((to - 1) / 8) nothing) (ended Done (record s { at = to }))
+  filled-ahead sight to DataEnded k s going = finish-spend input table k (saw_end ((to - 1) / 8) nothing) (ended (Failed DataEnds s.at) s)
   filled-ahead sight to NotYet k s going = absurd (cc)
-  filled-ahead sight to Over k s going = finish-spend k (saw_none nothing) (ended (Stopped Window input.limits.window) s)
+  filled-ahead sight to Over k s going = finish-spend input table k (saw_none nothing) (ended (Stopped Window input.limits.window) s)
 
   -- a look that isn't in vain
   came : (window : ℕ) (sight : Held) (to : ℕ) (v : Seen) (k : List Frame) (s : State) → (fill_move window sight to v k s).waits ≡ false → v ≡ NotYet → ⊥
@@ -235,12 +110,12 @@ module _ (input : Input) (table : Table) where
       (pass (saw_byte byte nothing) sight (PassRest (8 * (byte + 1)) outer) k s))
   past-ahead sight byte outer k s true is =
       let none : bytes_up_to s.stop (byte + 1) ≡ 0 = grind (arith, nat_tests) in
-      finish-spend k (saw_byte byte nothing) (after_one byte outer s)
+      finish-spend input table k (saw_byte byte nothing) (after_one byte outer s)
       ∙ ap (λ (n : ℕ). spend (saw_byte byte nothing) (finish input table k
       (unboxed (pass_bytes input n (byte + 1) s).end outer (pass_bytes input n (byte + 1) s)))) none
   past-ahead sight byte outer k s false is =
       let at : byte + 1 ≡ 8 * (byte + 1) / 8 = omega arith in
-      finish-spend k (saw_byte byte nothing) (after_one byte outer s)
+      finish-spend input table k (saw_byte byte nothing) (after_one byte outer s)
       ∙ ap (λ (b : ℕ). spend (saw_byte byte nothing) (finish input table k
       (unboxed (pass_bytes input (bytes_up_to s.stop b) b s).end outer (pass_bytes input (bytes_up_to s.stop b) b s)))) at
 
@@ -259,9 +134,9 @@ module _ (input : Input) (table : Table) where
       let o : Outcome = pass_bytes input (bytes_up_to s.stop (byte + 1)) (byte + 1) s in
       ap (finish input table k) (unboxed-spend o.end (saw_byte byte nothing) outer o)
       ∙ past-ahead sight byte outer k s (nat_le ((s.stop - 1) / 8) byte) refl
-  rested-ahead sight bit outer DataEnded k s going = finish-spend k (saw_end (bit / 8) nothing) (ended (Failed DataEnds s.at) s)
+  rested-ahead sight bit outer DataEnded k s going = finish-spend input table k (saw_end (bit / 8) nothing) (ended (Failed DataEnds s.at) s)
   rested-ahead sight bit outer NotYet k s going = absurd (cc)
-  rested-ahead sight bit outer Over k s going = finish-spend k (saw_none nothing) (ended (Stopped Window input.limits.window) s)
+  rested-ahead sight bit outer Over k s going = finish-spend input table k (saw_none nothing) (ended (Stopped Window input.limits.window) s)
 
   -- a look at the rest that isn't in vain
   rest-came : (window : ℕ) (sight : Held) (bit outer : ℕ) (v : Seen) (k : List Frame) (s : State)
@@ -300,25 +175,29 @@ module _ (input : Input) (table : Table) where
       → Does input table
       (finish input table k (let o : Outcome = cond over (ended Done s) (pass_bytes input (bytes_up_to s.stop (s.at / 8)) (s.at / 8) s) in unboxed o.end outer o))
       (cond over (pass nothing held (Leave Done) k (record s { stop = outer })) (pass nothing held (PassRest s.at outer) k s))
-  leave-box held outer k s true is = after_nothing k (ended Done (record s { stop = outer }))
-  leave-box held outer k s false is = after_nothing k (focused input table (PassRest s.at outer) s)
+  leave-box held outer k s true is = after_nothing input table k (ended Done (record s { stop = outer }))
+  leave-box held outer k s false is = after_nothing input table k (focused input table (PassRest s.at outer) s)
 
   group-ahead : (held : Held) (id : ℕ) (children : List ℕ) (k : List Frame) (s : State) → slice_get table.rows id ≡ Some (Group children)
       → All (λ c. c < id) children
       → Does input table (finish input table k (spend one_row (group (below input table id) children s))) (enter_group held id children k s)
   unfolding finish
-  group-ahead held id [] k s is all = finish-spend k one_row (ended Done s)
+  group-ahead held id [] k s is all = finish-spend input table k one_row (ended Done s)
   group-ahead held id (child ∷ rest) k s is all =
-      finish-spend k one_row (then_do (below input table id child s) (group (below input table id) rest))
+      finish-spend input table k one_row (then_do (below input table id child s) (group (below input table id) rest))
       ∙ ap (λ (o : Outcome). spend one_row (finish input table k (then_do o (group (below input table id) rest)))) (below-meaning input table id child s (all 0 child (omega arith)))
       ∙ ap (λ (rows : List ℕ). spend one_row (finish input table k (then_do (meaning input table child s) (group (below input table id) rows))))
       (sym (ap (λ (r : Option Row). drop 1 (children_of r)) is))
 
+  -- the window shows the data at a leaf
+  sees : {focus : Focus} (held : Held) (s : State) → Anchored held s → Fits held input focus s → Sees held input s
+  sees held s stands fits = record { agrees = fits.agrees; size = fits.size; stands = stands }
+
   enter-ahead : Nests table.rows → (held : Held) (id : ℕ) (r : Option Row) (k : List Frame) (s : State) → slice_get table.rows id ≡ r → Fits held input (Enter id) s
       → (enter input.limits table held id r k s).waits ≡ false
       → Does input table (finish input table k (spend one_row (row input table (below input table id) id r s))) (enter input.limits table held id r k s)
-  enter-ahead nests held id None k s is fits going = finish-spend k one_row (ended Done s)
-  enter-ahead nests held id (Some (Leaf prim)) k s is fits going = leaf-of held id (slice_get table.primitives prim) k s fits going
+  enter-ahead nests held id None k s is fits going = finish-spend input table k one_row (ended Done s)
+  enter-ahead nests held id (Some (Leaf prim)) k s is fits going = leaf-of input table one_row (Enter id) held (slice_get table.primitives prim) k s (sees held s fits.stands fits) going
   enter-ahead nests held id (Some (Elem name simple body)) k s is fits going =
       let less : body < id = nests id (Elem name simple body) (slice_get_within table.rows id (Elem name simple body) is) is in
       element-ahead input.limits.nodes held id (has_elements simple) body k s less (nat_lt (length s.nodes) input.limits.nodes)
@@ -329,7 +208,21 @@ module _ (input : Input) (table : Table) where
       enter-fill held (aligned bits s.at) k s (nat_le (aligned bits s.at) s.at) (nat_le (aligned bits s.at) s.stop)
   enter-ahead nests held id (Some (Boxed bits body)) k s is fits going =
       let less : body < id = nests id (Boxed bits body) (slice_get_within table.rows id (Boxed bits body) is) is in
-      enter-box held id bits body k s less (nat_le (s.at + bits) s.stop)
+      finish-spend input table k one_row (boxed input bits (below input table id body) s)
+      ∙ ap (spend one_row) (box-ahead input table id bits body k s less (nat_le (s.at + bits) s.stop))
+  enter-ahead nests held id (Some (PrefixedLeaf prefix prim)) k s is fits going =
+      let primitive : Option Primitive = slice_get table.primitives prim in
+      prefix-of input table id prefix.own (λ units after. sized_leaf input primitive (size_of prefix.unit units) after)
+      (behind_units table.primitives prefix.unit (behind.Leaf prim)) k
+      (λ units after. sized-begin input table prim (size_of prefix.unit units) primitive k after refl)
+      held (slice_get table.primitives prefix.prim) s (sees held s fits.stands fits) going
+  enter-ahead nests held id (Some (PrefixedBox prefix body)) k s is fits going =
+      let less : body < id = nests id (PrefixedBox prefix body) (slice_get_within table.rows id (PrefixedBox prefix body) is) is in
+      prefix-of input table id prefix.own (λ units after. boxed input (bits_of_units prefix.unit units) (below input table id body) after)
+      (behind_units table.primitives prefix.unit (behind.Box body)) k
+      (λ units after. box-ahead input table id (bits_of_units prefix.unit units) body k after less
+      (nat_le (after.at + bits_of_units prefix.unit units) after.stop))
+      held (slice_get table.primitives prefix.prim) s (sees held s fits.stands fits) going
 
   -- the children of a row stand below it
   children-below : Nests table.rows → (id : ℕ) (r : Option Row) → slice_get table.rows id ≡ r → All (λ c. c < id) (children_of r)
@@ -340,6 +233,8 @@ module _ (input : Input) (table : Table) where
   children-below nests id (Some (Skip bits)) is = λ i row less. absurd (omega arith)
   children-below nests id (Some (Align bits)) is = λ i row less. absurd (omega arith)
   children-below nests id (Some (Boxed bits body)) is = λ i row less. absurd (omega arith)
+  children-below nests id (Some (PrefixedLeaf prefix prim)) is = λ i row less. absurd (omega arith)
+  children-below nests id (Some (PrefixedBox prefix body)) is = λ i row less. absurd (omega arith)
 
   rest-ahead : Nests table.rows → (held : Held) (id next : ℕ) (child : Option ℕ) (k : List Frame) (s : State)
       → slice_get (children_of (slice_get table.rows id)) next ≡ child
@@ -347,7 +242,7 @@ module _ (input : Input) (table : Table) where
   unfolding finish
   rest-ahead nests held id next None k s is =
       ap (λ (rows : List ℕ). finish input table k (then_do (ended Done s) (group (below input table id) rows))) (drop_none _ next is)
-      ∙ ap (finish input table k) (spend-nothing (ended Done s)) ∙ after_nothing k (ended Done s)
+      ∙ ap (finish input table k) (spend-nothing (ended Done s)) ∙ after_nothing input table k (ended Done s)
   rest-ahead nests held id next (Some child) k s is =
       let rows : List ℕ = children_of (slice_get table.rows id) in
       let less : child < id = all_at id rows next child (children-below nests id (slice_get table.rows id) refl) is in
@@ -355,22 +250,22 @@ module _ (input : Input) (table : Table) where
       ap (λ (left : List ℕ). finish input table k (then_do (ended Done s) (group (below input table id) left))) (drop_some rows next child is)
       ∙ ap (finish input table k) (spend-nothing (then_do (below input table id child s) last))
       ∙ ap (λ (o : Outcome). finish input table k (then_do o last)) (below-meaning input table id child s less)
-      ∙ after_nothing k (then_do (meaning input table child s) last)
+      ∙ after_nothing input table k (then_do (meaning input table child s) last)
 
   leave-ahead : Nests table.rows → (held : Held) (frame : Frame) (end : End) (k : List Frame) (s : State)
       → Does input table (finish input table (frame ∷ k) (ended end s)) (leave table held frame end k s)
   unfolding finish
   leave-ahead nests held (Rest id next) Done k s = rest-ahead nests held id next (slice_get (children_of (slice_get table.rows id)) next) k s refl
-  leave-ahead nests held (Rest id next) (Failed cause bit) k s = after_nothing k (ended (Failed cause bit) s)
-  leave-ahead nests held (Rest id next) (Stopped cause quantity) k s = after_nothing k (ended (Stopped cause quantity) s)
-  leave-ahead nests held (Element outer complex) Done k s = after_nothing k (ended Done (left outer complex s))
-  leave-ahead nests held (Element outer complex) (Failed cause bit) k s = after_nothing k (ended (Failed cause bit) s)
-  leave-ahead nests held (Element outer complex) (Stopped cause quantity) k s = after_nothing k (ended (Stopped cause quantity) s)
+  leave-ahead nests held (Rest id next) (Failed cause bit) k s = after_nothing input table k (ended (Failed cause bit) s)
+  leave-ahead nests held (Rest id next) (Stopped cause quantity) k s = after_nothing input table k (ended (Stopped cause quantity) s)
+  leave-ahead nests held (Element outer complex) Done k s = after_nothing input table k (ended Done (left outer complex s))
+  leave-ahead nests held (Element outer complex) (Failed cause bit) k s = after_nothing input table k (ended (Failed cause bit) s)
+  leave-ahead nests held (Element outer complex) (Stopped cause quantity) k s = after_nothing input table k (ended (Stopped cause quantity) s)
   leave-ahead nests held (Box outer) Done k s =
       ap (λ (o : Outcome). finish input table k (unboxed o.end outer o)) (spend-nothing (rest input s))
       ∙ leave-box held outer k s (nat_le s.stop s.at) refl
-  leave-ahead nests held (Box outer) (Failed cause bit) k s = after_nothing k (ended (Failed cause bit) s)
-  leave-ahead nests held (Box outer) (Stopped cause quantity) k s = after_nothing k (ended (Stopped cause quantity) s)
+  leave-ahead nests held (Box outer) (Failed cause bit) k s = after_nothing input table k (ended (Failed cause bit) s)
+  leave-ahead nests held (Box outer) (Stopped cause quantity) k s = after_nothing input table k (ended (Stopped cause quantity) s)
 
   pub step-ahead : Nests table.rows → (held : Held) (focus : Focus) (k : List Frame) (s : State) → Fits held input focus s
       → (step input.limits table held focus k s).waits ≡ false
@@ -379,5 +274,7 @@ module _ (input : Input) (table : Table) where
   step-ahead nests held (Enter id) k s fits going = enter-ahead nests held id (slice_get table.rows id) k s refl fits going
   step-ahead nests held (Pass to) k s fits going = fill-ahead held to k s fits going
   step-ahead nests held (PassRest bit outer) k s fits going = rest-of held bit outer k s fits going
-  step-ahead nests held (Leave end) [] s fits going = after_nothing [] (ended end s)
+  step-ahead nests held (Sized prim size) k s fits going =
+      sized-of input table held prim size (slice_get table.primitives prim) k s (sees held s fits.stands fits) going
+  step-ahead nests held (Leave end) [] s fits going = after_nothing input table [] (ended end s)
   step-ahead nests held (Leave end) (frame ∷ k) s fits going = leave-ahead nests held frame end k s

@@ -1,5 +1,5 @@
 -- Each step leaves less to be done.
-use Rattle.std.proofs.Common.{◌≡◌, ℕ, ◌+◌, ◌-◌, ◌*◌, ◌/◌, ◌<◌, min, nat_le, refl, List, [], ◌∷◌, length, Bool, true, false, cond, nat_lt, Option, Some, None, ap, arith}
+use Rattle.std.proofs.Common.{◌≡◌, ℕ, ◌+◌, ◌-◌, ◌*◌, ◌/◌, ◌<◌, ◌≤◌, min, nat_le, refl, List, [], ◌∷◌, length, Bool, true, false, cond, nat_lt, Option, Some, None, ap, arith}
 use Rattle.std.specs.Prelude.{slice_get}
 use Rattle.dfdl_bits.specs.Window.{Held, end_of, from_byte, seen_at}
 use Rattle.dfdl_bits.specs.declared.window.Seen.{Seen}
@@ -8,31 +8,38 @@ use Rattle.dfdl_report.specs.declared.cause.LimitCause.TheVariants.{Nodes}
 use Rattle.dfdl_report.specs.declared.cause.ParseCause.TheVariants.{LengthOutOfRange}
 use Rattle.dfdl_terms.specs.declared.row.Primitive.{Primitive}
 use Rattle.dfdl_terms.specs.declared.row.Row.{Row}
-use Rattle.dfdl_terms.specs.declared.row.Row.TheVariants.{Leaf, Elem, Group, Skip, Align, Boxed}
+use Rattle.dfdl_terms.specs.declared.row.Row.TheVariants.{Leaf, Elem, Group, Skip, Align, Boxed, PrefixedLeaf, PrefixedBox}
 use Rattle.dfdl_terms.specs.Rows.{Table, Nests}
 use Rattle.dfdl_looks.specs.Asks.{Reached, Told, TooFar, Missing, Reading, ask}
-use Rattle.dfdl_looks.specs.Tallies.{nothing, one_row, saw_byte}
+use Rattle.dfdl_looks.specs.Tallies.{Tally, nothing, one_row, saw_byte}
 use Rattle.dfdl_grammar.specs.declared.end.End.{End}
 use Rattle.dfdl_grammar.specs.declared.end.End.TheVariants.{Done, Failed, Stopped}
 use Rattle.dfdl_grammar.specs.declared.limits.Limits.{Limits}
 use Rattle.dfdl_grammar.specs.States.{Input, State, anchor}
 use Rattle.dfdl_grammar.specs.Outcomes.{Outcome}
-use Rattle.dfdl_grammar.specs.Leaves.{Find, content_begins, has_room, program}
+use Rattle.dfdl_terms.specs.declared.text.TextSize.{TextSize}
+use Rattle.dfdl_grammar.specs.Leaves.{Find, Fails, Finds, FindsOctets, FindsText, content_begins, has_room, program}
+use Rattle.dfdl_grammar.specs.Prefixes.{bits_of_units, resized, size_of, units_told}
 use Rattle.dfdl_grammar.specs.Framing.{aligned}
 use Rattle.dfdl_grammar.specs.Elements.{begun, has_elements}
 use Rattle.dfdl_parse.specs.declared.frame.Frame.{Frame}
 use Rattle.dfdl_parse.specs.declared.frame.Frame.TheVariants.{Rest, Element, Box}
 use Rattle.dfdl_parse.specs.declared.frame.Focus.{Focus}
-use Rattle.dfdl_parse.specs.declared.frame.Focus.TheVariants.{Enter, Pass, PassRest, Leave}
-use Rattle.dfdl_parse.specs.Machines.{HasEnded, Machine, Move, children_of, enter, enter_group, fill_move, go_on, is_missing, landed, leave, pass, read_leaf, read_move, rest_move, seen_beyond, step}
+use Rattle.dfdl_parse.specs.declared.frame.Focus.TheVariants.{Enter, Pass, PassRest, Sized, Leave}
+use Rattle.dfdl_parse.specs.declared.frame.Behind.TheVariants as behind
+use Rattle.dfdl_parse.specs.Moves.{Machine, Move, is_missing, landed, pass, read_leaf, read_move}
+use Rattle.dfdl_parse.specs.Prefixed.{at_end, behind_units, can_fit, landed_prefix, prefix_move, read_prefix, read_resized, read_sized, sized_begins, units_begin}
+use Rattle.dfdl_parse.specs.Machines.{HasEnded, children_of, enter, enter_group, fill_move, go_on, leave, rest_move, seen_beyond, step}
 use Rattle.dfdl_parse.specs.Ahead.{ahead}
-use Rattle.dfdl_parse.proofs.Ahead.{Fits, step-ahead}
+use Rattle.dfdl_parse.proofs.Finishes.{Fits}
+use Rattle.dfdl_parse.proofs.Ahead.{step-ahead}
 
 -- what is done next, besides the rows that are ahead
 abbrev pub mode : Focus → ℕ
 mode (Enter id) = 0
 mode (Pass to) = 2
 mode (PassRest bit outer) = 2
+mode (Sized prim size) = 2
 mode (Leave end) = 1
 
 -- what is left to be done over some data
@@ -43,28 +50,86 @@ measure input table m = 4 * ((ahead input table m).tally.rows + (ahead input tab
 abbrev Falls : Focus → List Frame → Move → Type 0
 Falls focus k move = 2 * length move.machine.stack + mode move.machine.focus < 4 * (move.tally.rows + move.tally.looks) + (2 * length k + mode focus)
 
-landed-falls : (limits : Limits) (first id rows looks : ℕ) (reached : Reached Find) (k : List Frame) (s : State) → is_missing reached ≡ false
-    → 2 * length (landed limits first id reached k s).stack + mode (landed limits first id reached k s).focus < 4 * (1 + rows + looks) + (2 * length k + 0)
-landed-falls limits first id rows looks (Told found) k s going = omega arith
-landed-falls limits first id rows looks TooFar k s going = omega arith
-landed-falls limits first id rows looks Missing k s going = absurd (cc)
+landed-falls : (limits : Limits) (focus : Focus) (first : ℕ) (reached : Reached Find) (k : List Frame) (s : State) → is_missing reached ≡ false
+    → 2 * length (landed limits focus first reached k s).stack + mode (landed limits focus first reached k s).focus ≡ 2 * length k + 1
+landed-falls limits focus first (Told found) k s going = refl
+landed-falls limits focus first TooFar k s going = refl
+landed-falls limits focus first Missing k s going = absurd (cc)
 
-read-falls : (limits : Limits) (held : Held) (id : ℕ) (primitive : Primitive) (k : List Frame) (s : State) (room : Bool)
+-- a leaf falls by its row, or from the focus in which it waits
+read-falls : (cost : Tally) (limits : Limits) (focus : Focus) (held : Held) (primitive : Primitive) (k : List Frame) (s : State) → 1 < 4 * cost.rows + mode focus → (room : Bool)
     → let sight : Held = from_byte held (anchor s) in
     let move : Move = cond room
-    (read_move limits (content_begins primitive s.at) sight id (ask (seen_at sight) (program primitive s.at s.stop) nothing) k s)
-    (pass one_row held (Leave (Failed LengthOutOfRange s.at)) k s) in
-    move.waits ≡ false → Falls (Enter id) k move
-read-falls limits held id primitive k s true going =
+    (read_move cost limits focus (content_begins primitive s.at) sight (ask (seen_at sight) (program primitive s.at s.stop) nothing) k s)
+    (pass cost held (Leave (Failed LengthOutOfRange s.at)) k s) in
+    move.waits ≡ false → Falls focus k move
+read-falls cost limits focus held primitive k s some true going =
     let here : Reading Find = ask (seen_at (from_byte held (anchor s))) (program primitive s.at s.stop) nothing in
-    let falls = landed-falls limits (content_begins primitive s.at) id here.tally.rows here.tally.looks here.reached k s going in
+    let falls = landed-falls limits focus (content_begins primitive s.at) here.reached k s going in
     omega arith
-read-falls limits held id primitive k s false going = omega arith
+read-falls cost limits focus held primitive k s some false going = omega arith
 
-leaf-falls : (limits : Limits) (held : Held) (id : ℕ) (primitive : Option Primitive) (k : List Frame) (s : State)
-    → (read_leaf limits held id primitive k s).waits ≡ false → Falls (Enter id) k (read_leaf limits held id primitive k s)
-leaf-falls limits held id None k s going = omega arith
-leaf-falls limits held id (Some primitive) k s going = read-falls limits held id primitive k s (has_room primitive s.at s.stop) going
+leaf-falls : (cost : Tally) (limits : Limits) (focus : Focus) (held : Held) (primitive : Option Primitive) (k : List Frame) (s : State) → 1 < 4 * cost.rows + mode focus
+    → (read_leaf cost limits focus held primitive k s).waits ≡ false → Falls focus k (read_leaf cost limits focus held primitive k s)
+leaf-falls cost limits focus held None k s some going = omega arith
+leaf-falls cost limits focus held (Some primitive) k s some going = read-falls cost limits focus held primitive k s some (has_room primitive s.at s.stop) going
+
+resized-falls : (limits : Limits) (prim : ℕ) (size : TextSize) (held : Held) (primitive : Option Primitive) (k : List Frame) (s : State)
+    → (read_resized limits (Sized prim size) held primitive k s).waits ≡ false → Falls (Sized prim size) k (read_resized limits (Sized prim size) held primitive k s)
+resized-falls limits prim size held None k s going = omega arith
+resized-falls limits prim size held (Some primitive) k s going = leaf-falls nothing limits (Sized prim size) held (Some primitive) k s (omega arith) going
+
+sized-falls : (limits : Limits) (held : Held) (prim : ℕ) (size : TextSize) (primitive : Option Primitive) (k : List Frame) (s : State)
+    → (read_sized limits held prim size primitive k s).waits ≡ false → Falls (Sized prim size) k (read_sized limits held prim size primitive k s)
+sized-falls limits held prim size None k s going = omega arith
+sized-falls limits held prim size (Some primitive) k s going = resized-falls limits prim size held (resized size primitive) k s going
+
+-- what is left of a machine besides its rows
+abbrev left_of : Machine → ℕ
+left_of m = 2 * length m.stack + mode m.focus
+
+-- what stands behind a prefix
+begun-falls : (prim : ℕ) (size : TextSize) (primitive : Option Primitive) (k : List Frame) (s : State) → left_of (sized_begins primitive prim size k s) ≤ 2 * length k + 2
+begun-falls prim size None k s = omega arith
+begun-falls prim size (Some primitive) k s = by (can_fit size s.at s.stop)
+  where
+    by : (fits : Bool) → left_of (cond fits (record { focus = Sized prim size; stack = k; state = s }) (at_end (Failed LengthOutOfRange s.at) k s)) ≤ 2 * length k + 2
+    by true = omega arith
+    by false = omega arith
+
+box-begun-falls : (bits body : ℕ) (k : List Frame) (s : State) (inside : Bool)
+    → left_of (cond inside (record { focus = Enter body; stack = Box s.stop ∷ k; state = record s { stop = s.at + bits } }) (at_end (Failed LengthOutOfRange s.at) k s)) ≤ 2 * length k + 2
+box-begun-falls bits body k s true = omega arith
+box-begun-falls bits body k s false = omega arith
+
+module _ (limits : Limits) (id own : ℕ) (next : ℕ → List Frame → State → Machine) (k : List Frame)
+    (few : (units : ℕ) (s : State) → left_of (next units k s) ≤ 2 * length k + 2) where
+  units-falls : (end : ℕ) (units : Option ℕ) (s : State) → left_of (units_begin end next units k s) ≤ 2 * length k + 2
+  units-falls end None s = omega arith
+  units-falls end (Some units) s = few units (record s { at = end })
+
+  prefix-landed-falls : (first : ℕ) (reached : Reached Find) (s : State) → left_of (landed_prefix limits id own first next reached k s) ≤ 2 * length k + 2
+  prefix-landed-falls first (Told (Fails cause)) s = omega arith
+  prefix-landed-falls first (Told (Finds content end)) s = units-falls end (units_told own content) s
+  prefix-landed-falls first (Told (FindsOctets bytes end)) s = omega arith
+  prefix-landed-falls first (Told (FindsText bytes end)) s = omega arith
+  prefix-landed-falls first TooFar s = omega arith
+  prefix-landed-falls first Missing s = omega arith
+
+  prefix-in-falls : (held : Held) (primitive : Primitive) (s : State) (room : Bool)
+      → let sight : Held = from_byte held (anchor s) in
+      Falls (Enter id) k (cond room
+      (prefix_move limits id own (content_begins primitive s.at) next sight (ask (seen_at sight) (program primitive s.at s.stop) nothing) k s)
+      (pass one_row held (Leave (Failed LengthOutOfRange s.at)) k s))
+  prefix-in-falls held primitive s true =
+      let here : Reading Find = ask (seen_at (from_byte held (anchor s))) (program primitive s.at s.stop) nothing in
+      let falls = prefix-landed-falls (content_begins primitive s.at) here.reached s in
+      omega arith
+  prefix-in-falls held primitive s false = omega arith
+
+  prefix-falls : (held : Held) (primitive : Option Primitive) (s : State) → Falls (Enter id) k (read_prefix limits id held own next primitive k s)
+  prefix-falls held None s = omega arith
+  prefix-falls held (Some primitive) s = prefix-in-falls held primitive s (has_room primitive s.at s.stop)
 
 element-falls : (most : ℕ) (held : Held) (id : ℕ) (complex : Bool) (body : ℕ) (k : List Frame) (s : State) (room : Bool)
     → Falls (Enter id) k (cond room
@@ -83,13 +148,6 @@ begin-falls : (held : Held) (id to : ℕ) (k : List Frame) (s : State) (over ins
 begin-falls held id to k s true inside = omega arith
 begin-falls held id to k s false true = omega arith
 begin-falls held id to k s false false = omega arith
-
-box-falls : (held : Held) (id bits body : ℕ) (k : List Frame) (s : State) (inside : Bool)
-    → Falls (Enter id) k (cond inside
-    (pass one_row held (Enter body) (Box s.stop ∷ k) (record s { stop = s.at + bits }))
-    (pass one_row held (Leave (Failed LengthOutOfRange s.at)) k s))
-box-falls held id bits body k s true = omega arith
-box-falls held id bits body k s false = omega arith
 
 leave-box-falls : (held : Held) (outer : ℕ) (k : List Frame) (s : State) (over : Bool)
     → Falls (Leave Done) (Box outer ∷ k)
@@ -120,7 +178,7 @@ filled-falls window sight to Over k s going = omega arith
 enter-falls : (limits : Limits) (table : Table) (held : Held) (id : ℕ) (r : Option Row) (k : List Frame) (s : State)
     → (enter limits table held id r k s).waits ≡ false → Falls (Enter id) k (enter limits table held id r k s)
 enter-falls limits table held id None k s going = omega arith
-enter-falls limits table held id (Some (Leaf prim)) k s going = leaf-falls limits held id (slice_get table.primitives prim) k s going
+enter-falls limits table held id (Some (Leaf prim)) k s going = leaf-falls one_row limits (Enter id) held (slice_get table.primitives prim) k s (omega arith) going
 enter-falls limits table held id (Some (Elem name simple body)) k s going =
     element-falls limits.nodes held id (has_elements simple) body k s (nat_lt (length s.nodes) limits.nodes)
 enter-falls limits table held id (Some (Group children)) k s going = group-falls held id children k s
@@ -128,7 +186,16 @@ enter-falls limits table held id (Some (Skip bits)) k s going =
     begin-falls held id (s.at + bits) k s (nat_le (s.at + bits) s.at) (nat_le (s.at + bits) s.stop)
 enter-falls limits table held id (Some (Align bits)) k s going =
     begin-falls held id (aligned bits s.at) k s (nat_le (aligned bits s.at) s.at) (nat_le (aligned bits s.at) s.stop)
-enter-falls limits table held id (Some (Boxed bits body)) k s going = box-falls held id bits body k s (nat_le (s.at + bits) s.stop)
+enter-falls limits table held id (Some (Boxed bits body)) k s going =
+    let falls = box-begun-falls bits body k s (nat_le (s.at + bits) s.stop) in omega arith
+enter-falls limits table held id (Some (PrefixedLeaf prefix prim)) k s going =
+    prefix-falls limits id prefix.own (behind_units table.primitives prefix.unit (behind.Leaf prim)) k
+    (λ units after. begun-falls prim (size_of prefix.unit units) (slice_get table.primitives prim) k after)
+    held (slice_get table.primitives prefix.prim) s
+enter-falls limits table held id (Some (PrefixedBox prefix body)) k s going =
+    prefix-falls limits id prefix.own (behind_units table.primitives prefix.unit (behind.Box body)) k
+    (λ units after. box-begun-falls (bits_of_units prefix.unit units) body k after (nat_le (after.at + bits_of_units prefix.unit units) after.stop))
+    held (slice_get table.primitives prefix.prim) s
 
 go-falls : (held : Held) (id next : ℕ) (child : Option ℕ) (k : List Frame) (s : State) → Falls (Leave Done) (Rest id next ∷ k) (go_on held id next child k s)
 go-falls held id next None k s = omega arith
@@ -152,6 +219,7 @@ step-falls limits table held (PassRest bit outer) k s on going =
     rested-falls limits.window (from_byte held (min (bit / 8) (end_of held))) bit outer (seen_beyond held (bit / 8)) k s going
 step-falls limits table held (Pass to) k s on going =
     filled-falls limits.window (from_byte held (min ((to - 1) / 8) (end_of held))) to (seen_beyond held ((to - 1) / 8)) k s going
+step-falls limits table held (Sized prim size) k s on going = sized-falls limits held prim size (slice_get table.primitives prim) k s going
 step-falls limits table held (Leave end) [] s on going = absurd (on refl)
 step-falls limits table held (Leave end) (frame ∷ k) s on going = leave-falls table held frame end k s
 

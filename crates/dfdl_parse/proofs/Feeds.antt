@@ -13,9 +13,10 @@ use Rattle.dfdl_grammar.specs.Documents.{document}
 use Rattle.dfdl_grammar.proofs.Spending.{spend-nothing}
 use Rattle.dfdl_parse.specs.declared.frame.Frame.{Frame}
 use Rattle.dfdl_parse.specs.declared.frame.Focus.{Focus}
-use Rattle.dfdl_parse.specs.declared.frame.Focus.TheVariants.{Enter, Pass, PassRest, Leave}
+use Rattle.dfdl_parse.specs.declared.frame.Focus.TheVariants.{Enter, Pass, PassRest, Sized, Leave}
 use Rattle.dfdl_parse.specs.declared.parser.Parser.{Parser}
-use Rattle.dfdl_parse.specs.Machines.{HasEnded, Machine}
+use Rattle.dfdl_parse.specs.Moves.{Machine}
+use Rattle.dfdl_parse.specs.Machines.{HasEnded}
 use Rattle.dfdl_parse.specs.Ahead.{ahead, finish}
 use Rattle.dfdl_parse.specs.Shown.{shown, state_of}
 use Rattle.dfdl_parse.specs.Runs.{Runs}
@@ -104,6 +105,7 @@ unfolding finish
 over_at input table root (Enter id) k s spent ended_here same = absurd ended_here
 over_at input table root (Pass to) k s spent ended_here same = absurd ended_here
 over_at input table root (PassRest bit outer) k s spent ended_here same = absurd ended_here
+over_at input table root (Sized prim size) k s spent ended_here same = absurd ended_here
 over_at input table root (Leave end) k s spent ended_here same =
     let is : root ≡ spend spent (ended end s) =
     same ∙ ap (λ (k : List Frame). spend spent (ahead input table (record { focus = Leave end; stack = k; state = s }))) ended_here in (

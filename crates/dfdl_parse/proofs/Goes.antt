@@ -12,14 +12,16 @@ use Rattle.dfdl_grammar.specs.Outcomes.{Outcome, spend}
 use Rattle.dfdl_grammar.proofs.Spending.{spend-spend}
 use Rattle.dfdl_parse.specs.declared.parser.Parser.{Parser}
 use Rattle.dfdl_parse.specs.declared.frame.Focus.{Focus}
-use Rattle.dfdl_parse.specs.declared.frame.Focus.TheVariants.{Enter, Pass, PassRest, Leave}
-use Rattle.dfdl_parse.specs.Machines.{HasEnded, Machine, Move, NeedsFrom, step}
+use Rattle.dfdl_parse.specs.declared.frame.Focus.TheVariants.{Enter, Pass, PassRest, Sized, Leave}
+use Rattle.dfdl_parse.specs.Moves.{Machine, Move}
+use Rattle.dfdl_parse.specs.Machines.{HasEnded, NeedsFrom, step}
 use Rattle.dfdl_parse.specs.Ahead.{ahead}
 use Rattle.dfdl_parse.specs.Shown.{HasSameLimits, KeepsTo, limits_of, shown, state_of}
 use Rattle.dfdl_parse.specs.Steps.{Moved}
 use Rattle.dfdl_parse.specs.Runs.{Runs}
 use Rattle.dfdl_parse.specs.Running.{Advanced, Slid, Waited}
-use Rattle.dfdl_parse.proofs.Ahead.{Does, Fits, Stands, step-ahead}
+use Rattle.dfdl_parse.proofs.Finishes.{Does, Fits, Stands}
+use Rattle.dfdl_parse.proofs.Ahead.{step-ahead}
 use Rattle.dfdl_parse.proofs.Advances.{Keeps, step-keeps}
 use Rattle.dfdl_parse.proofs.Waits.{step-waits}
 use Rattle.dfdl_parse.proofs.Lows.{step-low}
@@ -58,6 +60,7 @@ stands_at : (held : Held) (p : Parser) (focus : Focus) → NeedsFrom held.base f
 stands_at held p (Enter id) low at = record { base = low; end = within p.at (end_of held) at; low = same_number (p.at / 8) }
 stands_at held p (Pass to) low at = (low, refl)
 stands_at held p (PassRest bit outer) low at = (low.0, low.1, omega arith)
+stands_at held p (Sized prim size) low at = record { base = low; end = within p.at (end_of held) at; low = same_number (p.at / 8) }
 stands_at held p (Leave end) low at = tt
 
 module _ (table : Table) (nests : Nests table.rows) (old new : Parser) (before after : Held) (looks_made : ℕ)

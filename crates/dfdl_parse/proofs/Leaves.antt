@@ -30,32 +30,32 @@ far-most k zero = omega arith
 far-most k (suc n) = omega arith
 
 -- the readings of a leaf, and what they are told by
-told : (reading : Reading Find) (bits k n looks : ℕ) (scratch : Scratch) (t : Tally) (glance : Glance) (s : Seen) (go : Option ℕ → Ask Find) (look : ℕ → Seen)
+told : (reading : Reading Find) (k n looks : ℕ) (scratch : Scratch) (t : Tally) (glance : Glance) (s : Seen) (go : Option ℕ → Ask Find) (look : ℕ → Seen)
     → go None ≡ Answer (Fails DataEnds) → t.looks ≡ n → t.far ≡ far_of_run k n → looks ≡ n + 1 → CutShort s k n glance
-    → reading ≡ on_seen look go (k + n) t s → Answers reading bits scratch glance looks
-told reading bits k n looks scratch t glance (Byte byte) go look none count far cost short is = absurd short
-told reading bits k n looks scratch t glance End go look none count far cost short is =
+    → reading ≡ on_seen look go (k + n) t s → Answers reading scratch glance looks
+told reading k n looks scratch t glance (Byte byte) go look none count far cost short is = absurd short
+told reading k n looks scratch t glance End go look none count far cost short is =
     let whole : reading ≡ record { reached = Told (Fails DataEnds); tally = saw_end (k + n) t } = is ∙ ap (λ (a : Ask Find). ask look a (saw_end (k + n) t)) none in
     let most = far-most k n in
     let looks_are : reading.tally.looks ≡ t.looks + 1 = ap (λ (r : Reading Find). r.tally.looks) whole in
     let far_is : reading.tally.far ≡ max t.far (k + n + 1) = ap (λ (r : Reading Find). r.tally.far) whole in
     let glance_far : glance.far ≡ k + n + 1 = short.1 in
     record {
-      reached = ap (λ (r : Reading Find). r.reached) whole ∙ sym (ap (found_shown bits scratch) short.0);
+      reached = ap (λ (r : Reading Find). r.reached) whole ∙ sym (ap (found_shown scratch) short.0);
       looks = omega arith;
       far = omega arith;
     }
-told reading bits k n looks scratch t glance NotYet go look none count far cost short is =
+told reading k n looks scratch t glance NotYet go look none count far cost short is =
     let looks_are : reading.tally.looks ≡ t.looks + 1 = ap (λ (r : Reading Find). r.tally.looks) is in
     record {
-      reached = ap (λ (r : Reading Find). r.reached) is ∙ sym (ap (found_shown bits scratch) short.0);
+      reached = ap (λ (r : Reading Find). r.reached) is ∙ sym (ap (found_shown scratch) short.0);
       looks = omega arith;
       far = ap (λ (r : Reading Find). r.tally.far) is ∙ far ∙ sym short.1;
     }
-told reading bits k n looks scratch t glance Over go look none count far cost short is =
+told reading k n looks scratch t glance Over go look none count far cost short is =
     let looks_are : reading.tally.looks ≡ t.looks + 1 = ap (λ (r : Reading Find). r.tally.looks) is in
     record {
-      reached = ap (λ (r : Reading Find). r.reached) is ∙ sym (ap (found_shown bits scratch) short.0);
+      reached = ap (λ (r : Reading Find). r.reached) is ∙ sym (ap (found_shown scratch) short.0);
       looks = omega arith;
       far = ap (λ (r : Reading Find). r.tally.far) is ∙ far ∙ sym short.1;
     }
@@ -69,34 +69,34 @@ run-within held k bytes base some seen =
     omega arith
 
 -- what is no string or hexBinary lies where its box does, and has no piece
-pub plain-within : (found : Found) (behind last : ℕ) → IsPlain found → behind ≤ 8 * last → IsWithin found behind last
-plain-within (Reads content) behind last is within = within
-plain-within HasOctets behind last is within = absurd is
+pub plain-within : (found : Found) (behind last : ℕ) → IsPlain found behind → behind ≤ 8 * last → IsWithin found last
+plain-within (Reads content end) behind last is within = omega arith
+plain-within (HasOctets end) behind last is within = absurd is
 plain-within (HasText from to end) behind last is within = absurd is
 plain-within (HasFailed cause) behind last is within = tt
 plain-within Past behind last is within = tt
 plain-within NotCome behind last is within = tt
 
-pub plain-piece : (found : Found) (scratch : Scratch) → IsPlain found → HasPiece found scratch
-plain-piece (Reads content) scratch is = tt
-plain-piece HasOctets scratch is = absurd is
-plain-piece (HasText from to end) scratch is = absurd is
-plain-piece (HasFailed cause) scratch is = tt
-plain-piece Past scratch is = tt
-plain-piece NotCome scratch is = tt
+pub plain-piece : (found : Found) (behind : ℕ) (scratch : Scratch) → IsPlain found behind → HasPiece found scratch
+plain-piece (Reads content end) behind scratch is = tt
+plain-piece (HasOctets end) behind scratch is = absurd is
+plain-piece (HasText from to end) behind scratch is = absurd is
+plain-piece (HasFailed cause) behind scratch is = tt
+plain-piece Past behind scratch is = tt
+plain-piece NotCome behind scratch is = tt
 
 -- where nothing is read, nothing is owed
-pub none-within : (found : Found) (behind last : ℕ) → HasNone found → IsWithin found behind last
-none-within (Reads content) behind last is = absurd is
-none-within HasOctets behind last is = absurd is
-none-within (HasText from to end) behind last is = absurd is
-none-within (HasFailed cause) behind last is = tt
-none-within Past behind last is = tt
-none-within NotCome behind last is = tt
+pub none-within : (found : Found) (last : ℕ) → HasNone found → IsWithin found last
+none-within (Reads content end) last is = absurd is
+none-within (HasOctets end) last is = absurd is
+none-within (HasText from to end) last is = absurd is
+none-within (HasFailed cause) last is = tt
+none-within Past last is = tt
+none-within NotCome last is = tt
 
 pub none-piece : (found : Found) (scratch : Scratch) → HasNone found → HasPiece found scratch
-none-piece (Reads content) scratch is = absurd is
-none-piece HasOctets scratch is = absurd is
+none-piece (Reads content end) scratch is = absurd is
+none-piece (HasOctets end) scratch is = absurd is
 none-piece (HasText from to end) scratch is = absurd is
 none-piece (HasFailed cause) scratch is = tt
 none-piece Past scratch is = tt
@@ -115,24 +115,24 @@ module _ (look : ℕ → Seen) (primitive : Primitive) (bit : ℕ) (bytes : List
   -- the looks of the leaf behind the stretch
   pub cut_read : length bytes < bytes_spanned bit (bits_of primitive) → (glance : Glance) → CutShort (look (bit / 8 + length bytes)) (bit / 8) (length bytes) glance
       → (looks : ℕ) → looks ≡ length bytes + 1 → (scratch : Scratch)
-      → Answers (ask look (field primitive bit) nothing) (bits_of primitive) scratch glance looks
+      → Answers (ask look (field primitive bit) nothing) scratch glance looks
   cut_read fewer glance short looks cost scratch =
-      let go : List ℕ → Find = find_in primitive (bit % 8) in
+      let go : List ℕ → Find = find_in primitive bit in
       let rest : ℕ = bytes_spanned bit (bits_of primitive) - length bytes - 1 in
       let all : bytes_spanned bit (bits_of primitive) ≡ length bytes + suc rest = omega arith in
       let next : ℕ = bit / 8 + length bytes in
-      told (ask look (field primitive bit) nothing) (bits_of primitive) (bit / 8) (length bytes) looks scratch (after (bit / 8) bytes nothing) glance (look next)
+      told (ask look (field primitive bit) nothing) (bit / 8) (length bytes) looks scratch (after (bit / 8) bytes nothing) glance (look next)
       (λ o. elim o [ None ↦ Answer (Fails DataEnds) | Some b ↦ look_at rest (next + 1) (Fails DataEnds) (λ more. go (bytes ++ (b ∷ more))) ]) look
       refl (after-looks (bit / 8) bytes nothing ∙ zero-add (length bytes)) (stretch-far (bit / 8) bytes) cost short
       (ask-stretch look bytes (bytes_spanned bit (bits_of primitive)) (suc rest) (bit / 8) next (Fails DataEnds) go nothing seen all refl)
 
   -- the leaf whose bytes are the stretch
   pub whole_read : 1 ≤ bits_of primitive → bytes_spanned bit (bits_of primitive) ≡ length bytes
-      → (scratch : Scratch) (found : Found) → found_shown (bits_of primitive) scratch found ≡ Told (find_in primitive (bit % 8) bytes)
+      → (scratch : Scratch) (found : Found) → found_shown scratch found ≡ Told (find_in primitive bit bytes)
       → (far : ℕ) → far ≡ bit / 8 + length bytes → (looks : ℕ) → looks ≡ length bytes
-      → Answers (ask look (field primitive bit) nothing) (bits_of primitive) scratch (record { found = found; far = far }) looks
+      → Answers (ask look (field primitive bit) nothing) scratch (record { found = found; far = far }) looks
   whole_read some all scratch found found_is far far_is looks cost =
-      let go : List ℕ → Find = find_in primitive (bit % 8) in
+      let go : List ℕ → Find = find_in primitive bit in
       let none : bytes_spanned bit (bits_of primitive) ≡ length bytes + 0 = omega arith in
       let ends : ask look (field primitive bit) nothing ≡ record { reached = Told (go (bytes ++ [])); tally = after (bit / 8) bytes nothing } =
       ask-stretch look bytes (bytes_spanned bit (bits_of primitive)) 0 (bit / 8) (bit / 8 + length bytes) (Fails DataEnds) go nothing seen none refl in

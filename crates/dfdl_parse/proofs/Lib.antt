@@ -1,11 +1,14 @@
 pub mod Windows
 pub mod Beyond
+pub mod Ends
 pub mod Leaves
 pub mod HexBinaries
 pub mod StringReadings
 pub mod Lists
 pub mod Programs
 pub mod Texts
+pub mod Finishes
+pub mod LeafSteps
 pub mod Ahead
 pub mod Falls
 pub mod Advances
@@ -14,4 +17,5 @@ pub mod Lows
 pub mod Goes
 pub mod Feeds
 pub mod Fed
+pub mod Landings
 pub mod Paths

@@ -51,7 +51,7 @@ size-from low form (Characters count) bit stop base =
 
 field-from : (low : ℕ) (primitive : Primitive) (bit : ℕ) → low ≤ bit / 8 → AsksFrom low (field primitive bit)
 field-from low primitive bit base =
-    look_at-from (bytes_spanned bit (bits_of primitive)) low (bit / 8) (Fails DataEnds) (find_in primitive (bit % 8)) base
+    look_at-from (bytes_spanned bit (bits_of primitive)) low (bit / 8) (Fails DataEnds) (find_in primitive bit) base
 
 -- each look of a leaf is at the byte of its box's first bit or behind it
 pub program-from : (low : ℕ) (primitive : Primitive) (bit stop : ℕ) → low ≤ bit / 8 → AsksFrom low (program primitive bit stop)
@@ -60,6 +60,6 @@ program-from low (Packed form) bit stop base = field-from low (Packed form) bit 
 program-from low (Truth form) bit stop base = field-from low (Truth form) bit base
 program-from low (Octets form) bit stop base =
     let whole : Ask Find = cond (nat_eq (form.bits % 8) 0) (field (Octets form) bit) (Answer (Fails NotFilled)) in
-    from-either low (nat_eq form.bits 0) (Answer (FindsOctets [] 0)) whole tt
+    from-either low (nat_eq form.bits 0) (Answer (FindsOctets [] bit)) whole tt
     (from-either low (nat_eq (form.bits % 8) 0) (field (Octets form) bit) (Answer (Fails NotFilled)) (field-from low (Octets form) bit base) tt)
 program-from low (Text form) bit stop base = size-from low form form.size bit stop base

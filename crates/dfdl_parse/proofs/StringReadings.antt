@@ -17,15 +17,17 @@ use Rattle.dfdl_texts.specs.declared.extent.Extent.TheVariants as extent
 use Rattle.dfdl_texts.specs.Texts.{Text, Reads, HasBad, IsCut, IsBoxed, IsRead as TextEnds, text_at}
 use Rattle.dfdl_texts.proofs.Whole.{text-lies}
 use Rattle.dfdl_grammar.specs.Framing.{aligned}
-use Rattle.dfdl_grammar.specs.Leaves.{Find, Fails, Finds, FindsOctets, FindsText, boxed_text, has_room, text_begins, text_behind, text_ends, text_find, text_of_size}
+use Rattle.dfdl_grammar.specs.Leaves.{Find, Fails, boxed_text, has_room, text_begins, text_behind, text_ends, text_find, text_of_size}
 use Rattle.dfdl_parse.specs.declared.leaf.Found.{Found}
-use Rattle.dfdl_parse.specs.declared.leaf.Found.TheVariants.{Reads as IsRead, Octets as HasOctets, Text as HasText, Fails as HasFailed, Past, NotYet}
 use Rattle.dfdl_parse.specs.declared.leaf.Glance.{Glance}
 use Rattle.dfdl_parse.specs.declared.leaf.Scratch.{Scratch}
 use Rattle.dfdl_parse.specs.Steps.{Answers, IsWithin, found_shown}
 use Rattle.dfdl_texts.specs.Readings.{Answers as TextAnswers, found_shown as text_shown}
 use Rattle.dfdl_texts.specs.declared.found.Glance.{Glance as TextGlance}
+use Rattle.dfdl_text_string.specs.Padding.{trimmed}
 use Rattle.dfdl_parse.specs.Strings.{text_reached}
+use Rattle.dfdl_parse.specs.Views.{text_of as sized}
+use Rattle.dfdl_parse.proofs.Ends.{AtEnd, content-at, ends-found}
 
 -- a string is what its text is found as
 abbrev pub string_of : TextForm → ℕ → Ask Text → Ask Find
@@ -43,11 +45,11 @@ module _ (look : ℕ → Seen) (form : TextForm) (bit : ℕ) where
   string-read text = ask-then look (λ read. Answer (text_find form bit read)) text nothing ∙ behind-text _ _
 
   -- the answer of a string, by that of its text
-  pub characters_read : (text : Ask Text) (chars : List ℕ) (glance : TextGlance) (looks bits : ℕ) (scratch : Scratch) (found : Found)
+  pub characters_read : (text : Ask Text) (chars : List ℕ) (glance : TextGlance) (looks : ℕ) (scratch : Scratch) (found : Found)
       → TextAnswers (ask look text nothing) chars glance looks
-      → found_shown bits scratch found ≡ text_reached form bit (text_shown chars glance.found)
-      → Answers (ask look (string_of form bit text) nothing) bits scratch (record { found = found; far = glance.far }) looks
-  characters_read text chars glance looks bits scratch found answers shown =
+      → found_shown scratch found ≡ text_reached form bit (text_shown chars glance.found)
+      → Answers (ask look (string_of form bit text) nothing) scratch (record { found = found; far = glance.far }) looks
+  characters_read text chars glance looks scratch found answers shown =
       let whole = string-read text in
       record {
         reached = ap (λ (r : Reading Find). r.reached) whole ∙ ap (text_reached form bit) answers.reached ∙ sym shown;
@@ -56,49 +58,52 @@ module _ (look : ℕ → Seen) (form : TextForm) (bit : ℕ) where
       }
 
 module _ (look : ℕ → Seen) (form : TextForm) (bit stop : ℕ) where
-  abbrev pub Is : Ask Find → ℕ → Scratch → Glance → ℕ → Type 0
-  Is program bits scratch glance looks = Answers (ask look program nothing) bits scratch glance looks
+  abbrev pub Is : Ask Find → Scratch → Glance → ℕ → Type 0
+  Is program scratch glance looks = Answers (ask look program nothing) scratch glance looks
 
   abbrev pub text_of : Extent → ℕ → ℕ → Ask Find
   text_of of end first = string_of form bit (text_at form.encoding form.replaces of end (first / 8))
 
   -- a string in a box of so many bits, which are whole bytes behind its first bit
   pub boxed_read : (size : TextSize) (bits first : ℕ) → size ≡ Bits bits → first ≡ text_begins size bit → (bit + bits - first) % 8 ≡ 0
-      → (of_bits looks : ℕ) (scratch : Scratch) (glance : Glance) → Is (text_of extent.Box (bit + bits) first) of_bits scratch glance looks
-      → Is (text_of_size form size bit stop) of_bits scratch glance looks
-  boxed_read size bits first is begins whole of_bits looks scratch glance answers =
+      → (looks : ℕ) (scratch : Scratch) (glance : Glance) → Is (text_of extent.Box (bit + bits) first) scratch glance looks
+      → Is (text_of_size form size bit stop) scratch glance looks
+  boxed_read size bits first is begins whole looks scratch glance answers =
       let test : nat_eq ((bit + bits - first) % 8) 0 ≡ true = grind (arith, nat_tests) in
-      let boxed : Is (boxed_text form bit first (bit + bits)) of_bits scratch glance looks =
-      subst (λ (b : Bool). Is (cond b (text_of extent.Box (bit + bits) first) (Answer (Fails NotFilled))) of_bits scratch glance looks) (sym test) answers in
+      let boxed : Is (boxed_text form bit first (bit + bits)) scratch glance looks =
+      subst (λ (b : Bool). Is (cond b (text_of extent.Box (bit + bits) first) (Answer (Fails NotFilled))) scratch glance looks) (sym test) answers in
       let there : first ≡ text_begins (Bits bits) bit = begins ∙ ap (λ s. text_begins s bit) is in
-      subst (λ s. Is (text_of_size form s bit stop) of_bits scratch glance looks) (sym is)
-      (subst (λ (f : ℕ). Is (boxed_text form bit f (bit + bits)) of_bits scratch glance looks) there boxed)
+      subst (λ s. Is (text_of_size form s bit stop) scratch glance looks) (sym is)
+      (subst (λ (f : ℕ). Is (boxed_text form bit f (bit + bits)) scratch glance looks) there boxed)
 
   -- a string whose characters are counted
   pub counted_read : (size : TextSize) (count first : ℕ) → size ≡ Characters count → first ≡ text_begins size bit
-      → (of_bits looks : ℕ) (scratch : Scratch) (glance : Glance) → Is (text_of (extent.Characters count) stop first) of_bits scratch glance looks
-      → Is (text_of_size form size bit stop) of_bits scratch glance looks
-  counted_read size count first is begins of_bits looks scratch glance answers =
+      → (looks : ℕ) (scratch : Scratch) (glance : Glance) → Is (text_of (extent.Characters count) stop first) scratch glance looks
+      → Is (text_of_size form size bit stop) scratch glance looks
+  counted_read size count first is begins looks scratch glance answers =
       let there : first ≡ text_begins (Characters count) bit = begins ∙ ap (λ s. text_begins s bit) is in
-      subst (λ s. Is (text_of_size form s bit stop) of_bits scratch glance looks) (sym is)
-      (subst (λ (f : ℕ). Is (text_of (extent.Characters count) stop f) of_bits scratch glance looks) there answers)
+      subst (λ s. Is (text_of_size form s bit stop) scratch glance looks) (sym is)
+      (subst (λ (f : ℕ). Is (text_of (extent.Characters count) stop f) scratch glance looks) there answers)
 
--- a string that is read has its box before this byte
-abbrev pub EndsAt : ℕ → Reached Find → Type 0
-EndsAt last (Told (FindsText bytes end)) = end ≤ 8 * last
-EndsAt last (Told (Fails cause)) = Unit {0}
-EndsAt last (Told (Finds content bits)) = ⊥
-EndsAt last (Told (FindsOctets bytes bits)) = ⊥
-EndsAt last TooFar = Unit {0}
-EndsAt last Missing = Unit {0}
+-- the same of the text of a form with another size
+module _ (look : ℕ → Seen) (form : TextForm) (bit stop : ℕ) where
+  pub boxed_sized : (size : TextSize) (bits first : ℕ) → size ≡ Bits bits → first ≡ text_begins size bit → (bit + bits - first) % 8 ≡ 0
+      → (looks : ℕ) (scratch : Scratch) (glance : Glance)
+      → Answers (ask look (string_of (sized form (Bits bits)) bit (text_at form.encoding form.replaces extent.Box (bit + bits) (first / 8))) nothing) scratch glance looks
+      → Answers (ask look (text_of_size (sized form size) size bit stop) nothing) scratch glance looks
+  boxed_sized size bits first is begins whole looks scratch glance answers =
+      boxed_read look (sized form size) bit stop size bits first is begins whole looks scratch glance
+      (subst (λ s. Answers (ask look (string_of (sized form s) bit (text_at form.encoding form.replaces extent.Box (bit + bits) (first / 8))) nothing) scratch glance looks)
+      (sym is) answers)
 
-ends-found : (last behind bits : ℕ) (scratch : Scratch) (found : Found) → EndsAt last (found_shown bits scratch found) → IsWithin found behind last
-ends-found last behind bits scratch (IsRead content) ends = absurd ends
-ends-found last behind bits scratch HasOctets ends = absurd ends
-ends-found last behind bits scratch (HasText from to end) ends = ends
-ends-found last behind bits scratch (HasFailed cause) ends = tt
-ends-found last behind bits scratch Past ends = tt
-ends-found last behind bits scratch NotYet ends = tt
+  pub counted_sized : (size : TextSize) (count first : ℕ) → size ≡ Characters count → first ≡ text_begins size bit
+      → (looks : ℕ) (scratch : Scratch) (glance : Glance)
+      → Answers (ask look (string_of (sized form (Characters count)) bit (text_at form.encoding form.replaces (extent.Characters count) stop (first / 8))) nothing) scratch glance looks
+      → Answers (ask look (text_of_size (sized form size) size bit stop) nothing) scratch glance looks
+  counted_sized size count first is begins looks scratch glance answers =
+      counted_read look (sized form size) bit stop size count first is begins looks scratch glance
+      (subst (λ s. Answers (ask look (string_of (sized form s) bit (text_at form.encoding form.replaces (extent.Characters count) stop (first / 8))) nothing) scratch glance looks)
+      (sym is) answers)
 
 module _ (held : Held) (form : TextForm) (bit : ℕ) (come : bit ≤ 8 * end_of held) (base : held.base ≤ bit / 8) where
   abbrev look : ℕ → Seen
@@ -109,10 +114,11 @@ module _ (held : Held) (form : TextForm) (bit : ℕ) (come : bit ≤ 8 * end_of 
 
   -- the text's own end, and that of the string's box
   ends-text : (of : Extent) (stop k : ℕ) → bit / 8 ≤ k → ((chars : List ℕ) (end : ℕ) → TextEnds of stop last k chars end → text_behind form.size bit end ≤ 8 * last)
-      → (r : Reached Text) → (ask look (text_at form.encoding form.replaces of stop k) nothing).reached ≡ r → EndsAt last (text_reached form bit r)
+      → (r : Reached Text) → (ask look (text_at form.encoding form.replaces of stop k) nothing).reached ≡ r → AtEnd (λ e. e ≤ 8 * last) (text_reached form bit r)
   ends-text of stop k from near (Told (Reads chars end)) is =
-      near chars end (text-lies form.encoding form.replaces of stop look last k nothing chars end
-      (λ j byte after seen. seen_within held j byte (omega arith) seen) is)
+      content-at (λ e. e ≤ 8 * last) form.content (trimmed form.pad chars) (text_behind form.size bit end)
+      (near chars end (text-lies form.encoding form.replaces of stop look last k nothing chars end
+      (λ j byte after seen. seen_within held j byte (omega arith) seen) is))
   ends-text of stop k from near (Told HasBad) is = tt
   ends-text of stop k from near (Told IsCut) is = tt
   ends-text of stop k from near (Told IsBoxed) is = tt
@@ -120,19 +126,19 @@ module _ (held : Held) (form : TextForm) (bit : ℕ) (come : bit ≤ 8 * end_of 
   ends-text of stop k from near Missing is = tt
 
   ends-string : (of : Extent) (stop k : ℕ) → bit / 8 ≤ k → ((chars : List ℕ) (end : ℕ) → TextEnds of stop last k chars end → text_behind form.size bit end ≤ 8 * last)
-      → EndsAt last (ask look (string_of form bit (text_at form.encoding form.replaces of stop k)) nothing).reached
+      → AtEnd (λ e. e ≤ 8 * last) (ask look (string_of form bit (text_at form.encoding form.replaces of stop k)) nothing).reached
   ends-string of stop k from near =
       let text : Ask Text = text_at form.encoding form.replaces of stop k in
-      subst (λ (r : Reading Find). EndsAt last r.reached) (sym (string-read look form bit text)) (ends-text of stop k from near _ refl)
+      subst (λ (r : Reading Find). AtEnd (λ e. e ≤ 8 * last) r.reached) (sym (string-read look form bit text)) (ends-text of stop k from near _ refl)
 
-  ends-boxed : (first end : ℕ) → ((end - first) % 8 ≡ 0 → EndsAt last (ask look (string_of form bit (text_at form.encoding form.replaces extent.Box end (first / 8))) nothing).reached)
+  ends-boxed : (first end : ℕ) → ((end - first) % 8 ≡ 0 → AtEnd (λ e. e ≤ 8 * last) (ask look (string_of form bit (text_at form.encoding form.replaces extent.Box end (first / 8))) nothing).reached)
       → (test : Bool) → nat_eq ((end - first) % 8) 0 ≡ test
-      → EndsAt last (ask look (cond test (string_of form bit (text_at form.encoding form.replaces extent.Box end (first / 8))) (Answer (Fails NotFilled))) nothing).reached
+      → AtEnd (λ e. e ≤ 8 * last) (ask look (cond test (string_of form bit (text_at form.encoding form.replaces extent.Box end (first / 8))) (Answer (Fails NotFilled))) nothing).reached
   ends-boxed first end whole true is = whole (grind (arith, nat_tests))
   ends-boxed first end whole false is = tt
 
   ends-size : (stop : ℕ) (size : TextSize) → form.size ≡ size → nat_le (text_begins size bit) (text_ends size bit stop) ≡ true
-      → EndsAt last (ask look (text_of_size form size bit stop) nothing).reached
+      → AtEnd (λ e. e ≤ 8 * last) (ask look (text_of_size form size bit stop) nothing).reached
   ends-size stop (Bits zero) is room =
       ends-boxed bit (bit + 0)
       (λ whole. ends-string extent.Box (bit + 0) (bit / 8) (omega arith)
@@ -149,10 +155,10 @@ module _ (held : Held) (form : TextForm) (bit : ℕ) (come : bit ≤ 8 * end_of 
       (λ chars end ends. let there = ends.come in
       subst (λ s. text_behind s bit end ≤ 8 * last) (sym is) (omega arith))
 
-  -- a string that is read has its box in the bytes that have come
-  pub string-within : (stop : ℕ) → has_room (PlacedText form) bit stop ≡ true → (bits looks behind : ℕ) (scratch : Scratch) (glance : Glance)
-      → Answers (ask look (text_of_size form form.size bit stop) nothing) bits scratch glance looks → IsWithin glance.found behind last
-  string-within stop room bits looks behind scratch glance answers =
+  -- a text that is read has its box in the bytes that have come
+  pub string-within : (stop : ℕ) → has_room (PlacedText form) bit stop ≡ true → (looks : ℕ) (scratch : Scratch) (glance : Glance)
+      → Answers (ask look (text_of_size form form.size bit stop) nothing) scratch glance looks → IsWithin glance.found last
+  string-within stop room looks scratch glance answers =
       let begins : nat_le (text_begins form.size bit) (text_ends form.size bit stop) ≡ true = grind (arith, nat_tests) in
-      ends-found last behind bits scratch glance.found
-      (subst (λ (r : Reached Find). EndsAt last r) answers.reached (ends-size stop form.size refl begins))
+      ends-found last scratch glance.found
+      (subst (λ (r : Reached Find). AtEnd (λ e. e ≤ 8 * last) r) answers.reached (ends-size stop form.size refl begins))

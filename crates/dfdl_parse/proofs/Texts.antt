@@ -1,15 +1,11 @@
--- The text that a leaf finds ends at its first bit or behind it.
-use Rattle.std.proofs.Common.{◌≡◌, ℕ, zero, suc, ◌+◌, ◌-◌, ◌*◌, ◌/◌, ◌%◌, ◌≤◌, Bool, true, false, cond, nat_eq, refl, List, [], ◌∷◌, Option, Some, None, Result, Ok, Err, subst, sym, arith}
+-- What a leaf finds ends at its first bit or behind it.
+use Rattle.std.proofs.Common.{◌≡◌, ℕ, zero, suc, ◌+◌, ◌-◌, ◌*◌, ◌/◌, ◌%◌, ◌≤◌, Bool, true, false, cond, nat_eq, refl, List, [], ◌∷◌, Option, Some, None, subst, sym, arith}
 use Rattle.dfdl_bits.specs.declared.window.Seen.{Seen}
 use Rattle.dfdl_bits.specs.declared.window.Seen.TheVariants.{Byte, End, NotYet, Over}
 use Rattle.dfdl_report.specs.declared.cause.ParseCause.TheVariants.{DataEnds, NotFilled}
-use Rattle.dfdl_value.specs.declared.value.Value.{Value}
-use Rattle.dfdl_value.specs.declared.value.Value.TheVariants as value
 use Rattle.dfdl_int_binary.specs.Integers.{field_of, integer_reading}
 use Rattle.dfdl_int_binary.specs.Truths.{truth_field_of, truth_reading}
 use Rattle.dfdl_packed.specs.Packed.{nibbles_in, packed_reading}
-use Rattle.dfdl_packed.specs.declared.fault.PackedFault.{PackedFault}
-use Rattle.dfdl_packed.specs.declared.fault.PackedFault.TheVariants as packed
 use Rattle.dfdl_terms.specs.declared.row.Primitive.{Primitive}
 use Rattle.dfdl_terms.specs.declared.row.Primitive.TheVariants.{Integer, Packed, Truth, Octets, Text}
 use Rattle.dfdl_terms.specs.declared.text.TextForm.{TextForm}
@@ -23,39 +19,17 @@ use Rattle.dfdl_looks.specs.Asks.{Ask, Answer, Reached, Told, TooFar, Missing, R
 use Rattle.dfdl_looks.specs.Tallies.{Tally, saw_byte, saw_end}
 use Rattle.dfdl_looks.proofs.Resumed.{on_seen}
 use Rattle.dfdl_looks.proofs.Sequels.{ask-then}
-use Rattle.dfdl_grammar.specs.Leaves.{Find, Fails, Finds, FindsOctets, FindsText, bytes_spanned, field, find_in, find_of, packed_find, program, text_behind, text_begins, text_find, text_of_size, truth_find}
+use Rattle.dfdl_grammar.specs.Leaves.{Find, Fails, FindsOctets, bytes_spanned, field, find_in, program, text_behind, text_begins, text_find, text_of_size}
 use Rattle.dfdl_grammar.specs.Framing.{aligned}
+use Rattle.dfdl_text_string.specs.Padding.{trimmed}
+use Rattle.dfdl_parse.proofs.Ends.{AtEnd, content-at, number-at, packed-at, truth-at}
 
--- a text that is found ends at this bit or behind it
+-- what is found ends at this bit or behind it
 abbrev pub EndsBehind : ℕ → Reached Find → Type 0
-EndsBehind bit (Told (FindsText bytes end)) = bit ≤ end
-EndsBehind bit (Told (Fails cause)) = Unit {0}
-EndsBehind bit (Told (Finds content bits)) = Unit {0}
-EndsBehind bit (Told (FindsOctets bytes bits)) = Unit {0}
-EndsBehind bit TooFar = Unit {0}
-EndsBehind bit Missing = Unit {0}
-
--- no number is a text
-number-ends : (bit bits : ℕ) (number : Option Value) → EndsBehind bit (Told (find_of bits number))
-number-ends bit bits (Some (value.Int z)) = tt
-number-ends bit bits (Some (value.Uns n)) = tt
-number-ends bit bits (Some (value.Dec d)) = tt
-number-ends bit bits (Some (value.Text t)) = tt
-number-ends bit bits (Some (value.Truth t)) = tt
-number-ends bit bits (Some (value.Bytes b)) = tt
-number-ends bit bits None = tt
-
-packed-ends : (bit bits : ℕ) (number : Result Value PackedFault) → EndsBehind bit (Told (packed_find bits number))
-packed-ends bit bits (Ok number) = number-ends bit bits (Some number)
-packed-ends bit bits (Err packed.BadNibble) = tt
-packed-ends bit bits (Err packed.PastType) = tt
-
-truth-ends : (bit bits : ℕ) (truth : Option Bool) → EndsBehind bit (Told (truth_find bits truth))
-truth-ends bit bits (Some truth) = tt
-truth-ends bit bits None = tt
+EndsBehind bit r = AtEnd (λ end. bit ≤ end) r
 
 module _ (look : ℕ → Seen) where
-  -- nor is what is found in a run of bytes
+  -- what is found in a run of bytes
   run-seen : (bit : ℕ) (next : Option ℕ → Ask Find) (k : ℕ) (t : Tally) → ((o : Option ℕ) (u : Tally) → EndsBehind bit (ask look (next o) u).reached)
       → (s : Seen) → EndsBehind bit (on_seen look next k t s).reached
   run-seen bit next k t more (Byte b) = more (Some b) (saw_byte k t)
@@ -92,7 +66,8 @@ module _ (look : ℕ → Seen) where
   found-ends : (form : TextForm) (bit k : ℕ) → ((count : ℕ) → form.size ≡ Characters count → bit ≤ 8 * k) → (r : Reached TextRead) (u : Tally)
       → ((chars : List ℕ) (end : ℕ) → r ≡ Told (Reads chars end) → k ≤ end)
       → EndsBehind bit (go_on look (λ text. Answer (text_find form bit text)) r u).reached
-  found-ends form bit k at (Told (Reads chars end)) u behind = reads-behind form.size bit k end at (behind chars end refl)
+  found-ends form bit k at (Told (Reads chars end)) u behind =
+      content-at (λ e. bit ≤ e) form.content (trimmed form.pad chars) (text_behind form.size bit end) (reads-behind form.size bit k end at (behind chars end refl))
   found-ends form bit k at (Told HasBad) u behind = tt
   found-ends form bit k at (Told IsCut) u behind = tt
   found-ends form bit k at (Told IsBoxed) u behind = tt
@@ -118,16 +93,16 @@ module _ (look : ℕ → Seen) where
 
   pub program-ends : (primitive : Primitive) (bit stop : ℕ) (t : Tally) → EndsBehind bit (ask look (program primitive bit stop) t).reached
   program-ends (Integer form) bit stop t =
-      run-ends bit (bytes_spanned bit form.bits) (bit / 8) (find_in (Integer form) (bit % 8)) t
-      (λ bytes. number-ends bit form.bits (integer_reading form (field_of form bytes (bit % 8))))
+      run-ends bit (bytes_spanned bit form.bits) (bit / 8) (find_in (Integer form) bit) t
+      (λ bytes. number-at (λ e. bit ≤ e) (bit + form.bits) (integer_reading form (field_of form bytes (bit % 8))) (omega arith))
   program-ends (Packed form) bit stop t =
-      run-ends bit (bytes_spanned bit (4 * form.nibbles)) (bit / 8) (find_in (Packed form) (bit % 8)) t
-      (λ bytes. packed-ends bit (4 * form.nibbles) (packed_reading form (nibbles_in form bytes (bit % 8))))
+      run-ends bit (bytes_spanned bit (4 * form.nibbles)) (bit / 8) (find_in (Packed form) bit) t
+      (λ bytes. packed-at (λ e. bit ≤ e) (bit + 4 * form.nibbles) (packed_reading form (nibbles_in form bytes (bit % 8))) (omega arith))
   program-ends (Truth form) bit stop t =
-      run-ends bit (bytes_spanned bit form.bits) (bit / 8) (find_in (Truth form) (bit % 8)) t
-      (λ bytes. truth-ends bit form.bits (truth_reading form (truth_field_of form bytes (bit % 8))))
+      run-ends bit (bytes_spanned bit form.bits) (bit / 8) (find_in (Truth form) bit) t
+      (λ bytes. truth-at (λ e. bit ≤ e) (bit + form.bits) (truth_reading form (truth_field_of form bytes (bit % 8))) (omega arith))
   program-ends (Octets form) bit stop t =
-      either-ends bit (nat_eq form.bits 0) (Answer (FindsOctets [] 0)) _ t tt
+      either-ends bit (nat_eq form.bits 0) (Answer (FindsOctets [] bit)) _ t (omega arith)
       (either-ends bit (nat_eq (form.bits % 8) 0) (field (Octets form) bit) (Answer (Fails NotFilled)) t
-      (run-ends bit (bytes_spanned bit form.bits) (bit / 8) (find_in (Octets form) (bit % 8)) t (λ bytes. tt)) tt)
+      (run-ends bit (bytes_spanned bit form.bits) (bit / 8) (find_in (Octets form) bit) t (λ bytes. omega arith)) tt)
   program-ends (Text form) bit stop t = size-ends form form.size refl bit stop t

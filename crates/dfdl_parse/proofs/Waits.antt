@@ -8,32 +8,40 @@ use Rattle.dfdl_report.specs.declared.cause.LimitCause.TheVariants.{Nodes}
 use Rattle.dfdl_report.specs.declared.cause.ParseCause.TheVariants.{DataEnds, LengthOutOfRange}
 use Rattle.dfdl_terms.specs.declared.row.Primitive.{Primitive}
 use Rattle.dfdl_terms.specs.declared.row.Row.{Row}
-use Rattle.dfdl_terms.specs.declared.row.Row.TheVariants.{Leaf, Elem, Group, Skip, Align, Boxed}
+use Rattle.dfdl_terms.specs.declared.row.Row.TheVariants.{Leaf, Elem, Group, Skip, Align, Boxed, PrefixedLeaf, PrefixedBox}
 use Rattle.dfdl_terms.specs.Rows.{Table}
 use Rattle.dfdl_looks.specs.Looks.{seen_in}
 use Rattle.dfdl_looks.specs.Asks.{Reached, Told, TooFar, Missing, Reading, ask}
-use Rattle.dfdl_looks.specs.Tallies.{first_of, nothing, one_row, plus, saw_byte, saw_end}
+use Rattle.dfdl_looks.specs.Tallies.{Tally, first_of, nothing, one_row, plus, saw_byte, saw_end}
 use Rattle.dfdl_looks.proofs.Waiting.{missed, waits_while, counted}
 use Rattle.dfdl_grammar.specs.declared.end.End.{End}
 use Rattle.dfdl_grammar.specs.declared.end.End.TheVariants.{Done, Failed, Stopped}
 use Rattle.dfdl_grammar.specs.declared.limits.Limits.{Limits}
 use Rattle.dfdl_grammar.specs.States.{Input, State, anchor, anchor_at}
 use Rattle.dfdl_grammar.specs.Outcomes.{Outcome, ended, spend}
+use Rattle.dfdl_terms.specs.declared.text.TextSize.{TextSize}
 use Rattle.dfdl_grammar.specs.Leaves.{Find, content_begins, has_room, land, leaf, program}
+use Rattle.dfdl_grammar.specs.Prefixes.{bits_of_units, land_prefix, leaf_of, prefixed, resized, size_of, sized_leaf}
+use Rattle.dfdl_grammar.specs.Boxes.{boxed}
 use Rattle.dfdl_grammar.specs.Framing.{aligned, fill_to}
 use Rattle.dfdl_grammar.specs.Elements.{begun, has_elements}
 use Rattle.dfdl_grammar.specs.Rows.{below, meaning, row}
-use Rattle.dfdl_grammar.proofs.Spending.{spend-spend}
+use Rattle.dfdl_grammar.proofs.Spending.{spend-spend, spend-nothing}
 use Rattle.dfdl_parse.specs.declared.frame.Frame.{Frame}
 use Rattle.dfdl_parse.specs.declared.frame.Frame.TheVariants.{Rest, Element, Box}
 use Rattle.dfdl_parse.specs.declared.frame.Focus.{Focus}
-use Rattle.dfdl_parse.specs.declared.frame.Focus.TheVariants.{Enter, Pass, PassRest, Leave}
-use Rattle.dfdl_parse.specs.Machines.{Move, children_of, enter, enter_group, fill, fill_move, go_on, is_missing, landed, leave, pass, pass_rest, read_leaf, read_move, rest_move, seen_beyond, step}
+use Rattle.dfdl_parse.specs.declared.frame.Focus.TheVariants.{Enter, Pass, PassRest, Sized, Leave}
+use Rattle.dfdl_parse.specs.declared.frame.Behind.TheVariants as behind
+use Rattle.dfdl_parse.specs.Moves.{Machine, Move, is_missing, landed, pass, read_leaf, read_move}
+use Rattle.dfdl_parse.specs.Prefixed.{behind_units, landed_prefix, prefix_move, read_prefix, read_resized, read_sized}
+use Rattle.dfdl_parse.specs.Machines.{children_of, enter, enter_group, fill, fill_move, go_on, leave, pass_rest, rest_move, seen_beyond, step}
 use Rattle.dfdl_parse.specs.Ahead.{finish}
 use Rattle.dfdl_parse.proofs.Windows.{agrees_from, end_from}
 use Rattle.dfdl_parse.proofs.Beyond.{beyond-missed, beyond-waits}
 use Rattle.dfdl_parse.proofs.Programs.{program-from}
-use Rattle.dfdl_parse.proofs.Ahead.{Fits, filled, finish-spend, from_here, rest-seen, rested}
+use Rattle.dfdl_parse.proofs.Finishes.{Fits, finish-spend, from_here}
+use Rattle.dfdl_parse.proofs.LeafSteps.{Sees}
+use Rattle.dfdl_parse.proofs.Ahead.{filled, rest-seen, rested}
 
 -- a step that waits
 pub record Waits (table : Table) (held : Held) (focus : Focus) (k : List Frame) (s : State) (move : Move) : Type 0 where
@@ -54,77 +62,166 @@ first_told zero t some = absurd (omega arith)
 first_told (suc n) t some = refl
 
 module _ (table : Table) (held : Held) (s : State) where
-  -- the outcome of a leaf that has room
-  abbrev read_over : Input → Primitive → Outcome
-  read_over input primitive =
-      let whole : Reading Find = ask (seen_in input.bytes input.limits.window (anchor s)) (program primitive s.at s.stop) nothing in
-      spend whole.tally (land input.limits (content_begins primitive s.at) whole.reached s)
+  -- what a leaf reads over whole data
+  abbrev whole_of : Input → Primitive → Reading Find
+  whole_of input primitive = ask (seen_in input.bytes input.limits.window (anchor s)) (program primitive s.at s.stop) nothing
 
-  leaf-lost : (input : Input) (id : ℕ) (primitive : Primitive) (k : List Frame) → Fits held input (Enter id) s → length input.bytes ≡ end_of held
+  -- the outcome of a look at a leaf that was in vain, behind a cost that missed nothing, whatever is made of it
+  look-lost : (input : Input) (cost : Tally) → cost.tail ≡ 0 → (primitive : Primitive) (k : List Frame) (o : Outcome) → Sees held input s → length input.bytes ≡ end_of held
       → (ask (seen_at (from_byte held (anchor s))) (program primitive s.at s.stop) nothing).reached ≡ Missing → held.ended ≡ false
-      → ((finish input table k (spend one_row (read_over input primitive))).tally.tail
+      → ((finish input table k (spend cost (spend (whole_of input primitive).tally o))).tally.tail
       ≡ (ask (seen_at (from_byte held (anchor s))) (program primitive s.at s.stop) nothing).tally.looks)
-      × (end_of held < (finish input table k (spend one_row (read_over input primitive))).tally.far)
-  leaf-lost input id primitive k fits all missing on =
+      × (end_of held < (finish input table k (spend cost (spend (whole_of input primitive).tally o))).tally.far)
+  look-lost input cost no_tail primitive k o sees all missing on =
       let sight : Held = from_byte held (anchor s) in
       let here : Reading Find = ask (seen_at sight) (program primitive s.at s.stop) nothing in
-      let whole : Reading Find = ask (seen_in input.bytes input.limits.window (anchor s)) (program primitive s.at s.stop) nothing in
-      let ends : end_of sight ≡ end_of held = end_from held (anchor s) fits.stands.base fits.stands.end in
-      let told = missed sight input.bytes (agrees_from held input.bytes (anchor s) fits.stands.base fits.stands.end fits.agrees) (all ∙ sym ends) on
-      (program primitive s.at s.stop) (program-from (anchor s) primitive s.at s.stop fits.stands.low) nothing refl missing in
+      let whole : Reading Find = whole_of input primitive in
+      let ends : end_of sight ≡ end_of held = end_from held (anchor s) sees.stands.base sees.stands.end in
+      let told = missed sight input.bytes (agrees_from held input.bytes (anchor s) sees.stands.base sees.stands.end sees.agrees) (all ∙ sym ends) on
+      (program primitive s.at s.stop) (program-from (anchor s) primitive s.at s.stop sees.stands.low) nothing refl missing in
       let same : ask (seen_in input.bytes held.size (anchor s)) (program primitive s.at s.stop) nothing ≡ whole =
-      ap (λ (size : ℕ). ask (seen_in input.bytes size (anchor s)) (program primitive s.at s.stop) nothing) fits.size in
+      ap (λ (size : ℕ). ask (seen_in input.bytes size (anchor s)) (program primitive s.at s.stop) nothing) sees.size in
       let tail : whole.tally.tail ≡ here.tally.looks = ap (λ (r : Reading Find). r.tally.tail) (sym same) ∙ told.0 in
       let far : length input.bytes < whole.tally.far = subst (λ (r : Reading Find). length input.bytes < r.tally.far) same told.1 in
       let some : 0 < here.tally.looks = counted (seen_at sight) (program primitive s.at s.stop) nothing missing in
-      let landed_at : Outcome = land input.limits (content_begins primitive s.at) whole.reached s in
-      let rest : Outcome = finish input table k landed_at in
-      let is : finish input table k (spend one_row (read_over input primitive)) ≡ spend (plus one_row whole.tally) rest =
-      ap (finish input table k) (spend-spend one_row whole.tally landed_at)
-      ∙ finish-spend input table k (plus one_row whole.tally) landed_at in
-      let is_tail : (finish input table k (spend one_row (read_over input primitive))).tally.tail ≡ first_of whole.tally.tail rest.tally.tail =
+      let rest : Outcome = finish input table k o in
+      let is : finish input table k (spend cost (spend whole.tally o)) ≡ spend (plus cost whole.tally) rest =
+      ap (finish input table k) (spend-spend cost whole.tally o)
+      ∙ finish-spend input table k (plus cost whole.tally) o in
+      let is_tail : (finish input table k (spend cost (spend whole.tally o))).tally.tail ≡ first_of (first_of cost.tail whole.tally.tail) rest.tally.tail =
       ap (λ (o : Outcome). o.tally.tail) is in
-      let is_far : (finish input table k (spend one_row (read_over input primitive))).tally.far ≡ max (max 0 whole.tally.far) rest.tally.far =
+      let is_far : (finish input table k (spend cost (spend whole.tally o))).tally.far ≡ max (max cost.far whole.tally.far) rest.tally.far =
       ap (λ (o : Outcome). o.tally.far) is in
-      let told_some : 0 < whole.tally.tail = omega arith in
-      (is_tail ∙ first_told whole.tally.tail rest.tally.tail told_some ∙ tail, omega arith)
+      let told_some : 0 < whole.tally.tail = omega arith in (
+        is_tail ∙ ap (λ (n : ℕ). first_of (first_of n whole.tally.tail) rest.tally.tail) no_tail
+            ∙ first_told whole.tally.tail rest.tally.tail told_some ∙ tail,
+        omega arith,
+      )
+
+  -- a step whose look at a leaf was in vain
+  look-waits : (cost : Tally) → cost.tail ≡ 0 → cost.looks ≡ 0 → (focus : Focus) (primitive : Primitive) (k : List Frame) (machine : Machine) (waits : Bool)
+      → machine ≡ record { focus = focus; stack = k; state = s }
+      → ((input : Input) → Fits held input focus s → Sees held input s) → (made : Input → Outcome)
+      → ((input : Input) → from_here input table focus k s ≡ finish input table k (spend cost (spend (whole_of input primitive).tally (made input))))
+      → (ask (seen_at (from_byte held (anchor s))) (program primitive s.at s.stop) nothing).reached ≡ Missing
+      → Waits table held focus k s (record {
+        tally = plus cost (ask (seen_at (from_byte held (anchor s))) (program primitive s.at s.stop) nothing).tally;
+        machine = machine;
+        held = from_byte held (anchor s);
+        waits = waits;
+      })
+  look-waits cost no_tail no_looks focus primitive k machine waits stays sees made is missing =
+      let sight : Held = from_byte held (anchor s) in
+      let here : Reading Find = ask (seen_at sight) (program primitive s.at s.stop) nothing in
+      let stands = waits_while sight (program primitive s.at s.stop) nothing missing in
+      let short : length sight.bytes < sight.size = stands.1 in
+      record {
+        machine = stays;
+        on = stands.0;
+        room = omega arith;
+        missed = λ input fits all.
+            let lost = look-lost input cost no_tail primitive k (made input) (sees input fits) all missing stands.0 in
+            let looks : here.tally.looks ≡ (plus cost here.tally).looks = omega arith in (
+              ap (λ (o : Outcome). o.tally.tail) (is input) ∙ lost.0 ∙ looks,
+              subst (λ (o : Outcome). end_of held < o.tally.far) (sym (is input)) lost.1,
+            );
+      }
+
+  -- what a leaf comes to that has room
+  abbrev read_over : Input → Primitive → Outcome
+  read_over input primitive = land input.limits (content_begins primitive s.at) (whole_of input primitive).reached s
 
   read-waits : (limits : Limits) (id prim : ℕ) (primitive : Primitive) (k : List Frame) → slice_get table.primitives prim ≡ Some primitive
       → slice_get table.rows id ≡ Some (Leaf prim) → (room : Bool) → has_room primitive s.at s.stop ≡ room
       → let sight : Held = from_byte held (anchor s) in
       let move : Move = cond room
-      (read_move limits (content_begins primitive s.at) sight id (ask (seen_at sight) (program primitive s.at s.stop) nothing) k s)
+      (read_move one_row limits (Enter id) (content_begins primitive s.at) sight (ask (seen_at sight) (program primitive s.at s.stop) nothing) k s)
       (pass one_row held (Leave (Failed LengthOutOfRange s.at)) k s) in
       move.waits ≡ true → Waits table held (Enter id) k s move
   unfolding meaning
   read-waits limits id prim primitive k is at false has waits = absurd (cc)
   read-waits limits id prim primitive k is at true has waits =
-      let sight : Held = from_byte held (anchor s) in
-      let here : Reading Find = ask (seen_at sight) (program primitive s.at s.stop) nothing in
+      let here : Reading Find = ask (seen_at (from_byte held (anchor s))) (program primitive s.at s.stop) nothing in
       let missing : here.reached ≡ Missing = is_lost here.reached waits in
-      let stands = waits_while sight (program primitive s.at s.stop) nothing missing in
-      let short : length sight.bytes < sight.size = stands.1 in
-      record {
-        machine = ap (λ (r : Reached Find). landed limits (content_begins primitive s.at) id r k s) missing;
-        on = stands.0;
-        room = omega arith;
-        missed = λ input fits all.
-            let leaf_is : from_here input table (Enter id) k s ≡ finish input table k (spend one_row (read_over input primitive)) =
-            ap (λ (r : Option Row). finish input table k (spend one_row (row input table (below input table id) id r s))) at
-            ∙ ap (λ (p : Option Primitive). finish input table k (spend one_row (leaf input p s))) is
-            ∙ ap (λ (b : Bool). finish input table k (spend one_row (cond b (read_over input primitive) (ended (Failed LengthOutOfRange s.at) s)))) has in
-            let lost = leaf-lost input id primitive k fits all missing stands.0 in
-            let looks : here.tally.looks ≡ (plus one_row here.tally).looks = omega arith in (
-              ap (λ (o : Outcome). o.tally.tail) leaf_is ∙ lost.0 ∙ looks,
-              subst (λ (o : Outcome). end_of held < o.tally.far) (sym leaf_is) lost.1,
-            );
-      }
+      look-waits one_row refl refl (Enter id) primitive k _ _
+      (ap (λ (r : Reached Find). landed limits (Enter id) (content_begins primitive s.at) r k s) missing)
+      (λ input fits. record { agrees = fits.agrees; size = fits.size; stands = fits.stands }) (λ input. read_over input primitive)
+      (λ input. ap (λ (r : Option Row). finish input table k (spend one_row (row input table (below input table id) id r s))) at
+      ∙ ap (λ (p : Option Primitive). finish input table k (spend one_row (leaf input p s))) is
+      ∙ ap (λ (b : Bool). finish input table k (spend one_row (cond b (spend (whole_of input primitive).tally (read_over input primitive))
+      (ended (Failed LengthOutOfRange s.at) s)))) has)
+      missing
 
   leaf-waits : (limits : Limits) (id prim : ℕ) (primitive : Option Primitive) (k : List Frame) → slice_get table.primitives prim ≡ primitive
-      → slice_get table.rows id ≡ Some (Leaf prim) → (read_leaf limits held id primitive k s).waits ≡ true
-      → Waits table held (Enter id) k s (read_leaf limits held id primitive k s)
+      → slice_get table.rows id ≡ Some (Leaf prim) → (read_leaf one_row limits (Enter id) held primitive k s).waits ≡ true
+      → Waits table held (Enter id) k s (read_leaf one_row limits (Enter id) held primitive k s)
   leaf-waits limits id prim None k is at waits = absurd (cc)
   leaf-waits limits id prim (Some primitive) k is at waits = read-waits limits id prim primitive k is at (has_room primitive s.at s.stop) refl waits
+
+  -- a leaf whose size was told
+  sized-room-waits : (limits : Limits) (prim : ℕ) (size : TextSize) (first primitive : Primitive) (k : List Frame) → slice_get table.primitives prim ≡ Some first
+      → resized size first ≡ Some primitive → (room : Bool) → has_room primitive s.at s.stop ≡ room
+      → let sight : Held = from_byte held (anchor s) in
+      let move : Move = cond room
+      (read_move nothing limits (Sized prim size) (content_begins primitive s.at) sight (ask (seen_at sight) (program primitive s.at s.stop) nothing) k s)
+      (pass nothing held (Leave (Failed LengthOutOfRange s.at)) k s) in
+      move.waits ≡ true → Waits table held (Sized prim size) k s move
+  sized-room-waits limits prim size first primitive k is sized false has waits = absurd (cc)
+  sized-room-waits limits prim size first primitive k is sized true has waits =
+      let here : Reading Find = ask (seen_at (from_byte held (anchor s))) (program primitive s.at s.stop) nothing in
+      let missing : here.reached ≡ Missing = is_lost here.reached waits in
+      look-waits nothing refl refl (Sized prim size) primitive k _ _
+      (ap (λ (r : Reached Find). landed limits (Sized prim size) (content_begins primitive s.at) r k s) missing)
+      (λ input fits. record { agrees = fits.agrees; size = fits.size; stands = fits.stands }) (λ input. read_over input primitive)
+      (λ input. ap (λ (p : Option Primitive). finish input table k (sized_leaf input p size s)) is
+      ∙ ap (λ (p : Option Primitive). finish input table k (leaf_of input p s)) sized
+      ∙ ap (λ (b : Bool). finish input table k (cond b (spend (whole_of input primitive).tally (read_over input primitive))
+      (ended (Failed LengthOutOfRange s.at) s))) has
+      ∙ ap (finish input table k) (sym (spend-nothing (spend (whole_of input primitive).tally (read_over input primitive)))))
+      missing
+
+  resized-waits : (limits : Limits) (prim : ℕ) (size : TextSize) (first : Primitive) (primitive : Option Primitive) (k : List Frame) → slice_get table.primitives prim ≡ Some first
+      → resized size first ≡ primitive → (read_resized limits (Sized prim size) held primitive k s).waits ≡ true
+      → Waits table held (Sized prim size) k s (read_resized limits (Sized prim size) held primitive k s)
+  resized-waits limits prim size first None k is sized waits = absurd (cc)
+  resized-waits limits prim size first (Some primitive) k is sized waits =
+      sized-room-waits limits prim size first primitive k is sized (has_room primitive s.at s.stop) refl waits
+
+  sized-waits : (limits : Limits) (prim : ℕ) (size : TextSize) (primitive : Option Primitive) (k : List Frame) → slice_get table.primitives prim ≡ primitive
+      → (read_sized limits held prim size primitive k s).waits ≡ true
+      → Waits table held (Sized prim size) k s (read_sized limits held prim size primitive k s)
+  sized-waits limits prim size None k is waits = absurd (cc)
+  sized-waits limits prim size (Some primitive) k is waits = resized-waits limits prim size primitive (resized size primitive) k is refl waits
+
+  -- a prefix, where this is what its row means
+  module _ (limits : Limits) (id own : ℕ) (follow : Input → ℕ → State → Outcome) (next : ℕ → List Frame → State → Machine) (k : List Frame) (by : Option Primitive)
+      (means : (input : Input) → from_here input table (Enter id) k s ≡ finish input table k (spend one_row (prefixed input by own (follow input) s))) where
+    prefix-room-waits : (primitive : Primitive) → by ≡ Some primitive → (room : Bool) → has_room primitive s.at s.stop ≡ room
+        → let sight : Held = from_byte held (anchor s) in
+        let move : Move = cond room
+        (prefix_move limits id own (content_begins primitive s.at) next sight (ask (seen_at sight) (program primitive s.at s.stop) nothing) k s)
+        (pass one_row held (Leave (Failed LengthOutOfRange s.at)) k s) in
+        move.waits ≡ true → Waits table held (Enter id) k s move
+    prefix-room-waits primitive is false has waits = absurd (cc)
+    prefix-room-waits primitive is true has waits =
+        let here : Reading Find = ask (seen_at (from_byte held (anchor s))) (program primitive s.at s.stop) nothing in
+        let missing : here.reached ≡ Missing = is_lost here.reached waits in
+        let first : ℕ = content_begins primitive s.at in
+        look-waits one_row refl refl (Enter id) primitive k _ _
+        (ap (λ (r : Reached Find). landed_prefix limits id own first next r k s) missing)
+        (λ input fits. record { agrees = fits.agrees; size = fits.size; stands = fits.stands })
+        (λ input. land_prefix input.limits own first (follow input) (whole_of input primitive).reached s)
+        (λ input. means input
+        ∙ ap (λ (p : Option Primitive). finish input table k (spend one_row (prefixed input p own (follow input) s))) is
+        ∙ ap (λ (b : Bool). finish input table k (spend one_row (cond b
+        (spend (whole_of input primitive).tally (land_prefix input.limits own first (follow input) (whole_of input primitive).reached s))
+        (ended (Failed LengthOutOfRange s.at) s)))) has)
+        missing
+
+    prefix-waits : (primitive : Option Primitive) → by ≡ primitive → (read_prefix limits id held own next primitive k s).waits ≡ true
+        → Waits table held (Enter id) k s (read_prefix limits id held own next primitive k s)
+    prefix-waits None is waits = absurd (cc)
+    prefix-waits (Some primitive) is waits = prefix-room-waits primitive is (has_room primitive s.at s.stop) refl waits
 
   begin-on : (to : ℕ) (k : List Frame) (over inside : Bool)
       → (cond over (pass one_row held (Leave Done) k s)
@@ -132,13 +229,6 @@ module _ (table : Table) (held : Held) (s : State) where
   begin-on to k true inside waits = absurd (cc)
   begin-on to k false true waits = absurd (cc)
   begin-on to k false false waits = absurd (cc)
-
-  box-on : (bits body : ℕ) (k : List Frame) (inside : Bool)
-      → (cond inside
-      (pass one_row held (Enter body) (Box s.stop ∷ k) (record s { stop = s.at + bits }))
-      (pass one_row held (Leave (Failed LengthOutOfRange s.at)) k s)).waits ≡ true → ⊥
-  box-on bits body k true waits = absurd (cc)
-  box-on bits body k false waits = absurd (cc)
 
   leave-box-on : (outer : ℕ) (k : List Frame) (over : Bool)
       → (cond over (pass nothing held (Leave Done) k (record s { stop = outer })) (pass nothing held (PassRest s.at outer) k s)).waits ≡ true → ⊥
@@ -233,6 +323,7 @@ module _ (table : Table) (held : Held) (s : State) where
 
   enter-waits : (limits : Limits) (id : ℕ) (r : Option Row) (k : List Frame) → slice_get table.rows id ≡ r → (enter limits table held id r k s).waits ≡ true
       → Waits table held (Enter id) k s (enter limits table held id r k s)
+  unfolding meaning
   enter-waits limits id None k at waits = absurd (cc)
   enter-waits limits id (Some (Leaf prim)) k at waits = leaf-waits limits id prim (slice_get table.primitives prim) k refl at waits
   enter-waits limits id (Some (Elem name simple body)) k at waits =
@@ -242,7 +333,19 @@ module _ (table : Table) (held : Held) (s : State) where
   enter-waits limits id (Some (Align bits)) k at waits =
       absurd (begin-on (aligned bits s.at) k (nat_le (aligned bits s.at) s.at) (nat_le (aligned bits s.at) s.stop) waits)
   enter-waits limits id (Some (Group children)) k at waits = absurd (group-on id children k waits)
-  enter-waits limits id (Some (Boxed bits body)) k at waits = absurd (box-on bits body k (nat_le (s.at + bits) s.stop) waits)
+  enter-waits limits id (Some (Boxed bits body)) k at waits = absurd (cc)
+  enter-waits limits id (Some (PrefixedLeaf prefix prim)) k at waits =
+      let by : Option Primitive = slice_get table.primitives prefix.prim in
+      prefix-waits limits id prefix.own (λ input units after. sized_leaf input (slice_get table.primitives prim) (size_of prefix.unit units) after)
+      (behind_units table.primitives prefix.unit (behind.Leaf prim)) k by
+      (λ input. ap (λ (r : Option Row). finish input table k (spend one_row (row input table (below input table id) id r s))) at)
+      by refl waits
+  enter-waits limits id (Some (PrefixedBox prefix body)) k at waits =
+      let by : Option Primitive = slice_get table.primitives prefix.prim in
+      prefix-waits limits id prefix.own (λ input units after. boxed input (bits_of_units prefix.unit units) (below input table id body) after)
+      (behind_units table.primitives prefix.unit (behind.Box body)) k by
+      (λ input. ap (λ (r : Option Row). finish input table k (spend one_row (row input table (below input table id) id r s))) at)
+      by refl waits
 
   go-on : (id next : ℕ) (child : Option ℕ) (k : List Frame) → (go_on held id next child k s).waits ≡ true → ⊥
   go-on id next None k waits = absurd (cc)
@@ -264,5 +367,6 @@ module _ (table : Table) (held : Held) (s : State) where
   step-waits limits (Enter id) k waits = enter-waits limits id (slice_get table.rows id) k refl waits
   step-waits limits (Pass to) k waits = fill-waits limits to k waits
   step-waits limits (PassRest bit outer) k waits = rest-waits limits bit outer k waits
+  step-waits limits (Sized prim size) k waits = sized-waits limits prim size (slice_get table.primitives prim) k refl waits
   step-waits limits (Leave told) [] waits = absurd (cc)
   step-waits limits (Leave told) (frame ∷ k) waits = absurd (leave-on frame told k waits)

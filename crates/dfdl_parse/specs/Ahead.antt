@@ -6,12 +6,14 @@ use Rattle.dfdl_grammar.specs.Outcomes.{Outcome, ended, then_do}
 use Rattle.dfdl_grammar.specs.Framing.{fill_to}
 use Rattle.dfdl_grammar.specs.Boxes.{bytes_up_to, pass_bytes, rest, unboxed}
 use Rattle.dfdl_grammar.specs.Elements.{close}
+use Rattle.dfdl_grammar.specs.Prefixes.{sized_leaf}
 use Rattle.dfdl_grammar.specs.Rows.{below, group, meaning}
 use Rattle.dfdl_parse.specs.declared.frame.Frame.{Frame}
 use Rattle.dfdl_parse.specs.declared.frame.Frame.TheVariants.{Rest, Element, Box}
 use Rattle.dfdl_parse.specs.declared.frame.Focus.{Focus}
-use Rattle.dfdl_parse.specs.declared.frame.Focus.TheVariants.{Enter, Pass, PassRest, Leave}
-use Rattle.dfdl_parse.specs.Machines.{Machine, children_of}
+use Rattle.dfdl_parse.specs.declared.frame.Focus.TheVariants.{Enter, Pass, PassRest, Sized, Leave}
+use Rattle.dfdl_parse.specs.Moves.{Machine}
+use Rattle.dfdl_parse.specs.Machines.{children_of}
 
 -- what a frame makes of the outcome of the row before it
 abbrev pub resume : Input → Table → Frame → Outcome → Outcome
@@ -30,6 +32,7 @@ focused input table (Enter id) s = meaning input table id s
 focused input table (Pass to) s = fill_to input to s
 focused input table (PassRest bit outer) s =
     let passed : Outcome = pass_bytes input (bytes_up_to s.stop (bit / 8)) (bit / 8) s in unboxed passed.end outer passed
+focused input table (Sized prim size) s = sized_leaf input (slice_get table.primitives prim) size s
 focused input table (Leave end) s = ended end s
 
 -- the outcome of the whole

@@ -1,3 +1,6 @@
+pub mod Views
+pub mod Moves
+pub mod Prefixed
 pub mod Machines
 pub mod Answers
 pub mod Shown

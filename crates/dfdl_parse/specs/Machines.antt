@@ -5,37 +5,23 @@ use Rattle.dfdl_bits.specs.declared.window.Seen.{Seen}
 use Rattle.dfdl_bits.specs.declared.window.Seen.TheVariants.{Byte, End as DataEnded, NotYet, Over}
 use Rattle.dfdl_report.specs.declared.cause.LimitCause.TheVariants.{Nodes, Window}
 use Rattle.dfdl_report.specs.declared.cause.ParseCause.TheVariants.{DataEnds, LengthOutOfRange}
-use Rattle.dfdl_terms.specs.declared.row.Primitive.{Primitive}
 use Rattle.dfdl_terms.specs.declared.row.Row.{Row}
-use Rattle.dfdl_terms.specs.declared.row.Row.TheVariants.{Leaf, Elem, Group, Skip, Align, Boxed}
+use Rattle.dfdl_terms.specs.declared.row.Row.TheVariants.{Leaf, Elem, Group, Skip, Align, Boxed, PrefixedLeaf, PrefixedBox}
 use Rattle.dfdl_terms.specs.Rows.{Table}
-use Rattle.dfdl_looks.specs.Asks.{Reached, Told, TooFar, Missing, Reading, ask}
-use Rattle.dfdl_looks.specs.Tallies.{Tally, nothing, one_row, plus, saw_byte, saw_end, saw_none}
+use Rattle.dfdl_looks.specs.Tallies.{nothing, one_row, saw_byte, saw_end, saw_none}
 use Rattle.dfdl_grammar.specs.declared.end.End.{End}
 use Rattle.dfdl_grammar.specs.declared.end.End.TheVariants.{Done, Failed, Stopped}
 use Rattle.dfdl_grammar.specs.declared.limits.Limits.{Limits}
-use Rattle.dfdl_grammar.specs.States.{State, anchor}
-use Rattle.dfdl_grammar.specs.Outcomes.{Outcome}
-use Rattle.dfdl_grammar.specs.Leaves.{Find, content_begins, has_room, land, program}
+use Rattle.dfdl_grammar.specs.States.{State}
 use Rattle.dfdl_grammar.specs.Framing.{aligned}
 use Rattle.dfdl_grammar.specs.Elements.{begun, has_elements, left}
 use Rattle.dfdl_parse.specs.declared.frame.Frame.{Frame}
 use Rattle.dfdl_parse.specs.declared.frame.Frame.TheVariants.{Rest, Element, Box}
 use Rattle.dfdl_parse.specs.declared.frame.Focus.{Focus}
-use Rattle.dfdl_parse.specs.declared.frame.Focus.TheVariants.{Enter, Pass, PassRest, Leave}
-
--- what is done next, what is left behind it with the innermost first, and the state
-pub record Machine : Type 0 where
-  pub focus : Focus
-  pub stack : List Frame
-  pub state : State
-
--- what a step costs, the machine behind it, what is held of the data then, and whether the step waits for a byte
-pub record Move : Type 0 where
-  pub tally : Tally
-  pub machine : Machine
-  pub held : Held
-  pub waits : Bool
+use Rattle.dfdl_parse.specs.declared.frame.Focus.TheVariants.{Enter, Pass, PassRest, Sized, Leave}
+use Rattle.dfdl_parse.specs.declared.frame.Behind.TheVariants as behind
+use Rattle.dfdl_parse.specs.Moves.{Move, pass, read_leaf}
+use Rattle.dfdl_parse.specs.Prefixed.{behind_units, box_begins, read_prefix, read_sized}
 
 -- the rows of a group
 abbrev pub children_of : Option Row → List ℕ
@@ -46,41 +32,8 @@ children_of (Some (Group children)) = children
 children_of (Some (Skip bits)) = []
 children_of (Some (Align bits)) = []
 children_of (Some (Boxed bits body)) = []
-
--- a step that looks at nothing
-abbrev pub pass : Tally → Held → Focus → List Frame → State → Move
-pass cost held focus k s = record { tally = cost; machine = record { focus = focus; stack = k; state = s }; held = held; waits = false }
-
--- whether a byte hasn't come
-abbrev pub is_missing : Reached Find → Bool
-is_missing (Told found) = false
-is_missing TooFar = false
-is_missing Missing = true
-
--- the machine behind the reading of a leaf whose content begins at a bit: as it was, where a byte hasn't come
-abbrev pub landed : Limits → ℕ → ℕ → Reached Find → List Frame → State → Machine
-landed limits first id Missing k s = record { focus = Enter id; stack = k; state = s }
-landed limits first id (Told found) k s =
-    let o : Outcome = land limits first (Told found) s in record { focus = Leave o.end; stack = k; state = o.state }
-landed limits first id TooFar k s = let o : Outcome = land limits first TooFar s in record { focus = Leave o.end; stack = k; state = o.state }
-
--- the step of a leaf whose reading this is, with these bytes held behind it
-abbrev pub read_move : Limits → ℕ → Held → ℕ → Reading Find → List Frame → State → Move
-read_move limits first sight id reading k s = record {
-  tally = plus one_row reading.tally;
-  machine = landed limits first id reading.reached k s;
-  held = sight;
-  waits = is_missing reading.reached;
-}
-
--- a leaf, which gives up the bytes that are no longer needed; its box can't pass the end of the one around it
-abbrev pub read_leaf : Limits → Held → ℕ → Option Primitive → List Frame → State → Move
-read_leaf limits held id None k s = pass one_row held (Leave Done) k s
-read_leaf limits held id (Some primitive) k s =
-    if has_room primitive s.at s.stop
-    then (let sight : Held = from_byte held (anchor s) in
-    read_move limits (content_begins primitive s.at) sight id (ask (seen_at sight) (program primitive s.at s.stop) nothing) k s)
-    else pass one_row held (Leave (Failed LengthOutOfRange s.at)) k s
+children_of (Some (PrefixedLeaf prefix prim)) = []
+children_of (Some (PrefixedBox prefix body)) = []
 
 -- fill up to a bit begins, where there is any; it can't pass the end of the box
 abbrev pub enter_fill : Held → ℕ → List Frame → State → Move
@@ -113,10 +66,7 @@ fill limits held to k s =
 
 -- a box of so many bits begins; it can't pass the end of the one around it
 abbrev pub enter_box : Held → ℕ → ℕ → List Frame → State → Move
-enter_box held bits body k s =
-    if nat_le (s.at + bits) s.stop
-    then pass one_row held (Enter body) (Box s.stop ∷ k) (record s { stop = s.at + bits })
-    else pass one_row held (Leave (Failed LengthOutOfRange s.at)) k s
+enter_box held bits body k s = record { tally = one_row; machine = box_begins bits body k s; held = held; waits = false }
 
 -- The content of the innermost box is done, and the box around ends at this bit: so does the inner one here, or its rest begins.
 abbrev pub leave_box : Held → ℕ → List Frame → State → Move
@@ -164,12 +114,16 @@ enter_element most held id complex body k s =
 -- a row begins
 abbrev pub enter : Limits → Table → Held → ℕ → Option Row → List Frame → State → Move
 enter limits table held id None k s = pass one_row held (Leave Done) k s
-enter limits table held id (Some (Leaf prim)) k s = read_leaf limits held id (slice_get table.primitives prim) k s
+enter limits table held id (Some (Leaf prim)) k s = read_leaf one_row limits (Enter id) held (slice_get table.primitives prim) k s
 enter limits table held id (Some (Elem name simple body)) k s = enter_element limits.nodes held id (has_elements simple) body k s
 enter limits table held id (Some (Group children)) k s = enter_group held id children k s
 enter limits table held id (Some (Skip bits)) k s = enter_fill held (s.at + bits) k s
 enter limits table held id (Some (Align bits)) k s = enter_fill held (aligned bits s.at) k s
 enter limits table held id (Some (Boxed bits body)) k s = enter_box held bits body k s
+enter limits table held id (Some (PrefixedLeaf prefix prim)) k s =
+    read_prefix limits id held prefix.own (behind_units table.primitives prefix.unit (behind.Leaf prim)) (slice_get table.primitives prefix.prim) k s
+enter limits table held id (Some (PrefixedBox prefix body)) k s =
+    read_prefix limits id held prefix.own (behind_units table.primitives prefix.unit (behind.Box body)) (slice_get table.primitives prefix.prim) k s
 
 -- a group goes on with its next child, or ends
 abbrev pub go_on : Held → ℕ → ℕ → Option ℕ → List Frame → State → Move
@@ -193,6 +147,7 @@ abbrev pub step : Limits → Table → Held → Focus → List Frame → State �
 step limits table held (Enter id) k s = enter limits table held id (slice_get table.rows id) k s
 step limits table held (Pass to) k s = fill limits held to k s
 step limits table held (PassRest bit outer) k s = pass_rest limits held bit outer k s
+step limits table held (Sized prim size) k s = read_sized limits held prim size (slice_get table.primitives prim) k s
 step limits table held (Leave end) [] s = pass nothing held (Leave end) [] s
 step limits table held (Leave end) (frame ∷ k) s = leave table held frame end k s
 
@@ -201,6 +156,7 @@ abbrev pub HasEnded : Focus → List Frame → Type 0
 HasEnded (Enter id) k = ⊥
 HasEnded (Pass to) k = ⊥
 HasEnded (PassRest bit outer) k = ⊥
+HasEnded (Sized prim size) k = ⊥
 HasEnded (Leave end) k = k ≡ []
 
 -- What is done next needs no byte before this one. Behind a failure none is needed. The rest of a box has a bit.
@@ -208,6 +164,7 @@ abbrev pub NeedsFrom : ℕ → Focus → State → Type 0
 NeedsFrom base (Enter id) s = base ≤ s.at / 8
 NeedsFrom base (Pass to) s = base ≤ (to - 1) / 8
 NeedsFrom base (PassRest bit outer) s = (base ≤ bit / 8) × (bit < s.stop)
+NeedsFrom base (Sized prim size) s = base ≤ s.at / 8
 NeedsFrom base (Leave Done) s = base ≤ s.at / 8
 NeedsFrom base (Leave (Failed cause bit)) s = Unit {0}
 NeedsFrom base (Leave (Stopped cause quantity)) s = Unit {0}

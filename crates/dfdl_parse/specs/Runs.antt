@@ -6,7 +6,7 @@ use Rattle.dfdl_looks.specs.Tallies.{Tally}
 use Rattle.dfdl_terms.specs.Rows.{Table}
 use Rattle.dfdl_grammar.specs.States.{Input}
 use Rattle.dfdl_grammar.specs.Outcomes.{Outcome, spend}
-use Rattle.dfdl_parse.specs.Machines.{Machine}
+use Rattle.dfdl_parse.specs.Moves.{Machine}
 use Rattle.dfdl_parse.specs.Ahead.{ahead}
 
 -- The machine stands in the work on the data: what was spent, and what is ahead of it, are the whole. Where the end of the

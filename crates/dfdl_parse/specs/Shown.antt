@@ -6,7 +6,7 @@ use Rattle.dfdl_grammar.specs.States.{State}
 use Rattle.dfdl_grammar.specs.Outcomes.{Outcome}
 use Rattle.dfdl_parse.specs.declared.frame.Focus.TheVariants.{Leave}
 use Rattle.dfdl_parse.specs.declared.parser.Parser.{Parser}
-use Rattle.dfdl_parse.specs.Machines.{Machine}
+use Rattle.dfdl_parse.specs.Moves.{Machine}
 
 -- the state; today's rows open no marks
 abbrev pub state_of : Parser → State
@@ -33,5 +33,11 @@ pub record Comes (old : Parser) (o : Outcome) (new : Parser) : Type 0 where
   pub focus : new.focus ≡ Leave o.end
   pub stack : new.stack ≡ old.stack
   pub state : state_of new ≡ o.state
+  pub far : new.far ≡ old.far
+  pub limits : HasSameLimits old new
+
+-- the parser is this machine, and nothing besides has changed of it
+pub record Becomes (old : Parser) (m : Machine) (new : Parser) : Type 0 where
+  pub machine : shown new ≡ m
   pub far : new.far ≡ old.far
   pub limits : HasSameLimits old new

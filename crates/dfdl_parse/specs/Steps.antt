@@ -5,6 +5,7 @@ use Rattle.dfdl_bits.specs.declared.window.Seen.{Seen}
 use Rattle.dfdl_bits.specs.declared.window.Seen.TheVariants.{Byte, End, Over, NotYet as NotSeen}
 use Rattle.dfdl_report.specs.declared.cause.ParseCause.TheVariants.{DataEnds}
 use Rattle.dfdl_looks.specs.Asks.{Reached, Told, TooFar, Missing, Reading}
+use Rattle.dfdl_looks.specs.Tallies.{Tally}
 use Rattle.dfdl_terms.specs.declared.row.Primitive.{Primitive}
 use Rattle.dfdl_terms.specs.declared.row.Primitive.TheVariants as primitive
 use Rattle.dfdl_region.specs.Bytes.{utf8_of}
@@ -14,18 +15,18 @@ use Rattle.dfdl_parse.specs.declared.leaf.Found.TheVariants.{Reads, Octets, Text
 use Rattle.dfdl_parse.specs.declared.leaf.Glance.{Glance}
 use Rattle.dfdl_parse.specs.declared.leaf.Scratch.{Scratch}
 use Rattle.dfdl_parse.specs.declared.parser.Parser.{Parser}
-use Rattle.dfdl_parse.specs.Machines.{Move}
+use Rattle.dfdl_parse.specs.Moves.{Move}
 use Rattle.dfdl_parse.specs.Shown.{shown}
 
--- what is found in a leaf of so many bits, where this was read
-abbrev pub found_shown : ℕ → Scratch → Found → Reached Find
-found_shown bits scratch (Reads content) = Told (Finds content bits)
-found_shown bits scratch Octets = Told (FindsOctets scratch.octets.items bits)
-found_shown bits scratch (Text from to end) =
+-- what is found in a leaf, where this was read
+abbrev pub found_shown : Scratch → Found → Reached Find
+found_shown scratch (Reads content end) = Told (Finds content end)
+found_shown scratch (Octets end) = Told (FindsOctets scratch.octets.items end)
+found_shown scratch (Text from to end) =
     Told (FindsText (utf8_of (take (to - from) (drop from scratch.characters.items))) end)
-found_shown bits scratch (HasFailed cause) = Told (Fails cause)
-found_shown bits scratch Past = TooFar
-found_shown bits scratch NotYet = Missing
+found_shown scratch (HasFailed cause) = Told (Fails cause)
+found_shown scratch Past = TooFar
+found_shown scratch NotYet = Missing
 
 -- how far a run of so many bytes from a byte on has seen: the byte behind it, where there is any
 abbrev pub far_of_run : ℕ → ℕ → ℕ
@@ -39,37 +40,37 @@ CutShort End first count glance = (glance.found ≡ HasFailed DataEnds) × (glan
 CutShort NotSeen first count glance = (glance.found ≡ NotYet) × (glance.far ≡ far_of_run first count)
 CutShort Over first count glance = (glance.found ≡ Past) × (glance.far ≡ far_of_run first count)
 
--- a leaf that is read, whose box ends at this bit unless it is a string, lies in the bytes before this one
-abbrev pub IsWithin : Found → ℕ → ℕ → Type 0
-IsWithin (Reads content) behind last = behind ≤ 8 * last
-IsWithin Octets behind last = behind ≤ 8 * last
-IsWithin (Text from to end) behind last = end ≤ 8 * last
-IsWithin (HasFailed cause) behind last = Unit {0}
-IsWithin Past behind last = Unit {0}
-IsWithin NotYet behind last = Unit {0}
+-- a leaf that is read lies in the bytes before this one
+abbrev pub IsWithin : Found → ℕ → Type 0
+IsWithin (Reads content end) last = end ≤ 8 * last
+IsWithin (Octets end) last = end ≤ 8 * last
+IsWithin (Text from to end) last = end ≤ 8 * last
+IsWithin (HasFailed cause) last = Unit {0}
+IsWithin Past last = Unit {0}
+IsWithin NotYet last = Unit {0}
 
 -- the characters of a string are some of those that were read
 abbrev pub HasPiece : Found → Scratch → Type 0
-HasPiece (Reads content) scratch = Unit {0}
-HasPiece Octets scratch = Unit {0}
+HasPiece (Reads content end) scratch = Unit {0}
+HasPiece (Octets end) scratch = Unit {0}
 HasPiece (Text from to end) scratch = (from ≤ to) × (to ≤ length scratch.characters.items)
 HasPiece (HasFailed cause) scratch = Unit {0}
 HasPiece Past scratch = Unit {0}
 HasPiece NotYet scratch = Unit {0}
 
--- what is found is no string and no hexBinary
-abbrev pub IsPlain : Found → Type 0
-IsPlain (Reads content) = Unit {0}
-IsPlain Octets = ⊥
-IsPlain (Text from to end) = ⊥
-IsPlain (HasFailed cause) = Unit {0}
-IsPlain Past = Unit {0}
-IsPlain NotYet = Unit {0}
+-- what is found is no string and no hexBinary, and ends at this bit
+abbrev pub IsPlain : Found → ℕ → Type 0
+IsPlain (Reads content end) at = end ≡ at
+IsPlain (Octets end) at = ⊥
+IsPlain (Text from to end) at = ⊥
+IsPlain (HasFailed cause) at = Unit {0}
+IsPlain Past at = Unit {0}
+IsPlain NotYet at = Unit {0}
 
 -- nothing is read
 abbrev pub HasNone : Found → Type 0
-HasNone (Reads content) = ⊥
-HasNone Octets = ⊥
+HasNone (Reads content end) = ⊥
+HasNone (Octets end) = ⊥
 HasNone (Text from to end) = ⊥
 HasNone (HasFailed cause) = Unit {0}
 HasNone Past = Unit {0}
@@ -83,11 +84,15 @@ IsNumber (primitive.Truth form) = Unit {0}
 IsNumber (primitive.Octets form) = ⊥
 IsNumber (primitive.Text form) = ⊥
 
--- the answer is this reading of a leaf of so many bits, in so many looks, where this was read
-pub record Answers (reading : Reading Find) (bits : ℕ) (scratch : Scratch) (glance : Glance) (looks_made : ℕ) : Type 0 where
-  pub reached : reading.reached ≡ found_shown bits scratch glance.found
+-- the answer is this reading of a leaf, in so many looks
+pub record Answers (reading : Reading Find) (scratch : Scratch) (glance : Glance) (looks_made : ℕ) : Type 0 where
+  pub reached : reading.reached ≡ found_shown scratch glance.found
   pub looks : reading.tally.looks ≡ looks_made
   pub far : reading.tally.far ≡ glance.far
+
+-- a cost without a look
+abbrev pub IsFree : Tally → Type 0
+IsFree cost = (cost.looks ≡ 0) × (cost.far ≡ 0)
 
 -- The parser has made this step, in so many looks; a step that waits leaves what it has seen.
 pub record Moved (move : Move) (waited : Bool) (old_far : ℕ) (new : Parser) (now_held : Held) (looks_made : ℕ) : Type 0 where

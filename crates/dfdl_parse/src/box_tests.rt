@@ -109,7 +109,8 @@ fn fails<L: Ledger>(
     steps: &mut Steps<L>,
 ) -> Result<(), Fail> {
     let byte = number(8, Simple::UnsignedByte);
-    let terms = record(alloc, byte, around, byte)?;
+    let other = number(8, Simple::UnsignedByte);
+    let terms = record(alloc, byte, around, other)?;
     let mut session = Session::open(alloc, &terms, LIMITS)?;
     let failed = Outcome::Failed {
         cause: expected.0,
@@ -203,11 +204,16 @@ fn octets<L: Ledger>(rt: &impl Abort, alloc: Global, blank: Blank) -> Result<(),
     requires some { 0 < L.parts }
 {
     let mut steps = Steps::<L>::open(blank);
-    let form = Primitive::Octets(OctetForm {
+    let form = OctetForm {
         bits: 16,
         bits_by: BitOrder::MostFirst,
-    });
-    let terms = record(alloc, form, in_boxes(16, 16, 0), form)?;
+    };
+    let terms = record(
+        alloc,
+        Primitive::Octets(form),
+        in_boxes(16, 16, 0),
+        Primitive::Octets(form),
+    )?;
     let data = [0xca, 0xfe, 0x01, 0x02];
     let mut limits = Limits {
         window: 2,

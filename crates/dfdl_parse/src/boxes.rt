@@ -118,8 +118,8 @@ impl Parser {
     }
 }
 
-// The bit at which a box of so many bits ends, where the one around it doesn't end before.
-fn inner_end(at: u64, bits: u64, stop: u64) -> Option<u64>
+/// The bit at which a box of so many bits ends, where the one around it doesn't end before.
+pub(crate) fn inner_end(at: u64, bits: u64, stop: u64) -> Option<u64>
     ensures some { IfSome result (λ end. (end ≡ at + bits) × (at + bits ≤ stop)) }
     ensures none { IfNone result (stop < at + bits) }
 {

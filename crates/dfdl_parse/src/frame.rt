@@ -1,5 +1,5 @@
 use dfdl_grammar::End;
-use dfdl_terms::RowId;
+use dfdl_terms::{RowId, TextSize};
 
 /// What is left to be done behind a row.
 #[derive(Debug, Clone, Copy, PartialEq, Eq)]
@@ -12,6 +12,15 @@ pub enum Frame {
     Box { outer: u64 },
 }
 
+/// What stands behind a length prefix.
+#[derive(Debug, Clone, Copy, PartialEq, Eq)]
+pub enum Behind {
+    /// The leaf of the primitive of this number in the tables.
+    Leaf(u32),
+    /// A box with this row in it.
+    Box(RowId),
+}
+
 /// What is done next.
 #[derive(Debug, Clone, Copy, PartialEq, Eq)]
 pub enum Focus {
@@ -21,6 +30,8 @@ pub enum Focus {
     Pass(u64),
     /// The rest of the innermost box from the byte of a bit on is passed over. Then the box around it ends at `outer`.
     PassRest { bit: u64, outer: u64 },
+    /// The leaf of the primitive of this number in the tables is read, with this size.
+    Sized { prim: u32, size: TextSize },
     /// A row has ended.
     Leave(End),
 }

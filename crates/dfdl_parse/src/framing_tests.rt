@@ -35,6 +35,13 @@ pub(crate) fn number(bits: u32, kind: Simple) -> Primitive
     })
 }
 
+// A number of a byte.
+fn byte() -> Primitive
+    ensures { IsPrimitive result }
+{
+    number(8, Simple::UnsignedByte)
+}
+
 // A packed number of four nibbles.
 fn packed(rep: PackedRep, kind: Simple, point: u8) -> Primitive
     requires few { 4 ≤ most_nibbles rep }
@@ -290,13 +297,12 @@ fn framed<L: Ledger>(rt: &impl Abort, alloc: Global, blank: Blank) -> Result<(),
 {
     let mut steps = Steps::<L>::open(blank);
     let four_bits = number(4, Simple::UnsignedByte);
-    let byte = number(8, Simple::UnsignedByte);
     let twelve_bits = number(12, Simple::UnsignedShort);
     let short = number(16, Simple::UnsignedShort);
     reads(
         rt,
         alloc,
-        (byte, fill(4, 1, 12)),
+        (byte(), fill(4, 1, 12)),
         (short, fill(0, 1, 0)),
         &[0xf0, 0x7f, 0xff, 0x01, 0x02],
         (Content::Unsigned(7), Content::Unsigned(258), 40),
@@ -306,7 +312,7 @@ fn framed<L: Ledger>(rt: &impl Abort, alloc: Global, blank: Blank) -> Result<(),
         rt,
         alloc,
         (four_bits, fill(0, 0, 0)),
-        (byte, fill(0, 16, 0)),
+        (byte(), fill(0, 16, 0)),
         &[0x5f, 0xff, 0x2a],
         (Content::Unsigned(5), Content::Unsigned(42), 24),
         &mut steps,
@@ -315,7 +321,7 @@ fn framed<L: Ledger>(rt: &impl Abort, alloc: Global, blank: Blank) -> Result<(),
         rt,
         alloc,
         (twelve_bits, fill(1, 12, 0)),
-        (byte, fill(8, 8, 8)),
+        (byte(), fill(8, 8, 8)),
         &[0xff, 0xfa, 0xbc, 0x00, 0x07, 0x00],
         (Content::Unsigned(2748), Content::Unsigned(7), 48),
         &mut steps,
@@ -372,13 +378,11 @@ fn causes<L: Ledger>(rt: &impl Abort, alloc: Global, blank: Blank) -> Result<(),
     requires some { 0 < L.parts }
 {
     let mut steps = Steps::<L>::open(blank);
-    let byte = number(8, Simple::UnsignedByte);
-    let small = packed(PackedRep::Packed, Simple::UnsignedByte, 0);
     fails(
         rt,
         alloc,
-        (byte, fill(0, 1, 16)),
-        (byte, fill(0, 1, 0)),
+        (byte(), fill(0, 1, 16)),
+        (byte(), fill(0, 1, 0)),
         &[7, 0],
         (ParseCause::DataEnds, 8),
         &mut steps,
@@ -387,25 +391,27 @@ fn causes<L: Ledger>(rt: &impl Abort, alloc: Global, blank: Blank) -> Result<(),
         rt,
         alloc,
         (number(4, Simple::UnsignedByte), fill(0, 1, 0)),
-        (byte, fill(0, 16, 0)),
+        (byte(), fill(0, 16, 0)),
         &[0x5f],
         (ParseCause::DataEnds, 4),
         &mut steps,
     )?;
+    let small = packed(PackedRep::Packed, Simple::UnsignedByte, 0);
     fails(
         rt,
         alloc,
         (small, fill(8, 1, 0)),
-        (byte, fill(0, 1, 0)),
+        (byte(), fill(0, 1, 0)),
         &[0x00, 0x1a, 0x3c],
         (ParseCause::BadNibble, 8),
         &mut steps,
     )?;
+    let small = packed(PackedRep::Packed, Simple::UnsignedByte, 0);
     fails(
         rt,
         alloc,
         (small, fill(0, 1, 0)),
-        (byte, fill(0, 1, 0)),
+        (byte(), fill(0, 1, 0)),
         &[0x99, 0x9c],
         (ParseCause::PastType, 0),
         &mut steps,
@@ -414,7 +420,7 @@ fn causes<L: Ledger>(rt: &impl Abort, alloc: Global, blank: Blank) -> Result<(),
         rt,
         alloc,
         (truth(Some(1)), fill(0, 1, 0)),
-        (byte, fill(0, 1, 0)),
+        (byte(), fill(0, 1, 0)),
         &[0x02],
         (ParseCause::UnknownBoolean, 0),
         &mut steps,
@@ -452,8 +458,7 @@ fn narrow<L: Ledger>(rt: &impl Abort, alloc: Global, blank: Blank) -> Result<(),
         nodes: 10,
         text: 10,
     };
-    let byte = number(8, Simple::UnsignedByte);
-    let terms = record(alloc, (byte, fill(800, 1, 0)), (byte, fill(0, 1, 0)))?;
+    let terms = record(alloc, (byte(), fill(800, 1, 0)), (byte(), fill(0, 1, 0)))?;
     let mut session = Session::open(alloc, &terms, limits)?;
     assert!(rt; !feed_each(rt, &mut session, 102, &mut steps)?);
     assert_eq!(rt; session.outcome(), Outcome::Done);

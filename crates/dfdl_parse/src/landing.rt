@@ -1,7 +1,6 @@
 // A leaf is read, and what it comes to is taken.
 ghost use Rattle.std.specs.Prelude.{◌≡◌, ℕ, ◌+◌, ◌-◌, ◌*◌, ◌/◌, ◌^◌, ◌≤◌, Some, true, IfOk, OnOk, take, drop, length};
 ghost use Rattle.dfdl_bits.specs.Window.{Held, end_of, from_byte, seen_at};
-ghost use Rattle.dfdl_terms.specs.Rows.{IsPrimitive};
 ghost use Rattle.dfdl_region.specs.Bytes.{utf8_of};
 ghost use Rattle.dfdl_report.specs.declared.cause.LimitCause.TheVariants.{Text};
 ghost use Rattle.dfdl_region.specs.Nodes.{with_content};
@@ -10,19 +9,20 @@ ghost use Rattle.dfdl_grammar.specs.declared.end.End.TheVariants.{Done};
 ghost use Rattle.dfdl_grammar.specs.Outcomes.{ended};
 ghost use Rattle.dfdl_grammar.specs.Leaves.{Find, content_begins, failing_bit, has_room, hold, program};
 ghost use Rattle.dfdl_looks.specs.Asks.{Reading, ask};
-ghost use Rattle.dfdl_looks.specs.Tallies.{nothing};
-ghost use Rattle.dfdl_parse.specs.Machines.{read_leaf, read_move};
-ghost use Rattle.dfdl_parse.specs.Steps.{Answers, HasPiece, IsWithin, Moved};
+ghost use Rattle.dfdl_looks.specs.Tallies.{Tally, nothing};
+ghost use Rattle.dfdl_parse.specs.Moves.{read_leaf, read_move};
+ghost use Rattle.dfdl_parse.specs.Steps.{Answers, HasPiece, IsFree, IsWithin, Moved};
 ghost use Rattle.dfdl_parse.specs.Shown.{Comes, HasSameLimits, limits_of, state_of};
+ghost use Rattle.dfdl_parse.specs.Views.{IsSound, primitive_of};
 
 use crate::frame::Focus;
-use crate::leaf::{Found, Glance, bits_of, content_begins, has_room, read_leaf};
+use crate::leaf::{Found, Glance, read_leaf};
 use crate::parser::Parser;
+use crate::view::{Leaf, content_begins, has_room};
 use dfdl_bits::{Steps, Window};
 use dfdl_grammar::End;
 use dfdl_region::Content;
 use dfdl_report::{LimitCause, ParseCause};
-use dfdl_terms::{Primitive, RowId};
 use std::alloc::AllocError;
 use std::sync::ledger::Ledger;
 
@@ -30,48 +30,43 @@ impl Parser {
     // A leaf is read. Its box can't pass the end of the one around it.
     pub(crate) fn read<L: Ledger>(
         &mut self,
-        primitive: &Primitive,
-        id: RowId,
+        leaf: Leaf<'_>,
         sight: &mut Window,
         steps: &mut Steps<L>,
     ) -> Result<bool, AllocError>
-        requires focus { self.old.focus ≡ Focus.Enter id }
         requires base { sight.old.base ≤ self.old.at / 8 }
         requires at { self.old.at ≤ 8 * end_of sight.old }
-        requires primitive { IsPrimitive primitive.now }
-        ensures moved { IfOk result (λ waits. Moved
-            (read_leaf (limits_of self.old sight.old) sight.old id (Some primitive.now) self.old.stack (state_of self.old))
+        requires sound { IsSound (primitive_of leaf) }
+        ensures moved { IfOk result (λ waits. (cost : Tally) → IsFree cost → Moved
+            (read_leaf cost (limits_of self.old sight.old) self.old.focus sight.old (Some (primitive_of leaf.entry)) self.old.stack (state_of self.old))
             waits self.old.far self.new sight.new (steps.new - steps.old)) }
         ensures steps { steps.old ≤ steps.new }
         ensures most { OnOk result (HasSameLimits self.old self.new) }
         ensures at { OnOk result (self.new.at ≤ 8 * end_of sight.new) }
     {
         let _end = sight.end();
-        if !has_room(primitive, self.at, self.stop) {
+        if !has_room(leaf, self.at, self.stop) {
             self.fail(ParseCause::LengthOutOfRange);
             return Ok(false);
         }
-        let waits = self.read_in_box(primitive, id, sight, steps)?;
+        let waits = self.read_in_box(leaf, sight, steps)?;
         Ok(waits)
     }
 
     // A leaf is read whose box ends in the one around it.
-    #[tactic(auto, using(crate::proofs::Windows::end_from))]
     fn read_in_box<L: Ledger>(
         &mut self,
-        primitive: &Primitive,
-        id: RowId,
+        leaf: Leaf<'_>,
         sight: &mut Window,
         steps: &mut Steps<L>,
     ) -> Result<bool, AllocError>
-        requires focus { self.old.focus ≡ Focus.Enter id }
         requires base { sight.old.base ≤ self.old.at / 8 }
         requires at { self.old.at ≤ 8 * end_of sight.old }
-        requires primitive { IsPrimitive primitive.now }
-        requires room { has_room primitive.now self.old.at self.old.stop ≡ true }
-        ensures moved { IfOk result (λ waits. Moved
-            (read_move (limits_of self.old sight.old) (content_begins primitive.now self.old.at) (from_byte sight.old (self.old.at / 8)) id
-            (ask (seen_at (from_byte sight.old (self.old.at / 8))) (program primitive.now self.old.at self.old.stop) nothing)
+        requires sound { IsSound (primitive_of leaf) }
+        requires room { has_room (primitive_of leaf) self.old.at self.old.stop ≡ true }
+        ensures moved { IfOk result (λ waits. (cost : Tally) → IsFree cost → Moved
+            (read_move cost (limits_of self.old sight.old) self.old.focus (content_begins (primitive_of leaf.entry) self.old.at) (from_byte sight.old (self.old.at / 8))
+            (ask (seen_at (from_byte sight.old (self.old.at / 8))) (program (primitive_of leaf.entry) self.old.at self.old.stop) nothing)
             self.old.stack (state_of self.old))
             waits self.old.far self.new sight.new (steps.new - steps.old)) }
         ensures steps { steps.old ≤ steps.new }
@@ -79,34 +74,52 @@ impl Parser {
         ensures at { OnOk result (self.new.at ≤ 8 * end_of sight.new) }
     {
         let _end = sight.end();
-        let first = content_begins(primitive, self.at);
-        sight.drop_before(self.at / 8);
-        let glance = read_leaf(
-            primitive,
-            self.at,
-            self.stop,
-            sight,
-            &mut self.scratch,
-            steps,
-        )?;
-        Ok(self.land(glance, bits_of(primitive), first, sight.size() as u64))
+        let first = content_begins(leaf, self.at);
+        let glance = self.glance(leaf, sight, steps)?;
+        Ok(self.land(glance, first, sight.size() as u64))
     }
 
-    // The reading of a leaf of so many bits is taken, whose content begins at a bit.
-    fn land(&mut self, glance: Glance, bits: u64, first: u64, window: u64) -> bool
-        requires few { bits ≤ 2 ^ 33 }
-        requires bound { self.old.at ≤ 2 ^ 63 }
+    // The bytes before a leaf are given up, and it is read, where its box ends in the one around it. What it comes to isn't taken.
+    #[tactic(auto, using(crate::proofs::Windows::end_from))]
+    pub(crate) fn glance<L: Ledger>(
+        &mut self,
+        leaf: Leaf<'_>,
+        sight: &mut Window,
+        steps: &mut Steps<L>,
+    ) -> Result<Glance, AllocError>
+        requires base { sight.old.base ≤ self.old.at / 8 }
+        requires at { self.old.at ≤ 8 * end_of sight.old }
+        requires sound { IsSound (primitive_of leaf) }
+        requires room { has_room (primitive_of leaf) self.old.at self.old.stop ≡ true }
+        ensures answers { IfOk result (λ g. Answers
+            (ask (seen_at sight.new) (program (primitive_of leaf.entry) self.old.at self.old.stop) nothing) self.new.scratch g (steps.new - steps.old)) }
+        ensures held { sight.new ≡ from_byte sight.old (self.old.at / 8) }
+        ensures end { end_of sight.new ≡ end_of sight.old }
+        ensures steps { steps.old ≤ steps.new }
+        ensures within { IfOk result (λ g. IsWithin g.found (end_of sight.new)) }
+        ensures pieces { IfOk result (λ g. HasPiece g.found self.new.scratch) }
+        ensures same { self.new ≡ record self.old { scratch = self.new.scratch } }
+    {
+        let _end = sight.end();
+        sight.drop_before(self.at / 8);
+        let glance = read_leaf(leaf, self.at, self.stop, sight, &mut self.scratch, steps)?;
+        Ok(glance)
+    }
+
+    // The reading of a leaf is taken whose content begins at a bit.
+    fn land(&mut self, glance: Glance, first: u64, window: u64) -> bool
         requires pieces { HasPiece glance.found self.old.scratch }
-        ensures moved { (sight : Held) (id looks : ℕ) (reading : Reading Find) → self.old.focus ≡ Focus.Enter id
-            → Answers reading bits self.old.scratch glance looks → sight.size ≡ window
-            → Moved (read_move (limits_of self.old sight) first sight id reading self.old.stack (state_of self.old)) result self.old.far self.new sight looks }
+        ensures moved { (sight : Held) (looks : ℕ) (reading : Reading Find) (cost : Tally)
+            → Answers reading self.old.scratch glance looks → sight.size ≡ window → IsFree cost
+            → Moved (read_move cost (limits_of self.old sight) self.old.focus first sight reading self.old.stack (state_of self.old))
+            result self.old.far self.new sight looks }
         ensures most { HasSameLimits self.old self.new }
-        ensures at { (end : ℕ) → self.old.at ≤ 8 * end → IsWithin glance.found (self.old.at + bits) end → self.new.at ≤ 8 * end }
+        ensures at { (end : ℕ) → self.old.at ≤ 8 * end → IsWithin glance.found end → self.new.at ≤ 8 * end }
     {
         match &glance.found {
             Found::NotYet => return true,
-            Found::Reads(content) => self.put(*content, self.at + bits),
-            Found::Octets => self.hold_octets(self.at + bits),
+            Found::Reads { content, end } => self.put(*content, *end),
+            Found::Octets { end } => self.hold_octets(*end),
             Found::Text { from, to, end } => self.hold_text(*from, *to, *end),
             Found::Fails(cause) => {
                 self.fail_at(*cause, failing_bit(*cause, self.at, first));
@@ -167,8 +180,8 @@ impl Parser {
     }
 }
 
-// The bit at which a leaf fails: that of its box where this is longer than it can be, and else that of its content.
-fn failing_bit(cause: ParseCause, of_box: u64, of_content: u64) -> u64
+/// The bit at which a leaf fails: that of its box where this is longer than it can be, and else that of its content.
+pub(crate) fn failing_bit(cause: ParseCause, of_box: u64, of_content: u64) -> u64
     ensures { result ≡ failing_bit cause of_box of_content }
 {
     match cause {

@@ -2,11 +2,12 @@
 ghost use Rattle.std.specs.Prelude.{◌≡◌, ◌^◌, ◌<◌, IsTrue, length};
 ghost use Rattle.dfdl_terms.specs.Rows.{IsPrimitive, IsTextSize};
 
-use crate::leaf::{Found, Glance, Scratch, has_room, read_leaf};
+use crate::leaf::{Found, Glance, Scratch, read_leaf};
+use crate::view::{Leaf, has_room};
 use dfdl_bits::{BitOrder, Steps, Window};
 use dfdl_forms::{Encoding, Justify, PadForm};
 use dfdl_report::ParseCause;
-use dfdl_terms::{OctetForm, Primitive, TextForm, TextSize};
+use dfdl_terms::{OctetForm, Primitive, TextContent, TextForm, TextSize};
 use std::alloc::Global;
 use std::marker::Brand;
 use std::process::Abort;
@@ -20,7 +21,7 @@ const NO_BOX: u64 = u64::MAX;
 fn is_read<L: Ledger>(
     alloc: Global,
     primitive: &Primitive,
-    data: (&[u8], bool),
+    bytes: (&[u8], bool),
     bit: u64,
     stop: u64,
     wanted: Glance,
@@ -30,30 +31,31 @@ fn is_read<L: Ledger>(
     requires name { blank.name ≡ L.name }
     requires parts { blank.parts ≡ L.parts }
     requires some { 0 < L.parts }
-    requires few { length data.0.now < 2 ^ 32 }
+    requires few { length bytes.0.now < 2 ^ 32 }
     requires form { IsPrimitive primitive.now }
 {
     let mut steps = Steps::<L>::open(blank);
     let mut window = Window::open(alloc, 12)?;
-    let _ = window.append(data.0);
-    if data.1 {
+    let _ = window.append(bytes.0);
+    if bytes.1 {
         window.tell_end();
     }
     let _ = window.base();
-    if bit > 8 * window.end() || !has_room(primitive, bit, stop) {
+    let leaf = Leaf::of(primitive);
+    if bit > 8 * window.end() || !has_room(leaf, bit, stop) {
         return Ok(false);
     }
     let mut scratch = Scratch::open(alloc);
     scratch.characters.push('x')?;
     scratch.octets.push(1)?;
-    let glance = read_leaf(primitive, bit, stop, &window, &mut scratch, &mut steps)?;
+    let glance = read_leaf(leaf, bit, stop, &window, &mut scratch, &mut steps)?;
     Ok(glance == wanted && has_value(alloc, glance.found, &scratch, value)?)
 }
 
 // Whether what was found has these bytes, or no value.
 fn has_value(alloc: Global, found: Found, scratch: &Scratch, value: &[u8]) -> Result<bool, Fail> {
     match found {
-        Found::Octets => Ok(scratch.octets.as_slice() == value),
+        Found::Octets { .. } => Ok(scratch.octets.as_slice() == value),
         Found::Text { from, to, .. } => {
             let mut text = String::new(alloc);
             for (at, c) in scratch.characters.iter().enumerate() {
@@ -91,6 +93,7 @@ fn string(size: TextSize) -> Primitive
             truncate: false,
             keeps_zero: false,
         },
+        content: TextContent::Plain,
     })
 }
 
@@ -109,7 +112,7 @@ fn bytes_are_read_from_any_bit(rt: HostRuntime) -> Result<(), Fail> {
         assert!(rt; bits < 1000 && data.len() < 1000);
         let form = octets(bits, bits_by);
         let wanted = Glance {
-            found: Found::Octets,
+            found: Found::Octets { end: bit + bits },
             far,
         };
         let blank = Blank::new(1);

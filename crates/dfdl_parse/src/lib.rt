@@ -8,6 +8,7 @@
 #[cfg(test)]
 mod box_tests;
 mod boxes;
+mod contents;
 pub mod frame;
 mod framing;
 #[cfg(test)]
@@ -20,12 +21,16 @@ mod octets;
 mod outcome;
 pub mod parser;
 mod path;
+#[cfg(test)]
+mod prefix_tests;
+mod prefixes;
 mod run;
 pub mod session;
 pub mod stack;
 mod strings;
 #[cfg(test)]
 mod tests;
+pub mod view;
 
 pub use dfdl_grammar::Limits;
 pub use dfdl_region::{Content, Node};

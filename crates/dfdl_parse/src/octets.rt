@@ -1,7 +1,6 @@
 // The bytes of a hexBinary.
-ghost use Rattle.std.specs.Prelude.{◌≡◌, ◌+◌, ◌-◌, ◌*◌, ◌/◌, ◌%◌, ◌^◌, ◌≤◌, IfOk, OnOk, length};
+ghost use Rattle.std.specs.Prelude.{◌≡◌, ◌+◌, ◌-◌, ◌*◌, ◌/◌, ◌%◌, ◌^◌, ◌<◌, ◌≤◌, IfOk, OnOk, length};
 ghost use Rattle.dfdl_bits.specs.Window.{end_of, seen_at};
-ghost use Rattle.dfdl_terms.specs.Rows.{most_length};
 ghost use Rattle.dfdl_grammar.specs.Leaves.{octets};
 ghost use Rattle.dfdl_grammar.specs.Octets.{octet_at, octets_from};
 ghost use Rattle.dfdl_looks.specs.Asks.{ask};
@@ -17,7 +16,7 @@ use std::sync::ledger::Ledger;
 
 /// Reads a hexBinary whose box begins at a bit. Its bytes stand in the scratch once all of them have come.
 pub(crate) fn read_octets<L: Ledger>(
-    form: &OctetForm,
+    form: OctetForm,
     bit: u64,
     sight: &Window,
     scratch: &mut Scratch,
@@ -26,16 +25,16 @@ pub(crate) fn read_octets<L: Ledger>(
     requires base { sight.now.base ≤ bit / 8 }
     requires at { bit ≤ 8 * end_of sight.now }
     requires bound { end_of sight.now ≤ 2 ^ 60 }
-    requires few { form.now.bits ≤ most_length }
-    ensures answers { IfOk result (λ g. Answers (ask (seen_at sight.now) (octets form.now bit) nothing) form.now.bits scratch.new g (steps.new - steps.old)) }
+    requires inside { bit + form.bits < 2 ^ 64 }
+    ensures answers { IfOk result (λ g. Answers (ask (seen_at sight.now) (octets form bit) nothing) scratch.new g (steps.new - steps.old)) }
     ensures steps { steps.old ≤ steps.new }
-    ensures within { IfOk result (λ g. IsWithin g.found (bit + form.now.bits) (end_of sight.now)) }
+    ensures within { IfOk result (λ g. IsWithin g.found (end_of sight.now)) }
     ensures pieces { IfOk result (λ g. HasPiece g.found scratch.new) }
 {
     if form.bits == 0 {
         scratch.octets.clear();
         return Ok(Glance {
-            found: Found::Octets,
+            found: Found::Octets { end: bit },
             far: 0,
         });
     }
@@ -54,7 +53,9 @@ pub(crate) fn read_octets<L: Ledger>(
     let octets = (form.bits / 8) as usize;
     put_octets(form.bits_by, run, bit % 8, octets, &mut scratch.octets)?;
     Ok(Glance {
-        found: Found::Octets,
+        found: Found::Octets {
+            end: bit + form.bits,
+        },
         far: first + count as u64,
     })
 }
@@ -68,7 +69,7 @@ fn put_octets(
     into: &mut Vec<u8>,
 ) -> Result<(), AllocError>
     requires before { before ≤ 7 }
-    requires few { count ≤ 2 ^ 31 }
+    requires few { count ≤ 2 ^ 61 }
     requires inside { before + 8 * count ≤ 8 * length bytes.now }
     ensures { OnOk result (into.new.items ≡ octets_from bits_by bytes.now before count) }
 {

@@ -6,16 +6,18 @@ ghost use Rattle.dfdl_grammar.specs.declared.end.End.TheVariants.{Done};
 ghost use Rattle.dfdl_grammar.specs.Elements.{left};
 ghost use Rattle.dfdl_grammar.specs.States.{no_box};
 ghost use Rattle.dfdl_looks.specs.Tallies.{nothing};
-ghost use Rattle.dfdl_parse.specs.Machines.{HasEnded, NeedsFrom, children_of, step, enter, enter_fill, enter_group, enter_element, fill, fill_move, leave, leave_done, go_on, pass};
+ghost use Rattle.dfdl_parse.specs.Machines.{HasEnded, NeedsFrom, children_of, step, enter, enter_fill, enter_group, enter_element, fill, fill_move, leave, leave_done, go_on};
+ghost use Rattle.dfdl_parse.specs.Moves.{pass};
 ghost use Rattle.dfdl_parse.specs.Answers.{answer_at, answer_of};
 ghost use Rattle.dfdl_parse.specs.Steps.{Moved};
 ghost use Rattle.dfdl_parse.specs.Shown.{HasSameLimits, limits_of, state_of};
 
-use crate::frame::{Focus, Frame};
+use crate::frame::{Behind, Focus, Frame};
 use crate::framing::{aligned, last_byte, look_beyond};
 use crate::leaf::Scratch;
 use crate::outcome::Outcome;
 use crate::stack::Stack;
+use crate::view::Leaf;
 use dfdl_bits::{Seen, Steps, Window};
 use dfdl_grammar::{End, Limits};
 use dfdl_region::{Content, Node, NodeRegion, TextRegion};
@@ -76,6 +78,7 @@ impl Parser {
             Focus::Enter(_) => Outcome::Open,
             Focus::Pass(_) => Outcome::Open,
             Focus::PassRest { .. } => Outcome::Open,
+            Focus::Sized { .. } => Outcome::Open,
             Focus::Leave(end) => {
                 if self.stack.is_empty() {
                     answer_of(end)
@@ -94,6 +97,7 @@ impl Parser {
             Focus::Enter(_) => false,
             Focus::Pass(_) => false,
             Focus::PassRest { .. } => false,
+            Focus::Sized { .. } => false,
             Focus::Leave(_) => self.stack.is_empty(),
         }
     }
@@ -122,6 +126,10 @@ impl Parser {
             }
             Focus::Pass(to) => Ok(self.pass(to, sight, steps)),
             Focus::PassRest { bit, outer } => Ok(self.pass_rest(bit, outer, sight, steps)),
+            Focus::Sized { prim, size } => {
+                let waits = self.read_sized(terms, prim, size, sight, steps)?;
+                Ok(waits)
+            }
             Focus::Leave(end) => {
                 self.leave(terms, end)?;
                 Ok(false)
@@ -154,7 +162,7 @@ impl Parser {
         match terms.row(id) {
             Row::Leaf { prim } => {
                 let primitive = &terms.tables().primitives()[*prim as usize];
-                let waits = self.read(primitive, id, sight, steps)?;
+                let waits = self.read(Leaf::of(primitive), sight, steps)?;
                 Ok(waits)
             }
             Row::Elem { simple, body, .. } => {
@@ -179,6 +187,16 @@ impl Parser {
                 let _end = sight.end();
                 self.begin_box(*bits, *body)?;
                 Ok(false)
+            }
+            Row::PrefixedLeaf { prefix, prim } => {
+                let behind = Behind::Leaf(*prim);
+                let waits = self.begin_prefix(terms, id, prefix, behind, sight, steps)?;
+                Ok(waits)
+            }
+            Row::PrefixedBox { prefix, body } => {
+                let behind = Behind::Box(*body);
+                let waits = self.begin_prefix(terms, id, prefix, behind, sight, steps)?;
+                Ok(waits)
             }
         }
     }
@@ -415,6 +433,8 @@ fn child_of(terms: &Terms, group: RowId, place: usize) -> Option<RowId>
         Row::Skip { .. } => None,
         Row::Align { .. } => None,
         Row::Boxed { .. } => None,
+        Row::PrefixedLeaf { .. } => None,
+        Row::PrefixedBox { .. } => None,
     }
 }
 

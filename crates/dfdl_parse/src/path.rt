@@ -75,6 +75,8 @@ fn push_name(
         Row::Skip { .. } => Ok(()),
         Row::Align { .. } => Ok(()),
         Row::Boxed { .. } => Ok(()),
+        Row::PrefixedLeaf { .. } => Ok(()),
+        Row::PrefixedBox { .. } => Ok(()),
     }
 }
 

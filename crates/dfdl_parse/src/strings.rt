@@ -1,19 +1,21 @@
-// The characters of a string.
-ghost use Rattle.std.specs.Prelude.{◌≡◌, ℕ, ◌+◌, ◌-◌, ◌*◌, ◌/◌, ◌^◌, ◌≤◌, IfOk, true};
+// The characters of a text.
+ghost use Rattle.std.specs.Prelude.{◌≡◌, ℕ, ◌+◌, ◌-◌, ◌*◌, ◌/◌, ◌^◌, ◌<◌, ◌≤◌, IfOk, true};
 ghost use Rattle.dfdl_bits.specs.Window.{end_of, seen_at};
 ghost use Rattle.dfdl_terms.specs.declared.row.Primitive.TheVariants.{Text};
-ghost use Rattle.dfdl_terms.specs.Rows.{IsTextSize};
+ghost use Rattle.dfdl_terms.specs.Rows.{IsTextContent};
 ghost use Rattle.dfdl_grammar.specs.Leaves.{bits_of_text, has_room, text_behind, text_find, text_of_size};
 ghost use Rattle.dfdl_looks.specs.Asks.{Answer, and_then, ask};
 ghost use Rattle.dfdl_looks.specs.Tallies.{nothing};
 ghost use Rattle.dfdl_texts.specs.Texts.{text_at};
 ghost use Rattle.dfdl_texts.specs.Readings.{found_shown as text_shown};
-ghost use Rattle.dfdl_parse.specs.declared.leaf.Scratch.{Scratch as AnyScratch};
 ghost use Rattle.dfdl_parse.specs.Steps.{Answers, HasPiece, IsWithin, found_shown};
 ghost use Rattle.dfdl_parse.specs.Strings.{EndsBefore, text_reached};
+ghost use Rattle.dfdl_parse.specs.Views.{text_of};
 
+use crate::contents::content_found;
 use crate::framing::aligned;
-use crate::leaf::{Found, Glance, Scratch, text_begins};
+use crate::leaf::{Found, Glance, Scratch};
+use crate::view::text_begins;
 use dfdl_bits::{Steps, Window};
 use dfdl_report::ParseCause;
 use dfdl_terms::{TextForm, TextSize};
@@ -22,10 +24,11 @@ use dfdl_texts::{Extent, Found as TextFound, read_text};
 use std::alloc::AllocError;
 use std::sync::ledger::Ledger;
 
-/// Reads a string whose box begins at a bit, inside of a box that ends at another bit. Its characters stand in the scratch
-/// then, before they are trimmed.
+/// Reads a text of a size whose box begins at a bit, inside of a box that ends at another bit. Its characters stand in the
+/// scratch then, before they are trimmed.
 pub(crate) fn read_string<L: Ledger>(
     form: &TextForm,
+    size: TextSize,
     bit: u64,
     stop: u64,
     sight: &Window,
@@ -35,15 +38,15 @@ pub(crate) fn read_string<L: Ledger>(
     requires base { sight.now.base ≤ bit / 8 }
     requires at { bit ≤ 8 * end_of sight.now }
     requires bound { end_of sight.now ≤ 2 ^ 60 }
-    requires size { IsTextSize form.now.size }
-    requires room { has_room (Text form.now) bit stop ≡ true }
-    ensures answers { IfOk result (λ g. Answers (ask (seen_at sight.now) (text_of_size form.now form.now.size bit stop) nothing) (bits_of_text form.now.size) scratch.new g (steps.new - steps.old)) }
+    requires content { IsTextContent form.now.content }
+    requires room { has_room (Text (text_of form.now size)) bit stop ≡ true }
+    ensures answers { IfOk result (λ g. Answers (ask (seen_at sight.now) (text_of_size (text_of form.now size) size bit stop) nothing) scratch.new g (steps.new - steps.old)) }
     ensures steps { steps.old ≤ steps.new }
-    ensures within { IfOk result (λ g. IsWithin g.found (bit + bits_of_text form.now.size) (end_of sight.now)) }
+    ensures within { IfOk result (λ g. IsWithin g.found (end_of sight.now)) }
     ensures pieces { IfOk result (λ g. HasPiece g.found scratch.new) }
 {
-    let first = text_begins(form.size, bit);
-    match form.size {
+    let first = text_begins(size, bit);
+    match size {
         TextSize::Bits(bits) => {
             let end = bit + bits;
             if (end - first) % 8 != 0 {
@@ -54,6 +57,7 @@ pub(crate) fn read_string<L: Ledger>(
             }
             let glance = read_characters(
                 form,
+                size,
                 Extent::Box,
                 bit,
                 first / 8,
@@ -68,6 +72,7 @@ pub(crate) fn read_string<L: Ledger>(
             let extent = Extent::Characters(count);
             let glance = read_characters(
                 form,
+                size,
                 extent,
                 bit,
                 first / 8,
@@ -81,9 +86,10 @@ pub(crate) fn read_string<L: Ledger>(
     }
 }
 
-// Reads the characters of an extent from a byte on, in a box that ends at bit `stop`, for a string whose box begins at bit `bit`.
+// Reads the characters of an extent from a byte on, in a box that ends at bit `stop`, for a text whose box begins at bit `bit`.
 fn read_characters<L: Ledger>(
     form: &TextForm,
+    size: TextSize,
     extent: Extent,
     bit: u64,
     byte: u64,
@@ -96,8 +102,9 @@ fn read_characters<L: Ledger>(
     requires byte { byte ≤ 2 ^ 60 }
     requires bit { bit ≤ 2 ^ 63 }
     requires bound { end_of sight.now ≤ 2 ^ 60 }
-    requires size { IsTextSize form.now.size }
-    ensures answers { IfOk result (λ g. (bits : ℕ) → Answers (ask (seen_at sight.now) (and_then (text_at form.now.encoding form.now.replaces extent stop byte) (λ text. Answer (text_find form.now bit text))) nothing) bits scratch.new g (steps.new - steps.old)) }
+    requires content { IsTextContent form.now.content }
+    requires size { bit + bits_of_text size < 2 ^ 64 }
+    ensures answers { IfOk result (λ g. Answers (ask (seen_at sight.now) (and_then (text_at form.now.encoding form.now.replaces extent stop byte) (λ text. Answer (text_find (text_of form.now size) bit text))) nothing) scratch.new g (steps.new - steps.old)) }
     ensures steps { steps.old ≤ steps.new }
     ensures pieces { IfOk result (λ g. HasPiece g.found scratch.new) }
 {
@@ -111,30 +118,34 @@ fn read_characters<L: Ledger>(
         &mut scratch.characters,
         steps,
     )?;
-    let found = text_found(form, bit, text.found, scratch);
+    let found = text_found(form, size, bit, text.found, scratch);
     Ok(Glance {
         found,
         far: text.far,
     })
 }
 
-// What a text of these characters is found as, for a string whose box begins at a bit.
-fn text_found(form: &TextForm, bit: u64, text: TextFound, scratch: &Scratch) -> Found
+// What a text of these characters is found as whose box has a size and begins at a bit.
+fn text_found(
+    form: &TextForm,
+    size: TextSize,
+    bit: u64,
+    text: TextFound,
+    scratch: &Scratch,
+) -> Found
     requires bit { bit ≤ 2 ^ 63 }
-    requires size { IsTextSize form.now.size }
+    requires content { IsTextContent form.now.content }
+    requires size { bit + bits_of_text size < 2 ^ 64 }
     requires end { EndsBefore text (2 ^ 60) }
-    ensures shown { (bits : ℕ) → found_shown bits scratch.now result
-        ≡ text_reached form.now bit (text_shown scratch.now.characters.items text) }
+    ensures shown { found_shown scratch.now result
+        ≡ text_reached (text_of form.now size) bit (text_shown scratch.now.characters.items text) }
     ensures piece { HasPiece result scratch.now }
 {
     match text {
         TextFound::Reads { end } => {
             let (from, to) = trim(&form.pad, scratch.characters.as_slice());
-            Found::Text {
-                from,
-                to,
-                end: text_behind(form.size, bit, end),
-            }
+            let behind = text_behind(size, bit, end);
+            content_found(&form.content, scratch, from, to, behind)
         }
         TextFound::HasBad => Found::Fails(ParseCause::BadCharacter),
         TextFound::IsCut => Found::Fails(ParseCause::DataEnds),
@@ -144,10 +155,9 @@ fn text_found(form: &TextForm, bit: u64, text: TextFound, scratch: &Scratch) -> 
     }
 }
 
-// The bit behind the box of a string that begins at a bit, where its characters end before a byte.
+// The bit behind the box of a text that begins at a bit, where its characters end before a byte.
 fn text_behind(size: TextSize, bit: u64, end: u64) -> u64
-    requires bit { bit ≤ 2 ^ 63 }
-    requires size { IsTextSize size }
+    requires size { bit + bits_of_text size < 2 ^ 64 }
     requires end { end ≤ 2 ^ 60 }
     ensures { result ≡ text_behind size bit end }
 {

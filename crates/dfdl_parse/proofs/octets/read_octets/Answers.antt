@@ -10,7 +10,7 @@ use Rattle.dfdl_parse.proofs.octets.read_octets.Goals as goal
 
 pub returns-then-run-count-clause-answers : goal.returns-then-run-count-clause-answers
 returns-then-run-count-clause-answers g c =
-    let form = c.args.form.now in
+    let form = c.args.form in
     let look = seen_at c.args.sight.now in
     let looks : ℕ = c.cut.new.steps - c.args.steps.now in
     let fewer : length c.run-run.result.now < bytes_spanned c.args.bit form.bits = omega arith in
@@ -19,11 +19,11 @@ returns-then-run-count-clause-answers g c =
 
 pub returns-clause-answers : goal.returns-clause-answers
 returns-clause-answers g c =
-    let form = c.args.form.now in
+    let form = c.args.form in
     let look = seen_at c.args.sight.now in
     let run = c.run-run.result.now in
     let looks : ℕ = c.run-run.new.steps - c.args.steps.now in
     let all : bytes_spanned c.args.bit form.bits ≡ length run = omega arith in
     field_read look form c.args.bit _ c.if-form-eq0.false c.if-form-ne0.false _ looks
     (whole_read look (Octets form) c.args.bit run c.run-run.ensures.seen (omega arith) all _
-    HasOctets (ap (λ bytes. Told (FindsOctets bytes form.bits)) c.in_ok-put_octets.ensures) (c.args.bit / 8 + c.spanned-count.result) (omega arith) looks (omega arith))
+    (HasOctets (c.args.bit + form.bits)) (ap (λ bytes. Told (FindsOctets bytes (c.args.bit + form.bits))) c.in_ok-put_octets.ensures) (c.args.bit / 8 + c.spanned-count.result) (omega arith) looks (omega arith))

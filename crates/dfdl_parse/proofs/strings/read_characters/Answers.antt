@@ -1,12 +1,13 @@
 use Rattle.std.proofs.Common.{ℕ, ◌-◌}
 use Rattle.dfdl_bits.specs.Window.{seen_at}
 use Rattle.dfdl_texts.specs.Texts.{text_at}
+use Rattle.dfdl_parse.specs.Views.{text_of}
 use Rattle.dfdl_parse.proofs.StringReadings.{characters_read}
 use Rattle.dfdl_parse.proofs.strings.read_characters.Goals as goal
 
 pub returns-clause-answers : goal.returns-clause-answers
-returns-clause-answers g c bits =
-    let form = c.args.form.now in
+returns-clause-answers g c =
+    let form = text_of c.args.form.now c.args.size in
     let looks : ℕ = c.read_text.new.steps - c.args.steps.now in
     characters_read (seen_at c.args.sight.now) form c.args.bit (text_at form.encoding form.replaces c.args.extent c.args.stop c.args.byte)
-    c.read_text.new.into.items c.in_ok-text.text looks bits _ c.text_found-found.result c.in_ok-text.ensures.answers (c.text_found-found.ensures.shown bits)
+    c.read_text.new.into.items c.in_ok-text.text looks _ c.text_found-found.result c.in_ok-text.ensures.answers c.text_found-found.ensures.shown

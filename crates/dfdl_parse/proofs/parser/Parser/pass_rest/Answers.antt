@@ -1,7 +1,8 @@
 use Rattle.std.proofs.Common.{◌≡◌, ℕ, ◌-◌, ◌*◌, ◌/◌, ◌≤◌, min, subst, sym, ◌∙◌, ap, arith}
 use Rattle.dfdl_bits.specs.Window.{Held, end_of, from_byte}
 use Rattle.dfdl_bits.specs.declared.window.Seen.{Seen}
-use Rattle.dfdl_parse.specs.Machines.{Machine, pass_rest, rest_move, seen_beyond}
+use Rattle.dfdl_parse.specs.Moves.{Machine}
+use Rattle.dfdl_parse.specs.Machines.{pass_rest, rest_move, seen_beyond}
 use Rattle.dfdl_parse.specs.Shown.{limits_of, state_of}
 use Rattle.dfdl_parse.specs.Steps.{Moved}
 use Rattle.dfdl_parse.proofs.Lows.{rest-within}

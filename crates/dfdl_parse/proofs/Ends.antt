@@ -1,0 +1,67 @@
+-- Where what a leaf finds ends.
+use Rattle.std.proofs.Common.{ℕ, ◌*◌, ◌≤◌, Bool, List, Option, Some, None, Result, Ok, Err}
+use Rattle.dfdl_value.specs.declared.value.Value.{Value}
+use Rattle.dfdl_value.specs.declared.value.Value.TheVariants as value
+use Rattle.dfdl_number_text.specs.NumberReading.{reading as number_reading}
+use Rattle.dfdl_number_text.specs.declared.fault.NumberFault.{NumberFault}
+use Rattle.dfdl_number_text.specs.declared.fault.NumberFault.TheVariants as number
+use Rattle.dfdl_packed.specs.Zoned.{zoned_reading}
+use Rattle.dfdl_packed.specs.declared.fault.PackedFault.{PackedFault}
+use Rattle.dfdl_packed.specs.declared.fault.PackedFault.TheVariants as packed
+use Rattle.dfdl_text_string.specs.Truths.{truth_of}
+use Rattle.dfdl_terms.specs.declared.text.TextContent.{TextContent}
+use Rattle.dfdl_terms.specs.declared.text.TextContent.TheVariants.{Plain, Number, Zoned, Truth}
+use Rattle.dfdl_looks.specs.Asks.{Reached, Told, TooFar, Missing}
+use Rattle.dfdl_grammar.specs.Leaves.{Find, Fails, Finds, FindsOctets, FindsText, content_find, find_of, number_find, packed_find, truth_find}
+use Rattle.dfdl_parse.specs.declared.leaf.Found.{Found}
+use Rattle.dfdl_parse.specs.declared.leaf.Found.TheVariants.{Reads, Octets as HasOctets, Text as HasText, Fails as HasFailed, Past, NotYet}
+use Rattle.dfdl_parse.specs.declared.leaf.Scratch.{Scratch}
+use Rattle.dfdl_parse.specs.Steps.{IsWithin, found_shown}
+
+-- what is found, if anything, ends at a bit that is one of these
+abbrev pub AtEnd : (ℕ → Type 0) → Reached Find → Type 0
+AtEnd P (Told (Fails cause)) = Unit {0}
+AtEnd P (Told (Finds content end)) = P end
+AtEnd P (Told (FindsOctets bytes end)) = P end
+AtEnd P (Told (FindsText bytes end)) = P end
+AtEnd P TooFar = Unit {0}
+AtEnd P Missing = Unit {0}
+
+pub number-at : (P : ℕ → Type 0) (end : ℕ) (number : Option Value) → P end → AtEnd P (Told (find_of end number))
+number-at P end (Some (value.Int z)) there = there
+number-at P end (Some (value.Uns n)) there = there
+number-at P end (Some (value.Dec d)) there = there
+number-at P end (Some (value.Text t)) there = tt
+number-at P end (Some (value.Truth t)) there = tt
+number-at P end (Some (value.Bytes b)) there = tt
+number-at P end None there = tt
+
+pub packed-at : (P : ℕ → Type 0) (end : ℕ) (number : Result Value PackedFault) → P end → AtEnd P (Told (packed_find end number))
+packed-at P end (Ok number) there = number-at P end (Some number) there
+packed-at P end (Err packed.BadNibble) there = tt
+packed-at P end (Err packed.PastType) there = tt
+
+written-at : (P : ℕ → Type 0) (end : ℕ) (number : Result Value NumberFault) → P end → AtEnd P (Told (number_find end number))
+written-at P end (Ok read) there = number-at P end (Some read) there
+written-at P end (Err number.NotANumber) there = tt
+written-at P end (Err number.PastType) there = tt
+
+pub truth-at : (P : ℕ → Type 0) (end : ℕ) (truth : Option Bool) → P end → AtEnd P (Told (truth_find end truth))
+truth-at P end (Some truth) there = there
+truth-at P end None there = tt
+
+-- what characters are read as ends where their box does
+pub content-at : (P : ℕ → Type 0) (content : TextContent) (characters : List ℕ) (end : ℕ) → P end → AtEnd P (Told (content_find content characters end))
+content-at P Plain characters end there = there
+content-at P (Number form kind) characters end there = written-at P end (number_reading form kind characters) there
+content-at P (Zoned form) characters end there = packed-at P end (zoned_reading form characters) there
+content-at P (Truth form) characters end there = truth-at P end (truth_of form characters) there
+
+-- what is found by the code lies where it ends
+pub ends-found : (last : ℕ) (scratch : Scratch) (found : Found) → AtEnd (λ e. e ≤ 8 * last) (found_shown scratch found) → IsWithin found last
+ends-found last scratch (Reads content end) ends = ends
+ends-found last scratch (HasOctets end) ends = ends
+ends-found last scratch (HasText from to end) ends = ends
+ends-found last scratch (HasFailed cause) ends = tt
+ends-found last scratch Past ends = tt
+ends-found last scratch NotYet ends = tt

@@ -1,0 +1,94 @@
+-- What is ahead of a machine, behind a cost.
+use Rattle.std.proofs.Common.{◌≡◌, ℕ, ◌-◌, ◌*◌, ◌/◌, ◌+◌, ◌<◌, ◌≤◌, nat_le, refl, List, [], ◌∷◌, length, drop, Bool, true, false, cond, ap, sym, ◌∙◌}
+use Rattle.std.specs.Prelude.{slice_get}
+use Rattle.dfdl_bits.specs.Window.{Held, end_of}
+use Rattle.dfdl_report.specs.declared.cause.LimitCause.TheVariants.{Text as TextLimit}
+use Rattle.dfdl_terms.specs.Rows.{Table}
+use Rattle.dfdl_looks.specs.Looks.{Agrees}
+use Rattle.dfdl_looks.specs.Asks.{Reached, Told, TooFar, Missing}
+use Rattle.dfdl_looks.specs.Tallies.{Tally, nothing}
+use Rattle.dfdl_grammar.specs.declared.end.End.{End}
+use Rattle.dfdl_grammar.specs.declared.end.End.TheVariants.{Done, Failed, Stopped}
+use Rattle.dfdl_grammar.specs.declared.limits.Limits.{Limits}
+use Rattle.dfdl_grammar.specs.States.{Input, State, anchor, anchor_at}
+use Rattle.dfdl_grammar.specs.Outcomes.{Outcome, ended, spend, then_do}
+use Rattle.dfdl_grammar.specs.Leaves.{Find, Fails, Finds, FindsOctets, FindsText, land}
+use Rattle.dfdl_grammar.specs.Boxes.{rest, unboxed}
+use Rattle.dfdl_grammar.specs.Rows.{below, group}
+use Rattle.dfdl_grammar.proofs.Spending.{spend-nothing, follow-spend, close-spend}
+use Rattle.dfdl_parse.specs.declared.frame.Frame.{Frame}
+use Rattle.dfdl_parse.specs.declared.frame.Frame.TheVariants.{Rest, Element, Box}
+use Rattle.dfdl_parse.specs.declared.frame.Focus.{Focus}
+use Rattle.dfdl_parse.specs.declared.frame.Focus.TheVariants.{Enter, Pass, PassRest, Sized, Leave}
+use Rattle.dfdl_parse.specs.Moves.{Move, is_missing}
+use Rattle.dfdl_parse.specs.Machines.{children_of}
+use Rattle.dfdl_parse.specs.Ahead.{resume, finish, ahead}
+
+-- the window holds the bytes that a row at this state needs
+pub record Anchored (held : Held) (s : State) : Type 0 where
+  pub base : held.base ≤ anchor s
+  pub end : anchor s ≤ end_of held
+  pub low : anchor s ≤ s.at / 8
+
+-- the window holds the bytes that what is done next needs
+abbrev pub Stands : Held → Focus → State → Type 0
+Stands held (Enter id) s = Anchored held s
+Stands held (Pass to) s = (held.base ≤ (to - 1) / 8) × (anchor_at s (to - 1) ≡ (to - 1) / 8)
+Stands held (PassRest bit outer) s = (held.base ≤ bit / 8) × (bit < s.stop) × (anchor_at s (8 * (bit / 8)) ≡ bit / 8)
+Stands held (Sized prim size) s = Anchored held s
+Stands held (Leave end) s = Unit {0}
+
+-- the window shows the data at this state: it agrees with them, has the size of the limit, and holds the bytes that are needed
+pub record Fits (held : Held) (input : Input) (focus : Focus) (s : State) : Type 0 where
+  pub agrees : Agrees held input.bytes
+  pub size : held.size ≡ input.limits.window
+  pub stands : Stands held focus s
+
+-- what is ahead, by the parts of a machine
+abbrev pub from_here : Input → Table → Focus → List Frame → State → Outcome
+from_here input table focus k s = ahead input table (record { focus = focus; stack = k; state = s })
+
+-- a step does its part of what is ahead
+abbrev pub Does : Input → Table → Outcome → Move → Type 0
+Does input table o move = o ≡ spend move.tally (ahead input table move.machine)
+
+pub found : (reached : Reached Find) → is_missing reached ≡ false → reached ≡ Missing → ⊥
+found (Told f) is missing = absurd (cc)
+found TooFar is missing = absurd (cc)
+found Missing is missing = absurd (cc)
+
+-- what a reading makes of the state costs nothing more
+hold-nothing : (room : Bool) (s t : State) (most : ℕ) → (cond room (ended Done s) (ended (Stopped TextLimit most) t)).tally ≡ nothing
+hold-nothing true s t most = refl
+hold-nothing false s t most = refl
+
+pub land-nothing : (limits : Limits) (first : ℕ) (reached : Reached Find) (s : State) → (land limits first reached s).tally ≡ nothing
+land-nothing limits first (Told (Fails cause)) s = refl
+land-nothing limits first (Told (Finds content bits)) s = refl
+land-nothing limits first (Told (FindsOctets bytes bits)) s = hold-nothing (nat_le (length s.text + length bytes) limits.text) _ s limits.text
+land-nothing limits first (Told (FindsText bytes end)) s = hold-nothing (nat_le (length s.text + length bytes) limits.text) _ s limits.text
+land-nothing limits first TooFar s = refl
+land-nothing limits first Missing s = refl
+
+-- what was spent in a box was spent before what follows it
+pub unboxed-spend : (end : End) (t : Tally) (outer : ℕ) (o : Outcome) → unboxed end outer (spend t o) ≡ spend t (unboxed end outer o)
+unboxed-spend Done t outer o = refl
+unboxed-spend (Failed cause bit) t outer o = refl
+unboxed-spend (Stopped cause quantity) t outer o = refl
+
+module _ (input : Input) (table : Table) where
+  resume-spend : (frame : Frame) (t : Tally) (o : Outcome) → resume input table frame (spend t o) ≡ spend t (resume input table frame o)
+  resume-spend (Rest id next) t o = follow-spend o.end t o (group (below input table id) (drop next (children_of (slice_get table.rows id))))
+  resume-spend (Element outer complex) t o = close-spend o.end t outer complex o
+  resume-spend (Box outer) t o =
+      ap (λ (p : Outcome). unboxed p.end outer p) (follow-spend o.end t o (rest input))
+      ∙ unboxed-spend (then_do o (rest input)).end t outer (then_do o (rest input))
+
+  pub finish-spend : (k : List Frame) (t : Tally) (o : Outcome) → finish input table k (spend t o) ≡ spend t (finish input table k o)
+  unfolding finish
+  finish-spend [] t o = refl
+  finish-spend (frame ∷ k) t o = ap (finish input table k) (resume-spend frame t o) ∙ finish-spend k t (resume input table frame o)
+
+  -- behind a row, nothing was spent yet
+  pub after_nothing : (k : List Frame) (o : Outcome) → finish input table k o ≡ spend nothing (finish input table k o)
+  after_nothing k o = sym (spend-nothing (finish input table k o))

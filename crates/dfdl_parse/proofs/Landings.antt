@@ -1,0 +1,109 @@
+-- What the code made of a leaf or a prefix, said of the parser before it.
+use Rattle.std.proofs.Common.{◌≡◌, inl, inr, ℕ, ◌<◌, List, [], length, get_or, Bool, false, Option, Some, refl, ap, sym, subst, ◌∙◌, arith}
+use Rattle.std.specs.Prelude.{slice_get}
+use Rattle.std.proofs.lemmas.Option.{slice_get-get_or, slice_get_cases}
+use Rattle.dfdl_bits.specs.Window.{Held, from_byte}
+use Rattle.dfdl_terms.specs.declared.prefix.LengthUnit.{LengthUnit}
+use Rattle.dfdl_terms.specs.declared.row.Primitive.{Primitive}
+use Rattle.dfdl_terms.specs.declared.row.Row.{Row}
+use Rattle.dfdl_terms.specs.declared.row.Row.TheVariants.{Leaf, Boxed}
+use Rattle.dfdl_terms.specs.declared.text.TextSize.{TextSize}
+use Rattle.dfdl_terms.specs.Rows.{Table, NamesWithin}
+use Rattle.dfdl_looks.specs.Tallies.{nothing, one_row}
+use Rattle.dfdl_grammar.specs.declared.limits.Limits.{Limits}
+use Rattle.dfdl_grammar.specs.States.{State}
+use Rattle.dfdl_grammar.specs.Prefixes.{bits_of_units, resized, size_of}
+use Rattle.dfdl_parse.specs.declared.frame.Frame.{Frame}
+use Rattle.dfdl_parse.specs.declared.frame.Focus.{Focus}
+use Rattle.dfdl_parse.specs.declared.frame.Focus.TheVariants.{Enter, Sized}
+use Rattle.dfdl_parse.specs.declared.frame.Behind.{Behind}
+use Rattle.dfdl_parse.specs.declared.frame.Behind.TheVariants as behind
+use Rattle.dfdl_parse.specs.declared.parser.Parser.{Parser}
+use Rattle.dfdl_parse.specs.Moves.{Move, read_leaf}
+use Rattle.dfdl_parse.specs.Machines.{enter, enter_box}
+use Rattle.dfdl_parse.specs.Prefixed.{IsNamed, behind_units, box_begins, read_resized, read_sized, sized_begins}
+use Rattle.dfdl_parse.specs.Steps.{Moved}
+use Rattle.dfdl_parse.specs.Shown.{Becomes, HasSameLimits, shown, state_of}
+
+-- a step of the parser that differs in what it has read, at the place and the window that the clause speaks of
+pub moved-at : (old mid new : Parser) (begins first : ℕ) (held there : Held) (waited : Bool) (looks : ℕ) (move : Parser → ℕ → Held → Move)
+    → mid ≡ record old { scratch = mid.scratch } → first ≡ begins → there ≡ held
+    → Moved (move mid first there) waited mid.far new there looks
+    → Moved (move (record old { scratch = mid.scratch }) begins held) waited old.far new there looks
+moved-at old mid new begins first held there waited looks move same at is moved =
+    let one : Moved (move (record old { scratch = mid.scratch }) first there) waited old.far new there looks =
+    subst (λ (p : Parser). Moved (move p first there) waited p.far new there looks) same moved in
+    let two : Moved (move (record old { scratch = mid.scratch }) begins there) waited old.far new there looks =
+    subst (λ (n : ℕ). Moved (move (record old { scratch = mid.scratch }) n there) waited old.far new there looks) at one in
+    subst (λ (h : Held). Moved (move (record old { scratch = mid.scratch }) begins h) waited old.far new there looks) is two
+
+-- a leaf that has the size that was told
+pub sized-moved : (limits : Limits) (held : Held) (focus : Focus) (prim : ℕ) (size : TextSize) (primitives : List Primitive) (first primitive : Primitive) (k : List Frame) (s : State)
+    (waited : Bool) (far : ℕ) (new : Parser) (now_held : Held) (looks : ℕ) → focus ≡ Sized prim size → slice_get primitives prim ≡ Some first → resized size first ≡ Some primitive
+    → Moved (read_leaf nothing limits focus held (Some primitive) k s) waited far new now_held looks
+    → Moved (read_sized limits held prim size (slice_get primitives prim) k s) waited far new now_held looks
+sized-moved limits held focus prim size primitives first primitive k s waited far new now_held looks at is sized moved =
+    let one : Moved (read_leaf nothing limits (Sized prim size) held (Some primitive) k s) waited far new now_held looks =
+    subst (λ (f : Focus). Moved (read_leaf nothing limits f held (Some primitive) k s) waited far new now_held looks) at moved in
+    let two : Moved (read_resized limits (Sized prim size) held (resized size first) k s) waited far new now_held looks =
+    subst (λ (p : Option Primitive). Moved (read_resized limits (Sized prim size) held p k s) waited far new now_held looks) (sym sized) one in
+    subst (λ (p : Option Primitive). Moved (read_sized limits held prim size p k s) waited far new now_held looks) (sym is) two
+
+-- a leaf behind a prefix
+pub leaf-becomes : (old new : Parser) (primitives : List Primitive) (unit : LengthUnit) (b : Behind) (prim units : ℕ) → b ≡ behind.Leaf prim
+    → IsNamed (length primitives) b
+    → ((primitive : Primitive) → Becomes old (sized_begins (Some primitive) prim (size_of unit units) old.stack (state_of old)) new)
+    → Becomes old (behind_units primitives unit b units old.stack (state_of old)) new
+leaf-becomes old new primitives unit b prim units is named begins =
+    let there : prim < length primitives = subst (λ (x : Behind). IsNamed (length primitives) x) is named in
+    subst (λ (x : Behind). Becomes old (behind_units primitives unit x units old.stack (state_of old)) new) (sym is)
+    (elim (slice_get_cases primitives prim).1 [
+      | inl found ↦ subst (λ (p : Option Primitive). Becomes old (sized_begins p prim (size_of unit units) old.stack (state_of old)) new) (sym found.2) (begins found.0)
+      | inr past ↦ absurd (omega (arith, past.0))
+    ])
+
+-- a box behind a prefix
+pub box-becomes : (old new : Parser) (primitives : List Primitive) (unit : LengthUnit) (b : Behind) (body units bits : ℕ) → b ≡ behind.Box body
+    → bits ≡ bits_of_units unit units → HasSameLimits old new
+    → ((held : Held) → Moved (enter_box held bits body old.stack (state_of old)) false old.far new held 0)
+    → Becomes old (behind_units primitives unit b units old.stack (state_of old)) new
+box-becomes old new primitives unit b body units bits is size limits moves =
+    let moved = moves (record { bytes = []; base = 0; size = 0; ended = false }) in
+    let far = moved.far refl in
+    let begins : shown new ≡ box_begins (bits_of_units unit units) body old.stack (state_of old) =
+    moved.machine ∙ ap (λ (n : ℕ). box_begins n body old.stack (state_of old)) size in
+    subst (λ (x : Behind). Becomes old (behind_units primitives unit x units old.stack (state_of old)) new) (sym is)
+    (record { machine = begins; far = omega arith; limits = limits })
+
+-- an element of a list by its number
+pub indexed : (primitives all : List Primitive) (prim : ℕ) (primitive : Primitive) → primitives ≡ all → prim < length primitives → primitive ≡ get_or primitives prim primitive
+    → slice_get all prim ≡ Some primitive
+indexed primitives all prim primitive same there is =
+    subst (λ (xs : List Primitive). slice_get xs prim ≡ Some primitive) same
+    (slice_get-get_or primitives prim primitive there
+    ∙ ap (λ (p : Primitive). Some p) (sym is))
+
+module _ (limits : Limits) (table : Table) (held : Held) (id : ℕ) (r : Row) (k : List Frame) (s : State) (far : ℕ) (new : Parser)
+    (at : slice_get table.rows id ≡ Some r) where
+  -- a leaf is entered
+  pub leaf-entered : (focus : Focus) (prim : ℕ) (primitives : List Primitive) (primitive view : Primitive) (waited : Bool) (now_held : Held) (looks : ℕ) → r ≡ Leaf prim
+      → NamesWithin (length table.primitives) r → primitives ≡ table.primitives → primitive ≡ get_or primitives prim primitive → view ≡ primitive → focus ≡ Enter id
+      → Moved (read_leaf one_row limits focus held (Some view) k s) waited far new now_held looks
+      → Moved (enter limits table held id (slice_get table.rows id) k s) waited far new now_held looks
+  leaf-entered focus prim primitives primitive view waited now_held looks is named same got seen enters moved =
+      let there : prim < length table.primitives = subst (λ (x : Row). NamesWithin (length table.primitives) x) is named in
+      let found : slice_get table.primitives prim ≡ Some primitive = indexed primitives table.primitives prim primitive same
+      (subst (λ (xs : List Primitive). prim < length xs) (sym same) there) got in
+      let row_is : slice_get table.rows id ≡ Some (Leaf prim) = at ∙ ap (λ (x : Row). Some x) is in
+      subst (λ (o : Option Row). Moved (enter limits table held id o k s) waited far new now_held looks) (sym row_is)
+      (subst (λ (o : Option Primitive). Moved (read_leaf one_row limits (Enter id) held o k s) waited far new now_held looks) (sym found)
+      (subst (λ (f : Focus). Moved (read_leaf one_row limits f held (Some primitive) k s) waited far new now_held looks) enters
+      (subst (λ (p : Primitive). Moved (read_leaf one_row limits focus held (Some p) k s) waited far new now_held looks) seen moved)))
+
+  -- a box is entered
+  pub box-entered : (bits body looks : ℕ) → r ≡ Boxed bits body → looks ≡ 0
+      → Moved (enter_box held bits body k s) false far new held 0 → Moved (enter limits table held id (slice_get table.rows id) k s) false far new held looks
+  box-entered bits body looks is none moved =
+      let row_is : slice_get table.rows id ≡ Some (Boxed bits body) = at ∙ ap (λ (x : Row). Some x) is in
+      subst (λ (o : Option Row). Moved (enter limits table held id o k s) false far new held looks) (sym row_is)
+      (subst (λ (n : ℕ). Moved (enter_box held bits body k s) false far new held n) (sym none) moved)

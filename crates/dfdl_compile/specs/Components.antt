@@ -57,8 +57,8 @@ box_by None None = Unbounded
 -- content, and its length prefix
 abbrev pub component_by : List ℕ → Primitive → ℕ → Framing → Option ℕ → Option Prefix → Kind → Component
 component_by name primitive number framing size prefix kind.ComplexElement = ComplexElement name framing (box_by size prefix)
-component_by name primitive number framing size prefix (kind.SimpleElement simple) = SimpleElement name (type_of primitive) number prefix framing
-component_by name primitive number framing size prefix kind.UncarriedElement = SimpleElement name (type_of primitive) number prefix framing
+component_by name primitive number framing size prefix (kind.SimpleElement simple) = SimpleElement name (type_of primitive) number framing prefix
+component_by name primitive number framing size prefix kind.UncarriedElement = SimpleElement name (type_of primitive) number framing prefix
 component_by name primitive number framing size prefix kind.Sequence = Sequence framing
 component_by name primitive number framing size prefix kind.Choice = Sequence framing
 component_by name primitive number framing size prefix (kind.PrefixNumber simple) = Sequence framing

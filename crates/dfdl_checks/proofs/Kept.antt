@@ -4,7 +4,7 @@ use Rattle.std.specs.Option.{option_map_or}
 use Rattle.dfdl_report.specs.declared.cause.SchemaCause.{SchemaCause}
 use Rattle.dfdl_report.specs.declared.cause.SchemaCause.TheVariants as causes
 use Rattle.dfdl_report.specs.declared.place.Place.{Place}
-use Rattle.dfdl_checks.specs.Rules.{breach_of, first_breach, rules, is_unbuilt, property_twice, is_property_missing, is_value_not_carried, is_expression_not_allowed, is_pad_malformed, is_type_not_carried, is_max_length_missing, is_length_kind_not_allowed, is_length_in_characters, is_length_out_of_range, are_orders_apart, is_second_bit_order, is_pad_not_encoded, is_alignment_not_allowed, are_codes_malformed, are_truths_malformed, is_pad_no_character}
+use Rattle.dfdl_checks.specs.Rules.{breach_of, first_breach, rules, is_unbuilt, property_twice, is_property_missing, is_value_not_carried, is_expression_not_allowed, is_literal_malformed, is_type_not_carried, is_max_length_missing, is_length_kind_not_allowed, is_length_in_characters, is_length_out_of_range, is_prefix_type_not_allowed, is_prefix_not_whole, are_orders_apart, is_second_bit_order, is_character_not_encoded, is_alignment_not_allowed, is_pattern_malformed, are_codes_malformed, are_truths_malformed, is_pad_no_character}
 use Rattle.dfdl_checks.specs.Judged.{Judged}
 use Rattle.dfdl_checks.specs.declared.subject.Breach.{Breach}
 
@@ -15,16 +15,19 @@ pub record IsKept (s : Judged) : Type 0 where
   pub given : is_property_missing s ≡ false
   pub carried : is_value_not_carried s ≡ false
   pub allowed : is_expression_not_allowed s ≡ false
-  pub pad_written : is_pad_malformed s ≡ false
+  pub literals : is_literal_malformed s ≡ false
   pub typed : is_type_not_carried s.kind ≡ false
   pub max_length : is_max_length_missing s ≡ false
   pub length_kind : is_length_kind_not_allowed s ≡ false
   pub length_units : is_length_in_characters s ≡ false
   pub length : is_length_out_of_range s ≡ false
+  pub prefix_type : is_prefix_type_not_allowed s ≡ false
+  pub prefix_length : is_prefix_not_whole s ≡ false
   pub orders : are_orders_apart s ≡ false
   pub bit_order : is_second_bit_order s ≡ false
-  pub pad_encoded : is_pad_not_encoded s ≡ false
+  pub encoded : is_character_not_encoded s ≡ false
   pub alignment : is_alignment_not_allowed s ≡ false
+  pub pattern : is_pattern_malformed s ≡ false
   pub codes : are_codes_malformed s ≡ false
   pub truths : are_truths_malformed s ≡ false
   pub pad_single : is_pad_no_character s ≡ false
@@ -44,43 +47,49 @@ itself-kept true place none = grind (arith, none)
 pub keeps-all : (s : Judged) → first_breach rules s ≡ None → IsKept s
 unfolding rules
 keeps-all s none =
-    let a = first-kept causes.OutsideSubset _ _ none in
-    let b = first-kept causes.PropertyTwice _ _ a.1 in
-    let c = first-kept causes.PropertyMissing _ _ b.1 in
-    let d = first-kept causes.PropertyNotCarried _ _ c.1 in
-    let e = first-kept causes.ExpressionNotAllowed _ _ d.1 in
-    let p = first-kept causes.LiteralMalformed _ _ e.1 in
-    let f = first-kept causes.TypeNotCarried _ _ p.1 in
-    let m = first-kept causes.MaxLengthMissing _ _ f.1 in
-    let g = first-kept causes.LengthKind _ _ m.1 in
-    let h = first-kept causes.LengthUnits _ _ g.1 in
-    let i = first-kept causes.ConstantLength _ _ h.1 in
-    let n = first-kept causes.OrdersApart _ _ i.1 in
-    let o = first-kept causes.SecondBitOrder _ _ n.1 in
-    let q = first-kept causes.EncodingNotAllowed _ _ o.1 in
-    let j = first-kept causes.Alignment _ _ q.1 in
-    let k = first-kept causes.SignCodes _ _ j.1 in
-    let l = first-kept causes.BooleanRepresentations _ _ k.1 in
-    let r = first-kept causes.PadCharacter _ _ l.1 in
+    let built_at = first-kept causes.OutsideSubset _ _ none in
+    let once_at = first-kept causes.PropertyTwice _ _ built_at.1 in
+    let given_at = first-kept causes.PropertyMissing _ _ once_at.1 in
+    let carried_at = first-kept causes.PropertyNotCarried _ _ given_at.1 in
+    let allowed_at = first-kept causes.ExpressionNotAllowed _ _ carried_at.1 in
+    let literals_at = first-kept causes.LiteralMalformed _ _ allowed_at.1 in
+    let typed_at = first-kept causes.TypeNotCarried _ _ literals_at.1 in
+    let max_length_at = first-kept causes.MaxLengthMissing _ _ typed_at.1 in
+    let length_kind_at = first-kept causes.LengthKind _ _ max_length_at.1 in
+    let length_units_at = first-kept causes.LengthUnits _ _ length_kind_at.1 in
+    let length_at = first-kept causes.ConstantLength _ _ length_units_at.1 in
+    let prefix_type_at = first-kept causes.PrefixType _ _ length_at.1 in
+    let prefix_length_at = first-kept causes.PrefixLength _ _ prefix_type_at.1 in
+    let orders_at = first-kept causes.OrdersApart _ _ prefix_length_at.1 in
+    let bit_order_at = first-kept causes.SecondBitOrder _ _ orders_at.1 in
+    let encoded_at = first-kept causes.EncodingNotAllowed _ _ bit_order_at.1 in
+    let alignment_at = first-kept causes.Alignment _ _ encoded_at.1 in
+    let pattern_at = first-kept causes.NumberPattern _ _ alignment_at.1 in
+    let codes_at = first-kept causes.SignCodes _ _ pattern_at.1 in
+    let truths_at = first-kept causes.BooleanRepresentations _ _ codes_at.1 in
+    let pad_single_at = first-kept causes.PadCharacter _ _ truths_at.1 in
     record {
-      built = itself-kept _ s.place a.0;
-      once = b.0;
-      given = itself-kept _ s.place c.0;
-      carried = itself-kept _ s.place d.0;
-      allowed = itself-kept _ s.place e.0;
-      pad_written = itself-kept _ s.place p.0;
-      typed = itself-kept _ s.place f.0;
-      max_length = itself-kept _ s.place m.0;
-      length_kind = itself-kept _ s.place g.0;
-      length_units = itself-kept _ s.place h.0;
-      length = itself-kept _ s.place i.0;
-      orders = itself-kept _ s.place n.0;
-      bit_order = itself-kept _ s.place o.0;
-      pad_encoded = itself-kept _ s.place q.0;
-      alignment = itself-kept _ s.place j.0;
-      codes = itself-kept _ s.place k.0;
-      truths = itself-kept _ s.place l.0;
-      pad_single = itself-kept _ s.place r.0;
+      built = itself-kept _ s.place built_at.0;
+      once = once_at.0;
+      given = itself-kept _ s.place given_at.0;
+      carried = itself-kept _ s.place carried_at.0;
+      allowed = itself-kept _ s.place allowed_at.0;
+      literals = itself-kept _ s.place literals_at.0;
+      typed = itself-kept _ s.place typed_at.0;
+      max_length = itself-kept _ s.place max_length_at.0;
+      length_kind = itself-kept _ s.place length_kind_at.0;
+      length_units = itself-kept _ s.place length_units_at.0;
+      length = itself-kept _ s.place length_at.0;
+      prefix_type = itself-kept _ s.place prefix_type_at.0;
+      prefix_length = itself-kept _ s.place prefix_length_at.0;
+      orders = itself-kept _ s.place orders_at.0;
+      bit_order = itself-kept _ s.place bit_order_at.0;
+      encoded = itself-kept _ s.place encoded_at.0;
+      alignment = itself-kept _ s.place alignment_at.0;
+      pattern = itself-kept _ s.place pattern_at.0;
+      codes = itself-kept _ s.place codes_at.0;
+      truths = itself-kept _ s.place truths_at.0;
+      pad_single = itself-kept _ s.place pad_single_at.0;
     }
 
 -- where none of some holds, the second doesn't

@@ -4,7 +4,7 @@ use Rattle.dfdl_forms.specs.declared.order.BitOrder.{BitOrder}
 use Rattle.dfdl_forms.specs.declared.order.BitOrder.TheVariants.{MostFirst, LeastFirst}
 use Rattle.dfdl_scope.specs.Scoping.{Told}
 use Rattle.dfdl_scope.specs.Table.{Row, property_table}
-use Rattle.dfdl_checks.proofs.Binary.{flawless-by, no-other-word}
+use Rattle.dfdl_checks.proofs.Built.{flawless-by, no-other-word}
 use Rattle.dfdl_checks.proofs.Flawless.{HasNoFlaw}
 use Rattle.dfdl_checks.proofs.Kept.{IsKept}
 use Rattle.dfdl_checks.proofs.Primitives.{ordered}

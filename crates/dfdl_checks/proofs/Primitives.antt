@@ -1,5 +1,5 @@
 -- What is known of each component with a primitive.
-use Rattle.std.proofs.Common.{◌≡◌, refl, sym, ap, subst, ◌∙◌, ℕ, List, ◌≤◌, ◌*◌, ◌/◌, ◌%◌, ◌==◌, Option, Some, None, Bool, true, false, if◌then◌else◌, ◌&&◌, nat_le, nat_lt, option_map, codes, IsTrue, arith}
+use Rattle.std.proofs.Common.{◌≡◌, refl, sym, ap, subst, ◌∙◌, ℕ, List, ◌≤◌, ◌*◌, ◌/◌, ◌%◌, ◌==◌, Option, Some, None, Bool, true, false, if◌then◌else◌, ◌&&◌, ◌||◌, nat_le, nat_lt, option_map, codes, IsTrue, arith}
 use Rattle.std.specs.Str.Parse.{digits_value}
 use Rattle.dfdl_forms.specs.Binary.{most_bits, most_places}
 use Rattle.dfdl_forms.specs.Types.{form_of}
@@ -21,11 +21,12 @@ use Rattle.dfdl_terms.specs.Rows.{IsPrimitive, IsTextSize, most_length}
 use Rattle.dfdl_terms.specs.declared.row.Primitive.{Primitive}
 use Rattle.dfdl_terms.specs.declared.row.Primitive.TheVariants.{Integer, Packed, Truth, Octets, Text}
 use Rattle.dfdl_terms.specs.declared.text.OctetForm.{OctetForm}
+use Rattle.dfdl_terms.specs.declared.text.TextContent.{TextContent}
 use Rattle.dfdl_terms.specs.declared.text.TextForm.{TextForm}
 use Rattle.dfdl_terms.specs.declared.text.TextSize.{TextSize}
 use Rattle.dfdl_checks.proofs.BoxBounds.{bits-within, none-some, some-is, units-within}
-use Rattle.dfdl_checks.proofs.Types.{boolean-type, bytes-type, few-bits, represented-else, represented-value, string-type, whole-number}
-use Rattle.dfdl_checks.proofs.Binary.{number-or-truth}
+use Rattle.dfdl_checks.proofs.Types.{boolean-type, bytes-type, few-bits, number-or-truth, of-type, represented-else, represented-value, whole-number}
+use Rattle.dfdl_checks.proofs.Contents.{ArePatternsBounded, IsContentOf, content-bounded, content-is, content-typed}
 use Rattle.dfdl_checks.specs.Booleans.{falsity_told, truth_told}
 use Rattle.dfdl_checks.specs.Boxes.{box_bits, box_unit, box_units, is_in_characters}
 use Rattle.dfdl_checks.specs.Encodings.{encoding_told}
@@ -34,19 +35,19 @@ use Rattle.dfdl_checks.specs.Lengths.{constant_length, size_within}
 use Rattle.dfdl_checks.specs.Numbers.{HasBitOrder, binary_of_type, field_bits, field_nibbles, number_by, number_of_rep, number_of_type, own_size, packed_by, packed_of_type, places_of, places_told, primitive_for, primitive_of, primitive_of_kind, primitive_of_type, primitive_parsed, truth_by, truth_of, type_of}
 use Rattle.dfdl_checks.specs.Orders.{field_order, order_for, orders_of}
 use Rattle.dfdl_checks.specs.Packed.{allowed_codes, codes_for, codes_in, codes_of_text, codes_told, is_strict, nibbles_in, nibbles_within, are_four, rep_of, usual_codes}
-use Rattle.dfdl_checks.specs.Rules.{is_built_type, is_whole_type}
-use Rattle.dfdl_checks.specs.Subjects.{binary_bits, has_point, is_characters, is_octets, is_told, is_truths, told_at}
-use Rattle.dfdl_checks.specs.Texts.{is_replaced, octets_by, octets_of, pad_of, size_in, text_by, text_of, text_size}
+use Rattle.dfdl_checks.specs.BuiltTypes.{is_built_type, is_whole_type}
+use Rattle.dfdl_checks.specs.Subjects.{binary_bits, has_point, is_characters, is_explicit, is_octets, is_prefixed, is_string, is_text, is_text_boolean, is_text_number, is_truths, simple_of, told_at}
+use Rattle.dfdl_checks.specs.Texts.{content_of, is_replaced, octets_by, octets_of, pad_of, size_in, text_by, text_of, text_size}
 use Rattle.dfdl_checks.specs.Values.{is_number}
 use Rattle.dfdl_checks.specs.declared.purpose.Purpose.{Purpose}
 use Rattle.dfdl_checks.specs.declared.purpose.Purpose.TheVariants.{Parsing, Unparsing}
 use Rattle.dfdl_checks.specs.declared.subject.Kind.{Kind}
-use Rattle.dfdl_checks.specs.declared.subject.Kind.TheVariants.{ComplexElement, SimpleElement, UncarriedElement, Sequence, Choice}
+use Rattle.dfdl_checks.specs.declared.subject.Kind.TheVariants.{ComplexElement, SimpleElement, UncarriedElement, Sequence, Choice, PrefixNumber}
 use Rattle.dfdl_checks.specs.Judged.{Judged}
 
 -- the primitive of a component is a binary integer or decimal of its type, by what is told of it
 pub record IsIntegerOf (s : Judged) (form : IntForm) : Type 0 where
-  pub kind : s.kind ≡ SimpleElement form.kind
+  pub kind : simple_of s.kind ≡ Some form.kind
   pub built : is_built_type s.purpose form.kind ≡ true
   pub some : nat_lt 0 (most_bits (form_of form.kind)) ≡ true
   pub plain : s.purpose ≡ Parsing → rep_of s ≡ None
@@ -56,7 +57,7 @@ pub record IsIntegerOf (s : Judged) (form : IntForm) : Type 0 where
 
 -- it is a packed number
 pub record IsPackedOf (s : Judged) (form : PackedForm) : Type 0 where
-  pub kind : s.kind ≡ SimpleElement form.kind
+  pub kind : simple_of s.kind ≡ Some form.kind
   pub parsing : s.purpose ≡ Parsing
   pub rep : rep_of s ≡ Some form.rep
   pub nibbles : field_nibbles s form.rep ≡ Some form.nibbles
@@ -66,23 +67,25 @@ pub record IsPackedOf (s : Judged) (form : PackedForm) : Type 0 where
 
 -- it is a boolean
 pub record IsTruthOf (s : Judged) (form : BitTruthForm) : Type 0 where
-  pub kind : s.kind ≡ SimpleElement types.Boolean
+  pub kind : simple_of s.kind ≡ Some types.Boolean
   pub parsing : s.purpose ≡ Parsing
   pub bits : field_bits s 32 ≡ Some form.bits
   pub bits_by : form.bits_by ≡ field_order s
 
 -- it is the bytes of a box
 pub record IsOctetsOf (s : Judged) (form : OctetForm) : Type 0 where
-  pub kind : s.kind ≡ SimpleElement types.HexBinary
+  pub kind : simple_of s.kind ≡ Some types.HexBinary
   pub parsing : s.purpose ≡ Parsing
   pub bits : box_bits s ≡ Some form.bits
   pub bits_by : form.bits_by ≡ field_order s
 
 -- it is a text
 pub record IsTextOf (s : Judged) (form : TextForm) : Type 0 where
-  pub kind : s.kind ≡ SimpleElement types.String
+  pub simple : Simple
+  pub kind : simple_of s.kind ≡ Some simple
   pub parsing : s.purpose ≡ Parsing
   pub size : text_size s ≡ Some form.size
+  pub content : IsContentOf s simple form.content
 
 -- what is known of the primitive of a component
 abbrev pub IsOf : Judged → Primitive → Type 0
@@ -97,7 +100,7 @@ abbrev IsOfIf : Judged → Option Primitive → Type 0
 IsOfIf s None = Unit {0}
 IsOfIf s (Some p) = IsOf s p
 
-number-of : (s : Judged) (simple : Simple) → s.kind ≡ SimpleElement simple → is_built_type s.purpose simple ≡ true
+number-of : (s : Judged) (simple : Simple) → simple_of s.kind ≡ Some simple → is_built_type s.purpose simple ≡ true
     → nat_lt 0 (most_bits (form_of simple)) ≡ true → (s.purpose ≡ Parsing → rep_of s ≡ None) → IsOfIf s (number_of_type s simple)
 number-of s simple kind built some plain =
     by (field_bits s (most_bits (form_of simple))) (places_of simple (told_at s (codes "binaryDecimalVirtualPoint"))) refl refl
@@ -110,7 +113,7 @@ number-of s simple kind built some plain =
     by None p sized placed = tt
     by (Some b) None sized placed = tt
 
-packed-of : (s : Judged) (simple : Simple) (rep : PackedRep) → s.kind ≡ SimpleElement simple → s.purpose ≡ Parsing → rep_of s ≡ Some rep
+packed-of : (s : Judged) (simple : Simple) (rep : PackedRep) → simple_of s.kind ≡ Some simple → s.purpose ≡ Parsing → rep_of s ≡ Some rep
     → IsOfIf s (packed_of_type s simple rep)
 packed-of s simple rep kind parsing rep_is =
     by (field_nibbles s rep) (codes_for rep (told_at s (codes "binaryPackedSignCodes")))
@@ -126,7 +129,7 @@ packed-of s simple rep kind parsing rep_is =
     by (Some n) None p sized signed placed = tt
     by (Some n) (Some c) None sized signed placed = tt
 
-truth-of : (s : Judged) → s.kind ≡ SimpleElement types.Boolean → s.purpose ≡ Parsing → IsOfIf s (truth_of s)
+truth-of : (s : Judged) → simple_of s.kind ≡ Some types.Boolean → s.purpose ≡ Parsing → IsOfIf s (truth_of s)
 truth-of s kind parsing =
     by (field_bits s 32) (truth_told (told_at s (codes "binaryBooleanTrueRep"))) (falsity_told (told_at s (codes "binaryBooleanFalseRep"))) refl
   where
@@ -137,23 +140,25 @@ truth-of s kind parsing =
     by (Some b) None f sized = tt
     by (Some b) (Some t) None sized = tt
 
-octets-of : (s : Judged) → s.kind ≡ SimpleElement types.HexBinary → s.purpose ≡ Parsing → IsOfIf s (octets_of s)
+octets-of : (s : Judged) → simple_of s.kind ≡ Some types.HexBinary → s.purpose ≡ Parsing → IsOfIf s (octets_of s)
 octets-of s kind parsing = by (box_bits s) refl
   where
     by : (bits : Option ℕ) → box_bits s ≡ bits → IsOfIf s (option_map (octets_by (field_order s)) bits)
     by (Some b) sized = record { kind = kind; parsing = parsing; bits = sized; bits_by = refl }
     by None sized = tt
 
-text-of : (s : Judged) → s.kind ≡ SimpleElement types.String → s.purpose ≡ Parsing → IsOfIf s (text_of s)
-text-of s kind parsing = by (encoding_told (told_at s (codes "encoding"))) (text_size s) refl
+text-of : (s : Judged) (simple : Simple) → simple_of s.kind ≡ Some simple → s.purpose ≡ Parsing → IsOfIf s (text_of s simple)
+text-of s simple kind parsing = by (encoding_told (told_at s (codes "encoding"))) (text_size s) (content_of s simple) refl refl
   where
-    by : (e : Option Encoding) (size : Option TextSize) → text_size s ≡ size
-        → IsOfIf s (text_by e (is_replaced (told_at s (codes "encodingErrorPolicy"))) size (pad_of s))
-    by (Some e) (Some z) sized = record { kind = kind; parsing = parsing; size = sized }
-    by None z sized = tt
-    by (Some e) None sized = tt
+    by : (e : Option Encoding) (size : Option TextSize) (content : Option TextContent) → text_size s ≡ size → content_of s simple ≡ content
+        → IsOfIf s (text_by e (is_replaced (told_at s (codes "encodingErrorPolicy"))) size (pad_of s) content)
+    by (Some e) (Some z) (Some c) sized read =
+        record { simple = simple; kind = kind; parsing = parsing; size = sized; content = content-is s simple c read }
+    by None z c sized read = tt
+    by (Some e) None c sized read = tt
+    by (Some e) (Some z) None sized read = tt
 
-binary-of : (s : Judged) (simple : Simple) → s.purpose ≡ Parsing → s.kind ≡ SimpleElement simple → is_built_type s.purpose simple ≡ true
+binary-of : (s : Judged) (simple : Simple) → s.purpose ≡ Parsing → simple_of s.kind ≡ Some simple → is_built_type s.purpose simple ≡ true
     → nat_lt 0 (binary_bits (form_of simple)) ≡ true → IsOfIf s (binary_of_type s simple)
 binary-of s simple parsing kind built some = by (is_truths (form_of simple)) refl
   where
@@ -163,31 +168,38 @@ binary-of s simple parsing kind built some = by (is_truths (form_of simple)) ref
     by-rep (Some rep) is apart = packed-of s simple rep kind parsing is
 
     by : (b : Bool) → is_truths (form_of simple) ≡ b → IsOfIf s (if b then truth_of s else number_of_rep s simple (rep_of s))
-    by true is = truth-of s (kind ∙ ap SimpleElement (boolean-type simple is)) parsing
+    by true is = truth-of s (kind ∙ ap Some (boolean-type simple is)) parsing
     by false apart = by-rep (rep_of s) refl apart
 
-parsed-of : (s : Judged) (simple : Simple) → s.purpose ≡ Parsing → s.kind ≡ SimpleElement simple → is_built_type s.purpose simple ≡ true
+parsed-of : (s : Judged) (simple : Simple) → s.purpose ≡ Parsing → simple_of s.kind ≡ Some simple → is_built_type s.purpose simple ≡ true
     → IsOfIf s (primitive_parsed s simple)
-parsed-of s simple parsing kind built = by (is_characters (form_of simple)) (is_octets (form_of simple)) refl refl
+parsed-of s simple parsing kind built = by (is_text s) (is_octets (form_of simple)) refl refl
   where
-    by : (a b : Bool) → is_characters (form_of simple) ≡ a → is_octets (form_of simple) ≡ b
-        → IsOfIf s (if a then text_of s else if b then octets_of s else binary_of_type s simple)
-    by true b is other = text-of s (kind ∙ ap SimpleElement (string-type simple is)) parsing
-    by false true no-text is = octets-of s (kind ∙ ap SimpleElement (bytes-type simple is)) parsing
+    no-string : (a b c : Bool) → (a || b || c) ≡ false → a ≡ false
+    no-string a b c h = grind (arith, h)
+
+    no-characters : is_text s ≡ false → is_characters (form_of simple) ≡ false
+    no-characters no-text =
+        sym (of-type s.kind simple kind).string ∙ no-string (is_string s.kind) (is_text_number s) (is_text_boolean s) no-text
+
+    by : (a b : Bool) → is_text s ≡ a → is_octets (form_of simple) ≡ b
+        → IsOfIf s (if a then text_of s simple else if b then octets_of s else binary_of_type s simple)
+    by true b is other = text-of s simple kind parsing
+    by false true no-text is = octets-of s (kind ∙ ap Some (bytes-type simple is)) parsing
     by false false no-text no-bytes =
-        binary-of s simple parsing kind built (represented-value simple (represented-else (form_of simple) no-text no-bytes))
+        binary-of s simple parsing kind built (represented-value simple (represented-else (form_of simple) (no-characters no-text) no-bytes))
 
 -- a purpose is not the other one
 apart : Parsing ≡ Unparsing → ⊥
 apart same = cc
 
-for-of : (s : Judged) (simple : Simple) (purpose : Purpose) → s.purpose ≡ purpose → s.kind ≡ SimpleElement simple → is_built_type s.purpose simple ≡ true
+for-of : (s : Judged) (simple : Simple) (purpose : Purpose) → s.purpose ≡ purpose → simple_of s.kind ≡ Some simple → is_built_type s.purpose simple ≡ true
     → IsOfIf s (primitive_for purpose s simple)
 for-of s simple Parsing is kind built = parsed-of s simple is kind built
 for-of s simple Unparsing is kind built =
     number-of s simple kind built (whole-number simple (sym (ap (λ p. is_built_type p simple) is) ∙ built)) (λ parsing. absurd (apart (sym parsing ∙ is)))
 
-type-of : (s : Judged) (simple : Simple) → s.kind ≡ SimpleElement simple → IsOfIf s (primitive_of_type s simple)
+type-of : (s : Judged) (simple : Simple) → simple_of s.kind ≡ Some simple → IsOfIf s (primitive_of_type s simple)
 type-of s simple kind = by (is_built_type s.purpose simple) refl
   where
     by : (b : Bool) → is_built_type s.purpose simple ≡ b → IsOfIf s (if b then primitive_for s.purpose s simple else None)
@@ -196,10 +208,11 @@ type-of s simple kind = by (is_built_type s.purpose simple) refl
 
 kind-of : (s : Judged) (kind : Kind) → s.kind ≡ kind → IsOfIf s (primitive_of_kind s kind)
 kind-of s ComplexElement at = tt
-kind-of s (SimpleElement simple) at = type-of s simple at
+kind-of s (SimpleElement simple) at = type-of s simple (ap simple_of at)
 kind-of s UncarriedElement at = tt
 kind-of s Sequence at = tt
 kind-of s Choice at = tt
+kind-of s (PrefixNumber simple) at = type-of s simple (ap simple_of at)
 
 -- what is known of the primitive of a component is so
 pub of-component : (s : Judged) (p : Primitive) → primitive_of s ≡ Some p → IsOf s p
@@ -226,7 +239,7 @@ own-within Unparsing most length bits is = absurd (none-some _ is)
 
 -- the size of a field is one that its type has
 field-within : (s : Judged) (most bits : ℕ) → 1 ≤ most → field_bits s most ≡ Some bits → (1 ≤ bits) × (bits ≤ most)
-field-within s most bits some is = by (is_told s (codes "lengthKind") (codes "explicit")) is
+field-within s most bits some is = by (is_explicit s) is
   where
     by : (b : Bool) → (if b then own_size s.purpose most (constant_length s) else Some most) ≡ Some bits → (1 ≤ bits) × (bits ≤ most)
     by true is = own-within s.purpose most (constant_length s) bits is
@@ -272,15 +285,22 @@ whole-within most (Some bits) n sizes is = by (bits % 4 == 0) refl is
     by true whole is = let size = sizes bits refl in quotient bits n most size.0 size.1 (grind (arith, whole)) (some-is _ _ is)
     by false whole is = absurd (none-some _ is)
 
+-- one nibble is a size of each representation
+one-nibble : (rep : PackedRep) (n : ℕ) → 1 ≡ n → (1 ≤ n) × (n ≤ most_nibbles rep)
+one-nibble reps.Packed n is = (omega (arith, is), omega (arith, is))
+one-nibble reps.Bcd n is = (omega (arith, is), omega (arith, is))
+one-nibble reps.Ibm4690 n is = (omega (arith, is), omega (arith, is))
+
 -- the nibbles of a field are as many as one of its representation can have
 nibbles-few : (s : Judged) (rep : PackedRep) (n : ℕ) → field_nibbles s rep ≡ Some n → (1 ≤ n) × (n ≤ most_nibbles rep)
-nibbles-few s rep n is = by (is_told s (codes "lengthKind") (codes "explicit")) is
+nibbles-few s rep n is = by (is_explicit s) (is_prefixed s) is
   where
-    by : (b : Bool) → (if b then nibbles_within rep (constant_length s) else None) ≡ Some n → (1 ≤ n) × (n ≤ most_nibbles rep)
-    by true is =
+    by : (b c : Bool) → (if b then nibbles_within rep (constant_length s) else if c then Some 1 else None) ≡ Some n → (1 ≤ n) × (n ≤ most_nibbles rep)
+    by true c is =
         whole-within (most_nibbles rep) (size_within (4 * most_nibbles rep) (constant_length s)) n
         (λ bits sized. within (4 * most_nibbles rep) (constant_length s) bits sized) is
-    by false is = absurd (none-some _ is)
+    by false true is = one-nibble rep n (some-is _ _ is)
+    by false false is = absurd (none-some _ is)
 
 -- no field has more than 39 nibbles
 few-nibbles : (rep : PackedRep) → most_nibbles rep ≤ 39
@@ -348,8 +368,8 @@ size-few : (are_characters : Bool) (unit n : ℕ) → n ≤ most_length → n * 
 size-few true unit n few bits = few
 size-few false unit n few bits = bits
 
-text-bounded : (s : Judged) (form : TextForm) → IsTextOf s form → IsPrimitive (Text form)
-text-bounded s form of = by (box_units s) refl of.size
+text-sized : (s : Judged) (form : TextForm) → IsTextOf s form → IsTextSize form.size
+text-sized s form of = by (box_units s) refl of.size
   where
     by : (units : Option ℕ) → box_units s ≡ units → option_map (size_in (is_in_characters s) (box_unit s)) units ≡ Some form.size
         → IsTextSize form.size
@@ -358,28 +378,32 @@ text-bounded s form of = by (box_units s) refl of.size
         subst (λ size. IsTextSize size) (some-is _ _ sized) (size-few (is_in_characters s) (box_unit s) n few.0 few.1)
     by None within sized = absurd (none-some _ sized)
 
-pub bounded : (s : Judged) (p : Primitive) → primitive_of s ≡ Some p → IsPrimitive p
-bounded s (Integer form) is = integer-bounded s form (of-component s (Integer form) is)
-bounded s (Packed form) is = packed-bounded s form (of-component s (Packed form) is)
-bounded s (Octets form) is = octets-bounded (of-component s (Octets form) is)
+text-bounded : (s : Judged) (form : TextForm) → ArePatternsBounded → IsTextOf s form → IsPrimitive (Text form)
+text-bounded s form patterns of =
+    record { size = text-sized s form of; content = content-bounded s of.simple form.content patterns of.content }
+
+pub bounded : ArePatternsBounded → (s : Judged) (p : Primitive) → primitive_of s ≡ Some p → IsPrimitive p
+bounded patterns s (Integer form) is = integer-bounded s form (of-component s (Integer form) is)
+bounded patterns s (Packed form) is = packed-bounded s form (of-component s (Packed form) is)
+bounded patterns s (Octets form) is = octets-bounded (of-component s (Octets form) is)
   where
     octets-bounded : IsOctetsOf s form → IsPrimitive (Octets form)
     octets-bounded of = bits-within s form.bits of.bits
-bounded s (Text form) is = text-bounded s form (of-component s (Text form) is)
-bounded s (Truth form) is = truth-bounded (of-component s (Truth form) is)
+bounded patterns s (Text form) is = text-bounded s form patterns (of-component s (Text form) is)
+bounded patterns s (Truth form) is = truth-bounded (of-component s (Truth form) is)
   where
     truth-bounded : IsTruthOf s form → IsPrimitive (Truth form)
     truth-bounded of = field-within s 32 form.bits (omega arith) of.bits
 
--- the component is an element of the primitive's type
-kind-is : (s : Judged) (p : Primitive) → IsOf s p → s.kind ≡ SimpleElement (type_of p)
+-- the component is of the primitive's type
+kind-is : (s : Judged) (p : Primitive) → IsOf s p → simple_of s.kind ≡ Some (type_of p)
 kind-is s (Integer form) of = of.kind
 kind-is s (Packed form) of = of.kind
 kind-is s (Truth form) of = of.kind
 kind-is s (Octets form) of = of.kind
-kind-is s (Text form) of = of.kind
+kind-is s (Text form) of = of.kind ∙ ap Some (content-typed s of.simple form.content of.content)
 
-pub typed : (s : Judged) (p : Primitive) → primitive_of s ≡ Some p → s.kind ≡ SimpleElement (type_of p)
+pub typed : (s : Judged) (p : Primitive) → primitive_of s ≡ Some p → simple_of s.kind ≡ Some (type_of p)
 typed s p is = kind-is s p (of-component s p is)
 
 -- the bits of its fields come in the order of the component's
@@ -395,7 +419,7 @@ ordered s p is = in-order s p (of-component s p is)
 
 -- for unparsing, a field has the size of its type
 whole-field : (s : Judged) (most bits : ℕ) → s.purpose ≡ Unparsing → field_bits s most ≡ Some bits → bits ≡ most
-whole-field s most bits purpose is = by (is_told s (codes "lengthKind") (codes "explicit")) is
+whole-field s most bits purpose is = by (is_explicit s) is
   where
     no-size : own_size s.purpose most (constant_length s) ≡ Some bits → ⊥
     no-size is = none-some bits (sym (ap (λ p. own_size p most (constant_length s)) purpose) ∙ is)

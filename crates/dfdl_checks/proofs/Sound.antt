@@ -1,112 +1,52 @@
--- Simple elements without a breach have primitives.
-use Rattle.std.proofs.Common.{◌≡◌, refl, sym, ap, subst, ◌∙◌, ℕ, List, [], Option, Some, None, Bool, true, false, not, if◌then◌else◌, ◌&&◌, ◌||◌, nat_lt, is_some, codes, IsTrue, IsSome, arith}
+-- Simple elements and types of prefixes without a breach have primitives.
+use Rattle.std.proofs.Common.{◌≡◌, refl, sym, ap, subst, ◌∙◌, ℕ, List, ◌∷◌, [], Option, Some, None, Bool, true, false, not, if◌then◌else◌, ◌&&◌, ◌||◌, nat_lt, is_some, codes, IsTrue, IsSome, arith}
 use Rattle.std.specs.Str.Parse.{digits_value}
-use Rattle.dfdl_forms.specs.Binary.{most_bits}
 use Rattle.dfdl_forms.specs.Types.{form_of}
+use Rattle.dfdl_forms.specs.declared.packed.PackedRep.{PackedRep}
+use Rattle.dfdl_forms.specs.declared.packed.PackedRep.TheVariants as reps
 use Rattle.dfdl_forms.specs.declared.simple.Simple.{Simple}
 use Rattle.dfdl_scope.specs.Expressions.{is_expression, literal}
 use Rattle.dfdl_scope.specs.Scoping.{Told, Value, Absent, Twice}
-use Rattle.dfdl_scope.specs.Table.{row, Range, Else, property_table}
-use Rattle.dfdl_forms.specs.declared.packed.PackedRep.{PackedRep}
-use Rattle.dfdl_forms.specs.declared.packed.PackedRep.TheVariants as reps
-use Rattle.dfdl_checks.proofs.Binary.{IsSound, is-sound, no-flaw, built-at, both}
+use Rattle.dfdl_scope.specs.Table.{Row, row, Range, Else, Missing, Words, property_table}
+use Rattle.dfdl_checks.proofs.Binary.{IsSound, IsSoundBinary, is-sound, is-sound-binary}
+use Rattle.dfdl_checks.proofs.BoxBounds.{none-some, some-is}
+use Rattle.dfdl_checks.proofs.Built.{all-hold, built-at, built-by, either-word, no-flaw, once-at, one-word}
 use Rattle.dfdl_checks.proofs.Flawless.{HasNoFlaw, HasBuilt, value-built}
-use Rattle.dfdl_checks.proofs.Kept.{keeps-all, second-fails}
-use Rattle.dfdl_checks.proofs.SoundBoxes.{as-octets, as-text, number-told}
+use Rattle.dfdl_checks.proofs.Kept.{IsKept}
+use Rattle.dfdl_checks.proofs.Once.{is_twice}
+use Rattle.dfdl_checks.proofs.SoundBoxes.{as-octets, number-told, prefixed-is}
+use Rattle.dfdl_checks.proofs.SoundTexts.{as-text, truth-no-number}
 use Rattle.dfdl_checks.proofs.Told.{rep-of, rep-word}
-use Rattle.dfdl_checks.proofs.Types.{boolean-type, built-element, number-bits, represented-else, truth-bits, whole-apart, whole-represented}
-use Rattle.dfdl_checks.proofs.Once.{is_twice, told-once}
+use Rattle.dfdl_checks.proofs.Types.{number-or-truth, plain-bits, represented-else, represented-value, truth-bits, whole-apart, whole-represented}
 use Rattle.dfdl_checks.specs.Boxes.{is_box_too_long}
+use Rattle.dfdl_checks.specs.BuiltTypes.{is_built_type, is_whole_type}
+use Rattle.dfdl_checks.specs.Judged.{Judged}
 use Rattle.dfdl_checks.specs.Lengths.{constant_length, length_in, unit_bits}
-use Rattle.dfdl_checks.specs.Numbers.{binary_of_type, field_bits, field_nibbles, number_by, number_of_rep, number_of_type, own_size, packed_by, packed_of_type, places_of, places_told, primitive_for, primitive_of, primitive_of_kind, primitive_parsed, truth_by, truth_of}
+use Rattle.dfdl_checks.specs.Numbers.{binary_of_type, field_bits, field_nibbles, number_by, number_of_rep, number_of_type, own_size, packed_by, packed_of_type, places_of, places_told, primitive_for, primitive_of, primitive_of_kind, primitive_of_type, primitive_parsed, truth_by, truth_of}
 use Rattle.dfdl_checks.specs.Orders.{orders_of}
 use Rattle.dfdl_checks.specs.Packed.{codes_for, codes_told, is_strict, nibbles_within, rep_of, rep_told}
-use Rattle.dfdl_checks.specs.Rules.{first_breach, rules, has_falsity, has_later_type, has_size, has_truth, is_built_type, is_delimited_boolean, is_length_by_content, is_size, is_unsized, is_whole_type}
-use Rattle.dfdl_checks.specs.Subjects.{binary_bits, has_point, has_representation, is_binary_boolean, is_binary_number, is_characters, is_choice, is_decimal, is_explicit_binary, is_hex_binary, is_octets, is_packed, is_represented, is_simple, is_string, is_told, is_truths, number_bits, told_at, value_bits}
-use Rattle.dfdl_checks.specs.Table.{EachNumber, EveryValue, applicability_table}
+use Rattle.dfdl_checks.specs.Rules.{are_truth_texts_other, first_breach, rules, has_falsity, has_size, has_truth, is_delimited_boolean, is_length_by_content, is_size, is_text_without_size, is_unsized}
+use Rattle.dfdl_checks.specs.Subjects.{has_point, has_representation, is_binary, is_binary_boolean, is_binary_number, is_boolean, is_explicit, is_explicit_binary, is_octets, is_packed, is_prefixed, is_simple, is_string, is_text, is_text_boolean, is_text_number, is_told, is_truths, is_word, number_bits, simple_of, told_at, value_bits}
+use Rattle.dfdl_checks.specs.Table.{Applicability, EachNumber, EveryValue, applicability_table, applies_by, built_for, word}
 use Rattle.dfdl_checks.specs.Texts.{octets_of, text_of}
 use Rattle.dfdl_checks.specs.Values.{is_value, is_within}
 use Rattle.dfdl_checks.specs.declared.applicability.Bearers.TheVariants as bearers
 use Rattle.dfdl_checks.specs.declared.orders.Orders.{Orders}
 use Rattle.dfdl_checks.specs.declared.purpose.Purpose.{Purpose}
 use Rattle.dfdl_checks.specs.declared.purpose.Purpose.TheVariants.{Parsing, Unparsing}
-use Rattle.dfdl_checks.specs.declared.subject.Kind.TheVariants.{SimpleElement}
-use Rattle.dfdl_checks.specs.Judged.{Judged}
+use Rattle.dfdl_checks.specs.declared.subject.Kind.{Kind}
+use Rattle.dfdl_checks.specs.declared.subject.Kind.TheVariants.{ComplexElement, SimpleElement, UncarriedElement, Sequence, Choice, PrefixNumber}
 
 some-length : (unit : ℕ) (number : Option ℕ) → is_some number ≡ true → is_some (length_in unit number) ≡ true
 some-length unit (Some n) some = refl
 some-length unit None some = grind (arith, some)
 
 -- a value of explicit length has a constant one
-constant : (s : Judged) → IsSound s → is_explicit_binary s ≡ true → is_some (constant_length s) ≡ true
+constant : (s : Judged) → IsKept s → is_explicit_binary s ≡ true → is_some (constant_length s) ≡ true
 unfolding applicability_table property_table
-constant s sound explicit =
+constant s kept explicit =
     some-length (unit_bits (told_at s (codes "lengthUnits"))) _
-    (number-told _ _ (built-at s sound.kept 9 (codes "length") bearers.ExplicitBinaries EachNumber refl explicit _ refl refl))
-
--- its field can have it
-sized : (s : Judged) → IsSound s → is_told s (codes "lengthKind") (codes "explicit") ≡ true → has_size s ≡ true
-sized s sound told =
-    third (is_explicit_binary s) (is_some (constant_length s)) (has_size s) (is_box_too_long s) explicit (constant s sound explicit) sound.kept.length
-  where
-    explicit : is_explicit_binary s ≡ true
-    explicit = both _ _ sound.binary told
-
-    third : (a b c d : Bool) → a ≡ true → b ≡ true → ((a && (b && not c)) || d) ≡ false → c ≡ true
-    third a b c d x y z = grind (arith, x, y, z)
-
--- the field of a value that isn't packed has a size
-some-size : (s : Judged) → IsSound s → (s.purpose ≡ Parsing → rep_of s ≡ None) → is_some (field_bits s (value_bits s.kind)) ≡ true
-some-size s sound plain = by (is_told s (codes "lengthKind") (codes "explicit")) refl
-  where
-    own : (purpose : Purpose) → s.purpose ≡ purpose → is_told s (codes "lengthKind") (codes "explicit") ≡ true
-        → is_some (own_size purpose (value_bits s.kind) (constant_length s)) ≡ true
-    own Parsing is explicit = sym (ap (λ r. is_size r (value_bits s.kind) (constant_length s)) (plain is)) ∙ sized s sound explicit
-    own Unparsing is explicit = let apart : true ≡ false = sym explicit ∙ sound.length.implicit is in grind (arith, apart)
-
-    by : (b : Bool) → is_told s (codes "lengthKind") (codes "explicit") ≡ b
-        → is_some (if b then own_size s.purpose (value_bits s.kind) (constant_length s) else Some (value_bits s.kind)) ≡ true
-    by true explicit = own s.purpose refl explicit
-    by false explicit = refl
-
--- the same by the bits of the type
-size-of : (s : Judged) (most : ℕ) → IsSound s → (s.purpose ≡ Parsing → rep_of s ≡ None) → value_bits s.kind ≡ most → is_some (field_bits s most) ≡ true
-size-of s most sound plain is = subst (λ m. is_some (field_bits s m) ≡ true) is (some-size s sound plain)
-
--- a packed number has a length of its own
-packed-explicit : (s : Judged) (rep : PackedRep) → IsSound s → is_binary_number s ≡ true → rep_of s ≡ Some rep
-    → is_told s (codes "lengthKind") (codes "explicit") ≡ true
-packed-explicit s rep sound number is =
-    own (is_told s (codes "lengthKind") (codes "implicit")) (is_told s (codes "lengthKind") (codes "explicit")) sound.length.kind
-    (sizeless (is_binary_number s) (is_length_by_content s) (is_unsized s.kind) (is_some (rep_of s)) _ (is_delimited_boolean s) number (ap is_some is)
-    sound.kept.length_kind)
-  where
-    own : (a b : Bool) → (a || b) ≡ true → a ≡ false → b ≡ true
-    own a b h k = grind (arith, h, k)
-
-    sizeless : (a b c d e f : Bool) → a ≡ true → d ≡ true → ((a && (b || ((c || d) && e))) || f) ≡ false → e ≡ false
-    sizeless a b c d e f x y z = grind (arith, x, y, z)
-
--- its nibbles are whole
-some-nibbles : (s : Judged) (rep : PackedRep) → IsSound s → is_binary_number s ≡ true → rep_of s ≡ Some rep → is_some (field_nibbles s rep) ≡ true
-some-nibbles s rep sound number is =
-    ap (λ b. is_some (if b then nibbles_within rep (constant_length s) else None)) explicit
-    ∙ (sym (ap (λ r. is_size r (value_bits s.kind) (constant_length s)) is) ∙ sized s sound explicit)
-  where
-    explicit : is_told s (codes "lengthKind") (codes "explicit") ≡ true
-    explicit = packed-explicit s rep sound number is
-
--- its sign codes are some that are allowed
-some-signs : (s : Judged) (rep : PackedRep) → IsSound s → is_binary_number s ≡ true → rep_of s ≡ Some rep
-    → is_some (codes_for rep (told_at s (codes "binaryPackedSignCodes"))) ≡ true
-some-signs s reps.Packed sound number is =
-    second (is_packed s) (is_some (codes_told (told_at s (codes "binaryPackedSignCodes"))))
-    (both _ _ number (rep-word (told_at s (codes "binaryNumberRep")) reps.Packed (rep-of s reps.Packed is).told)) sound.kept.codes
-  where
-    second : (a b : Bool) → a ≡ true → (a && not b) ≡ false → b ≡ true
-    second a b x y = grind (arith, x, y)
-some-signs s reps.Bcd sound number is = refl
-some-signs s reps.Ibm4690 sound number is = refl
+    (number-told _ _ (built-at s kept 9 (codes "length") bearers.ExplicitBinaries EachNumber refl explicit _ refl refl))
 
 -- the value that is told, or nothing
 abbrev written-in : Told → List ℕ
@@ -130,19 +70,18 @@ some-places name Absent none once = refl
 some-places name (Twice place) none once = grind (arith, once)
 
 -- the number has digits behind its point, or none
-places : (s : Judged) (simple : Simple) → IsSound s → is_binary_number s ≡ true → s.kind ≡ SimpleElement simple
-    → is_some (places_of simple (told_at s (codes "binaryDecimalVirtualPoint"))) ≡ true
+places : (s : Judged) (sound : IsSound s) → is_binary_number s ≡ true → is_some (places_of sound.simple (told_at s (codes "binaryDecimalVirtualPoint"))) ≡ true
 unfolding applicability_table property_table
-places s simple sound number is = by (has_point (form_of simple)) refl
+places s sound number = by (has_point (form_of sound.simple)) refl
   where
-    decimal : has_point (form_of simple) ≡ true → is_some (places_told (told_at s (codes "binaryDecimalVirtualPoint"))) ≡ true
+    decimal : has_point (form_of sound.simple) ≡ true → is_some (places_told (told_at s (codes "binaryDecimalVirtualPoint"))) ≡ true
     decimal point =
         some-places (codes "binaryDecimalVirtualPoint") _
-        (no-flaw s sound.kept 37 (codes "binaryDecimalVirtualPoint") bearers.BinaryDecimals EveryValue refl
-        (both _ _ (ap is_decimal is ∙ point) number) _ refl)
-        (told-once s.chain property_table (codes "binaryDecimalVirtualPoint") _ refl sound.kept.once)
+        (no-flaw s sound.kept 56 (codes "binaryDecimalVirtualPoint") bearers.BinaryDecimals EveryValue refl
+        (all-hold _ _ (sound.form.decimal ∙ point) number) _ refl)
+        (once-at s sound.kept (codes "binaryDecimalVirtualPoint") _ refl)
 
-    by : (b : Bool) → has_point (form_of simple) ≡ b
+    by : (b : Bool) → has_point (form_of sound.simple) ≡ b
         → is_some (if b then places_told (told_at s (codes "binaryDecimalVirtualPoint")) else Some 0) ≡ true
     by true point = decimal point
     by false point = refl
@@ -169,109 +108,224 @@ some-truth orders (Some b) None f x y z = grind (arith, y)
 some-truth orders (Some b) (Some t) None x y z = grind (arith, z)
 
 -- a boolean has its numbers
-truths : (s : Judged) → IsSound s → is_binary_boolean s ≡ true → (has_truth s ≡ true) × (has_falsity s ≡ true)
-truths s sound boolean = parts (is_binary_boolean s) (has_truth s) (has_falsity s) boolean sound.kept.truths
+truths : (s : Judged) → IsKept s → is_binary_boolean s ≡ true → (has_truth s ≡ true) × (has_falsity s ≡ true)
+truths s kept boolean = parts (is_binary_boolean s) (has_truth s) (has_falsity s) (are_truth_texts_other s) boolean kept.truths
   where
-    parts : (a b c : Bool) → a ≡ true → (a && not (b && c)) ≡ false → (b ≡ true) × (c ≡ true)
-    parts a b c x y = (grind (arith, x, y), grind (arith, x, y))
+    parts : (a b c d : Bool) → a ≡ true → ((a && not (b && c)) || d) ≡ false → (b ≡ true) × (c ≡ true)
+    parts a b c d x y = (grind (arith, x, y), grind (arith, x, y))
 
--- a simple element without a breach has a primitive: as a boolean
-as-truth : (s : Judged) → IsSound s → is_binary_boolean s ≡ true → (s.purpose ≡ Parsing → rep_of s ≡ None) → value_bits s.kind ≡ 32
-    → is_some (truth_of s) ≡ true
-as-truth s sound boolean plain bits =
-    let numbers = truths s sound boolean in
-    some-truth (orders_of s) _ _ _ (size-of s 32 sound plain bits) numbers.0 numbers.1
+-- no boolean is a number, so it has no packed representation
+no-number : (s : Judged) (sound : IsSound s) → is_truths (form_of sound.simple) ≡ true → rep_of s ≡ None
+no-number s sound truths =
+    ap (λ b. if b && is_told s (codes "representation") (codes "binary") then rep_told (told_at s (codes "binaryNumberRep")) else None)
+    (ap (nat_lt 0) sound.form.number_size ∙ truth-no-number (form_of sound.simple) truths)
 
--- as a number, packed where a packed representation is told
-as-number : (s : Judged) (simple : Simple) → IsSound s → is_binary_number s ≡ true → (s.purpose ≡ Parsing → rep_of s ≡ None) → s.kind ≡ SimpleElement simple
-    → value_bits s.kind ≡ most_bits (form_of simple) → is_some (number_of_type s simple) ≡ true
-as-number s simple sound number plain kind bits =
-    some-number simple (orders_of s) _ _ (size-of s _ sound plain bits) (places s simple sound number kind)
+module _ (s : Judged) (sound : IsSound s) (binary : IsSoundBinary s sound) where
+  -- its field can have it
+  sized : is_explicit s ≡ true → has_size s ≡ true
+  sized told =
+      third (is_explicit_binary s) (is_some (constant_length s)) (has_size s) (is_box_too_long s) explicit (constant s sound.kept explicit)
+      sound.kept.length
+    where
+      explicit : is_explicit_binary s ≡ true
+      explicit = all-hold _ _ binary.is told
 
-as-packed : (s : Judged) (simple : Simple) (rep : PackedRep) → IsSound s → is_binary_number s ≡ true → rep_of s ≡ Some rep → s.kind ≡ SimpleElement simple
-    → is_some (packed_of_type s simple rep) ≡ true
-as-packed s simple rep sound number is kind =
-    some-packed simple rep (orders_of s) (is_strict rep (told_at s (codes "binaryNumberCheckPolicy"))) _ _ _
-    (some-nibbles s rep sound number is) (some-signs s rep sound number is) (places s simple sound number kind)
+      third : (a b c d : Bool) → a ≡ true → b ≡ true → ((a && (b && not c)) || d) ≡ false → c ≡ true
+      third a b c d x y z = grind (arith, x, y, z)
 
-as-rep : (s : Judged) (simple : Simple) (o : Option PackedRep) → IsSound s → is_binary_number s ≡ true → rep_of s ≡ o → s.kind ≡ SimpleElement simple
-    → value_bits s.kind ≡ most_bits (form_of simple) → is_some (number_of_rep s simple o) ≡ true
-as-rep s simple None sound number is kind bits = as-number s simple sound number (λ parsing. is) kind bits
-as-rep s simple (Some rep) sound number is kind bits = as-packed s simple rep sound number is kind
+  -- the field of a value that isn't packed has a size
+  some-size : (s.purpose ≡ Parsing → rep_of s ≡ None) → is_some (field_bits s (value_bits s.kind)) ≡ true
+  some-size plain = by (is_explicit s) refl
+    where
+      own : (purpose : Purpose) → s.purpose ≡ purpose → is_explicit s ≡ true → is_some (own_size purpose (value_bits s.kind) (constant_length s)) ≡ true
+      own Parsing is explicit = sym (ap (λ r. is_size r (value_bits s.kind) (constant_length s)) (plain is)) ∙ sized explicit
+      own Unparsing is explicit = let apart : true ≡ false = sym explicit ∙ binary.length.implicit is in grind (arith, apart)
 
--- what is no binary number has no packed representation
-no-rep : (s : Judged) → is_binary_number s ≡ false → rep_of s ≡ None
-no-rep s is = ap (λ b. if b then rep_told (told_at s (codes "binaryNumberRep")) else None) is
+      by : (b : Bool) → is_explicit s ≡ b
+          → is_some (if b then own_size s.purpose (value_bits s.kind) (constant_length s) else Some (value_bits s.kind)) ≡ true
+      by true explicit = own s.purpose refl explicit
+      by false explicit = refl
 
--- no boolean is a number
-no-number : (s : Judged) (simple : Simple) → s.kind ≡ SimpleElement simple → is_truths (form_of simple) ≡ true → is_binary_number s ≡ false
-no-number s simple kind is =
-    ap (λ k. nat_lt 0 (number_bits k) && is_told s (codes "representation") (codes "binary")) (kind ∙ ap SimpleElement (boolean-type simple is))
+  -- the same by the bits of the type
+  size-of : (most : ℕ) → (s.purpose ≡ Parsing → rep_of s ≡ None) → value_bits s.kind ≡ most
+      → is_some (field_bits s most) ≡ true
+  size-of most plain is = subst (λ m. is_some (field_bits s m) ≡ true) is (some-size plain)
 
--- whether it is a boolean or a number, it has one
-by-truths : (s : Judged) (simple : Simple) → IsSound s → s.kind ≡ SimpleElement simple → (is_truths (form_of simple) ≡ true → is_binary_boolean s ≡ true)
-    → (is_truths (form_of simple) ≡ false → is_binary_number s ≡ true) → is_some (binary_of_type s simple) ≡ true
-by-truths s simple sound kind boolean number = by (is_truths (form_of simple)) refl
+  -- the nibbles of a packed number are whole, where it has a length of its own, and where it hasn't it has a prefix
+  some-nibbles : (rep : PackedRep) → is_binary_number s ≡ true → rep_of s ≡ Some rep → is_some (field_nibbles s rep) ≡ true
+  some-nibbles rep number is = by (is_explicit s) refl
+    where
+      sizeless : (a b c d e f g : Bool) → a ≡ true → d ≡ true → ((a && (b || ((c || d) && e))) || f || g) ≡ false → e ≡ false
+      sizeless a b c d e f g x y z = grind (arith, x, y, z)
+
+      no-implicit : is_told s (codes "lengthKind") (codes "implicit") ≡ false
+      no-implicit =
+          sizeless (is_binary_number s) (is_length_by_content s) (is_unsized s.kind) (is_some (rep_of s)) _ (is_delimited_boolean s) (is_text_without_size s) number
+          (ap is_some is) sound.kept.length_kind
+
+      last : (a b c : Bool) → (a || b || c) ≡ true → a ≡ false → b ≡ false → c ≡ true
+      last a b c x y z = grind (arith, x, y, z)
+
+      prefixed : is_explicit s ≡ false → is_prefixed s ≡ true
+      prefixed other =
+          prefixed-is s sound.form.simple
+          ∙ last (is_told s (codes "lengthKind") (codes "implicit")) (is_explicit s) (is_told s (codes "lengthKind") (codes "prefixed")) binary.length.kind no-implicit
+          other
+
+      by : (b : Bool) → is_explicit s ≡ b
+          → is_some (if b then nibbles_within rep (constant_length s) else if is_prefixed s then Some 1 else None) ≡ true
+      by true explicit = sym (ap (λ r. is_size r (value_bits s.kind) (constant_length s)) is) ∙ sized explicit
+      by false other = ap (λ p. is_some {T = ℕ} (if p then Some 1 else None)) (prefixed other)
+
+  -- its sign codes are some that are allowed
+  some-signs : (rep : PackedRep) → is_binary_number s ≡ true → rep_of s ≡ Some rep
+      → is_some (codes_for rep (told_at s (codes "binaryPackedSignCodes"))) ≡ true
+  some-signs reps.Packed number is =
+      second (is_packed s) (is_some (codes_told (told_at s (codes "binaryPackedSignCodes"))))
+      (all-hold _ _ number (rep-word (told_at s (codes "binaryNumberRep")) reps.Packed (rep-of s reps.Packed is).told)) sound.kept.codes
+    where
+      second : (a b : Bool) → a ≡ true → (a && not b) ≡ false → b ≡ true
+      second a b x y = grind (arith, x, y)
+  some-signs reps.Bcd number is = refl
+  some-signs reps.Ibm4690 number is = refl
+
+  -- a binary value without a breach has a primitive: as a boolean
+  as-truth : is_binary_boolean s ≡ true → (s.purpose ≡ Parsing → rep_of s ≡ None) → value_bits s.kind ≡ 32
+      → is_some (truth_of s) ≡ true
+  as-truth boolean plain bits =
+      let numbers = truths s sound.kept boolean in
+      some-truth (orders_of s) _ _ _ (size-of 32 plain bits) numbers.0 numbers.1
+
+  -- as a number, packed where a packed representation is told
+  as-number : is_binary_number s ≡ true → (s.purpose ≡ Parsing → rep_of s ≡ None)
+      → is_truths (form_of sound.simple) ≡ false → is_some (number_of_type s sound.simple) ≡ true
+  as-number number plain apart =
+      some-number sound.simple (orders_of s) _ _
+      (size-of _ plain (sound.form.value_size ∙ plain-bits (form_of sound.simple) apart)) (places s sound number)
+
+  as-packed : (rep : PackedRep) → is_binary_number s ≡ true → rep_of s ≡ Some rep
+      → is_some (packed_of_type s sound.simple rep) ≡ true
+  as-packed rep number is =
+      some-packed sound.simple rep (orders_of s) (is_strict rep (told_at s (codes "binaryNumberCheckPolicy"))) _ _ _
+      (some-nibbles rep number is) (some-signs rep number is) (places s sound number)
+
+  as-rep : (o : Option PackedRep) → is_binary_number s ≡ true → rep_of s ≡ o
+      → is_truths (form_of sound.simple) ≡ false → is_some (number_of_rep s sound.simple o) ≡ true
+  as-rep None number is apart = as-number number (λ parsing. is) apart
+  as-rep (Some rep) number is apart = as-packed rep number is
+
+  -- whether it is a boolean or a number, it has one
+  in-binary : is_some (binary_of_type s sound.simple) ≡ true
+  in-binary = by (is_truths (form_of sound.simple)) refl
+    where
+      by : (b : Bool) → is_truths (form_of sound.simple) ≡ b
+          → is_some (if b then truth_of s else number_of_rep s sound.simple (rep_of s)) ≡ true
+      by true is =
+          as-truth (binary.truths is) (λ parsing. no-number s sound is)
+          (sound.form.value_size ∙ truth-bits (form_of sound.simple) is)
+      by false is = as-rep (rep_of s) (binary.number is) refl is
+
+-- the representations that are built
+abbrev representations : Applicability
+representations = applies_by (codes "representation") bearers.RepresentedElements EveryValue (word (codes "binary"))
+
+abbrev representation_row : Row
+representation_row = row (codes "representation") (Words (codes "text" ∷ codes "binary" ∷ [])) Missing
+
+-- what has a representation, and for parsing is no text, is binary
+told-binary : (purpose : Purpose) (t : Told) → HasBuilt representation_row (built_for purpose representations) t
+    → (purpose ≡ Parsing → is_word (codes "text") t ≡ false) → is_word (codes "binary") t ≡ true
+told-binary Parsing t has no-text =
+    second (is_word (codes "text") t) (is_word (codes "binary") t) (no-text refl) (either-word (codes "text") (codes "binary") (codes "representation") t has)
   where
-    bits : value_bits s.kind ≡ binary_bits (form_of simple)
-    bits = ap value_bits kind
+    second : (a b : Bool) → a ≡ false → (a || b) ≡ true → b ≡ true
+    second a b x y = grind (arith, x, y)
+told-binary Unparsing t has no-text = one-word (codes "binary") representation_row t has
 
-    by : (b : Bool) → is_truths (form_of simple) ≡ b → is_some (if b then truth_of s else number_of_rep s simple (rep_of s)) ≡ true
-    by true is =
-        as-truth s sound (boolean is) (λ parsing. no-rep s (no-number s simple kind is)) (bits ∙ truth-bits (form_of simple) is)
-    by false is = as-rep s simple (rep_of s) sound (number is) refl kind (bits ∙ number-bits (form_of simple) is)
+-- what has a representation and is no text has none of texts
+no-text-told : (s : Judged) (sound : IsSound s) → has_representation (form_of sound.simple) ≡ true → is_text s ≡ false
+    → is_told s (codes "representation") (codes "text") ≡ false
+no-text-told s sound represented no-text =
+    neither (is_string s.kind) (nat_lt 0 (number_bits s.kind)) (is_boolean s.kind) (is_told s (codes "representation") (codes "text")) valued no-text
+  where
+    neither : (a b c t : Bool) → (b || c) ≡ true → (a || (b && t) || (c && t)) ≡ false → t ≡ false
+    neither a b c t x y = grind (arith, x, y)
 
--- two elements of one kind have one type
-type-is : (a b : Simple) → SimpleElement a ≡ SimpleElement b → a ≡ b
-type-is a b same = cc
+    first : (a b : Bool) → a ≡ true → (a || b) ≡ true
+    first a b x = grind (arith, x)
 
--- a simple element with a representation has one in binary
-in-binary : (s : Judged) (simple : Simple) → first_breach rules s ≡ None → s.kind ≡ SimpleElement simple → has_representation (form_of simple) ≡ true
-    → is_some (binary_of_type s simple) ≡ true
-in-binary s simple none kind represented =
-    let sound = is-sound s none (ap is_represented kind ∙ represented) in
-    let same : sound.element.simple ≡ simple = type-is _ _ (sym sound.element.kind_is ∙ kind) in
-    by-truths s simple sound kind (λ is. sound.truths (ap (λ t. is_truths (form_of t)) same ∙ is))
-    (λ is. sound.number (ap (λ t. is_truths (form_of t)) same ∙ is))
+    second : (a b : Bool) → b ≡ true → (a || b) ≡ true
+    second a b x = grind (arith, x)
+
+    by : (b : Bool) → is_truths (form_of sound.simple) ≡ b → (nat_lt 0 (number_bits s.kind) || is_boolean s.kind) ≡ true
+    by true truths = second (nat_lt 0 (number_bits s.kind)) _ (sound.form.boolean ∙ truths)
+    by false apart =
+        first _ (is_boolean s.kind)
+        (ap (nat_lt 0) sound.form.number_size ∙ number-or-truth (form_of sound.simple) (represented-value sound.simple represented) apart)
+
+    valued : (nat_lt 0 (number_bits s.kind) || is_boolean s.kind) ≡ true
+    valued = by (is_truths (form_of sound.simple)) refl
+
+as-binary : (s : Judged) (sound : IsSound s) → has_representation (form_of sound.simple) ≡ true → (s.purpose ≡ Parsing → is_text s ≡ false)
+    → is_binary s ≡ true
+unfolding applicability_table property_table
+as-binary s sound represented no-text =
+    all-hold _ _ (ap (nat_lt 0) sound.form.value_size ∙ represented-value sound.simple represented)
+    (told-binary s.purpose (told_at s (codes "representation"))
+    (built-by s sound.kept 0 representations refl (sound.form.represented ∙ represented) representation_row refl refl)
+    (λ parsing. no-text-told s sound represented (no-text parsing)))
 
 -- a simple element without a breach has one for parsing: as text, as bytes or in binary
-parsed : (s : Judged) (simple : Simple) → first_breach rules s ≡ None → s.kind ≡ SimpleElement simple → is_some (primitive_parsed s simple) ≡ true
-parsed s simple none kind = by (is_characters (form_of simple)) (is_octets (form_of simple)) refl refl
+parsed : (s : Judged) (sound : IsSound s) → is_some (primitive_parsed s sound.simple) ≡ true
+parsed s sound = by (is_text s) (is_octets (form_of sound.simple)) refl refl
   where
-    second : (a b : Bool) → b ≡ true → (a || b) ≡ true
-    second a b h = grind (arith, h)
+    no-string : (a b c : Bool) → (a || b || c) ≡ false → a ≡ false
+    no-string a b c h = grind (arith, h)
 
-    by : (a b : Bool) → is_characters (form_of simple) ≡ a → is_octets (form_of simple) ≡ b
-        → is_some (if a then text_of s else if b then octets_of s else binary_of_type s simple) ≡ true
-    by true b is other = as-text s (keeps-all s none) (ap is_string kind ∙ is)
-    by false true no-text is = as-octets s (keeps-all s none) (second (is_string s.kind) (is_hex_binary s.kind) (ap is_hex_binary kind ∙ is))
-    by false false no-text no-bytes = in-binary s simple none kind (represented-else (form_of simple) no-text no-bytes)
+    represented : is_text s ≡ false → is_octets (form_of sound.simple) ≡ false → has_representation (form_of sound.simple) ≡ true
+    represented no-text no-bytes =
+        represented-else (form_of sound.simple)
+        (sym sound.form.string ∙ no-string (is_string s.kind) (is_text_number s) (is_text_boolean s) no-text) no-bytes
+
+    by : (a b : Bool) → is_text s ≡ a → is_octets (form_of sound.simple) ≡ b
+        → is_some (if a then text_of s sound.simple else if b then octets_of s else binary_of_type s sound.simple) ≡ true
+    by true b text other = as-text s sound text
+    by false true no-text bytes = as-octets s sound (sound.form.bytes ∙ bytes)
+    by false false no-text no-bytes =
+        in-binary s sound (is-sound-binary s sound (as-binary s sound (represented no-text no-bytes) (λ parsing. no-text)))
 
 -- for unparsing as a whole number
-unparsed : (s : Judged) (simple : Simple) → first_breach rules s ≡ None → s.purpose ≡ Unparsing → s.kind ≡ SimpleElement simple → is_whole_type simple ≡ true
-    → is_some (number_of_type s simple) ≡ true
-unparsed s simple none purpose kind whole =
-    let sound = is-sound s none (ap is_represented kind ∙ whole-represented simple whole) in
-    let same : sound.element.simple ≡ simple = type-is _ _ (sym sound.element.kind_is ∙ kind) in
-    as-number s simple sound (sound.number (ap (λ t. is_truths (form_of t)) same ∙ apart)) (λ parsing. absurd (other (sym parsing ∙ purpose))) kind
-    (ap value_bits kind ∙ number-bits (form_of simple) apart)
+unparsed : (s : Judged) (sound : IsSound s) → s.purpose ≡ Unparsing → is_whole_type sound.simple ≡ true → is_some (number_of_type s sound.simple) ≡ true
+unparsed s sound purpose whole =
+    let binary = is-sound-binary s sound (as-binary s sound (whole-represented sound.simple whole) (λ parsing. absurd (other parsing))) in
+    as-number s sound binary (binary.number apart) (λ parsing. absurd (other parsing)) apart
   where
-    apart : is_truths (form_of simple) ≡ false
-    apart = whole-apart simple whole
+    apart : is_truths (form_of sound.simple) ≡ false
+    apart = whole-apart sound.simple whole
 
-    other : Parsing ≡ Unparsing → ⊥
-    other same = cc
+    differ : Parsing ≡ Unparsing → ⊥
+    differ same = cc
 
-by-purpose : (s : Judged) (simple : Simple) (purpose : Purpose) → first_breach rules s ≡ None → s.purpose ≡ purpose → s.kind ≡ SimpleElement simple
-    → is_built_type s.purpose simple ≡ true → is_some (primitive_for purpose s simple) ≡ true
-by-purpose s simple Parsing none is kind built = parsed s simple none kind
-by-purpose s simple Unparsing none is kind built = unparsed s simple none is kind (sym (ap (λ p. is_built_type p simple) is) ∙ built)
+    other : s.purpose ≡ Parsing → ⊥
+    other parsing = differ (sym parsing ∙ purpose)
 
--- a simple element without a breach has a primitive
+by-purpose : (s : Judged) (sound : IsSound s) (purpose : Purpose) → s.purpose ≡ purpose → is_some (primitive_for purpose s sound.simple) ≡ true
+by-purpose s sound Parsing is = parsed s sound
+by-purpose s sound Unparsing is = unparsed s sound is (sym (ap (λ p. is_built_type p sound.simple) is) ∙ sound.built)
+
+-- a component of a type has the primitive of that type
+of-kind : (s : Judged) (kind : Kind) (simple : Simple) → simple_of kind ≡ Some simple → is_some (primitive_of_type s simple) ≡ true
+    → is_some (primitive_of_kind s kind) ≡ true
+of-kind s ComplexElement simple is some = absurd (none-some _ is)
+of-kind s (SimpleElement t) simple is some = subst (λ t. is_some (primitive_of_type s t) ≡ true) (sym (some-is t simple is)) some
+of-kind s UncarriedElement simple is some = absurd (none-some _ is)
+of-kind s Sequence simple is some = absurd (none-some _ is)
+of-kind s Choice simple is some = absurd (none-some _ is)
+of-kind s (PrefixNumber t) simple is some = subst (λ t. is_some (primitive_of_type s t) ≡ true) (sym (some-is t simple is)) some
+
+-- a simple element, or the type of a prefix, without a breach has a primitive
 pub has-primitive : (s : Judged) → first_breach rules s ≡ None → IsTrue (is_simple s.kind) → IsSome (primitive_of s)
 has-primitive s none is =
-    let kept = keeps-all s none in
-    let element = built-element s.purpose s.kind (second-fails (is_choice s.kind) (has_later_type s.purpose s.kind) _ _ _ kept.built) kept.typed is in
-    ap (λ k. is_some (primitive_of_kind s k)) element.kind_is
-    ∙ (ap (λ b. is_some (if b then primitive_for s.purpose s element.simple else None)) element.built
-    ∙ by-purpose s element.simple s.purpose none refl element.kind_is element.built)
+    let sound = is-sound s none is in
+    of-kind s s.kind sound.simple sound.kind
+    (ap (λ b. is_some (if b then primitive_for s.purpose s sound.simple else None)) sound.built ∙ by-purpose s sound s.purpose refl)

@@ -10,16 +10,18 @@ use Rattle.dfdl_scope.specs.Expressions.{literal}
 use Rattle.dfdl_scope.specs.Scoping.{Told}
 use Rattle.dfdl_scope.specs.Table.{Row, row, Words, Missing, property_table}
 use Rattle.dfdl_terms.specs.declared.row.Primitive.TheVariants as primitives
-use Rattle.dfdl_checks.proofs.Binary.{IsSound, is-sound, both, built-at, built-by, either-word, one-word}
+use Rattle.dfdl_checks.proofs.Binary.{IsSound, IsSoundBinary, binary-simple, is-sound, is-sound-binary}
+use Rattle.dfdl_checks.proofs.Built.{all-hold, built-at, built-by, either-word, one-word}
 use Rattle.dfdl_checks.proofs.Flawless.{HasBuilt, among-words}
 use Rattle.dfdl_checks.proofs.BoxBounds.{none-some, some-is}
 use Rattle.dfdl_checks.proofs.Ordered.{in-bit-order}
 use Rattle.dfdl_checks.proofs.Primitives.{IsIntegerOf, IsPackedOf, of-component}
+use Rattle.dfdl_checks.proofs.Types.{of-type}
 use Rattle.dfdl_checks.specs.Numbers.{IsBinaryValue, primitive_of}
 use Rattle.dfdl_checks.specs.Orders.{is_least_first}
 use Rattle.dfdl_checks.specs.Packed.{rep_of, rep_told, rep_word}
 use Rattle.dfdl_checks.specs.Rules.{first_breach, rules}
-use Rattle.dfdl_checks.specs.Subjects.{is_binary_number, is_represented, is_told, is_word, number_bits, told_at, value_bits}
+use Rattle.dfdl_checks.specs.Subjects.{is_binary, is_binary_number, is_told, is_word, told_at, value_bits}
 use Rattle.dfdl_checks.specs.Table.{Applicability, applies_by, built_for, EveryValue, word, applicability_table}
 use Rattle.dfdl_checks.specs.declared.applicability.Bearers.TheVariants as bearers
 use Rattle.dfdl_checks.specs.declared.purpose.Purpose.{Purpose}
@@ -88,25 +90,30 @@ binary-word : (purpose : Purpose) (t : Told) → HasBuilt rep_row (built_for pur
 binary-word Parsing t has none = first-word t has (no-rep t (none refl))
 binary-word Unparsing t has none = one-word (codes "binary") rep_row t has
 
--- the properties of a simple element with a representation and without a breach are those of a binary number or boolean
-pub are-values : (s : Judged) → first_breach rules s ≡ None → IsTrue (is_represented s.kind) → IsBinaryValue s
+-- the properties of a binary number or boolean without a breach are those of one
+pub are-values : (s : Judged) → first_breach rules s ≡ None → IsTrue (is_binary s) → IsBinaryValue s
 unfolding applicability_table property_table
-are-values s none represented = record {
-  representation = sound.representation;
+are-values s none is = record {
   number = number;
   packed = packed;
-  length_kind = sound.length.kind;
+  length_kind = binary.length.kind;
   bits_by = in-bit-order s sound.kept;
   bytes_by = λ wide.
       either-word (codes "bigEndian") (codes "littleEndian") (codes "byteOrder") _
       (built-at s sound.kept 3 (codes "byteOrder") bearers.OrderedBinaries EveryValue refl
-      (both _ _ sound.binary (first-holds _ (is_least_first s) (lt-ltb 8 (value_bits s.kind) wide))) _ refl refl);
+      (all-hold _ _ is (first-holds _ (is_least_first s) (lt-ltb 8 (value_bits s.kind) wide))) _ refl refl);
   orders = λ number least.
       third (is_binary_number s) (is_least_first s) (is_told s (codes "byteOrder") (codes "littleEndian")) number least sound.kept.orders;
 }
   where
+    first : (a b : Bool) → (a && b) ≡ true → a ≡ true
+    first a b h = grind (arith, h)
+
     sound : IsSound s
-    sound = is-sound s none represented
+    sound = is-sound s none (binary-simple s.kind (first (nat_lt 0 (value_bits s.kind)) (is_told s (codes "representation") (codes "binary")) is))
+
+    binary : IsSoundBinary s sound
+    binary = is-sound-binary s sound is
 
     first-holds : (a b : Bool) → a ≡ true → (a || b) ≡ true
     first-holds a b is = grind (arith, is)
@@ -115,14 +122,14 @@ are-values s none represented = record {
     third a b c x y kept = grind (arith, x, y, kept)
 
     is-number : (form : IntForm) → IsIntegerOf s form → is_binary_number s ≡ true
-    is-number form of = both _ _ (ap (λ k. nat_lt 0 (number_bits k)) of.kind ∙ of.some) sound.representation
+    is-number form of = all-hold _ _ (ap (nat_lt 0) (of-type s.kind form.kind of.kind).number_size ∙ of.some) binary.representation
 
     number : (form : IntForm) → primitive_of s ≡ Some (primitives.Integer form) → IsTrue (is_told s (codes "binaryNumberRep") (codes "binary"))
     number form is = as-integer (of-component s (primitives.Integer form) is)
       where
         as-integer : IsIntegerOf s form → is_told s (codes "binaryNumberRep") (codes "binary") ≡ true
         as-integer of =
-            binary-word s.purpose (told_at s (codes "binaryNumberRep")) (built-by s sound.kept 34 reps refl (is-number form of) rep_row refl refl)
+            binary-word s.purpose (told_at s (codes "binaryNumberRep")) (built-by s sound.kept 53 reps refl (is-number form of) rep_row refl refl)
             (λ parsing. none-told s (is-number form of) (of.plain parsing))
 
     packed : (form : PackedForm) → primitive_of s ≡ Some (primitives.Packed form) → IsTrue (is_told s (codes "binaryNumberRep") (rep_word form.rep))

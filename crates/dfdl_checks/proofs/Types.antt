@@ -1,16 +1,17 @@
 -- The types of numbers that are built.
-use Rattle.std.proofs.Common.{◌≡◌, refl, ◌≤◌, Bool, true, false, not, nat_lt, IsTrue, arith}
+use Rattle.std.proofs.Common.{◌≡◌, refl, subst, ◌≤◌, Bool, true, false, not, nat_lt, Some, None, IsTrue, arith}
 use Rattle.dfdl_forms.specs.Binary.{most_bits}
 use Rattle.dfdl_forms.specs.Types.{form_of}
 use Rattle.dfdl_forms.specs.declared.simple.Form.{Form}
 use Rattle.dfdl_forms.specs.declared.simple.Form.TheVariants as forms
 use Rattle.dfdl_forms.specs.declared.simple.Simple.{Simple}
 use Rattle.dfdl_forms.specs.declared.simple.Simple.TheVariants as types
-use Rattle.dfdl_checks.specs.Rules.{is_built_type, is_whole_type, has_later_type, is_type_not_carried}
-use Rattle.dfdl_checks.specs.Subjects.{binary_bits, is_characters, is_octets, is_simple, is_represented, is_truths, has_representation}
+use Rattle.dfdl_checks.specs.BuiltTypes.{is_built_type, is_whole_type}
+use Rattle.dfdl_checks.specs.Rules.{has_later_type, is_type_not_carried}
+use Rattle.dfdl_checks.specs.Subjects.{binary_bits, has_point, has_representation, is_boolean, is_characters, is_decimal, is_hex_binary, is_octets, is_represented, is_simple, is_string, is_truths, number_bits, simple_of, value_bits}
 use Rattle.dfdl_checks.specs.declared.purpose.Purpose.{Purpose}
 use Rattle.dfdl_checks.specs.declared.subject.Kind.{Kind}
-use Rattle.dfdl_checks.specs.declared.subject.Kind.TheVariants.{ComplexElement, SimpleElement, UncarriedElement, Sequence, Choice}
+use Rattle.dfdl_checks.specs.declared.subject.Kind.TheVariants.{ComplexElement, SimpleElement, UncarriedElement, Sequence, Choice, PrefixNumber}
 
 -- a value with a representation has a binary form
 pub represented-value : (simple : Simple) → has_representation (form_of simple) ≡ true → nat_lt 0 (binary_bits (form_of simple)) ≡ true
@@ -82,13 +83,13 @@ bytes-type types.Int is = grind (arith, is)
 bytes-type types.Long is = grind (arith, is)
 
 -- what has a binary form and isn't true or false is a number, of as many bits
-pub number-bits : (form : Form) → is_truths form ≡ false → binary_bits form ≡ most_bits form
-number-bits (forms.Signed bits) apart = refl
-number-bits (forms.Unsigned bits) apart = refl
-number-bits forms.Fixed apart = refl
-number-bits forms.Characters apart = refl
-number-bits forms.Truths apart = grind (arith, apart)
-number-bits forms.Octets apart = refl
+pub plain-bits : (form : Form) → is_truths form ≡ false → binary_bits form ≡ most_bits form
+plain-bits (forms.Signed bits) apart = refl
+plain-bits (forms.Unsigned bits) apart = refl
+plain-bits forms.Fixed apart = refl
+plain-bits forms.Characters apart = refl
+plain-bits forms.Truths apart = grind (arith, apart)
+plain-bits forms.Octets apart = refl
 
 -- true and false have 32 bits
 pub truth-bits : (form : Form) → is_truths form ≡ true → binary_bits form ≡ 32
@@ -144,14 +145,6 @@ whole-represented types.String whole = grind (arith, whole)
 whole-represented types.HexBinary whole = grind (arith, whole)
 whole-represented _ whole = refl
 
--- a simple element with a representation is one of a simple type
-pub represented-simple : (kind : Kind) → is_represented kind ≡ true → is_simple kind ≡ true
-represented-simple ComplexElement is = grind (arith, is)
-represented-simple (SimpleElement simple) is = refl
-represented-simple UncarriedElement is = refl
-represented-simple Sequence is = grind (arith, is)
-represented-simple Choice is = grind (arith, is)
-
 -- no type has more than 128 bits
 pub few-bits : (simple : Simple) → most_bits (form_of simple) ≤ 128
 few-bits types.UnsignedByte = omega arith
@@ -169,19 +162,87 @@ few-bits types.Short = omega arith
 few-bits types.Int = omega arith
 few-bits types.Long = omega arith
 
--- a simple element that is neither of a later type nor of one that is not carried is of a type that is built
-pub record IsBuiltElement (purpose : Purpose) (kind : Kind) : Type 0 where
+-- a form with a binary value is one of numbers or that of true and false
+pub number-or-truth : (form : Form) → nat_lt 0 (binary_bits form) ≡ true → is_truths form ≡ false → nat_lt 0 (most_bits form) ≡ true
+number-or-truth (forms.Signed bits) some apart = some
+number-or-truth (forms.Unsigned bits) some apart = some
+number-or-truth forms.Fixed some apart = refl
+number-or-truth forms.Characters some apart = grind (arith, some)
+number-or-truth forms.Truths some apart = grind (arith, apart)
+number-or-truth forms.Octets some apart = grind (arith, some)
+
+-- what a component of a kind is, by the form of its type's values
+pub record IsOfForm (kind : Kind) (form : Form) : Type 0 where
+  pub simple : is_simple kind ≡ true
+  pub string : is_string kind ≡ is_characters form
+  pub bytes : is_hex_binary kind ≡ is_octets form
+  pub boolean : is_boolean kind ≡ is_truths form
+  pub decimal : is_decimal kind ≡ has_point form
+  pub represented : is_represented kind ≡ has_representation form
+  pub number_size : number_bits kind ≡ most_bits form
+  pub value_size : value_bits kind ≡ binary_bits form
+
+none-simple : {A : Type 0} (simple : Simple) → None ≡ Some simple → A
+none-simple simple is = absurd (cc)
+
+-- an element of a type is of the form of its values
+element-form : (t : Simple) → IsOfForm (SimpleElement t) (form_of t)
+element-form t = record {
+  simple = refl;
+  string = refl;
+  bytes = refl;
+  boolean = refl;
+  decimal = refl;
+  represented = refl;
+  number_size = refl;
+  value_size = refl;
+}
+
+-- so is the type of a prefix
+prefix-form : (t : Simple) → IsOfForm (PrefixNumber t) (form_of t)
+prefix-form t = record {
+  simple = refl;
+  string = refl;
+  bytes = refl;
+  boolean = refl;
+  decimal = refl;
+  represented = refl;
+  number_size = refl;
+  value_size = refl;
+}
+
+same-form : (kind : Kind) (a b : Simple) → IsOfForm kind (form_of a) → Some a ≡ Some b → IsOfForm kind (form_of b)
+same-form kind a b of is = subst (λ t. IsOfForm kind (form_of t)) same of
+  where
+    same : a ≡ b
+    same = cc
+
+-- a component of a type is of the form of its values
+pub of-type : (kind : Kind) (simple : Simple) → simple_of kind ≡ Some simple → IsOfForm kind (form_of simple)
+of-type ComplexElement simple is = none-simple simple is
+of-type (SimpleElement t) simple is = same-form (SimpleElement t) t simple (element-form t) is
+of-type UncarriedElement simple is = none-simple simple is
+of-type Sequence simple is = none-simple simple is
+of-type Choice simple is = none-simple simple is
+of-type (PrefixNumber t) simple is = same-form (PrefixNumber t) t simple (prefix-form t) is
+
+-- what is not built later is built
+turned : (b : Bool) → not b ≡ false → b ≡ true
+turned b kept = grind (arith, kept)
+
+-- a component that is neither of a later type nor of one that is not carried is of a type that is built
+pub record IsBuilt (purpose : Purpose) (kind : Kind) : Type 0 where
   pub simple : Simple
-  pub kind_is : kind ≡ SimpleElement simple
+  pub kind_is : simple_of kind ≡ Some simple
   pub built : is_built_type purpose simple ≡ true
 
-pub built-element : (purpose : Purpose) (kind : Kind) → has_later_type purpose kind ≡ false → is_type_not_carried kind ≡ false → IsTrue (is_simple kind)
-    → IsBuiltElement purpose kind
-built-element purpose ComplexElement later typed is = grind (arith, is)
-built-element purpose (SimpleElement simple) later typed is = record { simple = simple; kind_is = refl; built = turned (is_built_type purpose simple) later }
-  where
-    turned : (b : Bool) → not b ≡ false → b ≡ true
-    turned b kept = grind (arith, kept)
-built-element purpose UncarriedElement later typed is = grind (arith, typed)
-built-element purpose Sequence later typed is = grind (arith, is)
-built-element purpose Choice later typed is = grind (arith, is)
+pub built-type : (purpose : Purpose) (kind : Kind) → has_later_type purpose kind ≡ false → is_type_not_carried kind ≡ false → IsTrue (is_simple kind)
+    → IsBuilt purpose kind
+built-type purpose ComplexElement later typed is = grind (arith, is)
+built-type purpose (SimpleElement simple) later typed is =
+    record { simple = simple; kind_is = refl; built = turned (is_built_type purpose simple) later }
+built-type purpose UncarriedElement later typed is = grind (arith, typed)
+built-type purpose Sequence later typed is = grind (arith, is)
+built-type purpose Choice later typed is = grind (arith, is)
+built-type purpose (PrefixNumber simple) later typed is =
+    record { simple = simple; kind_is = refl; built = turned (is_built_type purpose simple) later }

@@ -70,17 +70,19 @@ abbrev pub is_octets : Form → Bool
 is_octets Octets = true
 is_octets _ = false
 
--- an element of type string
+-- a simple element, or the type of a prefix, of type string
 abbrev pub is_string : Kind → Bool
 is_string (SimpleElement simple) = is_characters (form_of simple)
+is_string (PrefixNumber simple) = is_characters (form_of simple)
 is_string _ = false
 
--- an element of type hexBinary
+-- the same of type hexBinary
 abbrev pub is_hex_binary : Kind → Bool
 is_hex_binary (SimpleElement simple) = is_octets (form_of simple)
+is_hex_binary (PrefixNumber simple) = is_octets (form_of simple)
 is_hex_binary _ = false
 
--- an element of type string or hexBinary
+-- the same of type string or hexBinary
 abbrev pub is_string_or_bytes : Kind → Bool
 is_string_or_bytes kind = is_string kind || is_hex_binary kind
 
@@ -111,9 +113,10 @@ abbrev pub is_truths : Form → Bool
 is_truths Truths = true
 is_truths _ = false
 
--- an element of type boolean
+-- a simple element, or the type of a prefix, of type boolean
 abbrev pub is_boolean : Kind → Bool
 is_boolean (SimpleElement simple) = is_truths (form_of simple)
+is_boolean (PrefixNumber simple) = is_truths (form_of simple)
 is_boolean _ = false
 
 -- how many bits a value of this form has at most in binary: that of a number, and 32 for true and false; 0 for every other form
@@ -132,9 +135,10 @@ abbrev pub has_point : Form → Bool
 has_point Fixed = true
 has_point _ = false
 
--- an element of type decimal
+-- a simple element, or the type of a prefix, of type decimal
 abbrev pub is_decimal : Kind → Bool
 is_decimal (SimpleElement simple) = has_point (form_of simple)
+is_decimal (PrefixNumber simple) = has_point (form_of simple)
 is_decimal _ = false
 
 -- what is told of a property at a component

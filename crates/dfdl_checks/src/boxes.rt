@@ -1,4 +1,4 @@
-// The boxes of strings, of elements of type hexBinary and of complex elements.
+// The boxes of texts, of elements of type hexBinary and of complex elements.
 ghost use Rattle.std.specs.Prelude.{◌≡◌, ◌≤◌, ◌*◌, Some, IfSome, is_some, codes};
 ghost use Rattle.dfdl_terms.specs.Rows.{most_length};
 ghost use Rattle.dfdl_checks.specs.Boxes as boxes;
@@ -6,11 +6,11 @@ ghost use Rattle.dfdl_checks.specs.JudgedShown.{judged_of};
 ghost use Rattle.dfdl_checks.specs.Lengths as lengths;
 ghost use Rattle.dfdl_scope.specs.Told.{told_by};
 
-use crate::applying::is_word;
 use crate::encodings::{character_bits, encoding_told};
-use crate::kinds::{is_boxed, is_complex, is_string, is_string_or_bytes};
+use crate::kinds::{is_complex, is_string, is_string_or_bytes};
 use crate::lengths::unit_bits;
 use crate::purpose::Purpose;
+use crate::representations::{is_boxed, is_explicit, is_prefixed, is_text, is_word};
 use crate::subject::Subject;
 use crate::values::is_number;
 use dfdl_scope::{Asked, literal, property};
@@ -45,14 +45,14 @@ fn parsed_size(subject: &Subject<'_, '_, '_>) -> Option<u64>
 fn is_explicit_complex(subject: &Subject<'_, '_, '_>) -> bool
     ensures { result ≡ boxes.is_explicit_complex (judged_of subject.now) }
 {
-    is_complex(subject.kind) && is_word(subject.chain, "lengthKind", "explicit")
+    is_complex(subject.kind) && is_explicit(subject)
 }
 
 /// Whether it is an element with a box and a length of its own.
 pub(crate) fn is_explicit_box(subject: &Subject<'_, '_, '_>) -> bool
     ensures { result ≡ boxes.is_explicit_box (judged_of subject.now) }
 {
-    is_boxed(subject.kind) && is_word(subject.chain, "lengthKind", "explicit")
+    is_boxed(subject) && is_explicit(subject)
 }
 
 /// Whether it is a string, or an element of type hexBinary, with the length of its type.
@@ -73,7 +73,7 @@ pub(crate) fn is_implicit_string(subject: &Subject<'_, '_, '_>) -> bool
 pub(crate) fn is_in_characters(subject: &Subject<'_, '_, '_>) -> bool
     ensures { result ≡ boxes.is_in_characters (judged_of subject.now) }
 {
-    is_string(subject.kind) && is_word(subject.chain, "lengthUnits", "characters")
+    is_text(subject) && is_word(subject.chain, "lengthUnits", "characters")
 }
 
 /// Whether a component has a box by a length of its own or that of its type, and the box is past the
@@ -91,15 +91,17 @@ fn is_past_most(subject: &Subject<'_, '_, '_>) -> bool
     has_number(subject) && box_units(subject).is_none()
 }
 
-/// Whether a number of units is told.
+/// Whether a number of units is told, or a prefix tells one.
 fn has_number(subject: &Subject<'_, '_, '_>) -> bool
     ensures { result ≡ is_some (boxes.box_number (judged_of subject.now)) }
 {
-    if is_word(subject.chain, "lengthKind", "explicit") {
-        is_number_told(property(subject.chain, "length"))
-    } else {
-        subject.facts.max_length.is_some()
+    if is_explicit(subject) {
+        return is_number_told(property(subject.chain, "length"));
     }
+    if is_prefixed(subject) {
+        return true;
+    }
+    subject.facts.max_length.is_some()
 }
 
 /// Whether a number is told.
@@ -129,8 +131,11 @@ pub(crate) fn box_units(subject: &Subject<'_, '_, '_>) -> Option<u64>
     ensures few { IfSome result (λ n. n * boxes.box_unit (judged_of subject.now) ≤ most_length) }
 {
     let unit = box_unit(subject);
-    if is_word(subject.chain, "lengthKind", "explicit") {
+    if is_explicit(subject) {
         return units_told(unit, property(subject.chain, "length"));
+    }
+    if is_prefixed(subject) {
+        return units_within(unit, 0);
     }
     match subject.facts.max_length {
         Some(number) => units_within(unit, number),
@@ -155,7 +160,7 @@ pub(crate) fn box_unit(subject: &Subject<'_, '_, '_>) -> u32
 fn counts_units(subject: &Subject<'_, '_, '_>) -> bool
     ensures { result ≡ boxes.counts_units (judged_of subject.now) }
 {
-    is_string(subject.kind) || is_word(subject.chain, "lengthKind", "explicit")
+    is_text(subject) || is_explicit(subject)
 }
 
 /// How many bits a unit of the units has that are told.

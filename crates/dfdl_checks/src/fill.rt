@@ -6,9 +6,9 @@ ghost use Rattle.dfdl_scope.specs.Scoping.{told};
 ghost use Rattle.dfdl_scope.specs.Shown.{chain_of};
 ghost use Rattle.dfdl_scope.specs.Told.{told_by};
 
-use crate::applying::{is_binary, is_word};
 use crate::packed::rep_of;
 use crate::purpose::Purpose;
+use crate::representations::{is_binary, is_word};
 use crate::subject::{Kind, Subject};
 use crate::values::number_within;
 use dfdl_forms::Simple;

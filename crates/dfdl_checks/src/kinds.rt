@@ -13,16 +13,26 @@ pub(crate) fn is_element(kind: Kind) -> bool
 {
     match kind {
         Kind::ComplexElement | Kind::SimpleElement(_) | Kind::UncarriedElement => true,
-        Kind::Sequence | Kind::Choice => false,
+        Kind::Sequence | Kind::Choice | Kind::PrefixNumber(_) => false,
     }
 }
 
-/// Whether it is an element of a simple type.
+/// Whether it is the type of a length prefix.
+pub(crate) fn is_prefix_number(kind: Kind) -> bool
+    ensures { result ≡ subjects.is_prefix_number kind }
+{
+    match kind {
+        Kind::PrefixNumber(_) => true,
+        _ => false,
+    }
+}
+
+/// Whether it is an element of a simple type, or the type of a prefix.
 pub(crate) fn is_simple(kind: Kind) -> bool
     ensures { result ≡ subjects.is_simple kind }
 {
     match kind {
-        Kind::SimpleElement(_) | Kind::UncarriedElement => true,
+        Kind::SimpleElement(_) | Kind::UncarriedElement | Kind::PrefixNumber(_) => true,
         Kind::ComplexElement | Kind::Sequence | Kind::Choice => false,
     }
 }
@@ -57,6 +67,13 @@ pub(crate) fn is_choice(kind: Kind) -> bool
     }
 }
 
+/// Whether it is a sequence or a choice.
+pub(crate) fn is_group(kind: Kind) -> bool
+    ensures { result ≡ subjects.is_group kind }
+{
+    is_sequence(kind) || is_choice(kind)
+}
+
 /// Whether values of a type are texts.
 pub(crate) fn is_characters(simple: Simple) -> bool
     ensures { result ≡ subjects.is_characters (form_of simple) }
@@ -82,17 +99,17 @@ pub(crate) fn is_string(kind: Kind) -> bool
     ensures { result ≡ subjects.is_string kind }
 {
     match kind {
-        Kind::SimpleElement(simple) => is_characters(simple),
+        Kind::SimpleElement(simple) | Kind::PrefixNumber(simple) => is_characters(simple),
         _ => false,
     }
 }
 
 /// Whether it is an element of type hexBinary.
-fn is_hex_binary(kind: Kind) -> bool
+pub(crate) fn is_hex_binary(kind: Kind) -> bool
     ensures { result ≡ subjects.is_hex_binary kind }
 {
     match kind {
-        Kind::SimpleElement(simple) => is_octets(simple),
+        Kind::SimpleElement(simple) | Kind::PrefixNumber(simple) => is_octets(simple),
         _ => false,
     }
 }
@@ -104,19 +121,14 @@ pub(crate) fn is_string_or_bytes(kind: Kind) -> bool
     is_string(kind) || is_hex_binary(kind)
 }
 
-/// Whether it is an element whose content stands in a box.
-pub(crate) fn is_boxed(kind: Kind) -> bool
-    ensures { result ≡ subjects.is_boxed kind }
-{
-    is_string_or_bytes(kind) || is_complex(kind)
-}
-
-/// Whether it is a simple element that has a representation.
+/// Whether it is a simple element, or the type of a prefix, that has a representation.
 pub(crate) fn is_represented(kind: Kind) -> bool
     ensures { result ≡ subjects.is_represented kind }
 {
     match kind {
-        Kind::SimpleElement(simple) => has_representation(simple.form()),
+        Kind::SimpleElement(simple) | Kind::PrefixNumber(simple) => {
+            has_representation(simple.form())
+        }
         Kind::UncarriedElement => true,
         _ => false,
     }
@@ -137,7 +149,7 @@ pub(crate) fn is_boolean(kind: Kind) -> bool
     ensures { result ≡ subjects.is_boolean kind }
 {
     match kind {
-        Kind::SimpleElement(simple) => is_truths(simple),
+        Kind::SimpleElement(simple) | Kind::PrefixNumber(simple) => is_truths(simple),
         _ => false,
     }
 }
@@ -157,7 +169,7 @@ pub(crate) fn is_decimal(kind: Kind) -> bool
     ensures { result ≡ subjects.is_decimal kind }
 {
     match kind {
-        Kind::SimpleElement(simple) => has_point(simple),
+        Kind::SimpleElement(simple) | Kind::PrefixNumber(simple) => has_point(simple),
         _ => false,
     }
 }
@@ -177,7 +189,7 @@ pub(crate) fn number_bits(kind: Kind) -> u32
     ensures { result ≡ subjects.number_bits kind }
 {
     match kind {
-        Kind::SimpleElement(simple) => most_bits(simple),
+        Kind::SimpleElement(simple) | Kind::PrefixNumber(simple) => most_bits(simple),
         _ => 0,
     }
 }
@@ -198,7 +210,7 @@ pub(crate) fn value_bits(kind: Kind) -> u32
     ensures { result ≡ subjects.value_bits kind }
 {
     match kind {
-        Kind::SimpleElement(simple) => binary_bits(simple),
+        Kind::SimpleElement(simple) | Kind::PrefixNumber(simple) => binary_bits(simple),
         _ => 0,
     }
 }

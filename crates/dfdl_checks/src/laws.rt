@@ -20,6 +20,8 @@ ghost use Rattle.dfdl_checks.specs.declared.prefixes.PrefixForm.{PrefixForm};
 ghost use Rattle.dfdl_checks.specs.declared.purpose.Purpose.TheVariants.{Parsing, Unparsing};
 ghost use Rattle.dfdl_checks.specs.declared.subject.Kind.TheVariants.{ComplexElement};
 
+use dfdl_number_pattern::laws::texts_spell_one_pattern;
+
 /// A simple element without a breach has a primitive, and so has the type of a prefix. The properties of a binary number or
 /// boolean are those of one, and those of a text or of bytes are theirs.
 pub fn sound_elements_have_primitives()
@@ -45,7 +47,9 @@ pub fn sound_elements_have_prefixes()
 pub fn primitives_are_bounded()
     ensures bounded { (j : Judged) (p : Primitive) → primitive_of j ≡ Some p → IsPrimitive p }
     ensures kind { (j : Judged) (p : Primitive) → primitive_of j ≡ Some p → simple_of j.kind ≡ Some (type_of p) }
-{}
+{
+    texts_spell_one_pattern();
+}
 
 /// A length prefix, whether its component breaks rules or not, is read as an integer, by a primitive that keeps its bounds, and
 /// for parsing alone.
@@ -53,7 +57,9 @@ pub fn prefixes_are_bounded()
     ensures bounded { (j : Judged) (f : PrefixForm) → prefix_of j ≡ Some f → IsPrimitive f.primitive }
     ensures integer { (j : Judged) (f : PrefixForm) → prefix_of j ≡ Some f → IsTrue (is_integer (form_of (type_of f.primitive))) }
     ensures parsing { (j : Judged) → j.purpose ≡ Unparsing → prefix_of j ≡ None }
-{}
+{
+    texts_spell_one_pattern();
+}
 
 /// The primitives that are built for unparsing are whole unsigned integers.
 pub fn primitives_for_unparsing_are_whole()

@@ -1,15 +1,21 @@
 // The rules on lengths.
-ghost use Rattle.std.specs.Prelude.{◌≡◌};
+ghost use Rattle.std.specs.Prelude.{◌≡◌, IfOk};
 ghost use Rattle.dfdl_checks.specs.JudgedShown.{judged_of};
 ghost use Rattle.dfdl_checks.specs.Rules as spec;
 
-use crate::applying::{is_binary_boolean, is_binary_number, is_explicit_binary, is_word};
-use crate::boxes::{is_box_too_long, is_explicit_box, is_implicit_box};
-use crate::kinds::{is_string, value_bits};
+use crate::boxes::{is_box_too_long, is_implicit_box};
+use crate::kinds::value_bits;
 use crate::lengths::{constant_size, has_constant_length};
 use crate::packed::{constant_nibbles, rep_of};
+use crate::prefixes::{is_name_told, is_no_prefix_type, is_not_whole, prefix_subject};
+use crate::representations::{
+    is_binary, is_binary_boolean, is_binary_number, is_boxed, is_explicit, is_explicit_binary,
+    is_prefixed, is_text, is_text_boolean, is_text_number, is_word,
+};
 use crate::subject::{Kind, Subject};
 use dfdl_forms::Simple;
+use dfdl_scope::property;
+use std::alloc::{AllocError, Global};
 
 /// Whether it is a string, or an element of type hexBinary, with the length of its type, which has no
 /// greatest length.
@@ -19,11 +25,21 @@ pub(crate) fn is_max_length_missing(subject: &Subject<'_, '_, '_>) -> bool
     is_implicit_box(subject) && subject.facts.max_length.is_none()
 }
 
-/// Whether it is a binary number or boolean with a kind of length that it can't have.
+/// Whether it is a number or boolean with a kind of length that it can't have.
 pub(crate) fn is_length_kind_not_allowed(subject: &Subject<'_, '_, '_>) -> bool
     ensures { result ≡ spec.is_length_kind_not_allowed (judged_of subject.now) }
 {
-    is_number_length_not_allowed(subject) || is_delimited_boolean(subject)
+    is_number_length_not_allowed(subject)
+        || is_delimited_boolean(subject)
+        || is_text_without_size(subject)
+}
+
+/// Whether it is a text number or boolean with the length of its type.
+fn is_text_without_size(subject: &Subject<'_, '_, '_>) -> bool
+    ensures { result ≡ spec.is_text_without_size (judged_of subject.now) }
+{
+    (is_text_number(subject) || is_text_boolean(subject))
+        && is_word(subject.chain, "lengthKind", "implicit")
 }
 
 /// Whether it is a binary number of delimited length, with a length by a pattern, or with the length
@@ -63,22 +79,30 @@ fn is_unsized(kind: Kind) -> bool
 {
     match kind {
         Kind::SimpleElement(Simple::Integer | Simple::NonNegativeInteger | Simple::Decimal) => true,
+        Kind::PrefixNumber(Simple::Integer | Simple::NonNegativeInteger) => true,
         _ => false,
     }
 }
 
-/// Whether it is an element with a length of its own and without characters.
-fn is_explicit_without_characters(subject: &Subject<'_, '_, '_>) -> bool
-    ensures { result ≡ spec.is_explicit_without_characters (judged_of subject.now) }
+/// Whether it has a length of its own or a length prefix.
+fn is_length_told(subject: &Subject<'_, '_, '_>) -> bool
+    ensures { result ≡ spec.is_length_told (judged_of subject.now) }
 {
-    is_explicit_binary(subject) || (is_explicit_box(subject) && !is_string(subject.kind))
+    is_explicit(subject) || is_prefixed(subject)
+}
+
+/// Whether it has such a length and no characters.
+fn is_without_characters(subject: &Subject<'_, '_, '_>) -> bool
+    ensures { result ≡ spec.is_without_characters (judged_of subject.now) }
+{
+    is_length_told(subject) && (is_binary(subject) || (is_boxed(subject) && !is_text(subject)))
 }
 
 /// Whether what is no text has a length that is counted in characters.
 pub(crate) fn is_length_in_characters(subject: &Subject<'_, '_, '_>) -> bool
     ensures { result ≡ spec.is_length_in_characters (judged_of subject.now) }
 {
-    is_explicit_without_characters(subject) && is_word(subject.chain, "lengthUnits", "characters")
+    is_without_characters(subject) && is_word(subject.chain, "lengthUnits", "characters")
 }
 
 /// Whether a constant length is one that the field of a component can't have, or its box.
@@ -109,5 +133,35 @@ fn has_size(subject: &Subject<'_, '_, '_>) -> bool
     match rep_of(subject) {
         Some(rep) => constant_nibbles(rep, subject.chain).is_some(),
         None => constant_size(value_bits(subject.kind), subject.chain).is_some(),
+    }
+}
+
+/// Whether it has a length prefix whose type is named by nothing's name.
+pub(crate) fn is_prefix_type_missing(subject: &Subject<'_, '_, '_>) -> bool
+    ensures { result ≡ spec.is_prefix_type_missing (judged_of subject.now) }
+{
+    is_prefixed(subject)
+        && is_name_told(property(subject.chain, "prefixLengthType"))
+        && subject.prefix.is_none()
+}
+
+/// Whether it has a length prefix whose type is no integer type, or has a length that is neither constant nor of its
+/// type.
+pub(crate) fn is_prefix_type_not_allowed(subject: &Subject<'_, '_, '_>) -> bool
+    ensures { result ≡ spec.is_prefix_type_not_allowed (judged_of subject.now) }
+{
+    is_prefixed(subject) && is_no_prefix_type(subject.prefix)
+}
+
+/// Whether its length prefix counts itself, and is no whole number of the units that it counts.
+pub(crate) fn is_prefix_not_whole(
+    alloc: Global,
+    subject: &Subject<'_, '_, '_>,
+) -> Result<bool, AllocError>
+    ensures { IfOk result (λ broken. broken ≡ spec.is_prefix_not_whole (judged_of subject.now)) }
+{
+    match prefix_subject(subject) {
+        Some(prefix) => is_not_whole(alloc, subject, &prefix),
+        None => Ok(false),
     }
 }

@@ -4,7 +4,7 @@ ghost use Rattle.dfdl_checks.specs.Lengths as lengths;
 ghost use Rattle.dfdl_scope.specs.Scoping.{told};
 ghost use Rattle.dfdl_scope.specs.Shown.{chain_of};
 
-use crate::applying::is_word;
+use crate::representations::is_word;
 use crate::values::is_number;
 use dfdl_scope::{Asked, Component, literal, property};
 

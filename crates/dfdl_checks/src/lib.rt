@@ -1,17 +1,20 @@
 //! What is wrong at one schema component: the rules that the compiler asks of each component by itself, in the order
 //! of their numbers.
 //!
-//! A component comes as a `Subject`: what kind it is, what it states, and the chain that its properties are asked of.
-//! `breach` gives the first rule that it breaks; its contract cites `specs/Rules.antt`, and the table of the properties
-//! that apply to components is `specs/Table.antt`. `primitive` says how the values of a simple element without a breach
-//! lie in the data, by `specs/Numbers.antt` and `specs/Texts.antt`; the characters by which strings are padded and trimmed are
-//! those of `specs/Pads.antt`. `framing` says which fill stands around a component, by `specs/Framing.antt`, and `size_of_box`
-//! how long a complex element's box is, by `specs/Boxes.antt`. The chapters are
-//! 'Property Scoping and DFDL Schema Checking', 'Framing', 'Lengths' and 'Simple Types'.
+//! A component comes as a `Subject`: what kind it is, what it states, the chain that its properties are asked of, and the
+//! type of its length prefix. `breach` gives the first rule that it breaks, and else the first that the type of its prefix
+//! does; its contract cites `specs/Rules.antt`, and the table of the properties that apply to components is
+//! `specs/Table.antt`. `primitive` says how the values of a simple element without a breach lie in the data, by
+//! `specs/Numbers.antt` and `specs/Texts.antt`: text numbers are read by `specs/NumberTexts.antt`, text booleans by
+//! `specs/BooleanTexts.antt`, and the characters by which texts are padded and trimmed are those of `specs/Pads.antt`.
+//! `prefix` says how the length prefix of an element lies in the data, by `specs/Prefixes.antt`. `framing` says which fill
+//! stands around a component, by `specs/Framing.antt`, and `size_of_box` how long a complex element's box is, by
+//! `specs/Boxes.antt`. The chapters are 'Property Scoping and DFDL Schema Checking', 'Framing', 'Lengths' and 'Simple Types'.
 #![tactic(auto)]
 
 mod applicability;
 mod applying;
+mod boolean_texts;
 mod booleans;
 mod boxes;
 mod encodings;
@@ -23,28 +26,38 @@ pub mod laws;
 mod length_rules;
 mod lengths;
 mod number;
+mod number_texts;
 mod orders;
 mod packed;
 mod pads;
+mod prefixes;
 mod purpose;
+mod representations;
 mod rules;
 mod subject;
 mod table;
 mod text;
+mod text_rules;
 mod values;
+mod zoned_texts;
 
 pub use boxes::size_of_box;
 pub use fill::framing;
 pub use number::primitive;
 pub use orders::bit_order;
+pub use prefixes::{PrefixForm, prefix};
 pub use purpose::Purpose;
 pub use rules::breach;
-pub use subject::{Breach, Facts, Kind, Subject};
+pub use subject::{Breach, Facts, Kind, PrefixType, Subject};
 
 #[cfg(test)]
 mod binary_tests;
 #[cfg(test)]
+mod content_tests;
+#[cfg(test)]
 mod order_tests;
+#[cfg(test)]
+mod prefix_tests;
 #[cfg(test)]
 mod tests;
 #[cfg(test)]

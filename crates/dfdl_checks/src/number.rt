@@ -1,18 +1,19 @@
 // How the values of a simple element lie in the data.
-ghost use Rattle.std.specs.Prelude.{◌≡◌, None, IsTrue, IsSome};
+ghost use Rattle.std.specs.Prelude.{◌≡◌, None, IfOk, IsTrue, IsSome};
 ghost use Rattle.dfdl_checks.specs.JudgedShown.{judged_of};
 ghost use Rattle.dfdl_checks.specs.Numbers as numbers;
 ghost use Rattle.dfdl_checks.specs.Rules.{first_breach, rules};
 ghost use Rattle.dfdl_checks.specs.Subjects.{is_simple};
 ghost use Rattle.dfdl_scope.specs.Told.{told_by};
 
-use crate::applying::is_word;
 use crate::booleans::{falsity_told, truth_told};
-use crate::kinds::{has_point, is_characters, is_octets, is_truths, most_bits};
+use crate::kinds::{has_point, is_octets, is_truths, most_bits};
+use crate::laws::sound_elements_have_primitives;
 use crate::lengths::constant_size;
 use crate::orders::{Orders, orders_of};
 use crate::packed::{codes_for, constant_nibbles, is_strict, rep_of};
 use crate::purpose::Purpose;
+use crate::representations::{is_explicit, is_prefixed, is_text};
 use crate::rules::is_built_type;
 use crate::subject::{Kind, Subject};
 use crate::text::{octets_of, text_of};
@@ -20,50 +21,68 @@ use crate::values::is_within;
 use dfdl_forms::{BitTruthForm, IntForm, PackedForm, PackedRep, Simple};
 use dfdl_scope::{Asked, literal, property};
 use dfdl_terms::Primitive;
+use std::alloc::{AllocError, Global};
 
 /// How the values of a component lie in the data, where they are of a type and of a size that are built:
-/// each simple element without a breach has one. Takes no memory.
-pub fn primitive(subject: &Subject<'_, '_, '_>) -> Option<Primitive>
-    ensures form { result ≡ numbers.primitive_of (judged_of subject.now) }
-    ensures sound { first_breach rules (judged_of subject.now) ≡ None → IsTrue (is_simple subject.now.kind) → IsSome result }
+/// each simple element without a breach has one, and so has the type of a prefix.
+pub fn primitive(
+    alloc: Global,
+    subject: &Subject<'_, '_, '_>,
+) -> Result<Option<Primitive>, AllocError>
+    ensures form { IfOk result (λ primitive. primitive ≡ numbers.primitive_of (judged_of subject.now)) }
+    ensures sound { IfOk result (λ primitive. first_breach rules (judged_of subject.now) ≡ None
+        → IsTrue (is_simple subject.now.kind) → IsSome primitive) }
 {
-    of_kind(subject.kind, subject)
+    sound_elements_have_primitives();
+    of_kind(alloc, subject.kind, subject)
 }
 
 /// The same, for a component of a kind.
-fn of_kind(kind: Kind, subject: &Subject<'_, '_, '_>) -> Option<Primitive>
-    ensures { result ≡ numbers.primitive_of_kind (judged_of subject.now) kind }
+fn of_kind(
+    alloc: Global,
+    kind: Kind,
+    subject: &Subject<'_, '_, '_>,
+) -> Result<Option<Primitive>, AllocError>
+    ensures { IfOk result (λ primitive. primitive ≡ numbers.primitive_of_kind (judged_of subject.now) kind) }
 {
     match kind {
-        Kind::SimpleElement(simple) => of_type(simple, subject),
-        _ => None,
+        Kind::SimpleElement(simple) | Kind::PrefixNumber(simple) => of_type(alloc, simple, subject),
+        _ => Ok(None),
     }
 }
 
 /// The values of a component as those of the type, where it is built.
-fn of_type(simple: Simple, subject: &Subject<'_, '_, '_>) -> Option<Primitive>
-    ensures { result ≡ numbers.primitive_of_type (judged_of subject.now) simple }
+fn of_type(
+    alloc: Global,
+    simple: Simple,
+    subject: &Subject<'_, '_, '_>,
+) -> Result<Option<Primitive>, AllocError>
+    ensures { IfOk result (λ primitive. primitive ≡ numbers.primitive_of_type (judged_of subject.now) simple) }
 {
     if !is_built_type(subject.purpose, simple) {
-        return None;
+        return Ok(None);
     }
     match subject.purpose {
-        Purpose::Parsing => for_parsing(simple, subject),
-        Purpose::Unparsing => number_of_type(simple, subject),
+        Purpose::Parsing => for_parsing(alloc, simple, subject),
+        Purpose::Unparsing => Ok(number_of_type(simple, subject)),
     }
 }
 
 /// The values of a component as those of the type, as they are built for parsing.
-fn for_parsing(simple: Simple, subject: &Subject<'_, '_, '_>) -> Option<Primitive>
-    ensures { result ≡ numbers.primitive_parsed (judged_of subject.now) simple }
+fn for_parsing(
+    alloc: Global,
+    simple: Simple,
+    subject: &Subject<'_, '_, '_>,
+) -> Result<Option<Primitive>, AllocError>
+    ensures { IfOk result (λ primitive. primitive ≡ numbers.primitive_parsed (judged_of subject.now) simple) }
 {
-    if is_characters(simple) {
-        return text_of(subject);
+    if is_text(subject) {
+        return text_of(alloc, subject, simple);
     }
     if is_octets(simple) {
-        return octets_of(subject);
+        return Ok(octets_of(subject));
     }
-    binary_of_type(simple, subject)
+    Ok(binary_of_type(simple, subject))
 }
 
 /// The values of a component as those of the type, in binary.
@@ -158,15 +177,17 @@ fn packed_by(
     }
 }
 
-/// How many nibbles the field of a packed number has.
+/// How many nibbles the field of a packed number has; one where a prefix tells them.
 fn field_nibbles(rep: PackedRep, subject: &Subject<'_, '_, '_>) -> Option<u32>
     ensures { result ≡ numbers.field_nibbles (judged_of subject.now) rep }
 {
-    if is_word(subject.chain, "lengthKind", "explicit") {
-        constant_nibbles(rep, subject.chain)
-    } else {
-        None
+    if is_explicit(subject) {
+        return constant_nibbles(rep, subject.chain);
     }
+    if is_prefixed(subject) {
+        return Some(1);
+    }
+    None
 }
 
 /// The values of a component as booleans.
@@ -206,7 +227,7 @@ fn truth_by(
 fn field_bits(subject: &Subject<'_, '_, '_>, most: u32) -> Option<u32>
     ensures { result ≡ numbers.field_bits (judged_of subject.now) most }
 {
-    if !is_word(subject.chain, "lengthKind", "explicit") {
+    if !is_explicit(subject) {
         return Some(most);
     }
     match subject.purpose {

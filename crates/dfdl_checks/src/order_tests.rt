@@ -1,9 +1,9 @@
 // Orders of bits.
-use super::tests::{BOOLEAN, BYTE, INT, PLAIN, SHORT, one, told_below};
+use super::tests::{BOOLEAN, BYTE, INT, PLAIN, SHORT, integer_of, octets_of, one, told_below};
 use super::{Kind, Purpose};
 use dfdl_forms::{BitOrder, ByteOrder, IntForm, Simple};
 use dfdl_scope::Properties;
-use dfdl_terms::{OctetForm, Primitive};
+use dfdl_terms::OctetForm;
 use std::alloc::{AllocError, AllocGlobal, Global};
 use std::process::Abort;
 use std::test::Fail;
@@ -83,21 +83,21 @@ fn fields_have_the_order_that_is_told(rt: HostRuntime) -> Result<(), Fail> {
     let root = BitOrder::LeastFirst;
     let short = told_below(alloc, Purpose::Parsing, SHORT, PLAIN, root, &own)?;
     assert_eq!(rt; short.number, 0);
-    let wanted = Some(Primitive::Integer(IntForm {
+    let wanted = Some(IntForm {
         bits: 12,
         bytes_by: ByteOrder::Little,
         bits_by: BitOrder::LeastFirst,
         point: 0,
         kind: Simple::UnsignedShort,
-    }));
-    assert!(rt; short.primitive == wanted);
+    });
+    assert!(rt; integer_of(&short) == wanted);
     let bytes = Kind::SimpleElement(Simple::HexBinary);
     let octets = told_below(alloc, Purpose::Parsing, bytes, PLAIN, root, &own)?;
     assert_eq!(rt; octets.number, 0);
-    let wanted = Some(Primitive::Octets(OctetForm {
+    let wanted = Some(OctetForm {
         bits: 12,
         bits_by: BitOrder::LeastFirst,
-    }));
-    assert!(rt; octets.primitive == wanted);
+    });
+    assert!(rt; octets_of(&octets) == wanted);
     Ok(())
 }

@@ -5,8 +5,8 @@ ghost use Rattle.dfdl_checks.specs.Orders as orders;
 ghost use Rattle.dfdl_scope.specs.Scoping.{told};
 ghost use Rattle.dfdl_scope.specs.Shown.{chain_of};
 
-use crate::applying::is_word;
 use crate::purpose::Purpose;
+use crate::representations::is_word;
 use crate::subject::Subject;
 use dfdl_forms::{BitOrder, ByteOrder};
 use dfdl_scope::Component;

@@ -8,8 +8,8 @@ ghost use Rattle.dfdl_scope.specs.Scoping.{told};
 ghost use Rattle.dfdl_scope.specs.Shown.{chain_of};
 ghost use Rattle.dfdl_scope.specs.Told.{told_by};
 
-use crate::applying::{is_binary_number, is_word};
 use crate::lengths::constant_size;
+use crate::representations::{is_binary_number, is_word};
 use crate::subject::Subject;
 use dfdl_forms::PackedRep;
 use dfdl_scope::{Asked, Component, literal};

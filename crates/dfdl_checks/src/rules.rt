@@ -1,56 +1,90 @@
 // The rules that a component has to keep.
-ghost use Rattle.std.specs.Prelude.{◌≡◌, Some};
+ghost use Rattle.std.specs.Prelude.{◌≡◌, IfOk, Ok, Some, drop};
+ghost use Rattle.dfdl_checks.specs.BuiltTypes as types;
 ghost use Rattle.dfdl_checks.specs.JudgedShown.{judged_of};
 ghost use Rattle.dfdl_checks.specs.Rules as spec;
 
-use crate::applying::{is_binary_boolean, is_binary_number, is_packed, is_word};
 use crate::booleans::{falsity_told, truth_told};
 use crate::flaw::Flaw;
 use crate::flaws::has_flaw;
 use crate::kinds::{is_choice, is_element, is_simple};
 use crate::length_rules::{
     is_length_in_characters, is_length_kind_not_allowed, is_length_out_of_range,
-    is_max_length_missing,
+    is_max_length_missing, is_prefix_not_whole, is_prefix_type_missing, is_prefix_type_not_allowed,
 };
 use crate::orders::{bit_order, is_least_first, is_same_order};
 use crate::packed::codes_told;
-use crate::pads::{is_pad_malformed, is_pad_no_character, is_pad_not_encoded};
+use crate::prefixes::prefix_subject;
 use crate::purpose::Purpose;
+use crate::representations::{is_binary_boolean, is_binary_number, is_packed, is_word};
 use crate::subject::{Breach, Facts, Kind, Subject};
+use crate::text_rules::{
+    are_separators_unfit, are_truth_texts_other, is_base_unfit, is_character_not_encoded,
+    is_literal_malformed, is_pad_no_character, is_pattern_malformed, is_separator_other,
+};
 use dfdl_forms::Simple;
 use dfdl_report::SchemaCause;
 use dfdl_scope::{first_repeated, property};
+use std::alloc::{AllocError, Global};
 
-/// The first rule that a component breaks, by the numbers of their causes, if it breaks one.
-/// Takes no memory.
+/// The first rule that a component breaks, by the numbers of their causes, if it breaks one; else the first that the
+/// type of its length prefix breaks.
+pub fn breach(alloc: Global, subject: &Subject<'_, '_, '_>) -> Result<Option<Breach>, AllocError>
+    ensures { IfOk result (λ breach. breach ≡ spec.breach_of_component (judged_of subject.now)) }
+{
+    if let Some(breach) = own_breach(alloc, subject)? {
+        return Ok(Some(breach));
+    }
+    prefix_breach(alloc, subject)
+}
+
+/// The first rule that the type of a component's prefix breaks.
+fn prefix_breach(alloc: Global, subject: &Subject<'_, '_, '_>) -> Result<Option<Breach>, AllocError>
+    ensures { IfOk result (λ breach. breach ≡ spec.prefix_breach (judged_of subject.now)) }
+{
+    match prefix_subject(subject) {
+        Some(prefix) => own_breach(alloc, &prefix),
+        None => Ok(None),
+    }
+}
+
+/// The first rule that a component itself breaks.
 #[tactic(auto, unfolding(crate::specs::Rules::rules))]
-pub fn breach(subject: &Subject<'_, '_, '_>) -> Option<Breach>
-    ensures { result ≡ spec.first_breach spec.rules (judged_of subject.now) }
+fn own_breach(alloc: Global, subject: &Subject<'_, '_, '_>) -> Result<Option<Breach>, AllocError>
+    ensures { IfOk result (λ breach. breach ≡ spec.first_breach spec.rules (judged_of subject.now)) }
 {
     if is_unbuilt(subject) {
         return told_here(SchemaCause::OutsideSubset, subject);
     }
     if let Some(place) = first_repeated(subject.chain) {
-        return Some(Breach {
+        return Ok(Some(Breach {
             cause: SchemaCause::PropertyTwice,
             place,
-        });
+        }));
     }
     if has_flaw(Flaw::Missing, subject) {
         return told_here(SchemaCause::PropertyMissing, subject);
     }
-    if has_flaw(Flaw::NotCarried, subject) {
+    if is_value_not_carried(alloc, subject)? {
         return told_here(SchemaCause::PropertyNotCarried, subject);
     }
     if has_flaw(Flaw::Expression, subject) {
         return told_here(SchemaCause::ExpressionNotAllowed, subject);
     }
-    if is_pad_malformed(subject) {
+    if is_literal_malformed(alloc, subject)? {
         return told_here(SchemaCause::LiteralMalformed, subject);
     }
     if is_type_not_carried(subject.kind) {
         return told_here(SchemaCause::TypeNotCarried, subject);
     }
+    length_breach(alloc, subject)
+}
+
+/// The first rule on lengths, or of a greater number, that a component breaks.
+#[tactic(auto, unfolding(crate::specs::Rules::rules))]
+fn length_breach(alloc: Global, subject: &Subject<'_, '_, '_>) -> Result<Option<Breach>, AllocError>
+    ensures { IfOk result (λ breach. breach ≡ spec.first_breach (drop 7 spec.rules) (judged_of subject.now)) }
+{
     if is_max_length_missing(subject) {
         return told_here(SchemaCause::MaxLengthMissing, subject);
     }
@@ -63,38 +97,61 @@ pub fn breach(subject: &Subject<'_, '_, '_>) -> Option<Breach>
     if is_length_out_of_range(subject) {
         return told_here(SchemaCause::ConstantLength, subject);
     }
+    if is_prefix_type_not_allowed(subject) {
+        return told_here(SchemaCause::PrefixType, subject);
+    }
+    if is_prefix_not_whole(alloc, subject)? {
+        return told_here(SchemaCause::PrefixLength, subject);
+    }
+    content_breach(alloc, subject)
+}
+
+/// The first rule behind those on lengths that a component breaks.
+#[tactic(auto, unfolding(crate::specs::Rules::rules))]
+fn content_breach(
+    alloc: Global,
+    subject: &Subject<'_, '_, '_>,
+) -> Result<Option<Breach>, AllocError>
+    ensures { IfOk result (λ breach. breach ≡ spec.first_breach (drop 13 spec.rules) (judged_of subject.now)) }
+{
     if are_orders_apart(subject) {
         return told_here(SchemaCause::OrdersApart, subject);
     }
     if is_second_bit_order(subject) {
         return told_here(SchemaCause::SecondBitOrder, subject);
     }
-    if is_pad_not_encoded(subject) {
+    if is_character_not_encoded(alloc, subject)? {
         return told_here(SchemaCause::EncodingNotAllowed, subject);
     }
     if is_alignment_not_allowed(subject) {
         return told_here(SchemaCause::Alignment, subject);
     }
+    if is_pattern_malformed(alloc, subject)? {
+        return told_here(SchemaCause::NumberPattern, subject);
+    }
     if are_codes_malformed(subject) {
         return told_here(SchemaCause::SignCodes, subject);
     }
-    if are_truths_malformed(subject) {
+    if are_truths_malformed(alloc, subject)? {
         return told_here(SchemaCause::BooleanRepresentations, subject);
     }
     if is_pad_no_character(subject) {
         return told_here(SchemaCause::PadCharacter, subject);
     }
-    None
+    Ok(None)
 }
 
 /// A breach that is told at the component itself.
-fn told_here(cause: SchemaCause, subject: &Subject<'_, '_, '_>) -> Option<Breach>
-    ensures { result ≡ Some (spec.breach_of cause subject.now.place) }
+fn told_here(
+    cause: SchemaCause,
+    subject: &Subject<'_, '_, '_>,
+) -> Result<Option<Breach>, AllocError>
+    ensures { result ≡ Ok (Some (spec.breach_of cause subject.now.place)) }
 {
-    Some(Breach {
+    Ok(Some(Breach {
         cause,
         place: subject.place,
-    })
+    }))
 }
 
 /// Whether the component, or a value of a property that applies to it, is built later.
@@ -115,19 +172,21 @@ fn is_later_component(subject: &Subject<'_, '_, '_>) -> bool
         || (is_element(kind) && is_later_element(subject.facts))
 }
 
-/// Whether it is an element of a simple type that is built later.
+/// Whether it is an element of a simple type, or the type of a prefix, that is built later.
 fn has_later_type(purpose: Purpose, kind: Kind) -> bool
     ensures { result ≡ spec.has_later_type purpose kind }
 {
     match kind {
-        Kind::SimpleElement(simple) => !is_built_type(purpose, simple),
+        Kind::SimpleElement(simple) | Kind::PrefixNumber(simple) => {
+            !is_built_type(purpose, simple)
+        }
         _ => false,
     }
 }
 
 /// Whether elements of a type are built.
 pub(crate) fn is_built_type(purpose: Purpose, simple: Simple) -> bool
-    ensures { result ≡ spec.is_built_type purpose simple }
+    ensures { result ≡ types.is_built_type purpose simple }
 {
     match purpose {
         Purpose::Parsing => true,
@@ -137,7 +196,7 @@ pub(crate) fn is_built_type(purpose: Purpose, simple: Simple) -> bool
 
 /// Whether a type is one of unsigned integers whose values have whole bytes.
 fn is_whole_type(simple: Simple) -> bool
-    ensures { result ≡ spec.is_whole_type simple }
+    ensures { result ≡ types.is_whole_type simple }
 {
     match simple {
         Simple::UnsignedByte | Simple::UnsignedShort | Simple::UnsignedInt | Simple::UnsignedLong =>
@@ -216,8 +275,31 @@ fn has_falsity(subject: &Subject<'_, '_, '_>) -> bool
 }
 
 /// Whether it is a binary boolean with a number that is none of 32 bits.
-fn are_truths_malformed(subject: &Subject<'_, '_, '_>) -> bool
-    ensures { result ≡ spec.are_truths_malformed (judged_of subject.now) }
+fn are_truth_numbers_malformed(subject: &Subject<'_, '_, '_>) -> bool
+    ensures { result ≡ spec.are_truth_numbers_malformed (judged_of subject.now) }
 {
     is_binary_boolean(subject) && !are_truths_told(subject)
+}
+
+/// Whether it is a boolean whose numbers or texts can't stand for true and false.
+fn are_truths_malformed(alloc: Global, subject: &Subject<'_, '_, '_>) -> Result<bool, AllocError>
+    ensures { IfOk result (λ malformed. malformed ≡ spec.are_truths_malformed (judged_of subject.now)) }
+{
+    if are_truth_numbers_malformed(subject) {
+        return Ok(true);
+    }
+    are_truth_texts_other(alloc, subject)
+}
+
+/// Whether a property has a value that is none of the profile, or that doesn't go with the others.
+fn is_value_not_carried(alloc: Global, subject: &Subject<'_, '_, '_>) -> Result<bool, AllocError>
+    ensures { IfOk result (λ refused. refused ≡ spec.is_value_not_carried (judged_of subject.now)) }
+{
+    if has_flaw(Flaw::NotCarried, subject) || is_separator_other(subject) {
+        return Ok(true);
+    }
+    if are_separators_unfit(alloc, subject)? {
+        return Ok(true);
+    }
+    Ok(is_base_unfit(subject) || is_prefix_type_missing(subject))
 }

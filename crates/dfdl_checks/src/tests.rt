@@ -1,9 +1,11 @@
 // The first breach at a component, by its kind, its chain and what it states.
-use super::{Facts, Kind, Purpose, Subject, breach, framing, primitive, size_of_box};
+use super::{
+    Facts, Kind, PrefixForm, Purpose, Subject, breach, framing, prefix, primitive, size_of_box,
+};
 use dfdl_forms::{BitOrder, ByteOrder, IntForm, Simple};
 use dfdl_report::Place;
 use dfdl_scope::{Component, Element, Format, Properties};
-use dfdl_terms::{Framing, Primitive};
+use dfdl_terms::{Framing, OctetForm, Primitive};
 use std::alloc::{AllocError, AllocGlobal, Global};
 use std::process::Abort;
 use std::test::Fail;
@@ -84,7 +86,7 @@ const TYPES: [Judged; 11] = [
     ),
     (BOOLEAN, "alignment", "1", 7),
     (BOOLEAN, "byteOrder", "bigEndian", 0),
-    (BOOLEAN, "representation", "text", 3),
+    (BOOLEAN, "representation", "text", 7),
     (Kind::ComplexElement, "alignment", "implicit", 24),
     (Kind::SimpleElement(Simple::String), "alignment", "1", 7),
     (BYTE, "fillByte", "x", 3),
@@ -137,7 +139,7 @@ const LENGTHS: [Judged; 26] = [
 ];
 
 /// A place in the first document.
-fn at(byte: u64) -> Place {
+pub(crate) fn at(byte: u64) -> Place {
     Place {
         document: 0,
         at: byte,
@@ -179,13 +181,30 @@ pub(crate) fn explicit(
 }
 
 /// What is told of a component: the number of its first breach, 0 where there is none, how its values lie
-/// in the data, the fill around its content, and the bits of its box.
+/// in the data, the fill around its content, the bits of its box, and its prefix.
 #[derive(Drop)]
 pub(crate) struct Told {
     pub(crate) number: u8,
     pub(crate) primitive: Option<Primitive>,
     pub(crate) framing: Framing,
     pub(crate) size: Option<u64>,
+    pub(crate) prefix: Option<PrefixForm>,
+}
+
+/// The form of bytes that is told of.
+pub(crate) fn octets_of(told: &Told) -> Option<OctetForm> {
+    match &told.primitive {
+        Some(Primitive::Octets(form)) => Some(*form),
+        _ => None,
+    }
+}
+
+/// The binary integer or decimal that is told of.
+pub(crate) fn integer_of(told: &Told) -> Option<IntForm> {
+    match &told.primitive {
+        Some(Primitive::Integer(form)) => Some(*form),
+        _ => None,
+    }
 }
 
 /// What is told of a component with properties of its own, over those of integers.
@@ -227,23 +246,32 @@ pub(crate) fn told_below(
         format: Some(&format),
         default: Some(&nothing),
     })?;
-    let subject = Subject {
-        purpose,
-        kind,
-        place: at(40),
-        chain: &chain,
-        facts,
-        root_bits_by,
-    };
-    let number = match breach(&subject) {
+    told_at(
+        alloc,
+        &Subject {
+            purpose,
+            kind,
+            place: at(40),
+            chain: &chain,
+            facts,
+            root_bits_by,
+            prefix: None,
+        },
+    )
+}
+
+/// What is told of a component.
+pub(crate) fn told_at(alloc: Global, subject: &Subject<'_, '_, '_>) -> Result<Told, AllocError> {
+    let number = match breach(alloc, subject)? {
         Some(breach) => breach.cause.number(),
         None => 0,
     };
     Ok(Told {
         number,
-        primitive: primitive(&subject),
-        framing: framing(&subject),
-        size: size_of_box(&subject),
+        primitive: primitive(alloc, subject)?,
+        framing: framing(subject),
+        size: size_of_box(subject),
+        prefix: prefix(alloc, subject)?,
     })
 }
 
@@ -324,28 +352,30 @@ fn a_property_given_twice_is_told_where_it_is_given_first(rt: HostRuntime) -> Re
         format: Some(&nothing),
         default: Some(&nothing),
     })?;
-    let told = breach(&Subject {
+    let subject = Subject {
         purpose: Purpose::Unparsing,
         kind: SHORT,
         place: at(40),
         chain: &chain,
         facts: PLAIN,
         root_bits_by: BitOrder::MostFirst,
-    });
+        prefix: None,
+    };
+    let told = breach(alloc, &subject)?;
     assert!(rt; told.map(|breach| breach.cause.number()) == Some(6));
     assert!(rt; told.map(|breach| breach.place) == Some(at(8)));
     Ok(())
 }
 
 /// A number whose most significant bits come first.
-fn number_of(kind: Simple, bits: u32, bytes_by: ByteOrder, point: u8) -> Option<Primitive> {
-    Some(Primitive::Integer(IntForm {
+fn number_of(kind: Simple, bits: u32, bytes_by: ByteOrder, point: u8) -> Option<IntForm> {
+    Some(IntForm {
         bits,
         bytes_by,
         bits_by: BitOrder::MostFirst,
         point,
         kind,
-    }))
+    })
 }
 
 #[test]
@@ -354,9 +384,9 @@ fn an_integer_lies_as_its_properties_say(rt: HostRuntime) -> Result<(), Fail> {
     let own = one(alloc, "byteOrder", "littleEndian")?;
     let wanted = number_of(Simple::UnsignedShort, 16, ByteOrder::Little, 0);
     let parsed = told_of(alloc, Purpose::Parsing, SHORT, &own)?;
-    assert!(rt; parsed.primitive == wanted);
+    assert!(rt; integer_of(&parsed) == wanted);
     let unparsed = told_of(alloc, Purpose::Unparsing, SHORT, &own)?;
-    assert!(rt; unparsed.primitive == wanted);
+    assert!(rt; integer_of(&unparsed) == wanted);
     Ok(())
 }
 
@@ -367,7 +397,7 @@ fn a_decimal_has_the_length_and_the_point_that_it_is_given(rt: HostRuntime) -> R
     own.add("binaryDecimalVirtualPoint", "2")?;
     let wanted = number_of(Simple::Decimal, 24, ByteOrder::Big, 2);
     let parsed = told_of(alloc, Purpose::Parsing, DECIMAL, &own)?;
-    assert!(rt; parsed.primitive == wanted);
+    assert!(rt; integer_of(&parsed) == wanted);
     let unparsed = told_of(alloc, Purpose::Unparsing, DECIMAL, &own)?;
     assert!(rt; unparsed.primitive.is_none());
     Ok(())

@@ -1,8 +1,8 @@
 // Strings, elements of type hexBinary, and boxes of complex elements.
-use super::tests::{PLAIN, explicit, one, told_of, told_with};
+use super::tests::{PLAIN, Told, explicit, octets_of, one, told_of, told_with};
 use super::{Facts, Kind, Purpose};
 use dfdl_forms::{BitOrder, Encoding, Justify, PadForm, Simple};
-use dfdl_terms::{OctetForm, Primitive, TextForm, TextSize};
+use dfdl_terms::{OctetForm, Primitive, TextContent, TextSize};
 use std::alloc::AllocGlobal;
 use std::process::Abort;
 use std::test::Fail;
@@ -93,20 +93,33 @@ fn a_string_is_asked_for_what_is_of_text(rt: HostRuntime) -> Result<(), Fail> {
     Ok(())
 }
 
+/// How the characters of a string lie: its encoding, whether places are replaced, its size and how it is padded.
+type Plain = (Encoding, bool, TextSize, PadForm);
+
 /// A string at the left that is cut nowhere.
-fn text_of(encoding: Encoding, replaces: bool, size: TextSize) -> Option<Primitive> {
-    Some(Primitive::Text(TextForm {
-        encoding,
-        replaces,
-        size,
-        pad: PadForm {
-            justify: Justify::Left,
-            pad: None,
-            trim: None,
-            truncate: false,
-            keeps_zero: false,
-        },
-    }))
+fn text_of(encoding: Encoding, replaces: bool, size: TextSize) -> Option<Plain> {
+    Some((encoding, replaces, size, padded_by(None, None)))
+}
+
+/// A text at the left that is cut nowhere, with these characters.
+fn padded_by(pad: Option<char>, trim: Option<char>) -> PadForm {
+    PadForm {
+        justify: Justify::Left,
+        pad,
+        trim,
+        truncate: false,
+        keeps_zero: false,
+    }
+}
+
+/// The string that is told of.
+fn string_of(told: &Told) -> Option<Plain> {
+    match &told.primitive {
+        Some(Primitive::Text(form)) if matches!(form.content, TextContent::Plain) => {
+            Some((form.encoding, form.replaces, form.size, form.pad))
+        }
+        _ => None,
+    }
 }
 
 /// An encoding, a pad character, and the number of the first breach of a string that is trimmed by it.
@@ -160,19 +173,13 @@ fn a_pad_character_is_one_of_the_encoding(rt: HostRuntime) -> Result<(), Fail> {
 }
 
 /// A string of 3 bytes in ASCII at the left, with these characters.
-fn padded_by(pad: Option<char>, trim: Option<char>) -> Option<Primitive> {
-    Some(Primitive::Text(TextForm {
-        encoding: Encoding::UsAscii,
-        replaces: true,
-        size: TextSize::Bits(24),
-        pad: PadForm {
-            justify: Justify::Left,
-            pad,
-            trim,
-            truncate: false,
-            keeps_zero: false,
-        },
-    }))
+fn three_by(pad: Option<char>, trim: Option<char>) -> Option<Plain> {
+    Some((
+        Encoding::UsAscii,
+        true,
+        TextSize::Bits(24),
+        padded_by(pad, trim),
+    ))
 }
 
 #[test]
@@ -182,16 +189,16 @@ fn a_string_is_padded_and_trimmed_by_its_character(rt: HostRuntime) -> Result<()
     own.add("encoding", "US-ASCII")?;
     own.add("textTrimKind", "padChar")?;
     let trimmed = told_of(alloc, Purpose::Parsing, STRING, &own)?;
-    assert!(rt; trimmed.primitive == padded_by(None, Some(' ')));
+    assert!(rt; string_of(&trimmed) == three_by(None, Some(' ')));
     own.add("textPadKind", "padChar")?;
     own.add("textStringPadCharacter", "%#x2A;")?;
     let both = told_of(alloc, Purpose::Parsing, STRING, &own)?;
-    assert!(rt; both.primitive == padded_by(Some('*'), Some('*')));
+    assert!(rt; string_of(&both) == three_by(Some('*'), Some('*')));
     let mut own = explicit(alloc, "3", "bytes")?;
     own.add("encoding", "US-ASCII")?;
     own.add("textPadKind", "padChar")?;
     let padded = told_of(alloc, Purpose::Parsing, STRING, &own)?;
-    assert!(rt; padded.primitive == padded_by(Some(' '), None));
+    assert!(rt; string_of(&padded) == three_by(Some(' '), None));
     Ok(())
 }
 
@@ -211,7 +218,7 @@ fn a_string_lies_as_its_properties_say(rt: HostRuntime) -> Result<(), Fail> {
     own.add("encodingErrorPolicy", "error")?;
     let told = told_of(alloc, Purpose::Parsing, STRING, &own)?;
     let wanted = text_of(Encoding::UsAscii, false, TextSize::Bits(24));
-    assert!(rt; told.primitive == wanted);
+    assert!(rt; string_of(&told) == wanted);
     assert!(rt; told.size.is_none());
     let unparsed = told_of(alloc, Purpose::Unparsing, STRING, &own)?;
     assert_eq!(rt; unparsed.number, 3);
@@ -220,7 +227,7 @@ fn a_string_lies_as_its_properties_say(rt: HostRuntime) -> Result<(), Fail> {
     own.add("encoding", "UTF-16BE")?;
     let told = told_of(alloc, Purpose::Parsing, STRING, &own)?;
     let wanted = text_of(Encoding::Utf16Be, true, TextSize::Characters(3));
-    assert!(rt; told.primitive == wanted);
+    assert!(rt; string_of(&told) == wanted);
     Ok(())
 }
 
@@ -233,11 +240,11 @@ fn implicit_lengths_are_the_greatest_ones(rt: HostRuntime) -> Result<(), Fail> {
     let bytes = told_with(alloc, Purpose::Parsing, STRING, at_most(5), &own)?;
     assert_eq!(rt; bytes.number, 0);
     let wanted = text_of(Encoding::Iso88591, true, TextSize::Bits(40));
-    assert!(rt; bytes.primitive == wanted);
+    assert!(rt; string_of(&bytes) == wanted);
     own.add("lengthUnits", "characters")?;
     let characters = told_with(alloc, Purpose::Parsing, STRING, at_most(5), &own)?;
     let wanted = text_of(Encoding::Iso88591, true, TextSize::Characters(5));
-    assert!(rt; characters.primitive == wanted);
+    assert!(rt; string_of(&characters) == wanted);
     let long = told_with(
         alloc,
         Purpose::Parsing,
@@ -254,19 +261,19 @@ fn bytes_lie_in_boxes_of_their_length(rt: HostRuntime) -> Result<(), Fail> {
     let alloc = rt.alloc();
     let own = explicit(alloc, "20", "bits")?;
     let told = told_of(alloc, Purpose::Parsing, BYTES, &own)?;
-    let wanted = Some(Primitive::Octets(OctetForm {
+    let wanted = Some(OctetForm {
         bits: 20,
         bits_by: BitOrder::MostFirst,
-    }));
-    assert!(rt; told.primitive == wanted);
+    });
+    assert!(rt; octets_of(&told) == wanted);
     let own = one(alloc, "lengthUnits", "bits")?;
     let implicit = told_with(alloc, Purpose::Parsing, BYTES, at_most(2), &own)?;
     assert_eq!(rt; implicit.number, 0);
-    let wanted = Some(Primitive::Octets(OctetForm {
+    let wanted = Some(OctetForm {
         bits: 16,
         bits_by: BitOrder::MostFirst,
-    }));
-    assert!(rt; implicit.primitive == wanted);
+    });
+    assert!(rt; octets_of(&implicit) == wanted);
     let missing = told_of(alloc, Purpose::Parsing, BYTES, &own)?;
     assert_eq!(rt; missing.number, 14);
     Ok(())

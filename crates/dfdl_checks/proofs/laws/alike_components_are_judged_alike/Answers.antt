@@ -1,15 +1,23 @@
-use Rattle.dfdl_checks.proofs.AlikeForms.{same-box, same-framing, same-primitive}
-use Rattle.dfdl_checks.proofs.AlikeJudged.{same-breach}
+use Rattle.std.proofs.Common.{ap}
+use Rattle.dfdl_checks.proofs.Alike.{same-component}
+use Rattle.dfdl_checks.specs.Boxes.{size_of_box}
+use Rattle.dfdl_checks.specs.Framing.{framing_of}
+use Rattle.dfdl_checks.specs.Numbers.{primitive_of}
+use Rattle.dfdl_checks.specs.Prefixes.{prefix_of}
+use Rattle.dfdl_checks.specs.Rules.{breach_of_component}
 use Rattle.dfdl_checks.proofs.laws.alike_components_are_judged_alike.Goals as goal
 
 pub returns-clause-breach : goal.returns-clause-breach
-returns-clause-breach c = same-breach
+returns-clause-breach c = λ a b alike. ap breach_of_component (same-component a b alike)
 
 pub returns-clause-primitive : goal.returns-clause-primitive
-returns-clause-primitive c = same-primitive
+returns-clause-primitive c = λ a b alike. ap primitive_of (same-component a b alike)
 
 pub returns-clause-framing : goal.returns-clause-framing
-returns-clause-framing c = same-framing
+returns-clause-framing c = λ a b alike. ap framing_of (same-component a b alike)
 
 pub returns-clause-size : goal.returns-clause-size
-returns-clause-size c = same-box
+returns-clause-size c = λ a b alike. ap size_of_box (same-component a b alike)
+
+pub returns-clause-prefix : goal.returns-clause-prefix
+returns-clause-prefix c = λ a b alike. ap prefix_of (same-component a b alike)

@@ -6,8 +6,8 @@ use Rattle.dfdl_checks.proofs.laws.sound_elements_have_primitives.Goals as goal
 pub returns-clause-primitive : goal.returns-clause-primitive
 returns-clause-primitive c = has-primitive
 
-pub returns-clause-properties : goal.returns-clause-properties
-returns-clause-properties c = are-values
+pub returns-clause-binary : goal.returns-clause-binary
+returns-clause-binary c = are-values
 
 pub returns-clause-others : goal.returns-clause-others
 returns-clause-others c = are-others

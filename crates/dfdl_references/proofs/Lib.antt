@@ -1,3 +1,4 @@
+mod Agreement
 pub mod Found
 mod Stepping
 mod There

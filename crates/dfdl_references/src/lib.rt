@@ -7,6 +7,7 @@
 #![tactic(auto)]
 
 mod kinds;
+pub mod laws;
 mod referring;
 #[cfg(test)]
 mod tests;

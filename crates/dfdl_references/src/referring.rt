@@ -6,7 +6,9 @@ ghost use Rattle.dfdl_constructs.specs.Roles.{AreRoles};
 ghost use Rattle.dfdl_markup.specs.Trees.{node_at};
 ghost use Rattle.dfdl_references.specs.References as spec;
 
-use crate::kinds::{is_annotation, is_component_properties, is_defined_format, is_dfdl_information};
+use crate::kinds::{
+    is_annotation, is_component_properties, is_defined_format, is_dfdl_information,
+};
 use dfdl_components::{ComponentKind, Named, Schema, Site};
 use dfdl_constructs::{Roles, dfdl, plain};
 use dfdl_properties::default_format;

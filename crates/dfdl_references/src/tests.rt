@@ -2,26 +2,22 @@
 ghost use Rattle.std.specs.Prelude.{◌<◌, length, IfSome};
 ghost use Rattle.dfdl_components.specs.Sites.{IsSite};
 
+use crate::laws::writers_write_what_is_given;
 use crate::writer;
 use dfdl_components::{Schema, Site, load};
 use dfdl_constructs::{dfdl, plain};
 use dfdl_edge::{MemoryFile, MemoryFiles};
-use std::alloc::{AllocError, Global};
+use std::alloc::{AllocError, AllocGlobal, Global};
+use std::process::Abort;
 use std::test::Fail;
 
 /// What is written in a document: its default format, the attributes of its component, and what stands in an annotation there.
 #[derive(Clone, Copy)]
-struct Part<'t> {
+struct Texts<'t> {
     default: &'t str,
     attributes: &'t str,
     inside: &'t str,
 }
-
-const NOTHING: Part<'static> = Part {
-    default: "",
-    attributes: "",
-    inside: "",
-};
 
 /// An annotation with this in it.
 fn annotated(alloc: Global, inside: &str) -> Result<String, AllocError> {
@@ -48,7 +44,7 @@ fn file_of(
 }
 
 /// An element, and the document of its type with two formats, one of which refers to the other.
-fn files_of(alloc: Global, element: Part, simple: Part) -> Result<Vec<MemoryFile>, AllocError> {
+fn files_of(alloc: Global, element: Texts, simple: Texts) -> Result<Vec<MemoryFile>, AllocError> {
     let inside = annotated(alloc, element.inside)?;
     let attributes = element.attributes;
     let here = format!(in alloc;
@@ -103,7 +99,7 @@ fn shown(alloc: Global, schema: &Schema, site: Site) -> Result<String, AllocErro
 }
 
 /// Where the encoding of the element is written.
-fn written(alloc: Global, element: Part, simple: Part) -> Result<String, AllocError> {
+fn written(alloc: Global, element: Texts, simple: Texts) -> Result<String, AllocError> {
     let mut files = MemoryFiles::new(files_of(alloc, element, simple)?, Vec::new(alloc));
     let Ok(schema) = load(alloc, &mut files, "a", 10_000, 2) else {
         return String::from_str(alloc, "refused");
@@ -121,99 +117,81 @@ fn written(alloc: Global, element: Part, simple: Part) -> Result<String, AllocEr
     }
 }
 
+/// These texts.
+fn part<'t>(default: &'t str, attributes: &'t str, inside: &'t str) -> Texts<'t> {
+    Texts {
+        default,
+        attributes,
+        inside,
+    }
+}
+
+/// Where the element writes the encoding, with this type.
+fn is_written<R: Abort + AllocGlobal>(
+    rt: &R,
+    element: Texts,
+    simple: Texts,
+    expected: &str,
+) -> Result<(), Fail> {
+    let line = written(rt.alloc(), element, simple)?;
+    assert_eq!(rt; line.as_str(), expected);
+    Ok(())
+}
+
 #[test]
 fn a_property_is_written_in_each_form(rt: HostRuntime) -> Result<(), Fail> {
-    let alloc = rt.alloc();
-    let cases = [
-        ("", "d:encoding=\"short\"", "", "element short"),
-        ("", "", "<d:element encoding=\"attribute\"/>", "element attribute"),
-        (
-            "",
-            "",
-            "<d:element><d:property name=\"byteOrder\">no</d:property><d:property name=\"encoding\">inside</d:property></d:element>",
-            "property inside",
-        ),
-        ("", "d:ref=\"f\"", "", "format referenced"),
-        ("", "", "<d:element ref=\"f\"/>", "format referenced"),
-        ("<d:format encoding=\"default\"/>", "", "", "format default"),
-        ("<d:format ref=\"f\"/>", "", "", "format referenced"),
-        ("", "", "", "none"),
-    ];
-    for (default, attributes, inside, expected) in cases {
-        let element = Part {
-            default,
-            attributes,
-            inside,
-        };
-        let line = written(alloc, element, NOTHING)?;
-        assert_eq!(rt; line.as_str(), expected);
-    }
-    Ok(())
+    let nothing = part("", "", "");
+    let short = part("", "d:encoding=\"short\"", "");
+    is_written(&rt, short, nothing, "element short")?;
+    let attribute = part("", "", "<d:element encoding=\"attribute\"/>");
+    is_written(&rt, attribute, nothing, "element attribute")?;
+    let inside = "<d:element><d:property name=\"byteOrder\">no</d:property>\
+        <d:property name=\"encoding\">inside</d:property></d:element>";
+    is_written(&rt, part("", "", inside), nothing, "property inside")?;
+    let default = part("<d:format encoding=\"default\"/>", "", "");
+    is_written(&rt, default, nothing, "format default")?;
+    is_written(&rt, nothing, nothing, "none")
+}
+
+#[test]
+fn a_property_is_written_in_a_referenced_format(rt: HostRuntime) -> Result<(), Fail> {
+    let nothing = part("", "", "");
+    let short = part("", "d:ref=\"f\"", "");
+    is_written(&rt, short, nothing, "format referenced")?;
+    let attribute = part("", "", "<d:element ref=\"f\"/>");
+    is_written(&rt, attribute, nothing, "format referenced")?;
+    let default = part("<d:format ref=\"f\"/>", "", "");
+    is_written(&rt, default, nothing, "format referenced")
 }
 
 #[test]
 fn the_nearest_is_taken(rt: HostRuntime) -> Result<(), Fail> {
-    let alloc = rt.alloc();
-    let everywhere = Part {
-        default: "<d:format encoding=\"default\"/>",
-        attributes: "d:encoding=\"short\" d:ref=\"f\"",
-        inside: "<d:element encoding=\"attribute\"/>",
-    };
-    let line = written(alloc, everywhere, NOTHING)?;
-    assert_eq!(rt; line.as_str(), "element short");
-    let annotation = Part {
-        attributes: "d:ref=\"f\"",
-        ..everywhere
-    };
-    let line = written(alloc, annotation, NOTHING)?;
-    assert_eq!(rt; line.as_str(), "element attribute");
-    let referenced = Part {
-        inside: "",
-        ..annotation
-    };
-    let line = written(alloc, referenced, NOTHING)?;
-    assert_eq!(rt; line.as_str(), "format referenced");
-    Ok(())
+    let nothing = part("", "", "");
+    let default = "<d:format encoding=\"default\"/>";
+    let inside = "<d:element encoding=\"attribute\"/>";
+    let all = part(default, "d:encoding=\"short\" d:ref=\"f\"", inside);
+    is_written(&rt, all, nothing, "element short")?;
+    let attribute = part(default, "d:ref=\"f\"", inside);
+    is_written(&rt, attribute, nothing, "element attribute")?;
+    let referenced = part(default, "d:ref=\"f\"", "");
+    is_written(&rt, referenced, nothing, "format referenced")
 }
 
 #[test]
 fn what_the_type_gives_stands_behind_the_element(rt: HostRuntime) -> Result<(), Fail> {
-    let alloc = rt.alloc();
-    let simple = Part {
-        default: "<d:format encoding=\"other\"/>",
-        attributes: "d:encoding=\"type\"",
-        inside: "",
-    };
-    let cases = [
-        ("", "d:ref=\"f\"", simple, "format referenced"),
-        ("<d:format encoding=\"default\"/>", "", simple, "simpleType type"),
-        (
-            "<d:format encoding=\"default\"/>",
-            "",
-            Part {
-                attributes: "",
-                ..simple
-            },
-            "format default",
-        ),
-        (
-            "",
-            "",
-            Part {
-                attributes: "",
-                ..simple
-            },
-            "format other",
-        ),
-    ];
-    for (default, attributes, simple, expected) in cases {
-        let element = Part {
-            default,
-            attributes,
-            inside: "",
-        };
-        let line = written(alloc, element, simple)?;
-        assert_eq!(rt; line.as_str(), expected);
-    }
+    let default = "<d:format encoding=\"default\"/>";
+    let other = "<d:format encoding=\"other\"/>";
+    let simple = part(other, "d:encoding=\"type\"", "");
+    let referenced = part("", "d:ref=\"f\"", "");
+    is_written(&rt, referenced, simple, "format referenced")?;
+    is_written(&rt, part(default, "", ""), simple, "simpleType type")?;
+    let simple = part(other, "", "");
+    is_written(&rt, part(default, "", ""), simple, "format default")?;
+    is_written(&rt, part("", "", ""), simple, "format other")
+}
+
+#[test]
+fn laws_take_no_input(_rt: HostRuntime) -> Result<(), Fail> {
+    writers_write_what_is_given();
     Ok(())
 }

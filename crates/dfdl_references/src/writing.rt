@@ -3,7 +3,9 @@ ghost use Rattle.std.specs.Prelude.{◌≡◌, ◌<◌, length};
 ghost use Rattle.dfdl_constructs.specs.Roles.{AreRoles};
 ghost use Rattle.dfdl_references.specs.Writers as spec;
 
-use crate::kinds::{is_annotation, is_component_properties, is_dfdl_information, is_written_property};
+use crate::kinds::{
+    is_annotation, is_component_properties, is_dfdl_information, is_written_property,
+};
 use dfdl_constructs::{Roles, dfdl, plain};
 use dfdl_xml_tree::Tree;
 
@@ -45,12 +47,7 @@ pub(crate) fn writer_in(tree: &Tree, roles: &Roles, element: u32, name: &str) ->
 }
 
 // Where the annotation elements in an `xs:appinfo` write a property.
-fn writer_in_information(
-    tree: &Tree,
-    roles: &Roles,
-    information: u32,
-    name: &str,
-) -> Option<u32>
+fn writer_in_information(tree: &Tree, roles: &Roles, information: u32, name: &str) -> Option<u32>
     requires roles { AreRoles tree.now roles.now }
     requires within { information < length tree.now }
     ensures { result ≡ spec.writer_in_information tree.now name.now information }

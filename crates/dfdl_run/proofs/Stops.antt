@@ -9,7 +9,8 @@ use Rattle.dfdl_looks.specs.Tallies.{nothing}
 use Rattle.dfdl_terms.specs.Rows.{Table}
 use Rattle.dfdl_terms.specs.declared.row.Primitive.{Primitive}
 use Rattle.dfdl_terms.specs.declared.row.Row.{Row}
-use Rattle.dfdl_terms.specs.declared.row.Row.TheVariants.{Leaf, Elem, Group, Skip, Align, Boxed}
+use Rattle.dfdl_terms.specs.declared.text.TextSize.{TextSize}
+use Rattle.dfdl_terms.specs.declared.row.Row.TheVariants.{Leaf, Elem, Group, Skip, Align, Boxed, PrefixedLeaf, PrefixedBox}
 use Rattle.dfdl_region.specs.declared.node.Content.{Content}
 use Rattle.dfdl_region.specs.declared.node.Content.TheVariants as content
 use Rattle.dfdl_region.specs.Nodes.{with_content}
@@ -22,6 +23,7 @@ use Rattle.dfdl_grammar.specs.Leaves.{Find, Fails, Finds, FindsOctets, FindsText
 use Rattle.dfdl_grammar.specs.Framing.{aligned, fill_to, has_byte, pass_to, passed}
 use Rattle.dfdl_grammar.specs.Boxes.{boxed, bytes_up_to, pass_bytes, past_byte, rest as rest_of, unboxed}
 use Rattle.dfdl_grammar.specs.Elements.{begun, close, element, has_elements}
+use Rattle.dfdl_grammar.specs.Prefixes.{behind_prefix, bits_of_units, land_prefix, leaf_of, prefixed, resized, size_of, sized_leaf, units_told}
 use Rattle.dfdl_grammar.specs.Rows.{below, group, meaning, row, row_at}
 use Rattle.dfdl_grammar.specs.Documents.{document}
 
@@ -49,9 +51,9 @@ hold-stops most made bytes end s false = tt
 
 land-stops : (limits : Limits) (first : ℕ) (reached : Reached Find) (s : State) → StopsByData (land limits first reached s).end
 land-stops limits first (Told (Fails cause)) s = tt
-land-stops limits first (Told (Finds content bits)) s = tt
-land-stops limits first (Told (FindsOctets bytes bits)) s =
-    hold-stops limits.text content.Octets bytes (s.at + bits) s (nat_le (length s.text + length bytes) limits.text)
+land-stops limits first (Told (Finds content end)) s = tt
+land-stops limits first (Told (FindsOctets bytes end)) s =
+    hold-stops limits.text content.Octets bytes end s (nat_le (length s.text + length bytes) limits.text)
 land-stops limits first (Told (FindsText bytes end)) s =
     hold-stops limits.text content.Text bytes end s (nat_le (length s.text + length bytes) limits.text)
 land-stops limits first TooFar s = tt
@@ -150,6 +152,44 @@ boxed-stops input bits body each s true =
     (follow-stops (body inside).end (body inside) (rest_of input) (each inside) (λ t. rest-stops input t (nat_le t.stop t.at)))
 boxed-stops input bits body each s false = tt
 
+behind-stops : (end : ℕ) (next : ℕ → State → Outcome) → ((units : ℕ) (s : State) → StopsByData (next units s).end)
+    → (s : State) (units : Option ℕ) → StopsByData (behind_prefix end next s units).end
+behind-stops end next each s None = tt
+behind-stops end next each s (Some units) = each units (record s { at = end })
+
+land-prefix-stops : (limits : Limits) (own first : ℕ) (next : ℕ → State → Outcome) → ((units : ℕ) (s : State) → StopsByData (next units s).end)
+    → (reached : Reached Find) (s : State) → StopsByData (land_prefix limits own first next reached s).end
+land-prefix-stops limits own first next each (Told (Fails cause)) s = tt
+land-prefix-stops limits own first next each (Told (Finds content end)) s = behind-stops end next each s (units_told own content)
+land-prefix-stops limits own first next each (Told (FindsOctets bytes end)) s = tt
+land-prefix-stops limits own first next each (Told (FindsText bytes end)) s = tt
+land-prefix-stops limits own first next each TooFar s = tt
+land-prefix-stops limits own first next each Missing s = tt
+
+prefix-room-stops : (input : Input) (primitive : Primitive) (own : ℕ) (next : ℕ → State → Outcome)
+    → ((units : ℕ) (s : State) → StopsByData (next units s).end) → (s : State) (room : Bool)
+    → StopsByData (let whole : Outcome = (if room then
+    (let reading = ask (seen_in input.bytes input.limits.window (anchor s)) (program primitive s.at s.stop) nothing in
+    spend reading.tally (land_prefix input.limits own (content_begins primitive s.at) next reading.reached s))
+    else ended (Failed LengthOutOfRange s.at) s) in whole.end)
+prefix-room-stops input primitive own next each s true =
+    land-prefix-stops input.limits own (content_begins primitive s.at) next each
+    (ask (seen_in input.bytes input.limits.window (anchor s)) (program primitive s.at s.stop) nothing).reached s
+prefix-room-stops input primitive own next each s false = tt
+
+prefixed-stops : (input : Input) (primitive : Option Primitive) (own : ℕ) (next : ℕ → State → Outcome)
+    → ((units : ℕ) (s : State) → StopsByData (next units s).end) → (s : State) → StopsByData (prefixed input primitive own next s).end
+prefixed-stops input None own next each s = tt
+prefixed-stops input (Some primitive) own next each s = prefix-room-stops input primitive own next each s (has_room primitive s.at s.stop)
+
+resized-stops : (input : Input) (primitive : Option Primitive) (s : State) → StopsByData (leaf_of input primitive s).end
+resized-stops input None s = tt
+resized-stops input (Some primitive) s = leaf-stops input (Some primitive) s
+
+sized-stops : (input : Input) (primitive : Option Primitive) (size : TextSize) (s : State) → StopsByData (sized_leaf input primitive size s).end
+sized-stops input None size s = tt
+sized-stops input (Some primitive) size s = resized-stops input (resized size primitive) s
+
 row-stops : (input : Input) (table : Table) (child : ℕ → State → Outcome) → ((id : ℕ) (s : State) → StopsByData (child id s).end)
     → (id : ℕ) (o : Option Row) (s : State) → StopsByData (row input table child id o s).end
 row-stops input table child each id None s = tt
@@ -161,6 +201,13 @@ row-stops input table child each id (Some (Skip bits)) s = pass-stops input (s.a
 row-stops input table child each id (Some (Align bits)) s = pass-stops input (aligned bits s.at) s
 row-stops input table child each id (Some (Boxed bits body)) s =
     boxed-stops input bits (child body) (each body) s (nat_le (s.at + bits) s.stop)
+row-stops input table child each id (Some (PrefixedLeaf prefix prim)) s =
+    prefixed-stops input (slice_get table.primitives prefix.prim) prefix.own _
+    (λ units t. sized-stops input (slice_get table.primitives prim) (size_of prefix.unit units) t) s
+row-stops input table child each id (Some (PrefixedBox prefix body)) s =
+    prefixed-stops input (slice_get table.primitives prefix.prim) prefix.own _
+    (λ units t. boxed-stops input (bits_of_units prefix.unit units) (child body) (each body) t
+    (nat_le (t.at + bits_of_units prefix.unit units) t.stop)) s
 
 below-stops : (input : Input) (table : Table) (n id : ℕ) (s : State) → StopsByData (below input table n id s).end
 unfolding below

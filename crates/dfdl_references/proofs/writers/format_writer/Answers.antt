@@ -1,9 +1,8 @@
-use Rattle.std.proofs.Common.{◌≡◌, sym, ap, subst, ◌∙◌, ℕ, ◌+◌, ◌-◌, ◌<◌, ◌≤◌, Option, Some, None, arith}
+use Rattle.std.proofs.Common.{sym, ap, subst, ◌∙◌, ℕ, ◌+◌, ◌-◌, ◌<◌, ◌≤◌, Option}
 use Rattle.std.specs.Option.{option_and_then}
 use Rattle.dfdl_components.specs.declared.site.Site.{Site}
 use Rattle.dfdl_components.specs.Recursion.{count_of}
-use Rattle.dfdl_references.specs.References.{format_after}
-use Rattle.dfdl_references.specs.Writers.{format_own_writer, writer_within}
+use Rattle.dfdl_references.specs.Writers.{writer_within}
 use Rattle.dfdl_references.proofs.Stepping.{behind, here, over}
 use Rattle.dfdl_references.proofs.writers.format_writer.Goals as goal
 
@@ -23,11 +22,10 @@ returns-in_err-current c =
 
 pub loop-step-preserved : goal.loop-step-preserved
 loop-step-preserved c =
-    let low : c.loop-step.step < count_of c.args.schema.now = subst (λ (n : ℕ). c.loop-step.step < n) c.count-step-end.ensures c.loop-step-test.true in
-    (
+    let low : c.loop-step.step < count_of c.args.schema.now = subst (λ (n : ℕ). c.loop-step.step < n) c.count-step-end.ensures c.loop-step-test.true in (
       ap (λ (o : Option Site). option_and_then (writer_within (count_of c.args.schema.now - (c.loop-step.step + 1)) c.args.schema.now c.args.name.now) o) c.in_ok-current.ensures.format
-      ∙ (sym (behind c.args.schema.now c.args.name.now (count_of c.args.schema.now) c.loop-step.step c.loop-step.current low (sym c.format_own_writer.ensures ∙ c.in_default.is))
-      ∙ c.loop-step.invariant.0),
+          ∙ (sym (behind c.args.schema.now c.args.name.now (count_of c.args.schema.now) c.loop-step.step c.loop-step.current low (sym c.format_own_writer.ensures ∙ c.in_default.is))
+          ∙ c.loop-step.invariant.0),
       c.in_ok-current.ensures.within,
     )
 

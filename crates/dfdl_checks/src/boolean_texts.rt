@@ -1,5 +1,5 @@
 // How text booleans are read.
-ghost use Rattle.std.specs.Prelude.{◌≡◌, ◌∷◌, [], IfOk, codes, Some};
+ghost use Rattle.std.specs.Prelude.{◌≡◌, ◌∷◌, ◌||◌, [], IfOk, codes, Some};
 ghost use Rattle.std.specs.List.{list_any};
 ghost use Rattle.std.specs.Str.{chars};
 ghost use Rattle.dfdl_checks.specs.BooleanTexts as booleans;
@@ -111,7 +111,14 @@ pub(crate) fn are_truth_texts_outside(
     let encoding = encoding_told(property(subject.chain, "encoding"));
     let truths = true_texts(alloc, subject)?;
     let falses = false_texts(alloc, subject)?;
-    Ok(lacks_texts(encoding, &truths) || lacks_texts(encoding, &falses))
+    Ok(lacks_either(encoding, &truths, &falses))
+}
+
+/// Whether an encoding lacks a character of the texts of two lists.
+fn lacks_either(encoding: Option<Encoding>, first: &TextList, second: &TextList) -> bool
+    ensures { result ≡ (booleans.lacks_texts encoding first.now || booleans.lacks_texts encoding second.now) }
+{
+    lacks_texts(encoding, first) || lacks_texts(encoding, second)
 }
 
 /// A boolean with these texts, if both are told.

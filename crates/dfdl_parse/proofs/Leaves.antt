@@ -1,5 +1,5 @@
 -- The reading of a leaf, by a run of bytes that are seen.
-use Rattle.std.proofs.Common.{◌≡◌, ℕ, zero, suc, ◌+◌, ◌-◌, ◌*◌, ◌/◌, ◌%◌, ◌<◌, ◌≤◌, refl, List, [], ◌∷◌, ◌++◌, length, get_or, max, Option, None, Some, ap, sym, ◌∙◌, arith, zero-add}
+use Rattle.std.proofs.Common.{◌≡◌, ℕ, zero, suc, ◌+◌, ◌-◌, ◌*◌, ◌/◌, ◌<◌, ◌≤◌, refl, List, [], ◌∷◌, ◌++◌, length, get_or, max, Option, None, Some, ap, sym, ◌∙◌, arith, zero-add}
 use Rattle.std.proofs.lemmas.List.{append-nil}
 use Rattle.dfdl_bits.specs.Window.{Held, end_of, seen_at}
 use Rattle.dfdl_bits.specs.declared.window.Seen.{Seen}

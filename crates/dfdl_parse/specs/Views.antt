@@ -1,5 +1,4 @@
 -- What a leaf is read by: a primitive, with the size that its box has.
-use Rattle.std.specs.Prelude.{◌≡◌}
 use Rattle.dfdl_forms.specs.BinaryNumbers.{IsIntForm, IsPackedForm, IsTruthForm}
 use Rattle.dfdl_terms.specs.declared.row.Primitive.{Primitive}
 use Rattle.dfdl_terms.specs.declared.row.Primitive.TheVariants as primitive

@@ -14,7 +14,7 @@ pub enum Frame {
 
 /// What stands behind a length prefix.
 #[derive(Debug, Clone, Copy, PartialEq, Eq)]
-pub enum Behind {
+pub(crate) enum Behind {
     /// The leaf of the primitive of this number in the tables.
     Leaf(u32),
     /// A box with this row in it.

@@ -30,7 +30,7 @@ pub mod stack;
 mod strings;
 #[cfg(test)]
 mod tests;
-pub mod view;
+mod view;
 
 pub use dfdl_grammar::Limits;
 pub use dfdl_region::{Content, Node};

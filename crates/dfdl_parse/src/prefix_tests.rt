@@ -40,7 +40,7 @@ fn text(size: TextSize, content: TextContent) -> Primitive
     })
 }
 
-// A prefix of one byte, or of four.
+// A prefix that is read by the first primitive.
 fn prefix(unit: LengthUnit, own: u64) -> Prefix
     ensures { result.prim ≡ 0 }
 {
@@ -120,6 +120,54 @@ fn failed(cause: ParseCause, bit: u64) -> (Outcome, u64) {
     (Outcome::Failed { cause, bit }, 0)
 }
 
+// The data, which come a byte at a time, end so for each of these rows.
+fn all_end<L: Ledger>(
+    rt: &impl Abort,
+    alloc: Global,
+    terms: &Terms,
+    rows: &[(&[u8], (Outcome, u64))],
+    steps: &mut Steps<L>,
+) -> Result<(), Fail> {
+    for (bytes, expected) in rows {
+        ends(rt, alloc, terms, bytes, 1, *expected, steps)?;
+    }
+    Ok(())
+}
+
+// The data end so in pieces of these sizes.
+fn each_ends<L: Ledger>(
+    rt: &impl Abort,
+    alloc: Global,
+    terms: &Terms,
+    bytes: &[u8],
+    expected: (Outcome, u64),
+    steps: &mut Steps<L>,
+) -> Result<(), Fail> {
+    for size in [1, 2, 3, 16] {
+        ends(rt, alloc, terms, bytes, size, expected, steps)?;
+    }
+    Ok(())
+}
+
+// A window that has no room for a prefix beside its content.
+fn narrow<L: Ledger>(
+    rt: &impl Abort,
+    alloc: Global,
+    terms: &Terms,
+    steps: &mut Steps<L>,
+) -> Result<(), Fail> {
+    let limits = Limits {
+        window: 3,
+        nodes: 1,
+        text: 3,
+    };
+    let mut session = Session::open(alloc, terms, limits)?;
+    let end = outcome(rt, &mut session, b"\x03abc", 1, steps)?;
+    assert_eq!(rt; end, Outcome::Done);
+    assert_eq!(rt; session.text(), b"abc".as_slice());
+    Ok(())
+}
+
 fn strings<L: Ledger>(rt: &impl Abort, alloc: Global, blank: Blank) -> Result<(), Fail>
     requires name { blank.name ≡ L.name }
     requires parts { blank.parts ≡ L.parts }
@@ -128,27 +176,37 @@ fn strings<L: Ledger>(rt: &impl Abort, alloc: Global, blank: Blank) -> Result<()
     let mut steps = Steps::<L>::open(blank);
     let byte = number(8, Simple::UnsignedByte);
     let terms = prefixed(alloc, byte, LengthUnit::Bytes, 0)?;
-    let done = (Outcome::Done, 32);
-    for size in [1, 2, 3] {
-        ends(rt, alloc, &terms, b"\x03abcd", size, done, &mut steps)?;
-    }
-    // the window has no room for the prefix beside its content
-    let limits = Limits {
-        window: 3,
-        nodes: 1,
-        text: 3,
-    };
-    let mut session = Session::open(alloc, &terms, limits)?;
-    let end = outcome(rt, &mut session, b"\x03abc", 1, &mut steps)?;
-    assert_eq!(rt; end, Outcome::Done);
-    assert_eq!(rt; session.text(), b"abc".as_slice());
-    let byte = number(8, Simple::UnsignedByte);
-    let terms = prefixed(alloc, byte, LengthUnit::Characters, 0)?;
-    ends(rt, alloc, &terms, b"\x02\xC3\xA9b", 1, done, &mut steps)?;
-    Ok(())
+    each_ends(
+        rt,
+        alloc,
+        &terms,
+        b"\x03abcd",
+        (Outcome::Done, 32),
+        &mut steps,
+    )?;
+    narrow(rt, alloc, &terms, &mut steps)
 }
 
-fn lengths<L: Ledger>(rt: &impl Abort, alloc: Global, blank: Blank) -> Result<(), Fail>
+fn characters<L: Ledger>(rt: &impl Abort, alloc: Global, blank: Blank) -> Result<(), Fail>
+    requires name { blank.name ≡ L.name }
+    requires parts { blank.parts ≡ L.parts }
+    requires some { 0 < L.parts }
+{
+    let mut steps = Steps::<L>::open(blank);
+    let byte = number(8, Simple::UnsignedByte);
+    let terms = prefixed(alloc, byte, LengthUnit::Characters, 0)?;
+    each_ends(
+        rt,
+        alloc,
+        &terms,
+        b"\x02\xC3\xA9b",
+        (Outcome::Done, 32),
+        &mut steps,
+    )
+}
+
+// A prefix that counts itself.
+fn own_length<L: Ledger>(rt: &impl Abort, alloc: Global, blank: Blank) -> Result<(), Fail>
     requires name { blank.name ≡ L.name }
     requires parts { blank.parts ≡ L.parts }
     requires some { 0 < L.parts }
@@ -156,36 +214,29 @@ fn lengths<L: Ledger>(rt: &impl Abort, alloc: Global, blank: Blank) -> Result<()
     let mut steps = Steps::<L>::open(blank);
     let byte = number(8, Simple::UnsignedByte);
     let terms = prefixed(alloc, byte, LengthUnit::Bytes, 1)?;
-    let below = failed(ParseCause::LengthOutOfRange, 0);
-    ends(
-        rt,
-        alloc,
-        &terms,
-        b"\x04abc",
-        1,
-        (Outcome::Done, 32),
-        &mut steps,
-    )?;
-    ends(
-        rt,
-        alloc,
-        &terms,
-        b"\x01abc",
-        1,
-        (Outcome::Done, 8),
-        &mut steps,
-    )?;
-    ends(rt, alloc, &terms, b"\x00abc", 1, below, &mut steps)?;
-    let long = number(32, Simple::UnsignedInt);
-    let terms = prefixed(alloc, long, LengthUnit::Bytes, 0)?;
+    let rows: [(&[u8], (Outcome, u64)); 3] = [
+        (b"\x04abc", (Outcome::Done, 32)),
+        (b"\x01abc", (Outcome::Done, 8)),
+        (b"\x00abc", failed(ParseCause::LengthOutOfRange, 0)),
+    ];
+    all_end(rt, alloc, &terms, &rows, &mut steps)
+}
+
+// Contents that are longer than the data, and than the greatest box.
+fn long<L: Ledger>(rt: &impl Abort, alloc: Global, blank: Blank) -> Result<(), Fail>
+    requires name { blank.name ≡ L.name }
+    requires parts { blank.parts ≡ L.parts }
+    requires some { 0 < L.parts }
+{
+    let mut steps = Steps::<L>::open(blank);
+    let four = number(32, Simple::UnsignedInt);
+    let terms = prefixed(alloc, four, LengthUnit::Bytes, 0)?;
     let cut = failed(ParseCause::DataEnds, 32);
-    ends(rt, alloc, &terms, b"\xFF\xFF\xFF\xFFa", 1, cut, &mut steps)?;
-    let longest = number(128, Simple::NonNegativeInteger);
-    let terms = prefixed(alloc, longest, LengthUnit::Bytes, 0)?;
-    let past = failed(ParseCause::LengthOutOfRange, 128);
-    let most = [255; 16];
-    ends(rt, alloc, &terms, &most, 16, past, &mut steps)?;
-    Ok(())
+    each_ends(rt, alloc, &terms, b"\xFF\xFF\xFF\xFFa", cut, &mut steps)?;
+    let eight = number(64, Simple::UnsignedLong);
+    let terms = prefixed(alloc, eight, LengthUnit::Bytes, 0)?;
+    let past = failed(ParseCause::LengthOutOfRange, 64);
+    each_ends(rt, alloc, &terms, b"\xFF\0\0\0\0\0\0\0", past, &mut steps)
 }
 
 fn boxes<L: Ledger>(rt: &impl Abort, alloc: Global, blank: Blank) -> Result<(), Fail>
@@ -195,28 +246,13 @@ fn boxes<L: Ledger>(rt: &impl Abort, alloc: Global, blank: Blank) -> Result<(), 
 {
     let mut steps = Steps::<L>::open(blank);
     let terms = boxed(alloc, LengthUnit::Bytes, 1)?;
-    for size in [1, 2, 3] {
-        let done = (Outcome::Done, 32);
-        ends(
-            rt,
-            alloc,
-            &terms,
-            b"\x04\x07\xFF\xFF",
-            size,
-            done,
-            &mut steps,
-        )?;
-    }
-    let mut session = Session::open(alloc, &terms, LIMITS)?;
-    let end = outcome(rt, &mut session, b"\x02\x07", 1, &mut steps)?;
-    assert_eq!(rt; end, Outcome::Done);
-    assert_eq!(rt; session.nodes().len(), 2);
-    assert_eq!(rt; session.nodes()[1].content, Content::Unsigned(7));
-    let small = failed(ParseCause::LengthOutOfRange, 8);
-    ends(rt, alloc, &terms, b"\x01\x07", 1, small, &mut steps)?;
-    let rest = failed(ParseCause::DataEnds, 16);
-    ends(rt, alloc, &terms, b"\x04\x07\xFF", 1, rest, &mut steps)?;
-    Ok(())
+    let rows: [(&[u8], (Outcome, u64)); 4] = [
+        (b"\x02\x07", (Outcome::Done, 16)),
+        (b"\x04\x07\xFF\xFF", (Outcome::Done, 32)),
+        (b"\x01\x07", failed(ParseCause::LengthOutOfRange, 8)),
+        (b"\x04\x07\xFF", failed(ParseCause::DataEnds, 16)),
+    ];
+    all_end(rt, alloc, &terms, &rows, &mut steps)
 }
 
 // A text of three bytes has this content.
@@ -276,14 +312,12 @@ fn texts(alloc: Global, word: &str) -> Result<PlainTexts, Fail> {
     Ok(PlainTexts::new(words).ok_or("no texts")?)
 }
 
-fn values<L: Ledger>(rt: &impl Abort, alloc: Global, blank: Blank) -> Result<(), Fail>
+fn numbers<L: Ledger>(rt: &impl Abort, alloc: Global, blank: Blank) -> Result<(), Fail>
     requires name { blank.name ≡ L.name }
     requires parts { blank.parts ≡ L.parts }
     requires some { 0 < L.parts }
 {
     let mut steps = Steps::<L>::open(blank);
-    let none = failed(ParseCause::NotANumber, 0);
-    let past = failed(ParseCause::PastType, 0);
     let terms = three(alloc, hexadecimal())?;
     has(
         rt,
@@ -293,24 +327,43 @@ fn values<L: Ledger>(rt: &impl Abort, alloc: Global, blank: Blank) -> Result<(),
         Content::Unsigned(254),
         &mut steps,
     )?;
-    ends(rt, alloc, &terms, b"xyz", 1, none, &mut steps)?;
-    ends(rt, alloc, &terms, b"fff", 1, past, &mut steps)?;
-    let bad = failed(ParseCause::BadNibble, 0);
+    let rows: [(&[u8], (Outcome, u64)); 2] = [
+        (b"xyz", failed(ParseCause::NotANumber, 0)),
+        (b"fff", failed(ParseCause::PastType, 0)),
+    ];
+    all_end(rt, alloc, &terms, &rows, &mut steps)
+}
+
+fn zoned_numbers<L: Ledger>(rt: &impl Abort, alloc: Global, blank: Blank) -> Result<(), Fail>
+    requires name { blank.name ≡ L.name }
+    requires parts { blank.parts ≡ L.parts }
+    requires some { 0 < L.parts }
+{
+    let mut steps = Steps::<L>::open(blank);
     let terms = three(alloc, zoned())?;
     has(rt, alloc, &terms, b"12s", Content::Signed(-123), &mut steps)?;
-    ends(rt, alloc, &terms, b"1.2", 1, bad, &mut steps)?;
-    ends(rt, alloc, &terms, b"999", 1, past, &mut steps)?;
+    let rows: [(&[u8], (Outcome, u64)); 2] = [
+        (b"1.2", failed(ParseCause::BadNibble, 0)),
+        (b"999", failed(ParseCause::PastType, 0)),
+    ];
+    all_end(rt, alloc, &terms, &rows, &mut steps)
+}
+
+fn booleans<L: Ledger>(rt: &impl Abort, alloc: Global, blank: Blank) -> Result<(), Fail>
+    requires name { blank.name ≡ L.name }
+    requires parts { blank.parts ≡ L.parts }
+    requires some { 0 < L.parts }
+{
+    let mut steps = Steps::<L>::open(blank);
     let truth = TruthForm {
         truths: texts(alloc, "yes")?,
         falses: texts(alloc, "no")?,
         fold: false,
     };
-    let neither = failed(ParseCause::UnknownBoolean, 0);
     let terms = three(alloc, TextContent::Truth(truth))?;
-    has(rt, alloc, &terms, b"yes", Content::Truth(true), &mut steps)?;
     has(rt, alloc, &terms, b"no ", Content::Truth(false), &mut steps)?;
-    ends(rt, alloc, &terms, b"YES", 1, neither, &mut steps)?;
-    Ok(())
+    let rows: [(&[u8], (Outcome, u64)); 1] = [(b"YES", failed(ParseCause::UnknownBoolean, 0))];
+    all_end(rt, alloc, &terms, &rows, &mut steps)
 }
 
 #[test]
@@ -319,8 +372,18 @@ fn a_prefix_tells_the_size_of_a_string(rt: HostRuntime) -> Result<(), Fail> {
 }
 
 #[test]
-fn a_length_that_can_not_be_fails_at_its_bit(rt: HostRuntime) -> Result<(), Fail> {
-    lengths::<Brand>(&rt, rt.alloc(), Blank::new(1))
+fn a_prefix_counts_characters(rt: HostRuntime) -> Result<(), Fail> {
+    characters::<Brand>(&rt, rt.alloc(), Blank::new(1))
+}
+
+#[test]
+fn a_prefix_counts_itself(rt: HostRuntime) -> Result<(), Fail> {
+    own_length::<Brand>(&rt, rt.alloc(), Blank::new(1))
+}
+
+#[test]
+fn long_contents_fail_where_they_begin(rt: HostRuntime) -> Result<(), Fail> {
+    long::<Brand>(&rt, rt.alloc(), Blank::new(1))
 }
 
 #[test]
@@ -329,6 +392,16 @@ fn a_prefix_tells_the_size_of_a_box(rt: HostRuntime) -> Result<(), Fail> {
 }
 
 #[test]
-fn texts_are_read_as_numbers_and_booleans(rt: HostRuntime) -> Result<(), Fail> {
-    values::<Brand>(&rt, rt.alloc(), Blank::new(1))
+fn texts_are_read_as_numbers(rt: HostRuntime) -> Result<(), Fail> {
+    numbers::<Brand>(&rt, rt.alloc(), Blank::new(1))
+}
+
+#[test]
+fn texts_are_read_as_zoned_numbers(rt: HostRuntime) -> Result<(), Fail> {
+    zoned_numbers::<Brand>(&rt, rt.alloc(), Blank::new(1))
+}
+
+#[test]
+fn texts_are_read_as_booleans(rt: HostRuntime) -> Result<(), Fail> {
+    booleans::<Brand>(&rt, rt.alloc(), Blank::new(1))
 }

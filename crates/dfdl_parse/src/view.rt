@@ -14,7 +14,7 @@ use dfdl_terms::{OctetForm, Primitive, TextForm, TextSize};
 
 /// A primitive with the size that its box has, which may be another than its own.
 #[derive(Clone, Copy)]
-pub enum Leaf<'p> {
+pub(crate) enum Leaf<'p> {
     Integer(IntForm),
     Packed(PackedForm),
     Truth(BitTruthForm),

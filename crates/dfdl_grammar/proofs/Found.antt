@@ -148,7 +148,7 @@ boxed_value form bit first end look content to false is unread = absurd (cc)
 sized_value : (form : TextForm) (size : TextSize) (bit stop : ℕ) (look : ℕ → Seen) (content : Content) (to : ℕ)
     → (ask look (text_of_size form size bit stop) nothing).reached ≡ Told (Finds content to) → content ≡ Begun → ⊥
 sized_value form (Bits n) bit stop look content to is unread =
-    let first : ℕ = text_begins (Bits n) bit in
+    let first : ℕ = text_begins form.content (Bits n) bit in
     boxed_value form bit first (bit + n) look content to (nat_eq ((bit + n - first) % 8) 0) is unread
 sized_value form (Counted n) bit stop look content to is unread =
     then_value form bit look content to (text_at form.encoding form.replaces (extent.Characters n) stop (aligned 8 bit / 8)) is unread

@@ -166,7 +166,7 @@ module _ (input : Input) (small : All (λ b. b < 256) input.bytes) where
   sized-held : (window low : ℕ) (form : TextForm) (size : TextSize) (bit stop : ℕ) (found : Find)
       → (ask (seen_in input.bytes window low) (text_of_size form size bit stop) nothing).reached ≡ Told found → IsHeld found
   sized-held window low form (Bits n) bit stop found is =
-      let first : ℕ = text_begins (Bits n) bit in
+      let first : ℕ = text_begins form.content (Bits n) bit in
       boxed-held window low form bit first (bit + n) found (nat_eq ((bit + n - first) % 8) 0) is
   sized-held window low form (Counted n) bit stop found is =
       then-held window low form bit (extent.Characters n) stop (aligned 8 bit / 8) found is

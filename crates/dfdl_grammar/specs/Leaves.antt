@@ -66,11 +66,16 @@ bits_of (Truth form) = form.bits
 bits_of (Octets form) = form.bits
 bits_of (Text form) = bits_of_text form.size
 
+-- the bit at which a text without bits begins whose box begins at this one: a string there, and else the next whole byte
+abbrev pub empty_begins : TextContent → ℕ → ℕ
+empty_begins Plain bit = bit
+empty_begins _ bit = aligned 8 bit
+
 -- the bit at which a text begins whose box begins at this one: the next whole byte, where the box has any bit
-abbrev pub text_begins : TextSize → ℕ → ℕ
-text_begins (Bits zero) bit = bit
-text_begins (Bits (suc bits)) bit = aligned 8 bit
-text_begins (Characters count) bit = aligned 8 bit
+abbrev pub text_begins : TextContent → TextSize → ℕ → ℕ
+text_begins content (Bits zero) bit = empty_begins content bit
+text_begins content (Bits (suc bits)) bit = aligned 8 bit
+text_begins content (Characters count) bit = aligned 8 bit
 
 -- the bit at which the content of a primitive begins whose box begins at this one
 abbrev pub content_begins : Primitive → ℕ → ℕ
@@ -78,7 +83,7 @@ content_begins (Integer form) bit = bit
 content_begins (Packed form) bit = bit
 content_begins (Truth form) bit = bit
 content_begins (Octets form) bit = bit
-content_begins (Text form) bit = text_begins form.size bit
+content_begins (Text form) bit = text_begins form.content form.size bit
 
 -- the bit at which the box of a text ends whose box begins at a bit; where its characters are counted it is that of the box around
 abbrev pub text_ends : TextSize → ℕ → ℕ → ℕ
@@ -169,7 +174,7 @@ boxed_text form bit first end =
 
 -- a text of a size, in a box that begins at a bit, inside of one that ends at another bit
 abbrev pub text_of_size : TextForm → TextSize → ℕ → ℕ → Ask Find
-text_of_size form (Bits bits) bit stop = boxed_text form bit (text_begins (Bits bits) bit) (bit + bits)
+text_of_size form (Bits bits) bit stop = boxed_text form bit (text_begins form.content (Bits bits) bit) (bit + bits)
 text_of_size form (Characters count) bit stop =
     and_then (text_at form.encoding form.replaces (extent.Characters count) stop (aligned 8 bit / 8)) (λ text. Answer (text_find form bit text))
 

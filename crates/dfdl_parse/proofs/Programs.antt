@@ -6,6 +6,8 @@ use Rattle.dfdl_looks.proofs.Stretched.{look_at-from}
 use Rattle.dfdl_report.specs.declared.cause.ParseCause.TheVariants.{DataEnds, NotFilled}
 use Rattle.dfdl_terms.specs.declared.row.Primitive.{Primitive}
 use Rattle.dfdl_terms.specs.declared.row.Primitive.TheVariants.{Integer, Packed, Truth, Octets, Text}
+use Rattle.dfdl_terms.specs.declared.text.TextContent.{TextContent}
+use Rattle.dfdl_terms.specs.declared.text.TextContent.TheVariants.{Plain, Number, Zoned, Truth as TextTruth}
 use Rattle.dfdl_terms.specs.declared.text.TextForm.{TextForm}
 use Rattle.dfdl_terms.specs.declared.text.TextSize.{TextSize}
 use Rattle.dfdl_terms.specs.declared.text.TextSize.TheVariants.{Bits, Characters}
@@ -14,7 +16,7 @@ use Rattle.dfdl_texts.specs.declared.extent.Extent.{Extent}
 use Rattle.dfdl_texts.specs.declared.extent.Extent.TheVariants as extent
 use Rattle.dfdl_texts.proofs.Whole.{text-from}
 use Rattle.dfdl_grammar.specs.Framing.{aligned}
-use Rattle.dfdl_grammar.specs.Leaves.{Find, Fails, FindsOctets, bits_of, bytes_spanned, field, find_in, program, text_begins, text_find, text_of_size}
+use Rattle.dfdl_grammar.specs.Leaves.{Find, Fails, FindsOctets, bits_of, bytes_spanned, empty_begins, field, find_in, program, text_begins, text_find, text_of_size}
 
 -- looks that lie behind a byte lie behind one before it
 lower : {F : Type 0} (low k : ℕ) → low ≤ k → (a : Ask F) → AsksFrom k a → AsksFrom low a
@@ -27,10 +29,16 @@ from-either low true p q first second = first
 from-either low false p q first second = second
 
 -- a text begins at its box or behind it
-pub text_begins-behind : (size : TextSize) (bit : ℕ) → bit ≤ text_begins size bit
-text_begins-behind (Bits zero) bit = omega arith
-text_begins-behind (Bits (suc bits)) bit = omega arith
-text_begins-behind (Characters count) bit = omega arith
+empty_begins-behind : (content : TextContent) (bit : ℕ) → bit ≤ empty_begins content bit
+empty_begins-behind Plain bit = omega arith
+empty_begins-behind (Number form kind) bit = omega arith
+empty_begins-behind (Zoned form) bit = omega arith
+empty_begins-behind (TextTruth form) bit = omega arith
+
+pub text_begins-behind : (content : TextContent) (size : TextSize) (bit : ℕ) → bit ≤ text_begins content size bit
+text_begins-behind content (Bits zero) bit = empty_begins-behind content bit
+text_begins-behind content (Bits (suc bits)) bit = omega arith
+text_begins-behind content (Characters count) bit = omega arith
 
 -- the program of a text from a byte on
 characters-from : (form : TextForm) (of : Extent) (bit stop low k : ℕ) → low ≤ k
@@ -41,8 +49,8 @@ characters-from form of bit stop low k before =
 
 size-from : (low : ℕ) (form : TextForm) (size : TextSize) (bit stop : ℕ) → low ≤ bit / 8 → AsksFrom low (text_of_size form size bit stop)
 size-from low form (Bits bits) bit stop base =
-    let first : ℕ = text_begins (Bits bits) bit in
-    let behind : bit ≤ first = text_begins-behind (Bits bits) bit in
+    let first : ℕ = text_begins form.content (Bits bits) bit in
+    let behind : bit ≤ first = text_begins-behind form.content (Bits bits) bit in
     from-either low (nat_eq ((bit + bits - first) % 8) 0)
     (and_then (text_at form.encoding form.replaces extent.Box (bit + bits) (first / 8)) (λ text. Answer (text_find form bit text)))
     (Answer (Fails NotFilled)) (characters-from form extent.Box bit (bit + bits) low (first / 8) (omega arith)) tt

@@ -17,6 +17,7 @@ use Rattle.dfdl_texts.specs.declared.extent.Extent.TheVariants as extent
 use Rattle.dfdl_texts.specs.Texts.{Text, Reads, HasBad, IsCut, IsBoxed, IsRead as TextEnds, text_at}
 use Rattle.dfdl_texts.proofs.Whole.{text-lies}
 use Rattle.dfdl_grammar.specs.Framing.{aligned}
+use Rattle.dfdl_parse.proofs.Programs.{text_begins-behind}
 use Rattle.dfdl_grammar.specs.Leaves.{Find, Fails, boxed_text, has_room, text_begins, text_behind, text_ends, text_find, text_of_size}
 use Rattle.dfdl_parse.specs.declared.leaf.Found.{Found}
 use Rattle.dfdl_parse.specs.declared.leaf.Glance.{Glance}
@@ -65,29 +66,29 @@ module _ (look : ℕ → Seen) (form : TextForm) (bit stop : ℕ) where
   text_of of end first = string_of form bit (text_at form.encoding form.replaces of end (first / 8))
 
   -- a string in a box of so many bits, which are whole bytes behind its first bit
-  pub boxed_read : (size : TextSize) (bits first : ℕ) → size ≡ Bits bits → first ≡ text_begins size bit → (bit + bits - first) % 8 ≡ 0
+  pub boxed_read : (size : TextSize) (bits first : ℕ) → size ≡ Bits bits → first ≡ text_begins form.content size bit → (bit + bits - first) % 8 ≡ 0
       → (looks : ℕ) (scratch : Scratch) (glance : Glance) → Is (text_of extent.Box (bit + bits) first) scratch glance looks
       → Is (text_of_size form size bit stop) scratch glance looks
   boxed_read size bits first is begins whole looks scratch glance answers =
       let test : nat_eq ((bit + bits - first) % 8) 0 ≡ true = grind (arith, nat_tests) in
       let boxed : Is (boxed_text form bit first (bit + bits)) scratch glance looks =
       subst (λ (b : Bool). Is (cond b (text_of extent.Box (bit + bits) first) (Answer (Fails NotFilled))) scratch glance looks) (sym test) answers in
-      let there : first ≡ text_begins (Bits bits) bit = begins ∙ ap (λ s. text_begins s bit) is in
+      let there : first ≡ text_begins form.content (Bits bits) bit = begins ∙ ap (λ s. text_begins form.content s bit) is in
       subst (λ s. Is (text_of_size form s bit stop) scratch glance looks) (sym is)
       (subst (λ (f : ℕ). Is (boxed_text form bit f (bit + bits)) scratch glance looks) there boxed)
 
   -- a string whose characters are counted
-  pub counted_read : (size : TextSize) (count first : ℕ) → size ≡ Characters count → first ≡ text_begins size bit
+  pub counted_read : (size : TextSize) (count first : ℕ) → size ≡ Characters count → first ≡ text_begins form.content size bit
       → (looks : ℕ) (scratch : Scratch) (glance : Glance) → Is (text_of (extent.Characters count) stop first) scratch glance looks
       → Is (text_of_size form size bit stop) scratch glance looks
   counted_read size count first is begins looks scratch glance answers =
-      let there : first ≡ text_begins (Characters count) bit = begins ∙ ap (λ s. text_begins s bit) is in
+      let there : first ≡ text_begins form.content (Characters count) bit = begins ∙ ap (λ s. text_begins form.content s bit) is in
       subst (λ s. Is (text_of_size form s bit stop) scratch glance looks) (sym is)
       (subst (λ (f : ℕ). Is (text_of (extent.Characters count) stop f) scratch glance looks) there answers)
 
 -- the same of the text of a form with another size
 module _ (look : ℕ → Seen) (form : TextForm) (bit stop : ℕ) where
-  pub boxed_sized : (size : TextSize) (bits first : ℕ) → size ≡ Bits bits → first ≡ text_begins size bit → (bit + bits - first) % 8 ≡ 0
+  pub boxed_sized : (size : TextSize) (bits first : ℕ) → size ≡ Bits bits → first ≡ text_begins form.content size bit → (bit + bits - first) % 8 ≡ 0
       → (looks : ℕ) (scratch : Scratch) (glance : Glance)
       → Answers (ask look (string_of (sized form (Bits bits)) bit (text_at form.encoding form.replaces extent.Box (bit + bits) (first / 8))) nothing) scratch glance looks
       → Answers (ask look (text_of_size (sized form size) size bit stop) nothing) scratch glance looks
@@ -96,7 +97,7 @@ module _ (look : ℕ → Seen) (form : TextForm) (bit stop : ℕ) where
       (subst (λ s. Answers (ask look (string_of (sized form s) bit (text_at form.encoding form.replaces extent.Box (bit + bits) (first / 8))) nothing) scratch glance looks)
       (sym is) answers)
 
-  pub counted_sized : (size : TextSize) (count first : ℕ) → size ≡ Characters count → first ≡ text_begins size bit
+  pub counted_sized : (size : TextSize) (count first : ℕ) → size ≡ Characters count → first ≡ text_begins form.content size bit
       → (looks : ℕ) (scratch : Scratch) (glance : Glance)
       → Answers (ask look (string_of (sized form (Characters count)) bit (text_at form.encoding form.replaces (extent.Characters count) stop (first / 8))) nothing) scratch glance looks
       → Answers (ask look (text_of_size (sized form size) size bit stop) nothing) scratch glance looks
@@ -137,11 +138,13 @@ module _ (held : Held) (form : TextForm) (bit : ℕ) (come : bit ≤ 8 * end_of 
   ends-boxed first end whole true is = whole (grind (arith, nat_tests))
   ends-boxed first end whole false is = tt
 
-  ends-size : (stop : ℕ) (size : TextSize) → form.size ≡ size → nat_le (text_begins size bit) (text_ends size bit stop) ≡ true
+  ends-size : (stop : ℕ) (size : TextSize) → form.size ≡ size → nat_le (text_begins form.content size bit) (text_ends size bit stop) ≡ true
       → AtEnd (λ e. e ≤ 8 * last) (ask look (text_of_size form size bit stop) nothing).reached
   ends-size stop (Bits zero) is room =
-      ends-boxed bit (bit + 0)
-      (λ whole. ends-string extent.Box (bit + 0) (bit / 8) (omega arith)
+      let first : ℕ = text_begins form.content (Bits zero) bit in
+      let behind : bit ≤ first = text_begins-behind form.content (Bits zero) bit in
+      ends-boxed first (bit + 0)
+      (λ whole. ends-string extent.Box (bit + 0) (first / 8) (omega arith)
       (λ chars end ends. subst (λ s. text_behind s bit end ≤ 8 * last) (sym is) (omega arith))) _ refl
   ends-size stop (Bits (suc bits)) is room =
       let first : ℕ = aligned 8 bit in
@@ -159,6 +162,6 @@ module _ (held : Held) (form : TextForm) (bit : ℕ) (come : bit ≤ 8 * end_of 
   pub string-within : (stop : ℕ) → has_room (PlacedText form) bit stop ≡ true → (looks : ℕ) (scratch : Scratch) (glance : Glance)
       → Answers (ask look (text_of_size form form.size bit stop) nothing) scratch glance looks → IsWithin glance.found last
   string-within stop room looks scratch glance answers =
-      let begins : nat_le (text_begins form.size bit) (text_ends form.size bit stop) ≡ true = grind (arith, nat_tests) in
+      let begins : nat_le (text_begins form.content form.size bit) (text_ends form.size bit stop) ≡ true = grind (arith, nat_tests) in
       ends-found last scratch glance.found
       (subst (λ (r : Reached Find). AtEnd (λ e. e ≤ 8 * last) r) answers.reached (ends-size stop form.size refl begins))

@@ -85,7 +85,7 @@ module _ (look : ℕ → Seen) where
 
   size-ends : (form : TextForm) (size : TextSize) → form.size ≡ size → (bit stop : ℕ) (t : Tally) → EndsBehind bit (ask look (text_of_size form size bit stop) t).reached
   size-ends form (Bits bits) is bit stop t =
-      let first : ℕ = text_begins (Bits bits) bit in
+      let first : ℕ = text_begins form.content (Bits bits) bit in
       either-ends bit (nat_eq ((bit + bits - first) % 8) 0) _ (Answer (Fails NotFilled)) t
       (read-ends form extent.Box bit (bit + bits) (first / 8) t (λ count counted. absurd (cc))) tt
   size-ends form (Characters count) is bit stop t =

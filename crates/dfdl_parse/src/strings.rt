@@ -45,7 +45,7 @@ pub(crate) fn read_string<L: Ledger>(
     ensures within { IfOk result (λ g. IsWithin g.found (end_of sight.now)) }
     ensures pieces { IfOk result (λ g. HasPiece g.found scratch.new) }
 {
-    let first = text_begins(size, bit);
+    let first = text_begins(&form.content, size, bit);
     match size {
         TextSize::Bits(bits) => {
             let end = bit + bits;

@@ -3,14 +3,14 @@ ghost use Rattle.std.specs.Prelude.{◌≡◌, ◌*◌, ◌^◌, ◌≤◌, Some
 ghost use Rattle.dfdl_forms.specs.BinaryNumbers.{IsIntForm, IsPackedForm, IsTruthForm};
 ghost use Rattle.dfdl_terms.specs.declared.row.Primitive.TheVariants.{Integer, Packed, Truth, Octets};
 ghost use Rattle.dfdl_terms.specs.Rows.{IsPrimitive};
-ghost use Rattle.dfdl_grammar.specs.Leaves.{bits_of, content_begins, content_ends, has_room, text_begins, text_ends};
+ghost use Rattle.dfdl_grammar.specs.Leaves.{bits_of, content_begins, content_ends, empty_begins, has_room, text_begins, text_ends};
 ghost use Rattle.dfdl_grammar.specs.Prefixes.{resized};
 ghost use Rattle.dfdl_parse.specs.Steps.{IsNumber};
 ghost use Rattle.dfdl_parse.specs.Views.{IsSound, primitive_of};
 
 use crate::framing::aligned;
 use dfdl_forms::{BitTruthForm, IntForm, PackedForm};
-use dfdl_terms::{OctetForm, Primitive, TextForm, TextSize};
+use dfdl_terms::{OctetForm, Primitive, TextContent, TextForm, TextSize};
 
 /// A primitive with the size that its box has, which may be another than its own.
 #[derive(Clone, Copy)]
@@ -79,19 +79,32 @@ pub(crate) fn content_begins(leaf: Leaf<'_>, bit: u64) -> u64
         Leaf::Packed(_) => bit,
         Leaf::Truth(_) => bit,
         Leaf::Octets(_) => bit,
-        Leaf::Text { size, .. } => text_begins(size, bit),
+        Leaf::Text { form, size } => text_begins(&form.content, size, bit),
     }
 }
 
 /// The bit at which a text begins whose box begins at this one: the next whole byte, where the box has any bit.
-pub(crate) fn text_begins(size: TextSize, bit: u64) -> u64
+pub(crate) fn text_begins(content: &TextContent, size: TextSize, bit: u64) -> u64
     requires { bit ≤ 2 ^ 63 }
-    ensures begin { result ≡ text_begins size bit }
+    ensures begin { result ≡ text_begins content.now size bit }
 {
     match size {
-        TextSize::Bits(0) => bit,
+        TextSize::Bits(0) => empty_begins(content, bit),
         TextSize::Bits(_) => aligned(8, bit),
         TextSize::Characters(_) => aligned(8, bit),
+    }
+}
+
+// The bit at which a text without bits begins whose box begins at this one: a string there, and else the next whole byte.
+fn empty_begins(content: &TextContent, bit: u64) -> u64
+    requires { bit ≤ 2 ^ 63 }
+    ensures begin { result ≡ empty_begins content.now bit }
+{
+    match content {
+        TextContent::Plain => bit,
+        TextContent::Number { .. } => aligned(8, bit),
+        TextContent::Zoned(_) => aligned(8, bit),
+        TextContent::Truth(_) => aligned(8, bit),
     }
 }
 

@@ -1,30 +1,28 @@
 -- What is kept of elements and formats, and the elements of chains.
 use Rattle.std.proofs.Common.{◌≡◌, refl, sym, ap, subst, ◌∙◌, ℕ, zero, ◌+◌, ◌<◌, List, [], ◌∷◌, ◌++◌, length, take, get_or, map, Option, Some, None, option_map, IfSome, codes, arith}
 use Rattle.dfdl_documents.specs.Documents.{SchemaDocument}
-use Rattle.std.proofs.lemmas.List.{get_or-map, map-append, take_more}
-use Rattle.std.proofs.lemmas.Slice.Zip.{all_zipped_more}
+use Rattle.std.proofs.lemmas.List.{get_or-map}
+use mathlib.Core.Path.{fun_ext}
 use Rattle.dfdl_report.specs.declared.place.Place.{Place}
 use Rattle.dfdl_components.specs.declared.site.Site.{Site}
 use Rattle.dfdl_components.specs.Recursion.{count_of, number_of}
 use Rattle.dfdl_components.specs.Sites.{IsSite}
-use Rattle.dfdl_checks.specs.Alike.{AreAlikeChains, IsAlike, IsAlikeElement}
 use Rattle.dfdl_checks.specs.Judged.{Judged}
-use Rattle.dfdl_checks.specs.Orders.{bit_order}
-use Rattle.dfdl_scope.specs.Scoping.{Element, nothing, told}
+use Rattle.dfdl_scope.specs.Scoping.{Element, nothing}
 use Rattle.dfdl_scope.specs.Shown.{format_given}
 use Rattle.dfdl_scope.specs.declared.format.Format.{Format}
-use Rattle.dfdl_chains.specs.Chains.{chain_sites}
 use Rattle.dfdl_chains.specs.Everywhere.{all_sites}
 use Rattle.dfdl_chains.specs.Facts.{facts_at}
 use Rattle.dfdl_chains.specs.Kinds.{kind_at}
 use Rattle.dfdl_references.proofs.Found.{IsFound, of-found, default-found}
 use Rattle.dfdl_breaches.proofs.Joining.{all-tabled}
 use Rattle.dfdl_breaches.proofs.Numbering.{at-number, length-sites, number-below}
-use Rattle.dfdl_breaches.specs.Elements.{element_at, place_of}
+use Rattle.dfdl_breaches.specs.Elements.{place_of}
 use Rattle.dfdl_breaches.specs.Formats.{format_value, given_by}
 use Rattle.dfdl_breaches.specs.Judging.{judged_at}
 use Rattle.dfdl_breaches.specs.KeptShown.{IsFormatIf}
-use Rattle.dfdl_breaches.specs.Roots.{bit_order_at, root_bits_by}
+use Rattle.dfdl_breaches.specs.Prefixes.{prefix_at}
+use Rattle.dfdl_breaches.specs.Roots.{chain_at, root_bits_by}
 use Rattle.dfdl_references.specs.References.{default_of, format_of}
 use Rattle.dfdl_breaches.specs.Tabled.{AreJoined, AreTabled}
 
@@ -83,39 +81,33 @@ number_low relation documents sites table own n is tabled at number =
     let counted : length (all_sites documents) ≡ count_of documents = length-sites documents in
     subst (λ (k : ℕ). n < k) (sym (long ∙ (all ∙ counted))) (subst (λ (k : ℕ). k < count_of documents) (sym number) low)
 
--- a chain with the next element
-pub chain_more : (documents : List SchemaDocument) (sites : List Site) (n : ℕ) (old new : List Element) (element : Element) (d : Site) → n < length sites
-    → AreAlikeChains old (map (element_at documents) (take n sites)) → IsAlikeElement element (element_at documents (get_or sites n d)) → new ≡ old ++ element ∷ []
-    → AreAlikeChains new (map (element_at documents) (take (n + 1) sites))
-chain_more documents sites n old new element d low before alike pushed =
-    subst (λ (xs : List Element). AreAlikeChains xs (map (element_at documents) (take (n + 1) sites))) (sym pushed)
-    (subst (λ (ys : List Element). AreAlikeChains (old ++ element ∷ []) ys)
-    (sym (ap (λ (xs : List Site). map (element_at documents) xs) (take_more sites n d low) ∙ map-append (element_at documents) (take n sites) (get_or sites n d ∷ [])))
-    (all_zipped_more IsAlikeElement old (map (element_at documents) (take n sites)) element (element_at documents (get_or sites n d)) before alike))
-
 -- a place by its parts
 pub same_place : (place : Place) (document at : ℕ) → place.document ≡ document → place.at ≡ at → place ≡ record { document = document; at = at }
 same_place place document at one other =
     ap (λ (d : ℕ). record { document = d; at = place.at }) one ∙ ap (λ (a : ℕ). record { document = document; at = a }) other
 
--- a component whose parts are those of the documents
-pub alike_judged : (documents : List SchemaDocument) (own : Site) (sites : List Site) (j : Judged) → j.kind ≡ kind_at documents own
-    → j.place.document ≡ (place_of documents own).document → j.place.at ≡ (place_of documents own).at → sites ≡ chain_sites documents own
-    → AreAlikeChains j.chain (map (element_at documents) sites) → j.facts ≡ facts_at documents own → j.root_bits_by ≡ root_bits_by documents
-    → IsAlike j (judged_at j.purpose documents own)
-alike_judged documents own sites j kind document at is chain facts root = record {
-  purpose = refl;
-  kind = kind;
-  place = same_place j.place (place_of documents own).document (place_of documents own).at document at;
-  chain = subst (λ (xs : List Site). AreAlikeChains j.chain (map (element_at documents) xs)) is chain;
-  facts = facts;
-  root_bits_by = root;
+-- an element whose parts are those of another
+pub same_element : (a b : Element) → a.place ≡ b.place → ((name : List ℕ) → a.own name ≡ b.own name) → ((name : List ℕ) → a.is_twice name ≡ b.is_twice name)
+    → ((name : List ℕ) → a.format name ≡ b.format name) → ((name : List ℕ) → a.by_default name ≡ b.by_default name) → a ≡ b
+same_element a b place own twice format default = λ i. record {
+  place = place i;
+  own = fun_ext own i;
+  is_twice = fun_ext twice i;
+  format = fun_ext format i;
+  by_default = fun_ext default i;
 }
 
--- the order of bits that a component's chain tells
-pub order_told : (documents : List SchemaDocument) (own : Site) (sites : List Site) (chain : List Element)
-    → ((xs ys : List Element) (name : List ℕ) → AreAlikeChains xs ys → told xs name ≡ told ys name) → sites ≡ chain_sites documents own
-    → AreAlikeChains chain (map (element_at documents) sites) → bit_order (told chain (codes "bitOrder")) ≡ bit_order_at documents own
-order_told documents own sites chain same is alike =
-    ap bit_order (same chain (map (element_at documents) sites) (codes "bitOrder") alike
-    ∙ ap (λ (xs : List Site). told (map (element_at documents) xs) (codes "bitOrder")) is)
+-- a component whose parts are those of the documents
+pub same_judged : (documents : List SchemaDocument) (own : Site) (j : Judged) → j.kind ≡ kind_at documents own
+    → j.place.document ≡ (place_of documents own).document → j.place.at ≡ (place_of documents own).at → j.chain ≡ chain_at documents own
+    → j.facts ≡ facts_at documents own → j.root_bits_by ≡ root_bits_by documents → j.prefix ≡ prefix_at documents own
+    → j ≡ judged_at j.purpose documents own
+same_judged documents own j kind document at chain facts root prefix = λ i. record {
+  purpose = j.purpose;
+  kind = kind i;
+  place = same_place j.place (place_of documents own).document (place_of documents own).at document at i;
+  chain = chain i;
+  facts = facts i;
+  root_bits_by = root i;
+  prefix = prefix i;
+}

@@ -5,3 +5,4 @@ mod Ordered
 mod Roots
 pub mod Searches
 mod Tables
+mod PrefixTypes

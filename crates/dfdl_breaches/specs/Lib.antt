@@ -6,3 +6,5 @@ pub mod Judging
 pub mod Numbered
 pub mod Tabled
 pub mod KeptShown
+pub mod PrefixesShown
+pub mod JudgementShown

@@ -7,10 +7,10 @@ ghost use Rattle.dfdl_references.specs.References.{default_of, format_of};
 ghost use Rattle.dfdl_breaches.specs.Tabled.{AreDefaults, AreTabled, IsEntry};
 
 use crate::entry::Entry;
-use dfdl_references::{default_of, format_of};
 use crate::sites::Sites;
 use dfdl_components::{Schema, Site};
 use dfdl_properties::own_properties;
+use dfdl_references::{default_of, format_of};
 use std::alloc::{AllocError, Global};
 
 // The number of a format that may be lacking.

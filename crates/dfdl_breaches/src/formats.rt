@@ -8,11 +8,11 @@ ghost use Rattle.dfdl_breaches.specs.Numbered.{AreSites};
 ghost use Rattle.dfdl_breaches.specs.Tabled.{AreJoined, AreTabled, IsFormatOwn, number_after};
 ghost use Rattle.dfdl_references.specs.References.{is_format};
 
-use dfdl_references::format_after;
 use crate::sites::Sites;
 use dfdl_components::{Schema, Site, order};
 use dfdl_constructs::Role;
 use dfdl_properties::{format_properties, formats};
+use dfdl_references::format_after;
 use dfdl_scope::{Format, Properties};
 use std::alloc::{AllocError, Global};
 

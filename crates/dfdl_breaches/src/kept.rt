@@ -1,6 +1,5 @@
 // What is kept of a schema.
 ghost use Rattle.std.specs.Prelude.{◌≡◌, ◌<◌, ℕ, List, Option, length, option_map, IfSome};
-ghost use Rattle.dfdl_checks.specs.Alike.{IsAlikeElement};
 ghost use Rattle.dfdl_components.specs.Recursion.{count_of, number_of};
 ghost use Rattle.dfdl_components.specs.Sites.{IsSite};
 ghost use Rattle.dfdl_components.specs.declared.site.Site as declared_site;
@@ -13,7 +12,7 @@ ghost use Rattle.dfdl_breaches.specs.Tabled.{AreJoined, IsEntry};
 use crate::entry::Entry;
 use crate::sites::Sites;
 use dfdl_components::{Schema, Site};
-use dfdl_scope::{Element, Format};
+use dfdl_scope::{Element, Format, Properties};
 
 /// What is kept of a schema: its elements, what each of them gives, and the formats.
 #[derive(Clone, Copy)]
@@ -21,6 +20,8 @@ pub(crate) struct Kept<'e, 's> {
     pub(crate) sites: &'e Sites,
     pub(crate) entries: &'e [Entry<'s>],
     pub(crate) formats: &'e [Format<'s>],
+    /// What gives no property.
+    pub(crate) nothing: &'e Properties<'s>,
 }
 
 // The format of a number.
@@ -59,7 +60,7 @@ pub(crate) fn element_at<'e, 's>(
 ) -> Element<'e, 's>
     requires kept { AreKept schema.now kept.now }
     requires site { IsSite schema.now site }
-    ensures { IsAlikeElement (element_of result) (element_at schema.now site) }
+    ensures { element_of result ≡ element_at schema.now site }
 {
     let entry = entry_at(kept, schema, site);
     Element {

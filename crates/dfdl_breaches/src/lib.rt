@@ -7,12 +7,14 @@
 //! 'Property Scoping and DFDL Schema Checking'.
 #![tactic(auto)]
 
+mod chain;
 mod entries;
 mod entry;
 mod formats;
 mod judgement;
 mod kept;
 pub mod laws;
+mod prefixes;
 mod root;
 mod sites;
 mod telling;

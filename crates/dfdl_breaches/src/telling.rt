@@ -1,49 +1,30 @@
 // What is told of all components of a schema.
-ghost use Rattle.std.specs.Prelude.{◌≡◌, map, IfOk, All, true};
-ghost use Rattle.dfdl_checks.specs.Alike.{AreAlikeChains};
+ghost use Rattle.std.specs.Prelude.{◌≡◌, IfOk, All};
 ghost use Rattle.dfdl_components.specs.Rules.{loading_rules, AllKeep};
-ghost use Rattle.dfdl_components.specs.Sites.{IsSite, role_of};
+ghost use Rattle.dfdl_components.specs.Sites.{IsSite};
 ghost use Rattle.dfdl_chains.specs.Chains.{chain_sites};
 ghost use Rattle.dfdl_chains.specs.Everywhere.{for_each};
-ghost use Rattle.dfdl_chains.specs.Parts.{is_component};
-ghost use Rattle.dfdl_scope.specs.Shown.{chain_of};
-ghost use Rattle.dfdl_breaches.specs.Elements.{element_at};
-ghost use Rattle.dfdl_breaches.specs.Judging.{breach_at, framing_at, judgement_at, primitive_at, size_at};
+ghost use Rattle.dfdl_checks.specs.JudgedShown.{judged_of};
+ghost use Rattle.dfdl_breaches.specs.JudgementShown.{judgement_of};
+ghost use Rattle.dfdl_breaches.specs.Judging.{judged_at, judgement_at};
 ghost use Rattle.dfdl_breaches.specs.KeptShown.{AreKept};
 ghost use Rattle.dfdl_breaches.specs.Roots as spec;
 
+use crate::chain::chain_at;
 use crate::entries::entries_of;
 use crate::formats::formats_of;
 use crate::judgement::Judgement;
-use crate::kept::{Kept, element_at};
+use crate::kept::Kept;
+use crate::prefixes::{lent, prefix_at};
 use crate::root::root_of;
 use crate::sites::sites_of;
 use dfdl_chains::{chain_sites, facts_at, is_component, kind_at};
-use dfdl_checks::laws::{alike_chains_tell_the_same, alike_components_are_judged_alike};
-use dfdl_checks::{Purpose, Subject, bit_order, breach, framing, primitive, size_of_box};
+use dfdl_checks::{Purpose, Subject, bit_order, breach, framing, prefix, primitive, size_of_box};
 use dfdl_components::{Schema, Site};
 use dfdl_forms::BitOrder;
-use dfdl_scope::Component;
+use dfdl_scope::Properties;
 use dfdl_terms::Framing;
 use std::alloc::{AllocError, Global};
-
-// The chain of these elements.
-fn chain_at<'e, 's>(
-    alloc: Global,
-    kept: &Kept<'e, 's>,
-    schema: &Schema,
-    sites: &[Site],
-) -> Result<Component<'e, 's>, AllocError>
-    requires kept { AreKept schema.now kept.now }
-    requires sites { All (IsSite schema.now) sites.now }
-    ensures { IfOk result (λ chain. AreAlikeChains (chain_of chain) (map (element_at schema.now) sites.now)) }
-{
-    let mut chain = Component::new(alloc);
-    for site in sites {
-        chain.push_element(element_at(kept, schema, *site))?;
-    }
-    Ok(chain)
-}
 
 // The order of bits that is told at a component with this chain.
 fn bit_order_at(
@@ -59,7 +40,6 @@ fn bit_order_at(
     ensures { IfOk result (λ order. order ≡ spec.bit_order_at schema.now site) }
 {
     let _ = site;
-    alike_chains_tell_the_same();
     let component = chain_at(alloc, kept, schema, sites)?;
     Ok(bit_order(&component))
 }
@@ -78,7 +58,23 @@ fn root_bits_by(alloc: Global, kept: &Kept<'_, '_>, schema: &Schema) -> Result<B
     bit_order_at(alloc, kept, schema, root, chain.as_slice())
 }
 
-// What is told of a component with this chain.
+// What is told of a component, by what the rules see of it.
+fn told_of(alloc: Global, subject: &Subject<'_, '_, '_>) -> Result<Judgement, AllocError>
+    ensures { IfOk result (λ judgement. judgement ≡ judgement_of (judged_of subject.now)) }
+{
+    let breach = breach(alloc, subject)?;
+    let primitive = primitive(alloc, subject)?;
+    let prefix = prefix(alloc, subject)?;
+    Ok(Judgement {
+        breach,
+        primitive,
+        framing: framing(subject),
+        size: size_of_box(subject),
+        prefix,
+    })
+}
+
+// What is told of a component whose chain has these elements.
 fn judged(
     alloc: Global,
     kept: &Kept<'_, '_>,
@@ -93,13 +89,10 @@ fn judged(
     requires site { IsSite schema.now site }
     requires chain { sites.now ≡ chain_sites schema.now site }
     requires within { All (IsSite schema.now) sites.now }
-    ensures breach { IfOk result (λ judgement. judgement.breach ≡ breach_at purpose schema.now site) }
-    ensures primitive { IfOk result (λ judgement. judgement.primitive ≡ primitive_at purpose schema.now site) }
-    ensures framing { IfOk result (λ judgement. judgement.framing ≡ framing_at purpose schema.now site) }
-    ensures size { IfOk result (λ judgement. judgement.size ≡ size_at purpose schema.now site) }
+    ensures { IfOk result (λ judgement. judgement ≡ judgement_of (judged_at purpose schema.now site)) }
 {
-    alike_components_are_judged_alike();
     let chain = chain_at(alloc, kept, schema, sites)?;
+    let prefix = prefix_at(alloc, kept, schema, site, sites, &chain)?;
     let subject = Subject {
         purpose,
         kind: kind_at(schema, &kept.sites.numbers, site),
@@ -107,13 +100,9 @@ fn judged(
         chain: &chain,
         facts: facts_at(schema, site, sites),
         root_bits_by: bits_by,
+        prefix: lent(&prefix),
     };
-    Ok(Judgement {
-        breach: breach(&subject),
-        primitive: primitive(&subject),
-        framing: framing(&subject),
-        size: size_of_box(&subject),
-    })
+    told_of(alloc, &subject)
 }
 
 // What is told of an element. The list takes its chain.
@@ -138,6 +127,7 @@ fn judgement(
             primitive: None,
             framing: Framing::none(),
             size: None,
+            prefix: None,
         });
     }
     chain_sites(schema, &kept.sites.numbers, site, chain)?;
@@ -189,10 +179,12 @@ pub fn breaches(
     let sites = sites_of(alloc, schema)?;
     let formats = formats_of(alloc, schema, &sites)?;
     let entries = entries_of(alloc, schema, &sites)?;
+    let nothing = Properties::new(alloc);
     let kept = Kept {
         sites: &sites,
         entries: entries.as_slice(),
         formats: formats.as_slice(),
+        nothing: &nothing,
     };
     let bits_by = root_bits_by(alloc, &kept, schema)?;
     judgements(alloc, &kept, schema, purpose, bits_by)

@@ -3,3 +3,4 @@ pub mod Numbering
 mod Deriving
 mod Finding
 mod Digits
+mod Naming

@@ -198,7 +198,7 @@ typed_within documents text (Some named.Carried) found = by_simple (simple_named
     by_simple (Some simple) = tt
 typed_within documents text (Some named.NotCarried) found = tt
 
-type_named_within : (documents : List SchemaDocument) (own : Site) (text : Option (List ℕ)) → IsTypeOf documents (derivation.type_named documents own text)
+pub type_named_within : (documents : List SchemaDocument) (own : Site) (text : Option (List ℕ)) → IsTypeOf documents (derivation.type_named documents own text)
 type_named_within documents own None = tt
 type_named_within documents own (Some text) = typed_within documents text (resolved documents own kind.Type text) (resolved_within documents own kind.Type text)
 
@@ -233,7 +233,7 @@ simple_within documents (Defined own) within = by_test (derivation.is_simple_typ
     by_test false = tt
 
 -- the simple types that a type comes of
-derived_within : (documents : List SchemaDocument) (n : ℕ) (t : Typed) → IsTypeOf documents t → All (IsSite documents) (derivation.derived_within n documents t)
+pub derived_within : (documents : List SchemaDocument) (n : ℕ) (t : Typed) → IsTypeOf documents t → All (IsSite documents) (derivation.derived_within n documents t)
 unfolding derivation.derived_within
 derived_within documents zero t within = All-nil (IsSite documents)
 derived_within documents (suc n) t within = by_simple (derived_within documents n) (derivation.simple_type documents t) (simple_within documents t within)

@@ -9,3 +9,4 @@ pub mod Facts
 pub mod Everywhere
 pub mod Shown
 pub mod Prefixes
+pub mod NamedShown

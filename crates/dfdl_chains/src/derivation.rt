@@ -23,8 +23,8 @@ fn built_in(simple: Option<Simple>) -> Typed
     }
 }
 
-// The type that is named by a text.
-fn typed_by(text: &str, named: Option<Named>) -> Typed
+/// The type that is named by a text.
+pub(crate) fn typed_by(text: &str, named: Option<Named>) -> Typed
     ensures { result ≡ derivation.typed_by text.now named }
 {
     match named {
@@ -122,8 +122,8 @@ fn simple_type(schema: &Schema, typed: Typed) -> Option<Site>
     }
 }
 
-// What a type comes to after at most so many restrictions.
-fn primitive(schema: &Schema, typed: Typed, most: u32) -> Typed
+/// What a type comes to after at most so many restrictions.
+pub(crate) fn primitive(schema: &Schema, typed: Typed, most: u32) -> Typed
     requires { IsTypeOf schema.now typed }
     ensures typed { result ≡ derivation.primitive_within most schema.now typed }
     ensures within { IsTypeOf schema.now result }
@@ -151,9 +151,9 @@ pub fn type_of(schema: &Schema, numbers: &Numbers, site: Site) -> Typed
     primitive(schema, typed, numbers.count())
 }
 
-// Adds the simple types that documents define, from a type down to the last that it comes of, at most
-// so many.
-fn push_derived(
+/// Adds the simple types that documents define, from a type down to the last that it comes of, at most
+/// so many.
+pub(crate) fn push_derived(
     schema: &Schema,
     typed: Typed,
     most: u32,

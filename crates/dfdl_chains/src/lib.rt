@@ -1,8 +1,8 @@
 //! What the components of a schema are joined from and consist of: the declaration of an element, its type, its chain of
-//! elements with properties, its parts, its kind and what it states besides properties.
+//! elements with properties, its parts, its kind, what it states besides properties, and the type of a length prefix by its name.
 //!
 //! Contracts cite `specs/Declarations.antt`, `specs/Derivation.antt`, `specs/Chains.antt`, `specs/Parts.antt`,
-//! `specs/Kinds.antt`, `specs/Lengths.antt` and `specs/Facts.antt`. The chapters are 'DFDL Schema Component Model' and 'Property Scoping and DFDL
+//! `specs/Kinds.antt`, `specs/Lengths.antt`, `specs/Facts.antt` and `specs/Prefixes.antt`. The chapters are 'DFDL Schema Component Model' and 'Property Scoping and DFDL
 //! Schema Checking'.
 #![tactic(auto)]
 
@@ -13,8 +13,10 @@ mod everywhere;
 mod facts;
 mod kinds;
 mod lengths;
+mod named_type;
 mod numbers;
 mod parts;
+mod prefixes;
 mod simple;
 #[cfg(test)]
 mod tests;
@@ -26,6 +28,8 @@ pub use derivation::type_of;
 pub use everywhere::all_sites;
 pub use facts::facts_at;
 pub use kinds::kind_at;
+pub use named_type::NamedType;
 pub use numbers::Numbers;
 pub use parts::{is_component, parts_at};
+pub use prefixes::prefix_type;
 pub use typed::Typed;

@@ -1,8 +1,8 @@
-// The greatest lengths of the elements of schemas in memory.
+// The greatest lengths of the elements of schemas in memory, and the types that names name.
 ghost use Rattle.dfdl_components.specs.Sites.{IsSite};
 ghost use Rattle.dfdl_chains.specs.Shown.{AreNumbers};
 
-use crate::{Numbers, chain_sites, facts_at, is_component};
+use crate::{Numbers, chain_sites, facts_at, is_component, prefix_type};
 use dfdl_components::{Schema, Site, load};
 use dfdl_edge::{MemoryFile, MemoryFiles};
 use std::alloc::{AllocError, Global};
@@ -42,8 +42,8 @@ fn told_of_all(alloc: Global, schema: &Schema) -> Result<String, AllocError> {
     Ok(line)
 }
 
-/// What is told of a schema of one document with these components.
-fn told(alloc: Global, components: &str) -> Result<String, AllocError> {
+/// The schema of one document with these components.
+fn loaded(alloc: Global, components: &str) -> Result<Option<Schema>, AllocError> {
     let text = format!(in alloc;
         "<x:schema xmlns:x=\"http://www.w3.org/2001/XMLSchema\">{components}</x:schema>"
     )?;
@@ -53,9 +53,30 @@ fn told(alloc: Global, components: &str) -> Result<String, AllocError> {
         bytes: text.into_bytes(),
     })?;
     let mut files = MemoryFiles::new(files, Vec::new(alloc));
-    match load(alloc, &mut files, "a", 10_000, 2) {
-        Ok(schema) => told_of_all(alloc, &schema),
-        Err(_) => String::from_str(alloc, "refused"),
+    Ok(load(alloc, &mut files, "a", 10_000, 2).ok())
+}
+
+/// What is told of a schema of one document with these components.
+fn told(alloc: Global, components: &str) -> Result<String, AllocError> {
+    match loaded(alloc, components)? {
+        Some(schema) => told_of_all(alloc, &schema),
+        None => String::from_str(alloc, "refused"),
+    }
+}
+
+/// The type that a text names at the first element: its simple type, and of how many it comes.
+fn type_told(alloc: Global, schema: &Schema, text: &str) -> Result<String, AllocError> {
+    let numbers = Numbers::of(alloc, schema)?;
+    if schema.count() == 0 || schema.tree(0).count() == 0 {
+        return String::from_str(alloc, "no element");
+    }
+    let writer = Site {
+        document: 0,
+        element: 0,
+    };
+    match prefix_type(alloc, schema, &numbers, writer, text)? {
+        Some(named) => format!(in alloc; "{:?} {}", named.simple, named.sites.len()),
+        None => String::from_str(alloc, "nothing"),
     }
 }
 
@@ -76,5 +97,32 @@ fn the_nearest_greatest_length_counts(rt: HostRuntime) -> Result<(), Fail> {
         <x:maxLength value=\"18446744073709551616\"/></x:restriction></x:simpleType></x:element>";
     let line = told(alloc, components)?;
     assert_eq!(rt; line.as_str(), "12 40 7 - - - 40 18446744073709551615 ");
+    Ok(())
+}
+
+#[test]
+fn a_prefix_is_of_the_type_that_is_named(rt: HostRuntime) -> Result<(), Fail> {
+    let alloc = rt.alloc();
+    let components =
+        "<x:simpleType name=\"far\"><x:restriction base=\"x:unsignedByte\"/></x:simpleType>\
+        <x:simpleType name=\"near\"><x:restriction base=\"far\"/></x:simpleType>\
+        <x:complexType name=\"many\"><x:sequence/></x:complexType>\
+        <x:element name=\"near\" type=\"x:date\"/>";
+    let Some(schema) = loaded(alloc, components)? else {
+        return Err(Fail::new("refused"));
+    };
+    let cases = [
+        ("near", "Some(UnsignedByte) 2"),
+        ("far", "Some(UnsignedByte) 1"),
+        ("x:unsignedShort", "Some(UnsignedShort) 0"),
+        ("x:date", "None 0"),
+        ("many", "None 0"),
+        ("other", "nothing"),
+        ("y:near", "nothing"),
+    ];
+    for (text, expected) in cases {
+        let line = type_told(alloc, &schema, text)?;
+        assert_eq!(rt; line.as_str(), expected);
+    }
     Ok(())
 }

@@ -6,3 +6,9 @@ use Rattle.dfdl_breaches.proofs.laws.sound_elements_have_bounded_primitives.Goal
 pub returns-clause-whole : goal.returns-clause-whole
 returns-clause-whole c =
     λ documents own p is. c.primitives_for_unparsing_are_whole.ensures (judged_at Unparsing documents own) p refl is
+
+pub returns-clause-prefix : goal.returns-clause-prefix
+returns-clause-prefix c = λ purpose documents own f is. c.prefixes_are_bounded.ensures.bounded (judged_at purpose documents own) f is
+
+pub returns-clause-kind : goal.returns-clause-kind
+returns-clause-kind c = λ purpose documents own p is. c.primitives_are_bounded.ensures.kind (judged_at purpose documents own) p is

@@ -1,10 +1,11 @@
-use Rattle.std.proofs.Common.{◌∙◌}
-use Rattle.dfdl_scope.specs.Shown.{chain_of}
-use Rattle.dfdl_breaches.proofs.Keeping.{order_told}
+use Rattle.std.proofs.Common.{◌∙◌, ap, map, List, codes}
+use Rattle.dfdl_scope.specs.Scoping.{Element, told}
+use Rattle.dfdl_checks.specs.Orders.{bit_order}
+use Rattle.dfdl_breaches.specs.Elements.{element_at}
 use Rattle.dfdl_breaches.proofs.telling.bit_order_at.Goals as goal
 
 pub returns : goal.returns
 returns c =
     c.bit_order.ensures
-    ∙ order_told c.args.schema.now c.args.site c.args.sites.now (chain_of c.in_ok-component.component) c.alike_chains_tell_the_same.ensures c.requires.chain
-    c.in_ok-component.ensures
+    ∙ ap (λ (chain : List Element). bit_order (told chain (codes "bitOrder")))
+    (c.in_ok-component.ensures ∙ ap (map (element_at c.args.schema.now)) c.requires.chain)

@@ -1,5 +1,5 @@
 -- The components of documents are those of one schema.
-use Rattle.std.proofs.Common.{◌≡◌, ℕ, zero, suc, ◌<◌, ◌≤◌, List, [], ◌∷◌, length, map, get_or, All, Option, Some, None, ap, sym, subst, ◌∙◌, refl, arith}
+use Rattle.std.proofs.Common.{◌≡◌, ℕ, zero, suc, ◌<◌, ◌≤◌, List, [], ◌∷◌, length, map, get_or, All, Option, Some, None, option_map, ap, sym, subst, ◌∙◌, refl, arith}
 use Rattle.std.proofs.lemmas.List.{length-map}
 use Rattle.std.proofs.lemmas.List.Elements.{All-nil, All-append, All-push, All-cons}
 use Rattle.dfdl_constructs.specs.declared.role.Role.{Role}
@@ -12,6 +12,7 @@ use Rattle.dfdl_components.specs.Globals.{site}
 use Rattle.dfdl_components.specs.Sites.{IsSite, nodes_of, role_of}
 use Rattle.dfdl_components.specs.Recursion.{count_of, number_of}
 use Rattle.dfdl_checks.specs.declared.purpose.Purpose.{Purpose}
+use Rattle.dfdl_checks.specs.declared.subject.Kind.{Kind}
 use Rattle.dfdl_chains.specs.declared.typed.Typed.{Typed}
 use Rattle.dfdl_chains.specs.declared.typed.Typed.TheVariants.{Carried, NotCarried, Defined}
 use Rattle.dfdl_chains.specs.Chains.{listed}
@@ -31,7 +32,7 @@ use Rattle.dfdl_rows.specs.declared.component.Component.TheVariants.{Sequence}
 use Rattle.dfdl_rows.specs.declared.refusal.Refusal.{Refusal}
 use Rattle.dfdl_report.specs.declared.place.Place.{Place}
 use Rattle.dfdl_breaches.specs.Elements.{place_of}
-use Rattle.dfdl_compile.specs.Components.{refusal_at, component_by, reference_by, component_of, component_at, element_name, part_numbers, components_of}
+use Rattle.dfdl_compile.specs.Components.{refusal_at, component_by, reference_by, component_of, component_at, element_name, part_numbers, prefix_by, prefix_number, components_of}
 
 -- a list that is made from one that is made
 pub twice : {X Y Z : Type 0} (g : Y → Z) (f : X → Y) (xs : List X) → map g (map f xs) ≡ map (λ x. g (f x)) xs
@@ -89,19 +90,22 @@ fits P f g holds a b (x ∷ xs) zero less = holds x
 fits P f g holds a b (x ∷ xs) (suc c) less = fits P f g holds a b xs c (omega (arith, less))
 
 module _ (purpose : Purpose) (documents : List SchemaDocument) (own : Site) where
+  -- the element or group of this kind that an element of the documents is
+  abbrev pub of_kind : Kind → Component
+  of_kind kind = component_by (element_name documents own) (primitive_by (judgement_at purpose documents own)) (number_of documents own)
+      (judgement_at purpose documents own).framing (judgement_at purpose documents own).size
+      (option_map (prefix_by (prefix_number documents own)) (judgement_at purpose documents own).prefix) kind
+
   abbrev pub made : Role → Component
   made role.GroupReference = reference_by (judgement_at purpose documents own).framing (referred documents own names.Group)
-  made r = component_by (element_name documents own) (primitive_by (judgement_at purpose documents own)) (number_of documents own)
-      (judgement_at purpose documents own).framing (judgement_at purpose documents own).size (kind_by documents own r)
+  made r = of_kind (kind_by documents own r)
 
   pub made_is : (r : Role) → r ≡ role_of documents own → component_of documents own (judgement_at purpose documents own) r ≡ made r
   unfolding kind_at
   made_is role.GroupReference is = refl
-  made_is r is = ap (λ (q : Role). component_by (element_name documents own) (primitive_by (judgement_at purpose documents own)) (number_of documents own)
-      (judgement_at purpose documents own).framing (judgement_at purpose documents own).size (kind_by documents own q)) (sym is)
+  made_is r is = ap (λ (q : Role). of_kind (kind_by documents own q)) (sym is)
 
-  typed_fits : (t : Typed) → CanHave (component_by (element_name documents own) (primitive_by (judgement_at purpose documents own)) (number_of documents own)
-      (judgement_at purpose documents own).framing (judgement_at purpose documents own).size (kind_of_type t)) (map (number_of documents) (contents documents t))
+  typed_fits : (t : Typed) → CanHave (of_kind (kind_of_type t)) (map (number_of documents) (contents documents t))
   typed_fits (Carried simple) = refl
   typed_fits NotCarried = refl
   typed_fits (Defined type) = refl

@@ -1,6 +1,7 @@
 -- Each simple element is read by a primitive of its type, and the last row is the root's.
-use Rattle.std.proofs.Common.{◌≡◌, ℕ, ◌<◌, Bool, true, false, List, length, map, slice_get, get_or, All, Option, None, Some, option_map, unwrap_or, ap, sym, subst, ◌∙◌, refl, arith, if◌then◌else◌}
-use Rattle.std.proofs.lemmas.List.{length-map}
+use Rattle.std.proofs.Common.{◌≡◌, ℕ, ◌+◌, ◌<◌, Bool, true, false, List, ◌++◌, length, length-append, map, slice_get, get_or, All, Option, None, Some, option_map, unwrap_or, ap, sym, subst, ◌∙◌, refl, arith, if◌then◌else◌}
+use Rattle.std.proofs.lemmas.List.{length-map, get_or_append_left}
+use Rattle.std.proofs.lemmas.List.Elements.{All-append}
 use Rattle.std.proofs.lemmas.Option.{slice_get-map, slice_get-get_or, slice_get_within}
 use Rattle.dfdl_forms.specs.declared.simple.Simple.{Simple}
 use Rattle.dfdl_constructs.specs.declared.role.Role.{Role}
@@ -13,6 +14,7 @@ use Rattle.dfdl_components.specs.Sites.{IsSite, role_of}
 use Rattle.dfdl_components.specs.Recursion.{count_of, number_of}
 use Rattle.dfdl_checks.specs.Forms.{IsWhole}
 use Rattle.dfdl_checks.specs.Numbers.{type_of}
+use Rattle.dfdl_checks.specs.declared.prefixes.PrefixForm.{PrefixForm}
 use Rattle.dfdl_checks.specs.declared.purpose.Purpose.{Purpose}
 use Rattle.dfdl_checks.specs.declared.purpose.Purpose.TheVariants.{Unparsing}
 use Rattle.dfdl_checks.specs.declared.subject.Kind.{Kind}
@@ -25,130 +27,198 @@ use Rattle.dfdl_chains.specs.Everywhere.{all_sites, for_each}
 use Rattle.dfdl_chains.specs.Kinds.{kind_at, kind_of_type}
 use Rattle.dfdl_chains.specs.Parts.{is_component}
 use Rattle.dfdl_chains.proofs.Numbering.{number_below, length_all}
-use Rattle.dfdl_breaches.specs.Judging.{breach_at, primitive_at as judged, framing_at, judgement_at, no_judgement, size_at}
+use Rattle.dfdl_breaches.specs.Judging.{breach_at, primitive_at as judged, form_of_prefix, framing_at, judgement_at, no_judgement, size_at}
 use Rattle.dfdl_breaches.specs.declared.judgement.Judgement.{Judgement}
 use Rattle.dfdl_breaches.proofs.Numbering.{value-at}
-use Rattle.dfdl_terms.specs.Leaves.{ReadsBy, leaf, grouped}
+use Rattle.dfdl_terms.specs.Leaves.{ReadsBy, leaf, prefixed, grouped}
 use Rattle.dfdl_terms.specs.Framing.{no_fill}
 use Rattle.dfdl_terms.specs.declared.framing.Framing.{Framing}
+use Rattle.dfdl_terms.specs.declared.prefix.Prefix.{Prefix}
 use Rattle.dfdl_terms.specs.Rows.{HasElementLast, IsElementRow, IsPrimitive, Table}
 use Rattle.dfdl_terms.specs.declared.row.Primitive.{Primitive}
 use Rattle.dfdl_terms.specs.declared.row.Row.{Row}
-use Rattle.dfdl_terms.specs.declared.row.Row.TheVariants.{Leaf, Elem, Group, Skip, Align, Boxed}
+use Rattle.dfdl_terms.specs.declared.row.Row.TheVariants.{Leaf, Elem, Group, Skip, Align, Boxed, PrefixedLeaf, PrefixedBox}
 use Rattle.dfdl_rows.specs.Answers.{EndsWith}
-use Rattle.dfdl_rows.specs.Components.{Schema, HasPrimitive, IsBareComponent, component_at as part_at}
+use Rattle.dfdl_rows.specs.Components.{Schema, HasPrimitive, HasBoxPrimitive, HasPrefixPrimitive, IsBareComponent, component_at as part_at}
 use Rattle.dfdl_rows.specs.Fill.{has_fill}
 use Rattle.dfdl_rows.specs.Leaves.{HaveLeaves, HaveBareLeaves, IsAmong, IsLeafOf}
+use Rattle.dfdl_rows.specs.declared.component.ContentBox.TheVariants.{Unbounded}
 use Rattle.dfdl_rows.specs.declared.component.Component.{Component}
 use Rattle.dfdl_rows.specs.declared.component.Component.TheVariants.{Sequence, SimpleElement}
 use Rattle.dfdl_breaches.specs.Roots.{is_global_element}
-use Rattle.dfdl_compile.specs.Components.{component_by, reference_by, component_of, component_at, components_of, element_name, primitive_at, primitives_of}
-use Rattle.dfdl_compile.specs.Primitives.{HasTypedLeaves, HasBareTypedLeaves, IsLeafOfType, IsOfType, a_byte, primitive_by}
-use Rattle.dfdl_compile.proofs.Fitting.{all_within, each, made, made_is, twice}
+use Rattle.dfdl_compile.specs.Components.{box_by, reference_by, component_of, component_at, components_of, prefix_by, prefix_number, prefix_primitive_at, primitive_at, primitives_of}
+use Rattle.dfdl_compile.specs.Primitives.{HasTypedLeaves, HasBareTypedLeaves, IsLeafOfType, IsOfType, a_byte, prefix_primitive_by, primitive_by, primitive_if}
+use Rattle.dfdl_compile.proofs.Fitting.{all_within, each, made, made_is, of_kind, twice}
 
--- what holds of a byte and of each primitive that is judged holds of that of an element
+-- what is told of an element, where it is a component
+judgement_if : Purpose → List SchemaDocument → Site → Bool → Judgement
+judgement_if purpose documents own b =
+    if b then record {
+      breach = breach_at purpose documents own;
+      primitive = judged purpose documents own;
+      framing = framing_at purpose documents own;
+      size = size_at purpose documents own;
+      prefix = form_of_prefix purpose documents own;
+    } else no_judgement
+
+-- what holds of a byte, of each primitive that is judged and of that of each prefix holds of those of an element
 module _ (P : Primitive → Type 0) (byte : P a_byte) (purpose : Purpose) (documents : List SchemaDocument) where
-  by_some : (own : Site) (o : Option Primitive) → ((p : Primitive) → o ≡ Some p → P p) → P (unwrap_or o a_byte)
-  by_some own None holds = byte
-  by_some own (Some p) holds = holds p refl
+  by_some : (o : Option Primitive) → ((p : Primitive) → o ≡ Some p → P p) → P (unwrap_or o a_byte)
+  by_some None holds = byte
+  by_some (Some p) holds = holds p refl
 
-  by_component : (own : Site) (b : Bool) → ((p : Primitive) → judged purpose documents own ≡ Some p → P p)
-      → P (primitive_by (if b then record { breach = breach_at purpose documents own; primitive = judged purpose documents own; framing = framing_at purpose documents own; size = size_at purpose documents own } else no_judgement))
-  by_component own true holds = by_some own (judged purpose documents own) holds
+  by_prefix : (o : Option PrefixForm) → ((f : PrefixForm) → o ≡ Some f → P f.primitive) → P (primitive_if o)
+  by_prefix None holds = byte
+  by_prefix (Some f) holds = holds f refl
+
+  by_component : (own : Site) (b : Bool) → ((p : Primitive) → judged purpose documents own ≡ Some p → P p) → P (primitive_by (judgement_if purpose documents own b))
+  unfolding judgement_if
+  by_component own true holds = by_some (judged purpose documents own) holds
   by_component own false holds = byte
 
+  by_prefixed : (own : Site) (b : Bool) → ((f : PrefixForm) → form_of_prefix purpose documents own ≡ Some f → P f.primitive)
+      → P (prefix_primitive_by (judgement_if purpose documents own b))
+  unfolding judgement_if
+  by_prefixed own true holds = by_prefix (form_of_prefix purpose documents own) holds
+  by_prefixed own false holds = byte
+
   holds_at : (own : Site) → ((p : Primitive) → judged purpose documents own ≡ Some p → P p) → P (primitive_at purpose documents own)
-  unfolding judgement_at
+  unfolding judgement_at judgement_if
   holds_at own holds = by_component own (is_component (role_of documents own)) holds
 
-  holds_of : ((own : Site) (p : Primitive) → judged purpose documents own ≡ Some p → P p) → (tables : List Primitive)
+  prefix_holds_at : (own : Site) → ((f : PrefixForm) → form_of_prefix purpose documents own ≡ Some f → P f.primitive)
+      → P (prefix_primitive_at purpose documents own)
+  unfolding judgement_at judgement_if
+  prefix_holds_at own holds = by_prefixed own (is_component (role_of documents own)) holds
+
+  holds_of : ((own : Site) (p : Primitive) → judged purpose documents own ≡ Some p → P p)
+      → ((own : Site) (f : PrefixForm) → form_of_prefix purpose documents own ≡ Some f → P f.primitive) → (tables : List Primitive)
       → tables ≡ primitives_of purpose documents → All P tables
   unfolding primitives_of
-  holds_of holds tables are = subst (λ (ps : List Primitive). All P ps) (sym are)
+  holds_of holds prefixes tables are = subst (λ (ps : List Primitive). All P ps) (sym are)
+      (All-append P (for_each documents (primitive_at purpose documents)) (for_each documents (prefix_primitive_at purpose documents))
       (each (IsSite documents) P (primitive_at purpose documents) (λ own within. holds_at own (holds own)) (all_sites documents) (all_within documents))
+      (each (IsSite documents) P (prefix_primitive_at purpose documents) (λ own within. prefix_holds_at own (prefixes own)) (all_sites documents)
+      (all_within documents)))
 
 -- the table is that of the documents
 pub tables_are : (purpose : Purpose) (documents : List SchemaDocument) (judgements : List Judgement) (tables : List Primitive)
-    → judgements ≡ for_each documents (judgement_at purpose documents) → tables ≡ map primitive_by judgements → tables ≡ primitives_of purpose documents
+    → judgements ≡ for_each documents (judgement_at purpose documents)
+    → tables ≡ map primitive_by judgements ++ map prefix_primitive_by judgements → tables ≡ primitives_of purpose documents
 unfolding primitives_of
 tables_are purpose documents judgements tables judged are =
-    are ∙ (ap (map primitive_by) judged ∙ twice primitive_by (judgement_at purpose documents) (all_sites documents))
+    are ∙ (ap (λ (js : List Judgement). map primitive_by js ++ map prefix_primitive_by js) judged
+    ∙ (ap (λ (ps : List Primitive). ps ++ map prefix_primitive_by (for_each documents (judgement_at purpose documents)))
+    (twice primitive_by (judgement_at purpose documents) (all_sites documents))
+    ∙ ap (λ (ps : List Primitive). for_each documents (primitive_at purpose documents) ++ ps)
+    (twice prefix_primitive_by (judgement_at purpose documents) (all_sites documents))))
 
 -- each keeps the bounds of its type
 pub bounded : (purpose : Purpose) (documents : List SchemaDocument)
     → ((purpose : Purpose) (documents : List SchemaDocument) (own : Site) (p : Primitive) → judged purpose documents own ≡ Some p → IsPrimitive p)
-    → (tables : List Primitive) → tables ≡ primitives_of purpose documents → All IsPrimitive tables
-bounded purpose documents law = holds_of IsPrimitive
+    → ((purpose : Purpose) (documents : List SchemaDocument) (own : Site) (f : PrefixForm) → form_of_prefix purpose documents own ≡ Some f
+    → IsPrimitive f.primitive) → (tables : List Primitive) → tables ≡ primitives_of purpose documents → All IsPrimitive tables
+bounded purpose documents law prefixes = holds_of IsPrimitive
     (record { some = omega arith; few = omega arith; short = omega arith; places = omega arith })
-    purpose documents (law purpose documents)
+    purpose documents (law purpose documents) (prefixes purpose documents)
 
 -- each for unparsing is a whole unsigned integer
 pub wholes : (purpose : Purpose) (documents : List SchemaDocument) → purpose ≡ Unparsing
     → ((documents : List SchemaDocument) (own : Site) (p : Primitive) → judged Unparsing documents own ≡ Some p → IsWhole p)
+    → ((documents : List SchemaDocument) (own : Site) → form_of_prefix Unparsing documents own ≡ None)
     → (tables : List Primitive) → tables ≡ primitives_of purpose documents → All IsWhole tables
-wholes purpose documents unparsing law tables are =
-    holds_of IsWhole (record { bits = refl; kind = refl; bits_by = refl; point = refl }) Unparsing documents (law documents) tables
+wholes purpose documents unparsing law none tables are =
+    holds_of IsWhole (record { bits = refl; kind = refl; bits_by = refl; point = refl }) Unparsing documents (law documents)
+    (λ own f is. absurd (never (none documents own) is)) tables
     (are ∙ ap (λ (q : Purpose). primitives_of q documents) unparsing)
+  where
+    never : {o : Option PrefixForm} {f : PrefixForm} → o ≡ None → o ≡ Some f → ⊥
+    never is other = cc
 
--- there are as many primitives as elements
-length_primitives : (purpose : Purpose) (documents : List SchemaDocument) → length (primitives_of purpose documents) ≡ count_of documents
+-- there are as many primitives of elements as elements
+length_own : (purpose : Purpose) (documents : List SchemaDocument) → length (for_each documents (primitive_at purpose documents)) ≡ count_of documents
+length_own purpose documents = length-map (all_sites documents) (primitive_at purpose documents) ∙ length_all documents
+
+-- there are twice as many primitives as elements
+length_primitives : (purpose : Purpose) (documents : List SchemaDocument) → length (primitives_of purpose documents) ≡ count_of documents + count_of documents
 unfolding primitives_of
-length_primitives purpose documents = length-map (all_sites documents) (primitive_at purpose documents) ∙ length_all documents
+length_primitives purpose documents =
+    let both = length-append (for_each documents (primitive_at purpose documents)) (for_each documents (prefix_primitive_at purpose documents)) in
+    let own = length_own purpose documents in
+    let prefixes = length-map (all_sites documents) (prefix_primitive_at purpose documents) in
+    let sites = length_all documents in
+    omega (arith, both, own, prefixes, sites)
 
 module _ (purpose : Purpose) (documents : List SchemaDocument) where
-  has_number : (own : Site) → IsSite documents own → HasPrimitive (count_of documents) (component_at purpose documents own)
+  -- how many primitives there are
+  abbrev count : ℕ
+  count = count_of documents + count_of documents
+
+  has_number : (own : Site) → IsSite documents own → HasPrimitive count (component_at purpose documents own)
   has_number own within = by_role (role_of documents own)
     where
-      by_group : (o : Option Site) → HasPrimitive (count_of documents) (reference_by (judgement_at purpose documents own).framing o)
+      own_below : number_of documents own < count
+      own_below = let below = number_below documents own within in omega (arith, below)
+
+      prefix_below : prefix_number documents own < count
+      prefix_below = let below = number_below documents own within in omega (arith, below)
+
+      by_prefix : (o : Option PrefixForm) → HasPrefixPrimitive count (option_map (prefix_by (prefix_number documents own)) o)
+      by_prefix None = tt
+      by_prefix (Some form) = prefix_below
+
+      by_box : (size : Option ℕ) (o : Option PrefixForm) → HasBoxPrimitive count (box_by size (option_map (prefix_by (prefix_number documents own)) o))
+      by_box (Some bits) o = tt
+      by_box None None = tt
+      by_box None (Some form) = prefix_below
+
+      by_group : (o : Option Site) → HasPrimitive count (reference_by (judgement_at purpose documents own).framing o)
       by_group None = tt
       by_group (Some group) = tt
 
-      by_kind : (k : Kind) → HasPrimitive (count_of documents)
-          (component_by (element_name documents own) (primitive_at purpose documents own) (number_of documents own) (judgement_at purpose documents own).framing
-          (judgement_at purpose documents own).size k)
-      by_kind kind.ComplexElement = tt
-      by_kind (kind.SimpleElement simple) = number_below documents own within
-      by_kind kind.UncarriedElement = number_below documents own within
+      by_kind : (k : Kind) → HasPrimitive count (of_kind purpose documents own k)
+      by_kind kind.ComplexElement = by_box (judgement_at purpose documents own).size (judgement_at purpose documents own).prefix
+      by_kind (kind.SimpleElement simple) = (own_below, by_prefix (judgement_at purpose documents own).prefix)
+      by_kind kind.UncarriedElement = (own_below, by_prefix (judgement_at purpose documents own).prefix)
       by_kind kind.Sequence = tt
       by_kind kind.Choice = tt
+      by_kind (kind.PrefixNumber simple) = tt
 
-      by_role : (r : Role) → HasPrimitive (count_of documents) (component_of documents own (judgement_at purpose documents own) r)
+      by_role : (r : Role) → HasPrimitive count (component_of documents own (judgement_at purpose documents own) r)
       by_role role.GroupReference = by_group (referred documents own names.Group)
       by_role _ = by_kind (kind_at documents own)
 
-  -- the primitive of each simple element is in the table
+  -- the primitives of each component are in the table
   pub have : (schema : Schema) (tables : List Primitive) → schema ≡ components_of purpose documents
       → tables ≡ primitives_of purpose documents → All (HasPrimitive (length tables)) schema.components
   unfolding components_of
   have schema tables schema_is tables_are =
       subst (λ (n : ℕ). All (HasPrimitive n) schema.components)
       (sym (ap (λ (ps : List Primitive). length ps) tables_are ∙ length_primitives purpose documents))
-      (subst (λ (s : Schema). All (HasPrimitive (count_of documents)) s.components) (sym schema_is)
-      (each (IsSite documents) (HasPrimitive (count_of documents)) (component_at purpose documents) has_number (all_sites documents) (all_within documents)))
+      (subst (λ (s : Schema). All (HasPrimitive count) s.components) (sym schema_is)
+      (each (IsSite documents) (HasPrimitive count) (component_at purpose documents) has_number (all_sites documents) (all_within documents)))
 
   -- a component that is a simple element has the type of its primitive, and the primitive's number
-  typed_component : (own : Site) (name : List ℕ) (simple : Simple) (prim : ℕ) (framing : Framing)
-      → component_at purpose documents own ≡ SimpleElement name simple prim framing
+  typed_component : (own : Site) (name : List ℕ) (simple : Simple) (prim : ℕ) (framing : Framing) (prefix : Option Prefix)
+      → component_at purpose documents own ≡ SimpleElement name simple prim framing prefix
       → (type_of (primitive_at purpose documents own) ≡ simple) × (number_of documents own ≡ prim)
-  typed_component own name simple prim framing = by_role (role_of documents own)
+  typed_component own name simple prim framing prefix = by_role (role_of documents own)
     where
-      by_group : (o : Option Site) → reference_by (judgement_at purpose documents own).framing o ≡ SimpleElement name simple prim framing
+      by_group : (o : Option Site) → reference_by (judgement_at purpose documents own).framing o ≡ SimpleElement name simple prim framing prefix
           → (type_of (primitive_at purpose documents own) ≡ simple) × (number_of documents own ≡ prim)
       by_group None is = absurd (cc)
       by_group (Some group) is = absurd (cc)
 
-      by_kind : (k : Kind)
-          → component_by (element_name documents own) (primitive_at purpose documents own) (number_of documents own) (judgement_at purpose documents own).framing
-          (judgement_at purpose documents own).size k
-          ≡ SimpleElement name simple prim framing
+      by_kind : (k : Kind) → of_kind purpose documents own k ≡ SimpleElement name simple prim framing prefix
           → (type_of (primitive_at purpose documents own) ≡ simple) × (number_of documents own ≡ prim)
       by_kind kind.ComplexElement is = absurd (cc)
       by_kind (kind.SimpleElement other) is = (cc, cc)
       by_kind kind.UncarriedElement is = (cc, cc)
       by_kind kind.Sequence is = absurd (cc)
       by_kind kind.Choice is = absurd (cc)
+      by_kind (kind.PrefixNumber other) is = absurd (cc)
 
-      by_role : (r : Role) → component_of documents own (judgement_at purpose documents own) r ≡ SimpleElement name simple prim framing
+      by_role : (r : Role) → component_of documents own (judgement_at purpose documents own) r ≡ SimpleElement name simple prim framing prefix
           → (type_of (primitive_at purpose documents own) ≡ simple) × (number_of documents own ≡ prim)
       by_role role.GroupReference is = by_group (referred documents own names.Group) is
       by_role _ is = by_kind (kind_at documents own) is
@@ -159,25 +229,29 @@ module _ (purpose : Purpose) (documents : List SchemaDocument) where
   unfolding primitives_of
   there own within =
       let below = number_below documents own within in
-      let long = length-map (all_sites documents) (primitive_at purpose documents) ∙ length_all documents in
-      slice_get-get_or (map (primitive_at purpose documents) (all_sites documents)) (number_of documents own) a_byte (omega (arith, below, long))
-      ∙ ap Some (value-at documents (primitive_at purpose documents) own a_byte within)
+      let long = length_own purpose documents in
+      let both = length-append (for_each documents (primitive_at purpose documents)) (for_each documents (prefix_primitive_at purpose documents)) in
+      slice_get-get_or (for_each documents (primitive_at purpose documents) ++ for_each documents (prefix_primitive_at purpose documents))
+      (number_of documents own) a_byte (omega (arith, below, long, both))
+      ∙ (ap Some (get_or_append_left (for_each documents (primitive_at purpose documents)) (for_each documents (prefix_primitive_at purpose documents)) a_byte
+      (number_of documents own) (omega (arith, below, long)))
+      ∙ ap Some (value-at documents (primitive_at purpose documents) own a_byte within))
 
   -- the leaf of a simple element among the components has the element's type
   among_typed : (simple : Simple) (prim : ℕ) → IsAmong (map (component_at purpose documents) (all_sites documents)) simple prim
       → IsOfType simple (slice_get (primitives_of purpose documents) prim)
-  among_typed simple prim (number, name, framing, is) =
+  among_typed simple prim (number, name, framing, prefix, is) =
       let less : number < length (all_sites documents) = omega (
         arith,
-        slice_get_within (map (component_at purpose documents) (all_sites documents)) number (SimpleElement name simple prim framing) is,
+        slice_get_within (map (component_at purpose documents) (all_sites documents)) number (SimpleElement name simple prim framing prefix) is,
         length-map (all_sites documents) (component_at purpose documents),
       ) in
       let own : Site = get_or (all_sites documents) number (site 0 0) in
-      let found : Some (component_at purpose documents own) ≡ Some (SimpleElement name simple prim framing) =
+      let found : Some (component_at purpose documents own) ≡ Some (SimpleElement name simple prim framing prefix) =
       sym (slice_get-map (component_at purpose documents) (all_sites documents) number
       ∙ ap (option_map (component_at purpose documents)) (slice_get-get_or (all_sites documents) number (site 0 0) less)) ∙ is in
-      let same : component_at purpose documents own ≡ SimpleElement name simple prim framing = cc in
-      let both = typed_component own name simple prim framing same in
+      let same : component_at purpose documents own ≡ SimpleElement name simple prim framing prefix = cc in
+      let both = typed_component own name simple prim framing prefix same in
       subst (λ (n : ℕ). IsOfType simple (slice_get (primitives_of purpose documents) n)) both.1
       (subst (λ (o : Option Primitive). IsOfType simple o) (sym (there own (all_within documents number (site 0 0) less))) both.0)
 
@@ -189,12 +263,15 @@ module _ (purpose : Purpose) (documents : List SchemaDocument) where
   leaf_typed simple (Some (Skip bits)) one = absurd one
   leaf_typed simple (Some (Align bits)) one = absurd one
   leaf_typed simple (Some (Boxed bits inside)) one = absurd one
+  leaf_typed simple (Some (PrefixedLeaf prefix prim)) one = absurd one
+  leaf_typed simple (Some (PrefixedBox prefix inside)) one = absurd one
   leaf_typed simple None one = absurd one
 
   -- what the body of a simple element reads has the element's type
   reads_typed : (rows : List Row) (simple : Simple) (id : ℕ) → ReadsBy rows (IsAmong (map (component_at purpose documents) (all_sites documents)) simple) id
       → ReadsBy rows (λ prim. IsOfType simple (slice_get (primitives_of purpose documents) prim)) id
   reads_typed rows simple id (leaf _ prim is among) = leaf id prim is (among_typed simple prim among)
+  reads_typed rows simple id (prefixed _ prim prefix is among) = prefixed id prim prefix is (among_typed simple prim among)
   reads_typed rows simple id (grouped _ at child children is there reads) = grouped id at child children is there (reads_typed rows simple child reads)
 
   -- each simple element is read by a primitive of its type
@@ -215,39 +292,57 @@ module _ (purpose : Purpose) (documents : List SchemaDocument) where
       (leaf_typed simple (slice_get t.rows body)
       (subst (λ (s : Schema). IsLeafOf s.components simple (slice_get t.rows body)) schema_is (leaves row name simple body is)))
 
--- no component has fill or a box for unparsing
-module _ (documents : List SchemaDocument) where
-  bare_by : (own : Site) (b : Bool) → let told = if b then record {
-    breach = breach_at Unparsing documents own;
-    primitive = judged Unparsing documents own;
-    framing = framing_at Unparsing documents own;
-    size = size_at Unparsing documents own;
-  } else no_judgement in (has_fill told.framing ≡ false) × (told.size ≡ None)
-  bare_by own true = (refl, refl)
-  bare_by own false = (refl, refl)
+-- neither fill nor a box nor a length prefix is told
+record IsBare (told : Judgement) : Type 0 where
+  unfilled : has_fill told.framing ≡ false
+  unboxed : told.size ≡ None
+  unprefixed : told.prefix ≡ None
 
-  bare_judgement : (own : Site) → (has_fill (judgement_at Unparsing documents own).framing ≡ false) × ((judgement_at Unparsing documents own).size ≡ None)
-  unfolding judgement_at
+-- no component has any of them for unparsing
+module _ (documents : List SchemaDocument) where
+  bare_by : (own : Site) (b : Bool) → IsBare (judgement_if Unparsing documents own b)
+  unfolding judgement_if
+  bare_by own true = record { unfilled = refl; unboxed = refl; unprefixed = refl }
+  bare_by own false = record { unfilled = refl; unboxed = refl; unprefixed = refl }
+
+  bare_judgement : (own : Site) → IsBare (judgement_at Unparsing documents own)
+  unfolding judgement_at judgement_if
   bare_judgement own = bare_by own (is_component (role_of documents own))
 
-  -- without fill, and with a box only where the judgement has one
+  -- without fill, and with a box or a prefix only where the judgement has one
   bare_component : (own : Site) → IsBareComponent (component_at Unparsing documents own)
   bare_component own = by_role (role_of documents own)
     where
-      unfilled : has_fill (judgement_at Unparsing documents own).framing ≡ false
-      unfilled = (bare_judgement own).0
+      told : IsBare (judgement_at Unparsing documents own)
+      told = bare_judgement own
+
+      by_prefix : (o : Option PrefixForm) → o ≡ None → option_map (prefix_by (prefix_number documents own)) o ≡ None
+      by_prefix None is = refl
+      by_prefix (Some form) is = absurd (cc)
+
+      by_box : (size : Option ℕ) (o : Option Prefix) → size ≡ None → o ≡ None → box_by size o ≡ Unbounded
+      by_box None None is none = refl
+      by_box (Some bits) o is none = absurd (cc)
+      by_box None (Some prefix) is none = absurd (cc)
+
+      unprefixed : option_map (prefix_by (prefix_number documents own)) (judgement_at Unparsing documents own).prefix ≡ None
+      unprefixed = by_prefix (judgement_at Unparsing documents own).prefix told.unprefixed
+
+      unboxed : box_by (judgement_at Unparsing documents own).size (option_map (prefix_by (prefix_number documents own)) (judgement_at Unparsing documents own).prefix) ≡ Unbounded
+      unboxed = by_box (judgement_at Unparsing documents own).size (option_map (prefix_by (prefix_number documents own)) (judgement_at Unparsing documents own).prefix)
+          told.unboxed unprefixed
 
       by_group : (o : Option Site) → IsBareComponent (reference_by (judgement_at Unparsing documents own).framing o)
-      by_group None = record { unfilled = unfilled; unboxed = refl }
-      by_group (Some group) = record { unfilled = unfilled; unboxed = refl }
+      by_group None = record { unfilled = told.unfilled; unboxed = refl; unprefixed = refl }
+      by_group (Some group) = record { unfilled = told.unfilled; unboxed = refl; unprefixed = refl }
 
-      by_kind : (k : Kind) → IsBareComponent (component_by (element_name documents own) (primitive_at Unparsing documents own) (number_of documents own)
-          (judgement_at Unparsing documents own).framing (judgement_at Unparsing documents own).size k)
-      by_kind kind.ComplexElement = record { unfilled = unfilled; unboxed = (bare_judgement own).1 }
-      by_kind (kind.SimpleElement simple) = record { unfilled = unfilled; unboxed = refl }
-      by_kind kind.UncarriedElement = record { unfilled = unfilled; unboxed = refl }
-      by_kind kind.Sequence = record { unfilled = unfilled; unboxed = refl }
-      by_kind kind.Choice = record { unfilled = unfilled; unboxed = refl }
+      by_kind : (k : Kind) → IsBareComponent (of_kind Unparsing documents own k)
+      by_kind kind.ComplexElement = record { unfilled = told.unfilled; unboxed = unboxed; unprefixed = refl }
+      by_kind (kind.SimpleElement simple) = record { unfilled = told.unfilled; unboxed = refl; unprefixed = unprefixed }
+      by_kind kind.UncarriedElement = record { unfilled = told.unfilled; unboxed = refl; unprefixed = unprefixed }
+      by_kind kind.Sequence = record { unfilled = told.unfilled; unboxed = refl; unprefixed = refl }
+      by_kind kind.Choice = record { unfilled = told.unfilled; unboxed = refl; unprefixed = refl }
+      by_kind (kind.PrefixNumber simple) = record { unfilled = told.unfilled; unboxed = refl; unprefixed = refl }
 
       by_role : (r : Role) → IsBareComponent (component_of documents own (judgement_at Unparsing documents own) r)
       by_role role.GroupReference = by_group (referred documents own names.Group)
@@ -260,11 +355,11 @@ module _ (documents : List SchemaDocument) where
       (each (IsSite documents) IsBareComponent (component_at Unparsing documents) (λ own within. bare_component own) (all_sites documents) (all_within documents))
 
 -- the row of an element of a type is an element
-typed_last : (t : Table) (name : List ℕ) (primitive : Primitive) (number : ℕ) (framing : Framing) (size : Option ℕ) (typed : Typed)
-    → EndsWith (component_by name primitive number framing size (kind_of_type typed)) t.rows → HasElementLast t
-typed_last t name primitive number framing size (Carried simple) ends = subst IsElementRow (sym ends) tt
-typed_last t name primitive number framing size NotCarried ends = subst IsElementRow (sym ends) tt
-typed_last t name primitive number framing size (Defined own) ends = subst IsElementRow (sym ends) tt
+typed_last : (t : Table) (purpose : Purpose) (documents : List SchemaDocument) (own : Site) (typed : Typed)
+    → EndsWith (of_kind purpose documents own (kind_of_type typed)) t.rows → HasElementLast t
+typed_last t purpose documents own (Carried simple) ends = subst IsElementRow (sym ends) tt
+typed_last t purpose documents own NotCarried ends = subst IsElementRow (sym ends) tt
+typed_last t purpose documents own (Defined type) ends = subst IsElementRow (sym ends) tt
 
 global_role : (r : Role) → is_global_element r ≡ true → r ≡ role.GlobalElement
 global_role role.GlobalElement is = refl
@@ -272,9 +367,7 @@ global_role _ is = absurd (cc)
 
 -- a global element is that of its type
 global_is : (purpose : Purpose) (documents : List SchemaDocument) (own : Site) → is_global_element (role_of documents own) ≡ true
-    → component_at purpose documents own
-    ≡ component_by (element_name documents own) (primitive_at purpose documents own) (number_of documents own)
-    (judgement_at purpose documents own).framing (judgement_at purpose documents own).size (kind_of_type (element_type documents own))
+    → component_at purpose documents own ≡ of_kind purpose documents own (kind_of_type (element_type documents own))
 global_is purpose documents own global =
     let is : role_of documents own ≡ role.GlobalElement = global_role (role_of documents own) global in
     made_is purpose documents own (role_of documents own) refl
@@ -292,8 +385,7 @@ pub root_element : (purpose : Purpose) (documents : List SchemaDocument) (root :
     → number ≡ number_of documents root → IsSite documents root → is_global_element (role_of documents root) ≡ true
     → EndsWith (part_at schema.components number) t.rows → HasElementLast t
 root_element purpose documents root schema number t schema_is number_is within global ends =
-    typed_last t (element_name documents root) (primitive_at purpose documents root) (number_of documents root)
-    (judgement_at purpose documents root).framing (judgement_at purpose documents root).size (element_type documents root)
+    typed_last t purpose documents root (element_type documents root)
     (subst (λ (k : Component). EndsWith k t.rows)
     (ap (λ (s : Schema). part_at s.components number) schema_is
     ∙ (ap (λ (n : ℕ). part_at (components_of purpose documents).components n) number_is

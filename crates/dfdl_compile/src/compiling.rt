@@ -154,7 +154,7 @@ fn compile_root(
     let judgements = breaches(alloc, schema, purpose)?;
     let gathered = gather(alloc, schema, &numbers, purpose, judgements.as_slice())?;
     let components = ordered(alloc, schema, gathered)?;
-    let tables = tables(alloc, judgements.as_slice())?;
+    let tables = tables(alloc, judgements)?;
     let number = numbers.number(schema, root);
     match terms_of(alloc, &components, number, depth, rows, tables) {
         Ok(terms) => Ok(terms),
@@ -204,7 +204,7 @@ pub fn compile(alloc: Global, schema: &Schema, depth: u32, rows: u32) -> Result<
 }
 
 /// The terms by which infosets of a schema are unparsed, under the same conditions. Fewer forms are built for unparsing:
-/// each leaf is a whole unsigned integer, and there is no fill.
+/// each leaf is a whole unsigned integer, and there is neither fill nor a box nor a length prefix.
 pub fn compile_for_unparse(
     alloc: Global,
     schema: &Schema,

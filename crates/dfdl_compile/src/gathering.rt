@@ -11,8 +11,9 @@ ghost use Rattle.dfdl_breaches.specs.Elements.{place_of};
 ghost use Rattle.dfdl_breaches.specs.Judging.{judgement_at};
 ghost use Rattle.dfdl_checks.specs.declared.purpose.Purpose as declared_purpose;
 ghost use Rattle.dfdl_compile.specs.Components as spec;
+ghost use Rattle.dfdl_compile.specs.Primitives.{primitive_by};
 
-use crate::primitives::{primitive_by, type_of};
+use crate::primitives::type_by;
 use dfdl_breaches::Judgement;
 use dfdl_chains::{Numbers, declaration, kind_at, parts_at, referred};
 use dfdl_checks::{Breach, Kind};
@@ -20,8 +21,8 @@ use dfdl_components::{ComponentKind, Schema, Site};
 use dfdl_constructs::{Role, plain};
 use dfdl_order::{OrderFault, Uses};
 use dfdl_report::Place;
-use dfdl_rows::{Component, Refusal};
-use dfdl_terms::{Framing, Primitive};
+use dfdl_rows::{Component, ContentBox, Refusal};
+use dfdl_terms::{Framing, Prefix};
 use dfdl_value::TextValue;
 use std::alloc::{AllocError, Global};
 
@@ -35,38 +36,68 @@ fn element_name(alloc: Global, schema: &Schema, site: Site) -> Result<TextValue,
     TextValue::from_str(alloc, name.unwrap_or(""))
 }
 
-// An element or a group of this name, with its primitive, its number, and the fill and the box around its content.
+// The length prefix of an element of which this is told, whose primitive has this number.
+fn prefix_by(number: u32, judgement: &Judgement) -> Option<Prefix>
+    ensures { result ≡ option_map (spec.prefix_by number) judgement.now.prefix }
+{
+    match &judgement.prefix {
+        Some(form) => Some(Prefix {
+            prim: number,
+            unit: form.unit,
+            own: form.own,
+        }),
+        None => None,
+    }
+}
+
+// The box around the content of a complex element, of so many bits or with this prefix.
+fn box_by(size: Option<u64>, prefix: Option<Prefix>) -> ContentBox
+    ensures { result ≡ spec.box_by size prefix }
+{
+    if let Some(bits) = size {
+        return ContentBox::Sized(bits);
+    }
+    match prefix {
+        Some(prefix) => ContentBox::Prefixed(prefix),
+        None => ContentBox::Unbounded,
+    }
+}
+
+// An element or a group of this name, of which this is told, with the number of its primitive and its length prefix.
 fn component_by(
     name: TextValue,
-    primitive: Primitive,
+    judgement: &Judgement,
     prim: u32,
-    framing: Framing,
-    size: Option<u64>,
+    prefix: Option<Prefix>,
     kind: Kind,
 ) -> Component
-    ensures { result ≡ spec.component_by name primitive prim framing size kind }
+    ensures { result ≡ spec.component_by name (primitive_by judgement.now) prim judgement.now.framing judgement.now.size prefix kind }
 {
-    let simple = type_of(primitive);
+    let simple = type_by(judgement);
+    let framing = judgement.framing;
     match kind {
         Kind::ComplexElement => Component::ComplexElement {
             name,
             framing,
-            size,
+            content_box: box_by(judgement.size, prefix),
         },
         Kind::SimpleElement(_) => Component::SimpleElement {
             name,
             simple,
             prim,
             framing,
+            prefix,
         },
         Kind::UncarriedElement => Component::SimpleElement {
             name,
             simple,
             prim,
             framing,
+            prefix,
         },
         Kind::Sequence => Component::Sequence { framing },
         Kind::Choice => Component::Sequence { framing },
+        Kind::PrefixNumber(_) => Component::Sequence { framing },
     }
 }
 
@@ -80,6 +111,18 @@ fn reference_by(framing: Framing, group: Option<Site>) -> Component
     }
 }
 
+// The number of the primitive of an element's length prefix. There is no memory for 2^32 primitives.
+fn prefix_number(schema: &Schema, numbers: &Numbers, site: Site) -> Result<u32, AllocError>
+    requires site { IsSite schema.now site }
+    requires numbers { AreNumbers schema.now numbers.now }
+    ensures { IfOk result (λ number. number ≡ spec.prefix_number schema.now site) }
+{
+    match numbers.count().checked_add(numbers.number(schema, site)) {
+        Some(number) => Ok(number),
+        None => Err(AllocError),
+    }
+}
+
 // What an element of the documents is, by its role.
 fn component_of(
     alloc: Global,
@@ -87,11 +130,11 @@ fn component_of(
     numbers: &Numbers,
     site: Site,
     role: Role,
-    judgement: Judgement,
+    judgement: &Judgement,
 ) -> Result<Component, AllocError>
     requires site { IsSite schema.now site }
     requires numbers { AreNumbers schema.now numbers.now }
-    ensures { IfOk result (λ component. component ≡ spec.component_of schema.now site judgement role) }
+    ensures { IfOk result (λ component. component ≡ spec.component_of schema.now site judgement.now role) }
 {
     match role {
         Role::GroupReference => {
@@ -100,11 +143,10 @@ fn component_of(
         }
         _ => {
             let name = element_name(alloc, schema, site)?;
-            let primitive = primitive_by(judgement);
             let number = numbers.number(schema, site);
+            let prefix = prefix_by(prefix_number(schema, numbers, site)?, judgement);
             let kind = kind_at(schema, numbers, site);
-            let Judgement { framing, size, .. } = judgement;
-            Ok(component_by(name, primitive, number, framing, size, kind))
+            Ok(component_by(name, judgement, number, prefix, kind))
         }
     }
 }
@@ -115,11 +157,11 @@ fn component_with(
     schema: &Schema,
     numbers: &Numbers,
     site: Site,
-    judgement: Judgement,
+    judgement: &Judgement,
 ) -> Result<Component, AllocError>
     requires site { IsSite schema.now site }
     requires numbers { AreNumbers schema.now numbers.now }
-    ensures { IfOk result (λ component. component ≡ spec.component_with schema.now site judgement) }
+    ensures { IfOk result (λ component. component ≡ spec.component_with schema.now site judgement.now) }
 {
     let role = schema.role(site);
     component_of(alloc, schema, numbers, site, role, judgement)
@@ -142,7 +184,7 @@ pub(crate) fn components(
     let mut made = Vec::new(alloc);
     for at in 0..sites.len() {
         let site = sites[at];
-        made.push(component_with(alloc, schema, numbers, site, judgements[at])?)?;
+        made.push(component_with(alloc, schema, numbers, site, &judgements[at])?)?;
     }
     Ok(made)
 }

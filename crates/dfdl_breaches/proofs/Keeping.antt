@@ -1,5 +1,5 @@
 -- What is kept of elements and formats, and the elements of chains.
-use Rattle.std.proofs.Common.{◌≡◌, refl, sym, ap, subst, ◌∙◌, ℕ, zero, ◌+◌, ◌<◌, List, [], ◌∷◌, ◌++◌, length, take, get_or, map, Option, Some, None, option_map, IfSome, codes, arith}
+use Rattle.std.proofs.Common.{◌≡◌, refl, sym, ap, subst, ◌∙◌, ℕ, zero, ◌<◌, List, length, get_or, map, Option, Some, None, option_map, IfSome, arith}
 use Rattle.dfdl_documents.specs.Documents.{SchemaDocument}
 use Rattle.std.proofs.lemmas.List.{get_or-map}
 use mathlib.Core.Path.{fun_ext}

@@ -1,5 +1,5 @@
 -- Where there is no document, there is no root.
-use Rattle.std.proofs.Common.{◌≡◌, List, [], ◌∷◌, length, Option, None, ap, refl, arith}
+use Rattle.std.proofs.Common.{◌≡◌, List, [], ◌∷◌, length, None, refl, arith}
 use Rattle.dfdl_documents.specs.Documents.{SchemaDocument}
 use Rattle.dfdl_components.specs.Searching.{first_below}
 use Rattle.dfdl_breaches.specs.Roots.{root_of}

@@ -1,6 +1,6 @@
 -- The type of a component's length prefix, as the rules see it ('Lengths', on prefixLengthType, and 'Property Scoping and DFDL
 -- Schema Checking').
-use Rattle.std.specs.Prelude.{ℕ, List, [], ◌∷◌, map, Bool, false, Option, Some, None, option_and_then, option_map, codes, if◌then◌else◌}
+use Rattle.std.specs.Prelude.{ℕ, List, [], ◌∷◌, map, Bool, false, Option, None, option_and_then, option_map, codes, if◌then◌else◌}
 use Rattle.dfdl_documents.specs.Documents.{SchemaDocument}
 use Rattle.dfdl_components.specs.declared.site.Site.{Site}
 use Rattle.dfdl_scope.specs.Expressions.{is_expression, literal}

@@ -1,10 +1,11 @@
 //! What is wrong at each component of a schema by itself: for every element of its documents the first rule that the
-//! component there breaks, and how its values lie in the data where it is a simple element.
+//! component there breaks, and how its values and its length prefix lie in the data.
 //!
 //! A component is judged by what the elements of its chain give: their own properties, the formats that they refer to
-//! (`specs/References.antt` of dfdl_references), each joined once with those that it refers to (`specs/Formats.antt`), and the default formats
-//! of their documents (`specs/Elements.antt`). The contract of `breaches` cites `specs/Judging.antt`. It serves the chapter
-//! 'Property Scoping and DFDL Schema Checking'.
+//! (`specs/References.antt` of dfdl_references), each joined once with those that it refers to (`specs/Formats.antt`), and the
+//! default formats of their documents (`specs/Elements.antt`). The type of its length prefix is judged with it, by a chain of
+//! its own (`specs/Prefixes.antt`). The contract of `breaches` cites `specs/Judging.antt`. It serves the chapter 'Property
+//! Scoping and DFDL Schema Checking'.
 #![tactic(auto)]
 
 mod chain;

@@ -163,11 +163,11 @@ fn judgements(
 }
 
 /// What is told of each element of a schema's documents, in the order of their numbers: of a component
-/// the first rule that it breaks, how its values lie in the data, and the fill and the box around its content;
-/// of every other element nothing.
+/// the first rule that it breaks, how its values and its length prefix lie in the data, and the fill and the box around its
+/// content; of every other element nothing.
 ///
-/// What its rows are made for decides which forms are built. The order of bits is that of the root, which is found once. The properties of each element are collected once, and each
-/// format is joined once.
+/// What its rows are made for decides which forms are built. The order of bits is that of the root, which is found once. The
+/// properties of each element are collected once, and each format is joined once.
 pub fn breaches(
     alloc: Global,
     schema: &Schema,

@@ -1,7 +1,7 @@
 // What is told of schemas in memory.
 use crate::laws::sound_elements_have_bounded_primitives;
 use crate::{Judgement, breaches};
-use dfdl_checks::Purpose;
+use dfdl_checks::{PrefixForm, Purpose};
 use dfdl_components::{Schema, load};
 use dfdl_edge::{MemoryFile, MemoryFiles};
 use dfdl_forms::ByteOrder;
@@ -29,10 +29,22 @@ fn file_of(
     formats: &str,
     components: &str,
 ) -> Result<MemoryFile, AllocError> {
+    file_in(alloc, name, "", default, formats, components)
+}
+
+/// The same of a schema with these attributes.
+fn file_in(
+    alloc: Global,
+    name: &str,
+    attributes: &str,
+    default: &str,
+    formats: &str,
+    components: &str,
+) -> Result<MemoryFile, AllocError> {
     let inside = format!(in alloc; "<d:format {default}/>{formats}")?;
     let annotation = annotated(alloc, inside.as_str())?;
     let text = format!(in alloc;
-        "<x:schema xmlns:x=\"http://www.w3.org/2001/XMLSchema\" xmlns:d=\"http://www.ogf.org/dfdl/dfdl-1.0/\">{annotation}{components}</x:schema>"
+        "<x:schema xmlns:x=\"http://www.w3.org/2001/XMLSchema\" xmlns:d=\"http://www.ogf.org/dfdl/dfdl-1.0/\" {attributes}>{annotation}{components}</x:schema>"
     )?;
     Ok(MemoryFile {
         name: String::from_str(alloc, name)?,
@@ -41,7 +53,7 @@ fn file_of(
 }
 
 /// What is told of the elements of some files that have a breach or a primitive, as a line: the number
-/// of the cause, or the fill where there is some, and the bits and the order of bytes.
+/// of the cause, or the fill and the length prefix where there is some, and the bits and the order of bytes.
 fn told(alloc: Global, purpose: Purpose, files: Vec<MemoryFile>) -> Result<String, AllocError> {
     let mut files = MemoryFiles::new(files, Vec::new(alloc));
     let Ok(schema) = load(alloc, &mut files, "a", 10_000, 2) else {
@@ -60,18 +72,38 @@ fn told_of(alloc: Global, judgement: Judgement) -> Result<String, AllocError> {
     if let Some(breach) = judgement.breach {
         return format!(in alloc; "C{}@{} ", breach.cause.number(), breach.place.document);
     }
-    let fill = fill_of(alloc, judgement.framing)?;
+    let before = before(alloc, judgement.framing, judgement.prefix)?;
     match judgement.primitive {
-        Some(Primitive::Packed(form)) => format!(in alloc; "{fill}packed{} ", form.nibbles),
-        Some(Primitive::Truth(form)) => format!(in alloc; "{fill}truth{} ", form.bits),
+        Some(Primitive::Packed(form)) => format!(in alloc; "{before}packed{} ", form.nibbles),
+        Some(Primitive::Truth(form)) => format!(in alloc; "{before}truth{} ", form.bits),
         Some(Primitive::Integer(form)) if form.bytes_by == ByteOrder::Little => format!(in alloc;
-            "{fill}little{} ",
+            "{before}little{} ",
             form.bits
         ),
-        Some(Primitive::Integer(form)) => format!(in alloc; "{fill}big{} ", form.bits),
-        Some(Primitive::Octets(form)) => format!(in alloc; "{fill}octets{} ", form.bits),
-        Some(Primitive::Text(_)) => format!(in alloc; "{fill}text "),
+        Some(Primitive::Integer(form)) => format!(in alloc; "{before}big{} ", form.bits),
+        Some(Primitive::Octets(form)) => format!(in alloc; "{before}octets{} ", form.bits),
+        Some(Primitive::Text(_)) => format!(in alloc; "{before}text "),
         None => Ok(String::new(alloc)),
+    }
+}
+
+/// The fill and the length prefix of one element.
+fn before(
+    alloc: Global,
+    framing: Framing,
+    prefix: Option<PrefixForm>,
+) -> Result<String, AllocError> {
+    let fill = fill_of(alloc, framing)?;
+    match prefix {
+        Some(
+            PrefixForm {
+                primitive: Primitive::Integer(form),
+                own,
+                ..
+            },
+        ) => format!(in alloc; "{fill}prefix{}/{own}:", form.bits),
+        Some(_) => format!(in alloc; "{fill}prefix:"),
+        None => Ok(fill),
     }
 }
 
@@ -246,6 +278,67 @@ fn what_an_element_and_its_type_give_is_joined(rt: HostRuntime) -> Result<(), Fa
     ];
     for (element, simple, expected) in cases {
         let line = two(alloc, element, simple)?;
+        assert_eq!(rt; line.as_str(), expected);
+    }
+    Ok(())
+}
+
+/// Two documents: an element of bytes with a length prefix and these attributes, and the type of the prefix with its own, under
+/// another prefix of namespaces.
+fn prefixed(alloc: Global, element: &str, simple: &str) -> Result<String, AllocError> {
+    let default = format!(in alloc;
+        "{INTEGERS} lengthUnits=\"bytes\" prefixIncludesPrefixLength=\"yes\""
+    )?;
+    let here = format!(in alloc;
+        "<x:import namespace=\"urn:b\" schemaLocation=\"b\"/>\
+        <x:element name=\"r\" type=\"x:hexBinary\" d:lengthKind=\"prefixed\" {element}/>"
+    )?;
+    let formats = "<d:defineFormat name=\"f\"><d:format ref=\"h:g\"/></d:defineFormat>\
+        <d:defineFormat name=\"g\"><d:format prefixLengthType=\"h:size\"/></d:defineFormat>";
+    let there = format!(in alloc;
+        "<x:simpleType name=\"size\" {simple}><x:restriction base=\"x:unsignedByte\"/></x:simpleType>"
+    )?;
+    let mut files = Vec::new(alloc);
+    files.push(file_in(
+        alloc,
+        "a",
+        "xmlns:t=\"urn:b\"",
+        default.as_str(),
+        "",
+        here.as_str(),
+    )?)?;
+    files.push(file_in(
+        alloc,
+        "b",
+        "xmlns:h=\"urn:b\" targetNamespace=\"urn:b\"",
+        INTEGERS,
+        formats,
+        there.as_str(),
+    )?)?;
+    told(alloc, Purpose::Parsing, files)
+}
+
+#[test]
+fn a_prefix_has_the_properties_of_its_type(rt: HostRuntime) -> Result<(), Fail> {
+    let alloc = rt.alloc();
+    let explicit = "d:lengthKind=\"explicit\" d:lengthUnits=\"bits\" d:length=\"16\"";
+    let cases = [
+        ("d:ref=\"t:f\"", explicit, "C17@1 "),
+        ("d:ref=\"t:f\"", "", "prefix8/1:octets0 "),
+        ("d:ref=\"t:f\"", "d:lengthKind=\"explicit\"", "C7@1 "),
+        ("d:prefixLengthType=\"t:size\"", "", "prefix8/1:octets0 "),
+        ("d:prefixLengthType=\"h:size\"", "", "C9@0 "),
+        ("d:prefixLengthType=\"missing\"", "", "C9@0 "),
+        (
+            "d:prefixLengthType=\"x:unsignedByte\"",
+            "",
+            "prefix8/1:octets0 ",
+        ),
+        ("d:prefixLengthType=\"x:string\"", "", "C18@0 "),
+        ("", "", "C7@0 "),
+    ];
+    for (element, simple, expected) in cases {
+        let line = prefixed(alloc, element, simple)?;
         assert_eq!(rt; line.as_str(), expected);
     }
     Ok(())

@@ -22,7 +22,7 @@ use Rattle.dfdl_checks.specs.Lengths.{constant_length, size_within}
 use Rattle.dfdl_checks.specs.Orders.{is_least_first, orders_of, told_order}
 use Rattle.dfdl_checks.specs.Packed.{codes_for, is_strict, nibbles_within, rep_of, rep_word}
 use Rattle.dfdl_checks.specs.BuiltTypes.{is_built_type}
-use Rattle.dfdl_checks.specs.Subjects.{has_point, is_binary, is_binary_number, is_explicit, is_octets, is_prefixed, is_text, is_told, is_truths, told_at, value_bits}
+use Rattle.dfdl_checks.specs.Subjects.{has_point, is_binary_number, is_explicit, is_octets, is_prefixed, is_text, is_told, is_truths, told_at, value_bits}
 use Rattle.dfdl_checks.specs.Texts.{octets_of, text_of}
 use Rattle.dfdl_checks.specs.Values.{is_within}
 use Rattle.dfdl_checks.specs.declared.orders.Orders.{Orders}

@@ -7,7 +7,7 @@ use Rattle.dfdl_forms.specs.declared.encoding.Encoding.TheVariants.{UsAscii, Iso
 use Rattle.dfdl_forms.specs.declared.simple.Form.{Form}
 use Rattle.dfdl_forms.specs.declared.simple.Form.TheVariants.{Signed, Unsigned}
 use Rattle.dfdl_forms.specs.declared.simple.Simple.{Simple}
-use Rattle.dfdl_scope.specs.Expressions.{is_expression, literal}
+use Rattle.dfdl_scope.specs.Expressions.{is_expression}
 use Rattle.dfdl_scope.specs.Scoping.{Told, Value, Absent, Twice, told}
 use Rattle.dfdl_terms.specs.declared.prefix.LengthUnit.{LengthUnit}
 use Rattle.dfdl_terms.specs.declared.prefix.LengthUnit.TheVariants as unit

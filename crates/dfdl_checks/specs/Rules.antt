@@ -2,7 +2,6 @@
 use Rattle.std.specs.Prelude.{ℕ, List, [], ◌∷◌, Bool, true, false, not, ◌==◌, ◌&&◌, ◌||◌, Option, Some, None, is_some, option_and_then, codes, if◌then◌else◌}
 use Rattle.std.specs.Option.{option_map_or, option_or}
 use Rattle.dfdl_forms.specs.declared.packed.PackedRep.{PackedRep}
-use Rattle.dfdl_forms.specs.declared.simple.Simple.{Simple}
 use Rattle.dfdl_forms.specs.declared.simple.Simple.TheVariants.{Decimal, Integer, NonNegativeInteger}
 use Rattle.dfdl_report.specs.declared.cause.SchemaCause.{SchemaCause}
 use Rattle.dfdl_report.specs.declared.cause.SchemaCause.TheVariants as causes
@@ -11,7 +10,7 @@ use Rattle.dfdl_scope.specs.Scoping.{repeated_at}
 use Rattle.dfdl_scope.specs.Table.{names_of, property_table}
 use Rattle.dfdl_checks.specs.Booleans.{falsity_told, truth_told}
 use Rattle.dfdl_checks.specs.BuiltTypes.{is_built_type}
-use Rattle.dfdl_checks.specs.Boxes.{is_box_too_long, is_explicit_box, is_implicit_box}
+use Rattle.dfdl_checks.specs.Boxes.{is_box_too_long, is_implicit_box}
 use Rattle.dfdl_checks.specs.Lengths.{constant_length, size_within}
 use Rattle.dfdl_checks.specs.Orders.{is_least_first, is_same_order, told_order}
 use Rattle.dfdl_checks.specs.BooleanTexts.{are_truth_texts_outside, false_texts, is_list_malformed, is_list_other, true_texts}

@@ -1,6 +1,6 @@
 -- How the values of a component without a breach lie in the data, where it is a text or of type hexBinary ('Simple Types', on
 -- text representation and on hexBinary).
-use Rattle.std.specs.Prelude.{ℕ, List, Bool, false, not, nat_lt, ◌&&◌, ◌*◌, Option, Some, None, option_map, codes, if◌then◌else◌}
+use Rattle.std.specs.Prelude.{ℕ, List, Bool, not, ◌&&◌, ◌*◌, Option, Some, None, option_map, codes, if◌then◌else◌}
 use Rattle.dfdl_forms.specs.declared.encoding.Encoding.{Encoding}
 use Rattle.dfdl_forms.specs.declared.order.BitOrder.{BitOrder}
 use Rattle.dfdl_forms.specs.declared.text.Justify.{Justify}
@@ -24,7 +24,7 @@ use Rattle.dfdl_checks.specs.Orders.{field_order}
 use Rattle.dfdl_checks.specs.BooleanTexts.{truth_form_of}
 use Rattle.dfdl_checks.specs.NumberTexts.{number_form_of, zoned_form_of}
 use Rattle.dfdl_checks.specs.Pads.{is_padded, is_trimmed, name_by, pad_at, used_where}
-use Rattle.dfdl_checks.specs.Subjects.{is_boolean, is_characters, is_string, is_text_number, is_told, is_truths, is_word, told_at}
+use Rattle.dfdl_checks.specs.Subjects.{is_characters, is_string, is_text_number, is_told, is_truths, is_word, told_at}
 use Rattle.dfdl_checks.specs.declared.subject.Kind.{Kind}
 
 -- a place at which no character can be decoded is replaced, as it is where nothing is told

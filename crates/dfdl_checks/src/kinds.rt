@@ -94,7 +94,7 @@ pub(crate) fn is_octets(simple: Simple) -> bool
     }
 }
 
-/// Whether it is an element of type string.
+/// Whether it is a simple element, or the type of a prefix, of type string.
 pub(crate) fn is_string(kind: Kind) -> bool
     ensures { result ≡ subjects.is_string kind }
 {
@@ -104,7 +104,7 @@ pub(crate) fn is_string(kind: Kind) -> bool
     }
 }
 
-/// Whether it is an element of type hexBinary.
+/// The same of type hexBinary.
 pub(crate) fn is_hex_binary(kind: Kind) -> bool
     ensures { result ≡ subjects.is_hex_binary kind }
 {
@@ -114,7 +114,7 @@ pub(crate) fn is_hex_binary(kind: Kind) -> bool
     }
 }
 
-/// Whether it is an element of type string or hexBinary.
+/// The same of type string or hexBinary.
 pub(crate) fn is_string_or_bytes(kind: Kind) -> bool
     ensures { result ≡ subjects.is_string_or_bytes kind }
 {
@@ -144,7 +144,7 @@ fn has_representation(form: Form) -> bool
     }
 }
 
-/// Whether it is an element of type boolean.
+/// Whether it is a simple element, or the type of a prefix, of type boolean.
 pub(crate) fn is_boolean(kind: Kind) -> bool
     ensures { result ≡ subjects.is_boolean kind }
 {
@@ -164,7 +164,7 @@ pub(crate) fn is_truths(simple: Simple) -> bool
     }
 }
 
-/// Whether it is an element of type decimal.
+/// Whether it is a simple element, or the type of a prefix, of type decimal.
 pub(crate) fn is_decimal(kind: Kind) -> bool
     ensures { result ≡ subjects.is_decimal kind }
 {

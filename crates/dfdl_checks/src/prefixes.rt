@@ -108,7 +108,8 @@ fn judged_integer<'s, 'e, 'c>(
     subject: &Subject<'s, 'e, 'c>,
     prefix: PrefixType<'s, 'e, 'c>,
 ) -> Option<Subject<'s, 'e, 'c>>
-    ensures { option_map judged_of result ≡ option_and_then (prefixes.judged_integer (judged_of subject.now)) (prefix_judged_of (Some prefix.entry)) }
+    ensures { option_map judged_of result
+        ≡ option_and_then (prefixes.judged_integer (judged_of subject.now)) (prefix_judged_of (Some prefix.entry)) }
 {
     match prefix.simple {
         Some(simple) if is_integer(simple) => Some(Subject {

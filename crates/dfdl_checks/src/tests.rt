@@ -248,16 +248,27 @@ pub(crate) fn told_below(
     })?;
     told_at(
         alloc,
-        &Subject {
-            purpose,
-            kind,
-            place: at(40),
-            chain: &chain,
-            facts,
-            root_bits_by,
-            prefix: None,
-        },
+        &without_prefix(purpose, kind, facts, root_bits_by, &chain),
     )
+}
+
+/// A component that names no type of a prefix.
+fn without_prefix<'s, 'e, 'c>(
+    purpose: Purpose,
+    kind: Kind,
+    facts: Facts,
+    root_bits_by: BitOrder,
+    chain: &'s Component<'e, 'c>,
+) -> Subject<'s, 'e, 'c> {
+    Subject {
+        purpose,
+        kind,
+        place: at(40),
+        chain,
+        facts,
+        root_bits_by,
+        prefix: None,
+    }
 }
 
 /// What is told of a component.
@@ -352,15 +363,13 @@ fn a_property_given_twice_is_told_where_it_is_given_first(rt: HostRuntime) -> Re
         format: Some(&nothing),
         default: Some(&nothing),
     })?;
-    let subject = Subject {
-        purpose: Purpose::Unparsing,
-        kind: SHORT,
-        place: at(40),
-        chain: &chain,
-        facts: PLAIN,
-        root_bits_by: BitOrder::MostFirst,
-        prefix: None,
-    };
+    let subject = without_prefix(
+        Purpose::Unparsing,
+        SHORT,
+        PLAIN,
+        BitOrder::MostFirst,
+        &chain,
+    );
     let told = breach(alloc, &subject)?;
     assert!(rt; told.map(|breach| breach.cause.number()) == Some(6));
     assert!(rt; told.map(|breach| breach.place) == Some(at(8)));

@@ -192,7 +192,8 @@ fn is_zoned_pattern_malformed(
     subject: &Subject<'_, '_, '_>,
     simple: Simple,
 ) -> Result<bool, AllocError>
-    ensures { IfOk result (λ malformed. malformed ≡ spec.is_zoned_pattern_malformed (judged_of subject.now) (Kind.SimpleElement simple)) }
+    ensures { IfOk result (λ malformed. malformed
+        ≡ spec.is_zoned_pattern_malformed (judged_of subject.now) (Kind.SimpleElement simple)) }
 {
     if !is_zoned(subject) || !is_pattern_told(property(subject.chain, "textNumberPattern")) {
         return Ok(false);

@@ -2,8 +2,9 @@
 use super::tests::{PLAIN, Told, explicit, octets_of, one, told_of, told_with};
 use super::{Facts, Kind, Purpose};
 use dfdl_forms::{BitOrder, Encoding, Justify, PadForm, Simple};
+use dfdl_scope::Properties;
 use dfdl_terms::{OctetForm, Primitive, TextContent, TextSize};
-use std::alloc::AllocGlobal;
+use std::alloc::{AllocError, AllocGlobal, Global};
 use std::process::Abort;
 use std::test::Fail;
 
@@ -182,11 +183,17 @@ fn three_by(pad: Option<char>, trim: Option<char>) -> Option<Plain> {
     ))
 }
 
-#[test]
-fn a_string_is_padded_and_trimmed_by_its_character(rt: HostRuntime) -> Result<(), Fail> {
-    let alloc = rt.alloc();
+/// What a string of 3 bytes in ASCII is given.
+fn in_ascii(alloc: Global) -> Result<Properties<'static>, AllocError> {
     let mut own = explicit(alloc, "3", "bytes")?;
     own.add("encoding", "US-ASCII")?;
+    Ok(own)
+}
+
+#[test]
+fn a_string_is_trimmed_by_its_character(rt: HostRuntime) -> Result<(), Fail> {
+    let alloc = rt.alloc();
+    let mut own = in_ascii(alloc)?;
     own.add("textTrimKind", "padChar")?;
     let trimmed = told_of(alloc, Purpose::Parsing, STRING, &own)?;
     assert!(rt; string_of(&trimmed) == three_by(None, Some(' ')));
@@ -194,8 +201,13 @@ fn a_string_is_padded_and_trimmed_by_its_character(rt: HostRuntime) -> Result<()
     own.add("textStringPadCharacter", "%#x2A;")?;
     let both = told_of(alloc, Purpose::Parsing, STRING, &own)?;
     assert!(rt; string_of(&both) == three_by(Some('*'), Some('*')));
-    let mut own = explicit(alloc, "3", "bytes")?;
-    own.add("encoding", "US-ASCII")?;
+    Ok(())
+}
+
+#[test]
+fn a_string_is_padded_by_its_character(rt: HostRuntime) -> Result<(), Fail> {
+    let alloc = rt.alloc();
+    let mut own = in_ascii(alloc)?;
     own.add("textPadKind", "padChar")?;
     let padded = told_of(alloc, Purpose::Parsing, STRING, &own)?;
     assert!(rt; string_of(&padded) == three_by(Some(' '), None));

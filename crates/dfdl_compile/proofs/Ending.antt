@@ -30,7 +30,7 @@ use Rattle.dfdl_checks.specs.declared.purpose.Purpose.{Purpose}
 use Rattle.dfdl_compile.specs.Components.{components_of, primitives_of}
 use Rattle.dfdl_compile.proofs.Fitting.{length_uses}
 use Rattle.dfdl_compile.specs.Compiled as ends
-use Rattle.dfdl_compile.specs.Compiled.{CompileEnd, by_rows, by_refusal, by_depth, by_recursion, by_root, first_recursive}
+use Rattle.dfdl_compile.specs.Compiled.{CompileEnd, by_refusal, by_depth, by_recursion, by_root, first_recursive}
 use Rattle.dfdl_compile.specs.Faults.{IsFaultOf, IsRecursionFault}
 use Rattle.dfdl_compile.specs.FaultsShown.{fault_of}
 

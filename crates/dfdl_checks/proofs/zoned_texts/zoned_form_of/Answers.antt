@@ -1,4 +1,4 @@
-use Rattle.std.proofs.Common.{◌≡◌, sym, subst, ap, ◌∙◌, IfOk}
+use Rattle.std.proofs.Common.{◌≡◌, subst, IfOk}
 use Rattle.dfdl_checks.proofs.AlikeChains.{both}
 use Rattle.dfdl_checks.specs.NumberTexts.{pattern_text, zoned_spelled}
 use Rattle.dfdl_checks.proofs.zoned_texts.zoned_form_of.Goals as goal

@@ -263,28 +263,37 @@ fn zoned_of(told: &Told) -> Option<ZonedForm> {
     }
 }
 
-#[test]
-fn a_zoned_number_is_read_by_its_pattern(rt: HostRuntime) -> Result<(), Fail> {
-    let alloc = rt.alloc();
-    let mut own = text_with(
-        alloc,
-        ("textNumberPattern", "+0V0"),
-        ("textNumberRep", "zoned"),
-    )?;
-    let first = told_of(alloc, Purpose::Parsing, DECIMAL, &own)?;
-    let mut wanted = ZonedForm {
-        style: ZonedStyle::AsciiStandard,
+/// A zoned decimal with a sign at its first digit, two digits and one of them behind the point.
+fn two_digits(style: ZonedStyle) -> ZonedForm {
+    ZonedForm {
+        style,
         first: true,
         width: 2,
         point: 1,
         kind: Simple::Decimal,
-    };
-    assert!(rt; zoned_of(&first) == Some(wanted));
-    own.add("textZonedSignStyle", "asciiTranslatedEBCDIC")?;
-    let translated = told_of(alloc, Purpose::Parsing, DECIMAL, &own)?;
-    wanted.style = ZonedStyle::TranslatedEbcdic;
-    assert!(rt; zoned_of(&translated) == Some(wanted));
+    }
+}
+
+fn is_zoned<R: Abort + AllocGlobal>(
+    rt: &R,
+    name: &'static str,
+    wanted: ZonedStyle,
+) -> Result<(), Fail> {
+    let mut own = text_with(
+        rt.alloc(),
+        ("textNumberPattern", "+0V0"),
+        ("textNumberRep", "zoned"),
+    )?;
+    own.add("textZonedSignStyle", name)?;
+    let told = told_of(rt.alloc(), Purpose::Parsing, DECIMAL, &own)?;
+    assert!(rt; zoned_of(&told) == Some(two_digits(wanted)));
     Ok(())
+}
+
+#[test]
+fn a_zoned_number_is_read_by_its_pattern(rt: HostRuntime) -> Result<(), Fail> {
+    is_zoned(&rt, "asciiStandard", ZonedStyle::AsciiStandard)?;
+    is_zoned(&rt, "asciiTranslatedEBCDIC", ZonedStyle::TranslatedEbcdic)
 }
 
 /// Of the boolean that is told of: how many texts of true and of false there are, and whether cases are folded.

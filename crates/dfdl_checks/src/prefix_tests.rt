@@ -184,21 +184,36 @@ fn of_bits(
     told_of(alloc, SHORT, &own, UNSIGNED, &of_type)
 }
 
+/// The units of a length, whether it counts the prefix itself, the bits of the prefix, the number of the first
+/// breach, and the prefix.
+type Counted = (
+    &'static str,
+    &'static str,
+    &'static str,
+    u8,
+    Option<(u32, LengthUnit, u64)>,
+);
+
+const COUNTED: [Counted; 4] = [
+    ("bytes", "no", "6", 0, Some((6, LengthUnit::Bytes, 0))),
+    ("bytes", "yes", "6", 19, None),
+    ("bits", "yes", "6", 0, Some((6, LengthUnit::Bits, 6))),
+    ("bytes", "yes", "8", 0, Some((8, LengthUnit::Bytes, 1))),
+];
+
+fn is_counted<R: Abort + AllocGlobal>(rt: &R, case: Counted) -> Result<(), Fail> {
+    let (units, counts_itself, bits, number, wanted) = case;
+    let told = of_bits(rt.alloc(), units, counts_itself, bits)?;
+    assert_eq!(rt; told.number, number, "{units} {counts_itself} {bits}");
+    assert!(rt; prefix_of(&told) == wanted);
+    Ok(())
+}
+
 #[test]
 fn a_prefix_that_counts_itself_is_whole_in_its_units(rt: HostRuntime) -> Result<(), Fail> {
-    let alloc = rt.alloc();
-    let apart = of_bits(alloc, "bytes", "no", "6")?;
-    assert_eq!(rt; apart.number, 0);
-    assert!(rt; prefix_of(&apart) == Some((6, LengthUnit::Bytes, 0)));
-    let broken = of_bits(alloc, "bytes", "yes", "6")?;
-    assert_eq!(rt; broken.number, 19);
-    assert!(rt; broken.prefix.is_none());
-    let bits = of_bits(alloc, "bits", "yes", "6")?;
-    assert_eq!(rt; bits.number, 0);
-    assert!(rt; prefix_of(&bits) == Some((6, LengthUnit::Bits, 6)));
-    let whole = of_bits(alloc, "bytes", "yes", "8")?;
-    assert_eq!(rt; whole.number, 0);
-    assert!(rt; prefix_of(&whole) == Some((8, LengthUnit::Bytes, 1)));
+    for case in COUNTED.iter() {
+        is_counted(&rt, *case)?;
+    }
     Ok(())
 }
 

@@ -4,6 +4,7 @@ use Rattle.dfdl_checks.specs.Framing.{framing_of}
 use Rattle.dfdl_checks.specs.Judged.{Judged}
 use Rattle.dfdl_checks.specs.Numbers.{primitive_of}
 use Rattle.dfdl_checks.specs.Prefixes.{prefix_of}
+use Rattle.dfdl_checks.specs.Representations.{representations_of}
 use Rattle.dfdl_checks.specs.Rules.{breach_of_component}
 use Rattle.dfdl_breaches.specs.declared.judgement.Judgement.{Judgement}
 
@@ -15,4 +16,5 @@ judgement_of j = record {
   framing = framing_of j;
   size = size_of_box j;
   prefix = prefix_of j;
+  others = representations_of j;
 }

@@ -1,12 +1,14 @@
--- What is wrong at each component of a schema by itself, how the values of its simple elements lie in the data, and which
--- fill and which box stand around its content.
+-- What is wrong at each component of a schema by itself, how the values of its simple elements lie in the data, which fill and
+-- which box stand around its content, and which other representations it has.
 use Rattle.std.specs.Prelude.{ℕ, List, Option, None, if◌then◌else◌}
 use Rattle.dfdl_documents.specs.Documents.{SchemaDocument}
 use Rattle.dfdl_components.specs.declared.site.Site.{Site}
 use Rattle.dfdl_components.specs.Sites.{role_of}
 use Rattle.dfdl_checks.specs.Judged.{Judged}
 use Rattle.dfdl_checks.specs.Prefixes.{prefix_of}
+use Rattle.dfdl_checks.specs.Representations.{no_representations, representations_of}
 use Rattle.dfdl_checks.specs.Rules.{breach_of_component}
+use Rattle.dfdl_checks.specs.declared.tried.OtherRepresentations.{OtherRepresentations}
 use Rattle.dfdl_checks.specs.declared.prefixes.PrefixForm.{PrefixForm}
 use Rattle.dfdl_checks.specs.Boxes.{size_of_box}
 use Rattle.dfdl_checks.specs.Framing.{framing_of}
@@ -56,9 +58,20 @@ size_at purpose documents own = size_of_box (judged_at purpose documents own)
 abbrev pub form_of_prefix : Purpose → List SchemaDocument → Site → Option PrefixForm
 form_of_prefix purpose documents own = prefix_of (judged_at purpose documents own)
 
+-- which representations of a component are tried before its normal one
+abbrev pub others_at : Purpose → List SchemaDocument → Site → OtherRepresentations
+others_at purpose documents own = representations_of (judged_at purpose documents own)
+
 -- nothing is told of what is no component
 abbrev pub no_judgement : Judgement
-no_judgement = record { breach = None; primitive = None; framing = no_fill; size = None; prefix = None }
+no_judgement = record {
+  breach = None;
+  primitive = None;
+  framing = no_fill;
+  size = None;
+  prefix = None;
+  others = no_representations;
+}
 
 -- what is told of an element of the documents
 unfoldable pub judgement_at : Purpose → List SchemaDocument → Site → Judgement
@@ -70,5 +83,6 @@ judgement_at purpose documents own =
       framing = framing_at purpose documents own;
       size = size_at purpose documents own;
       prefix = form_of_prefix purpose documents own;
+      others = others_at purpose documents own;
     }
     else no_judgement

@@ -1,5 +1,5 @@
 // What is told of a component.
-use dfdl_checks::{Breach, PrefixForm};
+use dfdl_checks::{Breach, OtherRepresentations, PrefixForm};
 use dfdl_terms::{Framing, Primitive};
 
 /// What is told of an element of a schema's documents.
@@ -15,4 +15,6 @@ pub struct Judgement {
     pub size: Option<u64>,
     /// How its length prefix lies in the data, if it has one.
     pub prefix: Option<PrefixForm>,
+    /// Which representations of it are tried before its normal one, and how their content lies in the data.
+    pub others: OtherRepresentations,
 }

@@ -1,32 +1,42 @@
 // Laws of the definitions that the contracts cite. The calls do nothing.
 ghost use Rattle.std.specs.Prelude.{◌≡◌, List, Some, None, IsTrue, IsSome};
-ghost use Rattle.dfdl_terms.specs.Rows.{IsPrimitive};
+ghost use Rattle.dfdl_terms.specs.Rows.{IsPrimitive, IsWritten};
 ghost use Rattle.dfdl_terms.specs.declared.row.Primitive.{Primitive};
+ghost use Rattle.dfdl_terms.specs.declared.row.Primitive.TheVariants.{Default};
+ghost use Rattle.dfdl_terms.specs.declared.text.DefaultForm.{DefaultForm};
 ghost use Rattle.dfdl_documents.specs.Documents.{SchemaDocument};
 ghost use Rattle.dfdl_components.specs.declared.site.Site.{Site};
 ghost use Rattle.dfdl_checks.specs.Forms.{IsWhole};
 ghost use Rattle.dfdl_checks.specs.Numbers.{type_of};
+ghost use Rattle.dfdl_checks.specs.Representations.{no_representations};
 ghost use Rattle.dfdl_checks.specs.Subjects.{is_simple, simple_of};
 ghost use Rattle.dfdl_checks.specs.declared.purpose.Purpose.{Purpose};
 ghost use Rattle.dfdl_checks.specs.declared.purpose.Purpose.TheVariants.{Unparsing};
 ghost use Rattle.dfdl_chains.specs.Kinds.{kind_at};
 ghost use Rattle.dfdl_checks.specs.declared.prefixes.PrefixForm.{PrefixForm};
-ghost use Rattle.dfdl_breaches.specs.Judging.{breach_at, form_of_prefix, primitive_at};
+ghost use Rattle.dfdl_breaches.specs.Judging.{breach_at, form_of_prefix, others_at, primitive_at};
 
 use dfdl_checks::laws::{
     prefixes_are_bounded, primitives_are_bounded, primitives_for_unparsing_are_whole,
-    sound_elements_have_primitives,
+    representations_are_bounded, sound_elements_have_primitives,
 };
 
 /// A simple element without a breach has a primitive. Each primitive, of an element with breaches too,
 /// keeps the bounds of its type, which is that of the element, and each one for unparsing is a whole
-/// unsigned integer. So does each primitive of a length prefix, of which there is none for unparsing.
+/// unsigned integer. So does each primitive of a length prefix, of which there is none for unparsing, and each one of a nil
+/// representation, or of an empty one whose text is one of characters; for unparsing only the normal representation is tried.
 pub fn sound_elements_have_bounded_primitives()
     ensures sound { (purpose : Purpose) (documents : List SchemaDocument) (own : Site) → breach_at purpose documents own ≡ None
         → IsTrue (is_simple (kind_at documents own)) → IsSome (primitive_at purpose documents own) }
     ensures prefix { (purpose : Purpose) (documents : List SchemaDocument) (own : Site) (f : PrefixForm)
         → form_of_prefix purpose documents own ≡ Some f → IsPrimitive f.primitive }
     ensures parsing { (documents : List SchemaDocument) (own : Site) → form_of_prefix Unparsing documents own ≡ None }
+    ensures nil { (purpose : Purpose) (documents : List SchemaDocument) (own : Site) (p : Primitive)
+        → (others_at purpose documents own).nil ≡ Some p → IsPrimitive p }
+    ensures empty { (purpose : Purpose) (documents : List SchemaDocument) (own : Site) (p : Primitive)
+        → (others_at purpose documents own).empty ≡ Some p → ((form : DefaultForm) → p ≡ Default form → IsWritten form.value)
+        → IsPrimitive p }
+    ensures normal { (documents : List SchemaDocument) (own : Site) → others_at Unparsing documents own ≡ no_representations }
     ensures bounded { (purpose : Purpose) (documents : List SchemaDocument) (own : Site) (p : Primitive)
         → primitive_at purpose documents own ≡ Some p → IsPrimitive p }
     ensures kind { (purpose : Purpose) (documents : List SchemaDocument) (own : Site) (p : Primitive)
@@ -37,5 +47,6 @@ pub fn sound_elements_have_bounded_primitives()
     sound_elements_have_primitives();
     primitives_are_bounded();
     prefixes_are_bounded();
+    representations_are_bounded();
     primitives_for_unparsing_are_whole();
 }

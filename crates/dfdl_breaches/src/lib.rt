@@ -1,5 +1,5 @@
 //! What is wrong at each component of a schema by itself: for every element of its documents the first rule that the
-//! component there breaks, and how its values and its length prefix lie in the data.
+//! component there breaks, and how its values, its length prefix and its other representations lie in the data.
 //!
 //! A component is judged by what the elements of its chain give: their own properties, the formats that they refer to
 //! (`specs/References.antt` of dfdl_references), each joined once with those that it refers to (`specs/Formats.antt`), and the

@@ -19,7 +19,10 @@ use crate::prefixes::{lent, prefix_at};
 use crate::root::root_of;
 use crate::sites::sites_of;
 use dfdl_chains::{chain_sites, facts_at, is_component, kind_at};
-use dfdl_checks::{Purpose, Subject, bit_order, breach, framing, prefix, primitive, size_of_box};
+use dfdl_checks::{
+    OtherRepresentations, Purpose, Subject, bit_order, breach, framing, other_representations,
+    prefix, primitive, size_of_box,
+};
 use dfdl_components::{Schema, Site};
 use dfdl_forms::BitOrder;
 use dfdl_scope::Properties;
@@ -65,20 +68,22 @@ fn told_of(alloc: Global, subject: &Subject<'_, '_, '_>) -> Result<Judgement, Al
     let breach = breach(alloc, subject)?;
     let primitive = primitive(alloc, subject)?;
     let prefix = prefix(alloc, subject)?;
+    let others = other_representations(alloc, subject)?;
     Ok(Judgement {
         breach,
         primitive,
         framing: framing(subject),
         size: size_of_box(subject),
         prefix,
+        others,
     })
 }
 
 // What is told of a component whose chain has these elements.
-fn judged(
+fn judged<'s>(
     alloc: Global,
-    kept: &Kept<'_, '_>,
-    schema: &Schema,
+    kept: &Kept<'_, 's>,
+    schema: &'s Schema,
     purpose: Purpose,
     bits_by: BitOrder,
     site: Site,
@@ -107,10 +112,10 @@ fn judged(
 
 // What is told of an element. The list takes its chain.
 #[tactic(auto, unfolding(crate::specs::Judging::judgement_at))]
-fn judgement(
+fn judgement<'s>(
     alloc: Global,
-    kept: &Kept<'_, '_>,
-    schema: &Schema,
+    kept: &Kept<'_, 's>,
+    schema: &'s Schema,
     purpose: Purpose,
     bits_by: BitOrder,
     site: Site,
@@ -128,6 +133,11 @@ fn judgement(
             framing: Framing::none(),
             size: None,
             prefix: None,
+            others: OtherRepresentations {
+                nil: None,
+                empty: None,
+                are_several: false,
+            },
         });
     }
     chain_sites(schema, &kept.sites.numbers, site, chain)?;
@@ -143,10 +153,10 @@ fn judgement(
 }
 
 // What is told of all elements.
-fn judgements(
+fn judgements<'s>(
     alloc: Global,
-    kept: &Kept<'_, '_>,
-    schema: &Schema,
+    kept: &Kept<'_, 's>,
+    schema: &'s Schema,
     purpose: Purpose,
     bits_by: BitOrder,
 ) -> Result<Vec<Judgement>, AllocError>
@@ -163,8 +173,8 @@ fn judgements(
 }
 
 /// What is told of each element of a schema's documents, in the order of their numbers: of a component
-/// the first rule that it breaks, how its values and its length prefix lie in the data, and the fill and the box around its
-/// content; of every other element nothing.
+/// the first rule that it breaks, how its values, its length prefix and its other representations lie in the data, and the fill
+/// and the box around its content; of every other element nothing.
 ///
 /// What its rows are made for decides which forms are built. The order of bits is that of the root, which is found once. The
 /// properties of each element are collected once, and each format is joined once.

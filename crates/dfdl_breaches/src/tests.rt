@@ -1,7 +1,7 @@
 // What is told of schemas in memory.
 use crate::laws::sound_elements_have_bounded_primitives;
 use crate::{Judgement, breaches};
-use dfdl_checks::{PrefixForm, Purpose};
+use dfdl_checks::{OtherRepresentations, PrefixForm, Purpose};
 use dfdl_components::{Schema, load};
 use dfdl_edge::{MemoryFile, MemoryFiles};
 use dfdl_forms::ByteOrder;
@@ -83,6 +83,7 @@ fn told_of(alloc: Global, judgement: Judgement) -> Result<String, AllocError> {
         Some(Primitive::Integer(form)) => format!(in alloc; "{before}big{} ", form.bits),
         Some(Primitive::Octets(form)) => format!(in alloc; "{before}octets{} ", form.bits),
         Some(Primitive::Text(_)) => format!(in alloc; "{before}text "),
+        Some(Primitive::NilOctets(_) | Primitive::Default(_)) => Ok(String::new(alloc)),
         None => Ok(String::new(alloc)),
     }
 }
@@ -341,6 +342,45 @@ fn a_prefix_has_the_properties_of_its_type(rt: HostRuntime) -> Result<(), Fail> 
         let line = prefixed(alloc, element, simple)?;
         assert_eq!(rt; line.as_str(), expected);
     }
+    Ok(())
+}
+
+/// Which representations of one element are tried besides its normal one.
+fn others_of(alloc: Global, others: &OtherRepresentations) -> Result<String, AllocError> {
+    let nil = if others.nil.is_some() { "nil" } else { "" };
+    let empty = if others.empty.is_some() { "empty" } else { "" };
+    let several = if others.are_several { "several" } else { "one" };
+    format!(in alloc; "{nil}/{empty}/{several} ")
+}
+
+/// The same of the elements of a document that have a primitive, as a line.
+fn others_told(alloc: Global, purpose: Purpose, components: &str) -> Result<String, AllocError> {
+    let mut files = Vec::new(alloc);
+    files.push(file_of(alloc, "a", INTEGERS, "", components)?)?;
+    let mut files = MemoryFiles::new(files, Vec::new(alloc));
+    let Ok(schema) = load(alloc, &mut files, "a", 10_000, 2) else {
+        return String::from_str(alloc, "refused");
+    };
+    let mut line = String::new(alloc);
+    for judgement in breaches(alloc, &schema, purpose)? {
+        if judgement.primitive.is_some() {
+            let piece = others_of(alloc, &judgement.others)?;
+            line.push_str(piece.as_str())?;
+        }
+    }
+    Ok(line)
+}
+
+#[test]
+fn other_representations_are_told_for_parsing(rt: HostRuntime) -> Result<(), Fail> {
+    let alloc = rt.alloc();
+    let components = "<x:element name=\"r\" type=\"x:unsignedByte\"/>\
+        <x:element name=\"s\" type=\"x:unsignedByte\" nillable=\"true\" d:encoding=\"US-ASCII\" d:nilKind=\"literalValue\" d:nilValue=\"-\"/>\
+        <x:element name=\"t\" type=\"x:hexBinary\" default=\"41\" d:lengthKind=\"explicit\" d:length=\"0\"/>";
+    let parsed = others_told(alloc, Purpose::Parsing, components)?;
+    assert_eq!(rt; parsed.as_str(), "//one nil//several /empty/several ");
+    let unparsed = others_told(alloc, Purpose::Unparsing, components)?;
+    assert_eq!(rt; unparsed.as_str(), "//one //one ");
     Ok(())
 }
 

@@ -1,7 +1,7 @@
 -- What a component states besides its properties. Of a reference and its declaration the reference says
--- how often the element occurs, and the declaration whether it may be nil and has a default ('DFDL
+-- how often the element occurs, and the declaration whether it may be nil and which default it has ('DFDL
 -- Schema Component Model').
-use Rattle.std.specs.Prelude.{ℕ, List, [], ◌∷◌, ◌&&◌, ◌||◌, ◌==◌, if◌then◌else◌, Bool, true, false, not, nat_lt, length, Option, Some, None, codes, bytes_eq, is_some}
+use Rattle.std.specs.Prelude.{ℕ, List, [], ◌∷◌, ◌&&◌, ◌||◌, ◌==◌, if◌then◌else◌, Bool, true, false, not, nat_lt, length, Option, Some, None, codes, bytes_eq}
 use Rattle.std.specs.List.{list_any}
 use Rattle.dfdl_markup.specs.Trees.{Node, node_at}
 use Rattle.dfdl_constructs.specs.declared.role.Role.{Role}
@@ -11,7 +11,7 @@ use Rattle.dfdl_constructs.specs.ValuesAllowed.{is_occurring}
 use Rattle.dfdl_documents.specs.Documents.{SchemaDocument}
 use Rattle.dfdl_components.specs.declared.site.Site.{Site}
 use Rattle.dfdl_components.specs.Sites.{nodes_of, role_of}
-use Rattle.dfdl_checks.specs.declared.subject.Facts.{Facts}
+use Rattle.dfdl_checks.specs.Judged.{FactsJudged}
 use Rattle.dfdl_chains.specs.Declarations.{attribute_of, declaration}
 use Rattle.dfdl_chains.specs.Chains.{chain_sites}
 use Rattle.dfdl_chains.specs.Lengths.{max_length}
@@ -51,9 +51,9 @@ is_true (Some text) = bytes_eq text (codes "true") || bytes_eq text (codes "1")
 abbrev pub is_nillable : List SchemaDocument → Site → Bool
 is_nillable documents own = is_true (attribute_of documents (declaration documents own) (codes "nillable"))
 
--- the element has a default value
-abbrev pub has_default : List SchemaDocument → Site → Bool
-has_default documents own = is_some (attribute_of documents (declaration documents own) (codes "default"))
+-- the text of the element's default value, if it has one
+abbrev pub default_of : List SchemaDocument → Site → Option (List ℕ)
+default_of documents own = attribute_of documents (declaration documents own) (codes "default")
 
 -- a statement
 abbrev pub is_statement : Role → Bool
@@ -94,11 +94,11 @@ has_own_statements documents own =
     (node_at (nodes_of documents own.document) own.element).children
 
 -- what a component states
-unfoldable pub facts_at : List SchemaDocument → Site → Facts
+unfoldable pub facts_at : List SchemaDocument → Site → FactsJudged
 facts_at documents own = record {
   occurs_once = occurs_once documents own;
   is_nillable = is_nillable documents own;
-  has_default = has_default documents own;
+  default = default_of documents own;
   has_statements = list_any (has_own_statements documents) (chain_sites documents own);
   is_empty = is_none_of (inside_of documents own);
   max_length = max_length documents own;

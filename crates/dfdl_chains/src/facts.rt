@@ -4,6 +4,7 @@ ghost use Rattle.std.specs.List.{list_any};
 ghost use Rattle.dfdl_markup.specs.Trees.{node_at};
 ghost use Rattle.dfdl_constructs.specs.ValuesAllowed.{is_occurring};
 ghost use Rattle.dfdl_components.specs.Sites.{IsSite, nodes_of};
+ghost use Rattle.dfdl_checks.specs.JudgedShown.{facts_judged_of};
 ghost use Rattle.dfdl_chains.specs.Chains as chains;
 ghost use Rattle.dfdl_chains.specs.Facts as spec;
 
@@ -77,12 +78,12 @@ fn is_nillable(schema: &Schema, site: Site) -> bool
     is_true(attribute(schema, declaration(schema, site), "nillable"))
 }
 
-// The element has a default value.
-fn has_default(schema: &Schema, site: Site) -> bool
+// The text of the element's default value, if it has one.
+fn default_of<'s>(schema: &'s Schema, site: Site) -> Option<&'s str>
     requires { IsSite schema.now site }
-    ensures { result ≡ spec.has_default schema.now site }
+    ensures { option_copied result ≡ spec.default_of schema.now site }
 {
-    attribute(schema, declaration(schema, site), "default").is_some()
+    attribute(schema, declaration(schema, site), "default")
 }
 
 // A statement.
@@ -199,15 +200,15 @@ fn have_statements(schema: &Schema, chain: &[Site]) -> bool
 
 /// What a component with this chain states.
 #[tactic(auto, using(crate::proofs::Within::chain_within), unfolding(crate::specs::Facts::facts_at))]
-pub fn facts_at(schema: &Schema, site: Site, chain: &[Site]) -> Facts
+pub fn facts_at<'s>(schema: &'s Schema, site: Site, chain: &[Site]) -> Facts<'s>
     requires site { IsSite schema.now site }
     requires chain { chain.now ≡ chains.chain_sites schema.now site }
-    ensures { result ≡ spec.facts_at schema.now site }
+    ensures { facts_judged_of result ≡ spec.facts_at schema.now site }
 {
     Facts {
         occurs_once: occurs_once(schema, site),
         is_nillable: is_nillable(schema, site),
-        has_default: has_default(schema, site),
+        default: default_of(schema, site),
         has_statements: have_statements(schema, chain),
         is_empty: is_empty(schema, site),
         max_length: max_length(schema, site, chain),

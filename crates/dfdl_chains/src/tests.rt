@@ -8,7 +8,7 @@ use dfdl_edge::{MemoryFile, MemoryFiles};
 use std::alloc::{AllocError, Global};
 use std::test::Fail;
 
-/// What is told of an element: of a component its greatest length or a hyphen, else nothing.
+/// What is told of an element: of a component its greatest length or a hyphen, and its default, if it has one; else nothing.
 fn told_of(
     alloc: Global,
     schema: &Schema,
@@ -23,9 +23,11 @@ fn told_of(
     }
     let mut chain = Vec::new(alloc);
     chain_sites(schema, numbers, site, &mut chain)?;
-    match facts_at(schema, site, chain.as_slice()).max_length {
-        Some(length) => format!(in alloc; "{length} "),
-        None => String::from_str(alloc, "- "),
+    let facts = facts_at(schema, site, chain.as_slice());
+    let default = facts.default.unwrap_or("");
+    match facts.max_length {
+        Some(length) => format!(in alloc; "{length}{default} "),
+        None => format!(in alloc; "-{default} "),
     }
 }
 
@@ -97,6 +99,17 @@ fn the_nearest_greatest_length_counts(rt: HostRuntime) -> Result<(), Fail> {
         <x:maxLength value=\"18446744073709551616\"/></x:restriction></x:simpleType></x:element>";
     let line = told(alloc, components)?;
     assert_eq!(rt; line.as_str(), "12 40 7 - - - 40 18446744073709551615 ");
+    Ok(())
+}
+
+#[test]
+fn a_reference_has_the_default_of_its_declaration(rt: HostRuntime) -> Result<(), Fail> {
+    let alloc = rt.alloc();
+    let components = "<x:element name=\"a\" type=\"x:int\" default=\" 7 &lt;\"/>\
+        <x:element name=\"b\"><x:complexType><x:sequence>\
+        <x:element ref=\"a\"/><x:element name=\"c\" type=\"x:string\" default=\"\"/></x:sequence></x:complexType></x:element>";
+    let line = told(alloc, components)?;
+    assert_eq!(rt; line.as_str(), "- 7 < - - - 7 < - ");
     Ok(())
 }
 

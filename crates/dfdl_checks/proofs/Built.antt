@@ -6,7 +6,7 @@ use Rattle.dfdl_scope.specs.Expressions.{literal}
 use Rattle.dfdl_scope.specs.Scoping.{Told, Value, Absent, Twice}
 use Rattle.dfdl_scope.specs.Table.{Row, row, Words, Missing, property_table, row_named}
 use Rattle.dfdl_checks.proofs.Flawless.{flawless, HasNoFlaw, HasBuilt, value-built, given-built, among-words}
-use Rattle.dfdl_checks.proofs.Kept.{IsKept}
+use Rattle.dfdl_checks.proofs.Kept.{IsKept, values-kept}
 use Rattle.dfdl_checks.proofs.Once.{is_twice, told-once}
 use Rattle.dfdl_checks.specs.Applying.{is_bearer}
 use Rattle.dfdl_checks.specs.Flaws.{has_flaw}
@@ -41,7 +41,7 @@ flawless-by s kept i a there bearer r named = record {
 
     carried : has_flaw flaws.NotCarried s ≡ false
     carried =
-        first (has_flaw flaws.NotCarried s) (is_separator_other s) (are_separators_unfit s) (is_base_unfit s) (is_prefix_type_missing s) kept.carried
+        first (has_flaw flaws.NotCarried s) (is_separator_other s) (are_separators_unfit s) (is_base_unfit s) (is_prefix_type_missing s) (values-kept s kept)
 
 -- it is not given twice
 pub once-at : (s : Judged) → IsKept s → (name : List ℕ) (r : Row) → row_named property_table name ≡ Some r → is_twice (told_at s name) ≡ false

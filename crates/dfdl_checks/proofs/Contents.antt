@@ -14,7 +14,7 @@ use Rattle.dfdl_forms.specs.declared.simple.Simple.TheVariants as types
 use Rattle.dfdl_number_pattern.specs.Read.{pattern_read}
 use Rattle.dfdl_terms.specs.Rows.{IsTextContent}
 use Rattle.dfdl_terms.specs.declared.text.TextContent.{TextContent}
-use Rattle.dfdl_terms.specs.declared.text.TextContent.TheVariants.{Plain, Number, Zoned, Truth}
+use Rattle.dfdl_terms.specs.declared.text.TextContent.TheVariants.{Plain, Number, Zoned, Truth, Nil}
 use Rattle.dfdl_checks.proofs.BoxBounds.{none-some, some-is}
 use Rattle.dfdl_checks.proofs.Types.{boolean-type, string-type}
 use Rattle.dfdl_checks.specs.BooleanTexts.{truth_form_of}
@@ -115,6 +115,7 @@ IsContentOf s simple Plain = simple ≡ types.String
 IsContentOf s simple (Truth form) = simple ≡ types.Boolean
 IsContentOf s simple (Zoned form) = IsZonedBy simple form
 IsContentOf s simple (Number form kind) = (simple ≡ kind) × (number_form_of s ≡ Some form)
+IsContentOf s simple (Nil form) = ⊥
 
 pub content-is : (s : Judged) (simple : Simple) (content : TextContent) → content_of s simple ≡ Some content → IsContentOf s simple content
 content-is s simple content is =
@@ -140,6 +141,7 @@ content-bounded s simple Plain patterns of = tt
 content-bounded s simple (Truth form) patterns of = tt
 content-bounded s simple (Zoned form) patterns of = zoned-bounded simple form patterns of
 content-bounded s simple (Number form kind) patterns of = number-bounded s form patterns of.1
+content-bounded s simple (Nil form) patterns of = absurd of
 
 -- its values are those of the type
 pub content-typed : (s : Judged) (simple : Simple) (content : TextContent) → IsContentOf s simple content → simple ≡ text_type content
@@ -147,3 +149,4 @@ content-typed s simple Plain of = of
 content-typed s simple (Truth form) of = of
 content-typed s simple (Zoned form) of = of.kind
 content-typed s simple (Number form kind) of = of.0
+content-typed s simple (Nil form) of = absurd of

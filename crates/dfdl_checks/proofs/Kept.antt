@@ -4,7 +4,12 @@ use Rattle.std.specs.Option.{option_map_or}
 use Rattle.dfdl_report.specs.declared.cause.SchemaCause.{SchemaCause}
 use Rattle.dfdl_report.specs.declared.cause.SchemaCause.TheVariants as causes
 use Rattle.dfdl_report.specs.declared.place.Place.{Place}
-use Rattle.dfdl_checks.specs.Rules.{breach_of, first_breach, rules, is_unbuilt, property_twice, is_property_missing, is_value_not_carried, is_expression_not_allowed, is_literal_malformed, is_type_not_carried, is_max_length_missing, is_length_kind_not_allowed, is_length_in_characters, is_length_out_of_range, is_prefix_type_not_allowed, is_prefix_not_whole, are_orders_apart, is_second_bit_order, is_character_not_encoded, is_alignment_not_allowed, is_pattern_malformed, are_codes_malformed, are_truths_malformed, is_pad_no_character}
+use Rattle.dfdl_checks.specs.Rules.{breach_of, first_breach, rules, is_unbuilt, property_twice, is_property_missing, is_value_not_carried, is_expression_not_allowed, is_literal_malformed, is_type_not_carried, is_max_length_missing, is_length_kind_not_allowed, is_length_in_characters, is_length_out_of_range, is_prefix_type_not_allowed, is_prefix_not_whole, are_orders_apart, is_second_bit_order, is_character_not_encoded, is_alignment_not_allowed, is_pattern_malformed, are_codes_malformed, are_truths_malformed, is_pad_no_character, is_pad_malformed, is_separator_malformed, are_truth_texts_malformed, is_pad_not_encoded, is_separator_not_encoded, are_truth_texts_not_encoded, is_separator_other, are_separators_unfit, is_base_unfit, is_prefix_type_missing}
+use Rattle.dfdl_checks.specs.Defaults.{is_default_not_allowed}
+use Rattle.dfdl_checks.specs.FillBytes.{is_fill_malformed, is_fill_other}
+use Rattle.dfdl_checks.specs.Flaws.{has_flaw}
+use Rattle.dfdl_checks.specs.Nils.{is_nil_malformed, is_nil_not_allowed, is_nil_not_encoded}
+use Rattle.dfdl_checks.specs.declared.flaw.Flaw.TheVariants as flaws
 use Rattle.dfdl_checks.specs.Judged.{Judged}
 use Rattle.dfdl_checks.specs.declared.subject.Breach.{Breach}
 
@@ -31,6 +36,8 @@ pub record IsKept (s : Judged) : Type 0 where
   pub codes : are_codes_malformed s ≡ false
   pub truths : are_truths_malformed s ≡ false
   pub pad_single : is_pad_no_character s ≡ false
+  pub nil : is_nil_not_allowed s ≡ false
+  pub by_default : is_default_not_allowed s ≡ false
 
 -- no rule of some is broken: neither the first one nor another
 first-kept : (cause : SchemaCause) (at : Option Place) (rest : Option Breach)
@@ -68,6 +75,8 @@ keeps-all s none =
     let codes_at = first-kept causes.SignCodes _ _ pattern_at.1 in
     let truths_at = first-kept causes.BooleanRepresentations _ _ codes_at.1 in
     let pad_single_at = first-kept causes.PadCharacter _ _ truths_at.1 in
+    let nil_at = first-kept causes.NilNotAllowed _ _ pad_single_at.1 in
+    let by_default_at = first-kept causes.DefaultNotAValue _ _ nil_at.1 in
     record {
       built = itself-kept _ s.place built_at.0;
       once = once_at.0;
@@ -90,7 +99,36 @@ keeps-all s none =
       codes = itself-kept _ s.place codes_at.0;
       truths = itself-kept _ s.place truths_at.0;
       pad_single = itself-kept _ s.place pad_single_at.0;
+      nil = itself-kept _ s.place nil_at.0;
+      by_default = itself-kept _ s.place by_default_at.0;
     }
+
+-- where none of two holds, the first doesn't
+pub first-of-two : (a b : Bool) → (a || b) ≡ false → a ≡ false
+first-of-two a b none = grind (arith, none)
+
+-- the literals of texts are some
+pub literals-kept : (s : Judged) → IsKept s → (is_pad_malformed s || is_separator_malformed s || are_truth_texts_malformed s) ≡ false
+literals-kept s kept =
+    others (is_pad_malformed s) (is_separator_malformed s) (is_fill_malformed s) (are_truth_texts_malformed s) (is_nil_malformed s) kept.literals
+  where
+    others : (a b c d e : Bool) → (a || b || c || d || e) ≡ false → (a || b || d) ≡ false
+    others a b c d e none = grind (arith, none)
+
+-- the encoding has the characters of texts
+pub encoded-kept : (s : Judged) → IsKept s → (is_pad_not_encoded s || is_separator_not_encoded s || are_truth_texts_not_encoded s) ≡ false
+encoded-kept s kept =
+    first-of-two (is_pad_not_encoded s || is_separator_not_encoded s || are_truth_texts_not_encoded s) (is_nil_not_encoded s) kept.encoded
+
+-- values but those of fill bytes are carried
+abbrev pub AreValuesKept : Judged → Type 0
+AreValuesKept s =
+    (has_flaw flaws.NotCarried s || is_separator_other s || are_separators_unfit s || is_base_unfit s || is_prefix_type_missing s) ≡ false
+
+pub values-kept : (s : Judged) → IsKept s → AreValuesKept s
+values-kept s kept =
+    first-of-two (has_flaw flaws.NotCarried s || is_separator_other s || are_separators_unfit s || is_base_unfit s || is_prefix_type_missing s) (is_fill_other s)
+    kept.carried
 
 -- where none of some holds, the second doesn't
 pub second-fails : (a b c d e : Bool) → (a || b || c || d || e) ≡ false → b ≡ false

@@ -11,6 +11,7 @@ pub mod BoxBounds
 pub mod Contents
 pub mod Primitives
 pub mod PrefixBounds
+pub mod TriedBounds
 pub mod Ordered
 pub mod Told
 pub mod SoundBoxes
@@ -18,6 +19,7 @@ pub mod SoundPads
 pub mod SoundTexts
 pub mod Sound
 pub mod SoundPrefixes
+pub mod SoundNils
 pub mod Made
 pub mod Alike
 pub mod AlikeChains

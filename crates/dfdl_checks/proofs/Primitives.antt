@@ -19,7 +19,7 @@ use Rattle.dfdl_scope.specs.Expressions.{literal}
 use Rattle.dfdl_scope.specs.Scoping.{Told, Value, Absent, Twice}
 use Rattle.dfdl_terms.specs.Rows.{IsPrimitive, IsTextSize, most_length}
 use Rattle.dfdl_terms.specs.declared.row.Primitive.{Primitive}
-use Rattle.dfdl_terms.specs.declared.row.Primitive.TheVariants.{Integer, Packed, Truth, Octets, Text}
+use Rattle.dfdl_terms.specs.declared.row.Primitive.TheVariants.{Integer, Packed, Truth, Octets, Text, NilOctets, Default}
 use Rattle.dfdl_terms.specs.declared.text.OctetForm.{OctetForm}
 use Rattle.dfdl_terms.specs.declared.text.TextContent.{TextContent}
 use Rattle.dfdl_terms.specs.declared.text.TextForm.{TextForm}
@@ -94,6 +94,8 @@ IsOf s (Packed form) = IsPackedOf s form
 IsOf s (Truth form) = IsTruthOf s form
 IsOf s (Octets form) = IsOctetsOf s form
 IsOf s (Text form) = IsTextOf s form
+IsOf s (NilOctets form) = ⊥
+IsOf s (Default form) = ⊥
 
 -- the same, where there is one
 abbrev IsOfIf : Judged → Option Primitive → Type 0
@@ -390,6 +392,8 @@ bounded patterns s (Octets form) is = octets-bounded (of-component s (Octets for
     octets-bounded : IsOctetsOf s form → IsPrimitive (Octets form)
     octets-bounded of = bits-within s form.bits of.bits
 bounded patterns s (Text form) is = text-bounded s form patterns (of-component s (Text form) is)
+bounded patterns s (NilOctets form) is = absurd (of-component s (NilOctets form) is)
+bounded patterns s (Default form) is = absurd (of-component s (Default form) is)
 bounded patterns s (Truth form) is = truth-bounded (of-component s (Truth form) is)
   where
     truth-bounded : IsTruthOf s form → IsPrimitive (Truth form)
@@ -402,6 +406,8 @@ kind-is s (Packed form) of = of.kind
 kind-is s (Truth form) of = of.kind
 kind-is s (Octets form) of = of.kind
 kind-is s (Text form) of = of.kind ∙ ap Some (content-typed s of.simple form.content of.content)
+kind-is s (NilOctets form) of = absurd of
+kind-is s (Default form) of = absurd of
 
 pub typed : (s : Judged) (p : Primitive) → primitive_of s ≡ Some p → simple_of s.kind ≡ Some (type_of p)
 typed s p is = kind-is s p (of-component s p is)
@@ -413,6 +419,8 @@ in-order s (Packed form) of = of.bits_by
 in-order s (Truth form) of = of.bits_by
 in-order s (Octets form) of = of.bits_by
 in-order s (Text form) of = tt
+in-order s (NilOctets form) of = absurd of
+in-order s (Default form) of = absurd of
 
 pub ordered : (s : Judged) (p : Primitive) → primitive_of s ≡ Some p → HasBitOrder (field_order s) p
 ordered s p is = in-order s p (of-component s p is)
@@ -476,6 +484,8 @@ whole-of s (Packed form) purpose of = apart (sym of.parsing ∙ purpose)
 whole-of s (Truth form) purpose of = apart (sym of.parsing ∙ purpose)
 whole-of s (Octets form) purpose of = apart (sym of.parsing ∙ purpose)
 whole-of s (Text form) purpose of = apart (sym of.parsing ∙ purpose)
+whole-of s (NilOctets form) purpose of = of
+whole-of s (Default form) purpose of = of
 
 pub whole : (s : Judged) (p : Primitive) → s.purpose ≡ Unparsing → primitive_of s ≡ Some p → IsWhole p
 whole s p purpose is = whole-of s p purpose (of-component s p is)

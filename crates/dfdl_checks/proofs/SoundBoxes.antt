@@ -37,7 +37,7 @@ number-told r t has =
 own-number : (s : Judged) → IsKept s → is_explicit_box s ≡ true → is_some (number_told (told_at s (codes "length"))) ≡ true
 unfolding applicability_table property_table
 own-number s kept explicit =
-    number-told _ _ (built-at s kept 10 (codes "length") bearers.ExplicitBoxes EachNumber refl explicit _ refl refl)
+    number-told _ _ (built-at s kept 11 (codes "length") bearers.ExplicitBoxes EachNumber refl explicit _ refl refl)
 
 -- an implicit one is that of the type
 type-number : (s : Judged) → IsKept s → is_implicit_box s ≡ true → is_some s.facts.max_length ≡ true
@@ -156,7 +156,7 @@ as-octets s sound is =
     second a b x = grind (arith, x)
 
 -- the encoding of a text is one of the profile
-encoding-told : (name : List ℕ) (t : Told) → HasBuilt (row name (Formed values.Encoding) Missing) EveryValue t → is_some (encoding_told t) ≡ true
+pub encoding-told : (name : List ℕ) (t : Told) → HasBuilt (row name (Formed values.Encoding) Missing) EveryValue t → is_some (encoding_told t) ≡ true
 encoding-told name t has =
     subst (λ t. is_some (encoding_told t) ≡ true) (sym has.is)
     (plain (is_expression has.written) (is_some (encoding_named (literal has.written))) has.value)

@@ -4,7 +4,7 @@ use Rattle.dfdl_forms.specs.declared.encoding.Encoding.{Encoding}
 use Rattle.dfdl_literals.specs.declared.pad.PadCharacter.{PadCharacter}
 use Rattle.dfdl_literals.specs.declared.pad.PadCharacter.TheVariants.{Character, Malformed, Other}
 use Rattle.dfdl_checks.proofs.AlikeChains.{both}
-use Rattle.dfdl_checks.proofs.Kept.{keeps-all}
+use Rattle.dfdl_checks.proofs.Kept.{encoded-kept, keeps-all, literals-kept}
 use Rattle.dfdl_checks.specs.Encodings.{encoding_told}
 use Rattle.dfdl_checks.specs.Judged.{Judged}
 use Rattle.dfdl_checks.specs.Pads.{has_character, is_malformed, is_other, is_pad_outside, is_padded_text, lacks_character, pad_at, single}
@@ -25,7 +25,7 @@ some-single Other x y = grind (arith, y)
 pub has-single : (s : Judged) → first_breach rules s ≡ None → IsTrue (is_padded_text s) → IsSome (single (pad_at s))
 has-single s none padded =
     let kept = keeps-all s none in
-    some-single (pad_at s) (fails (is_padded_text s) _ (is_separator_malformed s) (are_truth_texts_malformed s) padded kept.literals)
+    some-single (pad_at s) (fails (is_padded_text s) _ (is_separator_malformed s) (are_truth_texts_malformed s) padded (literals-kept s kept))
     (alone (is_padded_text s) (is_other (pad_at s)) padded kept.pad_single)
   where
     alone : (a b : Bool) → a ≡ true → (a && b) ≡ false → b ≡ false
@@ -37,7 +37,7 @@ pub in-encoding : (s : Judged) (e : Encoding) (c : ℕ) → first_breach rules s
 in-encoding s e c none padded told is =
     unless (has_character e c)
     (sym (both lacks_character told is)
-    ∙ fails (is_padded_text s) (is_pad_outside s) (is_separator_not_encoded s) (are_truth_texts_not_encoded s) padded (keeps-all s none).encoded)
+    ∙ fails (is_padded_text s) (is_pad_outside s) (is_separator_not_encoded s) (are_truth_texts_not_encoded s) padded (encoded-kept s (keeps-all s none)))
   where
     unless : (b : Bool) → not b ≡ false → b ≡ true
     unless b h = grind (arith, h)

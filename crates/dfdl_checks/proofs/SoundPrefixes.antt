@@ -11,7 +11,7 @@ use Rattle.dfdl_terms.specs.declared.row.Primitive.{Primitive}
 use Rattle.dfdl_checks.proofs.BoxBounds.{none-some}
 use Rattle.dfdl_checks.proofs.Built.{built-at}
 use Rattle.dfdl_checks.proofs.Flawless.{HasBuilt}
-use Rattle.dfdl_checks.proofs.Kept.{IsKept, keeps-all}
+use Rattle.dfdl_checks.proofs.Kept.{IsKept, keeps-all, values-kept}
 use Rattle.dfdl_checks.proofs.Sound.{has-primitive}
 use Rattle.dfdl_checks.specs.Flaws.{has_flaw}
 use Rattle.dfdl_checks.specs.Judged.{Judged, PrefixJudged}
@@ -44,7 +44,7 @@ unfolding applicability_table property_table
 some-type s kept prefixed =
     last (has_flaw flaws.NotCarried s) (is_separator_other s) (are_separators_unfit s) (is_base_unfit s) (is_prefixed s) _ (is_some s.prefix) prefixed
     (name-told (codes "prefixLengthType") _
-    (built-at s kept 16 (codes "prefixLengthType") bearers.PrefixedElements EveryValue refl prefixed _ refl refl)) kept.carried
+    (built-at s kept 17 (codes "prefixLengthType") bearers.PrefixedElements EveryValue refl prefixed _ refl refl)) (values-kept s kept)
   where
     last : (a b c d e f g : Bool) → e ≡ true → f ≡ true → (a || b || c || d || (e && (f && not g))) ≡ false → g ≡ true
     last a b c d e f g x y z = grind (arith, x, y, z)

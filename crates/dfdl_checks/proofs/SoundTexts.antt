@@ -27,7 +27,7 @@ use Rattle.dfdl_checks.proofs.Binary.{IsSound}
 use Rattle.dfdl_checks.proofs.BoxBounds.{none-some, some-is}
 use Rattle.dfdl_checks.proofs.Built.{all-hold, built-at, no-flaw, once-at}
 use Rattle.dfdl_checks.proofs.Flawless.{HasBuilt, HasNoFlaw}
-use Rattle.dfdl_checks.proofs.Kept.{IsKept}
+use Rattle.dfdl_checks.proofs.Kept.{IsKept, literals-kept, values-kept}
 use Rattle.dfdl_checks.proofs.Once.{is_twice}
 use Rattle.dfdl_checks.proofs.SoundBoxes.{some-encoding, some-mapped, value-units}
 use Rattle.dfdl_checks.proofs.SoundPads.{some-single}
@@ -61,7 +61,7 @@ some-truths (Texts t) Other fold x y = grind (arith, y)
 as-truth : (s : Judged) → IsKept s → is_text_boolean s ≡ true → is_some (truth_form_of s) ≡ true
 as-truth s kept boolean =
     some-truths (true_texts s) (false_texts s) (is_told s (codes "ignoreCase") (codes "yes"))
-    (third (is_pad_malformed s) (is_separator_malformed s) (is_text_boolean s) _ boolean kept.literals)
+    (third (is_pad_malformed s) (is_separator_malformed s) (is_text_boolean s) _ boolean (literals-kept s kept))
     (second (are_truth_numbers_malformed s) (is_text_boolean s) _ boolean kept.truths)
   where
     third : (a b c d : Bool) → c ≡ true → (a || b || (c && d)) ≡ false → d ≡ false
@@ -83,7 +83,7 @@ some-pattern : (s : Judged) → IsKept s → (is_zoned s || (is_standard s && ba
 unfolding applicability_table property_table
 some-pattern s kept is =
     pattern-told (codes "textNumberPattern") _
-    (built-at s kept 42 (codes "textNumberPattern") bearers.PatternNumbers EveryValue refl is _ refl refl)
+    (built-at s kept 44 (codes "textNumberPattern") bearers.PatternNumbers EveryValue refl is _ refl refl)
 
 -- the pattern of a zoned number of the type, where it is told, has a form
 abbrev IsZonedKept : Judged → Simple → Type 0
@@ -128,13 +128,13 @@ separator-told name absent c (Twice place) none once written other = grind (arit
 module _ (s : Judged) (kept : IsKept s) (standard : is_standard s ≡ true) where
   -- what no separator of it is
   written : (is_malformed (decimal_at s) || is_malformed (grouping_at s)) ≡ false
-  written = second-of (is_pad_malformed s) (is_standard s) _ (are_truth_texts_malformed s) standard kept.literals
+  written = second-of (is_pad_malformed s) (is_standard s) _ (are_truth_texts_malformed s) standard (literals-kept s kept)
     where
       second-of : (a b c d : Bool) → b ≡ true → (a || (b && c) || d) ≡ false → c ≡ false
       second-of a b c d x y = grind (arith, x, y)
 
   others : (is_other_told (told_at s (codes "textStandardDecimalSeparator")) || is_other_told (told_at s (codes "textStandardGroupingSeparator"))) ≡ false
-  others = second-of (has_flaw flaws.NotCarried s) (is_standard s) _ (are_separators_unfit s) (is_base_unfit s) (is_prefix_type_missing s) standard kept.carried
+  others = second-of (has_flaw flaws.NotCarried s) (is_standard s) _ (are_separators_unfit s) (is_base_unfit s) (is_prefix_type_missing s) standard (values-kept s kept)
     where
       second-of : (a b c d e f : Bool) → b ≡ true → (a || (b && c) || d || e || f) ≡ false → c ≡ false
       second-of a b c d e f x y = grind (arith, x, y)
@@ -146,7 +146,7 @@ module _ (s : Judged) (kept : IsKept s) (standard : is_standard s ≡ true) wher
   unfolding applicability_table property_table
   some-decimal =
       separator-told (codes "textStandardDecimalSeparator") (Else (codes ".")) 46 _
-      (no-flaw s kept 44 (codes "textStandardDecimalSeparator") bearers.StandardNumbers EveryValue refl standard _ refl)
+      (no-flaw s kept 46 (codes "textStandardDecimalSeparator") bearers.StandardNumbers EveryValue refl standard _ refl)
       (once-at s kept (codes "textStandardDecimalSeparator") _ refl) (neither (is_malformed (decimal_at s)) (is_malformed (grouping_at s)) written).0
       (neither (is_other_told (told_at s (codes "textStandardDecimalSeparator"))) (is_other_told (told_at s (codes "textStandardGroupingSeparator"))) others).0
 
@@ -154,7 +154,7 @@ module _ (s : Judged) (kept : IsKept s) (standard : is_standard s ≡ true) wher
   unfolding applicability_table property_table
   some-grouping =
       separator-told (codes "textStandardGroupingSeparator") (Else (codes ",")) 44 _
-      (no-flaw s kept 45 (codes "textStandardGroupingSeparator") bearers.StandardNumbers EveryValue refl standard _ refl)
+      (no-flaw s kept 47 (codes "textStandardGroupingSeparator") bearers.StandardNumbers EveryValue refl standard _ refl)
       (once-at s kept (codes "textStandardGroupingSeparator") _ refl) (neither (is_malformed (decimal_at s)) (is_malformed (grouping_at s)) written).1
       (neither (is_other_told (told_at s (codes "textStandardDecimalSeparator"))) (is_other_told (told_at s (codes "textStandardGroupingSeparator"))) others).1
 
@@ -184,7 +184,7 @@ module _ (s : Judged) (kept : IsKept s) (standard : is_standard s ≡ true) wher
 
   -- its separators go with the pattern
   fit : are_unfit (pattern_in (base_of s) s) (single (decimal_at s)) (single (grouping_at s)) ≡ false
-  fit = third-of (has_flaw flaws.NotCarried s) (is_separator_other s) (is_standard s) _ (is_base_unfit s) (is_prefix_type_missing s) standard kept.carried
+  fit = third-of (has_flaw flaws.NotCarried s) (is_separator_other s) (is_standard s) _ (is_base_unfit s) (is_prefix_type_missing s) standard (values-kept s kept)
     where
       third-of : (a b c d e f : Bool) → c ≡ true → (a || b || (c && d) || e || f) ≡ false → d ≡ false
       third-of a b c d e f x y = grind (arith, x, y)

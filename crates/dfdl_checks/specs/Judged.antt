@@ -1,12 +1,22 @@
 -- A component as the rules see it.
-use Rattle.std.specs.Prelude.{List, Option}
+use Rattle.std.specs.Prelude.{ℕ, List, Option, Bool}
 use Rattle.dfdl_forms.specs.declared.order.BitOrder.{BitOrder}
 use Rattle.dfdl_forms.specs.declared.simple.Simple.{Simple}
 use Rattle.dfdl_report.specs.declared.place.Place.{Place}
 use Rattle.dfdl_scope.specs.Scoping.{Element}
 use Rattle.dfdl_checks.specs.declared.purpose.Purpose.{Purpose}
-use Rattle.dfdl_checks.specs.declared.subject.Facts.{Facts}
 use Rattle.dfdl_checks.specs.declared.subject.Kind.{Kind}
+
+-- what a component states besides its properties: of an element, whether minOccurs and maxOccurs are both 1, whether it may be
+-- nil, and the text of its default value; whether an assert, a discriminator, a setVariable or a newVariableInstance stands at
+-- it; of a sequence or a choice, whether nothing is in it; and of an element of a simple type, the greatest length of its values
+pub record FactsJudged : Type 0 where
+  pub occurs_once : Bool
+  pub is_nillable : Bool
+  pub default : Option (List ℕ)
+  pub has_statements : Bool
+  pub is_empty : Bool
+  pub max_length : Option ℕ
 
 -- the type of a length prefix: which simple type it comes to, if that is carried, its start tag, and the chain that its properties
 -- are asked of
@@ -22,6 +32,6 @@ pub record Judged : Type 0 where
   pub kind : Kind
   pub place : Place
   pub chain : List Element
-  pub facts : Facts
+  pub facts : FactsJudged
   pub root_bits_by : BitOrder
   pub prefix : Option PrefixJudged

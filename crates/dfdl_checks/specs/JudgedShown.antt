@@ -1,9 +1,21 @@
 -- Mirror for the prover: what a component is seen as.
-use Rattle.std.specs.Prelude.{Option, Some, None}
+use Rattle.std.specs.Prelude.{Option, Some, None, option_copied}
 use Rattle.dfdl_scope.specs.Shown.{chain_of}
-use Rattle.dfdl_checks.specs.Judged.{Judged, PrefixJudged}
+use Rattle.dfdl_checks.specs.Judged.{FactsJudged, Judged, PrefixJudged}
+use Rattle.dfdl_checks.specs.declared.subject.Facts.{Facts}
 use Rattle.dfdl_checks.specs.declared.subject.PrefixType.{PrefixType}
 use Rattle.dfdl_checks.specs.declared.subject.Subject.{Subject}
+
+-- what a component states, with a text that is lent
+abbrev pub facts_judged_of : Facts → FactsJudged
+facts_judged_of facts = record {
+  occurs_once = facts.occurs_once;
+  is_nillable = facts.is_nillable;
+  default = option_copied facts.default;
+  has_statements = facts.has_statements;
+  is_empty = facts.is_empty;
+  max_length = facts.max_length;
+}
 
 -- the type of a prefix with a chain that is lent
 abbrev pub prefix_judged_of : Option PrefixType → Option PrefixJudged
@@ -17,7 +29,7 @@ judged_of subject = record {
   kind = subject.kind;
   place = subject.place;
   chain = chain_of subject.chain.now;
-  facts = subject.facts;
+  facts = facts_judged_of subject.facts;
   root_bits_by = subject.root_bits_by;
   prefix = prefix_judged_of subject.prefix;
 }

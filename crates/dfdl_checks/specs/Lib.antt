@@ -10,6 +10,9 @@ pub mod Boxes
 pub mod Packed
 pub mod Booleans
 pub mod Pads
+pub mod FillBytes
+pub mod Nils
+pub mod Defaults
 pub mod NumberTexts
 pub mod BooleanTexts
 pub mod Applying
@@ -20,6 +23,7 @@ pub mod BuiltTypes
 pub mod Texts
 pub mod Numbers
 pub mod Prefixes
+pub mod Representations
 pub mod Rules
 pub mod Framing
 pub mod Forms

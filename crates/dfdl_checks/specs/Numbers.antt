@@ -13,9 +13,9 @@ use Rattle.dfdl_forms.specs.declared.simple.Simple.TheVariants.{Boolean, HexBina
 use Rattle.dfdl_scope.specs.Expressions.{literal}
 use Rattle.dfdl_scope.specs.Scoping.{Told, Value, Absent, Twice}
 use Rattle.dfdl_terms.specs.declared.row.Primitive.{Primitive}
-use Rattle.dfdl_terms.specs.declared.row.Primitive.TheVariants.{Integer, Packed, Truth, Octets, Text}
+use Rattle.dfdl_terms.specs.declared.row.Primitive.TheVariants.{Integer, Packed, Truth, Octets, Text, NilOctets, Default}
 use Rattle.dfdl_terms.specs.declared.text.TextContent.{TextContent}
-use Rattle.dfdl_terms.specs.declared.text.TextContent.TheVariants.{Plain, Number, Zoned, Truth as TextTruth}
+use Rattle.dfdl_terms.specs.declared.text.TextContent.TheVariants.{Plain, Number, Zoned, Truth as TextTruth, Nil}
 use Rattle.dfdl_checks.specs.Booleans.{falsity_told, truth_told}
 use Rattle.dfdl_checks.specs.Encodings.{encoding_told}
 use Rattle.dfdl_checks.specs.Lengths.{constant_length, size_within}
@@ -147,28 +147,33 @@ primitive_of_kind subject _ = None
 abbrev pub primitive_of : Judged → Option Primitive
 primitive_of subject = primitive_of_kind subject subject.kind
 
--- the type of the values that characters are read as
+-- the type of the values that characters are read as; nil is no value, and counts as a string
 abbrev pub text_type : TextContent → Simple
 text_type Plain = String
 text_type (Number form simple) = simple
 text_type (Zoned form) = form.kind
 text_type (TextTruth form) = Boolean
+text_type (Nil form) = String
 
--- the type of a primitive's values
+-- the type of a primitive's values; what is no component's own counts as hexBinary
 abbrev pub type_of : Primitive → Simple
 type_of (Integer form) = form.kind
 type_of (Packed form) = form.kind
 type_of (Truth form) = Boolean
 type_of (Octets form) = HexBinary
 type_of (Text form) = text_type form.content
+type_of (NilOctets form) = HexBinary
+type_of (Default form) = HexBinary
 
--- the bits of a primitive's fields come in this order; a text has none
+-- the bits of a primitive's fields come in this order; a text and no bits have none
 abbrev pub HasBitOrder : BitOrder → Primitive → Type 0
 HasBitOrder order (Integer form) = form.bits_by ≡ order
 HasBitOrder order (Packed form) = form.bits_by ≡ order
 HasBitOrder order (Truth form) = form.bits_by ≡ order
 HasBitOrder order (Octets form) = form.bits_by ≡ order
 HasBitOrder order (Text form) = Unit {0}
+HasBitOrder order (NilOctets form) = form.octets.bits_by ≡ order
+HasBitOrder order (Default form) = Unit {0}
 
 -- the order of bits that is told of a component is that of its primitive and of the schema's root
 pub record IsInBitOrder (subject : Judged) : Type 0 where

@@ -12,17 +12,16 @@ use Rattle.dfdl_scope.specs.Scoping.{Told, Value, Absent, Twice, told}
 use Rattle.dfdl_terms.specs.declared.prefix.LengthUnit.{LengthUnit}
 use Rattle.dfdl_terms.specs.declared.prefix.LengthUnit.TheVariants as unit
 use Rattle.dfdl_terms.specs.declared.row.Primitive.{Primitive}
-use Rattle.dfdl_terms.specs.declared.row.Primitive.TheVariants.{Integer, Packed, Truth, Octets, Text}
+use Rattle.dfdl_terms.specs.declared.row.Primitive.TheVariants.{Integer, Packed, Truth, Octets, Text, NilOctets, Default}
 use Rattle.dfdl_terms.specs.declared.text.TextSize.{TextSize}
 use Rattle.dfdl_terms.specs.declared.text.TextSize.TheVariants.{Bits, Characters}
 use Rattle.dfdl_checks.specs.Encodings.{encoding_told}
-use Rattle.dfdl_checks.specs.Judged.{Judged, PrefixJudged}
+use Rattle.dfdl_checks.specs.Judged.{FactsJudged, Judged, PrefixJudged}
 use Rattle.dfdl_checks.specs.Numbers.{primitive_of}
 use Rattle.dfdl_checks.specs.Subjects.{is_prefixed, is_told, is_word, told_at}
 use Rattle.dfdl_checks.specs.declared.prefixes.PrefixForm.{PrefixForm}
 use Rattle.dfdl_checks.specs.declared.purpose.Purpose.{Purpose}
 use Rattle.dfdl_checks.specs.declared.purpose.Purpose.TheVariants.{Parsing, Unparsing}
-use Rattle.dfdl_checks.specs.declared.subject.Facts.{Facts}
 use Rattle.dfdl_checks.specs.declared.subject.Kind.TheVariants.{PrefixNumber}
 
 -- values of this form are integers
@@ -37,8 +36,8 @@ is_integer_type None = false
 is_integer_type (Some simple) = is_integer (form_of simple)
 
 -- what the type of a prefix states: nothing
-abbrev pub no_facts : Facts
-no_facts = record { occurs_once = true; is_nillable = false; has_default = false; has_statements = false; is_empty = false; max_length = None }
+abbrev pub no_facts : FactsJudged
+no_facts = record { occurs_once = true; is_nillable = false; default = None; has_statements = false; is_empty = false; max_length = None }
 
 -- the type of the component's prefix, as the rules see it
 abbrev pub judged_prefix : Judged → PrefixJudged → Simple → Judged
@@ -103,6 +102,8 @@ size_of (Packed form) = Bits (4 * form.nibbles)
 size_of (Truth form) = Bits form.bits
 size_of (Octets form) = Bits form.bits
 size_of (Text form) = form.size
+size_of (NilOctets form) = Bits form.octets.bits
+size_of (Default form) = form.size
 
 -- each character of the encoding is one byte
 abbrev pub is_of_bytes : Option Encoding → Bool

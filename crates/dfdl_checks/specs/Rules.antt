@@ -11,7 +11,10 @@ use Rattle.dfdl_scope.specs.Table.{names_of, property_table}
 use Rattle.dfdl_checks.specs.Booleans.{falsity_told, truth_told}
 use Rattle.dfdl_checks.specs.BuiltTypes.{is_built_type}
 use Rattle.dfdl_checks.specs.Boxes.{is_box_too_long, is_implicit_box}
+use Rattle.dfdl_checks.specs.Defaults.{is_default_not_allowed}
+use Rattle.dfdl_checks.specs.FillBytes.{is_fill_malformed, is_fill_other}
 use Rattle.dfdl_checks.specs.Lengths.{constant_length, size_within}
+use Rattle.dfdl_checks.specs.Nils.{is_nil_malformed, is_nil_not_allowed, is_nil_not_encoded}
 use Rattle.dfdl_checks.specs.Orders.{is_least_first, is_same_order, told_order}
 use Rattle.dfdl_checks.specs.BooleanTexts.{are_truth_texts_outside, false_texts, is_list_malformed, is_list_other, true_texts}
 use Rattle.dfdl_checks.specs.NumberTexts.{base_of, decimal_at, grouping_at, pattern_at, pattern_in, pattern_of, zoned_form_of}
@@ -24,10 +27,10 @@ use Rattle.dfdl_checks.specs.Subjects.{is_boxed, is_element, is_choice, is_binar
 use Rattle.dfdl_checks.specs.Flaws.{has_flaw}
 use Rattle.dfdl_checks.specs.declared.flaw.Flaw.TheVariants as flaws
 use Rattle.dfdl_checks.specs.declared.purpose.Purpose.{Purpose}
-use Rattle.dfdl_checks.specs.declared.subject.Facts.{Facts}
+use Rattle.dfdl_checks.specs.declared.purpose.Purpose.TheVariants.{Parsing, Unparsing}
 use Rattle.dfdl_checks.specs.declared.subject.Kind.{Kind}
 use Rattle.dfdl_checks.specs.declared.subject.Kind.TheVariants.{SimpleElement, UncarriedElement, PrefixNumber}
-use Rattle.dfdl_checks.specs.Judged.{Judged}
+use Rattle.dfdl_checks.specs.Judged.{FactsJudged, Judged}
 use Rattle.dfdl_checks.specs.declared.subject.Breach.{Breach}
 
 -- an element of a simple type that is carried, or the type of a prefix, which is built later
@@ -36,15 +39,16 @@ has_later_type purpose (SimpleElement simple) = not (is_built_type purpose simpl
 has_later_type purpose (PrefixNumber simple) = not (is_built_type purpose simple)
 has_later_type purpose _ = false
 
--- an element that does not occur exactly once, may be nil or has a default
-abbrev pub is_later_element : Facts → Bool
-is_later_element facts = not facts.occurs_once || facts.is_nillable || facts.has_default
+-- an element that does not occur exactly once; for unparsing, one that may be nil or has a default too
+abbrev pub is_later_element : Purpose → FactsJudged → Bool
+is_later_element Parsing facts = not facts.occurs_once
+is_later_element Unparsing facts = not facts.occurs_once || facts.is_nillable || is_some facts.default
 
 -- a component of a kind that is built later, whatever its properties are
 abbrev pub is_later_component : Judged → Bool
 is_later_component subject =
     is_choice subject.kind || has_later_type subject.purpose subject.kind || subject.facts.has_statements
-    || (is_element subject.kind && is_later_element subject.facts)
+    || (is_element subject.kind && is_later_element subject.purpose subject.facts)
 
 -- 3: the component, or the value of a property that applies to it, is of a form that is built later
 abbrev pub is_unbuilt : Judged → Bool
@@ -88,7 +92,7 @@ is_prefix_type_missing subject =
 abbrev pub is_value_not_carried : Judged → Bool
 is_value_not_carried subject =
     has_flaw flaws.NotCarried subject || is_separator_other subject || are_separators_unfit subject || is_base_unfit subject
-    || is_prefix_type_missing subject
+    || is_prefix_type_missing subject || is_fill_other subject
 
 -- 10: a property that applies to the component has an expression where none may stand
 abbrev pub is_expression_not_allowed : Judged → Bool
@@ -109,7 +113,8 @@ are_truth_texts_malformed subject =
 
 -- 11: a string literal of the component is none
 abbrev pub is_literal_malformed : Judged → Bool
-is_literal_malformed subject = is_pad_malformed subject || is_separator_malformed subject || are_truth_texts_malformed subject
+is_literal_malformed subject =
+    is_pad_malformed subject || is_separator_malformed subject || is_fill_malformed subject || are_truth_texts_malformed subject || is_nil_malformed subject
 
 -- 13: an element of a simple type that is not carried
 abbrev pub is_type_not_carried : Kind → Bool
@@ -221,7 +226,8 @@ are_truth_texts_not_encoded subject = is_text_boolean subject && are_truth_texts
 
 -- 23: the component's encoding lacks a character of its literals
 abbrev pub is_character_not_encoded : Judged → Bool
-is_character_not_encoded subject = is_pad_not_encoded subject || is_separator_not_encoded subject || are_truth_texts_not_encoded subject
+is_character_not_encoded subject =
+    is_pad_not_encoded subject || is_separator_not_encoded subject || are_truth_texts_not_encoded subject || is_nil_not_encoded subject
 
 -- 24: an implicit alignment of what is no simple element
 abbrev pub is_alignment_not_allowed : Judged → Bool
@@ -307,6 +313,8 @@ rules =
     ∷ at_itself causes.SignCodes are_codes_malformed
     ∷ at_itself causes.BooleanRepresentations are_truths_malformed
     ∷ at_itself causes.PadCharacter is_pad_no_character
+    ∷ at_itself causes.NilNotAllowed is_nil_not_allowed
+    ∷ at_itself causes.DefaultNotAValue is_default_not_allowed
     ∷ []
 
 -- a breach of a rule

@@ -199,6 +199,10 @@ is_zoned subject = is_text_number subject && is_told subject (codes "textNumberR
 abbrev pub is_standard : Judged → Bool
 is_standard subject = is_text_number subject && not (is_told subject (codes "textNumberRep") (codes "zoned"))
 
+-- a simple element that may be nil
+abbrev pub is_nillable : Judged → Bool
+is_nillable subject = is_element subject.kind && is_simple subject.kind && subject.facts.is_nillable
+
 -- a component whose content stands in a box of its own length, that of its type or that of a prefix: a text, an element of type
 -- hexBinary, or a complex element, which has a box by its own length or a prefix alone
 abbrev pub is_boxed : Judged → Bool

@@ -1,10 +1,10 @@
 -- Which properties are asked of which components, and which of their values are built. Each property of the profile that
 -- is not here applies to components of later forms alone: to the least length of strings, to delimiters, to escapes, to elements
--- that may be nil or occur otherwise than once, and to choices and their branches.
+-- that occur otherwise than once, and to choices and their branches.
 use Rattle.std.specs.Prelude.{ℕ, List, [], ◌∷◌, Bool, true, false, codes}
 use Rattle.dfdl_checks.specs.Values.{is_among, is_number, is_within}
 use Rattle.dfdl_checks.specs.declared.applicability.Bearers.{Bearers}
-use Rattle.dfdl_checks.specs.declared.applicability.Bearers.TheVariants.{EveryComponent, FramedComponents, Elements, OtherElements, SimpleElements, RepresentedElements, BoxedElements, Strings, PaddedStrings, PaddedBooleans, PaddedNumbers, Texts, TextNumbers, TextBooleans, StandardNumbers, ZonedNumbers, PatternNumbers, LooseTexts, BinaryNumbers, BinaryBooleans, OrderedBinaries, ExplicitBinaries, ExplicitBoxes, ImplicitStrings, PrefixedElements, PackedNumbers, BinaryDecimals, PatternElements, Groups, Sequences, EmptySequences}
+use Rattle.dfdl_checks.specs.declared.applicability.Bearers.TheVariants.{EveryComponent, FramedComponents, Elements, OtherElements, SimpleElements, NillableElements, RepresentedElements, BoxedElements, Strings, PaddedStrings, PaddedBooleans, PaddedNumbers, Texts, TextNumbers, TextBooleans, StandardNumbers, ZonedNumbers, PatternNumbers, LooseTexts, BinaryNumbers, BinaryBooleans, OrderedBinaries, ExplicitBinaries, ExplicitBoxes, ImplicitStrings, PrefixedElements, PackedNumbers, BinaryDecimals, PatternElements, Groups, Sequences, EmptySequences}
 use Rattle.dfdl_checks.specs.declared.purpose.Purpose.{Purpose}
 use Rattle.dfdl_checks.specs.declared.purpose.Purpose.TheVariants.{Parsing, Unparsing}
 
@@ -56,6 +56,7 @@ unfoldable pub applicability_table : List Applicability
 applicability_table =
     applies_by (codes "representation") RepresentedElements EveryValue (word (codes "binary"))
     ∷ applies (codes "encoding") Texts EveryValue
+    ∷ applies (codes "encoding") NillableElements EveryValue
     ∷ applies (codes "encodingErrorPolicy") Texts EveryValue
     ∷ applies (codes "byteOrder") OrderedBinaries EveryValue
     ∷ applies_by (codes "bitOrder") EveryComponent EveryValue (word (codes "mostSignificantBitFirst"))
@@ -79,12 +80,13 @@ applicability_table =
     ∷ applies_by (codes "alignmentUnits") FramedComponents EveryValue (word (codes "bits"))
     ∷ applies_by (codes "leadingSkip") FramedComponents EveryValue (Number 0)
     ∷ applies_by (codes "trailingSkip") FramedComponents EveryValue (Number 0)
-    ∷ applies (codes "fillByte") FramedComponents (word (codes "%#r00;"))
+    ∷ applies_by (codes "fillByte") FramedComponents EveryValue (word (codes "%#r00;"))
     ∷ applies (codes "initiator") FramedComponents (word (codes ""))
     ∷ applies (codes "terminator") FramedComponents (word (codes ""))
     ∷ applies (codes "separator") Groups (word (codes ""))
     ∷ applies (codes "initiatedContent") Groups (word (codes "no"))
     ∷ applies (codes "ignoreCase") TextBooleans EveryValue
+    ∷ applies (codes "ignoreCase") NillableElements EveryValue
     ∷ applies (codes "sequenceKind") Sequences (word (codes "ordered"))
     ∷ applies (codes "hiddenGroupRef") EmptySequences NoValue
     ∷ applies_by (codes "textTrimKind") Texts EveryValue (word (codes "none"))
@@ -114,6 +116,8 @@ applicability_table =
     ∷ applies (codes "binaryPackedSignCodes") PackedNumbers EveryValue
     ∷ applies (codes "binaryNumberCheckPolicy") PackedNumbers EveryValue
     ∷ applies (codes "binaryDecimalVirtualPoint") BinaryDecimals EveryValue
+    ∷ applies (codes "nilKind") NillableElements (Words (codes "literalValue" ∷ codes "literalCharacter" ∷ []))
+    ∷ applies (codes "nilValue") NillableElements EveryValue
     ∷ applies (codes "nilValueDelimiterPolicy") SimpleElements EveryValue
     ∷ applies (codes "emptyValueDelimiterPolicy") SimpleElements EveryValue
     ∷ applies (codes "inputValueCalc") Elements NoValue

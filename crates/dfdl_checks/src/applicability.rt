@@ -10,6 +10,8 @@ pub enum Bearers {
     /// Elements that are neither boxed elements nor binary numbers nor binary booleans.
     OtherElements,
     SimpleElements,
+    /// Simple elements that may be nil.
+    NillableElements,
     /// Simple elements and types of prefixes but those of type string and hexBinary.
     RepresentedElements,
     /// Components whose content stands in a box: texts, elements of type hexBinary, and complex elements.

@@ -14,8 +14,8 @@ use crate::orders::is_least_first;
 use crate::pads::is_padded_text;
 use crate::representations::{
     is_binary, is_binary_boolean, is_binary_number, is_boxed, is_explicit, is_explicit_binary,
-    is_packed, is_prefixed, is_standard, is_text, is_text_boolean, is_text_number, is_word,
-    is_zoned,
+    is_nillable, is_packed, is_prefixed, is_standard, is_text, is_text_boolean, is_text_number,
+    is_word, is_zoned,
 };
 use crate::subject::Subject;
 
@@ -30,6 +30,7 @@ pub(crate) fn is_bearer(bearers: Bearers, subject: &Subject<'_, '_, '_>) -> bool
         Bearers::Elements => is_element(kind),
         Bearers::OtherElements => is_element(kind) && !is_boxed(subject) && !is_binary(subject),
         Bearers::SimpleElements => is_element(kind) && is_simple(kind),
+        Bearers::NillableElements => is_nillable(subject),
         Bearers::RepresentedElements => is_represented(kind),
         Bearers::BoxedElements => is_boxed(subject),
         Bearers::Strings => is_string(kind),

@@ -2,8 +2,10 @@
 ghost use Rattle.std.specs.Prelude.{◌≡◌, ◌||◌, ℕ, List, ◌≤◌, Some, None, IsTrue, IsSome, codes};
 ghost use Rattle.dfdl_forms.specs.Types.{form_of};
 ghost use Rattle.dfdl_forms.specs.declared.encoding.Encoding.{Encoding};
-ghost use Rattle.dfdl_terms.specs.Rows.{IsPrimitive, most_length};
+ghost use Rattle.dfdl_terms.specs.Rows.{IsPrimitive, IsWritten, most_length};
 ghost use Rattle.dfdl_terms.specs.declared.row.Primitive.{Primitive};
+ghost use Rattle.dfdl_terms.specs.declared.row.Primitive.TheVariants.{Default};
+ghost use Rattle.dfdl_terms.specs.declared.text.DefaultForm.{DefaultForm};
 ghost use Rattle.dfdl_scope.specs.Scoping.{Element, told};
 ghost use Rattle.dfdl_checks.specs.Alike.{AreAlikeChains, IsAlike};
 ghost use Rattle.dfdl_checks.specs.Boxes.{is_explicit_complex, size_of_box};
@@ -14,8 +16,9 @@ ghost use Rattle.dfdl_checks.specs.Judged.{Judged};
 ghost use Rattle.dfdl_checks.specs.Numbers.{IsBinaryValue, IsTextOrBytesValue, primitive_of, type_of};
 ghost use Rattle.dfdl_checks.specs.Pads.{has_character, is_padded_text, pad_at, single};
 ghost use Rattle.dfdl_checks.specs.Prefixes.{is_integer, prefix_of};
+ghost use Rattle.dfdl_checks.specs.Representations.{no_representations, representations_of};
 ghost use Rattle.dfdl_checks.specs.Rules.{breach_of_component, first_breach, rules};
-ghost use Rattle.dfdl_checks.specs.Subjects.{is_binary, is_hex_binary, is_prefixed, is_simple, is_text, simple_of, told_at};
+ghost use Rattle.dfdl_checks.specs.Subjects.{is_binary, is_hex_binary, is_nillable, is_prefixed, is_simple, is_text, simple_of, told_at};
 ghost use Rattle.dfdl_checks.specs.declared.prefixes.PrefixForm.{PrefixForm};
 ghost use Rattle.dfdl_checks.specs.declared.purpose.Purpose.TheVariants.{Parsing, Unparsing};
 ghost use Rattle.dfdl_checks.specs.declared.subject.Kind.TheVariants.{ComplexElement};
@@ -61,6 +64,22 @@ pub fn prefixes_are_bounded()
     texts_spell_one_pattern();
 }
 
+/// The nil representation of a component, whether it breaks rules or not, keeps the bounds of its form; so does the empty one,
+/// where its value is one of characters. For unparsing there is neither.
+pub fn representations_are_bounded()
+    ensures nil { (j : Judged) (p : Primitive) → (representations_of j).nil ≡ Some p → IsPrimitive p }
+    ensures empty { (j : Judged) (p : Primitive) → (representations_of j).empty ≡ Some p
+        → ((form : DefaultForm) → p ≡ Default form → IsWritten form.value) → IsPrimitive p }
+    ensures parsing { (j : Judged) → j.purpose ≡ Unparsing → representations_of j ≡ no_representations }
+{
+    texts_spell_one_pattern();
+}
+
+/// A simple element that may be nil has a nil representation for parsing, where it breaks no rule.
+pub fn sound_nillables_have_nil()
+    ensures { (j : Judged) → first_breach rules j ≡ None → j.purpose ≡ Parsing → IsTrue (is_nillable j) → IsSome (representations_of j).nil }
+{}
+
 /// The primitives that are built for unparsing are whole unsigned integers.
 pub fn primitives_for_unparsing_are_whole()
     ensures { (j : Judged) (p : Primitive) → j.purpose ≡ Unparsing → primitive_of j ≡ Some p → IsWhole p }
@@ -77,10 +96,11 @@ pub fn boxes_are_bounded()
 {}
 
 /// Components whose chains give the same, name by name, and those of the types of their prefixes, have the same breach, the same
-/// primitive, the same fill, the same box and the same prefix.
+/// primitive, the same other representations, the same fill, the same box and the same prefix.
 pub fn alike_components_are_judged_alike()
     ensures breach { (a b : Judged) → IsAlike a b → breach_of_component a ≡ breach_of_component b }
     ensures primitive { (a b : Judged) → IsAlike a b → primitive_of a ≡ primitive_of b }
+    ensures representations { (a b : Judged) → IsAlike a b → representations_of a ≡ representations_of b }
     ensures framing { (a b : Judged) → IsAlike a b → framing_of a ≡ framing_of b }
     ensures size { (a b : Judged) → IsAlike a b → size_of_box a ≡ size_of_box b }
     ensures prefix { (a b : Judged) → IsAlike a b → prefix_of a ≡ prefix_of b }

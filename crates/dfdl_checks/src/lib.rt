@@ -9,7 +9,9 @@
 //! `specs/BooleanTexts.antt`, and the characters by which texts are padded and trimmed are those of `specs/Pads.antt`.
 //! `prefix` says how the length prefix of an element lies in the data, by `specs/Prefixes.antt`. `framing` says which fill
 //! stands around a component, by `specs/Framing.antt`, and `size_of_box` how long a complex element's box is, by
-//! `specs/Boxes.antt`. The chapters are 'Property Scoping and DFDL Schema Checking', 'Framing', 'Lengths' and 'Simple Types'.
+//! `specs/Boxes.antt`. `other_representations` says which representations of a simple element are tried before its normal
+//! one, by `specs/Representations.antt`, which stands on `specs/Nils.antt` and `specs/Defaults.antt`. The chapters are
+//! 'Property Scoping and DFDL Schema Checking', 'DFDL Data Syntax Grammar', 'Framing', 'Lengths' and 'Simple Types'.
 #![tactic(auto)]
 
 mod applicability;
@@ -17,14 +19,17 @@ mod applying;
 mod boolean_texts;
 mod booleans;
 mod boxes;
+mod defaults;
 mod encodings;
 mod fill;
+mod fill_bytes;
 mod flaw;
 mod flaws;
 mod kinds;
 pub mod laws;
 mod length_rules;
 mod lengths;
+mod nils;
 mod number;
 mod number_texts;
 mod orders;
@@ -38,6 +43,7 @@ mod subject;
 mod table;
 mod text;
 mod text_rules;
+mod tried;
 mod values;
 mod zoned_texts;
 
@@ -49,11 +55,14 @@ pub use prefixes::{PrefixForm, prefix};
 pub use purpose::Purpose;
 pub use rules::breach;
 pub use subject::{Breach, Facts, Kind, PrefixType, Subject};
+pub use tried::{OtherRepresentations, other_representations};
 
 #[cfg(test)]
 mod binary_tests;
 #[cfg(test)]
 mod content_tests;
+#[cfg(test)]
+mod nil_tests;
 #[cfg(test)]
 mod order_tests;
 #[cfg(test)]

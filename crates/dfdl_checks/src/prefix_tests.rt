@@ -12,7 +12,7 @@ use std::test::Fail;
 const UNSIGNED: Option<Simple> = Some(Simple::UnsignedByte);
 
 /// A chain of one element, over the properties of integers.
-fn pushed<'e, 'c>(
+pub(crate) fn pushed<'e, 'c>(
     alloc: Global,
     own: &'e Properties<'c>,
     format: &'e Format<'c>,
@@ -60,7 +60,7 @@ fn told_of(
 }
 
 /// What a component with a prefix is given.
-fn prefixed(
+pub(crate) fn prefixed(
     alloc: Global,
     units: &'static str,
     counts_itself: &'static str,
@@ -84,7 +84,7 @@ type Judged = (
     u8,
 );
 
-const PREFIXES: [Judged; 13] = [
+const PREFIXES: [Judged; 14] = [
     (INT, "bytes", "no", UNSIGNED, ("alignment", "1"), 0),
     (INT, "bytes", "yes", UNSIGNED, ("alignment", "1"), 0),
     (INT, "characters", "no", UNSIGNED, ("alignment", "1"), 16),
@@ -132,6 +132,7 @@ const PREFIXES: [Judged; 13] = [
         15,
     ),
     (INT, "bytes", "no", UNSIGNED, ("initiator", "x"), 0),
+    (INT, "bytes", "no", UNSIGNED, ("fillByte", "%"), 0),
     (
         Kind::Sequence,
         "bytes",

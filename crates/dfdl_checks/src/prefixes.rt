@@ -32,10 +32,10 @@ pub struct PrefixForm {
 }
 
 /// What the type of a prefix states: nothing.
-const NO_FACTS: Facts = Facts {
+const NO_FACTS: Facts<'static> = Facts {
     occurs_once: true,
     is_nillable: false,
-    has_default: false,
+    default: None,
     has_statements: false,
     is_empty: false,
     max_length: None,
@@ -187,7 +187,7 @@ fn counts_prefix(subject: &Subject<'_, '_, '_>) -> bool
 }
 
 /// How long the fields of a primitive are.
-fn size_of(primitive: &Primitive) -> TextSize
+pub(crate) fn size_of(primitive: &Primitive) -> TextSize
     requires { IsPrimitive primitive.now }
     ensures size { result ≡ prefixes.size_of primitive.now }
     ensures few { (n : ℕ) → result ≡ TextSize.Characters n → n ≤ most_length }
@@ -198,6 +198,8 @@ fn size_of(primitive: &Primitive) -> TextSize
         Primitive::Truth(form) => TextSize::Bits(u64::from(form.bits)),
         Primitive::Octets(form) => TextSize::Bits(form.bits),
         Primitive::Text(form) => form.size,
+        Primitive::NilOctets(form) => TextSize::Bits(form.octets.bits),
+        Primitive::Default(form) => form.size,
     }
 }
 
@@ -265,7 +267,7 @@ fn own_units(
 }
 
 /// How the values of a component lie in the data, by a primitive that keeps the bounds of its type.
-fn bounded_primitive(
+pub(crate) fn bounded_primitive(
     alloc: Global,
     subject: &Subject<'_, '_, '_>,
 ) -> Result<Option<Primitive>, AllocError>

@@ -6,7 +6,8 @@ ghost use Rattle.dfdl_scope.specs.Scoping.{told};
 ghost use Rattle.dfdl_scope.specs.Shown.{chain_of};
 
 use crate::kinds::{
-    is_boolean, is_complex, is_group, is_hex_binary, is_string, number_bits, value_bits,
+    is_boolean, is_complex, is_element, is_group, is_hex_binary, is_simple, is_string, number_bits,
+    value_bits,
 };
 use crate::subject::Subject;
 use dfdl_scope::{Asked, Component, literal, property};
@@ -97,6 +98,13 @@ pub(crate) fn is_standard(subject: &Subject<'_, '_, '_>) -> bool
     ensures { result ≡ subjects.is_standard (judged_of subject.now) }
 {
     is_text_number(subject) && !is_word(subject.chain, "textNumberRep", "zoned")
+}
+
+/// Whether it is a simple element that may be nil.
+pub(crate) fn is_nillable(subject: &Subject<'_, '_, '_>) -> bool
+    ensures { result ≡ subjects.is_nillable (judged_of subject.now) }
+{
+    is_element(subject.kind) && is_simple(subject.kind) && subject.facts.is_nillable
 }
 
 /// Whether its content stands in a box.

@@ -1,10 +1,12 @@
 // The rules that a component has to keep.
 ghost use Rattle.std.specs.Prelude.{◌≡◌, IfOk, Ok, Some, drop};
 ghost use Rattle.dfdl_checks.specs.BuiltTypes as types;
-ghost use Rattle.dfdl_checks.specs.JudgedShown.{judged_of};
+ghost use Rattle.dfdl_checks.specs.JudgedShown.{facts_judged_of, judged_of};
 ghost use Rattle.dfdl_checks.specs.Rules as spec;
 
 use crate::booleans::{falsity_told, truth_told};
+use crate::defaults::is_default_not_allowed;
+use crate::fill_bytes::is_fill_other;
 use crate::flaw::Flaw;
 use crate::flaws::has_flaw;
 use crate::kinds::{is_choice, is_element, is_simple};
@@ -12,6 +14,7 @@ use crate::length_rules::{
     is_length_in_characters, is_length_kind_not_allowed, is_length_out_of_range,
     is_max_length_missing, is_prefix_not_whole, is_prefix_type_missing, is_prefix_type_not_allowed,
 };
+use crate::nils::is_nil_not_allowed;
 use crate::orders::{bit_order, is_least_first, is_same_order};
 use crate::packed::codes_told;
 use crate::prefixes::prefix_subject;
@@ -138,6 +141,23 @@ fn content_breach(
     if is_pad_no_character(subject) {
         return told_here(SchemaCause::PadCharacter, subject);
     }
+    representation_breach(alloc, subject)
+}
+
+/// The first rule on nil and on defaults that a component breaks.
+#[tactic(auto, unfolding(crate::specs::Rules::rules))]
+fn representation_breach(
+    alloc: Global,
+    subject: &Subject<'_, '_, '_>,
+) -> Result<Option<Breach>, AllocError>
+    ensures { IfOk result (λ breach. breach ≡ spec.first_breach (drop 21 spec.rules) (judged_of subject.now)) }
+{
+    if is_nil_not_allowed(subject) {
+        return told_here(SchemaCause::NilNotAllowed, subject);
+    }
+    if is_default_not_allowed(alloc, subject)? {
+        return told_here(SchemaCause::DefaultNotAValue, subject);
+    }
     Ok(None)
 }
 
@@ -169,7 +189,7 @@ fn is_later_component(subject: &Subject<'_, '_, '_>) -> bool
     is_choice(kind)
         || has_later_type(subject.purpose, kind)
         || subject.facts.has_statements
-        || (is_element(kind) && is_later_element(subject.facts))
+        || (is_element(kind) && is_later_element(subject.purpose, subject.facts))
 }
 
 /// Whether it is an element of a simple type, or the type of a prefix, that is built later.
@@ -205,11 +225,14 @@ fn is_whole_type(simple: Simple) -> bool
     }
 }
 
-/// Whether an element does not occur exactly once, may be nil or has a default.
-fn is_later_element(facts: Facts) -> bool
-    ensures { result ≡ spec.is_later_element facts }
+/// Whether an element does not occur exactly once; for unparsing, whether it may be nil or has a default too.
+fn is_later_element(purpose: Purpose, facts: Facts<'_>) -> bool
+    ensures { result ≡ spec.is_later_element purpose (facts_judged_of facts.entry) }
 {
-    !facts.occurs_once || facts.is_nillable || facts.has_default
+    match purpose {
+        Purpose::Parsing => !facts.occurs_once,
+        Purpose::Unparsing => !facts.occurs_once || facts.is_nillable || facts.default.is_some(),
+    }
 }
 
 /// Whether it is an element of a simple type that is not carried.
@@ -301,5 +324,5 @@ fn is_value_not_carried(alloc: Global, subject: &Subject<'_, '_, '_>) -> Result<
     if are_separators_unfit(alloc, subject)? {
         return Ok(true);
     }
-    Ok(is_base_unfit(subject) || is_prefix_type_missing(subject))
+    Ok(is_base_unfit(subject) || is_prefix_type_missing(subject) || is_fill_other(subject))
 }

@@ -20,14 +20,14 @@ pub enum Kind {
 }
 
 /// What a component states besides its properties.
-#[derive(Debug, Clone, Copy, PartialEq, Eq)]
-pub struct Facts {
+#[derive(Debug, Clone, Copy)]
+pub struct Facts<'c> {
     /// Of an element: minOccurs and maxOccurs are both 1.
     pub occurs_once: bool,
     /// Of an element: it may be nil.
     pub is_nillable: bool,
-    /// Of an element: it has a default value.
-    pub has_default: bool,
+    /// Of an element: the text of its default value, if it has one.
+    pub default: Option<&'c str>,
     /// An assert, a discriminator, a setVariable or a newVariableInstance stands at it.
     pub has_statements: bool,
     /// Of a sequence or a choice: nothing is in it.
@@ -58,7 +58,7 @@ pub struct Subject<'s, 'e, 'c> {
     pub place: Place,
     /// What its properties are asked of.
     pub chain: &'s Component<'e, 'c>,
-    pub facts: Facts,
+    pub facts: Facts<'c>,
     /// The order of bits of the schema's root.
     pub root_bits_by: BitOrder,
     /// The type that its property prefixLengthType names, if it names one.

@@ -13,7 +13,7 @@ pub(crate) fn applicabilities() -> &'static [Applicability]
     &APPLICABILITIES
 }
 
-static APPLICABILITIES: [Applicability; 61] = [
+static APPLICABILITIES: [Applicability; 65] = [
     Applicability {
         name: "representation",
         bearers: Bearers::RepresentedElements,
@@ -23,6 +23,12 @@ static APPLICABILITIES: [Applicability; 61] = [
     Applicability {
         name: "encoding",
         bearers: Bearers::Texts,
+        parsing: Built::EveryValue,
+        unparsing: Built::EveryValue,
+    },
+    Applicability {
+        name: "encoding",
+        bearers: Bearers::NillableElements,
         parsing: Built::EveryValue,
         unparsing: Built::EveryValue,
     },
@@ -149,7 +155,7 @@ static APPLICABILITIES: [Applicability; 61] = [
     Applicability {
         name: "fillByte",
         bearers: Bearers::FramedComponents,
-        parsing: Built::Words(&["%#r00;"]),
+        parsing: Built::EveryValue,
         unparsing: Built::Words(&["%#r00;"]),
     },
     Applicability {
@@ -179,6 +185,12 @@ static APPLICABILITIES: [Applicability; 61] = [
     Applicability {
         name: "ignoreCase",
         bearers: Bearers::TextBooleans,
+        parsing: Built::EveryValue,
+        unparsing: Built::EveryValue,
+    },
+    Applicability {
+        name: "ignoreCase",
+        bearers: Bearers::NillableElements,
         parsing: Built::EveryValue,
         unparsing: Built::EveryValue,
     },
@@ -353,6 +365,18 @@ static APPLICABILITIES: [Applicability; 61] = [
     Applicability {
         name: "binaryDecimalVirtualPoint",
         bearers: Bearers::BinaryDecimals,
+        parsing: Built::EveryValue,
+        unparsing: Built::EveryValue,
+    },
+    Applicability {
+        name: "nilKind",
+        bearers: Bearers::NillableElements,
+        parsing: Built::Words(&["literalValue", "literalCharacter"]),
+        unparsing: Built::Words(&["literalValue", "literalCharacter"]),
+    },
+    Applicability {
+        name: "nilValue",
+        bearers: Bearers::NillableElements,
         parsing: Built::EveryValue,
         unparsing: Built::EveryValue,
     },

@@ -11,10 +11,10 @@ use std::process::Abort;
 use std::test::Fail;
 
 /// What stands at a plain component.
-pub(crate) const PLAIN: Facts = Facts {
+pub(crate) const PLAIN: Facts<'static> = Facts {
     occurs_once: true,
     is_nillable: false,
-    has_default: false,
+    default: None,
     has_statements: false,
     is_empty: false,
     max_length: None,
@@ -89,7 +89,7 @@ const TYPES: [Judged; 11] = [
     (BOOLEAN, "representation", "text", 7),
     (Kind::ComplexElement, "alignment", "implicit", 24),
     (Kind::SimpleElement(Simple::String), "alignment", "1", 7),
-    (BYTE, "fillByte", "x", 3),
+    (BYTE, "fillByte", "x", 0),
 ];
 
 /// What is built for unparsing.
@@ -222,7 +222,7 @@ pub(crate) fn told_with(
     alloc: Global,
     purpose: Purpose,
     kind: Kind,
-    facts: Facts,
+    facts: Facts<'static>,
     own: &Properties<'static>,
 ) -> Result<Told, AllocError> {
     told_below(alloc, purpose, kind, facts, BitOrder::MostFirst, own)
@@ -233,7 +233,7 @@ pub(crate) fn told_below(
     alloc: Global,
     purpose: Purpose,
     kind: Kind,
-    facts: Facts,
+    facts: Facts<'static>,
     root_bits_by: BitOrder,
     own: &Properties<'static>,
 ) -> Result<Told, AllocError> {
@@ -253,10 +253,10 @@ pub(crate) fn told_below(
 }
 
 /// A component that names no type of a prefix.
-fn without_prefix<'s, 'e, 'c>(
+pub(crate) fn without_prefix<'s, 'e, 'c>(
     purpose: Purpose,
     kind: Kind,
-    facts: Facts,
+    facts: Facts<'c>,
     root_bits_by: BitOrder,
     chain: &'s Component<'e, 'c>,
 ) -> Subject<'s, 'e, 'c> {

@@ -9,7 +9,9 @@ ghost use Rattle.dfdl_scope.specs.Told.{told_by};
 use crate::boolean_texts::{
     are_truth_texts_outside, false_texts, is_list_malformed, is_list_other, true_texts,
 };
+use crate::fill_bytes::is_fill_malformed;
 use crate::kinds::is_decimal;
+use crate::nils::{is_nil_malformed, is_nil_not_encoded};
 use crate::number_texts::{
     base_of, decimal_at, grouping_at, is_pattern_told, pattern_in, pattern_told,
 };
@@ -114,10 +116,13 @@ pub(crate) fn is_literal_malformed(
 ) -> Result<bool, AllocError>
     ensures { IfOk result (λ malformed. malformed ≡ spec.is_literal_malformed (judged_of subject.now)) }
 {
-    if is_pad_malformed(subject) || is_separator_malformed(subject) {
+    if is_pad_malformed(subject) || is_separator_malformed(subject) || is_fill_malformed(subject) {
         return Ok(true);
     }
-    are_truth_texts_malformed(alloc, subject)
+    if are_truth_texts_malformed(alloc, subject)? {
+        return Ok(true);
+    }
+    is_nil_malformed(alloc, subject)
 }
 
 /// Whether it is a text that is padded or trimmed, whose encoding lacks its pad character.
@@ -158,7 +163,10 @@ pub(crate) fn is_character_not_encoded(
     if is_pad_not_encoded(subject) || is_separator_not_encoded(subject) {
         return Ok(true);
     }
-    are_truth_texts_not_encoded(alloc, subject)
+    if are_truth_texts_not_encoded(alloc, subject)? {
+        return Ok(true);
+    }
+    is_nil_not_encoded(alloc, subject)
 }
 
 /// Whether it is a text number in base ten whose pattern, where it is told, is none.

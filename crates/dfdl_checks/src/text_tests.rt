@@ -215,7 +215,7 @@ fn a_string_is_padded_by_its_character(rt: HostRuntime) -> Result<(), Fail> {
 }
 
 /// An element of a type with a greatest length.
-fn at_most(max_length: u64) -> Facts {
+fn at_most(max_length: u64) -> Facts<'static> {
     Facts {
         max_length: Some(max_length),
         ..PLAIN
@@ -300,9 +300,14 @@ fn complex_elements_of_explicit_length_have_a_box(rt: HostRuntime) -> Result<(),
     let unparsed = told_of(alloc, Purpose::Unparsing, Kind::ComplexElement, &own)?;
     assert_eq!(rt; unparsed.number, 3);
     assert!(rt; unparsed.size.is_none());
-    let own = one(alloc, "length", "3")?;
+    Ok(())
+}
+
+#[test]
+fn complex_elements_of_implicit_length_have_none(rt: HostRuntime) -> Result<(), Fail> {
+    let own = one(rt.alloc(), "length", "3")?;
     let implicit = told_with(
-        alloc,
+        rt.alloc(),
         Purpose::Parsing,
         Kind::ComplexElement,
         at_most(3),

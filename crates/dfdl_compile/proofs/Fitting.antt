@@ -32,7 +32,7 @@ use Rattle.dfdl_rows.specs.declared.component.Component.TheVariants.{Sequence}
 use Rattle.dfdl_rows.specs.declared.refusal.Refusal.{Refusal}
 use Rattle.dfdl_report.specs.declared.place.Place.{Place}
 use Rattle.dfdl_breaches.specs.Elements.{place_of}
-use Rattle.dfdl_compile.specs.Components.{refusal_at, component_by, reference_by, component_of, component_at, element_name, part_numbers, prefix_by, prefix_number, components_of}
+use Rattle.dfdl_compile.specs.Components.{refusal_at, component_by, reference_by, component_of, component_at, element_name, empty_number, nil_number, part_numbers, prefix_by, prefix_number, tried_by, components_of}
 
 -- a list that is made from one that is made
 pub twice : {X Y Z : Type 0} (g : Y → Z) (f : X → Y) (xs : List X) → map g (map f xs) ≡ map (λ x. g (f x)) xs
@@ -94,7 +94,8 @@ module _ (purpose : Purpose) (documents : List SchemaDocument) (own : Site) wher
   abbrev pub of_kind : Kind → Component
   of_kind kind = component_by (element_name documents own) (primitive_by (judgement_at purpose documents own)) (number_of documents own)
       (judgement_at purpose documents own).framing (judgement_at purpose documents own).size
-      (option_map (prefix_by (prefix_number documents own)) (judgement_at purpose documents own).prefix) kind
+      (option_map (prefix_by (prefix_number documents own)) (judgement_at purpose documents own).prefix)
+      (tried_by (nil_number documents own) (empty_number documents own) (judgement_at purpose documents own).others) kind
 
   abbrev pub made : Role → Component
   made role.GroupReference = reference_by (judgement_at purpose documents own).framing (referred documents own names.Group)

@@ -14,7 +14,9 @@ use Rattle.dfdl_components.specs.Sites.{IsSite, role_of}
 use Rattle.dfdl_components.specs.Recursion.{count_of, number_of}
 use Rattle.dfdl_checks.specs.Forms.{IsWhole}
 use Rattle.dfdl_checks.specs.Numbers.{type_of}
+use Rattle.dfdl_checks.specs.Representations.{no_representations}
 use Rattle.dfdl_checks.specs.declared.prefixes.PrefixForm.{PrefixForm}
+use Rattle.dfdl_checks.specs.declared.tried.OtherRepresentations.{OtherRepresentations}
 use Rattle.dfdl_checks.specs.declared.purpose.Purpose.{Purpose}
 use Rattle.dfdl_checks.specs.declared.purpose.Purpose.TheVariants.{Unparsing}
 use Rattle.dfdl_checks.specs.declared.subject.Kind.{Kind}
@@ -27,14 +29,15 @@ use Rattle.dfdl_chains.specs.Everywhere.{all_sites, for_each}
 use Rattle.dfdl_chains.specs.Kinds.{kind_at, kind_of_type}
 use Rattle.dfdl_chains.specs.Parts.{is_component}
 use Rattle.dfdl_chains.proofs.Numbering.{number_below, length_all}
-use Rattle.dfdl_breaches.specs.Judging.{breach_at, primitive_at as judged, form_of_prefix, framing_at, judgement_at, no_judgement, size_at}
+use Rattle.dfdl_breaches.specs.Judging.{breach_at, primitive_at as judged, form_of_prefix, framing_at, judgement_at, no_judgement, others_at, size_at}
 use Rattle.dfdl_breaches.specs.declared.judgement.Judgement.{Judgement}
 use Rattle.dfdl_breaches.proofs.Numbering.{value-at}
 use Rattle.dfdl_terms.specs.Leaves.{ReadsBy, leaf, prefixed, grouped}
 use Rattle.dfdl_terms.specs.Framing.{no_fill}
 use Rattle.dfdl_terms.specs.declared.framing.Framing.{Framing}
 use Rattle.dfdl_terms.specs.declared.prefix.Prefix.{Prefix}
-use Rattle.dfdl_terms.specs.Rows.{HasElementLast, IsElementRow, IsPrimitive, Table}
+use Rattle.dfdl_terms.specs.declared.representations.Representations.{Representations}
+use Rattle.dfdl_terms.specs.Rows.{AreWithin, HasElementLast, IsElementRow, IsPrimitive, IsWithin, Table}
 use Rattle.dfdl_terms.specs.declared.row.Primitive.{Primitive}
 use Rattle.dfdl_terms.specs.declared.row.Row.{Row}
 use Rattle.dfdl_terms.specs.declared.row.Row.TheVariants.{Leaf, Elem, Group, Skip, Align, Boxed, PrefixedLeaf, PrefixedBox}
@@ -46,8 +49,8 @@ use Rattle.dfdl_rows.specs.declared.component.ContentBox.TheVariants.{Unbounded}
 use Rattle.dfdl_rows.specs.declared.component.Component.{Component}
 use Rattle.dfdl_rows.specs.declared.component.Component.TheVariants.{Sequence, SimpleElement}
 use Rattle.dfdl_breaches.specs.Roots.{is_global_element}
-use Rattle.dfdl_compile.specs.Components.{box_by, reference_by, component_of, component_at, components_of, prefix_by, prefix_number, prefix_primitive_at, primitive_at, primitives_of}
-use Rattle.dfdl_compile.specs.Primitives.{HasTypedLeaves, HasBareTypedLeaves, IsLeafOfType, IsOfType, a_byte, prefix_primitive_by, primitive_by, primitive_if}
+use Rattle.dfdl_compile.specs.Components.{box_by, reference_by, component_of, component_at, components_of, empty_number, empty_primitive_at, nil_number, nil_primitive_at, number_if, prefix_by, prefix_number, prefix_primitive_at, primitive_at, primitives_of, tried_by}
+use Rattle.dfdl_compile.specs.Primitives.{HasTypedLeaves, HasBareTypedLeaves, HasWrittenText, IsLeafOfType, IsOfType, a_byte, empty_primitive_by, nil_primitive_by, prefix_primitive_by, primitive_by, primitive_if}
 use Rattle.dfdl_compile.proofs.Fitting.{all_within, each, made, made_is, of_kind, twice}
 
 -- what is told of an element, where it is a component
@@ -59,9 +62,11 @@ judgement_if purpose documents own b =
       framing = framing_at purpose documents own;
       size = size_at purpose documents own;
       prefix = form_of_prefix purpose documents own;
+      others = others_at purpose documents own;
     } else no_judgement
 
--- what holds of a byte, of each primitive that is judged and of that of each prefix holds of those of an element
+-- what holds of a byte, of each primitive that is judged, of that of each prefix, and of those of each nil and each empty
+-- representation holds of those of an element
 module _ (P : Primitive → Type 0) (byte : P a_byte) (purpose : Purpose) (documents : List SchemaDocument) where
   by_some : (o : Option Primitive) → ((p : Primitive) → o ≡ Some p → P p) → P (unwrap_or o a_byte)
   by_some None holds = byte
@@ -82,6 +87,18 @@ module _ (P : Primitive → Type 0) (byte : P a_byte) (purpose : Purpose) (docum
   by_prefixed own true holds = by_prefix (form_of_prefix purpose documents own) holds
   by_prefixed own false holds = byte
 
+  by_nil : (own : Site) (b : Bool) → ((p : Primitive) → (others_at purpose documents own).nil ≡ Some p → P p)
+      → P (nil_primitive_by (judgement_if purpose documents own b))
+  unfolding judgement_if
+  by_nil own true holds = by_some (others_at purpose documents own).nil holds
+  by_nil own false holds = byte
+
+  by_empty : (own : Site) (b : Bool) → ((p : Primitive) → (others_at purpose documents own).empty ≡ Some p → P p)
+      → P (empty_primitive_by (judgement_if purpose documents own b))
+  unfolding judgement_if
+  by_empty own true holds = by_some (others_at purpose documents own).empty holds
+  by_empty own false holds = byte
+
   holds_at : (own : Site) → ((p : Primitive) → judged purpose documents own ≡ Some p → P p) → P (primitive_at purpose documents own)
   unfolding judgement_at judgement_if
   holds_at own holds = by_component own (is_component (role_of documents own)) holds
@@ -91,68 +108,124 @@ module _ (P : Primitive → Type 0) (byte : P a_byte) (purpose : Purpose) (docum
   unfolding judgement_at judgement_if
   prefix_holds_at own holds = by_prefixed own (is_component (role_of documents own)) holds
 
+  nil_holds_at : (own : Site) → ((p : Primitive) → (others_at purpose documents own).nil ≡ Some p → P p) → P (nil_primitive_at purpose documents own)
+  unfolding judgement_at judgement_if
+  nil_holds_at own holds = by_nil own (is_component (role_of documents own)) holds
+
+  empty_holds_at : (own : Site) → ((p : Primitive) → (others_at purpose documents own).empty ≡ Some p → P p)
+      → P (empty_primitive_at purpose documents own)
+  unfolding judgement_at judgement_if
+  empty_holds_at own holds = by_empty own (is_component (role_of documents own)) holds
+
+  holds_of_each : (f : Site → Primitive) → ((own : Site) → P (f own)) → All P (for_each documents f)
+  holds_of_each f holds = each (IsSite documents) P f (λ own within. holds own) (all_sites documents) (all_within documents)
+
   holds_of : ((own : Site) (p : Primitive) → judged purpose documents own ≡ Some p → P p)
-      → ((own : Site) (f : PrefixForm) → form_of_prefix purpose documents own ≡ Some f → P f.primitive) → (tables : List Primitive)
-      → tables ≡ primitives_of purpose documents → All P tables
+      → ((own : Site) (f : PrefixForm) → form_of_prefix purpose documents own ≡ Some f → P f.primitive)
+      → ((own : Site) (p : Primitive) → (others_at purpose documents own).nil ≡ Some p → P p)
+      → ((own : Site) (p : Primitive) → (others_at purpose documents own).empty ≡ Some p → P p)
+      → (tables : List Primitive) → tables ≡ primitives_of purpose documents → All P tables
   unfolding primitives_of
-  holds_of holds prefixes tables are = subst (λ (ps : List Primitive). All P ps) (sym are)
-      (All-append P (for_each documents (primitive_at purpose documents)) (for_each documents (prefix_primitive_at purpose documents))
-      (each (IsSite documents) P (primitive_at purpose documents) (λ own within. holds_at own (holds own)) (all_sites documents) (all_within documents))
-      (each (IsSite documents) P (prefix_primitive_at purpose documents) (λ own within. prefix_holds_at own (prefixes own)) (all_sites documents)
-      (all_within documents)))
+  holds_of holds prefixes nils empties tables are = subst (λ (ps : List Primitive). All P ps) (sym are)
+      (All-append P (for_each documents (primitive_at purpose documents))
+      (for_each documents (prefix_primitive_at purpose documents)
+      ++ (for_each documents (nil_primitive_at purpose documents) ++ for_each documents (empty_primitive_at purpose documents)))
+      (holds_of_each (primitive_at purpose documents) (λ own. holds_at own (holds own)))
+      (All-append P (for_each documents (prefix_primitive_at purpose documents))
+      (for_each documents (nil_primitive_at purpose documents) ++ for_each documents (empty_primitive_at purpose documents))
+      (holds_of_each (prefix_primitive_at purpose documents) (λ own. prefix_holds_at own (prefixes own)))
+      (All-append P (for_each documents (nil_primitive_at purpose documents)) (for_each documents (empty_primitive_at purpose documents))
+      (holds_of_each (nil_primitive_at purpose documents) (λ own. nil_holds_at own (nils own)))
+      (holds_of_each (empty_primitive_at purpose documents) (λ own. empty_holds_at own (empties own))))))
 
 -- the table is that of the documents
 pub tables_are : (purpose : Purpose) (documents : List SchemaDocument) (judgements : List Judgement) (tables : List Primitive)
     → judgements ≡ for_each documents (judgement_at purpose documents)
-    → tables ≡ map primitive_by judgements ++ map prefix_primitive_by judgements → tables ≡ primitives_of purpose documents
+    → tables ≡ map primitive_by judgements
+    ++ (map prefix_primitive_by judgements ++ (map nil_primitive_by judgements ++ map empty_primitive_by judgements))
+    → tables ≡ primitives_of purpose documents
 unfolding primitives_of
-tables_are purpose documents judgements tables judged are =
-    are ∙ (ap (λ (js : List Judgement). map primitive_by js ++ map prefix_primitive_by js) judged
-    ∙ (ap (λ (ps : List Primitive). ps ++ map prefix_primitive_by (for_each documents (judgement_at purpose documents)))
-    (twice primitive_by (judgement_at purpose documents) (all_sites documents))
-    ∙ ap (λ (ps : List Primitive). for_each documents (primitive_at purpose documents) ++ ps)
-    (twice prefix_primitive_by (judgement_at purpose documents) (all_sites documents))))
+tables_are purpose documents judgements tables told are =
+    are ∙ (λ i. own i ++ (prefixes i ++ (nils i ++ empties i)))
+  where
+    at_each : (f : Judgement → Primitive) → map f judgements ≡ for_each documents (λ (s : Site). f (judgement_at purpose documents s))
+    at_each f = ap (map f) told ∙ twice f (judgement_at purpose documents) (all_sites documents)
+
+    own : map primitive_by judgements ≡ for_each documents (primitive_at purpose documents)
+    own = at_each primitive_by
+
+    prefixes : map prefix_primitive_by judgements ≡ for_each documents (prefix_primitive_at purpose documents)
+    prefixes = at_each prefix_primitive_by
+
+    nils : map nil_primitive_by judgements ≡ for_each documents (nil_primitive_at purpose documents)
+    nils = at_each nil_primitive_by
+
+    empties : map empty_primitive_by judgements ≡ for_each documents (empty_primitive_at purpose documents)
+    empties = at_each empty_primitive_by
+
+-- it keeps the bounds of its type, if its text is one of characters
+abbrev IsBoundedIf : Primitive → Type 0
+IsBoundedIf p = HasWrittenText p → IsPrimitive p
 
 -- each keeps the bounds of its type
 pub bounded : (purpose : Purpose) (documents : List SchemaDocument)
     → ((purpose : Purpose) (documents : List SchemaDocument) (own : Site) (p : Primitive) → judged purpose documents own ≡ Some p → IsPrimitive p)
     → ((purpose : Purpose) (documents : List SchemaDocument) (own : Site) (f : PrefixForm) → form_of_prefix purpose documents own ≡ Some f
-    → IsPrimitive f.primitive) → (tables : List Primitive) → tables ≡ primitives_of purpose documents → All IsPrimitive tables
-bounded purpose documents law prefixes = holds_of IsPrimitive
-    (record { some = omega arith; few = omega arith; short = omega arith; places = omega arith })
-    purpose documents (law purpose documents) (prefixes purpose documents)
+    → IsPrimitive f.primitive)
+    → ((purpose : Purpose) (documents : List SchemaDocument) (own : Site) (p : Primitive) → (others_at purpose documents own).nil ≡ Some p → IsPrimitive p)
+    → ((purpose : Purpose) (documents : List SchemaDocument) (own : Site) (p : Primitive) → (others_at purpose documents own).empty ≡ Some p
+    → HasWrittenText p → IsPrimitive p)
+    → (tables : List Primitive) → tables ≡ primitives_of purpose documents → All HasWrittenText tables → All IsPrimitive tables
+bounded purpose documents law prefixes nils empties tables are written =
+    let each_if : All IsBoundedIf tables = holds_of IsBoundedIf
+    (λ text. record { some = omega arith; few = omega arith; short = omega arith; places = omega arith })
+    purpose documents (λ own p is text. law purpose documents own p is) (λ own f is text. prefixes purpose documents own f is)
+    (λ own p is text. nils purpose documents own p is) (empties purpose documents) tables are in
+    λ k d less. each_if k d less (written k d less)
 
 -- each for unparsing is a whole unsigned integer
 pub wholes : (purpose : Purpose) (documents : List SchemaDocument) → purpose ≡ Unparsing
     → ((documents : List SchemaDocument) (own : Site) (p : Primitive) → judged Unparsing documents own ≡ Some p → IsWhole p)
     → ((documents : List SchemaDocument) (own : Site) → form_of_prefix Unparsing documents own ≡ None)
+    → ((documents : List SchemaDocument) (own : Site) → others_at Unparsing documents own ≡ no_representations)
     → (tables : List Primitive) → tables ≡ primitives_of purpose documents → All IsWhole tables
-wholes purpose documents unparsing law none tables are =
+wholes purpose documents unparsing law none normal tables are =
     holds_of IsWhole (record { bits = refl; kind = refl; bits_by = refl; point = refl }) Unparsing documents (law documents)
-    (λ own f is. absurd (never (none documents own) is)) tables
+    (λ own f is. absurd (never (none documents own) is))
+    (λ own p is. absurd (never (ap (λ (o : OtherRepresentations). o.nil) (normal documents own)) is))
+    (λ own p is. absurd (never (ap (λ (o : OtherRepresentations). o.empty) (normal documents own)) is)) tables
     (are ∙ ap (λ (q : Purpose). primitives_of q documents) unparsing)
   where
-    never : {o : Option PrefixForm} {f : PrefixForm} → o ≡ None → o ≡ Some f → ⊥
+    never : {X : Type 0} {o : Option X} {x : X} → o ≡ None → o ≡ Some x → ⊥
     never is other = cc
 
--- there are as many primitives of elements as elements
-length_own : (purpose : Purpose) (documents : List SchemaDocument) → length (for_each documents (primitive_at purpose documents)) ≡ count_of documents
-length_own purpose documents = length-map (all_sites documents) (primitive_at purpose documents) ∙ length_all documents
+-- there are as many primitives of one kind as elements
+length_each : (documents : List SchemaDocument) (f : Site → Primitive) → length (for_each documents f) ≡ count_of documents
+length_each documents f = length-map (all_sites documents) f ∙ length_all documents
 
--- there are twice as many primitives as elements
-length_primitives : (purpose : Purpose) (documents : List SchemaDocument) → length (primitives_of purpose documents) ≡ count_of documents + count_of documents
+-- how many primitives there are
+abbrev count_primitives : List SchemaDocument → ℕ
+count_primitives documents = count_of documents + (count_of documents + (count_of documents + count_of documents))
+
+-- there are four times as many primitives as elements
+length_primitives : (purpose : Purpose) (documents : List SchemaDocument) → length (primitives_of purpose documents) ≡ count_primitives documents
 unfolding primitives_of
 length_primitives purpose documents =
-    let both = length-append (for_each documents (primitive_at purpose documents)) (for_each documents (prefix_primitive_at purpose documents)) in
-    let own = length_own purpose documents in
-    let prefixes = length-map (all_sites documents) (prefix_primitive_at purpose documents) in
-    let sites = length_all documents in
-    omega (arith, both, own, prefixes, sites)
+    let own = length_each documents (primitive_at purpose documents) in
+    let prefixes = length_each documents (prefix_primitive_at purpose documents) in
+    let nils = length_each documents (nil_primitive_at purpose documents) in
+    let empties = length_each documents (empty_primitive_at purpose documents) in
+    let last = length-append (for_each documents (nil_primitive_at purpose documents)) (for_each documents (empty_primitive_at purpose documents)) in
+    let behind = length-append (for_each documents (prefix_primitive_at purpose documents))
+    (for_each documents (nil_primitive_at purpose documents) ++ for_each documents (empty_primitive_at purpose documents)) in
+    let all = length-append (for_each documents (primitive_at purpose documents))
+    (for_each documents (prefix_primitive_at purpose documents)
+    ++ (for_each documents (nil_primitive_at purpose documents) ++ for_each documents (empty_primitive_at purpose documents))) in
+    omega (arith, all, behind, last, own, prefixes, nils, empties)
 
 module _ (purpose : Purpose) (documents : List SchemaDocument) where
-  -- how many primitives there are
   abbrev count : ℕ
-  count = count_of documents + count_of documents
+  count = count_primitives documents
 
   has_number : (own : Site) → IsSite documents own → HasPrimitive count (component_at purpose documents own)
   has_number own within = by_role (role_of documents own)
@@ -162,6 +235,19 @@ module _ (purpose : Purpose) (documents : List SchemaDocument) where
 
       prefix_below : prefix_number documents own < count
       prefix_below = let below = number_below documents own within in omega (arith, below)
+
+      nil_below : nil_number documents own < count
+      nil_below = let below = number_below documents own within in omega (arith, below)
+
+      empty_below : empty_number documents own < count
+      empty_below = let below = number_below documents own within in omega (arith, below)
+
+      by_number : (number : ℕ) → number < count → (o : Option Primitive) → IsWithin count (number_if number o)
+      by_number number below None = tt
+      by_number number below (Some p) = below
+
+      by_others : (others : OtherRepresentations) → AreWithin count (tried_by (nil_number documents own) (empty_number documents own) others)
+      by_others others = (by_number (nil_number documents own) nil_below others.nil, by_number (empty_number documents own) empty_below others.empty)
 
       by_prefix : (o : Option PrefixForm) → HasPrefixPrimitive count (option_map (prefix_by (prefix_number documents own)) o)
       by_prefix None = tt
@@ -178,8 +264,8 @@ module _ (purpose : Purpose) (documents : List SchemaDocument) where
 
       by_kind : (k : Kind) → HasPrimitive count (of_kind purpose documents own k)
       by_kind kind.ComplexElement = by_box (judgement_at purpose documents own).size (judgement_at purpose documents own).prefix
-      by_kind (kind.SimpleElement simple) = (own_below, by_prefix (judgement_at purpose documents own).prefix)
-      by_kind kind.UncarriedElement = (own_below, by_prefix (judgement_at purpose documents own).prefix)
+      by_kind (kind.SimpleElement simple) = (own_below, by_prefix (judgement_at purpose documents own).prefix, by_others (judgement_at purpose documents own).others)
+      by_kind kind.UncarriedElement = (own_below, by_prefix (judgement_at purpose documents own).prefix, by_others (judgement_at purpose documents own).others)
       by_kind kind.Sequence = tt
       by_kind kind.Choice = tt
       by_kind (kind.PrefixNumber simple) = tt
@@ -199,17 +285,17 @@ module _ (purpose : Purpose) (documents : List SchemaDocument) where
       (each (IsSite documents) (HasPrimitive count) (component_at purpose documents) has_number (all_sites documents) (all_within documents)))
 
   -- a component that is a simple element has the type of its primitive, and the primitive's number
-  typed_component : (own : Site) (name : List ℕ) (simple : Simple) (prim : ℕ) (framing : Framing) (prefix : Option Prefix)
-      → component_at purpose documents own ≡ SimpleElement name simple prim framing prefix
+  typed_component : (own : Site) (name : List ℕ) (simple : Simple) (prim : ℕ) (framing : Framing) (prefix : Option Prefix) (tried : Representations)
+      → component_at purpose documents own ≡ SimpleElement name simple prim framing prefix tried
       → (type_of (primitive_at purpose documents own) ≡ simple) × (number_of documents own ≡ prim)
-  typed_component own name simple prim framing prefix = by_role (role_of documents own)
+  typed_component own name simple prim framing prefix tried = by_role (role_of documents own)
     where
-      by_group : (o : Option Site) → reference_by (judgement_at purpose documents own).framing o ≡ SimpleElement name simple prim framing prefix
+      by_group : (o : Option Site) → reference_by (judgement_at purpose documents own).framing o ≡ SimpleElement name simple prim framing prefix tried
           → (type_of (primitive_at purpose documents own) ≡ simple) × (number_of documents own ≡ prim)
       by_group None is = absurd (cc)
       by_group (Some group) is = absurd (cc)
 
-      by_kind : (k : Kind) → of_kind purpose documents own k ≡ SimpleElement name simple prim framing prefix
+      by_kind : (k : Kind) → of_kind purpose documents own k ≡ SimpleElement name simple prim framing prefix tried
           → (type_of (primitive_at purpose documents own) ≡ simple) × (number_of documents own ≡ prim)
       by_kind kind.ComplexElement is = absurd (cc)
       by_kind (kind.SimpleElement other) is = (cc, cc)
@@ -218,7 +304,7 @@ module _ (purpose : Purpose) (documents : List SchemaDocument) where
       by_kind kind.Choice is = absurd (cc)
       by_kind (kind.PrefixNumber other) is = absurd (cc)
 
-      by_role : (r : Role) → component_of documents own (judgement_at purpose documents own) r ≡ SimpleElement name simple prim framing prefix
+      by_role : (r : Role) → component_of documents own (judgement_at purpose documents own) r ≡ SimpleElement name simple prim framing prefix tried
           → (type_of (primitive_at purpose documents own) ≡ simple) × (number_of documents own ≡ prim)
       by_role role.GroupReference is = by_group (referred documents own names.Group) is
       by_role _ is = by_kind (kind_at documents own) is
@@ -229,36 +315,38 @@ module _ (purpose : Purpose) (documents : List SchemaDocument) where
   unfolding primitives_of
   there own within =
       let below = number_below documents own within in
-      let long = length_own purpose documents in
-      let both = length-append (for_each documents (primitive_at purpose documents)) (for_each documents (prefix_primitive_at purpose documents)) in
-      slice_get-get_or (for_each documents (primitive_at purpose documents) ++ for_each documents (prefix_primitive_at purpose documents))
-      (number_of documents own) a_byte (omega (arith, below, long, both))
-      ∙ (ap Some (get_or_append_left (for_each documents (primitive_at purpose documents)) (for_each documents (prefix_primitive_at purpose documents)) a_byte
-      (number_of documents own) (omega (arith, below, long)))
+      let long = length_each documents (primitive_at purpose documents) in
+      let all = length-append (for_each documents (primitive_at purpose documents)) behind in
+      slice_get-get_or (for_each documents (primitive_at purpose documents) ++ behind) (number_of documents own) a_byte (omega (arith, below, long, all))
+      ∙ (ap Some (get_or_append_left (for_each documents (primitive_at purpose documents)) behind a_byte (number_of documents own) (omega (arith, below, long)))
       ∙ ap Some (value-at documents (primitive_at purpose documents) own a_byte within))
+    where
+      behind : List Primitive
+      behind = for_each documents (prefix_primitive_at purpose documents)
+          ++ (for_each documents (nil_primitive_at purpose documents) ++ for_each documents (empty_primitive_at purpose documents))
 
   -- the leaf of a simple element among the components has the element's type
   among_typed : (simple : Simple) (prim : ℕ) → IsAmong (map (component_at purpose documents) (all_sites documents)) simple prim
       → IsOfType simple (slice_get (primitives_of purpose documents) prim)
-  among_typed simple prim (number, name, framing, prefix, is) =
+  among_typed simple prim (number, name, framing, prefix, tried, is) =
       let less : number < length (all_sites documents) = omega (
         arith,
-        slice_get_within (map (component_at purpose documents) (all_sites documents)) number (SimpleElement name simple prim framing prefix) is,
+        slice_get_within (map (component_at purpose documents) (all_sites documents)) number (SimpleElement name simple prim framing prefix tried) is,
         length-map (all_sites documents) (component_at purpose documents),
       ) in
       let own : Site = get_or (all_sites documents) number (site 0 0) in
-      let found : Some (component_at purpose documents own) ≡ Some (SimpleElement name simple prim framing prefix) =
+      let found : Some (component_at purpose documents own) ≡ Some (SimpleElement name simple prim framing prefix tried) =
       sym (slice_get-map (component_at purpose documents) (all_sites documents) number
       ∙ ap (option_map (component_at purpose documents)) (slice_get-get_or (all_sites documents) number (site 0 0) less)) ∙ is in
-      let same : component_at purpose documents own ≡ SimpleElement name simple prim framing prefix = cc in
-      let both = typed_component own name simple prim framing prefix same in
+      let same : component_at purpose documents own ≡ SimpleElement name simple prim framing prefix tried = cc in
+      let both = typed_component own name simple prim framing prefix tried same in
       subst (λ (n : ℕ). IsOfType simple (slice_get (primitives_of purpose documents) n)) both.1
       (subst (λ (o : Option Primitive). IsOfType simple o) (sym (there own (all_within documents number (site 0 0) less))) both.0)
 
   leaf_typed : (simple : Simple) (o : Option Row) → IsLeafOf (map (component_at purpose documents) (all_sites documents)) simple o
       → IsLeafOfType (primitives_of purpose documents) simple o
   leaf_typed simple (Some (Leaf prim)) one = among_typed simple prim one
-  leaf_typed simple (Some (Elem name other body)) one = absurd one
+  leaf_typed simple (Some (Elem name other tried body)) one = absurd one
   leaf_typed simple (Some (Group children)) one = absurd one
   leaf_typed simple (Some (Skip bits)) one = absurd one
   leaf_typed simple (Some (Align bits)) one = absurd one
@@ -278,19 +366,19 @@ module _ (purpose : Purpose) (documents : List SchemaDocument) where
   pub leaves_typed : (schema : Schema) (t : Table) → schema ≡ components_of purpose documents → t.primitives ≡ primitives_of purpose documents
       → HaveLeaves schema.components t.rows → HasTypedLeaves t
   unfolding components_of
-  leaves_typed schema t schema_is primitives_are leaves row name simple body is =
+  leaves_typed schema t schema_is primitives_are leaves row name simple tried body is =
       subst (λ (ps : List Primitive). ReadsBy t.rows (λ prim. IsOfType simple (slice_get ps prim)) body) (sym primitives_are)
       (reads_typed t.rows simple body
-      (subst (λ (s : Schema). ReadsBy t.rows (IsAmong s.components simple) body) schema_is (leaves row name simple body is)))
+      (subst (λ (s : Schema). ReadsBy t.rows (IsAmong s.components simple) body) schema_is (leaves row name simple tried body is)))
 
   -- the same, where each is read by a leaf
   pub bare_typed : (schema : Schema) (t : Table) → schema ≡ components_of purpose documents → t.primitives ≡ primitives_of purpose documents
       → HaveBareLeaves schema.components t.rows → HasBareTypedLeaves t
   unfolding components_of
-  bare_typed schema t schema_is primitives_are leaves row name simple body is =
+  bare_typed schema t schema_is primitives_are leaves row name simple tried body is =
       subst (λ (ps : List Primitive). IsLeafOfType ps simple (slice_get t.rows body)) (sym primitives_are)
       (leaf_typed simple (slice_get t.rows body)
-      (subst (λ (s : Schema). IsLeafOf s.components simple (slice_get t.rows body)) schema_is (leaves row name simple body is)))
+      (subst (λ (s : Schema). IsLeafOf s.components simple (slice_get t.rows body)) schema_is (leaves row name simple tried body is)))
 
 -- neither fill nor a box nor a length prefix is told
 record IsBare (told : Judgement) : Type 0 where

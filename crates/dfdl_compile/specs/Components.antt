@@ -11,6 +11,7 @@ use Rattle.dfdl_components.specs.declared.site.Site.{Site}
 use Rattle.dfdl_components.specs.Recursion.{count_of, number_of}
 use Rattle.dfdl_components.specs.Sites.{role_of}
 use Rattle.dfdl_checks.specs.Numbers.{type_of}
+use Rattle.dfdl_checks.specs.declared.tried.OtherRepresentations.{OtherRepresentations}
 use Rattle.dfdl_checks.specs.declared.prefixes.PrefixForm.{PrefixForm}
 use Rattle.dfdl_checks.specs.declared.purpose.Purpose.{Purpose}
 use Rattle.dfdl_checks.specs.declared.subject.Breach.{Breach}
@@ -25,6 +26,7 @@ use Rattle.dfdl_breaches.specs.Elements.{place_of}
 use Rattle.dfdl_breaches.specs.Judging.{judgement_at}
 use Rattle.dfdl_terms.specs.declared.framing.Framing.{Framing}
 use Rattle.dfdl_terms.specs.declared.prefix.Prefix.{Prefix}
+use Rattle.dfdl_terms.specs.declared.representations.Representations.{Representations}
 use Rattle.dfdl_terms.specs.declared.row.Primitive.{Primitive}
 use Rattle.dfdl_rows.specs.Components.{Schema}
 use Rattle.dfdl_rows.specs.declared.component.ContentBox.{ContentBox}
@@ -32,7 +34,7 @@ use Rattle.dfdl_rows.specs.declared.component.ContentBox.TheVariants.{Unbounded,
 use Rattle.dfdl_rows.specs.declared.component.Component.{Component}
 use Rattle.dfdl_rows.specs.declared.component.Component.TheVariants.{Sequence, Reference, ComplexElement, SimpleElement}
 use Rattle.dfdl_rows.specs.declared.refusal.Refusal.{Refusal}
-use Rattle.dfdl_compile.specs.Primitives.{prefix_primitive_by, primitive_by}
+use Rattle.dfdl_compile.specs.Primitives.{empty_primitive_by, nil_primitive_by, prefix_primitive_by, primitive_by}
 
 -- the local name of an element
 abbrev pub element_name : List SchemaDocument → Site → List ℕ
@@ -42,6 +44,30 @@ element_name documents own = unwrap_or (attribute_of documents (declaration docu
 -- the same order.
 abbrev pub prefix_number : List SchemaDocument → Site → ℕ
 prefix_number documents own = count_of documents + number_of documents own
+
+-- The number of the primitive that an element's nil representation is read by: those of nil representations stand behind those of
+-- prefixes, in the same order.
+abbrev pub nil_number : List SchemaDocument → Site → ℕ
+nil_number documents own = count_of documents + prefix_number documents own
+
+-- The number of the primitive that an element's empty representation is read by: those of empty representations stand behind those
+-- of nil ones, in the same order.
+abbrev pub empty_number : List SchemaDocument → Site → ℕ
+empty_number documents own = count_of documents + nil_number documents own
+
+-- the number of a primitive, where there is one
+abbrev pub number_if : ℕ → Option Primitive → Option ℕ
+number_if number None = None
+number_if number (Some primitive) = Some number
+
+-- the representations of an element of which this is told, that are tried before its normal one, where the primitives of its nil and
+-- its empty one have these numbers
+abbrev pub tried_by : ℕ → ℕ → OtherRepresentations → Representations
+tried_by nil empty others = record {
+  nil = number_if nil others.nil;
+  empty = number_if empty others.empty;
+  are_several = others.are_several;
+}
 
 -- a length prefix whose primitive has this number
 abbrev pub prefix_by : ℕ → PrefixForm → Prefix
@@ -54,14 +80,16 @@ box_by None (Some prefix) = Prefixed prefix
 box_by None None = Unbounded
 
 -- an element or a group, of which this is its name, how its values lie in the data, its number, the fill and the box around its
--- content, and its length prefix
-abbrev pub component_by : List ℕ → Primitive → ℕ → Framing → Option ℕ → Option Prefix → Kind → Component
-component_by name primitive number framing size prefix kind.ComplexElement = ComplexElement name framing (box_by size prefix)
-component_by name primitive number framing size prefix (kind.SimpleElement simple) = SimpleElement name (type_of primitive) number framing prefix
-component_by name primitive number framing size prefix kind.UncarriedElement = SimpleElement name (type_of primitive) number framing prefix
-component_by name primitive number framing size prefix kind.Sequence = Sequence framing
-component_by name primitive number framing size prefix kind.Choice = Sequence framing
-component_by name primitive number framing size prefix (kind.PrefixNumber simple) = Sequence framing
+-- content, its length prefix, and the representations that are tried before its normal one
+abbrev pub component_by : List ℕ → Primitive → ℕ → Framing → Option ℕ → Option Prefix → Representations → Kind → Component
+component_by name primitive number framing size prefix tried kind.ComplexElement = ComplexElement name framing (box_by size prefix)
+component_by name primitive number framing size prefix tried (kind.SimpleElement simple) =
+    SimpleElement name (type_of primitive) number framing prefix tried
+component_by name primitive number framing size prefix tried kind.UncarriedElement =
+    SimpleElement name (type_of primitive) number framing prefix tried
+component_by name primitive number framing size prefix tried kind.Sequence = Sequence framing
+component_by name primitive number framing size prefix tried kind.Choice = Sequence framing
+component_by name primitive number framing size prefix tried (kind.PrefixNumber simple) = Sequence framing
 
 -- a group reference with this fill stands for the group that it names
 abbrev pub reference_by : Framing → Option Site → Component
@@ -73,7 +101,8 @@ abbrev pub component_of : List SchemaDocument → Site → Judgement → Role �
 component_of documents own judgement role.GroupReference = reference_by judgement.framing (referred documents own names.Group)
 component_of documents own judgement _ =
     component_by (element_name documents own) (primitive_by judgement) (number_of documents own) judgement.framing judgement.size
-    (option_map (prefix_by (prefix_number documents own)) judgement.prefix) (kind_at documents own)
+    (option_map (prefix_by (prefix_number documents own)) judgement.prefix)
+    (tried_by (nil_number documents own) (empty_number documents own) judgement.others) (kind_at documents own)
 
 -- what an element of the documents is, of which this is told
 abbrev pub component_with : List SchemaDocument → Site → Judgement → Component
@@ -112,6 +141,18 @@ primitive_at purpose documents own = primitive_by (judgement_at purpose document
 abbrev pub prefix_primitive_at : Purpose → List SchemaDocument → Site → Primitive
 prefix_primitive_at purpose documents own = prefix_primitive_by (judgement_at purpose documents own)
 
--- the primitives of the documents: those of their elements by the elements' numbers, and behind them those of their prefixes
+-- the primitive of the nil representation of an element of the documents
+abbrev pub nil_primitive_at : Purpose → List SchemaDocument → Site → Primitive
+nil_primitive_at purpose documents own = nil_primitive_by (judgement_at purpose documents own)
+
+-- the primitive of the empty representation of an element of the documents
+abbrev pub empty_primitive_at : Purpose → List SchemaDocument → Site → Primitive
+empty_primitive_at purpose documents own = empty_primitive_by (judgement_at purpose documents own)
+
+-- the primitives of the documents: those of their elements by the elements' numbers, and behind them, each in the same order, those
+-- of their prefixes, of their nil representations and of their empty ones
 unfoldable pub primitives_of : Purpose → List SchemaDocument → List Primitive
-primitives_of purpose documents = for_each documents (primitive_at purpose documents) ++ for_each documents (prefix_primitive_at purpose documents)
+primitives_of purpose documents =
+    for_each documents (primitive_at purpose documents)
+    ++ (for_each documents (prefix_primitive_at purpose documents)
+    ++ (for_each documents (nil_primitive_at purpose documents) ++ for_each documents (empty_primitive_at purpose documents)))

@@ -1,16 +1,18 @@
--- The primitives that the leaves of a schema and their length prefixes are read by: one of each for each element of its documents
--- ('Simple Types', 'Lengths').
+-- The primitives that the leaves of a schema, their length prefixes and their other representations are read by: one of each for
+-- each element of its documents ('Simple Types', 'Lengths', 'DFDL Data Syntax Grammar').
 use Rattle.std.specs.Prelude.{◌≡◌, ℕ, List, slice_get, Option, None, Some, unwrap_or}
 use Rattle.dfdl_forms.specs.declared.order.BitOrder.TheVariants.{MostFirst}
 use Rattle.dfdl_forms.specs.declared.order.ByteOrder.TheVariants.{Big}
 use Rattle.dfdl_forms.specs.declared.simple.Simple.{Simple}
 use Rattle.dfdl_forms.specs.declared.simple.Simple.TheVariants.{UnsignedByte}
 use Rattle.dfdl_terms.specs.Leaves.{ReadsBy}
-use Rattle.dfdl_terms.specs.Rows.{Table}
+use Rattle.dfdl_terms.specs.Rows.{IsWritten, Table}
+use Rattle.dfdl_terms.specs.declared.representations.Representations.{Representations}
 use Rattle.dfdl_terms.specs.declared.row.Primitive.{Primitive}
-use Rattle.dfdl_terms.specs.declared.row.Primitive.TheVariants.{Integer}
+use Rattle.dfdl_terms.specs.declared.row.Primitive.TheVariants.{Default, Integer}
 use Rattle.dfdl_terms.specs.declared.row.Row.{Row}
 use Rattle.dfdl_terms.specs.declared.row.Row.TheVariants.{Leaf, Elem, Group, Skip, Align, Boxed, PrefixedLeaf, PrefixedBox}
+use Rattle.dfdl_terms.specs.declared.text.DefaultForm.{DefaultForm}
 use Rattle.dfdl_checks.specs.Numbers.{type_of}
 use Rattle.dfdl_checks.specs.declared.prefixes.PrefixForm.{PrefixForm}
 use Rattle.dfdl_breaches.specs.declared.judgement.Judgement.{Judgement}
@@ -32,6 +34,18 @@ primitive_if (Some form) = form.primitive
 abbrev pub prefix_primitive_by : Judgement → Primitive
 prefix_primitive_by judgement = primitive_if judgement.prefix
 
+-- the primitive of the nil representation of an element of which this is told
+abbrev pub nil_primitive_by : Judgement → Primitive
+nil_primitive_by judgement = unwrap_or judgement.others.nil a_byte
+
+-- the primitive of the empty representation of an element of which this is told
+abbrev pub empty_primitive_by : Judgement → Primitive
+empty_primitive_by judgement = unwrap_or judgement.others.empty a_byte
+
+-- a text that no bits stand for is one of characters, as UTF-8
+abbrev pub HasWrittenText : Primitive → Type 0
+HasWrittenText primitive = (form : DefaultForm) → primitive ≡ Default form → IsWritten form.value
+
 -- there is a primitive, and its values are of the type
 abbrev pub IsOfType : Simple → Option Primitive → Type 0
 IsOfType simple None = ⊥
@@ -39,14 +53,14 @@ IsOfType simple (Some primitive) = type_of primitive ≡ simple
 
 -- the body of each simple element reads a value by a primitive of the element's type
 abbrev pub HasTypedLeaves : Table → Type 0
-HasTypedLeaves t = (row : ℕ) (name : List ℕ) (simple : Simple) (body : ℕ)
-    → slice_get t.rows row ≡ Some (Elem name (Some simple) body)
+HasTypedLeaves t = (row : ℕ) (name : List ℕ) (simple : Simple) (tried : Representations) (body : ℕ)
+    → slice_get t.rows row ≡ Some (Elem name (Some simple) tried body)
     → ReadsBy t.rows (λ prim. IsOfType simple (slice_get t.primitives prim)) body
 
 -- there is a row, and it is a leaf of a primitive of the type
 abbrev pub IsLeafOfType : List Primitive → Simple → Option Row → Type 0
 IsLeafOfType primitives simple (Some (Leaf prim)) = IsOfType simple (slice_get primitives prim)
-IsLeafOfType primitives simple (Some (Elem name other body)) = ⊥
+IsLeafOfType primitives simple (Some (Elem name other tried body)) = ⊥
 IsLeafOfType primitives simple (Some (Group children)) = ⊥
 IsLeafOfType primitives simple (Some (Skip bits)) = ⊥
 IsLeafOfType primitives simple (Some (Align bits)) = ⊥
@@ -57,5 +71,5 @@ IsLeafOfType primitives simple None = ⊥
 
 -- the body of each simple element is itself a leaf of a primitive of the element's type
 abbrev pub HasBareTypedLeaves : Table → Type 0
-HasBareTypedLeaves t = (row : ℕ) (name : List ℕ) (simple : Simple) (body : ℕ)
-    → slice_get t.rows row ≡ Some (Elem name (Some simple) body) → IsLeafOfType t.primitives simple (slice_get t.rows body)
+HasBareTypedLeaves t = (row : ℕ) (name : List ℕ) (simple : Simple) (tried : Representations) (body : ℕ)
+    → slice_get t.rows row ≡ Some (Elem name (Some simple) tried body) → IsLeafOfType t.primitives simple (slice_get t.rows body)

@@ -1,7 +1,7 @@
 // The components of a schema's documents.
-ghost use Rattle.std.specs.Prelude.{◌≡◌, ◌<◌, ◌++◌, ◌∷◌, [], length, map, All, IfOk, OnOk, IfErr, option_map};
+ghost use Rattle.std.specs.Prelude.{◌≡◌, ◌+◌, ◌<◌, ◌++◌, ◌∷◌, [], length, map, All, IfOk, OnOk, IfErr, option_map};
 ghost use Rattle.dfdl_order.specs.declared.fault.OrderFault.TheVariants.{OutOfMemory};
-ghost use Rattle.dfdl_components.specs.Recursion.{number_of};
+ghost use Rattle.dfdl_components.specs.Recursion.{count_of, number_of};
 ghost use Rattle.dfdl_components.specs.Sites.{IsSite};
 ghost use Rattle.dfdl_chains.specs.Kinds.{kind_at};
 ghost use Rattle.dfdl_chains.specs.Shown.{AreNumbers};
@@ -14,13 +14,13 @@ ghost use Rattle.dfdl_compile.specs.Primitives.{primitive_by};
 use crate::primitives::type_by;
 use dfdl_breaches::Judgement;
 use dfdl_chains::{Numbers, declaration, kind_at, parts_at, referred};
-use dfdl_checks::{Breach, Kind};
+use dfdl_checks::{Breach, Kind, OtherRepresentations};
 use dfdl_components::{ComponentKind, Schema, Site};
 use dfdl_constructs::{Role, plain};
 use dfdl_order::{OrderFault, Uses};
 use dfdl_report::Place;
 use dfdl_rows::{Component, ContentBox, Refusal};
-use dfdl_terms::{Framing, Prefix};
+use dfdl_terms::{Framing, Prefix, Primitive, Representations};
 use dfdl_value::TextValue;
 use std::alloc::{AllocError, Global};
 
@@ -48,6 +48,28 @@ fn prefix_by(number: u32, judgement: &Judgement) -> Option<Prefix>
     }
 }
 
+// The number of a primitive, where there is one.
+fn number_if(number: u32, primitive: &Option<Primitive>) -> Option<u32>
+    ensures { result ≡ spec.number_if number primitive.now }
+{
+    match primitive {
+        Some(_) => Some(number),
+        None => None,
+    }
+}
+
+// The representations that are tried before an element's normal one, where the primitives of its nil and its empty one have these
+// numbers.
+fn tried_by(nil: u32, empty: u32, others: &OtherRepresentations) -> Representations
+    ensures { result ≡ spec.tried_by nil empty others.now }
+{
+    Representations {
+        nil: number_if(nil, &others.nil),
+        empty: number_if(empty, &others.empty),
+        are_several: others.are_several,
+    }
+}
+
 // The box around the content of a complex element, of so many bits or with this prefix.
 fn box_by(size: Option<u64>, prefix: Option<Prefix>) -> ContentBox
     ensures { result ≡ spec.box_by size prefix }
@@ -61,15 +83,17 @@ fn box_by(size: Option<u64>, prefix: Option<Prefix>) -> ContentBox
     }
 }
 
-// An element or a group of this name, of which this is told, with the number of its primitive and its length prefix.
+// An element or a group of this name, of which this is told, with the number of its primitive, its length prefix and the
+// representations that are tried before its normal one.
 fn component_by(
     name: TextValue,
     judgement: &Judgement,
     prim: u32,
     prefix: Option<Prefix>,
+    tried: Representations,
     kind: Kind,
 ) -> Component
-    ensures { result ≡ spec.component_by name (primitive_by judgement.now) prim judgement.now.framing judgement.now.size prefix kind }
+    ensures { result ≡ spec.component_by name (primitive_by judgement.now) prim judgement.now.framing judgement.now.size prefix tried kind }
 {
     let simple = type_by(judgement);
     let framing = judgement.framing;
@@ -85,6 +109,7 @@ fn component_by(
             prim,
             framing,
             prefix,
+            tried,
         },
         Kind::UncarriedElement => Component::SimpleElement {
             name,
@@ -92,6 +117,7 @@ fn component_by(
             prim,
             framing,
             prefix,
+            tried,
         },
         Kind::Sequence => Component::Sequence { framing },
         Kind::Choice => Component::Sequence { framing },
@@ -109,16 +135,52 @@ fn reference_by(framing: Framing, group: Option<Site>) -> Component
     }
 }
 
-// The number of the primitive of an element's length prefix. There is no memory for 2^32 primitives.
-fn prefix_number(schema: &Schema, numbers: &Numbers, site: Site) -> Result<u32, AllocError>
-    requires site { IsSite schema.now site }
-    requires numbers { AreNumbers schema.now numbers.now }
-    ensures { IfOk result (λ number. number ≡ spec.prefix_number schema.now site) }
+// The number of the primitive that stands so many behind this one as there are elements. There is no memory for 2^32
+// primitives.
+fn one_list_behind(schema: &Schema, numbers: &Numbers, number: u32) -> Result<u32, AllocError>
+    requires { AreNumbers schema.now numbers.now }
+    ensures { IfOk result (λ behind. behind ≡ count_of schema.now + number) }
 {
-    match numbers.count().checked_add(numbers.number(schema, site)) {
-        Some(number) => Ok(number),
+    let _ = schema;
+    match numbers.count().checked_add(number) {
+        Some(behind) => Ok(behind),
         None => Err(AllocError),
     }
+}
+
+// The numbers of an element's primitives: of its own, of that of its length prefix, and of those of its nil and its empty
+// representation.
+#[derive(Clone, Copy)]
+struct PrimitiveNumbers {
+    own: u32,
+    prefix: u32,
+    nil: u32,
+    empty: u32,
+}
+
+// Those of an element of the documents.
+fn primitive_numbers(
+    schema: &Schema,
+    numbers: &Numbers,
+    site: Site,
+) -> Result<PrimitiveNumbers, AllocError>
+    requires site { IsSite schema.now site }
+    requires numbers { AreNumbers schema.now numbers.now }
+    ensures own { IfOk result (λ found. found.own ≡ number_of schema.now site) }
+    ensures prefix { IfOk result (λ found. found.prefix ≡ spec.prefix_number schema.now site) }
+    ensures nil { IfOk result (λ found. found.nil ≡ spec.nil_number schema.now site) }
+    ensures empty { IfOk result (λ found. found.empty ≡ spec.empty_number schema.now site) }
+{
+    let own = numbers.number(schema, site);
+    let prefix = one_list_behind(schema, numbers, own)?;
+    let nil = one_list_behind(schema, numbers, prefix)?;
+    let empty = one_list_behind(schema, numbers, nil)?;
+    Ok(PrimitiveNumbers {
+        own,
+        prefix,
+        nil,
+        empty,
+    })
 }
 
 // What an element of the documents is, by its role.
@@ -141,10 +203,11 @@ fn component_of(
         }
         _ => {
             let name = element_name(alloc, schema, site)?;
-            let number = numbers.number(schema, site);
-            let prefix = prefix_by(prefix_number(schema, numbers, site)?, judgement);
+            let found = primitive_numbers(schema, numbers, site)?;
+            let prefix = prefix_by(found.prefix, judgement);
+            let tried = tried_by(found.nil, found.empty, &judgement.others);
             let kind = kind_at(schema, numbers, site);
-            Ok(component_by(name, judgement, number, prefix, kind))
+            Ok(component_by(name, judgement, found.own, prefix, tried, kind))
         }
     }
 }

@@ -9,6 +9,8 @@ mod compiling;
 mod fault;
 mod gathering;
 mod primitives;
+#[cfg(test)]
+mod tests;
 
 pub use compiling::{compile, compile_for_unparse};
 pub use fault::CompileFault;

@@ -1,11 +1,12 @@
-// The primitives that the leaves of a schema and their length prefixes are read by.
-ghost use Rattle.std.specs.Prelude.{◌≡◌, ◌++◌, IfOk, map, unwrap_or};
+// The primitives that the leaves of a schema, their length prefixes and their other representations are read by.
+ghost use Rattle.std.specs.Prelude.{◌≡◌, ◌++◌, All, IfOk, map, unwrap_or};
 ghost use Rattle.dfdl_checks.specs.Numbers as numbers;
 ghost use Rattle.dfdl_compile.specs.Primitives as spec;
 
 use dfdl_breaches::Judgement;
 use dfdl_checks::PrefixForm;
 use dfdl_forms::{BitOrder, ByteOrder, IntForm, Simple};
+use dfdl_terms::row::default_is_written;
 use dfdl_terms::{Primitive, Tables, TextContent};
 use std::alloc::{AllocError, Global};
 
@@ -31,6 +32,7 @@ fn text_type(content: &TextContent) -> Simple
         TextContent::Number { kind, .. } => *kind,
         TextContent::Zoned(form) => form.kind,
         TextContent::Truth(_) => Simple::Boolean,
+        TextContent::Nil(_) => Simple::String,
     }
 }
 
@@ -44,6 +46,8 @@ fn type_of(primitive: &Primitive) -> Simple
         Primitive::Truth(_) => Simple::Boolean,
         Primitive::Octets(_) => Simple::HexBinary,
         Primitive::Text(form) => text_type(&form.content),
+        Primitive::NilOctets(_) => Simple::HexBinary,
+        Primitive::Default(_) => Simple::HexBinary,
     }
 }
 
@@ -57,7 +61,7 @@ pub(crate) fn type_by(judgement: &Judgement) -> Simple
     }
 }
 
-// The primitive of an element, or the one that stands for none.
+// The primitive of an element or of one of its representations, or the one that stands for none.
 fn primitive_or_byte(primitive: Option<Primitive>) -> Primitive
     ensures { result ≡ unwrap_or primitive spec.a_byte }
 {
@@ -77,21 +81,72 @@ fn primitive_if(prefix: Option<PrefixForm>) -> Primitive
     }
 }
 
-/// The primitives of elements of which this is told, and behind them those of their length prefixes.
-pub(crate) fn tables(alloc: Global, judgements: Vec<Judgement>) -> Result<Tables, AllocError>
-    ensures { IfOk result (λ tables. tables ≡ map spec.primitive_by judgements.items ++ map spec.prefix_primitive_by judgements.items) }
+// The texts that no bits stand for are texts of characters. The call changes nothing.
+fn texts_are_written(primitives: &[Primitive])
+    ensures { All spec.HasWrittenText primitives.now }
 {
-    let mut primitives = Vec::new(alloc);
+    for primitive in primitives {
+        default_is_written(primitive);
+    }
+}
+
+// The primitives of some elements: those of their values, and of their prefixes and other representations.
+#[derive(Drop)]
+struct PrimitiveLists {
+    own: Vec<Primitive>,
+    prefixes: Vec<Primitive>,
+    nils: Vec<Primitive>,
+    empties: Vec<Primitive>,
+}
+
+// Those of elements of which this is told.
+fn lists_of(alloc: Global, judgements: Vec<Judgement>) -> Result<PrimitiveLists, AllocError>
+    ensures own { IfOk result (λ lists. lists.own.items ≡ map spec.primitive_by judgements.items) }
+    ensures prefixes { IfOk result (λ lists. lists.prefixes.items ≡ map spec.prefix_primitive_by judgements.items) }
+    ensures nils { IfOk result (λ lists. lists.nils.items ≡ map spec.nil_primitive_by judgements.items) }
+    ensures empties { IfOk result (λ lists. lists.empties.items ≡ map spec.empty_primitive_by judgements.items) }
+{
+    let mut own = Vec::new(alloc);
     let mut prefixes = Vec::new(alloc);
+    let mut nils = Vec::new(alloc);
+    let mut empties = Vec::new(alloc);
     for judgement in judgements {
         let Judgement {
             primitive,
             prefix,
+            others,
             ..
         } = judgement;
-        primitives.push(primitive_or_byte(primitive))?;
+        own.push(primitive_or_byte(primitive))?;
         prefixes.push(primitive_if(prefix))?;
+        nils.push(primitive_or_byte(others.nil))?;
+        empties.push(primitive_or_byte(others.empty))?;
     }
-    primitives.append(&mut prefixes)?;
-    Ok(Tables::new(primitives))
+    Ok(PrimitiveLists {
+        own,
+        prefixes,
+        nils,
+        empties,
+    })
+}
+
+/// The primitives of elements of which this is told, and behind them those of their length prefixes, of their nil
+/// representations and of their empty ones.
+pub(crate) fn tables(alloc: Global, judgements: Vec<Judgement>) -> Result<Tables, AllocError>
+    ensures tables { IfOk result (λ tables. tables ≡ map spec.primitive_by judgements.items
+        ++ (map spec.prefix_primitive_by judgements.items
+        ++ (map spec.nil_primitive_by judgements.items ++ map spec.empty_primitive_by judgements.items))) }
+    ensures written { IfOk result (All spec.HasWrittenText) }
+{
+    let PrimitiveLists {
+        mut own,
+        mut prefixes,
+        mut nils,
+        mut empties,
+    } = lists_of(alloc, judgements)?;
+    nils.append(&mut empties)?;
+    prefixes.append(&mut nils)?;
+    own.append(&mut prefixes)?;
+    texts_are_written(own.as_slice());
+    Ok(Tables::new(own))
 }

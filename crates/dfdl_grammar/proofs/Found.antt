@@ -13,14 +13,16 @@ use Rattle.dfdl_number_text.specs.declared.fault.NumberFault.{NumberFault}
 use Rattle.dfdl_number_text.specs.declared.fault.NumberFault.TheVariants as fault
 use Rattle.dfdl_value.specs.declared.value.Value.{Value}
 use Rattle.dfdl_value.specs.declared.value.Value.TheVariants.{Int, Uns, Dec, Text, Truth as TruthValue, Bytes}
-use Rattle.dfdl_report.specs.declared.cause.ParseCause.TheVariants.{DataEnds, NotFilled}
+use Rattle.dfdl_report.specs.declared.cause.ParseCause.TheVariants.{DataEnds, NotFilled, RequiredEmpty}
 use Rattle.dfdl_terms.specs.declared.row.Primitive.{Primitive}
-use Rattle.dfdl_terms.specs.declared.row.Primitive.TheVariants.{Integer, Packed, Truth, Octets, Text as Characters}
+use Rattle.dfdl_terms.specs.declared.row.Primitive.TheVariants.{Integer, Packed, Truth, Octets, Text as Characters, NilOctets, Default}
 use Rattle.dfdl_region.specs.declared.node.Content.{Content}
 use Rattle.dfdl_region.specs.declared.node.Content.TheVariants.{Begun}
+use Rattle.dfdl_terms.specs.declared.text.DefaultForm.{DefaultForm}
+use Rattle.dfdl_terms.specs.declared.text.NilForm.{NilForm}
 use Rattle.dfdl_terms.specs.declared.text.OctetForm.{OctetForm}
 use Rattle.dfdl_terms.specs.declared.text.TextContent.{TextContent}
-use Rattle.dfdl_terms.specs.declared.text.TextContent.TheVariants.{Plain, Number, Zoned, Truth as TextTruth}
+use Rattle.dfdl_terms.specs.declared.text.TextContent.TheVariants.{Plain, Number, Zoned, Truth as TextTruth, Nil}
 use Rattle.dfdl_terms.specs.declared.text.TextForm.{TextForm}
 use Rattle.dfdl_terms.specs.declared.text.TextSize.{TextSize}
 use Rattle.dfdl_terms.specs.declared.text.TextSize.TheVariants.{Bits, Characters as Counted}
@@ -33,8 +35,9 @@ use Rattle.dfdl_looks.specs.Looks.{seen_in}
 use Rattle.dfdl_looks.specs.Tallies.{Tally, nothing, saw_byte, saw_end}
 use Rattle.dfdl_looks.proofs.Resumed.{on_seen}
 use Rattle.dfdl_looks.proofs.Sequels.{ask-then}
-use Rattle.dfdl_grammar.specs.Leaves.{Find, Fails, Finds, FindsOctets, bits_of, bytes_spanned, field, content_find, find_in, find_of, number_find, packed_find, program, text_begins, text_behind, text_find, text_of_size, truth_find}
+use Rattle.dfdl_grammar.specs.Leaves.{Find, Fails, Finds, FindsOctets, FindsText, bits_of, bytes_spanned, content_find, default_find, field, find_in, find_of, is_no_size, nil_find, nil_octets_find, number_find, octets, packed_find, program, text_begins, text_behind, text_find, text_of_size, truth_find}
 use Rattle.dfdl_grammar.specs.Framing.{aligned}
+use Rattle.dfdl_grammar.specs.Nils.{are_nil, is_nil}
 
 -- what a program over a stretch finds is what it makes of some bytes
 pub record Made (go : List ℕ → Find) (found : Find) : Type 0 where
@@ -81,12 +84,25 @@ number_read end (Ok v) content n is unread = read_of end (Some v) content n is u
 number_read end (Err fault.NotANumber) content n is unread = absurd (cc)
 number_read end (Err fault.PastType) content n is unread = absurd (cc)
 
+nil_read : (end : ℕ) (nil : Bool) (content : Content) (n : ℕ) → nil_find end nil ≡ Finds content n → content ≡ Begun → ⊥
+nil_read end true content n is unread = absurd (cc)
+nil_read end false content n is unread = absurd (cc)
+
+default_read : (bit : ℕ) (v : Value) (content : Content) (n : ℕ) → default_find bit v ≡ Finds content n → content ≡ Begun → ⊥
+default_read bit (Int z) content n is unread = absurd (cc)
+default_read bit (Uns number) content n is unread = absurd (cc)
+default_read bit (Dec d) content n is unread = absurd (cc)
+default_read bit (Text text) content n is unread = absurd (cc)
+default_read bit (TruthValue truth) content n is unread = absurd (cc)
+default_read bit (Bytes bytes) content n is unread = absurd (cc)
+
 -- nor is what characters are found as
 content_read : (read : TextContent) (chars : List ℕ) (end : ℕ) (content : Content) (n : ℕ) → content_find read chars end ≡ Finds content n → content ≡ Begun → ⊥
 content_read Plain chars end content n is unread = absurd (cc)
 content_read (Number form kind) chars end content n is unread = number_read end (number_reading form kind chars) content n is unread
 content_read (Zoned form) chars end content n is unread = packed_read end (zoned_reading form chars) content n is unread
 content_read (TextTruth form) chars end content n is unread = truth_read end (truth_of form chars) content n is unread
+content_read (Nil form) chars end content n is unread = nil_read end (is_nil form chars) content n is unread
 
 -- nor what the leaf of a primitive finds in its bytes
 found_read : (primitive : Primitive) (bit : ℕ) (bytes : List ℕ) (content : Content) (n : ℕ) → find_in primitive bit bytes ≡ Finds content n → content ≡ Begun → ⊥
@@ -98,6 +114,8 @@ found_read (Truth form) bit bytes content n is unread =
     truth_read (bit + form.bits) (truth_reading form (truth_field_of form bytes (bit % 8))) content n is unread
 found_read (Octets form) bit bytes content n is unread = absurd (cc)
 found_read (Characters form) bit bytes content n is unread = absurd (cc)
+found_read (NilOctets form) bit bytes content n is unread = absurd (cc)
+found_read (Default form) bit bytes content n is unread = absurd (cc)
 
 -- what is found of a primitive is a value
 field_value : (look : ℕ → Seen) (primitive : Primitive) (bit : ℕ) (content : Content) (to : ℕ)
@@ -153,6 +171,34 @@ sized_value form (Bits n) bit stop look content to is unread =
 sized_value form (Counted n) bit stop look content to is unread =
     then_value form bit look content to (text_at form.encoding form.replaces (extent.Characters n) stop (aligned 8 bit / 8)) is unread
 
+-- what is found of bytes that have to be nil is nil
+nil_octets_read : (form : NilForm) (find : Find) (content : Content) (n : ℕ) → nil_octets_find form find ≡ Finds content n → content ≡ Begun → ⊥
+nil_octets_read form (Fails cause) content n is unread = absurd (cc)
+nil_octets_read form (Finds other end) content n is unread = absurd (cc)
+nil_octets_read form (FindsOctets bytes end) content n is unread = nil_read end (are_nil form bytes) content n is unread
+nil_octets_read form (FindsText bytes end) content n is unread = absurd (cc)
+
+nil_octets_value : (form : NilForm) (look : ℕ → Seen) (content : Content) (to : ℕ) (r : Reached Find) (t : Tally)
+    → (go_on look (λ (find : Find). Answer (nil_octets_find form find)) r t).reached ≡ Told (Finds content to) → content ≡ Begun → ⊥
+nil_octets_value form look content to (Told find) t is unread =
+    nil_octets_read form find content to (told_one (nil_octets_find form find) (Finds content to) is) unread
+nil_octets_value form look content to TooFar t is unread = absurd (cc)
+nil_octets_value form look content to Missing t is unread = absurd (cc)
+
+then_nil_octets : (form : NilForm) (look : ℕ → Seen) (content : Content) (to : ℕ) (a : Ask Find)
+    → (ask look (and_then a (λ (find : Find). Answer (nil_octets_find form find))) nothing).reached ≡ Told (Finds content to) → content ≡ Begun → ⊥
+then_nil_octets form look content to a is unread =
+    let whole = ask-then look (λ (find : Find). Answer (nil_octets_find form find)) a nothing in
+    nil_octets_value form look content to (ask look a nothing).reached (ask look a nothing).tally
+    (sym (ap (λ (r : Reading Find). r.reached) whole) ∙ is) unread
+
+-- and what is found of no bits is a value
+default_value : (form : DefaultForm) (bit : ℕ) (look : ℕ → Seen) (content : Content) (to : ℕ) (none : Bool)
+    → (ask look (Answer (cond none (default_find bit form.value) (Fails RequiredEmpty))) nothing).reached ≡ Told (Finds content to) → content ≡ Begun → ⊥
+default_value form bit look content to true is unread =
+    default_read bit form.value content to (told_one (default_find bit form.value) (Finds content to) is) unread
+default_value form bit look content to false is unread = absurd (cc)
+
 -- what a leaf finds is a value, if it is no bytes
 pub value : (look : ℕ → Seen) (primitive : Primitive) (bit stop : ℕ) (content : Content) (to : ℕ)
     → (ask look (program primitive bit stop) nothing).reached ≡ Told (Finds content to) → content ≡ Begun → ⊥
@@ -162,6 +208,8 @@ value look (Truth form) bit stop content to is unread = field_value look (Truth 
 value look (Octets form) bit stop content to is unread =
     octets_value look form bit content to (nat_eq form.bits 0) (nat_eq (form.bits % 8) 0) is unread
 value look (Characters form) bit stop content to is unread = sized_value form form.size bit stop look content to is unread
+value look (NilOctets form) bit stop content to is unread = then_nil_octets form.nil look content to (octets form.octets bit) is unread
+value look (Default form) bit stop content to is unread = default_value form bit look content to (is_no_size form.size) is unread
 
 -- whole data have no byte that hasn't come
 no-missing : {F : Type 0} (bytes : List ℕ) (size low : ℕ) (go : Option ℕ → Ask F) (k : ℕ) (t : Tally)

@@ -18,18 +18,21 @@ use Rattle.dfdl_number_text.specs.declared.fault.NumberFault.TheVariants as faul
 use Rattle.dfdl_value.specs.declared.value.Value.{Value}
 use Rattle.dfdl_value.specs.declared.value.Value.TheVariants.{Int, Uns, Dec, Text as TextValue, Truth as TruthValue, Bytes}
 use Rattle.dfdl_report.specs.declared.cause.LimitCause.TheVariants.{Nodes, Text as TextLimit}
-use Rattle.dfdl_report.specs.declared.cause.ParseCause.TheVariants.{DataEnds, LengthOutOfRange, NotFilled}
+use Rattle.dfdl_report.specs.declared.cause.ParseCause.TheVariants.{DataEnds, LengthOutOfRange, NotFilled, RequiredEmpty}
+use Rattle.dfdl_terms.specs.declared.representations.Representations.{Representations}
 use Rattle.dfdl_terms.specs.declared.row.Primitive.{Primitive}
-use Rattle.dfdl_terms.specs.declared.row.Primitive.TheVariants.{Integer, Packed, Truth, Octets, Text as Characters}
+use Rattle.dfdl_terms.specs.declared.row.Primitive.TheVariants.{Integer, Packed, Truth, Octets, Text as Characters, NilOctets, Default}
 use Rattle.dfdl_terms.specs.declared.row.Row.{Row}
 use Rattle.dfdl_terms.specs.declared.row.Row.TheVariants.{Leaf, Elem, Group, Skip, Align, Boxed, PrefixedLeaf, PrefixedBox}
+use Rattle.dfdl_terms.specs.declared.text.DefaultForm.{DefaultForm}
+use Rattle.dfdl_terms.specs.declared.text.NilForm.{NilForm}
 use Rattle.dfdl_terms.specs.declared.text.OctetForm.{OctetForm}
 use Rattle.dfdl_terms.specs.declared.text.TextContent.{TextContent}
-use Rattle.dfdl_terms.specs.declared.text.TextContent.TheVariants.{Plain, Number, Zoned, Truth as TextTruth}
+use Rattle.dfdl_terms.specs.declared.text.TextContent.TheVariants.{Plain, Number, Zoned, Truth as TextTruth, Nil}
 use Rattle.dfdl_terms.specs.declared.text.TextForm.{TextForm}
 use Rattle.dfdl_terms.specs.declared.text.TextSize.{TextSize}
 use Rattle.dfdl_terms.specs.declared.text.TextSize.TheVariants.{Bits, Characters as Counted}
-use Rattle.dfdl_terms.specs.Rows.{Table}
+use Rattle.dfdl_terms.specs.Rows.{IsPrimitive, IsWritten, Table}
 use Rattle.dfdl_texts.specs.Texts.{Text as TextRead, Reads as DoesRead, HasBad, IsCut, IsBoxed, text_at}
 use Rattle.dfdl_texts.specs.declared.extent.Extent.{Extent}
 use Rattle.dfdl_texts.specs.declared.extent.Extent.TheVariants as extent
@@ -49,17 +52,20 @@ use Rattle.dfdl_looks.specs.Tallies.{Tally, nothing}
 use Rattle.dfdl_looks.proofs.Sequels.{ask-then}
 use Rattle.dfdl_grammar.specs.declared.end.End.{End}
 use Rattle.dfdl_grammar.specs.declared.end.End.TheVariants.{Done, Failed, Stopped}
-use Rattle.dfdl_grammar.specs.States.{Input, State, anchor, anchor_at, front}
+use Rattle.dfdl_grammar.specs.States.{Input, State, anchor, anchor_at, front, read_by}
 use Rattle.dfdl_grammar.specs.Outcomes.{Outcome, ended, follow, spend, then_do}
-use Rattle.dfdl_grammar.specs.Leaves.{Find, Fails, Finds, FindsOctets, FindsText, bits_of, bytes_spanned, content_begins, content_find, field, find_in, find_of, has_room, land, leaf, number_find, packed_find, program, text_begins, text_behind, text_find, text_of_size, truth_find}
+use Rattle.dfdl_grammar.specs.Leaves.{Find, Fails, Finds, FindsOctets, FindsText, bits_of, bytes_spanned, content_begins, content_find, default_find, field, find_in, find_of, has_room, is_no_size, land, leaf, nil_find, nil_octets_find, number_find, octets, packed_find, program, text_begins, text_behind, text_find, text_of_size, truth_find}
 use Rattle.dfdl_grammar.specs.Framing.{aligned, fill_to, has_byte, passed}
 use Rattle.dfdl_grammar.specs.Boxes.{boxed, bytes_up_to, pass_bytes, past_byte, rest as rest_of, unboxed}
-use Rattle.dfdl_grammar.specs.Elements.{begun, close, has_elements, left}
+use Rattle.dfdl_grammar.specs.Elements.{attempted, begun, close, element, has_elements, left}
+use Rattle.dfdl_grammar.specs.Nils.{are_nil, is_nil}
 use Rattle.dfdl_grammar.specs.Prefixes.{bits_of_units, leaf_of, prefixed, resized, size_of, sized_leaf}
 use Rattle.dfdl_grammar.specs.Rows.{below, group, meaning, row, row_at}
 use Rattle.dfdl_grammar.proofs.Found.{made, told_one}
-use Rattle.dfdl_grammar.proofs.Holding.{both_have, content-has, last-bytes, text-more, trimmed-scalars, utf8}
+use Rattle.dfdl_grammar.proofs.Going.{Goes, below-goes, tried-returns}
+use Rattle.dfdl_grammar.proofs.Holding.{both_have, content-has, first_has, last-bytes, rest_has, text-more, trimmed-scalars, utf8}
 use Rattle.dfdl_grammar.proofs.Prefixed.{prefixed-comes}
+use Rattle.dfdl_grammar.proofs.Represented.{marked_by, represented-comes}
 
 -- what a leaf finds has bytes that can be held as a string's, if it is one
 abbrev IsHeld : Find → Type 0
@@ -91,11 +97,16 @@ text-number-held end (Ok v) = number-held end (Some v)
 text-number-held end (Err fault.NotANumber) = tt
 text-number-held end (Err fault.PastType) = tt
 
+nil-held : (end : ℕ) (nil : Bool) → IsHeld (nil_find end nil)
+nil-held end true = λ bytes. tt
+nil-held end false = tt
+
 content-held : (read : TextContent) (chars : List ℕ) (end : ℕ) → IsUtf8 (utf8_of chars) → IsHeld (content_find read chars end)
 content-held Plain chars end kept = kept
 content-held (Number form kind) chars end kept = text-number-held end (number_reading form kind chars)
 content-held (Zoned form) chars end kept = packed-held end (zoned_reading form chars)
 content-held (TextTruth form) chars end kept = truth-held end (truth_of form chars)
+content-held (Nil form) chars end kept = nil-held end (is_nil form chars)
 
 found-held : (primitive : Primitive) (bit : ℕ) (bytes : List ℕ) → IsHeld (find_in primitive bit bytes)
 found-held (Integer form) bit bytes = number-held (bit + form.bits) (integer_reading form (field_of form bytes (bit % 8)))
@@ -103,6 +114,74 @@ found-held (Packed form) bit bytes = packed-held (bit + 4 * form.nibbles) (packe
 found-held (Truth form) bit bytes = truth-held (bit + form.bits) (truth_reading form (truth_field_of form bytes (bit % 8)))
 found-held (Octets form) bit bytes = tt
 found-held (Characters form) bit bytes = IsUtf8-nil
+found-held (NilOctets form) bit bytes = tt
+found-held (Default form) bit bytes = tt
+
+-- a value that is written, in a box without bits
+default-held : (bit : ℕ) (v : Value) → IsWritten v → IsHeld (default_find bit v)
+default-held bit (Int z) written = λ bytes. tt
+default-held bit (Uns n) written = λ bytes. tt
+default-held bit (Dec d) written = λ bytes. tt
+default-held bit (TextValue text) written = written
+default-held bit (TruthValue truth) written = λ bytes. tt
+default-held bit (Bytes octets) written = tt
+
+-- bytes that have to be nil
+nil-octets-held : (form : NilForm) (find : Find) → IsHeld (nil_octets_find form find)
+nil-octets-held form (Fails cause) = tt
+nil-octets-held form (Finds content end) = tt
+nil-octets-held form (FindsOctets bytes end) = nil-held end (are_nil form bytes)
+nil-octets-held form (FindsText bytes end) = tt
+
+-- the value that a primitive stands for is written
+abbrev IsSound : Primitive → Type 0
+IsSound (Integer form) = Unit {0}
+IsSound (Packed form) = Unit {0}
+IsSound (Truth form) = Unit {0}
+IsSound (Octets form) = Unit {0}
+IsSound (Characters form) = Unit {0}
+IsSound (NilOctets form) = Unit {0}
+IsSound (Default form) = IsWritten form.value
+
+-- the same of one that there may be
+abbrev IsSoundOr : Option Primitive → Type 0
+IsSoundOr None = Unit {0}
+IsSoundOr (Some primitive) = IsSound primitive
+
+sound : (primitive : Primitive) → IsPrimitive primitive → IsSound primitive
+sound (Integer form) is = tt
+sound (Packed form) is = tt
+sound (Truth form) is = tt
+sound (Octets form) is = tt
+sound (Characters form) is = tt
+sound (NilOctets form) is = tt
+sound (Default form) is = is.value
+
+sound-at : (primitives : List Primitive) (prim : ℕ) → All IsPrimitive primitives → IsSoundOr (slice_get primitives prim)
+sound-at [] prim all = tt
+sound-at (primitive ∷ rest) zero all = sound primitive (first_has IsPrimitive primitive rest all)
+sound-at (primitive ∷ rest) (suc prim) all = sound-at rest prim (rest_has IsPrimitive primitive rest all)
+
+sound-if : (test : Bool) (primitive : Primitive) → IsSound primitive → IsSoundOr (cond test (Some primitive) None)
+sound-if true primitive is = is
+sound-if false primitive is = tt
+
+-- another size changes nothing of that
+resized-sound : (size : TextSize) (primitive : Primitive) → IsSound primitive → IsSoundOr (resized size primitive)
+resized-sound (Bits n) (Integer form) is = sound-if _ (Integer (record form { bits = n })) tt
+resized-sound (Bits n) (Packed form) is = sound-if _ (Packed (record form { nibbles = n / 4 })) tt
+resized-sound (Bits n) (Truth form) is = sound-if _ (Truth (record form { bits = n })) tt
+resized-sound (Bits n) (Octets form) is = tt
+resized-sound (Bits n) (Characters form) is = tt
+resized-sound (Bits n) (NilOctets form) is = tt
+resized-sound (Bits n) (Default form) is = is
+resized-sound (Counted n) (Integer form) is = tt
+resized-sound (Counted n) (Packed form) is = tt
+resized-sound (Counted n) (Truth form) is = tt
+resized-sound (Counted n) (Octets form) is = tt
+resized-sound (Counted n) (Characters form) is = tt
+resized-sound (Counted n) (NilOctets form) is = tt
+resized-sound (Counted n) (Default form) is = is
 
 -- whether a find is that the data end
 ends-or : (found : Find) → IsHeld found ⊎ (Fails DataEnds ≡ found → ⊥)
@@ -178,13 +257,36 @@ module _ (input : Input) (small : All (λ b. b < 256) input.bytes) where
   octets-held size low form bit found false true is = field-held (seen_in input.bytes size low) (Octets form) bit found is
   octets-held size low form bit found false false is = let same : Fails NotFilled ≡ found = cc in subst IsHeld same tt
 
-  program-held : (size low : ℕ) (primitive : Primitive) (bit stop : ℕ) (found : Find)
+  nil-then-held : (look : ℕ → Seen) (form : NilForm) (r : Reached Find) (t : Tally) (found : Find)
+      → (go_on look (λ (find : Find). Answer (nil_octets_find form find)) r t).reached ≡ Told found → IsHeld found
+  nil-then-held look form (Told find) t found is = subst IsHeld (told_one (nil_octets_find form find) found is) (nil-octets-held form find)
+  nil-then-held look form TooFar t found is = absurd (cc)
+  nil-then-held look form Missing t found is = absurd (cc)
+
+  nil-bytes-held : (look : ℕ → Seen) (form : NilForm) (a : Ask Find) (found : Find)
+      → (ask look (and_then a (λ (find : Find). Answer (nil_octets_find form find))) nothing).reached ≡ Told found → IsHeld found
+  nil-bytes-held look form a found is =
+      let whole = ask-then look (λ (find : Find). Answer (nil_octets_find form find)) a nothing in
+      nil-then-held look form (ask look a nothing).reached (ask look a nothing).tally found
+      (sym (ap (λ (r : Reading Find). r.reached) whole) ∙ is)
+
+  no-bits-held : (look : ℕ → Seen) (form : DefaultForm) (bit : ℕ) (found : Find) (none : Bool) → IsWritten form.value
+      → (ask look (Answer (cond none (default_find bit form.value) (Fails RequiredEmpty))) nothing).reached ≡ Told found → IsHeld found
+  no-bits-held look form bit found true written is =
+      subst IsHeld (told_one (default_find bit form.value) found is) (default-held bit form.value written)
+  no-bits-held look form bit found false written is = subst IsHeld (told_one (Fails RequiredEmpty) found is) tt
+
+  program-held : (size low : ℕ) (primitive : Primitive) → IsSound primitive → (bit stop : ℕ) (found : Find)
       → (ask (seen_in input.bytes size low) (program primitive bit stop) nothing).reached ≡ Told found → IsHeld found
-  program-held size low (Integer form) bit stop found is = field-held (seen_in input.bytes size low) (Integer form) bit found is
-  program-held size low (Packed form) bit stop found is = field-held (seen_in input.bytes size low) (Packed form) bit found is
-  program-held size low (Truth form) bit stop found is = field-held (seen_in input.bytes size low) (Truth form) bit found is
-  program-held size low (Octets form) bit stop found is = octets-held size low form bit found (nat_eq form.bits 0) (nat_eq (form.bits % 8) 0) is
-  program-held size low (Characters form) bit stop found is = sized-held size low form form.size bit stop found is
+  program-held size low (Integer form) good bit stop found is = field-held (seen_in input.bytes size low) (Integer form) bit found is
+  program-held size low (Packed form) good bit stop found is = field-held (seen_in input.bytes size low) (Packed form) bit found is
+  program-held size low (Truth form) good bit stop found is = field-held (seen_in input.bytes size low) (Truth form) bit found is
+  program-held size low (Octets form) good bit stop found is = octets-held size low form bit found (nat_eq form.bits 0) (nat_eq (form.bits % 8) 0) is
+  program-held size low (Characters form) good bit stop found is = sized-held size low form form.size bit stop found is
+  program-held size low (NilOctets form) good bit stop found is =
+      nil-bytes-held (seen_in input.bytes size low) form.nil (octets form.octets bit) found is
+  program-held size low (Default form) good bit stop found is =
+      no-bits-held (seen_in input.bytes size low) form bit found (is_no_size form.size) good is
 
   abbrev Has : State → Type 0
   Has s = HaveTexts s.nodes s.text
@@ -220,28 +322,28 @@ module _ (input : Input) (small : All (λ b. b < 256) input.bytes) where
   land-keeps first TooFar held s has = has
   land-keeps first Missing held s has = has
 
-  room-keeps : (primitive : Primitive) (s : State) → Has s → (room : Bool)
+  room-keeps : (primitive : Primitive) → IsSound primitive → (s : State) → Has s → (room : Bool)
       → Has (cond room
       (let reading = ask (seen_in input.bytes input.limits.window (anchor s)) (program primitive s.at s.stop) nothing in
       spend reading.tally (land input.limits (content_begins primitive s.at) reading.reached s))
       (ended (Failed LengthOutOfRange s.at) s)).state
-  room-keeps primitive s has true =
+  room-keeps primitive good s has true =
       land-keeps (content_begins primitive s.at) (ask (seen_in input.bytes input.limits.window (anchor s)) (program primitive s.at s.stop) nothing).reached
-      (λ found is. program-held input.limits.window (anchor s) primitive s.at s.stop found is) s has
-  room-keeps primitive s has false = has
+      (λ found is. program-held input.limits.window (anchor s) primitive good s.at s.stop found is) s has
+  room-keeps primitive good s has false = has
 
-  leaf-keeps : (primitive : Option Primitive) → Keeps (leaf input primitive)
-  leaf-keeps None s has = has
-  leaf-keeps (Some primitive) s has = room-keeps primitive s has (has_room primitive s.at s.stop)
+  leaf-keeps : (primitive : Option Primitive) → IsSoundOr primitive → Keeps (leaf input primitive)
+  leaf-keeps None good s has = has
+  leaf-keeps (Some primitive) good s has = room-keeps primitive good s has (has_room primitive s.at s.stop)
 
   -- a leaf of another size
-  of-keeps : (primitive : Option Primitive) → Keeps (leaf_of input primitive)
-  of-keeps None s has = has
-  of-keeps (Some primitive) s has = leaf-keeps (Some primitive) s has
+  of-keeps : (primitive : Option Primitive) → IsSoundOr primitive → Keeps (leaf_of input primitive)
+  of-keeps None good s has = has
+  of-keeps (Some primitive) good s has = leaf-keeps (Some primitive) good s has
 
-  sized-keeps : (primitive : Option Primitive) (size : TextSize) → Keeps (sized_leaf input primitive size)
-  sized-keeps None size s has = has
-  sized-keeps (Some primitive) size s has = of-keeps (resized size primitive) s has
+  sized-keeps : (primitive : Option Primitive) (size : TextSize) → IsSoundOr primitive → Keeps (sized_leaf input primitive size)
+  sized-keeps None size good s has = has
+  sized-keeps (Some primitive) size good s has = of-keeps (resized size primitive) (resized-sound size primitive good) s has
 
   -- a prefix, and what it tells the size of
   prefixed-keeps : (by : Option Primitive) (own : ℕ) (next : ℕ → State → Outcome) → ((units : ℕ) → Keeps (next units)) → Keeps (prefixed input by own next)
@@ -300,8 +402,8 @@ module _ (input : Input) (small : All (λ b. b < 256) input.bytes) where
       (follow-keeps (body inside).end (body inside) (rest_of input) (λ t kept. rest-keeps t kept (nat_le t.stop t.at)) (keeps inside has))
   boxed-keeps bits body keeps s has false = has
 
-  begun-has : (id : ℕ) (s : State) → Has s → Has (begun id s)
-  begun-has id s has =
+  begun-has : (id : ℕ) (instead : Option ℕ) (s : State) → Has s → Has (begun id instead s)
+  begun-has id instead s has =
       let last : Node = record { element = id; parent = s.inside; content = Begun } in
       All-append (λ (n : Node). HasText s.text n.content) s.nodes (last ∷ []) has
       (both_have (λ (n : Node). HasText s.text n.content) last [] tt (λ i d less. absurd (omega arith)))
@@ -315,40 +417,55 @@ module _ (input : Input) (small : All (λ b. b < 256) input.bytes) where
   close-has (Failed cause bit) outer complex o has = has
   close-has (Stopped cause quantity) outer complex o has = has
 
-  element-keeps : (id : ℕ) (complex : Bool) (body : State → Outcome) → Keeps body → (s : State) → Has s → (room : Bool)
-      → Has (cond room (let o : Outcome = body (begun id s) in close o.end s.inside complex o) (ended (Stopped Nodes input.limits.nodes) s)).state
-  element-keeps id complex body keeps s has true =
-      let o : Outcome = body (begun id s) in close-has o.end s.inside complex o (keeps (begun id s) (begun-has id s has))
-  element-keeps id complex body keeps s has false = has
+  room-tried : (id : ℕ) (complex : Bool) (body : State → Outcome) → Keeps body → (instead : Option ℕ) (s : State) → Has s → (room : Bool)
+      → Has (cond room (let o : Outcome = body (begun id instead s) in close o.end s.inside complex o) (ended (Stopped Nodes input.limits.nodes) s)).state
+  room-tried id complex body keeps instead s has true =
+      let first : State = begun id instead s in
+      let o : Outcome = body first in close-has o.end s.inside complex o (keeps first (begun-has id instead s has))
+  room-tried id complex body keeps instead s has false = has
+
+  element-keeps : (id : ℕ) (complex : Bool) (tried : Representations) (body : State → Outcome) → Keeps body → Goes body
+      → Keeps (element input id complex tried body)
+  element-keeps id complex tried body keeps goes s has =
+      let attempt-keeps : (instead : Option ℕ) (t : State) → Has t → Has (attempted input id complex body instead t).state =
+      λ instead t held. room-tried id complex body keeps instead t held (nat_lt (length t.nodes) input.limits.nodes) in
+      represented-comes (λ (e : End) (t : State). Has t) (λ (e : End) (t : State). Has t) s
+      (attempted input id complex body) (λ (instead : Option ℕ). Unit {0}) tt
+      (attempt-keeps None s has) (λ instead before one. attempt-keeps instead (marked_by s before) has)
+      (λ e t held. held) (λ cause quantity t held. held)
+      (tried-returns input id complex body goes s) tried tt tt
 
   group-keeps : (child : ℕ → State → Outcome) → ((id : ℕ) → Keeps (child id)) → (children : List ℕ) → Keeps (group child children)
   group-keeps child keeps [] s has = has
   group-keeps child keeps (id ∷ rest) s has =
       follow-keeps (child id s).end (child id s) (group child rest) (group-keeps child keeps rest) (keeps id s has)
 
-  module _ (table : Table) where
-    row-keeps : (child : ℕ → State → Outcome) → ((id : ℕ) → Keeps (child id)) → (id : ℕ) (r : Option Row) → Keeps (row input table child id r)
-    row-keeps child keeps id None s has = has
-    row-keeps child keeps id (Some (Leaf prim)) s has = leaf-keeps (slice_get table.primitives prim) s has
-    row-keeps child keeps id (Some (Elem name simple body)) s has =
-        element-keeps id (has_elements simple) (child body) (keeps body) s has (nat_lt (length s.nodes) input.limits.nodes)
-    row-keeps child keeps id (Some (Group children)) s has = group-keeps child keeps children s has
-    row-keeps child keeps id (Some (Skip bits)) s has = pass-keeps (s.at + bits) s has (nat_le (s.at + bits) s.at) (nat_le (s.at + bits) s.stop)
-    row-keeps child keeps id (Some (Align bits)) s has =
+  module _ (table : Table) (bounded : All IsPrimitive table.primitives) where
+    row-keeps : (child : ℕ → State → Outcome) → ((id : ℕ) → Keeps (child id)) → ((id : ℕ) → Goes (child id)) → (id : ℕ) (r : Option Row)
+        → Keeps (row input table child id r)
+    row-keeps child keeps goes id None s has = has
+    row-keeps child keeps goes id (Some (Leaf prim)) s has =
+        let used : ℕ = read_by s.instead prim in leaf-keeps (slice_get table.primitives used) (sound-at table.primitives used bounded) s has
+    row-keeps child keeps goes id (Some (Elem name simple tried body)) s has =
+        element-keeps id (has_elements simple) tried (child body) (keeps body) (goes body) s has
+    row-keeps child keeps goes id (Some (Group children)) s has = group-keeps child keeps children s has
+    row-keeps child keeps goes id (Some (Skip bits)) s has = pass-keeps (s.at + bits) s has (nat_le (s.at + bits) s.at) (nat_le (s.at + bits) s.stop)
+    row-keeps child keeps goes id (Some (Align bits)) s has =
         pass-keeps (aligned bits s.at) s has (nat_le (aligned bits s.at) s.at) (nat_le (aligned bits s.at) s.stop)
-    row-keeps child keeps id (Some (Boxed bits body)) s has = boxed-keeps bits (child body) (keeps body) s has (nat_le (s.at + bits) s.stop)
-    row-keeps child keeps id (Some (PrefixedLeaf prefix prim)) s has =
-        let primitive : Option Primitive = slice_get table.primitives prim in
+    row-keeps child keeps goes id (Some (Boxed bits body)) s has = boxed-keeps bits (child body) (keeps body) s has (nat_le (s.at + bits) s.stop)
+    row-keeps child keeps goes id (Some (PrefixedLeaf prefix prim)) s has =
+        let used : ℕ = read_by s.instead prim in
+        let primitive : Option Primitive = slice_get table.primitives used in
         prefixed-keeps (slice_get table.primitives prefix.prim) prefix.own (λ units after. sized_leaf input primitive (size_of prefix.unit units) after)
-        (λ units. sized-keeps primitive (size_of prefix.unit units)) s has
-    row-keeps child keeps id (Some (PrefixedBox prefix body)) s has =
+        (λ units. sized-keeps primitive (size_of prefix.unit units) (sound-at table.primitives used bounded)) s has
+    row-keeps child keeps goes id (Some (PrefixedBox prefix body)) s has =
         prefixed-keeps (slice_get table.primitives prefix.prim) prefix.own (λ units after. boxed input (bits_of_units prefix.unit units) (child body) after)
         (λ units after kept. boxed-keeps (bits_of_units prefix.unit units) (child body) (keeps body) after kept
         (nat_le (after.at + bits_of_units prefix.unit units) after.stop)) s has
 
     below-choice : (n id : ℕ) → ((i : ℕ) → Keeps (below input table n i)) → (s : State) → Has s → (test : Bool)
         → Has (cond test (row_at input table (below input table n) n s) (below input table n id s)).state
-    below-choice n id keeps s has true = row-keeps (below input table n) keeps n (slice_get table.rows n) s has
+    below-choice n id keeps s has true = row-keeps (below input table n) keeps (below-goes input table n) n (slice_get table.rows n) s has
     below-choice n id keeps s has false = keeps id s has
 
     below-keeps : (n id : ℕ) → Keeps (below input table n id)
@@ -358,4 +475,5 @@ module _ (input : Input) (small : All (λ b. b < 256) input.bytes) where
 
     pub meaning-has : (id : ℕ) → HaveTexts (meaning input table id front).state.nodes (meaning input table id front).state.text
     unfolding meaning
-    meaning-has id = row-keeps (below input table id) (below-keeps id) id (slice_get table.rows id) front (λ i d less. absurd (omega arith))
+    meaning-has id =
+        row-keeps (below input table id) (below-keeps id) (below-goes input table id) id (slice_get table.rows id) front (λ i d less. absurd (omega arith))

@@ -11,16 +11,16 @@ use Rattle.dfdl_lemmas.specs.Trimmed.{before_rest, without_leading, without_trai
 use Rattle.dfdl_text_string.specs.Padding.{bare, end_trimmed, front_trimmed, is_trim, keeps_one, trimmed}
 use Rattle.dfdl_region.specs.declared.node.Node.{Node}
 use Rattle.dfdl_region.specs.declared.node.Content.{Content}
-use Rattle.dfdl_region.specs.declared.node.Content.TheVariants.{Begun, Complex, Signed, Unsigned, Decimal, Truth, Text, Octets}
+use Rattle.dfdl_region.specs.declared.node.Content.TheVariants.{Begun, Complex, Nil, Signed, Unsigned, Decimal, Truth, Text, Octets}
 use Rattle.dfdl_region.specs.Bytes.{bytes_at, utf8_of}
 use Rattle.dfdl_region.specs.Nodes.{with_content}
 use Rattle.dfdl_region.specs.Texts.{HasText}
 
 -- the rest of a list, and its first element
-rest_has : {A : Type 0} (P : A → Type 0) (x : A) (xs : List A) → All P (x ∷ xs) → All P xs
+pub rest_has : {A : Type 0} (P : A → Type 0) (x : A) (xs : List A) → All P (x ∷ xs) → All P xs
 rest_has P x xs all = λ i d less. all (suc i) d (omega arith)
 
-first_has : {A : Type 0} (P : A → Type 0) (x : A) (xs : List A) → All P (x ∷ xs) → P x
+pub first_has : {A : Type 0} (P : A → Type 0) (x : A) (xs : List A) → All P (x ∷ xs) → P x
 first_has P x xs all = all zero x (omega arith)
 
 pub both_have : {A : Type 0} (P : A → Type 0) (x : A) (xs : List A) → P x → All P xs → All P (x ∷ xs)
@@ -88,6 +88,7 @@ bytes-more bytes more from len within =
 pub text-more : (bytes more : List ℕ) (content : Content) → HasText bytes content → HasText (bytes ++ more) content
 text-more bytes more Begun has = tt
 text-more bytes more Complex has = tt
+text-more bytes more Nil has = tt
 text-more bytes more (Signed number) has = tt
 text-more bytes more (Unsigned number) has = tt
 text-more bytes more (Decimal number) has = tt

@@ -2,7 +2,10 @@ pub mod Spending
 pub mod Towers
 pub mod Found
 pub mod Prefixed
+pub mod Represented
+pub mod Going
 pub mod Trees
+pub mod Fine
 pub mod Filled
 pub mod Holding
 pub mod Held

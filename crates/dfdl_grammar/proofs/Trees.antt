@@ -1,8 +1,9 @@
 -- The elements stay a tree whatever the rows do.
-use Rattle.std.proofs.Common.{◌≡◌, ℕ, zero, suc, ◌+◌, ◌-◌, ◌*◌, ◌/◌, ◌<◌, ◌≤◌, refl, List, [], ◌∷◌, ◌++◌, length, Bool, true, false, cond, nat_eq, nat_le, nat_lt, Option, Some, None, ap, sym, subst, arith, length-append, zero-add}
+use Rattle.std.proofs.Common.{◌≡◌, ℕ, zero, suc, ◌+◌, ◌-◌, ◌*◌, ◌/◌, ◌<◌, ◌≤◌, refl, List, [], ◌∷◌, ◌++◌, length, Bool, true, false, cond, nat_eq, nat_le, nat_lt, Option, Some, None, ap, sym, subst, arith, zero-add}
 use Rattle.std.specs.Prelude.{slice_get}
 use Rattle.dfdl_report.specs.declared.cause.LimitCause.TheVariants.{Nodes, Text as TextLimit}
 use Rattle.dfdl_report.specs.declared.cause.ParseCause.TheVariants.{LengthOutOfRange}
+use Rattle.dfdl_terms.specs.declared.representations.Representations.{Representations}
 use Rattle.dfdl_terms.specs.declared.row.Primitive.{Primitive}
 use Rattle.dfdl_terms.specs.declared.row.Row.{Row}
 use Rattle.dfdl_terms.specs.declared.row.Row.TheVariants.{Leaf, Elem, Group, Skip, Align, Boxed, PrefixedLeaf, PrefixedBox}
@@ -17,27 +18,25 @@ use Rattle.dfdl_looks.specs.Looks.{seen_in}
 use Rattle.dfdl_looks.specs.Tallies.{nothing}
 use Rattle.dfdl_grammar.specs.declared.end.End.{End}
 use Rattle.dfdl_grammar.specs.declared.end.End.TheVariants.{Done, Failed, Stopped}
-use Rattle.dfdl_grammar.specs.States.{Input, State, anchor, anchor_at, front}
+use Rattle.dfdl_grammar.specs.States.{Input, State, anchor, anchor_at, front, read_by}
 use Rattle.dfdl_grammar.specs.Outcomes.{Outcome, ended, follow, spend, then_do}
 use Rattle.dfdl_grammar.specs.Leaves.{Find, Fails, Finds, FindsOctets, FindsText, content_begins, has_room, land, leaf, program}
 use Rattle.dfdl_grammar.specs.Framing.{aligned, fill_to, has_byte, passed}
 use Rattle.dfdl_grammar.specs.Boxes.{boxed, bytes_up_to, pass_bytes, past_byte, rest as rest_of, unboxed}
-use Rattle.dfdl_grammar.specs.Elements.{begun, close, has_elements, left}
+use Rattle.dfdl_grammar.specs.Elements.{attempted, begun, close, element, has_elements, left}
+use Rattle.dfdl_grammar.specs.Marks.{closed}
 use Rattle.dfdl_grammar.specs.Prefixes.{bits_of_units, leaf_of, prefixed, resized, size_of, sized_leaf}
 use Rattle.dfdl_grammar.specs.Rows.{below, group, meaning, row, row_at}
 use Rattle.dfdl_grammar.specs.Trees.{IsNode, IsTree}
+use Rattle.dfdl_grammar.proofs.Going.{Goes, begun-longer, below-goes, content-length, tried-returns}
 use Rattle.dfdl_grammar.proofs.Prefixed.{prefixed-comes}
+use Rattle.dfdl_grammar.proofs.Represented.{marked_by, represented-comes}
 
 -- the elements are a tree, and the innermost open one is among them, where there are any
 record Grows (table : Table) (s : State) : Type 0 where
   tree : IsTree table s.nodes
   few : s.inside ≤ length s.nodes
   open_one : 0 < length s.nodes → s.inside < length s.nodes
-
-pub content-length : (nodes : List Node) (number : ℕ) (content : Content) → length (with_content nodes number content) ≡ length nodes
-content-length [] number content = refl
-content-length (node ∷ rest) zero content = refl
-content-length (node ∷ rest) (suc number) content = ap suc (content-length rest number content)
 
 -- a node of which only the content may have changed
 record IsLike (nodes : List Node) (at : ℕ) (node : Node) : Type 0 where
@@ -181,13 +180,10 @@ module _ (input : Input) (table : Table) where
   pass-keeps to s good false true =
       passed-keeps to (ask (seen_in input.bytes input.limits.window (anchor_at s (to - 1))) (has_byte ((to - 1) / 8)) nothing).reached s good
 
-  begun-longer : (id : ℕ) (s : State) → length (begun id s).nodes ≡ length s.nodes + 1
-  begun-longer id s = length-append s.nodes (record { element = id; parent = s.inside; content = Begun } ∷ [])
-
-  begun-grows : (id : ℕ) (s : State) → IsElementRow (slice_get table.rows id) → Grows table s → Grows table (begun id s)
-  begun-grows id s elem good =
+  begun-grows : (id : ℕ) (instead : Option ℕ) (s : State) → IsElementRow (slice_get table.rows id) → Grows table s → Grows table (begun id instead s)
+  begun-grows id instead s elem good =
       let node : Node = record { element = id; parent = s.inside; content = Begun } in
-      let size = begun-longer id s in
+      let size = begun-longer id instead s in
       let few = good.few in
       let one : IsNode table (0 + length s.nodes) node = subst (λ (n : ℕ). IsNode table n node) (sym (zero-add (length s.nodes)))
       (record { parent = few; earlier = good.open_one; element = elem }) in
@@ -199,7 +195,10 @@ module _ (input : Input) (table : Table) where
       }
 
   left-follows : (outer : ℕ) (complex : Bool) (s : State) → Grows table s → outer < length s.nodes → Follows s (left outer complex s)
-  left-follows outer true s good less = content-grows s s.inside s.at outer Complex good (omega arith) (λ some. less)
+  left-follows outer true s good less =
+      let ended_here : State = record s { nodes = with_content s.nodes s.inside Complex; inside = outer } in
+      let grown = content-grows s s.inside s.at outer Complex good (omega arith) (λ some. less) in
+      (alike ended_here (left outer true s) grown.0 refl refl, grown.1)
   left-follows outer false s good less = (record { tree = good.tree; few = omega arith; open_one = λ some. less }, same_length (length s.nodes))
 
   close-follows : (end : End) (outer : ℕ) (complex : Bool) (o : Outcome) → Grows table o.state → outer < length o.state.nodes
@@ -208,17 +207,32 @@ module _ (input : Input) (table : Table) where
   close-follows (Failed cause bit) outer complex o good less = (good, same_length (length o.state.nodes))
   close-follows (Stopped cause quantity) outer complex o good less = (good, same_length (length o.state.nodes))
 
-  element-keeps : (id : ℕ) (complex : Bool) (body : State → Outcome) → IsElementRow (slice_get table.rows id) → Keeps body → (s : State) → Grows table s → (room : Bool)
-      → Follows s (cond room (let o : Outcome = body (begun id s) in close o.end s.inside complex o) (ended (Stopped Nodes input.limits.nodes) s)).state
-  element-keeps id complex body elem keeps s good true =
-      let inner = keeps (begun id s) (begun-grows id s elem good) in
-      let size = begun-longer id s in
+  room-tried : (id : ℕ) (complex : Bool) (body : State → Outcome) → IsElementRow (slice_get table.rows id) → Keeps body
+      → (instead : Option ℕ) (s : State) → Grows table s → (room : Bool)
+      → Follows s (cond room (let o : Outcome = body (begun id instead s) in close o.end s.inside complex o) (ended (Stopped Nodes input.limits.nodes) s)).state
+  room-tried id complex body elem keeps instead s good true =
+      let first : State = begun id instead s in
+      let inner = keeps first (begun-grows id instead s elem good) in
+      let size = begun-longer id instead s in
       let few = good.few in
-      let longer : length (begun id s).nodes ≤ length (body (begun id s)).state.nodes = inner.1 in
-      let closed = close-follows (body (begun id s)).end s.inside complex (body (begun id s)) inner.0 (omega arith) in
-      let more = closed.1 in
-      (closed.0, omega arith)
-  element-keeps id complex body elem keeps s good false = (good, same_length (length s.nodes))
+      let longer : length first.nodes ≤ length (body first).state.nodes = inner.1 in
+      let over = close-follows (body first).end s.inside complex (body first) inner.0 (omega arith) in
+      let more = over.1 in
+      (over.0, omega arith)
+  room-tried id complex body elem keeps instead s good false = (good, same_length (length s.nodes))
+
+  element-keeps : (id : ℕ) (complex : Bool) (tried : Representations) (body : State → Outcome) → IsElementRow (slice_get table.rows id) → Keeps body
+      → Goes body → Keeps (element input id complex tried body)
+  element-keeps id complex tried body elem keeps goes s good =
+      let attempt-keeps : (instead : Option ℕ) (t : State) → Grows table t → Follows t (attempted input id complex body instead t).state =
+      λ instead t grows. room-tried id complex body elem keeps instead t grows (nat_lt (length t.nodes) input.limits.nodes) in
+      represented-comes (λ (e : End) (t : State). Follows s t) (λ (e : End) (t : State). Follows s t) s
+      (attempted input id complex body) (λ (instead : Option ℕ). Unit {0}) tt
+      (attempt-keeps None s good)
+      (λ instead before one. attempt-keeps instead (marked_by s before) (alike s (marked_by s before) good refl refl))
+      (λ e t follows. (alike t (closed t) follows.0 refl refl, follows.1))
+      (λ cause quantity t follows. follows)
+      (tried-returns input id complex body goes s) tried tt tt
 
   follow-keeps : (end : End) (o : Outcome) (next : State → Outcome) → Keeps next → Grows table o.state → Follows o.state (follow end o next).state
   follow-keeps Done o next keeps good = keeps o.state good
@@ -272,28 +286,28 @@ module _ (input : Input) (table : Table) where
       let b = last.1 in
       (last.0, omega arith)
 
-  row-keeps : (child : ℕ → State → Outcome) → ((id : ℕ) → Keeps (child id)) → (id : ℕ) (r : Option Row) → slice_get table.rows id ≡ r → Keeps (row input table child id r)
-  row-keeps child keeps id None is s good = (good, same_length (length s.nodes))
-  row-keeps child keeps id (Some (Leaf prim)) is s good = leaf-keeps (slice_get table.primitives prim) s good
-  row-keeps child keeps id (Some (Elem name simple body)) is s good =
-      element-keeps id (has_elements simple) (child body) (subst (λ (r : Option Row). IsElementRow r) (sym is) tt) (keeps body) s good
-      (nat_lt (length s.nodes) input.limits.nodes)
-  row-keeps child keeps id (Some (Group children)) is s good = group-keeps child keeps children s good
-  row-keeps child keeps id (Some (Skip bits)) is s good = pass-keeps (s.at + bits) s good (nat_le (s.at + bits) s.at) (nat_le (s.at + bits) s.stop)
-  row-keeps child keeps id (Some (Align bits)) is s good = pass-keeps (aligned bits s.at) s good (nat_le (aligned bits s.at) s.at) (nat_le (aligned bits s.at) s.stop)
-  row-keeps child keeps id (Some (Boxed bits body)) is s good = boxed-keeps bits (child body) (keeps body) s good (nat_le (s.at + bits) s.stop)
-  row-keeps child keeps id (Some (PrefixedLeaf prefix prim)) is s good =
-      let primitive : Option Primitive = slice_get table.primitives prim in
+  row-keeps : (child : ℕ → State → Outcome) → ((id : ℕ) → Keeps (child id)) → ((id : ℕ) → Goes (child id)) → (id : ℕ) (r : Option Row)
+      → slice_get table.rows id ≡ r → Keeps (row input table child id r)
+  row-keeps child keeps goes id None is s good = (good, same_length (length s.nodes))
+  row-keeps child keeps goes id (Some (Leaf prim)) is s good = leaf-keeps (slice_get table.primitives (read_by s.instead prim)) s good
+  row-keeps child keeps goes id (Some (Elem name simple tried body)) is s good =
+      element-keeps id (has_elements simple) tried (child body) (subst (λ (r : Option Row). IsElementRow r) (sym is) tt) (keeps body) (goes body) s good
+  row-keeps child keeps goes id (Some (Group children)) is s good = group-keeps child keeps children s good
+  row-keeps child keeps goes id (Some (Skip bits)) is s good = pass-keeps (s.at + bits) s good (nat_le (s.at + bits) s.at) (nat_le (s.at + bits) s.stop)
+  row-keeps child keeps goes id (Some (Align bits)) is s good = pass-keeps (aligned bits s.at) s good (nat_le (aligned bits s.at) s.at) (nat_le (aligned bits s.at) s.stop)
+  row-keeps child keeps goes id (Some (Boxed bits body)) is s good = boxed-keeps bits (child body) (keeps body) s good (nat_le (s.at + bits) s.stop)
+  row-keeps child keeps goes id (Some (PrefixedLeaf prefix prim)) is s good =
+      let primitive : Option Primitive = slice_get table.primitives (read_by s.instead prim) in
       prefixed-keeps (slice_get table.primitives prefix.prim) prefix.own (λ units after. sized_leaf input primitive (size_of prefix.unit units) after)
       (λ units. sized-keeps primitive (size_of prefix.unit units)) s good
-  row-keeps child keeps id (Some (PrefixedBox prefix body)) is s good =
+  row-keeps child keeps goes id (Some (PrefixedBox prefix body)) is s good =
       prefixed-keeps (slice_get table.primitives prefix.prim) prefix.own (λ units after. boxed input (bits_of_units prefix.unit units) (child body) after)
       (λ units after kept. boxed-keeps (bits_of_units prefix.unit units) (child body) (keeps body) after kept
       (nat_le (after.at + bits_of_units prefix.unit units) after.stop)) s good
 
   below-choice : (n id : ℕ) → ((i : ℕ) → Keeps (below input table n i)) → (s : State) → Grows table s → (test : Bool)
       → Follows s (cond test (row_at input table (below input table n) n s) (below input table n id s)).state
-  below-choice n id keeps s good true = row-keeps (below input table n) keeps n (slice_get table.rows n) refl s good
+  below-choice n id keeps s good true = row-keeps (below input table n) keeps (below-goes input table n) n (slice_get table.rows n) refl s good
   below-choice n id keeps s good false = keeps id s good
 
   below-keeps : (n id : ℕ) → Keeps (below input table n id)
@@ -305,4 +319,4 @@ module _ (input : Input) (table : Table) where
   unfolding meaning
   meaning-tree id =
       let first : Grows table front = record { tree = λ number node is. absurd (cc); few = omega arith; open_one = λ some. absurd (omega arith) } in
-      (row-keeps (below input table id) (below-keeps id) id (slice_get table.rows id) refl front first).0.tree
+      (row-keeps (below input table id) (below-keeps id) (below-goes input table id) id (slice_get table.rows id) refl front first).0.tree

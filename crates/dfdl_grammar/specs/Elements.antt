@@ -7,18 +7,23 @@ use Rattle.dfdl_region.specs.Nodes.{with_content}
 use Rattle.dfdl_grammar.specs.declared.end.End.{End}
 use Rattle.dfdl_grammar.specs.declared.end.End.TheVariants.{Done, Failed, Stopped}
 use Rattle.dfdl_grammar.specs.States.{Input, State}
-use Rattle.dfdl_grammar.specs.Outcomes.{Outcome, ended}
+use Rattle.dfdl_looks.specs.Tallies.{one_row}
+use Rattle.dfdl_terms.specs.declared.representations.Representations.{Representations}
+use Rattle.dfdl_grammar.specs.Outcomes.{Outcome, ended, spend}
+use Rattle.dfdl_grammar.specs.Representations.{represented}
 
 -- whether an element has elements: it has no simple type
 abbrev pub has_elements : Option Simple → Bool
 has_elements None = true
 has_elements (Some simple) = false
 
--- the element of this row begins inside of the innermost open one, and is that then
-abbrev pub begun : ℕ → State → State
-begun id s = record s {
+-- the element of this row begins inside of the innermost open one, and is that then; its content is read by this primitive in
+-- place of its own, if there is one
+abbrev pub begun : ℕ → Option ℕ → State → State
+begun id instead s = record s {
   nodes = s.nodes ++ record { element = id; parent = s.inside; content = Begun } ∷ [];
   inside = length s.nodes;
+  instead = instead;
 }
 
 -- the innermost open element ends, and the outer one is that again
@@ -26,6 +31,7 @@ abbrev pub left : ℕ → Bool → State → State
 left outer complex s = record s {
   nodes = if complex then with_content s.nodes s.inside Complex else s.nodes;
   inside = outer;
+  instead = None;
 }
 
 -- after this end of an outcome: the element ends where it is done, and else stays open
@@ -34,9 +40,13 @@ close Done outer complex o = record o { state = left outer complex o.state }
 close (Failed cause bit) outer complex o = o
 close (Stopped cause quantity) outer complex o = o
 
--- an element with what is in it, where there are fewer elements than there may be
-abbrev pub element : Input → ℕ → Bool → (State → Outcome) → State → Outcome
-element input id complex body s =
+-- one representation of an element with what is in it, where there are fewer elements than there may be; its cost is that of a row
+abbrev pub attempted : Input → ℕ → Bool → (State → Outcome) → Option ℕ → State → Outcome
+attempted input id complex body instead s = spend one_row (
     if nat_lt (length s.nodes) input.limits.nodes
-    then (let o : Outcome = body (begun id s) in close o.end s.inside complex o)
-    else ended (Stopped Nodes input.limits.nodes) s
+    then (let o : Outcome = body (begun id instead s) in close o.end s.inside complex o)
+    else ended (Stopped Nodes input.limits.nodes) s)
+
+-- an element with what is in it, by its representations
+abbrev pub element : Input → ℕ → Bool → Representations → (State → Outcome) → State → Outcome
+element input id complex tried body s = represented tried (attempted input id complex body) s

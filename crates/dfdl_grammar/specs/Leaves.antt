@@ -2,9 +2,10 @@
 use Rattle.std.specs.Prelude.{ℕ, zero, suc, ◌+◌, ◌-◌, ◌*◌, ◌/◌, ◌%◌, Bool, nat_eq, nat_le, ◌&&◌, List, [], ◌++◌, length, Option, Some, None, Result, Ok, Err, if◌then◌else◌}
 use Rattle.dfdl_report.specs.declared.cause.LimitCause.TheVariants.{Window, Text as TextLimit}
 use Rattle.dfdl_report.specs.declared.cause.ParseCause.{ParseCause}
-use Rattle.dfdl_report.specs.declared.cause.ParseCause.TheVariants.{BadCharacter, BadNibble, DataEnds, LengthOutOfRange, NotANumber, NotFilled, PastType, UnknownBoolean}
+use Rattle.dfdl_report.specs.declared.cause.ParseCause.TheVariants.{BadCharacter, BadNibble, DataEnds, LengthOutOfRange, NotANumber, NotFilled, PastType, RequiredEmpty, UnknownBoolean}
 use Rattle.dfdl_value.specs.declared.value.Value.{Value}
 use Rattle.dfdl_value.specs.declared.value.Value.TheVariants.{Int, Uns, Dec}
+use Rattle.dfdl_value.specs.declared.value.Value.TheVariants as value
 use Rattle.dfdl_int_binary.specs.Integers.{field_of, integer_reading}
 use Rattle.dfdl_int_binary.specs.Truths.{truth_field_of, truth_reading}
 use Rattle.dfdl_number_text.specs.NumberReading.{reading as number_reading}
@@ -15,10 +16,13 @@ use Rattle.dfdl_packed.specs.Zoned.{zoned_reading}
 use Rattle.dfdl_packed.specs.declared.fault.PackedFault.{PackedFault}
 use Rattle.dfdl_packed.specs.declared.fault.PackedFault.TheVariants as packed
 use Rattle.dfdl_terms.specs.declared.row.Primitive.{Primitive}
-use Rattle.dfdl_terms.specs.declared.row.Primitive.TheVariants.{Integer, Packed, Truth, Octets, Text}
+use Rattle.dfdl_terms.specs.declared.row.Primitive.TheVariants.{Integer, Packed, Truth, Octets, Text, NilOctets, Default}
+use Rattle.dfdl_terms.specs.declared.text.DefaultForm.{DefaultForm}
+use Rattle.dfdl_terms.specs.declared.text.NilForm.{NilForm}
+use Rattle.dfdl_terms.specs.declared.text.NilOctets.{NilOctets as NilOctetsForm}
 use Rattle.dfdl_terms.specs.declared.text.OctetForm.{OctetForm}
 use Rattle.dfdl_terms.specs.declared.text.TextContent.{TextContent}
-use Rattle.dfdl_terms.specs.declared.text.TextContent.TheVariants.{Plain, Number, Zoned, Truth as TextTruth}
+use Rattle.dfdl_terms.specs.declared.text.TextContent.TheVariants.{Plain, Number, Zoned, Truth as TextTruth, Nil}
 use Rattle.dfdl_terms.specs.declared.text.TextForm.{TextForm}
 use Rattle.dfdl_terms.specs.declared.text.TextSize.{TextSize}
 use Rattle.dfdl_terms.specs.declared.text.TextSize.TheVariants.{Bits, Characters}
@@ -39,6 +43,7 @@ use Rattle.dfdl_grammar.specs.declared.limits.Limits.{Limits}
 use Rattle.dfdl_grammar.specs.States.{Input, State, anchor}
 use Rattle.dfdl_grammar.specs.Outcomes.{Outcome, ended, spend}
 use Rattle.dfdl_grammar.specs.Framing.{aligned}
+use Rattle.dfdl_grammar.specs.Nils.{are_nil, is_nil}
 use Rattle.dfdl_grammar.specs.Octets.{octets_from}
 
 -- What a leaf finds: why it fails; or its content, the bytes of a hexBinary or those of a string, as UTF-8, and the bit behind
@@ -65,10 +70,13 @@ bits_of (Packed form) = 4 * form.nibbles
 bits_of (Truth form) = form.bits
 bits_of (Octets form) = form.bits
 bits_of (Text form) = bits_of_text form.size
+bits_of (NilOctets form) = form.octets.bits
+bits_of (Default form) = bits_of_text form.size
 
--- the bit at which a text without bits begins whose box begins at this one: a string there, and else the next whole byte
+-- the bit at which a text without bits begins whose box begins at this one: a string or nil there, and else the next whole byte
 abbrev pub empty_begins : TextContent → ℕ → ℕ
 empty_begins Plain bit = bit
+empty_begins (Nil form) bit = bit
 empty_begins _ bit = aligned 8 bit
 
 -- the bit at which a text begins whose box begins at this one: the next whole byte, where the box has any bit
@@ -84,6 +92,8 @@ content_begins (Packed form) bit = bit
 content_begins (Truth form) bit = bit
 content_begins (Octets form) bit = bit
 content_begins (Text form) bit = text_begins form.content form.size bit
+content_begins (NilOctets form) bit = bit
+content_begins (Default form) bit = bit
 
 -- the bit at which the box of a text ends whose box begins at a bit; where its characters are counted it is that of the box around
 abbrev pub text_ends : TextSize → ℕ → ℕ → ℕ
@@ -97,6 +107,8 @@ content_ends (Packed form) bit stop = bit + 4 * form.nibbles
 content_ends (Truth form) bit stop = bit + form.bits
 content_ends (Octets form) bit stop = bit + form.bits
 content_ends (Text form) bit stop = text_ends form.size bit stop
+content_ends (NilOctets form) bit stop = bit + form.octets.bits
+content_ends (Default form) bit stop = text_ends form.size bit stop
 
 -- the box of a primitive that begins at a bit ends in the box around it, and its content begins in it
 abbrev pub has_room : Primitive → ℕ → ℕ → Bool
@@ -134,6 +146,8 @@ find_in (Packed form) bit bytes = packed_find (bit + 4 * form.nibbles) (packed_r
 find_in (Truth form) bit bytes = truth_find (bit + form.bits) (truth_reading form (truth_field_of form bytes (bit % 8)))
 find_in (Octets form) bit bytes = FindsOctets (octets_from form.bits_by bytes (bit % 8) (form.bits / 8)) (bit + form.bits)
 find_in (Text form) bit bytes = FindsText [] bit
+find_in (NilOctets form) bit bytes = FindsOctets [] bit
+find_in (Default form) bit bytes = FindsOctets [] bit
 
 -- The bits of a field are found by a look at each byte that they lie in, in the order of the data.
 abbrev pub field : Primitive → ℕ → Ask Find
@@ -146,6 +160,39 @@ octets form bit =
     else if nat_eq (form.bits % 8) 0 then field (Octets form) bit
     else Answer (Fails NotFilled)
 
+-- what bytes or characters before this bit are found as that have to be nil; where they aren't, another representation follows
+abbrev pub nil_find : ℕ → Bool → Find
+nil_find end is = if is then Finds content.Nil end else Fails RequiredEmpty
+
+-- what the bytes of a box are found as that have to be nil
+abbrev pub nil_octets_find : NilForm → Find → Find
+nil_octets_find form (Fails cause) = Fails cause
+nil_octets_find form (Finds content end) = Fails RequiredEmpty
+nil_octets_find form (FindsOctets bytes end) = nil_find end (are_nil form bytes)
+nil_octets_find form (FindsText bytes end) = Fails RequiredEmpty
+
+-- the bytes of a box that have to be nil
+abbrev pub nil_octets : NilOctetsForm → ℕ → Ask Find
+nil_octets form bit = and_then (octets form.octets bit) (λ find. Answer (nil_octets_find form.nil find))
+
+-- what a value is found as in a box without bits
+abbrev pub default_find : ℕ → Value → Find
+default_find bit (value.Int z) = Finds (Signed z) bit
+default_find bit (value.Uns n) = Finds (Unsigned n) bit
+default_find bit (value.Dec d) = Finds (Decimal d) bit
+default_find bit (value.Text text) = FindsText text bit
+default_find bit (value.Truth truth) = Finds (content.Truth truth) bit
+default_find bit (value.Bytes bytes) = FindsOctets bytes bit
+
+-- there is no bit in a box of this size
+abbrev pub is_no_size : TextSize → Bool
+is_no_size (Bits bits) = nat_eq bits 0
+is_no_size (Characters count) = nat_eq count 0
+
+-- the value that a box without bits stands for; where it has any, another representation follows
+abbrev pub default_of : DefaultForm → ℕ → Ask Find
+default_of form bit = Answer (if is_no_size form.size then default_find bit form.value else Fails RequiredEmpty)
+
 -- the bit behind the box of a text that begins at a bit, where its characters end before this byte
 abbrev pub text_behind : TextSize → ℕ → ℕ → ℕ
 text_behind (Bits bits) bit end = bit + bits
@@ -157,6 +204,7 @@ content_find Plain characters end = FindsText (utf8_of characters) end
 content_find (Number form kind) characters end = number_find end (number_reading form kind characters)
 content_find (Zoned form) characters end = packed_find end (zoned_reading form characters)
 content_find (TextTruth form) characters end = truth_find end (truth_of form characters)
+content_find (Nil form) characters end = nil_find end (is_nil form characters)
 
 -- what the characters of a text whose box begins at a bit are found as: they are read after trimming
 abbrev pub text_find : TextForm → ℕ → TextRead → Find
@@ -185,6 +233,8 @@ program (Packed form) bit stop = field (Packed form) bit
 program (Truth form) bit stop = field (Truth form) bit
 program (Octets form) bit stop = octets form bit
 program (Text form) bit stop = text_of_size form form.size bit stop
+program (NilOctets form) bit stop = nil_octets form bit
+program (Default form) bit stop = default_of form bit
 
 -- the bit at which a leaf fails: that of its box where this is longer than it can be, and else that of its content
 abbrev pub failing_bit : ParseCause → ℕ → ℕ → ℕ

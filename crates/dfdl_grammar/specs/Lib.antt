@@ -1,10 +1,13 @@
 pub mod States
 pub mod Outcomes
+pub mod Marks
 pub mod Framing
 pub mod Octets
+pub mod Nils
 pub mod Leaves
 pub mod Boxes
 pub mod Elements
+pub mod Representations
 pub mod Prefixes
 pub mod Rows
 pub mod Documents

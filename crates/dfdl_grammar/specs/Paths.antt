@@ -9,7 +9,7 @@ use Rattle.dfdl_region.specs.declared.node.Node.{Node}
 abbrev pub name_of : Option Row → List ℕ
 name_of None = []
 name_of (Some (Leaf prim)) = []
-name_of (Some (Elem name simple body)) = name
+name_of (Some (Elem name simple tried body)) = name
 name_of (Some (Group children)) = []
 name_of (Some (Skip bits)) = []
 name_of (Some (Align bits)) = []

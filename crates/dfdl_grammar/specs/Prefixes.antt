@@ -9,7 +9,7 @@ use Rattle.dfdl_terms.specs.declared.prefix.LengthUnit.{LengthUnit}
 use Rattle.dfdl_terms.specs.declared.prefix.LengthUnit.TheVariants as unit
 use Rattle.dfdl_terms.specs.declared.prefix.Prefix.{Prefix}
 use Rattle.dfdl_terms.specs.declared.row.Primitive.{Primitive}
-use Rattle.dfdl_terms.specs.declared.row.Primitive.TheVariants.{Integer, Packed, Truth, Octets, Text}
+use Rattle.dfdl_terms.specs.declared.row.Primitive.TheVariants.{Integer, Packed, Truth, Octets, Text, NilOctets, Default}
 use Rattle.dfdl_terms.specs.declared.text.TextSize.{TextSize}
 use Rattle.dfdl_terms.specs.declared.text.TextSize.TheVariants.{Bits, Characters}
 use Rattle.dfdl_region.specs.declared.node.Content.{Content}
@@ -48,7 +48,9 @@ resized (Bits bits) (Packed form) =
     if nat_eq (bits % 4) 0 && is_size (most_nibbles form.rep) (bits / 4) then Some (Packed (record form { nibbles = bits / 4 })) else None
 resized (Bits bits) (Truth form) = if is_size 32 bits then Some (Truth (record form { bits = bits })) else None
 resized (Bits bits) (Octets form) = Some (Octets (record form { bits = bits }))
+resized (Bits bits) (NilOctets form) = Some (NilOctets (record form { octets = record form.octets { bits = bits } }))
 resized size (Text form) = Some (Text (record form { size = size }))
+resized size (Default form) = Some (Default (record form { size = size }))
 resized (Characters count) primitive = None
 
 -- the leaf of a primitive with another size; a size that it can't have fails

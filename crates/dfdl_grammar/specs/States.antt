@@ -1,32 +1,24 @@
 -- What is known while data are parsed. 'Parsing Algorithm'.
-use Rattle.std.specs.Prelude.{ℕ, ◌/◌, Bool, List, [], ◌∷◌, if◌then◌else◌}
+use Rattle.std.specs.Prelude.{ℕ, ◌/◌, List, [], ◌∷◌, Option, Some, None, if◌then◌else◌}
 use Rattle.dfdl_region.specs.declared.node.Node.{Node}
 use Rattle.dfdl_grammar.specs.declared.limits.Limits.{Limits}
+use Rattle.dfdl_grammar.specs.declared.mark.Mark.{Mark}
 
 -- the data and the limits
 pub record Input : Type 0 where
   pub bytes : List ℕ
   pub limits : Limits
 
--- A place that parsing can go back to: its bit, whether it is a point of uncertainty, whether that is resolved, and the end
--- of the box, the elements with the bytes of their values, and the innermost open element as they were there.
-pub record Mark : Type 0 where
-  pub at : ℕ
-  pub is_point : Bool
-  pub is_resolved : Bool
-  pub stop : ℕ
-  pub nodes : List Node
-  pub text : List ℕ
-  pub inside : ℕ
-
 -- The bit that comes next, the bit at which the innermost box ends, the elements that have begun, the bytes of the strings and
--- hexBinary values among them, the number of the innermost element that is open, and the open marks with the innermost first.
+-- hexBinary values among them, the number of the innermost element that is open, the primitive by which its content is read in
+-- place of its own, if there is one, and the open marks with the innermost first.
 pub record State : Type 0 where
   pub at : ℕ
   pub stop : ℕ
   pub nodes : List Node
   pub text : List ℕ
   pub inside : ℕ
+  pub instead : Option ℕ
   pub marks : List Mark
 
 -- the bit at which a box would end that is around everything (profile)
@@ -35,7 +27,7 @@ no_box = 18446744073709551615
 
 -- the state at the front of the data
 abbrev pub front : State
-front = record { at = 0; stop = no_box; nodes = []; text = []; inside = 0; marks = [] }
+front = record { at = 0; stop = no_box; nodes = []; text = []; inside = 0; instead = None; marks = [] }
 
 -- the bit of the outermost mark that isn't resolved, or another bit where there is none
 abbrev pub held_from : List Mark → ℕ → ℕ
@@ -49,3 +41,8 @@ anchor_at s bit = held_from s.marks bit / 8
 -- the first byte that is still needed
 abbrev pub anchor : State → ℕ
 anchor s = anchor_at s s.at
+
+-- the primitive by which a leaf is read whose own has this number
+abbrev pub read_by : Option ℕ → ℕ → ℕ
+read_by None prim = prim
+read_by (Some instead) prim = instead

@@ -3,6 +3,7 @@ use Rattle.std.specs.Prelude.{◌≡◌, ◌<◌, ◌≤◌, ℕ, List, Some, sl
 use Rattle.dfdl_forms.specs.declared.simple.Simple.{Simple}
 use Rattle.dfdl_terms.specs.declared.row.Primitive.{Primitive}
 use Rattle.dfdl_terms.specs.declared.row.Row.TheVariants.{Elem}
+use Rattle.dfdl_terms.specs.declared.representations.Representations.{Representations}
 use Rattle.dfdl_terms.specs.Leaves.{ReadsBy}
 use Rattle.dfdl_terms.specs.Rows.{IsElementRow, Table}
 use Rattle.dfdl_region.specs.declared.node.Node.{Node}
@@ -24,7 +25,8 @@ IsInTables table prim = (primitive : Primitive) × (slice_get table.primitives p
 
 -- the body of each element of a simple type reads a value by a primitive of the tables
 abbrev pub HasLeaves : Table → Type 0
-HasLeaves table = (id : ℕ) (name : List ℕ) (simple : Simple) (body : ℕ) → slice_get table.rows id ≡ Some (Elem name (Some simple) body)
+HasLeaves table = (id : ℕ) (name : List ℕ) (simple : Simple) (tried : Representations) (body : ℕ)
+    → slice_get table.rows id ≡ Some (Elem name (Some simple) tried body)
     → ReadsBy table.rows (IsInTables table) body
 
 -- each of the elements is read

@@ -4,12 +4,15 @@
 //! The map of the grammar, one file of specs/ for each subject of the standard:
 //! - States: what is known while data are parsed ('Parsing Algorithm').
 //! - Outcomes: what a row comes to, and how outcomes are put together ('Parsing Algorithm').
+//! - Marks: a place that parsing can go back to ('Parsing Algorithm').
 //! - Leaves: what a simple element's content is read as ('Simple Types').
 //! - Octets: the bytes that stand in the data from a bit on ('Simple Types').
+//! - Nils: what stands for nil in the data ('DFDL Data Syntax Grammar').
 //! - Framing: alignment and skips ('Framing').
 //! - Boxes: a box around a content, and what the content leaves of it ('Lengths').
 //! - Prefixes: a number before a content that tells how long that is ('Lengths').
 //! - Elements: an element begins, and ends ('The DFDL Information Set').
+//! - Representations: nil, empty and normal, in this order from one place ('DFDL Data Syntax Grammar').
 //! - Rows: the meaning of each row, by those below it ('DFDL Data Syntax Grammar').
 //! - Documents: the meaning of the root element's row at the front of the data.
 //! - Trees: the elements of a document are a tree of the schema's elements, each of which is read.
@@ -19,9 +22,11 @@
 pub mod end;
 pub mod laws;
 pub mod limits;
+pub mod mark;
 
 pub use end::End;
 pub use limits::Limits;
+pub use mark::Mark;
 
 #[cfg(test)]
 mod tests;

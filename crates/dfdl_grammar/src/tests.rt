@@ -15,6 +15,7 @@ fn ends_and_limits_are_compared(rt: HostRuntime) {
 #[test]
 fn laws_are_there(_rt: HostRuntime) {
     crate::laws::rows_mean();
+    crate::laws::going_back_restores();
     crate::laws::documents_are_trees();
     crate::laws::documents_are_read();
     crate::laws::documents_have_texts();

@@ -63,9 +63,9 @@ by_kind t row (Some (Boxed bits body)) is each =
 by_kind t row (Some (PrefixedBox prefix body)) is each =
     let inside = one_below t row body each in
     record { within = inside.within; few = omega (arith, inside.few); elements = inside.elements }
-by_kind t row (Some (Elem name simple body)) is each = record {
+by_kind t row (Some (Elem name simple tried body)) is each = record {
   within = All-cons (λ c. c < suc row) row [] (omega arith) (All-nil (λ c. c < suc row));
-  few = omega (arith, row_is steps_by 0 t.rows row (Some (Elem name simple body)) is);
+  few = omega (arith, row_is steps_by 0 t.rows row (Some (Elem name simple tried body)) is);
   elements = All-cons (λ c. IsElementRow (slice_get t.rows c)) row [] (subst IsElementRow (sym is) tt) (All-nil (λ c. IsElementRow (slice_get t.rows c)));
 }
 by_kind t row (Some (Group children)) is each =
@@ -91,7 +91,7 @@ some_by inside row (Some (Align bits)) = omega arith
 some_by inside row (Some (Boxed bits body)) = omega arith
 some_by inside row (Some (PrefixedLeaf prefix prim)) = omega arith
 some_by inside row (Some (PrefixedBox prefix body)) = omega arith
-some_by inside row (Some (Elem name simple body)) = omega arith
+some_by inside row (Some (Elem name simple tried body)) = omega arith
 some_by inside row (Some (Group children)) = omega arith
 
 pub some_steps : (t : Table) (row : ℕ) → 1 ≤ steps_of t row

@@ -4,6 +4,7 @@ use Rattle.std.specs.List.{flat_map}
 use Rattle.std.proofs.lemmas.Grind.{flat_map-append}
 use Rattle.std.proofs.lemmas.List.{append-nil}
 use Rattle.dfdl_forms.specs.declared.simple.Simple.{Simple}
+use Rattle.dfdl_terms.specs.declared.representations.Representations.{Representations}
 use Rattle.dfdl_terms.specs.declared.prefix.Prefix.{Prefix}
 use Rattle.dfdl_terms.specs.declared.row.Row.{Row}
 use Rattle.dfdl_terms.specs.declared.row.Row.TheVariants.{Leaf, Elem, Group, Skip, Align, Boxed, PrefixedLeaf, PrefixedBox}
@@ -38,8 +39,8 @@ module _ (t : Table) (row : ℕ) where
   prefixed_box_declares prefix body is less =
       row_is declared_by [] t.rows row (Some (PrefixedBox prefix body)) is ∙ below_is declared_by [] t.rows row body less
 
-  pub elem_declares : (name : List ℕ) (simple : Option Simple) (body : ℕ) → slice_get t.rows row ≡ Some (Elem name simple body) → elements_in t row ≡ row ∷ []
-  elem_declares name simple body is = row_is declared_by [] t.rows row (Some (Elem name simple body)) is
+  pub elem_declares : (name : List ℕ) (simple : Option Simple) (tried : Representations) (body : ℕ) → slice_get t.rows row ≡ Some (Elem name simple tried body) → elements_in t row ≡ row ∷ []
+  elem_declares name simple tried body is = row_is declared_by [] t.rows row (Some (Elem name simple tried body)) is
 
   pub group_declares : (children : List ℕ) → slice_get t.rows row ≡ Some (Group children) → All (λ c. c < row) children
       → elements_in t row ≡ flat_map (elements_in t) children
@@ -71,10 +72,10 @@ module _ (t : Table) (row : ℕ) where
   prefixed_box_steps prefix body is less =
       row_is steps_by 0 t.rows row (Some (PrefixedBox prefix body)) is ∙ ap (λ n. 1 + n) (below_is steps_by 0 t.rows row body less)
 
-  pub elem_steps : (name : List ℕ) (simple : Option Simple) (body : ℕ) → slice_get t.rows row ≡ Some (Elem name simple body) → body < row
+  pub elem_steps : (name : List ℕ) (simple : Option Simple) (tried : Representations) (body : ℕ) → slice_get t.rows row ≡ Some (Elem name simple tried body) → body < row
       → steps_of t row ≡ 2 + steps_of t body
-  elem_steps name simple body is less =
-      row_is steps_by 0 t.rows row (Some (Elem name simple body)) is ∙ ap (λ n. 2 + n) (below_is steps_by 0 t.rows row body less)
+  elem_steps name simple tried body is less =
+      row_is steps_by 0 t.rows row (Some (Elem name simple tried body)) is ∙ ap (λ n. 2 + n) (below_is steps_by 0 t.rows row body less)
 
   pub group_steps : (children : List ℕ) → slice_get t.rows row ≡ Some (Group children) → All (λ c. c < row) children
       → steps_of t row ≡ 1 + total (map (steps_of t) children)
@@ -91,8 +92,8 @@ pub there : {A : Type 0} (o : Option A) (r s : A) → Some r ≡ o → r ≡ s �
 there o r s is kind = sym is ∙ ap Some kind
 
 -- the children of a row are below it
-pub below_elem : (bound : ℕ) (r : Row) (name : List ℕ) (simple : Option Simple) (body : ℕ) → r ≡ Elem name simple body → ChildrenBelow bound r → body < bound
-below_elem bound r name simple body is below_row = subst (λ (x : Row). ChildrenBelow bound x) is below_row
+pub below_elem : (bound : ℕ) (r : Row) (name : List ℕ) (simple : Option Simple) (tried : Representations) (body : ℕ) → r ≡ Elem name simple tried body → ChildrenBelow bound r → body < bound
+below_elem bound r name simple tried body is below_row = subst (λ (x : Row). ChildrenBelow bound x) is below_row
 
 pub below_box : (bound : ℕ) (r : Row) (bits body : ℕ) → r ≡ Boxed bits body → ChildrenBelow bound r → body < bound
 below_box bound r bits body is below_row = subst (λ (x : Row). ChildrenBelow bound x) is below_row
@@ -118,17 +119,17 @@ on_ok_four (Err e) P Q R S X p q r s f = tt
 
 -- one step of the walk over declared elements
 module _ (t : Table) (row : ℕ) (elements left : List ℕ) where
-  pub elem_visited : (name : List ℕ) (simple : Option Simple) (body : ℕ) (now : List ℕ) → slice_get t.rows row ≡ Some (Elem name simple body)
+  pub elem_visited : (name : List ℕ) (simple : Option Simple) (tried : Representations) (body : ℕ) (now : List ℕ) → slice_get t.rows row ≡ Some (Elem name simple tried body)
       → now ≡ elements ++ row ∷ []
       → now ++ flat_map (elements_in t) left ≡ elements ++ (elements_in t row ++ flat_map (elements_in t) left)
-  elem_visited name simple body now is now_is =
+  elem_visited name simple tried body now is now_is =
       ap (λ xs. xs ++ flat_map (elements_in t) left) now_is
       ∙ (append_assoc elements (row ∷ []) (flat_map (elements_in t) left)
-      ∙ ap (λ xs. elements ++ (xs ++ flat_map (elements_in t) left)) (sym (elem_declares t row name simple body is)))
+      ∙ ap (λ xs. elements ++ (xs ++ flat_map (elements_in t) left)) (sym (elem_declares t row name simple tried body is)))
 
-  pub elem_less : (name : List ℕ) (simple : Option Simple) (body : ℕ) → slice_get t.rows row ≡ Some (Elem name simple body) → body < row
+  pub elem_less : (name : List ℕ) (simple : Option Simple) (tried : Representations) (body : ℕ) → slice_get t.rows row ≡ Some (Elem name simple tried body) → body < row
       → total (map (steps_of t) left) < steps_of t row + total (map (steps_of t) left)
-  elem_less name simple body is less = omega (arith, elem_steps t row name simple body is less)
+  elem_less name simple tried body is less = omega (arith, elem_steps t row name simple tried body is less)
 
   pub group_visited : (children now : List ℕ) → slice_get t.rows row ≡ Some (Group children) → All (λ c. c < row) children
       → now ≡ children ++ left

@@ -10,7 +10,7 @@ use Rattle.serde_json.specs.Written.{has_float, members_have_float, compact_text
 use Rattle.serde_json.specs.declared.value.Value.{Value}
 use Rattle.dfdl_region.specs.declared.node.Node.{Node}
 use Rattle.dfdl_region.specs.declared.node.Content.{Content}
-use Rattle.dfdl_region.specs.declared.node.Content.TheVariants.{Begun, Complex, Signed, Unsigned, Decimal, Truth, Text, Octets}
+use Rattle.dfdl_region.specs.declared.node.Content.TheVariants.{Begun, Complex, Nil, Signed, Unsigned, Decimal, Truth, Text, Octets}
 use Rattle.dfdl_terms.specs.Rows.{Table}
 use Rattle.dfdl_json.specs.Children.{name_of}
 use Rattle.dfdl_json.specs.Inside.{HaveMembers, put_if}
@@ -59,6 +59,7 @@ data-no_float bytes (Decimal d) entries none = refl
 data-no_float bytes (Truth truth) entries none = refl
 data-no_float bytes (Text from len) entries none = refl
 data-no_float bytes (Octets from len) entries none = refl
+data-no_float bytes Nil entries none = refl
 data-no_float bytes Complex entries none = none
 data-no_float bytes Begun entries none = none
 

@@ -12,7 +12,7 @@ root_row t = length t.rows - 1
 
 -- the local name of a row's element; other rows have none
 abbrev pub name_in : Option Row → List ℕ
-name_in (Some (Elem name simple body)) = name
+name_in (Some (Elem name simple tried body)) = name
 name_in _ = []
 
 -- the local name of the element of this row
@@ -22,7 +22,7 @@ name_of t row = name_in (slice_get t.rows row)
 -- the elements that a row declares, where `inside` has those of the rows below it: an element declares itself, a
 -- group what its children declare, a box, with or without a prefix, what its body declares, and no other row anything
 abbrev pub declared_by : (ℕ → List ℕ) → ℕ → Option Row → List ℕ
-declared_by inside row (Some (Elem name simple body)) = row ∷ []
+declared_by inside row (Some (Elem name simple tried body)) = row ∷ []
 declared_by inside row (Some (Group children)) = flat_map inside children
 declared_by inside row (Some (Leaf prim)) = []
 declared_by inside row (Some (Skip bits)) = []

@@ -104,9 +104,9 @@ complex_findings t inside row elements names (array items) = refused ObjectExpec
 -- what content says of a row's element, which stands in elements of these names, where `inside` has what it says of
 -- the rows below
 abbrev pub findings_by : Table → (ℕ → Data → Names → List Finding) → ℕ → Option Row → Data → Names → List Finding
-findings_by t inside row (Some (Elem name (Some kind) body)) content around =
+findings_by t inside row (Some (Elem name (Some kind) tried body)) content around =
     simple_findings row (name ∷ around) (value_in kind content)
-findings_by t inside row (Some (Elem name None body)) content around =
+findings_by t inside row (Some (Elem name None tried body)) content around =
     complex_findings t inside row (elements_in t body) (name ∷ around) content
 findings_by t inside row (Some (Leaf prim)) content around = []
 findings_by t inside row (Some (Group children)) content around = []

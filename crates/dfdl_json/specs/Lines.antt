@@ -1,18 +1,18 @@
 -- The infoset of parsed data, and its text: compact JSON and one line feed ('The DFDL Information Set').
 use Rattle.std.specs.Prelude.{ℕ, ◌+◌, nat_eq, if◌then◌else◌, List, [], ◌∷◌, ◌++◌}
-use Rattle.serde_json.specs.Data.{Data, string, object, Members, no_members, put}
+use Rattle.serde_json.specs.Data.{Data, null, string, object, Members, no_members, put}
 use Rattle.serde_json.specs.Written.{compact_text}
 use Rattle.dfdl_value.specs.declared.value.Value.TheVariants.{Int, Uns, Dec, Truth as TruthValue, Bytes}
 use Rattle.dfdl_value.specs.Writing.{text_of}
 use Rattle.dfdl_terms.specs.Rows.{Table}
 use Rattle.dfdl_region.specs.declared.node.Node.{Node}
 use Rattle.dfdl_region.specs.declared.node.Content.{Content}
-use Rattle.dfdl_region.specs.declared.node.Content.TheVariants.{Begun, Complex, Signed, Unsigned, Decimal, Truth, Text, Octets}
+use Rattle.dfdl_region.specs.declared.node.Content.TheVariants.{Begun, Complex, Nil, Signed, Unsigned, Decimal, Truth, Text, Octets}
 use Rattle.dfdl_region.specs.Bytes.{bytes_at}
 use Rattle.dfdl_json.specs.Children.{name_of}
 
--- the data of an element with this content, where these are the bytes of the document's text: a value is its text, and
--- another element, read to its end or not, has a member for each element in it
+-- the data of an element with this content, where these are the bytes of the document's text: a value is its text, a nil
+-- element is null, and another element, read to its end or not, has a member for each element in it
 abbrev pub data_of : List ℕ → Content → Members → Data
 data_of bytes (Signed number) entries = string (text_of (Int number))
 data_of bytes (Unsigned number) entries = string (text_of (Uns number))
@@ -20,6 +20,7 @@ data_of bytes (Decimal number) entries = string (text_of (Dec number))
 data_of bytes (Truth truth) entries = string (text_of (TruthValue truth))
 data_of bytes (Text from len) entries = string (bytes_at bytes from len)
 data_of bytes (Octets from len) entries = string (text_of (Bytes (bytes_at bytes from len)))
+data_of bytes Nil entries = null
 data_of bytes Complex entries = object entries
 data_of bytes Begun entries = object entries
 

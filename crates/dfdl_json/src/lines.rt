@@ -155,6 +155,7 @@ fn value_with(
             alloc,
             bytes_at(text, from, len),
         )?)),
+        Content::Nil => Ok(Json::Null),
         Content::Complex => Ok(Json::Object(members)),
         Content::Begun => Ok(Json::Object(members)),
     }

@@ -129,7 +129,14 @@ impl<'t, 'v> Reading<'t, 'v> {
             < steps_of terms.now row + steps_left terms.now self.old.tasks.items) }
     {
         match row_at(terms, row) {
-            Some(Row::Elem { name, simple, body }) => match simple {
+            Some(
+                Row::Elem {
+                    name,
+                    simple,
+                    body,
+                    ..
+                },
+            ) => match simple {
                 Some(kind) => self.read_simple(alloc, row, name.as_str(), *kind, content),
                 None => self.read_complex(alloc, terms, row, name.as_str(), *body, content),
             },

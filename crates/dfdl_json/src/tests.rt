@@ -1,6 +1,6 @@
 // Infosets of `r`, whose content is in a box behind a prefix. It has `a`, whose content is in a box, with `x` and, in a group
 // inside, `y`, and behind `a` and fill the number `b`, which has a prefix.
-ghost use Rattle.std.specs.Prelude.{◌≡◌, ◌≤◌, IfOk};
+ghost use Rattle.std.specs.Prelude.{◌≡◌, ◌≤◌, IfOk, None, false};
 ghost use Rattle.dfdl_forms.specs.Types.{form_of};
 ghost use Rattle.dfdl_forms.specs.Binary.{most_bits};
 ghost use Rattle.dfdl_terms.specs.Rows.{HasElementLast, IsPrimitive};
@@ -10,7 +10,9 @@ use crate::{InfosetFault, OpenElements, events_of, events_of_json, line_of, name
 use dfdl_decimal::Fixed;
 use dfdl_forms::{BitOrder, ByteOrder, IntForm};
 use dfdl_region::{Content, Node};
-use dfdl_terms::{Event, LengthUnit, Prefix, Primitive, Row, RowId, RowList, Tables, Terms};
+use dfdl_terms::{
+    Event, LengthUnit, Prefix, Primitive, Representations, Row, RowId, RowList, Tables, Terms,
+};
 use dfdl_value::{Simple, TextValue, Value};
 use std::alloc::{AllocError, Global};
 use std::test::Fail;
@@ -31,11 +33,17 @@ fn form(bits: u32, kind: Simple) -> Primitive
 }
 
 fn element(alloc: Global, name: &str, simple: Option<Simple>, body: u32) -> Result<Row, AllocError>
-    ensures { IfOk result (λ row. row ≡ Elem name.now simple body) }
+    ensures { IfOk result (λ row. row
+        ≡ Elem name.now simple (record { nil = None; empty = None; are_several = false }) body) }
 {
     Ok(Row::Elem {
         name: TextValue::from_str(alloc, name)?,
         simple,
+        tried: Representations {
+            nil: None,
+            empty: None,
+            are_several: false,
+        },
         body: RowId::new(body),
     })
 }
@@ -261,6 +269,24 @@ fn empty_values_of_a_line_are_empty_strings(rt: HostRuntime) -> Result<(), Fail>
     ];
     let line = line_of(rt.alloc(), &terms, &nodes, &text)?;
     assert_eq!(rt; line.as_str(), "{\"r\":{\"a\":{\"x\":\"\",\"y\":\"\"}}}\n");
+    Ok(())
+}
+
+#[test]
+fn a_nil_element_of_a_line_is_null(rt: HostRuntime) -> Result<(), Fail> {
+    let terms = nested(rt.alloc())?;
+    let nodes = [
+        node(12, 0, Content::Complex),
+        node(6, 0, Content::Complex),
+        node(1, 1, Content::Nil),
+        node(2, 1, Content::Unsigned(2)),
+        node(8, 0, Content::Nil),
+    ];
+    let line = line_of(rt.alloc(), &terms, &nodes, &[])?;
+    assert_eq!(rt;
+        line.as_str(),
+        "{\"r\":{\"a\":{\"x\":null,\"y\":\"2\"},\"b\":null}}\n"
+    );
     Ok(())
 }
 

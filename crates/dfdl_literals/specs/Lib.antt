@@ -1,8 +1,12 @@
 pub mod Names
 pub mod Lists
 pub mod Steps
+pub mod Readings
 pub mod Faults
+pub mod SingleSteps
 pub mod Pads
 pub mod PadSteps
+pub mod Fills
+pub mod FillSteps
 pub mod TextLists
 pub mod TextSteps

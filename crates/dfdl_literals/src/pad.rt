@@ -1,18 +1,15 @@
 // The character that the text of a pad character stands for.
 #![tactic(auto)]
 
-ghost use Rattle.std.specs.Prelude.{◌≡◌, ℕ, List, if◌then◌else◌, Some, None};
+ghost use Rattle.std.specs.Prelude.{◌≡◌, ℕ, List};
 ghost use Rattle.std.specs.List.{list_any};
 ghost use Rattle.std.specs.Str.{chars};
-ghost use Rattle.dfdl_literals.specs.Lists.{is_divider};
 ghost use Rattle.dfdl_literals.specs.declared.pad.PadCharacter.{PadCharacter as AnyPad};
 ghost use Rattle.dfdl_literals.specs.Pads.{StandsFor};
-ghost use Rattle.dfdl_literals.specs.PadSteps.{found_more, found_piece, found_text, found_whole, pad_acted, pad_found, pad_reading, pad_start, pad_step};
+ghost use Rattle.dfdl_literals.specs.PadSteps.{pad_found, pad_piece, pad_reading};
 
-use crate::letters::Letters;
-use crate::scan::{Act, Mark, act_at, is_space};
-use crate::{Ending, Piece};
-use std::marker::Model;
+use crate::Piece;
+use crate::single::{Found, found_in_text, has_space};
 
 /// What the text of a pad character stands for ('DFDL String Literals').
 #[derive(Debug, Clone, Copy, PartialEq, Eq)]
@@ -27,132 +24,13 @@ pub enum PadCharacter {
     Other,
 }
 
-// What the literals so far come to.
-#[derive(Clone, Copy)]
-pub enum Found {
-    // No literal.
-    Blank,
-    // One literal, of this character alone.
-    One(char),
-    // Anything else.
-    More,
-}
-
-fn as_literal(piece: Piece) -> Found
-    ensures { result ≡ found_piece piece }
+fn pad_of_piece(piece: Piece) -> PadCharacter
+    ensures { result ≡ pad_piece piece }
 {
     match piece {
-        Piece::Char(c) => Found::One(c),
-        _ => Found::More,
+        Piece::Char(c) => PadCharacter::Character(c),
+        _ => PadCharacter::Other,
     }
-}
-
-fn with_piece(found: Found, piece: Piece) -> Found
-    ensures { result ≡ found_more found piece }
-{
-    match found {
-        Found::Blank => as_literal(piece),
-        _ => Found::More,
-    }
-}
-
-// A list that is being read, as far as one character is looked for.
-#[derive(Drop)]
-struct PadScan {
-    found: Found,
-    // The open literal has no piece.
-    is_fresh: bool,
-    name: Letters,
-    mark: Mark,
-}
-
-impl Model for PadScan {
-    ghost use Rattle.dfdl_literals.specs.PadSteps.{PadState};
-
-    ghost Value = { PadState };
-
-    ghost view = { λ s. record {
-      found = s.found;
-      is_fresh = s.is_fresh;
-      name = s.name;
-      mark = s.mark;
-    } };
-}
-
-impl PadScan {
-    fn new() -> PadScan
-        ensures { result ≡ pad_start }
-    {
-        PadScan {
-            found: Found::Blank,
-            is_fresh: true,
-            name: Letters::new(),
-            mark: Mark::Whole(Ending::Ordinary),
-        }
-    }
-
-    // Whether the list could go on by the character.
-    fn step(&mut self, c: char) -> bool
-        ensures { pad_step self.old c ≡ (if result then Some self.new else None) }
-    {
-        match act_at(self.is_fresh, self.name.as_slice(), self.mark, c) {
-            Some(act) => self.take(act),
-            None => false,
-        }
-    }
-
-    fn take(&mut self, act: Act) -> bool
-        ensures { pad_acted self.old act ≡ (if result then Some self.new else None) }
-    {
-        match act {
-            Act::Move(mark) => self.mark = mark,
-            Act::Add(piece, before) => {
-                self.found = with_piece(self.found, piece);
-                self.is_fresh = false;
-                self.name = Letters::new();
-                self.mark = Mark::Whole(before);
-            }
-            Act::Close => {
-                self.is_fresh = true;
-                self.name = Letters::new();
-                self.mark = Mark::Whole(Ending::Ordinary);
-            }
-            Act::Letter(c) => {
-                self.mark = Mark::Name;
-                return self.name.push(c);
-            }
-        }
-        true
-    }
-
-    // What the literals come to, where the list may end.
-    fn finish(self) -> Option<Found>
-        ensures { result ≡ found_whole self }
-    {
-        match self.mark {
-            Mark::Whole(_) => Some(self.found),
-            _ => None,
-        }
-    }
-}
-
-// What the literals of a text come to, if it is a list of literals.
-fn found_in_text(text: &str) -> Option<Found>
-    ensures { result ≡ found_text (chars text.now) }
-{
-    let mut scan = PadScan::new();
-    for c in text.chars() {
-        if !scan.step(c) {
-            return None;
-        }
-    }
-    scan.finish()
-}
-
-fn has_space(text: &str) -> bool
-    ensures { result ≡ list_any is_divider (chars text.now) }
-{
-    text.chars().any(is_space)
 }
 
 fn standing_for(spaced: bool, found: Option<Found>) -> PadCharacter
@@ -160,7 +38,7 @@ fn standing_for(spaced: bool, found: Option<Found>) -> PadCharacter
 {
     match found {
         None => PadCharacter::Malformed,
-        Some(Found::One(c)) if !spaced => PadCharacter::Character(c),
+        Some(Found::One(piece)) if !spaced => pad_of_piece(piece),
         Some(_) => PadCharacter::Other,
     }
 }
@@ -170,7 +48,7 @@ pub fn pad_character(text: &str) -> PadCharacter
     ensures stands_for { StandsFor (chars text.now) result }
     ensures reading { result ≡ pad_reading (chars text.now) }
 {
-    standing_for(has_space(text), found_in_text(text))
+    standing_for(has_space(text), found_in_text(text, true))
 }
 
 /// Each text stands for one thing, which `pad_reading` tells.

@@ -2,8 +2,8 @@
 #![tactic(auto)]
 
 use crate::{
-    LiteralFault, PadCharacter, Piece, PlainFault, TextList, can_match_nothing, pad_character,
-    plain_texts, read_literals, text_list,
+    FillByte, LiteralFault, PadCharacter, Piece, PlainFault, TextList, can_match_nothing,
+    fill_byte, pad_character, plain_texts, read_literals, text_list,
 };
 use std::test::Fail;
 
@@ -227,6 +227,68 @@ fn no_lists_of_texts(rt: HostRuntime) -> Result<(), Fail> {
             matches!(text_list(rt.alloc(), text)?, TextList::Malformed),
             "{text}"
         );
+    }
+    Ok(())
+}
+
+#[test]
+fn fill_bytes(rt: HostRuntime) -> Result<(), Fail> {
+    let table = [
+        ("x", 0x78),
+        (";", 0x3b),
+        ("%%", 0x25),
+        ("%SP;", 0x20),
+        ("%NUL;", 0),
+        ("%DEL;", 0x7f),
+        ("%#65;", 0x41),
+        ("%#x41;", 0x41),
+        ("%#r00;", 0),
+        ("%#r80;", 0x80),
+        ("%#rFf;", 0xff),
+    ];
+    for (text, byte) in table {
+        assert_eq!(rt; fill_byte(text), FillByte::Byte(byte));
+    }
+    Ok(())
+}
+
+#[test]
+fn no_fill_bytes(rt: HostRuntime) -> Result<(), Fail> {
+    let others = [
+        "",
+        " ",
+        "\t",
+        " x",
+        "x ",
+        "%#r00; ",
+        "xx",
+        "x y",
+        "%#r00;%#r00;",
+        "x%#r00;",
+        "\u{e9}",
+        "%#x80;",
+        "%#128;",
+        "%NEL;",
+        "%NL;",
+        "%WSP;",
+        "%WSP+;",
+        "%WSP*;",
+    ];
+    for text in others {
+        assert_eq!(rt; fill_byte(text), FillByte::Other);
+    }
+    let malformed = [
+        "%",
+        "%%;",
+        "%#r0;",
+        "%#r000;",
+        "%#rG0;",
+        "%#x110000;",
+        "%ES;",
+        "x %ES;",
+    ];
+    for text in malformed {
+        assert_eq!(rt; fill_byte(text), FillByte::Malformed);
     }
     Ok(())
 }

@@ -17,20 +17,25 @@ use Rattle.dfdl_looks.proofs.Waiting.{kept}
 use Rattle.dfdl_grammar.specs.declared.end.End.{End}
 use Rattle.dfdl_grammar.specs.declared.end.End.TheVariants.{Done, Failed, Stopped}
 use Rattle.dfdl_grammar.specs.declared.limits.Limits.{Limits}
-use Rattle.dfdl_grammar.specs.States.{State, anchor}
+use Rattle.dfdl_grammar.specs.States.{State, anchor, anchor_at, read_by}
+use Rattle.dfdl_grammar.specs.Marks.{back, marked}
 use Rattle.dfdl_terms.specs.declared.text.TextSize.{TextSize}
 use Rattle.dfdl_grammar.specs.Leaves.{content_begins, has_room, program}
 use Rattle.dfdl_grammar.specs.Prefixes.{resized}
 use Rattle.dfdl_grammar.specs.Framing.{aligned}
 use Rattle.dfdl_grammar.specs.Elements.{begun, has_elements}
 use Rattle.dfdl_parse.specs.declared.frame.Frame.{Frame}
-use Rattle.dfdl_parse.specs.declared.frame.Frame.TheVariants.{Rest, Element, Box}
+use Rattle.dfdl_parse.specs.declared.frame.Frame.TheVariants.{Rest, Element, Box, Trial}
+use Rattle.dfdl_parse.specs.declared.frame.Next.{Next}
+use Rattle.dfdl_parse.specs.declared.frame.Next.TheVariants as next
+use Rattle.dfdl_parse.specs.declared.frame.Parts.{Parts}
 use Rattle.dfdl_parse.specs.declared.frame.Focus.{Focus}
 use Rattle.dfdl_parse.specs.declared.frame.Focus.TheVariants.{Enter, Pass, PassRest, Sized, Leave}
 use Rattle.dfdl_parse.specs.declared.frame.Behind.TheVariants as behind
 use Rattle.dfdl_parse.specs.Moves.{Machine, Move, pass, read_leaf, read_move}
 use Rattle.dfdl_parse.specs.Prefixed.{behind_units, prefix_move, read_prefix, read_resized, read_sized}
 use Rattle.dfdl_parse.specs.Machines.{children_of, enter, enter_group, fill, fill_move, go_on, leave, pass_rest, past_one, rest_move, seen_beyond, step}
+use Rattle.dfdl_parse.specs.Trials.{attempt, parts_of, retry, try_empty, try_nil, try_normal, two_rows}
 use Rattle.dfdl_parse.specs.Running.{Slid}
 use Rattle.dfdl_parse.proofs.Windows.{agrees_from, end_from}
 use Rattle.dfdl_parse.proofs.Beyond.{beyond-byte, beyond-end}
@@ -136,19 +141,21 @@ module _ (held : Held) (s : State) where
   filled-held window sight to NotYet k = refl
   filled-held window sight to Over k = refl
 
-  fill-keeps : (limits : Limits) (to : ℕ) (k : List Frame) → held.base ≤ (to - 1) / 8 → Keeps held (fill limits held to k s)
-  fill-keeps limits to k base =
+  fill-keeps : (limits : Limits) (to : ℕ) (k : List Frame) → Stands held (Pass to) s → Keeps held (fill limits held to k s)
+  fill-keeps limits to k stands =
       let last : ℕ = (to - 1) / 8 in
-      let near : ℕ = min last (end_of held) in
+      let low : ℕ = anchor_at s (to - 1) in
+      let base : held.base ≤ low = stands.0 in
+      let near : ℕ = min low (end_of held) in
       let sight : Held = from_byte held near in
-      let seen : Seen = seen_beyond held last in
+      let seen : Seen = seen_beyond held low last in
       let same : sight ≡ (fill limits held to k s).held = sym (filled-held limits.window sight to seen k) in
       let slid : Slid held sight = record { size = refl; ended = refl; end = end_from held near (omega arith) (omega arith); base = omega arith } in
       record {
         slid = subst (λ (h : Held). Slid held h) same slid;
         agrees = λ whole agrees. subst (λ (h : Held). Agrees h whole) same (agrees_from held whole near (omega arith) (omega arith) agrees);
-        tail = λ on. filled-tail limits.window sight to seen k (beyond-end held last base on);
-        far = λ on. filled-far limits.window sight to seen k (beyond-end held last base on) (λ b is. beyond-byte held last base b is);
+        tail = λ on. filled-tail limits.window sight to seen k (beyond-end held low last base stands.1 on);
+        far = λ on. filled-far limits.window sight to seen k (beyond-end held low last base stands.1 on) (λ b is. beyond-byte held low last base stands.1 b is);
       }
 
   -- the cost of a byte of the rest of a box
@@ -189,27 +196,52 @@ module _ (held : Held) (s : State) where
   rested-held window sight bit outer NotYet k = refl
   rested-held window sight bit outer Over k = refl
 
-  rest-keeps : (limits : Limits) (bit outer : ℕ) (k : List Frame) → held.base ≤ bit / 8 → Keeps held (pass_rest limits held bit outer k s)
-  rest-keeps limits bit outer k base =
+  rest-keeps : (limits : Limits) (bit outer : ℕ) (k : List Frame) → Stands held (PassRest bit outer) s → Keeps held (pass_rest limits held bit outer k s)
+  rest-keeps limits bit outer k stands =
       let byte : ℕ = bit / 8 in
-      let near : ℕ = min byte (end_of held) in
+      let low : ℕ = anchor_at s (8 * byte) in
+      let base : held.base ≤ low = stands.0 in
+      let near : ℕ = min low (end_of held) in
       let sight : Held = from_byte held near in
-      let seen : Seen = seen_beyond held byte in
+      let seen : Seen = seen_beyond held low byte in
       let same : sight ≡ (pass_rest limits held bit outer k s).held = sym (rested-held limits.window sight bit outer seen k) in
       let slid : Slid held sight = record { size = refl; ended = refl; end = end_from held near (omega arith) (omega arith); base = omega arith } in
       record {
         slid = subst (λ (h : Held). Slid held h) same slid;
         agrees = λ whole agrees. subst (λ (h : Held). Agrees h whole) same (agrees_from held whole near (omega arith) (omega arith) agrees);
-        tail = λ on. rested-tail limits.window sight bit outer seen k (beyond-end held byte base on);
-        far = λ on. rested-far limits.window sight bit outer seen k (beyond-end held byte base on) (λ b is. beyond-byte held byte base b is);
+        tail = λ on. rested-tail limits.window sight bit outer seen k (beyond-end held low byte base stands.1.1 on);
+        far = λ on. rested-far limits.window sight bit outer seen k (beyond-end held low byte base stands.1.1 on) (λ b is. beyond-byte held low byte base stands.1.1 b is);
       }
 
-  element-keeps : (most id : ℕ) (complex : Bool) (body : ℕ) (k : List Frame) (room : Bool)
+  attempt-keeps : (cost : Tally) → cost.tail ≡ 0 → cost.far ≡ 0 → (most id : ℕ) (parts : Parts) (instead : Option ℕ) (k : List Frame) (t : State) (room : Bool)
       → Keeps held (cond room
-      (pass one_row held (Enter body) (Element s.inside complex ∷ k) (begun id s))
-      (pass one_row held (Leave (Stopped Nodes most)) k s))
-  element-keeps most id complex body k true = pass-keeps one_row held _ _ _ refl refl
-  element-keeps most id complex body k false = pass-keeps one_row held _ _ _ refl refl
+      (pass cost held (Enter parts.body) (Element t.inside parts.complex ∷ k) (begun id instead t))
+      (pass cost held (Leave (Stopped Nodes most)) k t))
+  attempt-keeps cost no_tail no_far most id parts instead k t true = pass-keeps cost held _ _ _ no_tail no_far
+  attempt-keeps cost no_tail no_far most id parts instead k t false = pass-keeps cost held _ _ _ no_tail no_far
+
+  module _ (cost : Tally) (no_tail : cost.tail ≡ 0) (no_far : cost.far ≡ 0) (most id : ℕ) (parts : Parts) (k : List Frame) (t : State) where
+    normal-keeps : Keeps held (try_normal cost most held id parts k t)
+    normal-keeps = attempt-keeps cost no_tail no_far most id parts None (Trial id next.Nothing ∷ k) t (nat_lt (length t.nodes) most)
+
+    empty-keeps : (empty : Option ℕ) → Keeps held (try_empty cost most held id parts empty k t)
+    empty-keeps None = normal-keeps
+    empty-keeps (Some prim) = attempt-keeps cost no_tail no_far most id parts (Some prim) (Trial id next.Normal ∷ k) t (nat_lt (length t.nodes) most)
+
+    nil-keeps : (nil : Option ℕ) → Keeps held (try_nil cost most held id parts nil k t)
+    nil-keeps None = empty-keeps parts.tried.empty
+    nil-keeps (Some prim) = attempt-keeps cost no_tail no_far most id parts (Some prim) (Trial id next.Empty ∷ k) t (nat_lt (length t.nodes) most)
+
+  element-keeps : (most id : ℕ) (parts : Parts) (k : List Frame) (several : Bool)
+      → Keeps held (cond several (try_nil two_rows most held id parts parts.tried.nil k (marked s)) (attempt two_rows most held id parts None k s))
+  element-keeps most id parts k true = nil-keeps two_rows refl refl most id parts k (marked s) parts.tried.nil
+  element-keeps most id parts k false = attempt-keeps two_rows refl refl most id parts None k s (nat_lt (length s.nodes) most)
+
+  retry-keeps : (most id : ℕ) (parts : Option Parts) (follows : Next) (end_told : End) (k : List Frame) → Keeps held (retry most held id parts follows end_told k s)
+  retry-keeps most id None follows end_told k = pass-keeps nothing held _ _ _ refl refl
+  retry-keeps most id (Some parts) next.Empty end_told k = empty-keeps one_row refl refl most id parts k (back s) parts.tried.empty
+  retry-keeps most id (Some parts) next.Normal end_told k = normal-keeps one_row refl refl most id parts k (back s)
+  retry-keeps most id (Some parts) next.Nothing end_told k = pass-keeps nothing held _ _ _ refl refl
 
   group-keeps : (id : ℕ) (children : List ℕ) (k : List Frame) → Keeps held (enter_group held id children k s)
   group-keeps id [] k = pass-keeps one_row held _ _ _ refl refl
@@ -217,9 +249,9 @@ module _ (held : Held) (s : State) where
 
   enter-keeps : Anchored held s → (limits : Limits) (table : Table) (id : ℕ) (r : Option Row) (k : List Frame) → Keeps held (enter limits table held id r k s)
   enter-keeps stands limits table id None k = pass-keeps one_row held _ _ _ refl refl
-  enter-keeps stands limits table id (Some (Leaf prim)) k = leaf-keeps stands one_row refl refl limits (Enter id) (slice_get table.primitives prim) k
-  enter-keeps stands limits table id (Some (Elem name simple body)) k =
-      element-keeps limits.nodes id (has_elements simple) body k (nat_lt (length s.nodes) limits.nodes)
+  enter-keeps stands limits table id (Some (Leaf prim)) k = leaf-keeps stands one_row refl refl limits (Enter id) (slice_get table.primitives (read_by s.instead prim)) k
+  enter-keeps stands limits table id (Some (Elem name simple tried body)) k =
+      element-keeps limits.nodes id (record { complex = has_elements simple; tried = tried; body = body }) k tried.are_several
   enter-keeps stands limits table id (Some (Group children)) k = group-keeps id children k
   enter-keeps stands limits table id (Some (Skip bits)) k = begin-keeps (s.at + bits) k (nat_le (s.at + bits) s.at) (nat_le (s.at + bits) s.stop)
   enter-keeps stands limits table id (Some (Align bits)) k =
@@ -231,7 +263,7 @@ module _ (held : Held) (s : State) where
     far = λ on. omega arith;
   }
   enter-keeps stands limits table id (Some (PrefixedLeaf prefix prim)) k =
-      prefix-keeps stands limits id prefix.own (behind_units table.primitives prefix.unit (behind.Leaf prim)) (slice_get table.primitives prefix.prim) k
+      prefix-keeps stands limits id prefix.own (behind_units table.primitives prefix.unit (behind.Leaf (read_by s.instead prim))) (slice_get table.primitives prefix.prim) k
   enter-keeps stands limits table id (Some (PrefixedBox prefix body)) k =
       prefix-keeps stands limits id prefix.own (behind_units table.primitives prefix.unit (behind.Box body)) (slice_get table.primitives prefix.prim) k
 
@@ -239,21 +271,24 @@ module _ (held : Held) (s : State) where
   go-keeps id next None k = pass-keeps nothing held _ _ _ refl refl
   go-keeps id next (Some child) k = pass-keeps nothing held _ _ _ refl refl
 
-  leave-keeps : (table : Table) (frame : Frame) (end_told : End) (k : List Frame) → Keeps held (leave table held frame end_told k s)
-  leave-keeps table (Rest id next) Done k = go-keeps id next (slice_get (children_of (slice_get table.rows id)) next) k
-  leave-keeps table (Rest id next) (Failed cause bit) k = pass-keeps nothing held _ _ _ refl refl
-  leave-keeps table (Rest id next) (Stopped cause quantity) k = pass-keeps nothing held _ _ _ refl refl
-  leave-keeps table (Element outer complex) Done k = pass-keeps nothing held _ _ _ refl refl
-  leave-keeps table (Element outer complex) (Failed cause bit) k = pass-keeps nothing held _ _ _ refl refl
-  leave-keeps table (Element outer complex) (Stopped cause quantity) k = pass-keeps nothing held _ _ _ refl refl
-  leave-keeps table (Box outer) Done k = leave-box-keeps outer k (nat_le s.stop s.at)
-  leave-keeps table (Box outer) (Failed cause bit) k = pass-keeps nothing held _ _ _ refl refl
-  leave-keeps table (Box outer) (Stopped cause quantity) k = pass-keeps nothing held _ _ _ refl refl
+  leave-keeps : (limits : Limits) (table : Table) (frame : Frame) (end_told : End) (k : List Frame) → Keeps held (leave limits table held frame end_told k s)
+  leave-keeps limits table (Rest id next) Done k = go-keeps id next (slice_get (children_of (slice_get table.rows id)) next) k
+  leave-keeps limits table (Rest id next) (Failed cause bit) k = pass-keeps nothing held _ _ _ refl refl
+  leave-keeps limits table (Rest id next) (Stopped cause quantity) k = pass-keeps nothing held _ _ _ refl refl
+  leave-keeps limits table (Element outer complex) Done k = pass-keeps nothing held _ _ _ refl refl
+  leave-keeps limits table (Element outer complex) (Failed cause bit) k = pass-keeps nothing held _ _ _ refl refl
+  leave-keeps limits table (Element outer complex) (Stopped cause quantity) k = pass-keeps nothing held _ _ _ refl refl
+  leave-keeps limits table (Box outer) Done k = leave-box-keeps outer k (nat_le s.stop s.at)
+  leave-keeps limits table (Box outer) (Failed cause bit) k = pass-keeps nothing held _ _ _ refl refl
+  leave-keeps limits table (Box outer) (Stopped cause quantity) k = pass-keeps nothing held _ _ _ refl refl
+  leave-keeps limits table (Trial id next) Done k = pass-keeps nothing held _ _ _ refl refl
+  leave-keeps limits table (Trial id next) (Failed cause bit) k = retry-keeps limits.nodes id (parts_of (slice_get table.rows id)) next (Failed cause bit) k
+  leave-keeps limits table (Trial id next) (Stopped cause quantity) k = pass-keeps nothing held _ _ _ refl refl
 
   pub step-keeps : (limits : Limits) (table : Table) (focus : Focus) (k : List Frame) → Stands held focus s → Keeps held (step limits table held focus k s)
   step-keeps limits table (Enter id) k stands = enter-keeps stands limits table id (slice_get table.rows id) k
-  step-keeps limits table (Pass to) k stands = fill-keeps limits to k stands.0
-  step-keeps limits table (PassRest bit outer) k stands = rest-keeps limits bit outer k stands.0
+  step-keeps limits table (Pass to) k stands = fill-keeps limits to k stands
+  step-keeps limits table (PassRest bit outer) k stands = rest-keeps limits bit outer k stands
   step-keeps limits table (Sized prim size) k stands = sized-keeps stands limits prim size (slice_get table.primitives prim) k
   step-keeps limits table (Leave end_told) [] stands = pass-keeps nothing held _ _ _ refl refl
-  step-keeps limits table (Leave end_told) (frame ∷ k) stands = leave-keeps table frame end_told k
+  step-keeps limits table (Leave end_told) (frame ∷ k) stands = leave-keeps limits table frame end_told k

@@ -1,23 +1,27 @@
 -- A step does a part of what is ahead.
-use Rattle.std.proofs.Common.{◌≡◌, ℕ, suc, ◌+◌, ◌-◌, ◌*◌, ◌/◌, ◌<◌, min, nat_le, refl, List, [], ◌∷◌, length, drop, Bool, true, false, cond, nat_lt, Option, Some, None, All, ap, sym, ◌∙◌, arith}
-use Rattle.std.specs.Prelude.{is_some, slice_get}
+use Rattle.std.proofs.Common.{◌≡◌, ℕ, suc, ◌+◌, ◌-◌, ◌*◌, ◌/◌, ◌<◌, min, nat_le, refl, List, [], ◌∷◌, length, drop, Bool, true, false, cond, nat_lt, Option, Some, None, All, ap, sym, subst, ◌∙◌, arith}
+use Rattle.std.specs.Prelude.{IfSome, is_some, slice_get}
 use Rattle.std.proofs.lemmas.Bool.Decides.{nat_tests}
 use Rattle.std.proofs.lemmas.Option.{slice_get_within}
 use Rattle.dfdl_bits.specs.Window.{Held, end_of, from_byte}
 use Rattle.dfdl_bits.specs.declared.window.Seen.{Seen}
 use Rattle.dfdl_bits.specs.declared.window.Seen.TheVariants.{Byte, End as DataEnded, NotYet, Over}
+use Rattle.dfdl_report.specs.declared.cause.LimitCause.{LimitCause}
 use Rattle.dfdl_report.specs.declared.cause.LimitCause.TheVariants.{Nodes, Window}
+use Rattle.dfdl_report.specs.declared.cause.ParseCause.{ParseCause}
 use Rattle.dfdl_terms.specs.declared.row.Primitive.{Primitive}
 use Rattle.dfdl_terms.specs.declared.row.Row.{Row}
 use Rattle.dfdl_terms.specs.declared.row.Row.TheVariants.{Leaf, Elem, Group, Skip, Align, Boxed, PrefixedLeaf, PrefixedBox}
 use Rattle.dfdl_terms.specs.Rows.{Table, Nests}
 use Rattle.dfdl_looks.specs.Looks.{seen_in}
 use Rattle.dfdl_looks.specs.Asks.{Answer, Reading}
-use Rattle.dfdl_looks.specs.Tallies.{nothing, one_row, saw_byte, saw_end, saw_none}
+use Rattle.dfdl_looks.specs.Tallies.{Tally, nothing, one_row, plus, saw_byte, saw_end, saw_none}
 use Rattle.dfdl_looks.proofs.Resumed.{on_seen}
 use Rattle.dfdl_grammar.specs.declared.end.End.{End}
 use Rattle.dfdl_grammar.specs.declared.end.End.TheVariants.{Done, Failed, Stopped}
-use Rattle.dfdl_grammar.specs.States.{Input, State, anchor_at}
+use Rattle.dfdl_grammar.specs.States.{Input, State, anchor_at, read_by}
+use Rattle.dfdl_grammar.specs.Marks.{back, closed, marked}
+use Rattle.dfdl_grammar.specs.Representations.{then_empty, then_nil, then_normal}
 use Rattle.dfdl_grammar.specs.Outcomes.{Outcome, ended, spend, then_do}
 use Rattle.dfdl_report.specs.declared.cause.ParseCause.TheVariants.{DataEnds, LengthOutOfRange}
 use Rattle.dfdl_grammar.specs.Prefixes.{bits_of_units, size_of, sized_leaf}
@@ -25,36 +29,128 @@ use Rattle.dfdl_grammar.specs.Framing.{aligned, fill_to, passed}
 use Rattle.dfdl_grammar.specs.Boxes.{boxed, bytes_up_to, pass_bytes, past_byte, rest, unboxed}
 use Rattle.dfdl_grammar.specs.Elements.{begun, close, has_elements, left}
 use Rattle.dfdl_grammar.specs.Rows.{below, group, meaning, row}
-use Rattle.dfdl_grammar.proofs.Spending.{spend-nothing}
+use Rattle.dfdl_grammar.proofs.Spending.{spend-nothing, spend-spend}
 use Rattle.dfdl_grammar.proofs.Towers.{below-meaning}
 use Rattle.dfdl_parse.specs.declared.frame.Frame.{Frame}
-use Rattle.dfdl_parse.specs.declared.frame.Frame.TheVariants.{Rest, Element, Box}
+use Rattle.dfdl_parse.specs.declared.frame.Frame.TheVariants.{Rest, Element, Box, Trial}
+use Rattle.dfdl_parse.specs.declared.frame.Next.{Next}
+use Rattle.dfdl_parse.specs.declared.frame.Next.TheVariants as next
+use Rattle.dfdl_parse.specs.declared.frame.Parts.{Parts}
 use Rattle.dfdl_parse.specs.declared.frame.Focus.{Focus}
 use Rattle.dfdl_parse.specs.declared.frame.Focus.TheVariants.{Enter, Pass, PassRest, Sized, Leave}
 use Rattle.dfdl_parse.specs.declared.frame.Behind.TheVariants as behind
 use Rattle.dfdl_parse.specs.Moves.{pass}
 use Rattle.dfdl_parse.specs.Prefixed.{behind_units}
 use Rattle.dfdl_parse.specs.Machines.{children_of, enter, enter_group, fill, fill_move, go_on, leave, pass_rest, rest_move, seen_beyond, step}
-use Rattle.dfdl_parse.specs.Ahead.{finish, focused}
+use Rattle.dfdl_parse.specs.Trials.{attempt, parts_of, retry, try_empty, try_nil, try_normal, two_rows}
+use Rattle.dfdl_parse.specs.Ahead.{finish, focused, retried, trial_of}
 use Rattle.dfdl_parse.proofs.Lists.{drop_some, drop_none, all_at}
 use Rattle.dfdl_parse.proofs.Beyond.{beyond-same}
-use Rattle.dfdl_parse.proofs.Finishes.{Anchored, Does, Fits, after_nothing, finish-spend, from_here, unboxed-spend}
+use Rattle.dfdl_parse.proofs.Finishes.{Anchored, Does, Fits, after_nothing, finish-spend, from_here, retried-spend, unboxed-spend}
 use Rattle.dfdl_parse.proofs.LeafSteps.{Sees, box-ahead, leaf-of, prefix-of, sized-begin, sized-of}
 
 module _ (input : Input) (table : Table) where
-  element-ahead : (most : ℕ) (held : Held) (id : ℕ) (complex : Bool) (body : ℕ) (k : List Frame) (s : State) → body < id → (room : Bool)
+  -- one representation of an element, where the costs before it are given
+  attempt-ahead : (cost : Tally) (held : Held) (id : ℕ) (parts : Parts) (instead : Option ℕ) (k : List Frame) (s : State) → parts.body < id → (room : Bool)
       → Does input table
-      (finish input table k (spend one_row (cond room
-      (let o : Outcome = below input table id body (begun id s) in close o.end s.inside complex o)
-      (ended (Stopped Nodes most) s))))
+      (finish input table k (spend cost (spend one_row (cond room
+      (let o : Outcome = below input table id parts.body (begun id instead s) in close o.end s.inside parts.complex o)
+      (ended (Stopped Nodes input.limits.nodes) s)))))
       (cond room
-      (pass one_row held (Enter body) (Element s.inside complex ∷ k) (begun id s))
-      (pass one_row held (Leave (Stopped Nodes most)) k s))
+      (pass (plus cost one_row) held (Enter parts.body) (Element s.inside parts.complex ∷ k) (begun id instead s))
+      (pass (plus cost one_row) held (Leave (Stopped Nodes input.limits.nodes)) k s))
   unfolding finish
-  element-ahead most held id complex body k s less true =
-      finish-spend input table k one_row _
-      ∙ ap (λ (o : Outcome). spend one_row (finish input table k (close o.end s.inside complex o))) (below-meaning input table id body (begun id s) less)
-  element-ahead most held id complex body k s less false = finish-spend input table k one_row (ended (Stopped Nodes most) s)
+  attempt-ahead cost held id parts instead k s less true =
+      let o : Outcome = below input table id parts.body (begun id instead s) in
+      ap (finish input table k) (spend-spend cost one_row (close o.end s.inside parts.complex o))
+      ∙ finish-spend input table k (plus cost one_row) (close o.end s.inside parts.complex o)
+      ∙ ap (λ (o : Outcome). spend (plus cost one_row) (finish input table k (close o.end s.inside parts.complex o)))
+      (below-meaning input table id parts.body (begun id instead s) less)
+  attempt-ahead cost held id parts instead k s less false =
+      ap (finish input table k) (spend-spend cost one_row (ended (Stopped Nodes input.limits.nodes) s))
+      ∙ finish-spend input table k (plus cost one_row) (ended (Stopped Nodes input.limits.nodes) s)
+
+  -- one of several representations, by what follows it
+  tried-ahead : (cost : Tally) (id : ℕ) (parts : Parts) (follows : Next) (o : Outcome) (k : List Frame) → parts_of (slice_get table.rows id) ≡ Some parts
+      → finish input table k (spend cost (retried input table id (Some parts) follows o)) ≡ finish input table (Trial id follows ∷ k) (spend cost o)
+  unfolding finish
+  tried-ahead cost id parts follows o k is =
+      ap (finish input table k) (sym (retried-spend input table id (Some parts) follows cost o))
+      ∙ ap (λ (p : Option Parts). finish input table k (retried input table id p follows (spend cost o))) (sym is)
+
+  module _ (cost : Tally) (held : Held) (id : ℕ) (parts : Parts) (k : List Frame) (s : State)
+      (is : parts_of (slice_get table.rows id) ≡ Some parts) (less : parts.body < id) where
+    abbrev room : Bool
+    room = nat_lt (length s.nodes) input.limits.nodes
+
+    normal-ahead : Does input table (finish input table k (spend cost (then_normal (trial_of input table id parts) s)))
+        (try_normal (plus cost one_row) input.limits.nodes held id parts k s)
+    normal-ahead =
+        tried-ahead cost id parts next.Nothing (trial_of input table id parts None s) k is
+        ∙ attempt-ahead cost held id parts None (Trial id next.Nothing ∷ k) s less room
+
+    empty-ahead : (empty : Option ℕ) → Does input table (finish input table k (spend cost (then_empty empty (trial_of input table id parts) s)))
+        (try_empty (plus cost one_row) input.limits.nodes held id parts empty k s)
+    empty-ahead None = normal-ahead
+    empty-ahead (Some prim) =
+        tried-ahead cost id parts next.Normal (trial_of input table id parts (Some prim) s) k is
+        ∙ attempt-ahead cost held id parts (Some prim) (Trial id next.Normal ∷ k) s less room
+
+    nil-ahead : (nil : Option ℕ) → Does input table (finish input table k (spend cost (then_nil nil parts.tried.empty (trial_of input table id parts) s)))
+        (try_nil (plus cost one_row) input.limits.nodes held id parts nil k s)
+    nil-ahead None = empty-ahead parts.tried.empty
+    nil-ahead (Some prim) =
+        tried-ahead cost id parts next.Empty (trial_of input table id parts (Some prim) s) k is
+        ∙ attempt-ahead cost held id parts (Some prim) (Trial id next.Empty ∷ k) s less room
+
+  element-ahead : (held : Held) (id : ℕ) (parts : Parts) (k : List Frame) (s : State) → parts_of (slice_get table.rows id) ≡ Some parts → parts.body < id → (several : Bool)
+      → Does input table
+      (finish input table k (spend one_row (cond several
+      (then_nil parts.tried.nil parts.tried.empty (trial_of input table id parts) (marked s)) (trial_of input table id parts None s))))
+      (cond several (try_nil two_rows input.limits.nodes held id parts parts.tried.nil k (marked s)) (attempt two_rows input.limits.nodes held id parts None k s))
+  element-ahead held id parts k s is less true = nil-ahead one_row held id parts k (marked s) is less parts.tried.nil
+  element-ahead held id parts k s is less false = attempt-ahead one_row held id parts None k s less (nat_lt (length s.nodes) input.limits.nodes)
+
+  -- the body of an element stands below it
+  body-below : Nests table.rows → (id : ℕ) (parts : Parts) (r : Option Row) → slice_get table.rows id ≡ r → parts_of r ≡ Some parts → parts.body < id
+  body-below nests id parts None is told = absurd (cc)
+  body-below nests id parts (Some (Leaf prim)) is told = absurd (cc)
+  body-below nests id parts (Some (Elem name simple tried body)) is told =
+      let less : body < id = nests id (Elem name simple tried body) (slice_get_within table.rows id (Elem name simple tried body) is) is in
+      subst (λ (p : Option Parts). IfSome p (λ q. q.body < id)) told less
+  body-below nests id parts (Some (Group children)) is told = absurd (cc)
+  body-below nests id parts (Some (Skip bits)) is told = absurd (cc)
+  body-below nests id parts (Some (Align bits)) is told = absurd (cc)
+  body-below nests id parts (Some (Boxed bits body)) is told = absurd (cc)
+  body-below nests id parts (Some (PrefixedLeaf prefix prim)) is told = absurd (cc)
+  body-below nests id parts (Some (PrefixedBox prefix body)) is told = absurd (cc)
+
+  -- a representation that is done
+  done-trial : (id : ℕ) (parts : Option Parts) (follows : Next) (s : State) → retried input table id parts follows (ended Done s) ≡ ended Done (closed s)
+  done-trial id None follows s = refl
+  done-trial id (Some parts) next.Empty s = refl
+  done-trial id (Some parts) next.Normal s = refl
+  done-trial id (Some parts) next.Nothing s = refl
+
+  -- and one that has come to a limit
+  stopped-trial : (id : ℕ) (parts : Option Parts) (follows : Next) (cause : LimitCause) (quantity : ℕ) (s : State)
+      → retried input table id parts follows (ended (Stopped cause quantity) s) ≡ ended (Stopped cause quantity) s
+  stopped-trial id None follows cause quantity s = refl
+  stopped-trial id (Some parts) next.Empty cause quantity s = refl
+  stopped-trial id (Some parts) next.Normal cause quantity s = refl
+  stopped-trial id (Some parts) next.Nothing cause quantity s = refl
+
+  -- and one that has failed
+  retry-ahead : Nests table.rows → (held : Held) (id : ℕ) (parts : Option Parts) (follows : Next) (cause : ParseCause) (bit : ℕ) (k : List Frame) (s : State)
+      → parts_of (slice_get table.rows id) ≡ parts
+      → Does input table (finish input table k (retried input table id parts follows (ended (Failed cause bit) s)))
+      (retry input.limits.nodes held id parts follows (Failed cause bit) k s)
+  retry-ahead nests held id None follows cause bit k s is = after_nothing input table k (ended (Failed cause bit) (closed s))
+  retry-ahead nests held id (Some parts) next.Empty cause bit k s is =
+      empty-ahead nothing held id parts k (back s) is (body-below nests id parts (slice_get table.rows id) refl is) parts.tried.empty
+  retry-ahead nests held id (Some parts) next.Normal cause bit k s is =
+      normal-ahead nothing held id parts k (back s) is (body-below nests id parts (slice_get table.rows id) refl is)
+  retry-ahead nests held id (Some parts) next.Nothing cause bit k s is = after_nothing input table k (ended (Failed cause bit) (closed s))
 
   -- fill begins
   enter-fill : (held : Held) (to : ℕ) (k : List Frame) (s : State) → (over inside : Bool)
@@ -90,12 +186,12 @@ module _ (input : Input) (table : Table) where
       → Does input table (finish input table k (fill_to input to s)) (fill input.limits held to k s)
   fill-ahead held to k s fits going =
       let last : ℕ = (to - 1) / 8 in
-      let sight : Held = from_byte held (min last (end_of held)) in
-      let seen : Seen = seen_beyond held last in
-      let same : seen ≡ seen_in input.bytes input.limits.window (anchor_at s (to - 1)) last =
-      beyond-same held last fits.stands.0 input.bytes fits.agrees (came input.limits.window sight to seen k s going)
-      ∙ ap (λ (size : ℕ). seen_in input.bytes size last last) fits.size
-      ∙ ap (λ (low : ℕ). seen_in input.bytes input.limits.window low last) (sym fits.stands.1) in
+      let low : ℕ = anchor_at s (to - 1) in
+      let sight : Held = from_byte held (min low (end_of held)) in
+      let seen : Seen = seen_beyond held low last in
+      let same : seen ≡ seen_in input.bytes input.limits.window low last =
+      beyond-same held low last fits.stands.0 fits.stands.1 input.bytes fits.agrees (came input.limits.window sight to seen k s going)
+      ∙ ap (λ (size : ℕ). seen_in input.bytes size low last) fits.size in
       ap (λ (v : Seen). finish input table k (filled to v s)) (sym same)
       ∙ filled-ahead sight to seen k s going
 
@@ -159,13 +255,13 @@ module _ (input : Input) (table : Table) where
       → Does input table (from_here input table (PassRest bit outer) k s) (pass_rest input.limits held bit outer k s)
   rest-of held bit outer k s fits going =
       let byte : ℕ = bit / 8 in
-      let sight : Held = from_byte held (min byte (end_of held)) in
-      let seen : Seen = seen_beyond held byte in
-      let same : seen ≡ seen_in input.bytes input.limits.window (anchor_at s (8 * byte)) byte =
-      beyond-same held byte fits.stands.0 input.bytes fits.agrees (rest-came input.limits.window sight bit outer seen k s going)
-      ∙ ap (λ (size : ℕ). seen_in input.bytes size byte byte) fits.size
-      ∙ ap (λ (low : ℕ). seen_in input.bytes input.limits.window low byte) (sym fits.stands.2) in
-      rest-seen bit outer k s fits.stands.1
+      let low : ℕ = anchor_at s (8 * byte) in
+      let sight : Held = from_byte held (min low (end_of held)) in
+      let seen : Seen = seen_beyond held low byte in
+      let same : seen ≡ seen_in input.bytes input.limits.window low byte =
+      beyond-same held low byte fits.stands.0 fits.stands.1.1 input.bytes fits.agrees (rest-came input.limits.window sight bit outer seen k s going)
+      ∙ ap (λ (size : ℕ). seen_in input.bytes size low byte) fits.size in
+      rest-seen bit outer k s fits.stands.1.0
       ∙ ap (λ (v : Seen). finish input table k (rested byte outer v s)) (sym same)
       ∙ rested-ahead sight bit outer seen k s going
 
@@ -196,10 +292,10 @@ module _ (input : Input) (table : Table) where
       → (enter input.limits table held id r k s).waits ≡ false
       → Does input table (finish input table k (spend one_row (row input table (below input table id) id r s))) (enter input.limits table held id r k s)
   enter-ahead nests held id None k s is fits going = finish-spend input table k one_row (ended Done s)
-  enter-ahead nests held id (Some (Leaf prim)) k s is fits going = leaf-of input table one_row (Enter id) held (slice_get table.primitives prim) k s (sees held s fits.stands fits) going
-  enter-ahead nests held id (Some (Elem name simple body)) k s is fits going =
-      let less : body < id = nests id (Elem name simple body) (slice_get_within table.rows id (Elem name simple body) is) is in
-      element-ahead input.limits.nodes held id (has_elements simple) body k s less (nat_lt (length s.nodes) input.limits.nodes)
+  enter-ahead nests held id (Some (Leaf prim)) k s is fits going = leaf-of input table one_row (Enter id) held (slice_get table.primitives (read_by s.instead prim)) k s (sees held s fits.stands fits) going
+  enter-ahead nests held id (Some (Elem name simple tried body)) k s is fits going =
+      let less : body < id = nests id (Elem name simple tried body) (slice_get_within table.rows id (Elem name simple tried body) is) is in
+      element-ahead held id (record { complex = has_elements simple; tried = tried; body = body }) k s (ap parts_of is) less tried.are_several
   enter-ahead nests held id (Some (Group children)) k s is fits going =
       group-ahead held id children k s is (nests id (Group children) (slice_get_within table.rows id (Group children) is) is)
   enter-ahead nests held id (Some (Skip bits)) k s is fits going = enter-fill held (s.at + bits) k s (nat_le (s.at + bits) s.at) (nat_le (s.at + bits) s.stop)
@@ -210,10 +306,11 @@ module _ (input : Input) (table : Table) where
       finish-spend input table k one_row (boxed input bits (below input table id body) s)
       ∙ ap (spend one_row) (box-ahead input table id bits body k s less (nat_le (s.at + bits) s.stop))
   enter-ahead nests held id (Some (PrefixedLeaf prefix prim)) k s is fits going =
-      let primitive : Option Primitive = slice_get table.primitives prim in
+      let by : ℕ = read_by s.instead prim in
+      let primitive : Option Primitive = slice_get table.primitives by in
       prefix-of input table id prefix.own (λ units after. sized_leaf input primitive (size_of prefix.unit units) after)
-      (behind_units table.primitives prefix.unit (behind.Leaf prim)) k
-      (λ units after. sized-begin input table prim (size_of prefix.unit units) primitive k after refl)
+      (behind_units table.primitives prefix.unit (behind.Leaf by)) k
+      (λ units after. sized-begin input table by (size_of prefix.unit units) primitive k after refl)
       held (slice_get table.primitives prefix.prim) s (sees held s fits.stands fits) going
   enter-ahead nests held id (Some (PrefixedBox prefix body)) k s is fits going =
       let less : body < id = nests id (PrefixedBox prefix body) (slice_get_within table.rows id (PrefixedBox prefix body) is) is in
@@ -227,7 +324,7 @@ module _ (input : Input) (table : Table) where
   children-below : Nests table.rows → (id : ℕ) (r : Option Row) → slice_get table.rows id ≡ r → All (λ c. c < id) (children_of r)
   children-below nests id None is = λ i row less. absurd (omega arith)
   children-below nests id (Some (Leaf prim)) is = λ i row less. absurd (omega arith)
-  children-below nests id (Some (Elem name simple body)) is = λ i row less. absurd (omega arith)
+  children-below nests id (Some (Elem name simple tried body)) is = λ i row less. absurd (omega arith)
   children-below nests id (Some (Group children)) is = nests id (Group children) (slice_get_within table.rows id (Group children) is) is
   children-below nests id (Some (Skip bits)) is = λ i row less. absurd (omega arith)
   children-below nests id (Some (Align bits)) is = λ i row less. absurd (omega arith)
@@ -252,7 +349,7 @@ module _ (input : Input) (table : Table) where
       ∙ after_nothing input table k (then_do (meaning input table child s) last)
 
   leave-ahead : Nests table.rows → (held : Held) (frame : Frame) (end : End) (k : List Frame) (s : State)
-      → Does input table (finish input table (frame ∷ k) (ended end s)) (leave table held frame end k s)
+      → Does input table (finish input table (frame ∷ k) (ended end s)) (leave input.limits table held frame end k s)
   unfolding finish
   leave-ahead nests held (Rest id next) Done k s = rest-ahead nests held id next (slice_get (children_of (slice_get table.rows id)) next) k s refl
   leave-ahead nests held (Rest id next) (Failed cause bit) k s = after_nothing input table k (ended (Failed cause bit) s)
@@ -265,6 +362,12 @@ module _ (input : Input) (table : Table) where
       ∙ leave-box held outer k s (nat_le s.stop s.at) refl
   leave-ahead nests held (Box outer) (Failed cause bit) k s = after_nothing input table k (ended (Failed cause bit) s)
   leave-ahead nests held (Box outer) (Stopped cause quantity) k s = after_nothing input table k (ended (Stopped cause quantity) s)
+  leave-ahead nests held (Trial id next) Done k s =
+      ap (finish input table k) (done-trial id (parts_of (slice_get table.rows id)) next s) ∙ after_nothing input table k (ended Done (closed s))
+  leave-ahead nests held (Trial id next) (Failed cause bit) k s = retry-ahead nests held id (parts_of (slice_get table.rows id)) next cause bit k s refl
+  leave-ahead nests held (Trial id next) (Stopped cause quantity) k s =
+      ap (finish input table k) (stopped-trial id (parts_of (slice_get table.rows id)) next cause quantity s)
+      ∙ after_nothing input table k (ended (Stopped cause quantity) s)
 
   pub step-ahead : Nests table.rows → (held : Held) (focus : Focus) (k : List Frame) (s : State) → Fits held input focus s
       → (step input.limits table held focus k s).waits ≡ false

@@ -20,95 +20,104 @@ within_or_past zero end = inl (omega arith)
 within_or_past (suc k) zero = inr (omega arith)
 within_or_past (suc k) (suc end) = elim (within_or_past k end) [ inl few ↦ inl (omega arith) | inr past ↦ inr (omega arith) ]
 
-none-between : (n : ℕ) → n - n ≡ 0
-none-between n = omega arith
-
--- a look at a byte that is the first that is needed, behind the end of the data
-pub past-end : (whole : List ℕ) (size k : ℕ) → length whole ≤ k → seen_in whole size k k ≡ cond (leb size 0) Over End
-past-end whole size k past =
+-- a look behind the end of the data
+pub past-end : (whole : List ℕ) (size low k : ℕ) → length whole ≤ k → seen_in whole size low k ≡ cond (leb size (k - low)) Over End
+past-end whole size low k past =
     let behind : ltb k (length whole) ≡ false = grind (arith, nat_tests) in
-    ap (λ (n : ℕ). cond (leb size n) Over (cond (ltb k (length whole)) (Byte (get_or whole k 0)) End)) (none-between k)
-    ∙ ap (λ (i : Bool). cond (leb size 0) Over (cond i (Byte (get_or whole k 0)) End)) behind
+    ap (λ (i : Bool). cond (leb size (k - low)) Over (cond i (Byte (get_or whole k 0)) End)) behind
 
 -- and behind the bytes that have come
-beyond-past : (held : Held) (k : ℕ) → held.base ≤ end_of held → min k (end_of held) ≡ end_of held
-    → seen_beyond held k ≡ cond (leb held.size 0) Over (cond held.ended End NotYet)
-beyond-past held k base near =
+beyond-past : (held : Held) (low k : ℕ) → held.base ≤ end_of held → min low (end_of held) ≡ end_of held
+    → seen_beyond held low k ≡ cond (leb held.size (k - low)) Over (cond held.ended End NotYet)
+beyond-past held low k base near =
     let end : ℕ = end_of held in
+    let rest : List ℕ = drop (end - held.base) held.bytes in
     let size = length-drop (end - held.base) held.bytes in
-    let none : ltb (end - end) (length (drop (end - held.base) held.bytes)) ≡ false = grind (arith, nat_tests) in
-    ap (λ (n : ℕ). seen_at (from_byte held n) n) near
-    ∙ ap (λ (i : Bool). shown (leb held.size (end - end)) i held.ended (get_or (drop (end - held.base) held.bytes) (end - end) 0)) none
-    ∙ ap (λ (n : ℕ). cond (leb held.size n) Over (cond held.ended End NotYet)) (none-between end)
+    let place : end + (k - low) - end ≡ k - low = omega arith in
+    let none : ltb (k - low) (length rest) ≡ false = grind (arith, nat_tests) in
+    ap (λ (n : ℕ). seen_at (from_byte held n) (n + (k - low))) near
+    ∙ ap (λ (n : ℕ). shown (leb held.size n) (ltb n (length rest)) held.ended (get_or rest n 0)) place
+    ∙ ap (λ (i : Bool). shown (leb held.size (k - low)) i held.ended (get_or rest (k - low) 0)) none
 
-module _ (held : Held) (k : ℕ) (base : held.base ≤ k) where
-  near-base : held.base ≤ min k (end_of held)
+module _ (held : Held) (low k : ℕ) (base : held.base ≤ low) (less : low ≤ k) where
+  abbrev near : ℕ
+  near = min low (end_of held)
+
+  near-base : held.base ≤ min low (end_of held)
   near-base = omega arith
 
-  near-end : min k (end_of held) ≤ end_of held
+  near-end : min low (end_of held) ≤ end_of held
   near-end = omega arith
 
-  ends : end_of (from_byte held (min k (end_of held))) ≡ end_of held
-  ends = end_from held (min k (end_of held)) near-base near-end
+  ends : end_of (from_byte held (min low (end_of held))) ≡ end_of held
+  ends = end_from held (min low (end_of held)) near-base near-end
 
   -- a byte that is seen
-  pub beyond-byte : (byte : ℕ) → seen_beyond held k ≡ Byte byte → k + 1 ≤ end_of held
+  pub beyond-byte : (byte : ℕ) → seen_beyond held low k ≡ Byte byte → k + 1 ≤ end_of held
   beyond-byte byte is =
-      let within = seen_within (from_byte held (min k (end_of held))) (min k (end_of held)) byte (omega arith) is in
+      let within = seen_within (from_byte held near) (near + (k - low)) byte (omega arith) is in
       omega (arith, within, ends)
 
-  pub beyond-end : held.ended ≡ false → seen_beyond held k ≡ End → ⊥
-  beyond-end on is = no_end (from_byte held (min k (end_of held))) (min k (end_of held)) on is
+  pub beyond-end : held.ended ≡ false → seen_beyond held low k ≡ End → ⊥
+  beyond-end on is = no_end (from_byte held near) (near + (k - low)) on is
 
   -- the look sees what it sees over the data, unless its byte hasn't come
-  pub beyond-same : (whole : List ℕ) → Agrees held whole → (seen_beyond held k ≡ NotYet → ⊥) → seen_beyond held k ≡ seen_in whole held.size k k
-  beyond-same whole agrees here = by (within_or_past k (end_of held))
+  pub beyond-same : (whole : List ℕ) → Agrees held whole → (seen_beyond held low k ≡ NotYet → ⊥) → seen_beyond held low k ≡ seen_in whole held.size low k
+  beyond-same whole agrees here = by (within_or_past low (end_of held))
     where
-      past : min k (end_of held) ≡ end_of held → end_of held < k → (o e : Bool) → leb held.size 0 ≡ o → held.ended ≡ e
-          → seen_beyond held k ≡ seen_in whole held.size k k
-      past near less true e over ended =
-          beyond-past held k (omega arith) near
+      past : min low (end_of held) ≡ end_of held → end_of held < low → (o e : Bool) → leb held.size (k - low) ≡ o → held.ended ≡ e
+          → seen_beyond held low k ≡ seen_in whole held.size low k
+      past at_end behind true e over ended =
+          beyond-past held low k (omega arith) at_end
           ∙ ap (λ (b : Bool). cond b Over (cond held.ended End NotYet)) over
           ∙ sym (ap (λ (b : Bool). cond b Over (cond (ltb k (length whole)) (Byte (get_or whole k 0)) End)) over)
-          ∙ sym (ap (λ (n : ℕ). cond (leb held.size n) Over (cond (ltb k (length whole)) (Byte (get_or whole k 0)) End)) (none-between k))
-      past near less false true over ended =
+      past at_end behind false true over ended =
           let all = agrees.all ended in
-          beyond-past held k (omega arith) near
-          ∙ ap (λ (b : Bool). cond (leb held.size 0) Over (cond b End NotYet)) ended
-          ∙ sym (past-end whole held.size k (omega arith))
-      past near less false false over ended =
-          absurd (here (beyond-past held k (omega arith) near
+          beyond-past held low k (omega arith) at_end
+          ∙ ap (λ (b : Bool). cond (leb held.size (k - low)) Over (cond b End NotYet)) ended
+          ∙ sym (past-end whole held.size low k (omega arith))
+      past at_end behind false false over ended =
+          absurd (here (beyond-past held low k (omega arith) at_end
           ∙ ap (λ (b : Bool). cond b Over (cond held.ended End NotYet)) over
           ∙ ap (λ (b : Bool). cond b End NotYet) ended))
 
-      held-there : min k (end_of held) ≡ k → seen_beyond held k ≡ seen_in whole held.size k k
-      held-there near =
-          let few : k ≤ end_of held = omega arith in
-          elim (seen_same (from_byte held k) whole (agrees_from held whole k base few agrees) k (omega arith)) [
-            | inl not_yet ↦ absurd (here (ap (λ (n : ℕ). seen_at (from_byte held n) n) near ∙ not_yet))
-            | inr same ↦ ap (λ (n : ℕ). seen_at (from_byte held n) n) near ∙ sym same
+      held-there : min low (end_of held) ≡ low → seen_beyond held low k ≡ seen_in whole held.size low k
+      held-there at_low =
+          let few : low ≤ end_of held = omega arith in
+          let place : low + (k - low) ≡ k = omega arith in
+          let is : seen_beyond held low k ≡ seen_at (from_byte held low) k =
+          ap (λ (n : ℕ). seen_at (from_byte held n) (n + (k - low))) at_low ∙ ap (λ (n : ℕ). seen_at (from_byte held low) n) place in
+          elim (seen_same (from_byte held low) whole (agrees_from held whole low base few agrees) k less) [
+            | inl not_yet ↦ absurd (here (is ∙ not_yet))
+            | inr same ↦ is ∙ sym same
           ]
 
-      by : (k ≤ end_of held) ⊎ (end_of held < k) → seen_beyond held k ≡ seen_in whole held.size k k
+      by : (low ≤ end_of held) ⊎ (end_of held < low) → seen_beyond held low k ≡ seen_in whole held.size low k
       by (inl few) = held-there (omega arith)
-      by (inr less) = past (omega arith) less _ _ refl refl
+      by (inr behind) = past (omega arith) behind _ _ refl refl
 
   -- a byte that hasn't come is past the data that have come, taken as whole
-  pub beyond-missed : (whole : List ℕ) → Agrees held whole → length whole ≡ end_of held → seen_beyond held k ≡ NotYet
-      → (seen_in whole held.size k k ≡ End) × (end_of held ≤ k)
+  pub beyond-missed : (whole : List ℕ) → Agrees held whole → length whole ≡ end_of held → seen_beyond held low k ≡ NotYet
+      → (seen_in whole held.size low k ≡ End) × (end_of held ≤ k)
   beyond-missed whole agrees all is =
-      let near : ℕ = min k (end_of held) in
       let sight : Held = from_byte held near in
-      let there = ends_there sight whole (agrees_from held whole near near-base near-end agrees) (all ∙ sym ends) near (omega arith) is in
-      let far : end_of held ≤ k = let behind = there.1 in omega (arith, behind, all) in
-      (past-end whole held.size k (omega (arith, far, all)) ∙ sym (past-end whole held.size near there.1) ∙ there.0, far)
+      let there = ends_there sight whole (agrees_from held whole near near-base near-end agrees) (all ∙ sym ends) (near + (k - low)) (omega arith) is in
+      let behind : length whole ≤ near + (k - low) = there.1 in
+      let far : end_of held ≤ k = omega (arith, behind, all) in
+      let past : length whole ≤ k = omega (arith, far, all) in
+      let place : near + (k - low) - near ≡ k - low = omega arith in (
+        past-end whole held.size low k past ∙ sym (ap (λ (n : ℕ). cond (leb held.size n) Over End) place)
+            ∙ sym (past-end whole held.size near (near + (k - low)) behind) ∙ there.0,
+        far,
+      )
 
 -- where a byte hasn't come, the end wasn't told, and there is room for it
-pub beyond-waits : (held : Held) (k : ℕ) → seen_beyond held k ≡ NotYet
-    → (held.ended ≡ false) × (0 < room_of (from_byte held (min k (end_of held))))
-beyond-waits held k is =
-    let near : ℕ = min k (end_of held) in
+pub beyond-waits : (held : Held) (low k : ℕ) → seen_beyond held low k ≡ NotYet
+    → (held.ended ≡ false) × (0 < room_of (from_byte held (min low (end_of held))))
+beyond-waits held low k is =
+    let near : ℕ = min low (end_of held) in
     let sight : Held = from_byte held near in
-    let here = waits_while sight (has_byte near) nothing (ap (λ (v : Seen). (on_seen (seen_at sight) (λ b. Answer (is_some b)) near nothing v).reached) is) in
+    let place : ℕ = near + (k - low) in
+    let here = waits_while sight (has_byte place) nothing (ap (λ (v : Seen). (on_seen (seen_at sight) (λ b. Answer (is_some b)) place nothing v).reached) is) in
     let short : length sight.bytes < sight.size = here.1 in
     (here.0, omega arith)

@@ -1,5 +1,5 @@
 -- Where what a leaf finds ends.
-use Rattle.std.proofs.Common.{ℕ, ◌*◌, ◌≤◌, Bool, List, Option, Some, None, Result, Ok, Err}
+use Rattle.std.proofs.Common.{ℕ, ◌*◌, ◌≤◌, Bool, true, false, List, Option, Some, None, Result, Ok, Err}
 use Rattle.dfdl_value.specs.declared.value.Value.{Value}
 use Rattle.dfdl_value.specs.declared.value.Value.TheVariants as value
 use Rattle.dfdl_number_text.specs.NumberReading.{reading as number_reading}
@@ -9,12 +9,14 @@ use Rattle.dfdl_packed.specs.Zoned.{zoned_reading}
 use Rattle.dfdl_packed.specs.declared.fault.PackedFault.{PackedFault}
 use Rattle.dfdl_packed.specs.declared.fault.PackedFault.TheVariants as packed
 use Rattle.dfdl_text_string.specs.Truths.{truth_of}
+use Rattle.dfdl_terms.specs.declared.text.NilForm.{NilForm}
 use Rattle.dfdl_terms.specs.declared.text.TextContent.{TextContent}
-use Rattle.dfdl_terms.specs.declared.text.TextContent.TheVariants.{Plain, Number, Zoned, Truth}
+use Rattle.dfdl_terms.specs.declared.text.TextContent.TheVariants.{Plain, Number, Zoned, Truth, Nil}
 use Rattle.dfdl_looks.specs.Asks.{Reached, Told, TooFar, Missing}
-use Rattle.dfdl_grammar.specs.Leaves.{Find, Fails, Finds, FindsOctets, FindsText, content_find, find_of, number_find, packed_find, truth_find}
+use Rattle.dfdl_grammar.specs.Leaves.{Find, Fails, Finds, FindsOctets, FindsText, content_find, default_find, find_of, nil_find, nil_octets_find, number_find, packed_find, truth_find}
+use Rattle.dfdl_grammar.specs.Nils.{are_nil, is_nil}
 use Rattle.dfdl_parse.specs.declared.leaf.Found.{Found}
-use Rattle.dfdl_parse.specs.declared.leaf.Found.TheVariants.{Reads, Octets as HasOctets, Text as HasText, Fails as HasFailed, Past, NotYet}
+use Rattle.dfdl_parse.specs.declared.leaf.Found.TheVariants.{Reads, Octets as HasOctets, Utf8, Text as HasText, Fails as HasFailed, Past, NotYet}
 use Rattle.dfdl_parse.specs.declared.leaf.Scratch.{Scratch}
 use Rattle.dfdl_parse.specs.Steps.{IsWithin, found_shown}
 
@@ -50,17 +52,37 @@ pub truth-at : (P : ℕ → Type 0) (end : ℕ) (truth : Option Bool) → P end 
 truth-at P end (Some truth) there = there
 truth-at P end None there = tt
 
+nil-at : (P : ℕ → Type 0) (end : ℕ) (is : Bool) → P end → AtEnd P (Told (nil_find end is))
+nil-at P end true there = there
+nil-at P end false there = tt
+
+pub nil_octets-at : (P : ℕ → Type 0) (form : NilForm) (find : Find) → AtEnd P (Told find) → AtEnd P (Told (nil_octets_find form find))
+nil_octets-at P form (Fails cause) there = tt
+nil_octets-at P form (Finds content end) there = tt
+nil_octets-at P form (FindsOctets bytes end) there = nil-at P end (are_nil form bytes) there
+nil_octets-at P form (FindsText bytes end) there = tt
+
+pub default-at : (P : ℕ → Type 0) (end : ℕ) (v : Value) → P end → AtEnd P (Told (default_find end v))
+default-at P end (value.Int z) there = there
+default-at P end (value.Uns n) there = there
+default-at P end (value.Dec d) there = there
+default-at P end (value.Text t) there = there
+default-at P end (value.Truth t) there = there
+default-at P end (value.Bytes b) there = there
+
 -- what characters are read as ends where their box does
 pub content-at : (P : ℕ → Type 0) (content : TextContent) (characters : List ℕ) (end : ℕ) → P end → AtEnd P (Told (content_find content characters end))
 content-at P Plain characters end there = there
 content-at P (Number form kind) characters end there = written-at P end (number_reading form kind characters) there
 content-at P (Zoned form) characters end there = packed-at P end (zoned_reading form characters) there
 content-at P (Truth form) characters end there = truth-at P end (truth_of form characters) there
+content-at P (Nil form) characters end there = nil-at P end (is_nil form characters) there
 
 -- what is found by the code lies where it ends
 pub ends-found : (last : ℕ) (scratch : Scratch) (found : Found) → AtEnd (λ e. e ≤ 8 * last) (found_shown scratch found) → IsWithin found last
 ends-found last scratch (Reads content end) ends = ends
 ends-found last scratch (HasOctets end) ends = ends
+ends-found last scratch (Utf8 end) ends = ends
 ends-found last scratch (HasText from to end) ends = ends
 ends-found last scratch (HasFailed cause) ends = tt
 ends-found last scratch Past ends = tt

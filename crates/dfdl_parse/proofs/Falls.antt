@@ -15,7 +15,8 @@ use Rattle.dfdl_looks.specs.Tallies.{Tally, nothing, one_row, saw_byte}
 use Rattle.dfdl_grammar.specs.declared.end.End.{End}
 use Rattle.dfdl_grammar.specs.declared.end.End.TheVariants.{Done, Failed, Stopped}
 use Rattle.dfdl_grammar.specs.declared.limits.Limits.{Limits}
-use Rattle.dfdl_grammar.specs.States.{Input, State, anchor}
+use Rattle.dfdl_grammar.specs.States.{Input, State, anchor, anchor_at, read_by}
+use Rattle.dfdl_grammar.specs.Marks.{back, marked}
 use Rattle.dfdl_grammar.specs.Outcomes.{Outcome}
 use Rattle.dfdl_terms.specs.declared.text.TextSize.{TextSize}
 use Rattle.dfdl_grammar.specs.Leaves.{Find, Fails, Finds, FindsOctets, FindsText, content_begins, has_room, program}
@@ -23,13 +24,17 @@ use Rattle.dfdl_grammar.specs.Prefixes.{bits_of_units, resized, size_of, units_t
 use Rattle.dfdl_grammar.specs.Framing.{aligned}
 use Rattle.dfdl_grammar.specs.Elements.{begun, has_elements}
 use Rattle.dfdl_parse.specs.declared.frame.Frame.{Frame}
-use Rattle.dfdl_parse.specs.declared.frame.Frame.TheVariants.{Rest, Element, Box}
+use Rattle.dfdl_parse.specs.declared.frame.Frame.TheVariants.{Rest, Element, Box, Trial}
+use Rattle.dfdl_parse.specs.declared.frame.Next.{Next}
+use Rattle.dfdl_parse.specs.declared.frame.Next.TheVariants as next
+use Rattle.dfdl_parse.specs.declared.frame.Parts.{Parts}
 use Rattle.dfdl_parse.specs.declared.frame.Focus.{Focus}
 use Rattle.dfdl_parse.specs.declared.frame.Focus.TheVariants.{Enter, Pass, PassRest, Sized, Leave}
 use Rattle.dfdl_parse.specs.declared.frame.Behind.TheVariants as behind
 use Rattle.dfdl_parse.specs.Moves.{Machine, Move, is_missing, landed, pass, read_leaf, read_move}
 use Rattle.dfdl_parse.specs.Prefixed.{at_end, behind_units, can_fit, landed_prefix, prefix_move, read_prefix, read_resized, read_sized, sized_begins, units_begin}
 use Rattle.dfdl_parse.specs.Machines.{HasEnded, children_of, enter, enter_group, fill_move, go_on, leave, rest_move, seen_beyond, step}
+use Rattle.dfdl_parse.specs.Trials.{attempt, parts_of, retry, try_empty, try_nil, try_normal, two_rows}
 use Rattle.dfdl_parse.specs.Ahead.{ahead}
 use Rattle.dfdl_parse.proofs.Finishes.{Fits}
 use Rattle.dfdl_parse.proofs.Ahead.{step-ahead}
@@ -131,12 +136,45 @@ module _ (limits : Limits) (id own : ℕ) (next : ℕ → List Frame → State �
   prefix-falls held None s = omega arith
   prefix-falls held (Some primitive) s = prefix-in-falls held primitive s (has_room primitive s.at s.stop)
 
-element-falls : (most : ℕ) (held : Held) (id : ℕ) (complex : Bool) (body : ℕ) (k : List Frame) (s : State) (room : Bool)
-    → Falls (Enter id) k (cond room
-    (pass one_row held (Enter body) (Element s.inside complex ∷ k) (begun id s))
-    (pass one_row held (Leave (Stopped Nodes most)) k s))
-element-falls most held id complex body k s true = omega arith
-element-falls most held id complex body k s false = omega arith
+-- one representation of an element, where its cost is enough for what it puts on the stack
+attempt-falls : (cost : Tally) (most : ℕ) (held : Held) (id : ℕ) (parts : Parts) (instead : Option ℕ) (k : List Frame) (s : State) (bound : ℕ)
+    → 2 * length k + 2 < 4 * (cost.rows + cost.looks) + bound → (room : Bool)
+    → let move : Move = cond room
+    (pass cost held (Enter parts.body) (Element s.inside parts.complex ∷ k) (begun id instead s))
+    (pass cost held (Leave (Stopped Nodes most)) k s) in
+    left_of move.machine < 4 * (move.tally.rows + move.tally.looks) + bound
+attempt-falls cost most held id parts instead k s bound some true = omega arith
+attempt-falls cost most held id parts instead k s bound some false = omega arith
+
+module _ (cost : Tally) (most : ℕ) (held : Held) (id : ℕ) (parts : Parts) (k : List Frame) (s : State) (bound : ℕ)
+    (some : 2 * length k + 4 < 4 * (cost.rows + cost.looks) + bound) where
+  abbrev HasLess : Move → Type 0
+  HasLess move = left_of move.machine < 4 * (move.tally.rows + move.tally.looks) + bound
+
+  normal-falls : HasLess (try_normal cost most held id parts k s)
+  normal-falls = attempt-falls cost most held id parts None (Trial id next.Nothing ∷ k) s bound (omega arith) (nat_lt (length s.nodes) most)
+
+  empty-falls : (empty : Option ℕ) → HasLess (try_empty cost most held id parts empty k s)
+  empty-falls None = normal-falls
+  empty-falls (Some prim) = attempt-falls cost most held id parts (Some prim) (Trial id next.Normal ∷ k) s bound (omega arith) (nat_lt (length s.nodes) most)
+
+  nil-falls : (nil : Option ℕ) → HasLess (try_nil cost most held id parts nil k s)
+  nil-falls None = empty-falls parts.tried.empty
+  nil-falls (Some prim) = attempt-falls cost most held id parts (Some prim) (Trial id next.Empty ∷ k) s bound (omega arith) (nat_lt (length s.nodes) most)
+
+element-falls : (most : ℕ) (held : Held) (id : ℕ) (parts : Parts) (k : List Frame) (s : State) (several : Bool)
+    → Falls (Enter id) k (cond several
+    (try_nil two_rows most held id parts parts.tried.nil k (marked s)) (attempt two_rows most held id parts None k s))
+element-falls most held id parts k s true = nil-falls two_rows most held id parts k (marked s) (2 * length k + mode (Enter id)) (omega arith) parts.tried.nil
+element-falls most held id parts k s false = attempt-falls two_rows most held id parts None k s (2 * length k + mode (Enter id)) (omega arith) (nat_lt (length s.nodes) most)
+
+retry-falls : (most : ℕ) (held : Held) (id : ℕ) (parts : Option Parts) (follows : Next) (end : End) (k : List Frame) (s : State)
+    → Falls (Leave end) (Trial id follows ∷ k) (retry most held id parts follows end k s)
+retry-falls most held id None follows end k s = omega arith
+retry-falls most held id (Some parts) next.Empty end k s =
+    empty-falls one_row most held id parts k (back s) (2 * length (Trial id next.Empty ∷ k) + mode (Leave end)) (omega arith) parts.tried.empty
+retry-falls most held id (Some parts) next.Normal end k s = normal-falls one_row most held id parts k (back s) (2 * length (Trial id next.Normal ∷ k) + mode (Leave end)) (omega arith)
+retry-falls most held id (Some parts) next.Nothing end k s = omega arith
 
 group-falls : (held : Held) (id : ℕ) (children : List ℕ) (k : List Frame) (s : State) → Falls (Enter id) k (enter_group held id children k s)
 group-falls held id [] k s = omega arith
@@ -178,9 +216,9 @@ filled-falls window sight to Over k s going = omega arith
 enter-falls : (limits : Limits) (table : Table) (held : Held) (id : ℕ) (r : Option Row) (k : List Frame) (s : State)
     → (enter limits table held id r k s).waits ≡ false → Falls (Enter id) k (enter limits table held id r k s)
 enter-falls limits table held id None k s going = omega arith
-enter-falls limits table held id (Some (Leaf prim)) k s going = leaf-falls one_row limits (Enter id) held (slice_get table.primitives prim) k s (omega arith) going
-enter-falls limits table held id (Some (Elem name simple body)) k s going =
-    element-falls limits.nodes held id (has_elements simple) body k s (nat_lt (length s.nodes) limits.nodes)
+enter-falls limits table held id (Some (Leaf prim)) k s going = leaf-falls one_row limits (Enter id) held (slice_get table.primitives (read_by s.instead prim)) k s (omega arith) going
+enter-falls limits table held id (Some (Elem name simple tried body)) k s going =
+    element-falls limits.nodes held id (record { complex = has_elements simple; tried = tried; body = body }) k s tried.are_several
 enter-falls limits table held id (Some (Group children)) k s going = group-falls held id children k s
 enter-falls limits table held id (Some (Skip bits)) k s going =
     begin-falls held id (s.at + bits) k s (nat_le (s.at + bits) s.at) (nat_le (s.at + bits) s.stop)
@@ -189,8 +227,8 @@ enter-falls limits table held id (Some (Align bits)) k s going =
 enter-falls limits table held id (Some (Boxed bits body)) k s going =
     let falls = box-begun-falls bits body k s (nat_le (s.at + bits) s.stop) in omega arith
 enter-falls limits table held id (Some (PrefixedLeaf prefix prim)) k s going =
-    prefix-falls limits id prefix.own (behind_units table.primitives prefix.unit (behind.Leaf prim)) k
-    (λ units after. begun-falls prim (size_of prefix.unit units) (slice_get table.primitives prim) k after)
+    prefix-falls limits id prefix.own (behind_units table.primitives prefix.unit (behind.Leaf (read_by s.instead prim))) k
+    (λ units after. begun-falls (read_by s.instead prim) (size_of prefix.unit units) (slice_get table.primitives (read_by s.instead prim)) k after)
     held (slice_get table.primitives prefix.prim) s
 enter-falls limits table held id (Some (PrefixedBox prefix body)) k s going =
     prefix-falls limits id prefix.own (behind_units table.primitives prefix.unit (behind.Box body)) k
@@ -201,27 +239,33 @@ go-falls : (held : Held) (id next : ℕ) (child : Option ℕ) (k : List Frame) (
 go-falls held id next None k s = omega arith
 go-falls held id next (Some child) k s = omega arith
 
-leave-falls : (table : Table) (held : Held) (frame : Frame) (end : End) (k : List Frame) (s : State) → Falls (Leave end) (frame ∷ k) (leave table held frame end k s)
-leave-falls table held (Rest id next) Done k s = go-falls held id next (slice_get (children_of (slice_get table.rows id)) next) k s
-leave-falls table held (Rest id next) (Failed cause bit) k s = omega arith
-leave-falls table held (Rest id next) (Stopped cause quantity) k s = omega arith
-leave-falls table held (Element outer complex) Done k s = omega arith
-leave-falls table held (Element outer complex) (Failed cause bit) k s = omega arith
-leave-falls table held (Element outer complex) (Stopped cause quantity) k s = omega arith
-leave-falls table held (Box outer) Done k s = leave-box-falls held outer k s (nat_le s.stop s.at)
-leave-falls table held (Box outer) (Failed cause bit) k s = omega arith
-leave-falls table held (Box outer) (Stopped cause quantity) k s = omega arith
+leave-falls : (limits : Limits) (table : Table) (held : Held) (frame : Frame) (end : End) (k : List Frame) (s : State) → Falls (Leave end) (frame ∷ k) (leave limits table held frame end k s)
+leave-falls limits table held (Rest id next) Done k s = go-falls held id next (slice_get (children_of (slice_get table.rows id)) next) k s
+leave-falls limits table held (Rest id next) (Failed cause bit) k s = omega arith
+leave-falls limits table held (Rest id next) (Stopped cause quantity) k s = omega arith
+leave-falls limits table held (Element outer complex) Done k s = omega arith
+leave-falls limits table held (Element outer complex) (Failed cause bit) k s = omega arith
+leave-falls limits table held (Element outer complex) (Stopped cause quantity) k s = omega arith
+leave-falls limits table held (Box outer) Done k s = leave-box-falls held outer k s (nat_le s.stop s.at)
+leave-falls limits table held (Box outer) (Failed cause bit) k s = omega arith
+leave-falls limits table held (Box outer) (Stopped cause quantity) k s = omega arith
+leave-falls limits table held (Trial id next) Done k s = omega arith
+leave-falls limits table held (Trial id next) (Failed cause bit) k s =
+    retry-falls limits.nodes held id (parts_of (slice_get table.rows id)) next (Failed cause bit) k s
+leave-falls limits table held (Trial id next) (Stopped cause quantity) k s = omega arith
 
 step-falls : (limits : Limits) (table : Table) (held : Held) (focus : Focus) (k : List Frame) (s : State) → (HasEnded focus k → ⊥)
     → (step limits table held focus k s).waits ≡ false → Falls focus k (step limits table held focus k s)
 step-falls limits table held (Enter id) k s on going = enter-falls limits table held id (slice_get table.rows id) k s going
 step-falls limits table held (PassRest bit outer) k s on going =
-    rested-falls limits.window (from_byte held (min (bit / 8) (end_of held))) bit outer (seen_beyond held (bit / 8)) k s going
+    let low : ℕ = anchor_at s (8 * (bit / 8)) in
+    rested-falls limits.window (from_byte held (min low (end_of held))) bit outer (seen_beyond held low (bit / 8)) k s going
 step-falls limits table held (Pass to) k s on going =
-    filled-falls limits.window (from_byte held (min ((to - 1) / 8) (end_of held))) to (seen_beyond held ((to - 1) / 8)) k s going
+    let low : ℕ = anchor_at s (to - 1) in
+    filled-falls limits.window (from_byte held (min low (end_of held))) to (seen_beyond held low ((to - 1) / 8)) k s going
 step-falls limits table held (Sized prim size) k s on going = sized-falls limits held prim size (slice_get table.primitives prim) k s going
 step-falls limits table held (Leave end) [] s on going = absurd (on refl)
-step-falls limits table held (Leave end) (frame ∷ k) s on going = leave-falls table held frame end k s
+step-falls limits table held (Leave end) (frame ∷ k) s on going = leave-falls limits table held frame end k s
 
 -- less is left behind a step
 pub smaller : (input : Input) (table : Table) → Nests table.rows → (held : Held) (focus : Focus) (k : List Frame) (s : State) → Fits held input focus s

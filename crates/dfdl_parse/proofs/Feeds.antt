@@ -1,5 +1,5 @@
 -- A session takes a piece, or the end of the data.
-use Rattle.std.proofs.Common.{◌≡◌, ℕ, zero, suc, ◌+◌, ◌-◌, ◌<◌, ◌≤◌, ◌⊎◌, inl, inr, refl, List, [], ◌++◌, length, get_or, true, false, ap, sym, subst, ◌∙◌, arith, append_assoc, length-append}
+use Rattle.std.proofs.Common.{◌≡◌, ℕ, zero, suc, ◌+◌, ◌-◌, ◌<◌, ◌≤◌, ◌⊎◌, inl, inr, refl, List, [], ◌++◌, length, get_or, Option, None, true, false, ap, sym, subst, ◌∙◌, arith, append_assoc, length-append}
 use Rattle.std.proofs.lemmas.List.{append-nil, get_or_append_left, get_or-append_right}
 use Rattle.dfdl_bits.specs.Window.{Held, end_of, with_more}
 use Rattle.dfdl_terms.specs.Rows.{Table}
@@ -7,6 +7,7 @@ use Rattle.dfdl_looks.specs.Looks.{Agrees}
 use Rattle.dfdl_looks.specs.Tallies.{Tally, nothing}
 use Rattle.dfdl_looks.proofs.Costs.{plus-nothing}
 use Rattle.dfdl_grammar.specs.declared.limits.Limits.{Limits}
+use Rattle.dfdl_grammar.specs.declared.mark.Mark.{Mark}
 use Rattle.dfdl_grammar.specs.States.{Input, State, front, no_box}
 use Rattle.dfdl_grammar.specs.Outcomes.{Outcome, ended, spend}
 use Rattle.dfdl_grammar.specs.Documents.{document}
@@ -129,16 +130,18 @@ over input table root p held looks_made ended_here runs =
 
 -- a session over no data
 pub stands_first : (limits : Limits) (table : Table) (p : Parser) (held : Held) (bytes : List ℕ) → p.focus ≡ Enter (length table.rows - 1) → p.stack ≡ []
-    → p.at ≡ 0 → p.inside ≡ 0 → p.far ≡ 0 → p.stop ≡ no_box → p.region.nodes ≡ [] → p.text.bytes ≡ [] → held.bytes ≡ [] → held.base ≡ 0 → held.ended ≡ false → held.size ≡ limits.window
+    → p.at ≡ 0 → p.inside ≡ 0 → p.far ≡ 0 → p.stop ≡ no_box → p.region.nodes ≡ [] → p.text.bytes ≡ [] → p.instead ≡ None → p.marks ≡ [] → held.bytes ≡ [] → held.base ≡ 0 → held.ended ≡ false → held.size ≡ limits.window
     → Runs (record { bytes = bytes; limits = limits }) table (document limits table bytes) (shown p) held 0 p.far
 unfolding finish
-stands_first limits table p held bytes focus stack at inside far stop nodes text none base on size =
+stands_first limits table p held bytes focus stack at inside far stop nodes text instead marks none base on size =
     let front_is : state_of p ≡ front =
-    ap (λ (n : ℕ). record { at = n; stop = p.stop; nodes = p.region.nodes; text = p.text.bytes; inside = p.inside; marks = [] }) at
-    ∙ ap (λ (n : ℕ). record { at = 0; stop = n; nodes = p.region.nodes; text = p.text.bytes; inside = p.inside; marks = [] }) stop
-    ∙ ap (λ (n : ℕ). record { at = 0; stop = no_box; nodes = p.region.nodes; text = p.text.bytes; inside = n; marks = [] }) inside
-    ∙ ap (λ ns. record { at = 0; stop = no_box; nodes = ns; text = p.text.bytes; inside = 0; marks = [] }) nodes
-    ∙ ap (λ bs. record { at = 0; stop = no_box; nodes = []; text = bs; inside = 0; marks = [] }) text in
+    ap (λ (n : ℕ). record { at = n; stop = p.stop; nodes = p.region.nodes; text = p.text.bytes; inside = p.inside; instead = p.instead; marks = p.marks }) at
+    ∙ ap (λ (n : ℕ). record { at = 0; stop = n; nodes = p.region.nodes; text = p.text.bytes; inside = p.inside; instead = p.instead; marks = p.marks }) stop
+    ∙ ap (λ (n : ℕ). record { at = 0; stop = no_box; nodes = p.region.nodes; text = p.text.bytes; inside = n; instead = p.instead; marks = p.marks }) inside
+    ∙ ap (λ ns. record { at = 0; stop = no_box; nodes = ns; text = p.text.bytes; inside = 0; instead = p.instead; marks = p.marks }) nodes
+    ∙ ap (λ bs. record { at = 0; stop = no_box; nodes = []; text = bs; inside = 0; instead = p.instead; marks = p.marks }) text
+    ∙ ap (λ (o : Option ℕ). record { at = 0; stop = no_box; nodes = []; text = []; inside = 0; instead = o; marks = p.marks }) instead
+    ∙ ap (λ (ms : List Mark). record { at = 0; stop = no_box; nodes = []; text = []; inside = 0; instead = None; marks = ms }) marks in
     let input : Input = record { bytes = bytes; limits = limits } in
     let machine : shown p ≡ record { focus = Enter (length table.rows - 1); stack = []; state = front } =
     ap (λ (f : Focus). record { focus = f; stack = p.stack; state = state_of p }) focus

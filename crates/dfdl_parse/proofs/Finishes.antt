@@ -1,5 +1,5 @@
 -- What is ahead of a machine, behind a cost.
-use Rattle.std.proofs.Common.{◌≡◌, ℕ, ◌-◌, ◌*◌, ◌/◌, ◌+◌, ◌<◌, ◌≤◌, nat_le, refl, List, [], ◌∷◌, length, drop, Bool, true, false, cond, ap, sym, ◌∙◌}
+use Rattle.std.proofs.Common.{◌≡◌, ℕ, ◌-◌, ◌*◌, ◌/◌, ◌+◌, ◌<◌, ◌≤◌, nat_le, refl, List, [], ◌∷◌, length, drop, Bool, true, false, cond, Option, Some, None, ap, sym, ◌∙◌}
 use Rattle.std.specs.Prelude.{slice_get}
 use Rattle.dfdl_bits.specs.Window.{Held, end_of}
 use Rattle.dfdl_report.specs.declared.cause.LimitCause.TheVariants.{Text as TextLimit}
@@ -14,15 +14,21 @@ use Rattle.dfdl_grammar.specs.States.{Input, State, anchor, anchor_at}
 use Rattle.dfdl_grammar.specs.Outcomes.{Outcome, ended, spend, then_do}
 use Rattle.dfdl_grammar.specs.Leaves.{Find, Fails, Finds, FindsOctets, FindsText, land}
 use Rattle.dfdl_grammar.specs.Boxes.{rest, unboxed}
+use Rattle.dfdl_grammar.specs.Marks.{back}
+use Rattle.dfdl_grammar.specs.Representations.{or_else, the_last, then_empty, then_normal}
 use Rattle.dfdl_grammar.specs.Rows.{below, group}
-use Rattle.dfdl_grammar.proofs.Spending.{spend-nothing, follow-spend, close-spend}
+use Rattle.dfdl_grammar.proofs.Spending.{spend-nothing, spend-spend, follow-spend, close-spend}
 use Rattle.dfdl_parse.specs.declared.frame.Frame.{Frame}
-use Rattle.dfdl_parse.specs.declared.frame.Frame.TheVariants.{Rest, Element, Box}
+use Rattle.dfdl_parse.specs.declared.frame.Frame.TheVariants.{Rest, Element, Box, Trial}
+use Rattle.dfdl_parse.specs.declared.frame.Next.{Next}
+use Rattle.dfdl_parse.specs.declared.frame.Next.TheVariants as next
+use Rattle.dfdl_parse.specs.declared.frame.Parts.{Parts}
 use Rattle.dfdl_parse.specs.declared.frame.Focus.{Focus}
 use Rattle.dfdl_parse.specs.declared.frame.Focus.TheVariants.{Enter, Pass, PassRest, Sized, Leave}
 use Rattle.dfdl_parse.specs.Moves.{Move, is_missing}
 use Rattle.dfdl_parse.specs.Machines.{children_of}
-use Rattle.dfdl_parse.specs.Ahead.{resume, finish, ahead}
+use Rattle.dfdl_parse.specs.Trials.{parts_of}
+use Rattle.dfdl_parse.specs.Ahead.{resume, retried, trial_of, finish, ahead}
 
 -- the window holds the bytes that a row at this state needs
 pub record Anchored (held : Held) (s : State) : Type 0 where
@@ -33,8 +39,8 @@ pub record Anchored (held : Held) (s : State) : Type 0 where
 -- the window holds the bytes that what is done next needs
 abbrev pub Stands : Held → Focus → State → Type 0
 Stands held (Enter id) s = Anchored held s
-Stands held (Pass to) s = (held.base ≤ (to - 1) / 8) × (anchor_at s (to - 1) ≡ (to - 1) / 8)
-Stands held (PassRest bit outer) s = (held.base ≤ bit / 8) × (bit < s.stop) × (anchor_at s (8 * (bit / 8)) ≡ bit / 8)
+Stands held (Pass to) s = (held.base ≤ anchor_at s (to - 1)) × (anchor_at s (to - 1) ≤ (to - 1) / 8)
+Stands held (PassRest bit outer) s = (held.base ≤ anchor_at s (8 * (bit / 8))) × ((bit < s.stop) × (anchor_at s (8 * (bit / 8)) ≤ bit / 8))
 Stands held (Sized prim size) s = Anchored held s
 Stands held (Leave end) s = Unit {0}
 
@@ -76,13 +82,32 @@ unboxed-spend Done t outer o = refl
 unboxed-spend (Failed cause bit) t outer o = refl
 unboxed-spend (Stopped cause quantity) t outer o = refl
 
+-- what was spent in a representation was spent before what follows it
+last-spend : (end : End) (t : Tally) (o : Outcome) → the_last end (spend t o) ≡ spend t (the_last end o)
+last-spend Done t o = refl
+last-spend (Failed cause bit) t o = refl
+last-spend (Stopped cause quantity) t o = refl
+
+else-spend : (end : End) (t : Tally) (o : Outcome) (next : State → Outcome) → or_else end (spend t o) next ≡ spend t (or_else end o next)
+else-spend Done t o next = refl
+else-spend (Failed cause bit) t o next = sym (spend-spend t o.tally (next (back o.state)))
+else-spend (Stopped cause quantity) t o next = refl
+
 module _ (input : Input) (table : Table) where
+  pub retried-spend : (id : ℕ) (parts : Option Parts) (follows : Next) (t : Tally) (o : Outcome)
+      → retried input table id parts follows (spend t o) ≡ spend t (retried input table id parts follows o)
+  retried-spend id None follows t o = last-spend o.end t o
+  retried-spend id (Some parts) next.Empty t o = else-spend o.end t o (then_empty parts.tried.empty (trial_of input table id parts))
+  retried-spend id (Some parts) next.Normal t o = else-spend o.end t o (then_normal (trial_of input table id parts))
+  retried-spend id (Some parts) next.Nothing t o = last-spend o.end t o
+
   resume-spend : (frame : Frame) (t : Tally) (o : Outcome) → resume input table frame (spend t o) ≡ spend t (resume input table frame o)
   resume-spend (Rest id next) t o = follow-spend o.end t o (group (below input table id) (drop next (children_of (slice_get table.rows id))))
   resume-spend (Element outer complex) t o = close-spend o.end t outer complex o
   resume-spend (Box outer) t o =
       ap (λ (p : Outcome). unboxed p.end outer p) (follow-spend o.end t o (rest input))
       ∙ unboxed-spend (then_do o (rest input)).end t outer (then_do o (rest input))
+  resume-spend (Trial id next) t o = retried-spend id (parts_of (slice_get table.rows id)) next t o
 
   pub finish-spend : (k : List Frame) (t : Tally) (o : Outcome) → finish input table k (spend t o) ≡ spend t (finish input table k o)
   unfolding finish

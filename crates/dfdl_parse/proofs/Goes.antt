@@ -7,20 +7,22 @@ use Rattle.dfdl_terms.specs.Rows.{Table, Nests}
 use Rattle.dfdl_looks.specs.Looks.{Agrees}
 use Rattle.dfdl_looks.specs.Tallies.{first_of, plus}
 use Rattle.dfdl_grammar.specs.declared.limits.Limits.{Limits}
-use Rattle.dfdl_grammar.specs.States.{Input}
+use Rattle.dfdl_grammar.specs.States.{Input, State}
 use Rattle.dfdl_grammar.specs.Outcomes.{Outcome, spend}
 use Rattle.dfdl_grammar.proofs.Spending.{spend-spend}
 use Rattle.dfdl_parse.specs.declared.parser.Parser.{Parser}
 use Rattle.dfdl_parse.specs.declared.frame.Focus.{Focus}
 use Rattle.dfdl_parse.specs.declared.frame.Focus.TheVariants.{Enter, Pass, PassRest, Sized, Leave}
 use Rattle.dfdl_parse.specs.Moves.{Machine, Move}
-use Rattle.dfdl_parse.specs.Machines.{HasEnded, NeedsFrom, step}
+use Rattle.dfdl_parse.specs.Machines.{HasEnded, step}
+use Rattle.dfdl_parse.specs.Opens.{IsHeld, NeedsFrom}
 use Rattle.dfdl_parse.specs.Ahead.{ahead}
 use Rattle.dfdl_parse.specs.Shown.{HasSameLimits, KeepsTo, limits_of, shown, state_of}
 use Rattle.dfdl_parse.specs.Steps.{Moved}
 use Rattle.dfdl_parse.specs.Runs.{Runs}
 use Rattle.dfdl_parse.specs.Running.{Advanced, Slid, Waited}
-use Rattle.dfdl_parse.proofs.Finishes.{Does, Fits, Stands}
+use Rattle.dfdl_parse.proofs.Finishes.{Anchored, Does, Fits, Stands}
+use Rattle.dfdl_parse.proofs.Opens.{holds}
 use Rattle.dfdl_parse.proofs.Ahead.{step-ahead}
 use Rattle.dfdl_parse.proofs.Advances.{Keeps, step-keeps}
 use Rattle.dfdl_parse.proofs.Waits.{step-waits}
@@ -56,15 +58,21 @@ pub same_twice : (a b c : Parser) → HasSameLimits a b → HasSameLimits b c �
 same_twice a b c one two = (two.0 ∙ one.0, two.1 ∙ one.1)
 
 -- the window holds the bytes that are needed next
-stands_at : (held : Held) (p : Parser) (focus : Focus) → NeedsFrom held.base focus (state_of p) → p.at ≤ 8 * end_of held → Stands held focus (state_of p)
-stands_at held p (Enter id) low at = record { base = low; end = within p.at (end_of held) at; low = same_number (p.at / 8) }
-stands_at held p (Pass to) low at = (low, refl)
-stands_at held p (PassRest bit outer) low at = (low.0, low.1, omega arith)
-stands_at held p (Sized prim size) low at = record { base = low; end = within p.at (end_of held) at; low = same_number (p.at / 8) }
+anchored_at : (held : Held) (s : State) → IsHeld held.base s.at s → s.at ≤ 8 * end_of held → Anchored held s
+anchored_at held s here at = let low = here.1 in record { base = here.0; end = omega arith; low = low }
+
+stands_at : (held : Held) (p : Parser) (focus : Focus) → NeedsFrom held.base focus p.stack (state_of p) → p.at ≤ 8 * end_of held → Stands held focus (state_of p)
+stands_at held p (Enter id) low at = anchored_at held (state_of p) (holds held.base (Enter id) p.stack (state_of p) low) at
+stands_at held p (Pass to) low at = holds held.base (Pass to) p.stack (state_of p) low
+stands_at held p (PassRest bit outer) low at =
+    let here = holds held.base (PassRest bit outer) p.stack (state_of p) low in
+    let few = here.1 in
+    (here.0, (low.1.0, omega arith))
+stands_at held p (Sized prim size) low at = anchored_at held (state_of p) (holds held.base (Sized prim size) p.stack (state_of p) low) at
 stands_at held p (Leave end) low at = tt
 
 module _ (table : Table) (nests : Nests table.rows) (old new : Parser) (before after : Held) (looks_made : ℕ)
-    (low : NeedsFrom before.base old.focus (state_of old)) (at : old.at ≤ 8 * end_of before) where
+    (low : NeedsFrom before.base old.focus old.stack (state_of old)) (at : old.at ≤ 8 * end_of before) where
   abbrev move : Move
   move = step (limits_of old before) table before old.focus old.stack (state_of old)
 
@@ -116,10 +124,10 @@ module _ (table : Table) (nests : Nests table.rows) (old new : Parser) (before a
       }
 
   -- the window behind the step holds the bytes that are needed next
-  pub still_low : (waited : Bool) → Moved move waited old.far new after looks_made → NeedsFrom after.base new.focus (state_of new)
+  pub still_low : (waited : Bool) → Moved move waited old.far new after looks_made → NeedsFrom after.base new.focus new.stack (state_of new)
   still_low waited moved =
-      subst (λ (h : Held). NeedsFrom h.base new.focus (state_of new)) (sym moved.held)
-      (subst (λ (m : Machine). NeedsFrom move.held.base m.focus m.state) (sym moved.machine)
+      subst (λ (h : Held). NeedsFrom h.base new.focus new.stack (state_of new)) (sym moved.held)
+      (subst (λ (m : Machine). NeedsFrom move.held.base m.focus m.stack m.state) (sym moved.machine)
       (step-low before (state_of old) (limits_of old before) table old.focus old.stack stands low))
 
   pub still_agrees : (waited : Bool) → Moved move waited old.far new after looks_made → (whole : List ℕ) → Agrees before whole → Agrees after whole
@@ -221,7 +229,7 @@ agrees_padded held =
 
 -- a step over the data of the window leaves less to be done
 pub step-smaller : (table : Table) → Nests table.rows → (old new : Parser) (before after : Held) (looks_made : ℕ) (input : Input)
-    → NeedsFrom before.base old.focus (state_of old) → old.at ≤ 8 * end_of before → KeepsTo old input.limits → before.size ≡ input.limits.window → Agrees before input.bytes
+    → NeedsFrom before.base old.focus old.stack (state_of old) → old.at ≤ 8 * end_of before → KeepsTo old input.limits → before.size ≡ input.limits.window → Agrees before input.bytes
     → (HasEnded old.focus old.stack → ⊥)
     → Moved (step (limits_of old before) table before old.focus old.stack (state_of old)) false old.far new after looks_made
     → measure input table (shown new) < measure input table (shown old)

@@ -1,8 +1,10 @@
 -- What the code made of a leaf or a prefix, said of the parser before it.
-use Rattle.std.proofs.Common.{◌≡◌, inl, inr, ℕ, ◌<◌, List, [], length, get_or, Bool, false, Option, Some, refl, ap, sym, subst, ◌∙◌, arith}
+use Rattle.std.proofs.Common.{◌≡◌, inl, inr, ℕ, ◌<◌, List, [], length, get_or, ltb, Bool, true, false, Option, Some, refl, ap, sym, subst, ◌∙◌, arith}
 use Rattle.std.specs.Prelude.{slice_get}
 use Rattle.std.proofs.lemmas.Option.{slice_get-get_or, slice_get_cases}
+use Rattle.std.proofs.lemmas.Bool.Decides.{nat_tests}
 use Rattle.dfdl_bits.specs.Window.{Held}
+use Rattle.dfdl_bits.specs.declared.window.Seen.{Seen}
 use Rattle.dfdl_terms.specs.declared.prefix.LengthUnit.{LengthUnit}
 use Rattle.dfdl_terms.specs.declared.row.Primitive.{Primitive}
 use Rattle.dfdl_terms.specs.declared.row.Row.{Row}
@@ -11,7 +13,7 @@ use Rattle.dfdl_terms.specs.declared.text.TextSize.{TextSize}
 use Rattle.dfdl_terms.specs.Rows.{Table, NamesWithin}
 use Rattle.dfdl_looks.specs.Tallies.{nothing, one_row}
 use Rattle.dfdl_grammar.specs.declared.limits.Limits.{Limits}
-use Rattle.dfdl_grammar.specs.States.{State}
+use Rattle.dfdl_grammar.specs.States.{State, read_by}
 use Rattle.dfdl_grammar.specs.Prefixes.{bits_of_units, resized, size_of}
 use Rattle.dfdl_parse.specs.declared.frame.Frame.{Frame}
 use Rattle.dfdl_parse.specs.declared.frame.Focus.{Focus}
@@ -21,7 +23,7 @@ use Rattle.dfdl_parse.specs.declared.frame.Behind.TheVariants as behind
 use Rattle.dfdl_parse.specs.declared.parser.Parser.{Parser}
 use Rattle.dfdl_parse.specs.Moves.{Move, read_leaf}
 use Rattle.dfdl_parse.specs.Machines.{enter, enter_box}
-use Rattle.dfdl_parse.specs.Prefixed.{IsNamed, behind_units, box_begins, read_resized, read_sized, sized_begins}
+use Rattle.dfdl_parse.specs.Prefixed.{behind_units, box_begins, read_resized, read_sized, sized_begins}
 use Rattle.dfdl_parse.specs.Steps.{Moved}
 use Rattle.dfdl_parse.specs.Shown.{Becomes, HasSameLimits, shown, state_of}
 
@@ -51,16 +53,10 @@ sized-moved limits held focus prim size primitives first primitive k s waited fa
 
 -- a leaf behind a prefix
 pub leaf-becomes : (old new : Parser) (primitives : List Primitive) (unit : LengthUnit) (b : Behind) (prim units : ℕ) → b ≡ behind.Leaf prim
-    → IsNamed (length primitives) b
-    → ((primitive : Primitive) → Becomes old (sized_begins (Some primitive) prim (size_of unit units) old.stack (state_of old)) new)
+    → Becomes old (sized_begins (slice_get primitives prim) prim (size_of unit units) old.stack (state_of old)) new
     → Becomes old (behind_units primitives unit b units old.stack (state_of old)) new
-leaf-becomes old new primitives unit b prim units is named begins =
-    let there : prim < length primitives = subst (λ (x : Behind). IsNamed (length primitives) x) is named in
-    subst (λ (x : Behind). Becomes old (behind_units primitives unit x units old.stack (state_of old)) new) (sym is)
-    (elim (slice_get_cases primitives prim).1 [
-      | inl found ↦ subst (λ (p : Option Primitive). Becomes old (sized_begins p prim (size_of unit units) old.stack (state_of old)) new) (sym found.2) (begins found.0)
-      | inr past ↦ absurd (omega (arith, past.0))
-    ])
+leaf-becomes old new primitives unit b prim units is begins =
+    subst (λ (x : Behind). Becomes old (behind_units primitives unit x units old.stack (state_of old)) new) (sym is) begins
 
 -- a box behind a prefix
 pub box-becomes : (old new : Parser) (primitives : List Primitive) (unit : LengthUnit) (b : Behind) (body units bits : ℕ) → b ≡ behind.Box body
@@ -83,22 +79,32 @@ indexed primitives all prim primitive same there is =
     (slice_get-get_or primitives prim primitive there
     ∙ ap (λ (p : Primitive). Some p) (sym is))
 
+pub got : (primitives all : List Primitive) (prim : ℕ) (primitive : Primitive) → primitives ≡ all → true ≡ ltb prim (length primitives)
+    → primitive ≡ get_or primitives prim primitive → slice_get all prim ≡ Some primitive
+got primitives all prim primitive same inside is = indexed primitives all prim primitive same (grind (arith, nat_tests)) is
+
+-- fill or the rest of a box is looked at, at the window, the bytes and the look that the clause speaks of
+pub looked-at : (window size low anchor last byte looks made : ℕ) (held : Held) (v : Seen) (sight : ℕ → Held) (seen : ℕ → ℕ → Seen)
+    → window ≡ size → low ≡ anchor → last ≡ byte → looks ≡ made → v ≡ seen low last → held ≡ sight low
+    → (P : ℕ → Held → Held → Seen → ℕ → Type 0) → P window held held v looks → P size (sight anchor) held (seen anchor byte) made
+looked-at window size low anchor last byte looks made held v sight seen same from at cost look is P here =
+    let one : P size held held v looks = subst (λ (w : ℕ). P w held held v looks) same here in
+    let two : P size held held v made = subst (λ (n : ℕ). P size held held v n) cost one in
+    let three : P size held held (seen low last) made = subst (λ (s : Seen). P size held held s made) look two in
+    let four : P size (sight low) held (seen low last) made = subst (λ (h : Held). P size h held (seen low last) made) is three in
+    let five : P size (sight anchor) held (seen anchor last) made = subst (λ (k : ℕ). P size (sight k) held (seen k last) made) from four in
+    subst (λ (k : ℕ). P size (sight anchor) held (seen anchor k) made) at five
+
 module _ (limits : Limits) (table : Table) (held : Held) (id : ℕ) (r : Row) (k : List Frame) (s : State) (far : ℕ) (new : Parser)
     (at : slice_get table.rows id ≡ Some r) where
   -- a leaf is entered
-  pub leaf-entered : (focus : Focus) (prim : ℕ) (primitives : List Primitive) (primitive view : Primitive) (waited : Bool) (now_held : Held) (looks : ℕ) → r ≡ Leaf prim
-      → NamesWithin (length table.primitives) r → primitives ≡ table.primitives → primitive ≡ get_or primitives prim primitive → view ≡ primitive → focus ≡ Enter id
-      → Moved (read_leaf one_row limits focus held (Some view) k s) waited far new now_held looks
+  pub leaf-entered : (focus : Focus) (prim : ℕ) (waited : Bool) (now_held : Held) (looks : ℕ) → r ≡ Leaf prim → focus ≡ Enter id
+      → Moved (read_leaf one_row limits focus held (slice_get table.primitives (read_by s.instead prim)) k s) waited far new now_held looks
       → Moved (enter limits table held id (slice_get table.rows id) k s) waited far new now_held looks
-  leaf-entered focus prim primitives primitive view waited now_held looks is named same got seen enters moved =
-      let there : prim < length table.primitives = subst (λ (x : Row). NamesWithin (length table.primitives) x) is named in
-      let found : slice_get table.primitives prim ≡ Some primitive = indexed primitives table.primitives prim primitive same
-      (subst (λ (xs : List Primitive). prim < length xs) (sym same) there) got in
+  leaf-entered focus prim waited now_held looks is enters moved =
       let row_is : slice_get table.rows id ≡ Some (Leaf prim) = at ∙ ap (λ (x : Row). Some x) is in
       subst (λ (o : Option Row). Moved (enter limits table held id o k s) waited far new now_held looks) (sym row_is)
-      (subst (λ (o : Option Primitive). Moved (read_leaf one_row limits (Enter id) held o k s) waited far new now_held looks) (sym found)
-      (subst (λ (f : Focus). Moved (read_leaf one_row limits f held (Some primitive) k s) waited far new now_held looks) enters
-      (subst (λ (p : Primitive). Moved (read_leaf one_row limits focus held (Some p) k s) waited far new now_held looks) seen moved)))
+      (subst (λ (f : Focus). Moved (read_leaf one_row limits f held (slice_get table.primitives (read_by s.instead prim)) k s) waited far new now_held looks) enters moved)
 
   -- a box is entered
   pub box-entered : (bits body looks : ℕ) → r ≡ Boxed bits body → looks ≡ 0

@@ -8,7 +8,7 @@ use Rattle.dfdl_forms.specs.Binary.{most_bits}
 use Rattle.dfdl_forms.specs.Packed.{most_nibbles}
 use Rattle.dfdl_forms.specs.Types.{form_of}
 use Rattle.dfdl_terms.specs.declared.row.Primitive.{Primitive}
-use Rattle.dfdl_terms.specs.declared.row.Primitive.TheVariants.{Integer, Packed, Truth, Octets, Text}
+use Rattle.dfdl_terms.specs.declared.row.Primitive.TheVariants.{Integer, Packed, Truth, Octets, Text, NilOctets, Default}
 use Rattle.dfdl_terms.specs.declared.text.TextSize.{TextSize}
 use Rattle.dfdl_terms.specs.declared.text.TextSize.TheVariants.{Bits, Characters}
 use Rattle.dfdl_terms.specs.Rows.{Table}
@@ -134,6 +134,9 @@ module _ (input : Input) (table : Table) where
   sized-too-long s (Bits bits) (Truth form) over = too-long s bits over (is_size 32 bits) (Truth (record form { bits = bits })) (λ can. refl)
   sized-too-long s (Bits bits) (Octets form) over = too-long s bits over true (Octets (record form { bits = bits })) (λ can. refl)
   sized-too-long s (Bits bits) (Text form) over = too-long s bits over true (Text (record form { size = Bits bits })) (λ can. refl)
+  sized-too-long s (Bits bits) (NilOctets form) over =
+      too-long s bits over true (NilOctets (record form { octets = record form.octets { bits = bits } })) (λ can. refl)
+  sized-too-long s (Bits bits) (Default form) over = too-long s bits over true (Default (record form { size = Bits bits })) (λ can. refl)
 
   sized-fits : (prim : ℕ) (size : TextSize) (primitive : Primitive) (k : List Frame) (s : State) → slice_get table.primitives prim ≡ Some primitive
       → (fits : Bool) → can_fit size s.at s.stop ≡ fits

@@ -11,10 +11,10 @@ use Rattle.dfdl_looks.specs.Tallies.{nothing, Tally, saw_end}
 use Rattle.dfdl_looks.proofs.Resumed.{on_seen}
 use Rattle.dfdl_looks.proofs.Seeing.{seen_within}
 use Rattle.dfdl_looks.proofs.Stretches.{after, after-looks, after-far, ask-stretch}
-use Rattle.dfdl_terms.specs.declared.row.Primitive.TheVariants.{Integer, Packed, Truth, Octets, Text}
+use Rattle.dfdl_terms.specs.declared.row.Primitive.TheVariants.{Integer, Packed, Truth, Octets, Text, NilOctets, Default}
 use Rattle.dfdl_grammar.specs.Leaves.{Find, Fails, bits_of, bytes_spanned, field, find_in, program}
 use Rattle.dfdl_parse.specs.declared.leaf.Found.{Found}
-use Rattle.dfdl_parse.specs.declared.leaf.Found.TheVariants.{Reads, Octets as HasOctets, Text as HasText, Fails as HasFailed, Past, NotYet as NotCome}
+use Rattle.dfdl_parse.specs.declared.leaf.Found.TheVariants.{Reads, Octets as HasOctets, Utf8, Text as HasText, Fails as HasFailed, Past, NotYet as NotCome}
 use Rattle.dfdl_parse.specs.declared.leaf.Glance.{Glance}
 use Rattle.dfdl_parse.specs.declared.leaf.Scratch.{Scratch}
 use Rattle.dfdl_parse.specs.Steps.{Answers, CutShort, HasNone, HasPiece, IsNumber, IsPlain, IsWithin, far_of_run, found_shown}
@@ -72,6 +72,7 @@ run-within held k bytes base some seen =
 pub plain-within : (found : Found) (behind last : ℕ) → IsPlain found behind → behind ≤ 8 * last → IsWithin found last
 plain-within (Reads content end) behind last is within = omega arith
 plain-within (HasOctets end) behind last is within = absurd is
+plain-within (Utf8 end) behind last is within = absurd is
 plain-within (HasText from to end) behind last is within = absurd is
 plain-within (HasFailed cause) behind last is within = tt
 plain-within Past behind last is within = tt
@@ -80,6 +81,7 @@ plain-within NotCome behind last is within = tt
 pub plain-piece : (found : Found) (behind : ℕ) (scratch : Scratch) → IsPlain found behind → HasPiece found scratch
 plain-piece (Reads content end) behind scratch is = tt
 plain-piece (HasOctets end) behind scratch is = absurd is
+plain-piece (Utf8 end) behind scratch is = absurd is
 plain-piece (HasText from to end) behind scratch is = absurd is
 plain-piece (HasFailed cause) behind scratch is = tt
 plain-piece Past behind scratch is = tt
@@ -89,6 +91,7 @@ plain-piece NotCome behind scratch is = tt
 pub none-within : (found : Found) (last : ℕ) → HasNone found → IsWithin found last
 none-within (Reads content end) last is = absurd is
 none-within (HasOctets end) last is = absurd is
+none-within (Utf8 end) last is = absurd is
 none-within (HasText from to end) last is = absurd is
 none-within (HasFailed cause) last is = tt
 none-within Past last is = tt
@@ -97,6 +100,7 @@ none-within NotCome last is = tt
 pub none-piece : (found : Found) (scratch : Scratch) → HasNone found → HasPiece found scratch
 none-piece (Reads content end) scratch is = absurd is
 none-piece (HasOctets end) scratch is = absurd is
+none-piece (Utf8 end) scratch is = absurd is
 none-piece (HasText from to end) scratch is = absurd is
 none-piece (HasFailed cause) scratch is = tt
 none-piece Past scratch is = tt
@@ -109,6 +113,8 @@ number-field (Packed form) bit stop is = refl
 number-field (Truth form) bit stop is = refl
 number-field (Octets form) bit stop is = absurd is
 number-field (Text form) bit stop is = absurd is
+number-field (NilOctets form) bit stop is = absurd is
+number-field (Default form) bit stop is = absurd is
 
 module _ (look : ℕ → Seen) (primitive : Primitive) (bit : ℕ) (bytes : List ℕ)
     (seen : (i : ℕ) → i < length bytes → look (bit / 8 + i) ≡ Byte (get_or bytes i 0)) where

@@ -1,9 +1,11 @@
 pub mod Windows
+pub mod Opens
 pub mod Beyond
 pub mod Ends
 pub mod Leaves
 pub mod HexBinaries
 pub mod StringReadings
+pub mod NilReadings
 pub mod Lists
 pub mod Programs
 pub mod Texts

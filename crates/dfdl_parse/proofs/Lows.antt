@@ -5,6 +5,7 @@ use Rattle.std.proofs.lemmas.Bool.Decides.{nat_tests}
 use Rattle.dfdl_bits.specs.Window.{Held, end_of, from_byte, seen_at}
 use Rattle.dfdl_bits.specs.declared.window.Seen.{Seen}
 use Rattle.dfdl_bits.specs.declared.window.Seen.TheVariants.{Byte, End as DataEnded, NotYet, Over}
+use Rattle.dfdl_report.specs.declared.cause.ParseCause.{ParseCause}
 use Rattle.dfdl_report.specs.declared.cause.ParseCause.TheVariants.{LengthOutOfRange}
 use Rattle.dfdl_report.specs.declared.cause.LimitCause.TheVariants.{Nodes, Text as TextLimit}
 use Rattle.dfdl_terms.specs.declared.row.Primitive.{Primitive}
@@ -17,132 +18,189 @@ use Rattle.dfdl_grammar.specs.declared.end.End.{End}
 use Rattle.dfdl_grammar.specs.declared.end.End.TheVariants.{Done, Failed, Stopped}
 use Rattle.dfdl_grammar.specs.declared.limits.Limits.{Limits}
 use Rattle.dfdl_grammar.specs.Outcomes.{ended}
-use Rattle.dfdl_grammar.specs.States.{State, anchor}
+use Rattle.dfdl_grammar.specs.States.{State, anchor, anchor_at, read_by}
+use Rattle.dfdl_grammar.specs.Marks.{back, marked}
 use Rattle.dfdl_terms.specs.declared.text.TextSize.{TextSize}
 use Rattle.dfdl_grammar.specs.Prefixes.{bits_of_units, resized, size_of, units_told}
 use Rattle.dfdl_grammar.specs.Leaves.{Find, Fails, Finds, FindsOctets, FindsText, content_begins, has_room, program}
 use Rattle.dfdl_grammar.specs.Framing.{aligned}
 use Rattle.dfdl_grammar.specs.Elements.{begun, has_elements}
 use Rattle.dfdl_parse.specs.declared.frame.Frame.{Frame}
-use Rattle.dfdl_parse.specs.declared.frame.Frame.TheVariants.{Rest, Element, Box}
+use Rattle.dfdl_parse.specs.declared.frame.Frame.TheVariants.{Rest, Element, Box, Trial}
+use Rattle.dfdl_parse.specs.declared.frame.Next.{Next}
+use Rattle.dfdl_parse.specs.declared.frame.Next.TheVariants as next
+use Rattle.dfdl_parse.specs.declared.frame.Parts.{Parts}
 use Rattle.dfdl_parse.specs.declared.frame.Focus.{Focus}
 use Rattle.dfdl_parse.specs.declared.frame.Focus.TheVariants.{Enter, Pass, PassRest, Sized, Leave}
 use Rattle.dfdl_parse.specs.declared.frame.Behind.TheVariants as behind
 use Rattle.dfdl_parse.specs.Moves.{Machine, Move, landed, pass, read_leaf, read_move}
 use Rattle.dfdl_parse.specs.Prefixed.{at_end, behind_units, can_fit, landed_prefix, prefix_move, read_prefix, read_resized, read_sized, sized_begins, units_begin}
-use Rattle.dfdl_parse.specs.Machines.{NeedsFrom, children_of, enter, enter_group, fill, fill_move, go_on, leave, pass_rest, rest_move, seen_beyond, step}
+use Rattle.dfdl_parse.specs.Machines.{children_of, enter, enter_group, fill, fill_move, go_on, leave, pass_rest, rest_move, seen_beyond, step}
+use Rattle.dfdl_parse.specs.Opens.{AreOpen, IsHeld, NeedsBehind, NeedsFrom}
+use Rattle.dfdl_parse.specs.Trials.{attempt, parts_of, retry, try_empty, try_nil, try_normal, two_rows}
 use Rattle.dfdl_parse.proofs.Beyond.{beyond-byte}
+use Rattle.dfdl_parse.proofs.Opens.{back-open, closed-open, later, lower, risen}
 use Rattle.dfdl_parse.proofs.Texts.{EndsBehind, program-ends}
 use Rattle.dfdl_parse.proofs.Finishes.{Anchored, Stands}
 
 -- the bytes that are needed behind a step are held
 abbrev IsLow : Move → Type 0
-IsLow move = NeedsFrom move.held.base move.machine.focus move.machine.state
+IsLow move = NeedsFrom move.held.base move.machine.focus move.machine.stack move.machine.state
 
-held-low : (room : Bool) (low : ℕ) (s t : State) (most : ℕ) → low ≤ s.at / 8
-    → NeedsFrom low (Leave (cond room (ended Done s) (ended (Stopped TextLimit most) t)).end) (cond room (ended Done s) (ended (Stopped TextLimit most) t)).state
-held-low true low s t most is = is
-held-low false low s t most is = tt
+-- the same of a machine, from a byte on
+abbrev IsLowFrom : ℕ → Machine → Type 0
+IsLowFrom low m = NeedsFrom low m.focus m.stack m.state
 
-landed-low : (limits : Limits) (focus : Focus) (first low : ℕ) (reached : Reached Find) (k : List Frame) (s : State) → low ≤ s.at / 8 → EndsBehind s.at reached
-    → NeedsFrom low focus s → NeedsFrom low (landed limits focus first reached k s).focus (landed limits focus first reached k s).state
-landed-low limits focus first low (Told (Fails cause)) k s is ends stays = tt
-landed-low limits focus first low (Told (Finds content end)) k s is ends stays = omega arith
-landed-low limits focus first low (Told (FindsOctets bytes end)) k s is ends stays =
-    held-low (nat_le (length s.text + length bytes) limits.text) low _ s limits.text (omega arith)
-landed-low limits focus first low (Told (FindsText bytes end)) k s is ends stays =
-    held-low (nat_le (length s.text + length bytes) limits.text) low _ s limits.text (omega arith)
-landed-low limits focus first low TooFar k s is ends stays = tt
-landed-low limits focus first low Missing k s is ends stays = stays
+held-low : (room : Bool) (low : ℕ) (k : List Frame) (s t : State) (most : ℕ) → low ≤ s.at / 8 → AreOpen low s.at k s.marks
+    → NeedsFrom low (Leave (cond room (ended Done s) (ended (Stopped TextLimit most) t)).end) k (cond room (ended Done s) (ended (Stopped TextLimit most) t)).state
+held-low true low k s t most is opens = (is, opens)
+held-low false low k s t most is opens = tt
+
+landed-low : (limits : Limits) (focus : Focus) (first low : ℕ) (reached : Reached Find) (k : List Frame) (s : State) → low ≤ s.at / 8 → AreOpen low s.at k s.marks
+    → EndsBehind s.at reached → NeedsFrom low focus k s → IsLowFrom low (landed limits focus first reached k s)
+landed-low limits focus first low (Told (Fails cause)) k s is opens ends stays = opens
+landed-low limits focus first low (Told (Finds content end)) k s is opens ends stays = (omega arith, later low s.at end k s.marks ends opens)
+landed-low limits focus first low (Told (FindsOctets bytes end)) k s is opens ends stays =
+    held-low (nat_le (length s.text + length bytes) limits.text) low k _ s limits.text (omega arith) (later low s.at end k s.marks ends opens)
+landed-low limits focus first low (Told (FindsText bytes end)) k s is opens ends stays =
+    held-low (nat_le (length s.text + length bytes) limits.text) low k _ s limits.text (omega arith) (later low s.at end k s.marks ends opens)
+landed-low limits focus first low TooFar k s is opens ends stays = tt
+landed-low limits focus first low Missing k s is opens ends stays = stays
 
 -- what stands behind a prefix
-sized-low : (low prim : ℕ) (size : TextSize) (primitive : Option Primitive) (k : List Frame) (s : State) → low ≤ s.at / 8
-    → NeedsFrom low (sized_begins primitive prim size k s).focus (sized_begins primitive prim size k s).state
-sized-low low prim size None k s is = is
-sized-low low prim size (Some primitive) k s is = by (can_fit size s.at s.stop)
+sized-low : (low prim : ℕ) (size : TextSize) (primitive : Option Primitive) (k : List Frame) (s : State) → low ≤ s.at / 8 → AreOpen low s.at k s.marks
+    → IsLowFrom low (sized_begins primitive prim size k s)
+sized-low low prim size None k s is opens = (is, opens)
+sized-low low prim size (Some primitive) k s is opens = by (can_fit size s.at s.stop)
   where
-    by : (fits : Bool) → let m : Machine = cond fits (record { focus = Sized prim size; stack = k; state = s }) (at_end (Failed LengthOutOfRange s.at) k s) in
-        NeedsFrom low m.focus m.state
-    by true = is
-    by false = tt
+    by : (fits : Bool) → IsLowFrom low (cond fits (record { focus = Sized prim size; stack = k; state = s }) (at_end (Failed LengthOutOfRange s.at) k s))
+    by true = (is, opens)
+    by false = opens
 
-box-begun-low : (low bits body : ℕ) (k : List Frame) (s : State) → low ≤ s.at / 8 → (inside : Bool)
-    → let m : Machine = cond inside (record { focus = Enter body; stack = Box s.stop ∷ k; state = record s { stop = s.at + bits } }) (at_end (Failed LengthOutOfRange s.at) k s) in
-    NeedsFrom low m.focus m.state
-box-begun-low low bits body k s is true = is
-box-begun-low low bits body k s is false = tt
+box-begun-low : (low bits body : ℕ) (k : List Frame) (s : State) → low ≤ s.at / 8 → AreOpen low s.at k s.marks → (inside : Bool)
+    → IsLowFrom low (cond inside (record { focus = Enter body; stack = Box s.stop ∷ k; state = record s { stop = s.at + bits } }) (at_end (Failed LengthOutOfRange s.at) k s))
+box-begun-low low bits body k s is opens true = (is, opens)
+box-begun-low low bits body k s is opens false = opens
 
 module _ (limits : Limits) (id own : ℕ) (next : ℕ → List Frame → State → Machine) (k : List Frame) (low : ℕ)
-    (follows : (units : ℕ) (s : State) → low ≤ s.at / 8 → NeedsFrom low (next units k s).focus (next units k s).state) where
-  units-low : (end : ℕ) (units : Option ℕ) (s : State) → low ≤ end / 8
-      → NeedsFrom low (units_begin end next units k s).focus (units_begin end next units k s).state
-  units-low end None s is = tt
-  units-low end (Some units) s is = follows units (record s { at = end }) is
+    (follows : (units : ℕ) (s : State) → low ≤ s.at / 8 → AreOpen low s.at k s.marks → IsLowFrom low (next units k s)) where
+  units-low : (end : ℕ) (units : Option ℕ) (s : State) → low ≤ s.at / 8 → AreOpen low s.at k s.marks → s.at ≤ end
+      → IsLowFrom low (units_begin end next units k s)
+  units-low end None s is opens behind = opens
+  units-low end (Some units) s is opens behind = follows units (record s { at = end }) (omega arith) (later low s.at end k s.marks behind opens)
 
-  prefix-landed-low : (first : ℕ) (reached : Reached Find) (s : State) → low ≤ s.at / 8 → EndsBehind s.at reached
-      → NeedsFrom low (landed_prefix limits id own first next reached k s).focus (landed_prefix limits id own first next reached k s).state
-  prefix-landed-low first (Told (Fails cause)) s is ends = tt
-  prefix-landed-low first (Told (Finds content end)) s is ends = units-low end (units_told own content) s (omega arith)
-  prefix-landed-low first (Told (FindsOctets bytes end)) s is ends = tt
-  prefix-landed-low first (Told (FindsText bytes end)) s is ends = tt
-  prefix-landed-low first TooFar s is ends = tt
-  prefix-landed-low first Missing s is ends = is
+  prefix-landed-low : (first : ℕ) (reached : Reached Find) (s : State) → low ≤ s.at / 8 → AreOpen low s.at k s.marks → EndsBehind s.at reached
+      → IsLowFrom low (landed_prefix limits id own first next reached k s)
+  prefix-landed-low first (Told (Fails cause)) s is opens ends = opens
+  prefix-landed-low first (Told (Finds content end)) s is opens ends = units-low end (units_told own content) s is opens ends
+  prefix-landed-low first (Told (FindsOctets bytes end)) s is opens ends = opens
+  prefix-landed-low first (Told (FindsText bytes end)) s is opens ends = opens
+  prefix-landed-low first TooFar s is opens ends = tt
+  prefix-landed-low first Missing s is opens ends = (is, opens)
 
-filled-low : (window : ℕ) (sight : Held) (to : ℕ) (v : Seen) (k : List Frame) (s : State) → sight.base ≤ (to - 1) / 8
-    → IsLow (fill_move window sight to v k s)
-filled-low window sight to (Byte b) k s is = omega arith
-filled-low window sight to DataEnded k s is = tt
-filled-low window sight to NotYet k s is = is
-filled-low window sight to Over k s is = tt
+filled-low : (window : ℕ) (sight : Held) (to : ℕ) (v : Seen) (k : List Frame) (s : State) → sight.base ≤ (to - 1) / 8 → s.at < to
+    → AreOpen sight.base s.at k s.marks → IsLow (fill_move window sight to v k s)
+filled-low window sight to (Byte b) k s is less opens = (omega arith, later sight.base s.at to k s.marks (omega arith) opens)
+filled-low window sight to DataEnded k s is less opens = opens
+filled-low window sight to NotYet k s is less opens = (is, (less, opens))
+filled-low window sight to Over k s is less opens = tt
 
 -- a byte of the rest of a box
-past-low : (sight : Held) (byte outer : ℕ) (k : List Frame) (s : State) → sight.base ≤ byte → 8 * byte < s.stop → (last : Bool) → nat_le ((s.stop - 1) / 8) byte ≡ last
+past-low : (sight : Held) (byte outer : ℕ) (k : List Frame) (s : State) → sight.base ≤ byte → 8 * byte < s.stop → s.at ≤ 8 * (byte + 1) → s.at ≤ s.stop
+    → AreOpen sight.base s.at k s.marks → (last : Bool) → nat_le ((s.stop - 1) / 8) byte ≡ last
     → IsLow (cond last (pass (saw_byte byte nothing) sight (Leave Done) k (record s { at = s.stop; stop = outer }))
     (pass (saw_byte byte nothing) sight (PassRest (8 * (byte + 1)) outer) k s))
-past-low sight byte outer k s base inside true is = omega arith
-past-low sight byte outer k s base inside false is =
+past-low sight byte outer k s base inside behind before_stop opens true is =
+    (omega arith, later sight.base s.at s.stop k s.marks before_stop opens)
+past-low sight byte outer k s base inside behind before_stop opens false is =
     let less : byte < (s.stop - 1) / 8 = grind (arith, nat_tests) in
-    (omega arith, omega arith)
+    (omega arith, (omega arith, (behind, opens)))
 
-rested-low : (window : ℕ) (sight : Held) (bit outer : ℕ) (v : Seen) (k : List Frame) (s : State) → sight.base ≤ bit / 8 → bit < s.stop
-    → IsLow (rest_move window sight bit outer v k s)
-rested-low window sight bit outer (Byte b) k s base inside = past-low sight (bit / 8) outer k s base (omega arith) (nat_le ((s.stop - 1) / 8) (bit / 8)) refl
-rested-low window sight bit outer DataEnded k s base inside = tt
-rested-low window sight bit outer NotYet k s base inside = (base, inside)
-rested-low window sight bit outer Over k s base inside = tt
+rested-low : (window : ℕ) (sight : Held) (bit outer : ℕ) (v : Seen) (k : List Frame) (s : State) → sight.base ≤ bit / 8 → bit < s.stop → s.at ≤ bit
+    → AreOpen sight.base s.at k s.marks → IsLow (rest_move window sight bit outer v k s)
+rested-low window sight bit outer (Byte b) k s base inside behind opens =
+    past-low sight (bit / 8) outer k s base (omega arith) (omega arith) (omega arith) opens (nat_le ((s.stop - 1) / 8) (bit / 8)) refl
+rested-low window sight bit outer DataEnded k s base inside behind opens = opens
+rested-low window sight bit outer NotYet k s base inside behind opens = (base, (inside, (behind, opens)))
+rested-low window sight bit outer Over k s base inside behind opens = tt
+
+-- one representation of an element
+attempt-low : (cost : Tally) (most : ℕ) (held : Held) (id : ℕ) (parts : Parts) (instead : Option ℕ) (k : List Frame) (s : State)
+    → held.base ≤ s.at / 8 → AreOpen held.base s.at k s.marks → (room : Bool)
+    → IsLow (cond room
+    (pass cost held (Enter parts.body) (Element s.inside parts.complex ∷ k) (begun id instead s))
+    (pass cost held (Leave (Stopped Nodes most)) k s))
+attempt-low cost most held id parts instead k s low opens true = (low, opens)
+attempt-low cost most held id parts instead k s low opens false = tt
+
+-- the bytes from a mark on are held, for a representation that another one follows
+abbrev IsMarked : ℕ → ℕ → List Frame → State → Type 0
+IsMarked base id k s = (base ≤ s.at / 8) × ((follows : Next) → AreOpen base s.at (Trial id follows ∷ k) s.marks)
+
+module _ (cost : Tally) (most : ℕ) (held : Held) (id : ℕ) (parts : Parts) (k : List Frame) (s : State) (opens : IsMarked held.base id k s) where
+  normal-low : IsLow (try_normal cost most held id parts k s)
+  normal-low = attempt-low cost most held id parts None (Trial id next.Nothing ∷ k) s opens.0 (opens.1 next.Nothing) (nat_lt (length s.nodes) most)
+
+  empty-low : (empty : Option ℕ) → IsLow (try_empty cost most held id parts empty k s)
+  empty-low None = normal-low
+  empty-low (Some prim) = attempt-low cost most held id parts (Some prim) (Trial id next.Normal ∷ k) s opens.0 (opens.1 next.Normal) (nat_lt (length s.nodes) most)
+
+  nil-low : (nil : Option ℕ) → IsLow (try_nil cost most held id parts nil k s)
+  nil-low None = empty-low parts.tried.empty
+  nil-low (Some prim) = attempt-low cost most held id parts (Some prim) (Trial id next.Empty ∷ k) s opens.0 (opens.1 next.Empty) (nat_lt (length s.nodes) most)
+
+-- a mark that is opened here
+opened : (base id : ℕ) (k : List Frame) (s : State) → base ≤ s.at / 8 → AreOpen base s.at k s.marks → IsMarked base id k (marked s)
+opened base id k s low opens = (low, λ follows. (refl, (omega arith, (low, opens))))
+
+-- a mark that is gone back to
+gone-back : (base id : ℕ) (follows : Next) (k : List Frame) (s : State) → AreOpen base s.at (Trial id follows ∷ k) s.marks → IsMarked base id k (back s)
+gone-back base id follows k s opens = ((back-open base id follows follows k s s.marks refl opens).0, λ next. (back-open base id follows next k s s.marks refl opens).1)
+
+retry-low : (most : ℕ) (held : Held) (id : ℕ) (parts : Option Parts) (follows : Next) (cause : ParseCause) (bit : ℕ) (k : List Frame) (s : State)
+    → AreOpen held.base s.at (Trial id follows ∷ k) s.marks → IsLow (retry most held id parts follows (Failed cause bit) k s)
+retry-low most held id None follows cause bit k s opens = closed-open held.base s.at id follows k s.marks opens
+retry-low most held id (Some parts) next.Empty cause bit k s opens =
+    empty-low one_row most held id parts k (back s) (gone-back held.base id next.Empty k s opens) parts.tried.empty
+retry-low most held id (Some parts) next.Normal cause bit k s opens =
+    normal-low one_row most held id parts k (back s) (gone-back held.base id next.Normal k s opens)
+retry-low most held id (Some parts) next.Nothing cause bit k s opens = closed-open held.base s.at id next.Nothing k s.marks opens
 
 module _ (held : Held) (s : State) where
-  read-low : (cost : Tally) (limits : Limits) (focus : Focus) (primitive : Primitive) (k : List Frame) → Anchored held s → NeedsFrom (anchor s) focus s → (room : Bool)
+  read-low : (cost : Tally) (limits : Limits) (focus : Focus) (primitive : Primitive) (k : List Frame) → Anchored held s → NeedsFrom (anchor s) focus k s
+      → AreOpen held.base s.at k s.marks → (room : Bool)
       → IsLow (cond room
       (read_move cost limits focus (content_begins primitive s.at) (from_byte held (anchor s))
       (ask (seen_at (from_byte held (anchor s))) (program primitive s.at s.stop) nothing) k s)
       (pass cost held (Leave (Failed LengthOutOfRange s.at)) k s))
-  read-low cost limits focus primitive k stands stays true =
+  read-low cost limits focus primitive k stands stays opens true =
       landed-low limits focus (content_begins primitive s.at) (anchor s)
-      (ask (seen_at (from_byte held (anchor s))) (program primitive s.at s.stop) nothing).reached k s stands.low
+      (ask (seen_at (from_byte held (anchor s))) (program primitive s.at s.stop) nothing).reached k s stands.low (risen held.base s.at s.at k s.marks opens)
       (program-ends (seen_at (from_byte held (anchor s))) primitive s.at s.stop nothing) stays
-  read-low cost limits focus primitive k stands stays false = tt
+  read-low cost limits focus primitive k stands stays opens false = opens
 
-  leaf-low : (cost : Tally) (limits : Limits) (focus : Focus) (primitive : Option Primitive) (k : List Frame) → Anchored held s → NeedsFrom (anchor s) focus s → held.base ≤ s.at / 8
-      → IsLow (read_leaf cost limits focus held primitive k s)
-  leaf-low cost limits focus None k stands stays low = low
-  leaf-low cost limits focus (Some primitive) k stands stays low = read-low cost limits focus primitive k stands stays (has_room primitive s.at s.stop)
+  leaf-low : (cost : Tally) (limits : Limits) (focus : Focus) (primitive : Option Primitive) (k : List Frame) → Anchored held s → NeedsFrom (anchor s) focus k s
+      → held.base ≤ s.at / 8 → AreOpen held.base s.at k s.marks → IsLow (read_leaf cost limits focus held primitive k s)
+  leaf-low cost limits focus None k stands stays low opens = (low, opens)
+  leaf-low cost limits focus (Some primitive) k stands stays low opens = read-low cost limits focus primitive k stands stays opens (has_room primitive s.at s.stop)
 
   resized-low : (limits : Limits) (prim : ℕ) (size : TextSize) (primitive : Option Primitive) (k : List Frame) → Anchored held s → held.base ≤ s.at / 8
-      → IsLow (read_resized limits (Sized prim size) held primitive k s)
-  resized-low limits prim size None k stands low = tt
-  resized-low limits prim size (Some primitive) k stands low = leaf-low nothing limits (Sized prim size) (Some primitive) k stands stands.low low
+      → AreOpen held.base s.at k s.marks → IsLow (read_resized limits (Sized prim size) held primitive k s)
+  resized-low limits prim size None k stands low opens = opens
+  resized-low limits prim size (Some primitive) k stands low opens =
+      leaf-low nothing limits (Sized prim size) (Some primitive) k stands (stands.low, risen held.base s.at s.at k s.marks opens) low opens
 
   told-low : (limits : Limits) (prim : ℕ) (size : TextSize) (primitive : Option Primitive) (k : List Frame) → Anchored held s → held.base ≤ s.at / 8
-      → IsLow (read_sized limits held prim size primitive k s)
-  told-low limits prim size None k stands low = low
-  told-low limits prim size (Some primitive) k stands low = resized-low limits prim size (resized size primitive) k stands low
+      → AreOpen held.base s.at k s.marks → IsLow (read_sized limits held prim size primitive k s)
+  told-low limits prim size None k stands low opens = (low, opens)
+  told-low limits prim size (Some primitive) k stands low opens = resized-low limits prim size (resized size primitive) k stands low opens
 
   prefix-low : (limits : Limits) (id own : ℕ) (next : ℕ → List Frame → State → Machine) (primitive : Option Primitive) (k : List Frame) → Anchored held s
-      → ((units : ℕ) (after : State) → anchor s ≤ after.at / 8 → NeedsFrom (anchor s) (next units k after).focus (next units k after).state)
+      → AreOpen held.base s.at k s.marks
+      → ((units : ℕ) (after : State) → anchor s ≤ after.at / 8 → AreOpen (anchor s) after.at k after.marks → IsLowFrom (anchor s) (next units k after))
       → IsLow (read_prefix limits id held own next primitive k s)
-  prefix-low limits id own next None k stands follows = tt
-  prefix-low limits id own next (Some primitive) k stands follows = by (has_room primitive s.at s.stop)
+  prefix-low limits id own next None k stands opens follows = opens
+  prefix-low limits id own next (Some primitive) k stands opens follows = by (has_room primitive s.at s.stop)
     where
       by : (room : Bool)
           → IsLow (cond room
@@ -151,77 +209,92 @@ module _ (held : Held) (s : State) where
           (pass one_row held (Leave (Failed LengthOutOfRange s.at)) k s))
       by true =
           prefix-landed-low limits id own next k (anchor s) follows (content_begins primitive s.at)
-          (ask (seen_at (from_byte held (anchor s))) (program primitive s.at s.stop) nothing).reached s stands.low
+          (ask (seen_at (from_byte held (anchor s))) (program primitive s.at s.stop) nothing).reached s stands.low (risen held.base s.at s.at k s.marks opens)
           (program-ends (seen_at (from_byte held (anchor s))) primitive s.at s.stop nothing)
-      by false = tt
+      by false = opens
 
-  begin-low : (to : ℕ) (k : List Frame) → held.base ≤ s.at / 8 → (over inside : Bool) → nat_le to s.at ≡ over
+  begin-low : (to : ℕ) (k : List Frame) → held.base ≤ s.at / 8 → AreOpen held.base s.at k s.marks → (over inside : Bool) → nat_le to s.at ≡ over
       → IsLow (cond over (pass one_row held (Leave Done) k s)
       (cond inside (pass one_row held (Pass to) k s) (pass one_row held (Leave (Failed LengthOutOfRange s.at)) k s)))
-  begin-low to k low true inside is = low
-  begin-low to k low false true is = let less : s.at < to = grind (arith, nat_tests) in omega arith
-  begin-low to k low false false is = tt
+  begin-low to k low opens true inside is = (low, opens)
+  begin-low to k low opens false true is = let less : s.at < to = grind (arith, nat_tests) in (omega arith, (less, opens))
+  begin-low to k low opens false false is = opens
 
-  element-low : (most id : ℕ) (complex : Bool) (body : ℕ) (k : List Frame) → held.base ≤ s.at / 8 → (room : Bool)
-      → IsLow (cond room
-      (pass one_row held (Enter body) (Element s.inside complex ∷ k) (begun id s))
-      (pass one_row held (Leave (Stopped Nodes most)) k s))
-  element-low most id complex body k low true = low
-  element-low most id complex body k low false = tt
+  element-low : (most id : ℕ) (parts : Parts) (k : List Frame) → held.base ≤ s.at / 8 → AreOpen held.base s.at k s.marks → (several : Bool)
+      → IsLow (cond several (try_nil two_rows most held id parts parts.tried.nil k (marked s)) (attempt two_rows most held id parts None k s))
+  element-low most id parts k low opens true = nil-low two_rows most held id parts k (marked s) (opened held.base id k s low opens) parts.tried.nil
+  element-low most id parts k low opens false = attempt-low two_rows most held id parts None k s low opens (nat_lt (length s.nodes) most)
 
-  group-low : (id : ℕ) (children : List ℕ) (k : List Frame) → held.base ≤ s.at / 8 → IsLow (enter_group held id children k s)
-  group-low id [] k low = low
-  group-low id (child ∷ rest) k low = low
+  group-low : (id : ℕ) (children : List ℕ) (k : List Frame) → held.base ≤ s.at / 8 → AreOpen held.base s.at k s.marks → IsLow (enter_group held id children k s)
+  group-low id [] k low opens = (low, opens)
+  group-low id (child ∷ rest) k low opens = (low, opens)
 
   enter-low : (limits : Limits) (table : Table) (id : ℕ) (r : Option Row) (k : List Frame) → Anchored held s → held.base ≤ s.at / 8
-      → IsLow (enter limits table held id r k s)
-  enter-low limits table id None k stands low = low
-  enter-low limits table id (Some (Leaf prim)) k stands low = leaf-low one_row limits (Enter id) (slice_get table.primitives prim) k stands stands.low low
-  enter-low limits table id (Some (Elem name simple body)) k stands low =
-      element-low limits.nodes id (has_elements simple) body k low (nat_lt (length s.nodes) limits.nodes)
-  enter-low limits table id (Some (Group children)) k stands low = group-low id children k low
-  enter-low limits table id (Some (Skip bits)) k stands low =
-      begin-low (s.at + bits) k low (nat_le (s.at + bits) s.at) (nat_le (s.at + bits) s.stop) refl
-  enter-low limits table id (Some (Align bits)) k stands low =
-      begin-low (aligned bits s.at) k low (nat_le (aligned bits s.at) s.at) (nat_le (aligned bits s.at) s.stop) refl
-  enter-low limits table id (Some (Boxed bits body)) k stands low = box-begun-low held.base bits body k s low (nat_le (s.at + bits) s.stop)
-  enter-low limits table id (Some (PrefixedLeaf prefix prim)) k stands low =
-      prefix-low limits id prefix.own (behind_units table.primitives prefix.unit (behind.Leaf prim)) (slice_get table.primitives prefix.prim) k stands
-      (λ units after is. sized-low (anchor s) prim (size_of prefix.unit units) (slice_get table.primitives prim) k after is)
-  enter-low limits table id (Some (PrefixedBox prefix body)) k stands low =
-      prefix-low limits id prefix.own (behind_units table.primitives prefix.unit (behind.Box body)) (slice_get table.primitives prefix.prim) k stands
-      (λ units after is. box-begun-low (anchor s) (bits_of_units prefix.unit units) body k after is (nat_le (after.at + bits_of_units prefix.unit units) after.stop))
+      → AreOpen held.base s.at k s.marks → IsLow (enter limits table held id r k s)
+  enter-low limits table id None k stands low opens = (low, opens)
+  enter-low limits table id (Some (Leaf prim)) k stands low opens =
+      leaf-low one_row limits (Enter id) (slice_get table.primitives (read_by s.instead prim)) k stands (stands.low, risen held.base s.at s.at k s.marks opens) low opens
+  enter-low limits table id (Some (Elem name simple tried body)) k stands low opens =
+      element-low limits.nodes id (record { complex = has_elements simple; tried = tried; body = body }) k low opens tried.are_several
+  enter-low limits table id (Some (Group children)) k stands low opens = group-low id children k low opens
+  enter-low limits table id (Some (Skip bits)) k stands low opens =
+      begin-low (s.at + bits) k low opens (nat_le (s.at + bits) s.at) (nat_le (s.at + bits) s.stop) refl
+  enter-low limits table id (Some (Align bits)) k stands low opens =
+      begin-low (aligned bits s.at) k low opens (nat_le (aligned bits s.at) s.at) (nat_le (aligned bits s.at) s.stop) refl
+  enter-low limits table id (Some (Boxed bits body)) k stands low opens = box-begun-low held.base bits body k s low opens (nat_le (s.at + bits) s.stop)
+  enter-low limits table id (Some (PrefixedLeaf prefix prim)) k stands low opens =
+      let by : ℕ = read_by s.instead prim in
+      prefix-low limits id prefix.own (behind_units table.primitives prefix.unit (behind.Leaf by)) (slice_get table.primitives prefix.prim) k stands opens
+      (λ units after is still. sized-low (anchor s) by (size_of prefix.unit units) (slice_get table.primitives by) k after is still)
+  enter-low limits table id (Some (PrefixedBox prefix body)) k stands low opens =
+      prefix-low limits id prefix.own (behind_units table.primitives prefix.unit (behind.Box body)) (slice_get table.primitives prefix.prim) k stands opens
+      (λ units after is still. box-begun-low (anchor s) (bits_of_units prefix.unit units) body k after is still (nat_le (after.at + bits_of_units prefix.unit units) after.stop))
 
-  go-low : (id next : ℕ) (child : Option ℕ) (k : List Frame) → held.base ≤ s.at / 8 → IsLow (go_on held id next child k s)
-  go-low id next None k low = low
-  go-low id next (Some child) k low = low
+  go-low : (id next : ℕ) (child : Option ℕ) (k : List Frame) → held.base ≤ s.at / 8 → AreOpen held.base s.at k s.marks → IsLow (go_on held id next child k s)
+  go-low id next None k low opens = (low, opens)
+  go-low id next (Some child) k low opens = (low, opens)
 
-  leave-box-low : (outer : ℕ) (k : List Frame) → held.base ≤ s.at / 8 → (over : Bool) → nat_le s.stop s.at ≡ over
+  leave-box-low : (outer : ℕ) (k : List Frame) → held.base ≤ s.at / 8 → AreOpen held.base s.at k s.marks → (over : Bool) → nat_le s.stop s.at ≡ over
       → IsLow (cond over (pass nothing held (Leave Done) k (record s { stop = outer })) (pass nothing held (PassRest s.at outer) k s))
-  leave-box-low outer k low true is = low
-  leave-box-low outer k low false is = (low, grind (arith, nat_tests))
+  leave-box-low outer k low opens true is = (low, opens)
+  leave-box-low outer k low opens false is = (low, (grind (arith, nat_tests), (omega arith, opens)))
 
-  leave-low : (table : Table) (frame : Frame) (told : End) (k : List Frame) → NeedsFrom held.base (Leave told) s → IsLow (leave table held frame told k s)
-  leave-low table (Rest id next) Done k low = go-low id next (slice_get (children_of (slice_get table.rows id)) next) k low
-  leave-low table (Rest id next) (Failed cause bit) k low = tt
-  leave-low table (Rest id next) (Stopped cause quantity) k low = tt
-  leave-low table (Element outer complex) Done k low = low
-  leave-low table (Element outer complex) (Failed cause bit) k low = tt
-  leave-low table (Element outer complex) (Stopped cause quantity) k low = tt
-  leave-low table (Box outer) Done k low = leave-box-low outer k low (nat_le s.stop s.at) refl
-  leave-low table (Box outer) (Failed cause bit) k low = tt
-  leave-low table (Box outer) (Stopped cause quantity) k low = tt
+  leave-low : (limits : Limits) (table : Table) (frame : Frame) (told : End) (k : List Frame) → NeedsBehind held.base told (frame ∷ k) s
+      → IsLow (leave limits table held frame told k s)
+  leave-low limits table (Rest id next) Done k needs = go-low id next (slice_get (children_of (slice_get table.rows id)) next) k needs.0 needs.1
+  leave-low limits table (Rest id next) (Failed cause bit) k needs = needs
+  leave-low limits table (Rest id next) (Stopped cause quantity) k needs = tt
+  leave-low limits table (Element outer complex) Done k needs = needs
+  leave-low limits table (Element outer complex) (Failed cause bit) k needs = needs
+  leave-low limits table (Element outer complex) (Stopped cause quantity) k needs = tt
+  leave-low limits table (Box outer) Done k needs = leave-box-low outer k needs.0 needs.1 (nat_le s.stop s.at) refl
+  leave-low limits table (Box outer) (Failed cause bit) k needs = needs
+  leave-low limits table (Box outer) (Stopped cause quantity) k needs = tt
+  leave-low limits table (Trial id next) Done k needs = (needs.0, closed-open held.base s.at id next k s.marks needs.1)
+  leave-low limits table (Trial id next) (Failed cause bit) k needs =
+      retry-low limits.nodes held id (parts_of (slice_get table.rows id)) next cause bit k s needs
+  leave-low limits table (Trial id next) (Stopped cause quantity) k needs = tt
 
-  pub step-low : (limits : Limits) (table : Table) (focus : Focus) (k : List Frame) → Stands held focus s → NeedsFrom held.base focus s
+  -- the bytes before the first one that is needed at a bit are given up, as far as they have come
+  given-up : (bit : ℕ) (k : List Frame) → AreOpen held.base s.at k s.marks → AreOpen (min (anchor_at s bit) (end_of held)) s.at k s.marks
+  given-up bit k opens = lower (min (anchor_at s bit) (end_of held)) (anchor_at s bit) s.at k s.marks (omega arith) (risen held.base s.at bit k s.marks opens)
+
+  pub step-low : (limits : Limits) (table : Table) (focus : Focus) (k : List Frame) → Stands held focus s → NeedsFrom held.base focus k s
       → IsLow (step limits table held focus k s)
-  step-low limits table (Enter id) k stands low = enter-low limits table id (slice_get table.rows id) k stands low
-  step-low limits table (PassRest bit outer) k stands low =
-      rested-low limits.window (from_byte held (min (bit / 8) (end_of held))) bit outer (seen_beyond held (bit / 8)) k s (omega arith) low.1
-  step-low limits table (Pass to) k stands low =
-      filled-low limits.window (from_byte held (min ((to - 1) / 8) (end_of held))) to (seen_beyond held ((to - 1) / 8)) k s (omega arith)
-  step-low limits table (Sized prim size) k stands low = told-low limits prim size (slice_get table.primitives prim) k stands low
-  step-low limits table (Leave told) [] stands low = low
-  step-low limits table (Leave told) (frame ∷ k) stands low = leave-low table frame told k low
+  step-low limits table (Enter id) k stands needs = enter-low limits table id (slice_get table.rows id) k stands needs.0 needs.1
+  step-low limits table (PassRest bit outer) k stands needs =
+      let low : ℕ = anchor_at s (8 * (bit / 8)) in
+      let few : low ≤ bit / 8 = stands.1.1 in
+      rested-low limits.window (from_byte held (min low (end_of held))) bit outer (seen_beyond held low (bit / 8)) k s (omega arith) needs.1.0 needs.1.1.0
+      (given-up (8 * (bit / 8)) k needs.1.1.1)
+  step-low limits table (Pass to) k stands needs =
+      let low : ℕ = anchor_at s (to - 1) in
+      let few : low ≤ (to - 1) / 8 = stands.1 in
+      filled-low limits.window (from_byte held (min low (end_of held))) to (seen_beyond held low ((to - 1) / 8)) k s (omega arith) needs.1.0
+      (given-up (to - 1) k needs.1.1)
+  step-low limits table (Sized prim size) k stands needs = told-low limits prim size (slice_get table.primitives prim) k stands needs.0 needs.1
+  step-low limits table (Leave told) [] stands needs = needs
+  step-low limits table (Leave told) (frame ∷ k) stands needs = leave-low limits table frame told k needs
 
 -- fill that was passed over ends among the bytes that have come
 filled-within : (window : ℕ) (sight : Held) (to : ℕ) (v : Seen) (k : List Frame) (s : State) (end : ℕ) → s.at ≤ 8 * end
@@ -231,11 +304,12 @@ filled-within window sight to DataEnded k s end at within = at
 filled-within window sight to NotYet k s end at within = at
 filled-within window sight to Over k s end at within = at
 
-pub fill-within : (limits : Limits) (held : Held) (to : ℕ) (k : List Frame) (s : State) → held.base ≤ (to - 1) / 8 → s.at ≤ 8 * end_of held
+pub fill-within : (limits : Limits) (held : Held) (to : ℕ) (k : List Frame) (s : State) → IsHeld held.base (to - 1) s → s.at ≤ 8 * end_of held
     → (fill limits held to k s).machine.state.at ≤ 8 * end_of held
 fill-within limits held to k s base at =
-    filled-within limits.window (from_byte held (min ((to - 1) / 8) (end_of held))) to (seen_beyond held ((to - 1) / 8)) k s (end_of held) at
-    (λ b is. beyond-byte held ((to - 1) / 8) base b is)
+    let low : ℕ = anchor_at s (to - 1) in
+    filled-within limits.window (from_byte held (min low (end_of held))) to (seen_beyond held low ((to - 1) / 8)) k s (end_of held) at
+    (λ b is. beyond-byte held low ((to - 1) / 8) base.0 base.1 b is)
 
 -- so does the rest of a box
 past-within : (sight : Held) (byte outer : ℕ) (k : List Frame) (s : State) (end : ℕ) → s.at ≤ 8 * end → byte + 1 ≤ end
@@ -255,8 +329,10 @@ rested-within window sight bit outer DataEnded k s end at within = at
 rested-within window sight bit outer NotYet k s end at within = at
 rested-within window sight bit outer Over k s end at within = at
 
-pub rest-within : (limits : Limits) (held : Held) (bit outer : ℕ) (k : List Frame) (s : State) → held.base ≤ bit / 8 → s.at ≤ 8 * end_of held
+pub rest-within : (limits : Limits) (held : Held) (bit outer : ℕ) (k : List Frame) (s : State) → IsHeld held.base (8 * (bit / 8)) s → s.at ≤ 8 * end_of held
     → (pass_rest limits held bit outer k s).machine.state.at ≤ 8 * end_of held
 rest-within limits held bit outer k s base at =
-    rested-within limits.window (from_byte held (min (bit / 8) (end_of held))) bit outer (seen_beyond held (bit / 8)) k s (end_of held) at
-    (λ b is. beyond-byte held (bit / 8) base b is)
+    let low : ℕ = anchor_at s (8 * (bit / 8)) in
+    let few = base.1 in
+    rested-within limits.window (from_byte held (min low (end_of held))) bit outer (seen_beyond held low (bit / 8)) k s (end_of held) at
+    (λ b is. beyond-byte held low (bit / 8) base.0 (omega arith) b is)

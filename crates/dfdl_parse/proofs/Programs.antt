@@ -5,9 +5,10 @@ use Rattle.dfdl_looks.proofs.Sequels.{and_then-from}
 use Rattle.dfdl_looks.proofs.Stretched.{look_at-from}
 use Rattle.dfdl_report.specs.declared.cause.ParseCause.TheVariants.{DataEnds, NotFilled}
 use Rattle.dfdl_terms.specs.declared.row.Primitive.{Primitive}
-use Rattle.dfdl_terms.specs.declared.row.Primitive.TheVariants.{Integer, Packed, Truth, Octets, Text}
+use Rattle.dfdl_terms.specs.declared.row.Primitive.TheVariants.{Integer, Packed, Truth, Octets, Text, NilOctets, Default}
+use Rattle.dfdl_terms.specs.declared.text.OctetForm.{OctetForm}
 use Rattle.dfdl_terms.specs.declared.text.TextContent.{TextContent}
-use Rattle.dfdl_terms.specs.declared.text.TextContent.TheVariants.{Plain, Number, Zoned, Truth as TextTruth}
+use Rattle.dfdl_terms.specs.declared.text.TextContent.TheVariants.{Plain, Number, Zoned, Truth as TextTruth, Nil}
 use Rattle.dfdl_terms.specs.declared.text.TextForm.{TextForm}
 use Rattle.dfdl_terms.specs.declared.text.TextSize.{TextSize}
 use Rattle.dfdl_terms.specs.declared.text.TextSize.TheVariants.{Bits, Characters}
@@ -16,7 +17,7 @@ use Rattle.dfdl_texts.specs.declared.extent.Extent.{Extent}
 use Rattle.dfdl_texts.specs.declared.extent.Extent.TheVariants as extent
 use Rattle.dfdl_texts.proofs.Whole.{text-from}
 use Rattle.dfdl_grammar.specs.Framing.{aligned}
-use Rattle.dfdl_grammar.specs.Leaves.{Find, Fails, FindsOctets, bits_of, bytes_spanned, empty_begins, field, find_in, program, text_begins, text_find, text_of_size}
+use Rattle.dfdl_grammar.specs.Leaves.{Find, Fails, FindsOctets, bits_of, bytes_spanned, empty_begins, field, find_in, nil_octets_find, octets, program, text_begins, text_find, text_of_size}
 
 -- looks that lie behind a byte lie behind one before it
 lower : {F : Type 0} (low k : ℕ) → low ≤ k → (a : Ask F) → AsksFrom k a → AsksFrom low a
@@ -34,6 +35,7 @@ empty_begins-behind Plain bit = omega arith
 empty_begins-behind (Number form kind) bit = omega arith
 empty_begins-behind (Zoned form) bit = omega arith
 empty_begins-behind (TextTruth form) bit = omega arith
+empty_begins-behind (Nil form) bit = omega arith
 
 pub text_begins-behind : (content : TextContent) (size : TextSize) (bit : ℕ) → bit ≤ text_begins content size bit
 text_begins-behind content (Bits zero) bit = empty_begins-behind content bit
@@ -61,13 +63,19 @@ field-from : (low : ℕ) (primitive : Primitive) (bit : ℕ) → low ≤ bit / 8
 field-from low primitive bit base =
     look_at-from (bytes_spanned bit (bits_of primitive)) low (bit / 8) (Fails DataEnds) (find_in primitive bit) base
 
+octets-from : (low : ℕ) (form : OctetForm) (bit : ℕ) → low ≤ bit / 8 → AsksFrom low (octets form bit)
+octets-from low form bit base =
+    let whole : Ask Find = cond (nat_eq (form.bits % 8) 0) (field (Octets form) bit) (Answer (Fails NotFilled)) in
+    from-either low (nat_eq form.bits 0) (Answer (FindsOctets [] bit)) whole tt
+    (from-either low (nat_eq (form.bits % 8) 0) (field (Octets form) bit) (Answer (Fails NotFilled)) (field-from low (Octets form) bit base) tt)
+
 -- each look of a leaf is at the byte of its box's first bit or behind it
 pub program-from : (low : ℕ) (primitive : Primitive) (bit stop : ℕ) → low ≤ bit / 8 → AsksFrom low (program primitive bit stop)
 program-from low (Integer form) bit stop base = field-from low (Integer form) bit base
 program-from low (Packed form) bit stop base = field-from low (Packed form) bit base
 program-from low (Truth form) bit stop base = field-from low (Truth form) bit base
-program-from low (Octets form) bit stop base =
-    let whole : Ask Find = cond (nat_eq (form.bits % 8) 0) (field (Octets form) bit) (Answer (Fails NotFilled)) in
-    from-either low (nat_eq form.bits 0) (Answer (FindsOctets [] bit)) whole tt
-    (from-either low (nat_eq (form.bits % 8) 0) (field (Octets form) bit) (Answer (Fails NotFilled)) (field-from low (Octets form) bit base) tt)
+program-from low (Octets form) bit stop base = octets-from low form bit base
 program-from low (Text form) bit stop base = size-from low form form.size bit stop base
+program-from low (NilOctets form) bit stop base =
+    and_then-from low (octets form.octets bit) (λ find. Answer (nil_octets_find form.nil find)) (octets-from low form.octets bit base) (λ find. tt)
+program-from low (Default form) bit stop base = tt

@@ -2,12 +2,14 @@
 use Rattle.std.proofs.Common.{◌≡◌, ℕ, zero, suc, ◌+◌, ◌-◌, ◌*◌, ◌/◌, ◌%◌, ◌≤◌, Bool, true, false, cond, nat_eq, refl, List, [], ◌∷◌, Option, Some, None, subst, sym, arith}
 use Rattle.dfdl_bits.specs.declared.window.Seen.{Seen}
 use Rattle.dfdl_bits.specs.declared.window.Seen.TheVariants.{Byte, End, NotYet, Over}
-use Rattle.dfdl_report.specs.declared.cause.ParseCause.TheVariants.{DataEnds, NotFilled}
+use Rattle.dfdl_report.specs.declared.cause.ParseCause.TheVariants.{DataEnds, NotFilled, RequiredEmpty}
 use Rattle.dfdl_int_binary.specs.Integers.{field_of, integer_reading}
 use Rattle.dfdl_int_binary.specs.Truths.{truth_field_of, truth_reading}
 use Rattle.dfdl_packed.specs.Packed.{nibbles_in, packed_reading}
 use Rattle.dfdl_terms.specs.declared.row.Primitive.{Primitive}
-use Rattle.dfdl_terms.specs.declared.row.Primitive.TheVariants.{Integer, Packed, Truth, Octets, Text}
+use Rattle.dfdl_terms.specs.declared.row.Primitive.TheVariants.{Integer, Packed, Truth, Octets, Text, NilOctets, Default}
+use Rattle.dfdl_terms.specs.declared.text.NilForm.{NilForm}
+use Rattle.dfdl_terms.specs.declared.text.OctetForm.{OctetForm}
 use Rattle.dfdl_terms.specs.declared.text.TextForm.{TextForm}
 use Rattle.dfdl_terms.specs.declared.text.TextSize.{TextSize}
 use Rattle.dfdl_terms.specs.declared.text.TextSize.TheVariants.{Bits, Characters}
@@ -19,10 +21,10 @@ use Rattle.dfdl_looks.specs.Asks.{Ask, Answer, Reached, Told, TooFar, Missing, R
 use Rattle.dfdl_looks.specs.Tallies.{Tally, saw_byte, saw_end}
 use Rattle.dfdl_looks.proofs.Resumed.{on_seen}
 use Rattle.dfdl_looks.proofs.Sequels.{ask-then}
-use Rattle.dfdl_grammar.specs.Leaves.{Find, Fails, FindsOctets, bytes_spanned, field, find_in, program, text_behind, text_begins, text_find, text_of_size}
+use Rattle.dfdl_grammar.specs.Leaves.{Find, Fails, FindsOctets, bytes_spanned, default_find, field, find_in, is_no_size, nil_octets_find, octets, program, text_behind, text_begins, text_find, text_of_size}
 use Rattle.dfdl_grammar.specs.Framing.{aligned}
 use Rattle.dfdl_text_string.specs.Padding.{trimmed}
-use Rattle.dfdl_parse.proofs.Ends.{AtEnd, content-at, number-at, packed-at, truth-at}
+use Rattle.dfdl_parse.proofs.Ends.{AtEnd, content-at, default-at, nil_octets-at, number-at, packed-at, truth-at}
 
 -- what is found ends at this bit or behind it
 abbrev pub EndsBehind : ℕ → Reached Find → Type 0
@@ -91,6 +93,19 @@ module _ (look : ℕ → Seen) where
   size-ends form (Characters count) is bit stop t =
       read-ends form (extent.Characters count) bit stop (aligned 8 bit / 8) t (λ n counted. omega arith)
 
+  octets-end : (form : OctetForm) (bit : ℕ) (t : Tally) → EndsBehind bit (ask look (octets form bit) t).reached
+  octets-end form bit t =
+      either-ends bit (nat_eq form.bits 0) (Answer (FindsOctets [] bit)) _ t (omega arith)
+      (either-ends bit (nat_eq (form.bits % 8) 0) (field (Octets form) bit) (Answer (Fails NotFilled)) t
+      (run-ends bit (bytes_spanned bit form.bits) (bit / 8) (find_in (Octets form) bit) t (λ bytes. omega arith)) tt)
+
+  -- bytes that have to be nil end where a hexBinary does
+  nil-ends : (form : NilForm) (bit : ℕ) (r : Reached Find) (u : Tally) → EndsBehind bit r
+      → EndsBehind bit (go_on look (λ find. Answer (nil_octets_find form find)) r u).reached
+  nil-ends form bit (Told find) u ends = nil_octets-at (λ e. bit ≤ e) form find ends
+  nil-ends form bit TooFar u ends = tt
+  nil-ends form bit Missing u ends = tt
+
   pub program-ends : (primitive : Primitive) (bit stop : ℕ) (t : Tally) → EndsBehind bit (ask look (program primitive bit stop) t).reached
   program-ends (Integer form) bit stop t =
       run-ends bit (bytes_spanned bit form.bits) (bit / 8) (find_in (Integer form) bit) t
@@ -101,8 +116,14 @@ module _ (look : ℕ → Seen) where
   program-ends (Truth form) bit stop t =
       run-ends bit (bytes_spanned bit form.bits) (bit / 8) (find_in (Truth form) bit) t
       (λ bytes. truth-at (λ e. bit ≤ e) (bit + form.bits) (truth_reading form (truth_field_of form bytes (bit % 8))) (omega arith))
-  program-ends (Octets form) bit stop t =
-      either-ends bit (nat_eq form.bits 0) (Answer (FindsOctets [] bit)) _ t (omega arith)
-      (either-ends bit (nat_eq (form.bits % 8) 0) (field (Octets form) bit) (Answer (Fails NotFilled)) t
-      (run-ends bit (bytes_spanned bit form.bits) (bit / 8) (find_in (Octets form) bit) t (λ bytes. omega arith)) tt)
+  program-ends (Octets form) bit stop t = octets-end form bit t
   program-ends (Text form) bit stop t = size-ends form form.size refl bit stop t
+  program-ends (NilOctets form) bit stop t =
+      let bytes : Ask Find = octets form.octets bit in
+      subst (λ (r : Reading Find). EndsBehind bit r.reached) (sym (ask-then look (λ find. Answer (nil_octets_find form.nil find)) bytes t))
+      (nil-ends form.nil bit (ask look bytes t).reached (ask look bytes t).tally (octets-end form.octets bit t))
+  program-ends (Default form) bit stop t = default-ends (is_no_size form.size)
+    where
+      default-ends : (none : Bool) → EndsBehind bit (Told (cond none (default_find bit form.value) (Fails RequiredEmpty)))
+      default-ends true = default-at (λ e. bit ≤ e) bit form.value (omega arith)
+      default-ends false = tt

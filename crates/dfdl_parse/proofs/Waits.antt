@@ -17,7 +17,8 @@ use Rattle.dfdl_looks.proofs.Waiting.{missed, waits_while, counted}
 use Rattle.dfdl_grammar.specs.declared.end.End.{End}
 use Rattle.dfdl_grammar.specs.declared.end.End.TheVariants.{Done, Failed, Stopped}
 use Rattle.dfdl_grammar.specs.declared.limits.Limits.{Limits}
-use Rattle.dfdl_grammar.specs.States.{Input, State, anchor, anchor_at}
+use Rattle.dfdl_grammar.specs.States.{Input, State, anchor, anchor_at, read_by}
+use Rattle.dfdl_grammar.specs.Marks.{back, marked}
 use Rattle.dfdl_grammar.specs.Outcomes.{Outcome, ended, spend}
 use Rattle.dfdl_terms.specs.declared.text.TextSize.{TextSize}
 use Rattle.dfdl_grammar.specs.Leaves.{Find, content_begins, has_room, land, leaf, program}
@@ -28,13 +29,17 @@ use Rattle.dfdl_grammar.specs.Elements.{begun, has_elements}
 use Rattle.dfdl_grammar.specs.Rows.{below, meaning, row}
 use Rattle.dfdl_grammar.proofs.Spending.{spend-spend, spend-nothing}
 use Rattle.dfdl_parse.specs.declared.frame.Frame.{Frame}
-use Rattle.dfdl_parse.specs.declared.frame.Frame.TheVariants.{Rest, Element, Box}
+use Rattle.dfdl_parse.specs.declared.frame.Frame.TheVariants.{Rest, Element, Box, Trial}
+use Rattle.dfdl_parse.specs.declared.frame.Next.{Next}
+use Rattle.dfdl_parse.specs.declared.frame.Next.TheVariants as next
+use Rattle.dfdl_parse.specs.declared.frame.Parts.{Parts}
 use Rattle.dfdl_parse.specs.declared.frame.Focus.{Focus}
 use Rattle.dfdl_parse.specs.declared.frame.Focus.TheVariants.{Enter, Pass, PassRest, Sized, Leave}
 use Rattle.dfdl_parse.specs.declared.frame.Behind.TheVariants as behind
 use Rattle.dfdl_parse.specs.Moves.{Machine, Move, is_missing, landed, pass, read_leaf, read_move}
 use Rattle.dfdl_parse.specs.Prefixed.{behind_units, landed_prefix, prefix_move, read_prefix, read_resized, read_sized}
 use Rattle.dfdl_parse.specs.Machines.{children_of, enter, enter_group, fill, fill_move, go_on, leave, pass_rest, rest_move, seen_beyond, step}
+use Rattle.dfdl_parse.specs.Trials.{attempt, parts_of, retry, try_empty, try_nil, try_normal, two_rows}
 use Rattle.dfdl_parse.specs.Ahead.{finish}
 use Rattle.dfdl_parse.proofs.Windows.{agrees_from, end_from}
 use Rattle.dfdl_parse.proofs.Beyond.{beyond-missed, beyond-waits}
@@ -131,7 +136,7 @@ module _ (table : Table) (held : Held) (s : State) where
   abbrev read_over : Input → Primitive → Outcome
   read_over input primitive = land input.limits (content_begins primitive s.at) (whole_of input primitive).reached s
 
-  read-waits : (limits : Limits) (id prim : ℕ) (primitive : Primitive) (k : List Frame) → slice_get table.primitives prim ≡ Some primitive
+  read-waits : (limits : Limits) (id prim : ℕ) (primitive : Primitive) (k : List Frame) → slice_get table.primitives (read_by s.instead prim) ≡ Some primitive
       → slice_get table.rows id ≡ Some (Leaf prim) → (room : Bool) → has_room primitive s.at s.stop ≡ room
       → let sight : Held = from_byte held (anchor s) in
       let move : Move = cond room
@@ -152,7 +157,7 @@ module _ (table : Table) (held : Held) (s : State) where
       (ended (Failed LengthOutOfRange s.at) s)))) has)
       missing
 
-  leaf-waits : (limits : Limits) (id prim : ℕ) (primitive : Option Primitive) (k : List Frame) → slice_get table.primitives prim ≡ primitive
+  leaf-waits : (limits : Limits) (id prim : ℕ) (primitive : Option Primitive) (k : List Frame) → slice_get table.primitives (read_by s.instead prim) ≡ primitive
       → slice_get table.rows id ≡ Some (Leaf prim) → (read_leaf one_row limits (Enter id) held primitive k s).waits ≡ true
       → Waits table held (Enter id) k s (read_leaf one_row limits (Enter id) held primitive k s)
   leaf-waits limits id prim None k is at waits = absurd (cc)
@@ -245,20 +250,20 @@ module _ (table : Table) (held : Held) (s : State) where
   fill-waits : (limits : Limits) (to : ℕ) (k : List Frame) → (fill limits held to k s).waits ≡ true → Waits table held (Pass to) k s (fill limits held to k s)
   fill-waits limits to k waits =
       let last : ℕ = (to - 1) / 8 in
-      let sight : Held = from_byte held (min last (end_of held)) in
-      let none : seen_beyond held last ≡ NotYet = in_vain limits.window sight to (seen_beyond held last) k waits in
-      let here = beyond-waits held last none in
+      let low : ℕ = anchor_at s (to - 1) in
+      let sight : Held = from_byte held (min low (end_of held)) in
+      let none : seen_beyond held low last ≡ NotYet = in_vain limits.window sight to (seen_beyond held low last) k waits in
+      let here = beyond-waits held low last none in
       let move_is : fill limits held to k s ≡ fill_move limits.window sight to NotYet k s = ap (λ (v : Seen). fill_move limits.window sight to v k s) none in
       record {
         machine = ap (λ (m : Move). m.machine) move_is;
         on = here.0;
         room = subst (λ (m : Move). 0 < room_of m.held) (sym move_is) here.1;
         missed = λ input fits all.
-            let lost = beyond-missed held last fits.stands.0 input.bytes fits.agrees all none in
+            let lost = beyond-missed held low last fits.stands.0 fits.stands.1 input.bytes fits.agrees all none in
             let past : end_of held ≤ last = lost.1 in
-            let seen : seen_in input.bytes input.limits.window (anchor_at s (to - 1)) last ≡ DataEnded =
-            ap (λ (low : ℕ). seen_in input.bytes input.limits.window low last) fits.stands.1
-            ∙ ap (λ (size : ℕ). seen_in input.bytes size last last) (sym fits.size) ∙ lost.0 in
+            let seen : seen_in input.bytes input.limits.window low last ≡ DataEnded =
+            ap (λ (size : ℕ). seen_in input.bytes size low last) (sym fits.size) ∙ lost.0 in
             let rest : Outcome = finish input table k (ended (Failed DataEnds s.at) s) in
             let is : finish input table k (fill_to input to s) ≡ spend (saw_end last nothing) rest =
             ap (λ (v : Seen). finish input table k (filled input table to v s)) seen
@@ -286,9 +291,10 @@ module _ (table : Table) (held : Held) (s : State) where
       → Waits table held (PassRest bit outer) k s (pass_rest limits held bit outer k s)
   rest-waits limits bit outer k waits =
       let byte : ℕ = bit / 8 in
-      let sight : Held = from_byte held (min byte (end_of held)) in
-      let none : seen_beyond held byte ≡ NotYet = rest-in_vain limits.window sight bit outer (seen_beyond held byte) k waits in
-      let here = beyond-waits held byte none in
+      let low : ℕ = anchor_at s (8 * byte) in
+      let sight : Held = from_byte held (min low (end_of held)) in
+      let none : seen_beyond held low byte ≡ NotYet = rest-in_vain limits.window sight bit outer (seen_beyond held low byte) k waits in
+      let here = beyond-waits held low byte none in
       let move_is : pass_rest limits held bit outer k s ≡ rest_move limits.window sight bit outer NotYet k s =
       ap (λ (v : Seen). rest_move limits.window sight bit outer v k s) none in
       record {
@@ -296,14 +302,13 @@ module _ (table : Table) (held : Held) (s : State) where
         on = here.0;
         room = subst (λ (m : Move). 0 < room_of m.held) (sym move_is) here.1;
         missed = λ input fits all.
-            let lost = beyond-missed held byte fits.stands.0 input.bytes fits.agrees all none in
+            let lost = beyond-missed held low byte fits.stands.0 fits.stands.1.1 input.bytes fits.agrees all none in
             let past : end_of held ≤ byte = lost.1 in
-            let seen : seen_in input.bytes input.limits.window (anchor_at s (8 * byte)) byte ≡ DataEnded =
-            ap (λ (low : ℕ). seen_in input.bytes input.limits.window low byte) fits.stands.2
-            ∙ ap (λ (size : ℕ). seen_in input.bytes size byte byte) (sym fits.size) ∙ lost.0 in
+            let seen : seen_in input.bytes input.limits.window low byte ≡ DataEnded =
+            ap (λ (size : ℕ). seen_in input.bytes size low byte) (sym fits.size) ∙ lost.0 in
             let rest : Outcome = finish input table k (ended (Failed DataEnds s.at) s) in
             let is : from_here input table (PassRest bit outer) k s ≡ spend (saw_end byte nothing) rest =
-            rest-seen input table bit outer k s fits.stands.1
+            rest-seen input table bit outer k s fits.stands.1.0
             ∙ ap (λ (v : Seen). finish input table k (rested input table byte outer v s)) seen
             ∙ finish-spend input table k (saw_end byte nothing) (ended (Failed DataEnds s.at) s) in
             let looks : (pass_rest limits held bit outer k s).tally.looks ≡ 1 = ap (λ (m : Move). m.tally.looks) move_is in
@@ -312,10 +317,35 @@ module _ (table : Table) (held : Held) (s : State) where
             (is_tail ∙ sym looks, omega arith);
       }
 
-  element-on : (most id : ℕ) (complex : Bool) (body : ℕ) (k : List Frame) (room : Bool)
-      → (cond room (pass one_row held (Enter body) (Element s.inside complex ∷ k) (begun id s)) (pass one_row held (Leave (Stopped Nodes most)) k s)).waits ≡ true → ⊥
-  element-on most id complex body k true waits = absurd (cc)
-  element-on most id complex body k false waits = absurd (cc)
+  attempt-on : (cost : Tally) (most id : ℕ) (parts : Parts) (instead : Option ℕ) (k : List Frame) (t : State) (room : Bool)
+      → (cond room
+      (pass cost held (Enter parts.body) (Element t.inside parts.complex ∷ k) (begun id instead t))
+      (pass cost held (Leave (Stopped Nodes most)) k t)).waits ≡ true → ⊥
+  attempt-on cost most id parts instead k t true waits = absurd (cc)
+  attempt-on cost most id parts instead k t false waits = absurd (cc)
+
+  module _ (cost : Tally) (most id : ℕ) (parts : Parts) (k : List Frame) (t : State) where
+    normal-on : (try_normal cost most held id parts k t).waits ≡ true → ⊥
+    normal-on waits = attempt-on cost most id parts None (Trial id next.Nothing ∷ k) t (nat_lt (length t.nodes) most) waits
+
+    empty-on : (empty : Option ℕ) → (try_empty cost most held id parts empty k t).waits ≡ true → ⊥
+    empty-on None waits = normal-on waits
+    empty-on (Some prim) waits = attempt-on cost most id parts (Some prim) (Trial id next.Normal ∷ k) t (nat_lt (length t.nodes) most) waits
+
+    nil-on : (nil : Option ℕ) → (try_nil cost most held id parts nil k t).waits ≡ true → ⊥
+    nil-on None waits = empty-on parts.tried.empty waits
+    nil-on (Some prim) waits = attempt-on cost most id parts (Some prim) (Trial id next.Empty ∷ k) t (nat_lt (length t.nodes) most) waits
+
+  element-on : (most id : ℕ) (parts : Parts) (k : List Frame) (several : Bool)
+      → (cond several (try_nil two_rows most held id parts parts.tried.nil k (marked s)) (attempt two_rows most held id parts None k s)).waits ≡ true → ⊥
+  element-on most id parts k true waits = nil-on two_rows most id parts k (marked s) parts.tried.nil waits
+  element-on most id parts k false waits = attempt-on two_rows most id parts None k s (nat_lt (length s.nodes) most) waits
+
+  retry-on : (most id : ℕ) (parts : Option Parts) (follows : Next) (told : End) (k : List Frame) → (retry most held id parts follows told k s).waits ≡ true → ⊥
+  retry-on most id None follows told k waits = absurd (cc)
+  retry-on most id (Some parts) next.Empty told k waits = empty-on one_row most id parts k (back s) parts.tried.empty waits
+  retry-on most id (Some parts) next.Normal told k waits = normal-on one_row most id parts k (back s) waits
+  retry-on most id (Some parts) next.Nothing told k waits = absurd (cc)
 
   group-on : (id : ℕ) (children : List ℕ) (k : List Frame) → (enter_group held id children k s).waits ≡ true → ⊥
   group-on id [] k waits = absurd (cc)
@@ -325,9 +355,9 @@ module _ (table : Table) (held : Held) (s : State) where
       → Waits table held (Enter id) k s (enter limits table held id r k s)
   unfolding meaning
   enter-waits limits id None k at waits = absurd (cc)
-  enter-waits limits id (Some (Leaf prim)) k at waits = leaf-waits limits id prim (slice_get table.primitives prim) k refl at waits
-  enter-waits limits id (Some (Elem name simple body)) k at waits =
-      absurd (element-on limits.nodes id (has_elements simple) body k (nat_lt (length s.nodes) limits.nodes) waits)
+  enter-waits limits id (Some (Leaf prim)) k at waits = leaf-waits limits id prim (slice_get table.primitives (read_by s.instead prim)) k refl at waits
+  enter-waits limits id (Some (Elem name simple tried body)) k at waits =
+      absurd (element-on limits.nodes id (record { complex = has_elements simple; tried = tried; body = body }) k tried.are_several waits)
   enter-waits limits id (Some (Skip bits)) k at waits =
       absurd (begin-on (s.at + bits) k (nat_le (s.at + bits) s.at) (nat_le (s.at + bits) s.stop) waits)
   enter-waits limits id (Some (Align bits)) k at waits =
@@ -336,8 +366,8 @@ module _ (table : Table) (held : Held) (s : State) where
   enter-waits limits id (Some (Boxed bits body)) k at waits = absurd (cc)
   enter-waits limits id (Some (PrefixedLeaf prefix prim)) k at waits =
       let by : Option Primitive = slice_get table.primitives prefix.prim in
-      prefix-waits limits id prefix.own (λ input units after. sized_leaf input (slice_get table.primitives prim) (size_of prefix.unit units) after)
-      (behind_units table.primitives prefix.unit (behind.Leaf prim)) k by
+      prefix-waits limits id prefix.own (λ input units after. sized_leaf input (slice_get table.primitives (read_by s.instead prim)) (size_of prefix.unit units) after)
+      (behind_units table.primitives prefix.unit (behind.Leaf (read_by s.instead prim))) k by
       (λ input. ap (λ (r : Option Row). finish input table k (spend one_row (row input table (below input table id) id r s))) at)
       by refl waits
   enter-waits limits id (Some (PrefixedBox prefix body)) k at waits =
@@ -351,16 +381,19 @@ module _ (table : Table) (held : Held) (s : State) where
   go-on id next None k waits = absurd (cc)
   go-on id next (Some child) k waits = absurd (cc)
 
-  leave-on : (frame : Frame) (told : End) (k : List Frame) → (leave table held frame told k s).waits ≡ true → ⊥
-  leave-on (Rest id next) Done k waits = go-on id next (slice_get (children_of (slice_get table.rows id)) next) k waits
-  leave-on (Rest id next) (Failed cause bit) k waits = absurd (cc)
-  leave-on (Rest id next) (Stopped cause quantity) k waits = absurd (cc)
-  leave-on (Element outer complex) Done k waits = absurd (cc)
-  leave-on (Element outer complex) (Failed cause bit) k waits = absurd (cc)
-  leave-on (Element outer complex) (Stopped cause quantity) k waits = absurd (cc)
-  leave-on (Box outer) Done k waits = leave-box-on outer k (nat_le s.stop s.at) waits
-  leave-on (Box outer) (Failed cause bit) k waits = absurd (cc)
-  leave-on (Box outer) (Stopped cause quantity) k waits = absurd (cc)
+  leave-on : (limits : Limits) (frame : Frame) (told : End) (k : List Frame) → (leave limits table held frame told k s).waits ≡ true → ⊥
+  leave-on limits (Rest id next) Done k waits = go-on id next (slice_get (children_of (slice_get table.rows id)) next) k waits
+  leave-on limits (Rest id next) (Failed cause bit) k waits = absurd (cc)
+  leave-on limits (Rest id next) (Stopped cause quantity) k waits = absurd (cc)
+  leave-on limits (Element outer complex) Done k waits = absurd (cc)
+  leave-on limits (Element outer complex) (Failed cause bit) k waits = absurd (cc)
+  leave-on limits (Element outer complex) (Stopped cause quantity) k waits = absurd (cc)
+  leave-on limits (Box outer) Done k waits = leave-box-on outer k (nat_le s.stop s.at) waits
+  leave-on limits (Box outer) (Failed cause bit) k waits = absurd (cc)
+  leave-on limits (Box outer) (Stopped cause quantity) k waits = absurd (cc)
+  leave-on limits (Trial id next) Done k waits = absurd (cc)
+  leave-on limits (Trial id next) (Failed cause bit) k waits = retry-on limits.nodes id (parts_of (slice_get table.rows id)) next (Failed cause bit) k waits
+  leave-on limits (Trial id next) (Stopped cause quantity) k waits = absurd (cc)
 
   pub step-waits : (limits : Limits) (focus : Focus) (k : List Frame) → (step limits table held focus k s).waits ≡ true
       → Waits table held focus k s (step limits table held focus k s)
@@ -369,4 +402,4 @@ module _ (table : Table) (held : Held) (s : State) where
   step-waits limits (PassRest bit outer) k waits = rest-waits limits bit outer k waits
   step-waits limits (Sized prim size) k waits = sized-waits limits prim size (slice_get table.primitives prim) k refl waits
   step-waits limits (Leave told) [] waits = absurd (cc)
-  step-waits limits (Leave told) (frame ∷ k) waits = absurd (leave-on frame told k waits)
+  step-waits limits (Leave told) (frame ∷ k) waits = absurd (leave-on limits frame told k waits)

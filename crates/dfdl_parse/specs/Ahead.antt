@@ -1,25 +1,42 @@
 -- What is still ahead of the machine over whole data.
-use Rattle.std.specs.Prelude.{◌/◌, List, [], ◌∷◌, drop, slice_get}
+use Rattle.std.specs.Prelude.{ℕ, ◌/◌, List, [], ◌∷◌, drop, Option, Some, None, slice_get}
 use Rattle.dfdl_terms.specs.Rows.{Table}
 use Rattle.dfdl_grammar.specs.States.{Input, State}
 use Rattle.dfdl_grammar.specs.Outcomes.{Outcome, ended, then_do}
 use Rattle.dfdl_grammar.specs.Framing.{fill_to}
 use Rattle.dfdl_grammar.specs.Boxes.{bytes_up_to, pass_bytes, rest, unboxed}
-use Rattle.dfdl_grammar.specs.Elements.{close}
+use Rattle.dfdl_grammar.specs.Elements.{attempted, close}
+use Rattle.dfdl_grammar.specs.Representations.{or_else, the_last, then_empty, then_normal}
 use Rattle.dfdl_grammar.specs.Prefixes.{sized_leaf}
 use Rattle.dfdl_grammar.specs.Rows.{below, group, meaning}
 use Rattle.dfdl_parse.specs.declared.frame.Frame.{Frame}
-use Rattle.dfdl_parse.specs.declared.frame.Frame.TheVariants.{Rest, Element, Box}
+use Rattle.dfdl_parse.specs.declared.frame.Frame.TheVariants.{Rest, Element, Box, Trial}
+use Rattle.dfdl_parse.specs.declared.frame.Next.{Next}
+use Rattle.dfdl_parse.specs.declared.frame.Next.TheVariants as next
+use Rattle.dfdl_parse.specs.declared.frame.Parts.{Parts}
 use Rattle.dfdl_parse.specs.declared.frame.Focus.{Focus}
 use Rattle.dfdl_parse.specs.declared.frame.Focus.TheVariants.{Enter, Pass, PassRest, Sized, Leave}
 use Rattle.dfdl_parse.specs.Moves.{Machine}
 use Rattle.dfdl_parse.specs.Machines.{children_of}
+use Rattle.dfdl_parse.specs.Trials.{parts_of}
+
+-- one representation of an element by its row
+abbrev pub trial_of : Input → Table → ℕ → Parts → Option ℕ → State → Outcome
+trial_of input table id parts = attempted input id parts.complex (below input table id parts.body)
+
+-- what follows a representation of an element
+abbrev pub retried : Input → Table → ℕ → Option Parts → Next → Outcome → Outcome
+retried input table id None follows o = the_last o.end o
+retried input table id (Some parts) next.Empty o = or_else o.end o (then_empty parts.tried.empty (trial_of input table id parts))
+retried input table id (Some parts) next.Normal o = or_else o.end o (then_normal (trial_of input table id parts))
+retried input table id (Some parts) next.Nothing o = the_last o.end o
 
 -- what a frame makes of the outcome of the row before it
 abbrev pub resume : Input → Table → Frame → Outcome → Outcome
 resume input table (Rest id next) o = then_do o (group (below input table id) (drop next (children_of (slice_get table.rows id))))
 resume input table (Element outer complex) o = close o.end outer complex o
 resume input table (Box outer) o = let whole : Outcome = then_do o (rest input) in unboxed whole.end outer whole
+resume input table (Trial id next) o = retried input table id (parts_of (slice_get table.rows id)) next o
 
 -- what a stack makes of the outcome of the row before it
 unfoldable pub finish : Input → Table → List Frame → Outcome → Outcome

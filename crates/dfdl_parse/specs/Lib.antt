@@ -1,11 +1,14 @@
 pub mod Views
 pub mod Moves
 pub mod Prefixed
+pub mod Trials
 pub mod Machines
+pub mod Opens
 pub mod Answers
 pub mod Shown
 pub mod Steps
 pub mod Strings
+pub mod Nils
 pub mod Ahead
 pub mod Runs
 pub mod Running

@@ -1,9 +1,9 @@
 -- One step of the machine.
-use Rattle.std.specs.Prelude.{◌≡◌, ◌<◌, ◌≤◌, ℕ, ◌+◌, ◌-◌, ◌*◌, ◌/◌, min, nat_le, Bool, true, false, nat_lt, List, [], ◌∷◌, length, Option, Some, None, slice_get, if◌then◌else◌}
+use Rattle.std.specs.Prelude.{◌≡◌, ℕ, ◌+◌, ◌-◌, ◌*◌, ◌/◌, min, nat_le, Bool, true, false, List, [], ◌∷◌, Option, Some, None, slice_get, if◌then◌else◌}
 use Rattle.dfdl_bits.specs.Window.{Held, end_of, from_byte, seen_at}
 use Rattle.dfdl_bits.specs.declared.window.Seen.{Seen}
 use Rattle.dfdl_bits.specs.declared.window.Seen.TheVariants.{Byte, End as DataEnded, NotYet, Over}
-use Rattle.dfdl_report.specs.declared.cause.LimitCause.TheVariants.{Nodes, Window}
+use Rattle.dfdl_report.specs.declared.cause.LimitCause.TheVariants.{Window}
 use Rattle.dfdl_report.specs.declared.cause.ParseCause.TheVariants.{DataEnds, LengthOutOfRange}
 use Rattle.dfdl_terms.specs.declared.row.Row.{Row}
 use Rattle.dfdl_terms.specs.declared.row.Row.TheVariants.{Leaf, Elem, Group, Skip, Align, Boxed, PrefixedLeaf, PrefixedBox}
@@ -12,22 +12,24 @@ use Rattle.dfdl_looks.specs.Tallies.{nothing, one_row, saw_byte, saw_end, saw_no
 use Rattle.dfdl_grammar.specs.declared.end.End.{End}
 use Rattle.dfdl_grammar.specs.declared.end.End.TheVariants.{Done, Failed, Stopped}
 use Rattle.dfdl_grammar.specs.declared.limits.Limits.{Limits}
-use Rattle.dfdl_grammar.specs.States.{State}
+use Rattle.dfdl_grammar.specs.States.{State, anchor_at, read_by}
 use Rattle.dfdl_grammar.specs.Framing.{aligned}
-use Rattle.dfdl_grammar.specs.Elements.{begun, has_elements, left}
+use Rattle.dfdl_grammar.specs.Marks.{closed}
+use Rattle.dfdl_grammar.specs.Elements.{has_elements, left}
 use Rattle.dfdl_parse.specs.declared.frame.Frame.{Frame}
-use Rattle.dfdl_parse.specs.declared.frame.Frame.TheVariants.{Rest, Element, Box}
+use Rattle.dfdl_parse.specs.declared.frame.Frame.TheVariants.{Rest, Element, Box, Trial}
 use Rattle.dfdl_parse.specs.declared.frame.Focus.{Focus}
 use Rattle.dfdl_parse.specs.declared.frame.Focus.TheVariants.{Enter, Pass, PassRest, Sized, Leave}
 use Rattle.dfdl_parse.specs.declared.frame.Behind.TheVariants as behind
 use Rattle.dfdl_parse.specs.Moves.{Move, pass, read_leaf}
+use Rattle.dfdl_parse.specs.Trials.{enter_element, parts_of, retry}
 use Rattle.dfdl_parse.specs.Prefixed.{behind_units, box_begins, read_prefix, read_sized}
 
 -- the rows of a group
 abbrev pub children_of : Option Row → List ℕ
 children_of None = []
 children_of (Some (Leaf prim)) = []
-children_of (Some (Elem name simple body)) = []
+children_of (Some (Elem name simple tried body)) = []
 children_of (Some (Group children)) = children
 children_of (Some (Skip bits)) = []
 children_of (Some (Align bits)) = []
@@ -42,9 +44,10 @@ enter_fill held to k s =
     else if nat_le to s.stop then pass one_row held (Pass to) k s
     else pass one_row held (Leave (Failed LengthOutOfRange s.at)) k s
 
--- What a look at a byte sees behind which all others were given up. Where it hasn't come, this is a look at the first that hasn't.
-abbrev pub seen_beyond : Held → ℕ → Seen
-seen_beyond held k = let near : ℕ = min k (end_of held) in seen_at (from_byte held near) near
+-- What a look at a byte sees behind which the bytes before the anchor were given up. Where the anchor hasn't come, the look is as far
+-- behind the first byte that hasn't.
+abbrev pub seen_beyond : Held → ℕ → ℕ → Seen
+seen_beyond held anchor k = let near : ℕ = min anchor (end_of held) in seen_at (from_byte held near) (near + (k - anchor))
 
 -- the step over fill up to a bit, by what the look at its last byte sees, with these bytes held behind it
 abbrev pub fill_move : ℕ → Held → ℕ → Seen → List Frame → State → Move
@@ -58,11 +61,11 @@ fill_move window sight to NotYet k s = record {
   waits = true;
 }
 
--- fill up to a bit, which gives up the bytes before its last one
+-- fill up to a bit, which gives up the bytes that are no longer needed at its last bit
 abbrev pub fill : Limits → Held → ℕ → List Frame → State → Move
 fill limits held to k s =
-    let last : ℕ = (to - 1) / 8 in
-    fill_move limits.window (from_byte held (min last (end_of held))) to (seen_beyond held last) k s
+    let low : ℕ = anchor_at s (to - 1) in
+    fill_move limits.window (from_byte held (min low (end_of held))) to (seen_beyond held low ((to - 1) / 8)) k s
 
 -- a box of so many bits begins; it can't pass the end of the one around it
 abbrev pub enter_box : Held → ℕ → ℕ → List Frame → State → Move
@@ -94,34 +97,29 @@ rest_move window sight bit outer NotYet k s = record {
   waits = true;
 }
 
--- the byte of a bit in the rest of a box, which gives up the bytes before it
+-- the byte of a bit in the rest of a box, which gives up the bytes that are no longer needed there
 abbrev pub pass_rest : Limits → Held → ℕ → ℕ → List Frame → State → Move
 pass_rest limits held bit outer k s =
-    rest_move limits.window (from_byte held (min (bit / 8) (end_of held))) bit outer (seen_beyond held (bit / 8)) k s
+    let low : ℕ = anchor_at s (8 * (bit / 8)) in
+    rest_move limits.window (from_byte held (min low (end_of held))) bit outer (seen_beyond held low (bit / 8)) k s
 
 -- a group
 abbrev pub enter_group : Held → ℕ → List ℕ → List Frame → State → Move
 enter_group held id [] k s = pass one_row held (Leave Done) k s
 enter_group held id (child ∷ rest) k s = pass one_row held (Enter child) (Rest id 1 ∷ k) s
 
--- an element, where there are fewer than most
-abbrev pub enter_element : ℕ → Held → ℕ → Bool → ℕ → List Frame → State → Move
-enter_element most held id complex body k s =
-    if nat_lt (length s.nodes) most
-    then pass one_row held (Enter body) (Element s.inside complex ∷ k) (begun id s)
-    else pass one_row held (Leave (Stopped Nodes most)) k s
-
 -- a row begins
 abbrev pub enter : Limits → Table → Held → ℕ → Option Row → List Frame → State → Move
 enter limits table held id None k s = pass one_row held (Leave Done) k s
-enter limits table held id (Some (Leaf prim)) k s = read_leaf one_row limits (Enter id) held (slice_get table.primitives prim) k s
-enter limits table held id (Some (Elem name simple body)) k s = enter_element limits.nodes held id (has_elements simple) body k s
+enter limits table held id (Some (Leaf prim)) k s = read_leaf one_row limits (Enter id) held (slice_get table.primitives (read_by s.instead prim)) k s
+enter limits table held id (Some (Elem name simple tried body)) k s =
+    enter_element limits.nodes held id (record { complex = has_elements simple; tried = tried; body = body }) k s
 enter limits table held id (Some (Group children)) k s = enter_group held id children k s
 enter limits table held id (Some (Skip bits)) k s = enter_fill held (s.at + bits) k s
 enter limits table held id (Some (Align bits)) k s = enter_fill held (aligned bits s.at) k s
 enter limits table held id (Some (Boxed bits body)) k s = enter_box held bits body k s
 enter limits table held id (Some (PrefixedLeaf prefix prim)) k s =
-    read_prefix limits id held prefix.own (behind_units table.primitives prefix.unit (behind.Leaf prim)) (slice_get table.primitives prefix.prim) k s
+    read_prefix limits id held prefix.own (behind_units table.primitives prefix.unit (behind.Leaf (read_by s.instead prim))) (slice_get table.primitives prefix.prim) k s
 enter limits table held id (Some (PrefixedBox prefix body)) k s =
     read_prefix limits id held prefix.own (behind_units table.primitives prefix.unit (behind.Box body)) (slice_get table.primitives prefix.prim) k s
 
@@ -135,12 +133,20 @@ abbrev pub leave_done : Table → Held → Frame → List Frame → State → Mo
 leave_done table held (Rest id next) k s = go_on held id next (slice_get (children_of (slice_get table.rows id)) next) k s
 leave_done table held (Element outer complex) k s = pass nothing held (Leave Done) k (left outer complex s)
 leave_done table held (Box outer) k s = leave_box held outer k s
+leave_done table held (Trial id next) k s = pass nothing held (Leave Done) k (closed s)
+
+-- a row that failed, at this end, before what stands on the stack
+abbrev pub leave_failed : ℕ → Table → Held → Frame → End → List Frame → State → Move
+leave_failed most table held (Rest id next) end k s = pass nothing held (Leave end) k s
+leave_failed most table held (Element outer complex) end k s = pass nothing held (Leave end) k s
+leave_failed most table held (Box outer) end k s = pass nothing held (Leave end) k s
+leave_failed most table held (Trial id next) end k s = retry most held id (parts_of (slice_get table.rows id)) next end k s
 
 -- what stands on the stack takes the end of the row before it
-abbrev pub leave : Table → Held → Frame → End → List Frame → State → Move
-leave table held frame Done k s = leave_done table held frame k s
-leave table held frame (Failed cause bit) k s = pass nothing held (Leave (Failed cause bit)) k s
-leave table held frame (Stopped cause quantity) k s = pass nothing held (Leave (Stopped cause quantity)) k s
+abbrev pub leave : Limits → Table → Held → Frame → End → List Frame → State → Move
+leave limits table held frame Done k s = leave_done table held frame k s
+leave limits table held frame (Failed cause bit) k s = leave_failed limits.nodes table held frame (Failed cause bit) k s
+leave limits table held frame (Stopped cause quantity) k s = pass nothing held (Leave (Stopped cause quantity)) k s
 
 -- one step
 abbrev pub step : Limits → Table → Held → Focus → List Frame → State → Move
@@ -149,7 +155,7 @@ step limits table held (Pass to) k s = fill limits held to k s
 step limits table held (PassRest bit outer) k s = pass_rest limits held bit outer k s
 step limits table held (Sized prim size) k s = read_sized limits held prim size (slice_get table.primitives prim) k s
 step limits table held (Leave end) [] s = pass nothing held (Leave end) [] s
-step limits table held (Leave end) (frame ∷ k) s = leave table held frame end k s
+step limits table held (Leave end) (frame ∷ k) s = leave limits table held frame end k s
 
 -- nothing is left to be done
 abbrev pub HasEnded : Focus → List Frame → Type 0
@@ -158,16 +164,6 @@ HasEnded (Pass to) k = ⊥
 HasEnded (PassRest bit outer) k = ⊥
 HasEnded (Sized prim size) k = ⊥
 HasEnded (Leave end) k = k ≡ []
-
--- What is done next needs no byte before this one. Behind a failure none is needed. The rest of a box has a bit.
-abbrev pub NeedsFrom : ℕ → Focus → State → Type 0
-NeedsFrom base (Enter id) s = base ≤ s.at / 8
-NeedsFrom base (Pass to) s = base ≤ (to - 1) / 8
-NeedsFrom base (PassRest bit outer) s = (base ≤ bit / 8) × (bit < s.stop)
-NeedsFrom base (Sized prim size) s = base ≤ s.at / 8
-NeedsFrom base (Leave Done) s = base ≤ s.at / 8
-NeedsFrom base (Leave (Failed cause bit)) s = Unit {0}
-NeedsFrom base (Leave (Stopped cause quantity)) s = Unit {0}
 
 -- whether there are no frames
 abbrev pub is_none : List Frame → Bool

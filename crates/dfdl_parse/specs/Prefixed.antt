@@ -1,5 +1,5 @@
 -- The steps of a length prefix, and of what stands behind it.
-use Rattle.std.specs.Prelude.{◌<◌, ℕ, ◌+◌, nat_le, Bool, true, List, ◌∷◌, Option, Some, None, slice_get, if◌then◌else◌}
+use Rattle.std.specs.Prelude.{ℕ, ◌+◌, nat_le, Bool, true, List, ◌∷◌, Option, Some, None, slice_get, if◌then◌else◌}
 use Rattle.dfdl_bits.specs.Window.{Held, from_byte, seen_at}
 use Rattle.dfdl_report.specs.declared.cause.LimitCause.TheVariants.{Window}
 use Rattle.dfdl_report.specs.declared.cause.ParseCause.TheVariants.{LengthOutOfRange}
@@ -49,11 +49,6 @@ box_begins bits body k s =
 abbrev pub behind_units : List Primitive → LengthUnit → Behind → ℕ → List Frame → State → Machine
 behind_units primitives unit (behind.Leaf prim) units k s = sized_begins (slice_get primitives prim) prim (size_of unit units) k s
 behind_units primitives unit (behind.Box body) units k s = box_begins (bits_of_units unit units) body k s
-
--- what stands behind a prefix is in the tables
-abbrev pub IsNamed : ℕ → Behind → Type 0
-IsNamed primitives (behind.Leaf prim) = prim < primitives
-IsNamed primitives (behind.Box body) = Unit {0}
 
 -- behind a prefix before this bit: what follows it begins; without a number of units it fails where the prefix begins
 abbrev pub units_begin : ℕ → (ℕ → List Frame → State → Machine) → Option ℕ → List Frame → State → Machine

@@ -6,7 +6,7 @@ use Rattle.dfdl_grammar.specs.Outcomes.{Outcome}
 use Rattle.dfdl_grammar.specs.Documents.{document}
 use Rattle.dfdl_parse.specs.declared.frame.Focus.TheVariants.{Leave}
 use Rattle.dfdl_parse.specs.declared.session.Session.{Session}
-use Rattle.dfdl_parse.specs.Machines.{NeedsFrom}
+use Rattle.dfdl_parse.specs.Opens.{NeedsFrom}
 use Rattle.dfdl_parse.specs.Shown.{shown, state_of}
 use Rattle.dfdl_parse.specs.Runs.{Runs}
 
@@ -30,7 +30,7 @@ pub record StandsFor (s : Session) (stream : List ℕ) (steps allowed : ℕ) : T
 pub record IsReady (s : Session) : Type 0 where
   pub ended : s.sight.ended ≡ false
   pub room : 0 < room_of s.sight
-  pub low : NeedsFrom s.sight.base s.parser.focus (state_of s.parser)
+  pub low : NeedsFrom s.sight.base s.parser.focus s.parser.stack (state_of s.parser)
   pub at : s.parser.at ≤ 8 * end_of s.sight
   pub window : s.sight.size ≡ s.limits.window
   pub nodes : s.parser.region.most ≡ s.limits.nodes

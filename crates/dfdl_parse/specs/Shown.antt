@@ -1,5 +1,5 @@
 -- Mirror for the prover: the machine as its steps see it.
-use Rattle.std.specs.Prelude.{◌≡◌, []}
+use Rattle.std.specs.Prelude.{◌≡◌}
 use Rattle.dfdl_bits.specs.Window.{Held}
 use Rattle.dfdl_grammar.specs.declared.limits.Limits.{Limits}
 use Rattle.dfdl_grammar.specs.States.{State}
@@ -8,9 +8,17 @@ use Rattle.dfdl_parse.specs.declared.frame.Focus.TheVariants.{Leave}
 use Rattle.dfdl_parse.specs.declared.parser.Parser.{Parser}
 use Rattle.dfdl_parse.specs.Moves.{Machine}
 
--- the state; today's rows open no marks
+-- the state
 abbrev pub state_of : Parser → State
-state_of p = record { at = p.at; stop = p.stop; nodes = p.region.nodes; text = p.text.bytes; inside = p.inside; marks = [] }
+state_of p = record {
+  at = p.at;
+  stop = p.stop;
+  nodes = p.region.nodes;
+  text = p.text.bytes;
+  inside = p.inside;
+  instead = p.instead;
+  marks = p.marks;
+}
 
 -- the machine
 abbrev pub shown : Parser → Machine

@@ -11,7 +11,7 @@ use Rattle.dfdl_terms.specs.declared.row.Primitive.TheVariants as primitive
 use Rattle.dfdl_region.specs.Bytes.{utf8_of}
 use Rattle.dfdl_grammar.specs.Leaves.{Find, Fails, Finds, FindsOctets, FindsText}
 use Rattle.dfdl_parse.specs.declared.leaf.Found.{Found}
-use Rattle.dfdl_parse.specs.declared.leaf.Found.TheVariants.{Reads, Octets, Text, Fails as HasFailed, Past, NotYet}
+use Rattle.dfdl_parse.specs.declared.leaf.Found.TheVariants.{Reads, Octets, Utf8, Text, Fails as HasFailed, Past, NotYet}
 use Rattle.dfdl_parse.specs.declared.leaf.Glance.{Glance}
 use Rattle.dfdl_parse.specs.declared.leaf.Scratch.{Scratch}
 use Rattle.dfdl_parse.specs.declared.parser.Parser.{Parser}
@@ -22,6 +22,7 @@ use Rattle.dfdl_parse.specs.Shown.{shown}
 abbrev pub found_shown : Scratch → Found → Reached Find
 found_shown scratch (Reads content end) = Told (Finds content end)
 found_shown scratch (Octets end) = Told (FindsOctets scratch.octets.items end)
+found_shown scratch (Utf8 end) = Told (FindsText scratch.octets.items end)
 found_shown scratch (Text from to end) =
     Told (FindsText (utf8_of (take (to - from) (drop from scratch.characters.items))) end)
 found_shown scratch (HasFailed cause) = Told (Fails cause)
@@ -44,6 +45,7 @@ CutShort Over first count glance = (glance.found ≡ Past) × (glance.far ≡ fa
 abbrev pub IsWithin : Found → ℕ → Type 0
 IsWithin (Reads content end) last = end ≤ 8 * last
 IsWithin (Octets end) last = end ≤ 8 * last
+IsWithin (Utf8 end) last = end ≤ 8 * last
 IsWithin (Text from to end) last = end ≤ 8 * last
 IsWithin (HasFailed cause) last = Unit {0}
 IsWithin Past last = Unit {0}
@@ -53,6 +55,7 @@ IsWithin NotYet last = Unit {0}
 abbrev pub HasPiece : Found → Scratch → Type 0
 HasPiece (Reads content end) scratch = Unit {0}
 HasPiece (Octets end) scratch = Unit {0}
+HasPiece (Utf8 end) scratch = Unit {0}
 HasPiece (Text from to end) scratch = (from ≤ to) × (to ≤ length scratch.characters.items)
 HasPiece (HasFailed cause) scratch = Unit {0}
 HasPiece Past scratch = Unit {0}
@@ -62,6 +65,7 @@ HasPiece NotYet scratch = Unit {0}
 abbrev pub IsPlain : Found → ℕ → Type 0
 IsPlain (Reads content end) at = end ≡ at
 IsPlain (Octets end) at = ⊥
+IsPlain (Utf8 end) at = ⊥
 IsPlain (Text from to end) at = ⊥
 IsPlain (HasFailed cause) at = Unit {0}
 IsPlain Past at = Unit {0}
@@ -71,6 +75,7 @@ IsPlain NotYet at = Unit {0}
 abbrev pub HasNone : Found → Type 0
 HasNone (Reads content end) = ⊥
 HasNone (Octets end) = ⊥
+HasNone (Utf8 end) = ⊥
 HasNone (Text from to end) = ⊥
 HasNone (HasFailed cause) = Unit {0}
 HasNone Past = Unit {0}
@@ -83,6 +88,8 @@ IsNumber (primitive.Packed form) = Unit {0}
 IsNumber (primitive.Truth form) = Unit {0}
 IsNumber (primitive.Octets form) = ⊥
 IsNumber (primitive.Text form) = ⊥
+IsNumber (primitive.NilOctets form) = ⊥
+IsNumber (primitive.Default form) = ⊥
 
 -- the answer is this reading of a leaf, in so many looks
 pub record Answers (reading : Reading Find) (scratch : Scratch) (glance : Glance) (looks_made : ℕ) : Type 0 where

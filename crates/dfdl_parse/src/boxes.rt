@@ -1,6 +1,7 @@
 // A box begins, and what its content leaves of it is passed over.
 ghost use Rattle.std.specs.Prelude.{◌≡◌, ◌+◌, ◌-◌, ◌*◌, ◌/◌, ◌<◌, ◌≤◌, false, max, IfSome, IfNone, OnOk};
 ghost use Rattle.dfdl_bits.specs.Window.{Held, end_of};
+ghost use Rattle.dfdl_parse.specs.Opens.{IsHeld};
 ghost use Rattle.dfdl_parse.specs.Machines.{enter_box, leave_box, pass_rest, past_one, rest_move};
 ghost use Rattle.dfdl_parse.specs.Steps.{Moved};
 ghost use Rattle.dfdl_parse.specs.Shown.{HasSameLimits, limits_of, state_of};
@@ -61,7 +62,7 @@ impl Parser {
         steps: &mut Steps<L>,
     ) -> bool
         requires focus { self.old.focus ≡ Focus.PassRest bit outer }
-        requires base { sight.old.base ≤ bit / 8 }
+        requires base { IsHeld sight.old.base (8 * (bit / 8)) (state_of self.old) }
         requires at { self.old.at ≤ 8 * end_of sight.old }
         ensures moved { Moved (pass_rest (limits_of self.old sight.old) sight.old bit outer self.old.stack (state_of self.old))
             result self.old.far self.new sight.new (steps.new - steps.old) }
@@ -70,7 +71,9 @@ impl Parser {
         ensures at { self.new.at ≤ 8 * end_of sight.new }
     {
         let window = sight.size() as u64;
-        let seen = look_beyond(bit / 8, sight, steps);
+        let byte = bit / 8;
+        let low = self.anchor_at(8 * byte);
+        let seen = look_beyond(low, byte, sight, steps);
         self.past_byte(seen, bit, outer, window)
     }
 

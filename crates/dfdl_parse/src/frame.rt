@@ -1,5 +1,5 @@
 use dfdl_grammar::End;
-use dfdl_terms::{RowId, TextSize};
+use dfdl_terms::{Representations, RowId, TextSize};
 
 /// What is left to be done behind a row.
 #[derive(Debug, Clone, Copy, PartialEq, Eq)]
@@ -10,6 +10,28 @@ pub enum Frame {
     Element { outer: u32, complex: bool },
     /// A box ends, and the one around it ends at this bit.
     Box { outer: u64 },
+    /// A representation of the element of this row ends, for which a mark is open.
+    Trial { element: RowId, next: Next },
+}
+
+/// Which representation of an element follows where one fails ('DFDL Data Syntax Grammar').
+#[derive(Debug, Clone, Copy, PartialEq, Eq)]
+pub enum Next {
+    /// The empty one, where it is tried, and else the normal one.
+    Empty,
+    /// The normal one.
+    Normal,
+    /// None: the normal one was the last.
+    Nothing,
+}
+
+/// What the row of an element says of it.
+#[derive(Debug, Clone, Copy, PartialEq, Eq)]
+pub(crate) struct Parts {
+    /// It has elements inside.
+    pub(crate) complex: bool,
+    pub(crate) tried: Representations,
+    pub(crate) body: RowId,
 }
 
 /// What stands behind a length prefix.

@@ -1,5 +1,5 @@
 // Skips, alignment, packed numbers and binary booleans: small documents by hand, whole and in pieces.
-ghost use Rattle.std.specs.Prelude.{◌≡◌, ◌<◌, ◌≤◌, ℕ, true, All, IfOk, OnOk, length, vec_len};
+ghost use Rattle.std.specs.Prelude.{◌≡◌, ◌<◌, ◌≤◌, ℕ, None, true, false, All, IfOk, OnOk, length, vec_len};
 ghost use Rattle.dfdl_forms.specs.Types.{form_of};
 ghost use Rattle.dfdl_forms.specs.Binary.{most_bits, most_places};
 ghost use Rattle.dfdl_forms.specs.Packed.{most_nibbles};
@@ -11,7 +11,7 @@ use dfdl_bits::Steps;
 use dfdl_decimal::Fixed;
 use dfdl_forms::{BitOrder, BitTruthForm, ByteOrder, IntForm, PackedForm, PackedRep, Simple};
 use dfdl_report::ParseCause;
-use dfdl_terms::{Framing, Primitive, Row, RowId, RowList, Tables, Terms};
+use dfdl_terms::{Framing, Primitive, Representations, Row, RowId, RowList, Tables, Terms};
 use dfdl_value::TextValue;
 use std::alloc::{AllocError, Global};
 use std::marker::Brand;
@@ -88,11 +88,16 @@ pub(crate) fn element(
     simple: Option<Simple>,
     body: u32,
 ) -> Result<Row, AllocError>
-    ensures { IfOk result (λ row. row ≡ Row.Elem name.now simple body) }
+    ensures { IfOk result (λ row. row ≡ Row.Elem name.now simple (record { nil = None; empty = None; are_several = false }) body) }
 {
     Ok(Row::Elem {
         name: TextValue::from_str(alloc, name)?,
         simple,
+        tried: Representations {
+            nil: None,
+            empty: None,
+            are_several: false,
+        },
         body: RowId::new(body),
     })
 }

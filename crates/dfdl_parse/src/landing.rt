@@ -1,5 +1,5 @@
 // A leaf is read, and what it comes to is taken.
-ghost use Rattle.std.specs.Prelude.{◌≡◌, ℕ, ◌+◌, ◌-◌, ◌*◌, ◌/◌, ◌^◌, ◌≤◌, Some, true, IfOk, OnOk, take, drop, length};
+ghost use Rattle.std.specs.Prelude.{◌≡◌, ℕ, ◌+◌, ◌-◌, ◌*◌, ◌/◌, ◌^◌, ◌≤◌, Some, true, IfOk, OnOk, slice_get, take, drop, length};
 ghost use Rattle.dfdl_bits.specs.Window.{Held, end_of, from_byte, seen_at};
 ghost use Rattle.dfdl_region.specs.Bytes.{utf8_of};
 ghost use Rattle.dfdl_report.specs.declared.cause.LimitCause.TheVariants.{Text};
@@ -10,6 +10,8 @@ ghost use Rattle.dfdl_grammar.specs.Outcomes.{ended};
 ghost use Rattle.dfdl_grammar.specs.Leaves.{Find, content_begins, failing_bit, has_room, hold, program};
 ghost use Rattle.dfdl_looks.specs.Asks.{Reading, ask};
 ghost use Rattle.dfdl_looks.specs.Tallies.{Tally, nothing};
+ghost use Rattle.dfdl_grammar.specs.States.{anchor, read_by};
+ghost use Rattle.dfdl_parse.specs.Opens.{IsHeld};
 ghost use Rattle.dfdl_parse.specs.Moves.{read_leaf, read_move};
 ghost use Rattle.dfdl_parse.specs.Steps.{Answers, HasPiece, IsFree, IsWithin, Moved};
 ghost use Rattle.dfdl_parse.specs.Shown.{Comes, HasSameLimits, limits_of, state_of};
@@ -23,10 +25,52 @@ use dfdl_bits::{Steps, Window};
 use dfdl_grammar::End;
 use dfdl_region::Content;
 use dfdl_report::{LimitCause, ParseCause};
+use dfdl_terms::Terms;
 use std::alloc::AllocError;
 use std::sync::ledger::Ledger;
 
 impl Parser {
+    // The leaf of a row begins, which is read by this primitive, or by another in its place.
+    pub(crate) fn begin_leaf_of<L: Ledger>(
+        &mut self,
+        terms: &Terms,
+        prim: u32,
+        sight: &mut Window,
+        steps: &mut Steps<L>,
+    ) -> Result<bool, AllocError>
+        requires base { IsHeld sight.old.base self.old.at (state_of self.old) }
+        requires at { self.old.at ≤ 8 * end_of sight.old }
+        ensures moved { IfOk result (λ waits. (cost : Tally) → IsFree cost → Moved
+            (read_leaf cost (limits_of self.old sight.old) self.old.focus sight.old
+            (slice_get terms.now.primitives (read_by self.old.instead prim)) self.old.stack (state_of self.old))
+            waits self.old.far self.new sight.new (steps.new - steps.old)) }
+        ensures steps { steps.old ≤ steps.new }
+        ensures most { OnOk result (HasSameLimits self.old self.new) }
+        ensures at { OnOk result (self.new.at ≤ 8 * end_of sight.new) }
+    {
+        let prim = self.read_by(prim);
+        match terms.tables().primitives().get(prim as usize) {
+            None => {
+                self.focus = Focus::Leave(End::Done);
+                Ok(false)
+            }
+            Some(primitive) => {
+                let waits = self.read(Leaf::of(primitive), sight, steps)?;
+                Ok(waits)
+            }
+        }
+    }
+
+    // The primitive by which a leaf is read whose own has this number.
+    pub(crate) fn read_by(&self, prim: u32) -> u32
+        ensures { result ≡ read_by self.now.instead prim }
+    {
+        match self.instead {
+            None => prim,
+            Some(instead) => instead,
+        }
+    }
+
     // A leaf is read. Its box can't pass the end of the one around it.
     pub(crate) fn read<L: Ledger>(
         &mut self,
@@ -34,7 +78,7 @@ impl Parser {
         sight: &mut Window,
         steps: &mut Steps<L>,
     ) -> Result<bool, AllocError>
-        requires base { sight.old.base ≤ self.old.at / 8 }
+        requires base { IsHeld sight.old.base self.old.at (state_of self.old) }
         requires at { self.old.at ≤ 8 * end_of sight.old }
         requires sound { IsSound (primitive_of leaf) }
         ensures moved { IfOk result (λ waits. (cost : Tally) → IsFree cost → Moved
@@ -60,13 +104,13 @@ impl Parser {
         sight: &mut Window,
         steps: &mut Steps<L>,
     ) -> Result<bool, AllocError>
-        requires base { sight.old.base ≤ self.old.at / 8 }
+        requires base { IsHeld sight.old.base self.old.at (state_of self.old) }
         requires at { self.old.at ≤ 8 * end_of sight.old }
         requires sound { IsSound (primitive_of leaf) }
         requires room { has_room (primitive_of leaf) self.old.at self.old.stop ≡ true }
         ensures moved { IfOk result (λ waits. (cost : Tally) → IsFree cost → Moved
-            (read_move cost (limits_of self.old sight.old) self.old.focus (content_begins (primitive_of leaf.entry) self.old.at) (from_byte sight.old (self.old.at / 8))
-            (ask (seen_at (from_byte sight.old (self.old.at / 8))) (program (primitive_of leaf.entry) self.old.at self.old.stop) nothing)
+            (read_move cost (limits_of self.old sight.old) self.old.focus (content_begins (primitive_of leaf.entry) self.old.at) (from_byte sight.old (anchor (state_of self.old)))
+            (ask (seen_at (from_byte sight.old (anchor (state_of self.old)))) (program (primitive_of leaf.entry) self.old.at self.old.stop) nothing)
             self.old.stack (state_of self.old))
             waits self.old.far self.new sight.new (steps.new - steps.old)) }
         ensures steps { steps.old ≤ steps.new }
@@ -87,13 +131,13 @@ impl Parser {
         sight: &mut Window,
         steps: &mut Steps<L>,
     ) -> Result<Glance, AllocError>
-        requires base { sight.old.base ≤ self.old.at / 8 }
+        requires base { IsHeld sight.old.base self.old.at (state_of self.old) }
         requires at { self.old.at ≤ 8 * end_of sight.old }
         requires sound { IsSound (primitive_of leaf) }
         requires room { has_room (primitive_of leaf) self.old.at self.old.stop ≡ true }
         ensures answers { IfOk result (λ g. Answers
             (ask (seen_at sight.new) (program (primitive_of leaf.entry) self.old.at self.old.stop) nothing) self.new.scratch g (steps.new - steps.old)) }
-        ensures held { sight.new ≡ from_byte sight.old (self.old.at / 8) }
+        ensures held { sight.new ≡ from_byte sight.old (anchor (state_of self.old)) }
         ensures end { end_of sight.new ≡ end_of sight.old }
         ensures steps { steps.old ≤ steps.new }
         ensures within { IfOk result (λ g. IsWithin g.found (end_of sight.new)) }
@@ -101,7 +145,7 @@ impl Parser {
         ensures same { self.new ≡ record self.old { scratch = self.new.scratch } }
     {
         let _end = sight.end();
-        sight.drop_before(self.at / 8);
+        sight.drop_before(self.anchor_at(self.at));
         let glance = read_leaf(leaf, self.at, self.stop, sight, &mut self.scratch, steps)?;
         Ok(glance)
     }
@@ -120,6 +164,7 @@ impl Parser {
             Found::NotYet => return true,
             Found::Reads { content, end } => self.put(*content, *end),
             Found::Octets { end } => self.hold_octets(*end),
+            Found::Utf8 { end } => self.hold_utf8(*end),
             Found::Text { from, to, end } => self.hold_text(*from, *to, *end),
             Found::Fails(cause) => {
                 self.fail_at(*cause, failing_bit(*cause, self.at, first));
@@ -150,6 +195,19 @@ impl Parser {
             Ok(from) => {
                 let len = self.text.count() - from;
                 self.put(Content::Octets { from, len }, end);
+            }
+            Err(_) => self.stop_at_text(),
+        }
+    }
+
+    // The innermost open element gets the bytes that were read as a string, which ends at a bit.
+    fn hold_utf8(&mut self, end: u64)
+        ensures { Comes self.old (hold self.old.text.most Content.Text self.old.scratch.octets.items end (state_of self.old)) self.new }
+    {
+        match self.text.add(self.scratch.octets.as_slice()) {
+            Ok(from) => {
+                let len = self.text.count() - from;
+                self.put(Content::Text { from, len }, end);
             }
             Err(_) => self.stop_at_text(),
         }

@@ -11,6 +11,8 @@ ghost use Rattle.dfdl_parse.specs.declared.leaf.Scratch.{Scratch as AnyScratch};
 ghost use Rattle.dfdl_parse.specs.Steps.{Answers, CutShort, HasNone, HasPiece, IsNumber, IsPlain, IsWithin, far_of_run, found_shown};
 ghost use Rattle.dfdl_parse.specs.Views.{IsSound, primitive_of};
 
+use crate::defaults::read_default;
+use crate::nils::read_nil_octets;
 use crate::octets::read_octets;
 use crate::strings::read_string;
 use crate::view::{Leaf, number_bits};
@@ -29,8 +31,10 @@ use std::sync::ledger::Ledger;
 pub(crate) struct Scratch {
     /// the characters of a string, before they are trimmed
     pub(crate) characters: Vec<char>,
-    /// the bytes of a hexBinary
+    /// the bytes of a hexBinary, of a default, or of characters that may be nil
     pub(crate) octets: Vec<u8>,
+    /// the places of a text that a literal can end at
+    pub(crate) places: Vec<bool>,
 }
 
 impl Scratch {
@@ -38,10 +42,12 @@ impl Scratch {
     pub(crate) fn open(alloc: Global) -> Scratch
         ensures characters { result.characters.items ≡ [] }
         ensures octets { result.octets.items ≡ [] }
+        ensures places { result.places.items ≡ [] }
     {
         Scratch {
             characters: Vec::new(alloc),
             octets: Vec::new(alloc),
+            places: Vec::new(alloc),
         }
     }
 }
@@ -53,6 +59,8 @@ pub(crate) enum Found {
     Reads { content: Content, end: u64 },
     /// A hexBinary, whose bytes are those of the scratch, and the bit behind its box.
     Octets { end: u64 },
+    /// A string, whose bytes are those of the scratch, as UTF-8, and the bit behind its box.
+    Utf8 { end: u64 },
     /// A string, whose characters are those of the scratch from one on and before another, and the bit behind its box.
     Text { from: usize, to: usize, end: u64 },
     /// It has none, for this cause.
@@ -102,6 +110,14 @@ pub(crate) fn read_leaf<L: Ledger>(
             let glance = read_string(form, size, bit, stop, sight, scratch, steps)?;
             Ok(glance)
         }
+        Leaf::NilOctets { form, bits } => {
+            let glance = read_nil_octets(form, bits, bit, sight, scratch, steps)?;
+            Ok(glance)
+        }
+        Leaf::Default { form, size } => {
+            let glance = read_default(form, size, bit, scratch)?;
+            Ok(glance)
+        }
     }
 }
 
@@ -145,6 +161,8 @@ fn found_in(leaf: Leaf<'_>, bit: u64, bytes: &[u8]) -> Found
         Leaf::Truth(form) => truth_in(form, bit, bytes),
         Leaf::Octets(_) => unreachable!(),
         Leaf::Text { .. } => unreachable!(),
+        Leaf::NilOctets { .. } => unreachable!(),
+        Leaf::Default { .. } => unreachable!(),
     }
 }
 

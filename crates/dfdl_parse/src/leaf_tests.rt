@@ -14,11 +14,11 @@ use std::process::Abort;
 use std::sync::ledger::{Blank, Ledger};
 use std::test::Fail;
 
-// No box is around.
-const NO_BOX: u64 = u64::MAX;
+/// No box is around.
+pub(crate) const NO_BOX: u64 = u64::MAX;
 
-// Whether the leaf whose box begins at a bit is read as is wanted, with these bytes or this text.
-fn is_read<L: Ledger>(
+/// Whether the leaf whose box begins at a bit is read as is wanted, with these bytes or this text.
+pub(crate) fn is_read<L: Ledger>(
     alloc: Global,
     primitive: &Primitive,
     bytes: (&[u8], bool),
@@ -56,6 +56,7 @@ fn is_read<L: Ledger>(
 fn has_value(alloc: Global, found: Found, scratch: &Scratch, value: &[u8]) -> Result<bool, Fail> {
     match found {
         Found::Octets { .. } => Ok(scratch.octets.as_slice() == value),
+        Found::Utf8 { .. } => Ok(scratch.octets.as_slice() == value),
         Found::Text { from, to, .. } => {
             let mut text = String::new(alloc);
             for (at, c) in scratch.characters.iter().enumerate() {

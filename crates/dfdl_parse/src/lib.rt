@@ -9,6 +9,7 @@
 mod box_tests;
 mod boxes;
 mod contents;
+mod defaults;
 pub mod frame;
 mod framing;
 #[cfg(test)]
@@ -17,6 +18,10 @@ mod landing;
 mod leaf;
 #[cfg(test)]
 mod leaf_tests;
+pub mod marks;
+#[cfg(test)]
+mod nil_tests;
+mod nils;
 mod octets;
 mod outcome;
 pub mod parser;
@@ -24,12 +29,15 @@ mod path;
 #[cfg(test)]
 mod prefix_tests;
 mod prefixes;
+#[cfg(test)]
+mod representation_tests;
 mod run;
 pub mod session;
 pub mod stack;
 mod strings;
 #[cfg(test)]
 mod tests;
+mod trials;
 mod view;
 
 pub use dfdl_grammar::Limits;

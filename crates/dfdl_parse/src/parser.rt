@@ -1,26 +1,28 @@
 // The machine: what is done next, the stack, and the state.
-ghost use Rattle.std.specs.Prelude.{◌≡◌, length, ◌+◌, ◌-◌, ◌*◌, ◌/◌, ◌^◌, ◌<◌, ◌≤◌, ◌↔◌, ◌∷◌, [], ℕ, List, true, false, IfOk, IfSome, OnOk, IsTrue, Some, slice_get};
+ghost use Rattle.std.specs.Prelude.{◌≡◌, None, length, ◌+◌, ◌-◌, ◌*◌, ◌/◌, ◌^◌, ◌<◌, ◌≤◌, ◌↔◌, ◌∷◌, [], ℕ, List, true, false, IfOk, IfSome, OnOk, IsTrue, Some, slice_get};
 ghost use Rattle.dfdl_bits.specs.Window.{Held, end_of};
 ghost use Rattle.dfdl_grammar.specs.declared.end.End.{End as AnyEnd};
 ghost use Rattle.dfdl_grammar.specs.declared.end.End.TheVariants.{Done};
 ghost use Rattle.dfdl_grammar.specs.Elements.{left};
-ghost use Rattle.dfdl_grammar.specs.States.{no_box};
+ghost use Rattle.dfdl_grammar.specs.States.{anchor_at, no_box};
 ghost use Rattle.dfdl_looks.specs.Tallies.{nothing};
-ghost use Rattle.dfdl_parse.specs.Machines.{HasEnded, NeedsFrom, children_of, step, enter, enter_fill, enter_group, enter_element, fill, fill_move, leave, leave_done, go_on};
+ghost use Rattle.dfdl_parse.specs.Machines.{HasEnded, children_of, step, enter, enter_fill, enter_group, fill, fill_move, leave, leave_done, leave_failed, go_on};
+ghost use Rattle.dfdl_parse.specs.Opens.{GoesBack, Holds, IsBefore, IsHeld};
 ghost use Rattle.dfdl_parse.specs.Moves.{pass};
 ghost use Rattle.dfdl_parse.specs.Answers.{answer_at, answer_of};
 ghost use Rattle.dfdl_parse.specs.Steps.{Moved};
 ghost use Rattle.dfdl_parse.specs.Shown.{HasSameLimits, limits_of, state_of};
 
-use crate::frame::{Behind, Focus, Frame};
-use crate::framing::{aligned, last_byte, look_beyond};
+use crate::frame::{Behind, Focus, Frame, Parts};
+use crate::framing::{aligned, last_bit, last_byte, look_beyond};
 use crate::leaf::Scratch;
+use crate::marks::Marks;
 use crate::outcome::Outcome;
 use crate::stack::Stack;
-use crate::view::Leaf;
+use crate::trials::parts_of;
 use dfdl_bits::{Seen, Steps, Window};
 use dfdl_grammar::{End, Limits};
-use dfdl_region::{Content, Node, NodeRegion, TextRegion};
+use dfdl_region::{Content, NodeRegion, TextRegion};
 use dfdl_report::{LimitCause, ParseCause};
 use dfdl_terms::{Row, RowId, Terms};
 use std::alloc::{AllocError, Global};
@@ -32,6 +34,9 @@ const NO_BOX: u64 = u64::MAX;
 // How many frames the stack has room for at first.
 const FRAMES: usize = 64;
 
+// How many open marks there is room for at first.
+const MARKS: usize = 16;
+
 /// The machine over one document.
 #[derive(Drop)]
 pub struct Parser {
@@ -40,6 +45,8 @@ pub struct Parser {
     pub(crate) at: u64,
     pub(crate) stop: u64,
     pub(crate) inside: u32,
+    pub(crate) instead: Option<u32>,
+    pub(crate) marks: Marks,
     pub(crate) region: NodeRegion,
     pub(crate) text: TextRegion,
     pub(crate) scratch: Scratch,
@@ -52,6 +59,7 @@ impl Parser {
         ensures focus { IfOk result (λ p. p.focus ≡ Focus.Enter (length terms.now.rows - 1)) }
         ensures stack { IfOk result (λ p. p.stack ≡ []) }
         ensures front { IfOk result (λ p. (p.at ≡ 0) × (p.inside ≡ 0) × (p.far ≡ 0)) }
+        ensures marks { IfOk result (λ p. (p.instead ≡ None) × (p.marks ≡ [])) }
         ensures stop { IfOk result (λ p. p.stop ≡ no_box) }
         ensures region { IfOk result (λ p. p.region ≡ record { nodes = []; most = limits.nodes }) }
         ensures text { IfOk result (λ p. p.text ≡ record { bytes = []; most = limits.text }) }
@@ -62,6 +70,8 @@ impl Parser {
             at: 0,
             stop: NO_BOX,
             inside: 0,
+            instead: None,
+            marks: Marks::open(alloc, MARKS)?,
             region: NodeRegion::open(alloc, limits.nodes)?,
             text: TextRegion::open(alloc, limits.text)?,
             scratch: Scratch::open(alloc),
@@ -109,7 +119,7 @@ impl Parser {
         sight: &mut Window,
         steps: &mut Steps<L>,
     ) -> Result<bool, AllocError>
-        requires base { NeedsFrom sight.old.base self.old.focus (state_of self.old) }
+        requires base { Holds sight.old.base self.old.focus (state_of self.old) }
         requires at { self.old.at ≤ 8 * end_of sight.old }
         ensures moved { IfOk result (λ waits. Moved
             (step (limits_of self.old sight.old) terms.now sight.old self.old.focus self.old.stack (state_of self.old))
@@ -146,7 +156,7 @@ impl Parser {
         steps: &mut Steps<L>,
     ) -> Result<bool, AllocError>
         requires focus { self.old.focus ≡ Focus.Enter id }
-        requires base { sight.old.base ≤ self.old.at / 8 }
+        requires base { IsHeld sight.old.base self.old.at (state_of self.old) }
         requires at { self.old.at ≤ 8 * end_of sight.old }
         ensures moved { IfOk result (λ waits. Moved
             (enter (limits_of self.old sight.old) terms.now sight.old id (slice_get terms.now.rows id) self.old.stack (state_of self.old))
@@ -161,12 +171,21 @@ impl Parser {
         }
         match terms.row(id) {
             Row::Leaf { prim } => {
-                let primitive = &terms.tables().primitives()[*prim as usize];
-                let waits = self.read(Leaf::of(primitive), sight, steps)?;
+                let waits = self.begin_leaf_of(terms, *prim, sight, steps)?;
                 Ok(waits)
             }
-            Row::Elem { simple, body, .. } => {
-                self.begin(id, simple.is_none(), *body)?;
+            Row::Elem {
+                simple,
+                tried,
+                body,
+                ..
+            } => {
+                let parts = Parts {
+                    complex: simple.is_none(),
+                    tried: *tried,
+                    body: *body,
+                };
+                self.begin_element(id, parts)?;
                 Ok(false)
             }
             Row::Group { children } => {
@@ -189,7 +208,7 @@ impl Parser {
                 Ok(false)
             }
             Row::PrefixedLeaf { prefix, prim } => {
-                let behind = Behind::Leaf(*prim);
+                let behind = Behind::Leaf(self.read_by(*prim));
                 let waits = self.begin_prefix(terms, id, prefix, behind, sight, steps)?;
                 Ok(waits)
             }
@@ -199,6 +218,16 @@ impl Parser {
                 Ok(waits)
             }
         }
+    }
+
+    // The first byte that is still needed where this bit comes next.
+    pub(crate) fn anchor_at(&self, bit: u64) -> u64
+        ensures { result ≡ anchor_at (state_of self.now) bit }
+    {
+        if self.marks.is_empty() {
+            return bit / 8;
+        }
+        self.marks.held_from(bit) / 8
     }
 
     // Fill up to a bit begins, where there is any. It can't pass the end of the box.
@@ -220,7 +249,7 @@ impl Parser {
     // Fill up to a bit is passed over.
     fn pass<L: Ledger>(&mut self, to: u64, sight: &mut Window, steps: &mut Steps<L>) -> bool
         requires focus { self.old.focus ≡ Focus.Pass to }
-        requires base { sight.old.base ≤ (to - 1) / 8 }
+        requires base { IsHeld sight.old.base (to - 1) (state_of self.old) }
         requires at { self.old.at ≤ 8 * end_of sight.old }
         ensures moved { Moved (fill (limits_of self.old sight.old) sight.old to self.old.stack (state_of self.old))
             result self.old.far self.new sight.new (steps.new - steps.old) }
@@ -229,7 +258,8 @@ impl Parser {
         ensures at { self.new.at ≤ 8 * end_of sight.new }
     {
         let window = sight.size() as u64;
-        let seen = look_beyond(last_byte(to), sight, steps);
+        let low = self.anchor_at(last_bit(to));
+        let seen = look_beyond(low, last_byte(to), sight, steps);
         self.fill(seen, to, window)
     }
 
@@ -255,34 +285,6 @@ impl Parser {
             Seen::Over => self.stop_at(LimitCause::Window, window),
         }
         false
-    }
-
-    // An element begins, and its content is done next.
-    fn begin(&mut self, id: RowId, complex: bool, body: RowId) -> Result<(), AllocError>
-        ensures moved { (held : Held) → OnOk result (Moved
-            (enter_element self.old.region.most held id complex body self.old.stack (state_of self.old))
-            false self.old.far self.new held 0) }
-        ensures most { OnOk result (HasSameLimits self.old self.new) }
-        ensures at { OnOk result (self.new.at ≡ self.old.at) }
-    {
-        let outer = self.inside;
-        let node = Node {
-            element: id,
-            parent: outer,
-            content: Content::Begun,
-        };
-        match self.region.add(node) {
-            Ok(number) => {
-                self.stack.push(Frame::Element { outer, complex })?;
-                self.inside = number;
-                self.focus = Focus::Enter(body);
-            }
-            Err(_) => {
-                let most = u64::from(self.region.most());
-                self.stop_at(LimitCause::Nodes, most);
-            }
-        }
-        Ok(())
     }
 
     // A group begins.
@@ -311,7 +313,7 @@ impl Parser {
             (step (limits_of self.old held) terms.now held (Focus.Leave end) self.old.stack (state_of self.old))
             false self.old.far self.new held 0) }
         ensures most { OnOk result (HasSameLimits self.old self.new) }
-        ensures at { OnOk result (self.new.at ≡ self.old.at) }
+        ensures at { OnOk result (GoesBack end (state_of self.old) → self.new.at ≤ self.old.at) }
     {
         match self.stack.pop() {
             None => Ok(()),
@@ -322,17 +324,41 @@ impl Parser {
     // A frame takes the end of the row before it.
     fn resume(&mut self, terms: &Terms, frame: Frame, end: End) -> Result<(), AllocError>
         ensures moved { (held : Held) → OnOk result (Moved
-            (leave terms.now held frame end self.old.stack (state_of self.old)) false self.old.far self.new held 0) }
+            (leave (limits_of self.old held) terms.now held frame end self.old.stack (state_of self.old)) false self.old.far self.new held 0) }
         ensures most { OnOk result (HasSameLimits self.old self.new) }
-        ensures at { OnOk result (self.new.at ≡ self.old.at) }
+        ensures at { OnOk result (GoesBack end (state_of self.old) → self.new.at ≤ self.old.at) }
     {
         match end {
             End::Done => self.go_on(terms, frame),
-            End::Failed { .. } => {
+            End::Failed { .. } => self.give_up(terms, frame, end),
+            End::Stopped { .. } => {
                 self.focus = Focus::Leave(end);
                 Ok(())
             }
-            End::Stopped { .. } => {
+        }
+    }
+
+    // What stands on the stack takes a row that failed, at this end.
+    fn give_up(&mut self, terms: &Terms, frame: Frame, end: End) -> Result<(), AllocError>
+        ensures moved { (held : Held) → OnOk result (Moved
+            (leave_failed self.old.region.most terms.now held frame end self.old.stack (state_of self.old)) false self.old.far self.new held 0) }
+        ensures most { OnOk result (HasSameLimits self.old self.new) }
+        ensures at { OnOk result (IsBefore self.old.marks self.old.at → self.new.at ≤ self.old.at) }
+    {
+        match frame {
+            Frame::Trial { element, next } => {
+                let parts = parts_of(terms, element);
+                self.retry(parts, element, next, end)
+            }
+            Frame::Rest { .. } => {
+                self.focus = Focus::Leave(end);
+                Ok(())
+            }
+            Frame::Element { .. } => {
+                self.focus = Focus::Leave(end);
+                Ok(())
+            }
+            Frame::Box { .. } => {
                 self.focus = Focus::Leave(end);
                 Ok(())
             }
@@ -354,6 +380,10 @@ impl Parser {
             }
             Frame::Box { outer } => {
                 self.leave_box(outer);
+                Ok(())
+            }
+            Frame::Trial { .. } => {
+                self.end_trial(End::Done);
                 Ok(())
             }
         }
@@ -393,6 +423,7 @@ impl Parser {
             self.region.set_content(self.inside, Content::Complex);
         }
         self.inside = outer;
+        self.instead = None;
         self.focus = Focus::Leave(End::Done);
     }
 

@@ -6,7 +6,9 @@ ghost use Rattle.dfdl_grammar.specs.Leaves.{Find, content_begins, has_room, prog
 ghost use Rattle.dfdl_grammar.specs.Prefixes.{bits_of_units, size_of, units_left, units_told};
 ghost use Rattle.dfdl_looks.specs.Asks.{Reading, ask};
 ghost use Rattle.dfdl_looks.specs.Tallies.{nothing};
-ghost use Rattle.dfdl_parse.specs.Prefixed.{IsNamed, behind_units, can_fit, prefix_move, read_prefix, read_sized, sized_begins, units_begin};
+ghost use Rattle.dfdl_grammar.specs.States.{anchor};
+ghost use Rattle.dfdl_parse.specs.Opens.{IsHeld};
+ghost use Rattle.dfdl_parse.specs.Prefixed.{behind_units, can_fit, prefix_move, read_prefix, read_sized, sized_begins, units_begin};
 ghost use Rattle.dfdl_parse.specs.Steps.{Answers, IsWithin, Moved};
 ghost use Rattle.dfdl_parse.specs.Shown.{Becomes, HasSameLimits, limits_of, state_of};
 ghost use Rattle.dfdl_parse.specs.Views.{IsSound, primitive_of};
@@ -37,10 +39,9 @@ impl Parser {
         steps: &mut Steps<L>,
     ) -> Result<bool, AllocError>
         requires focus { self.old.focus ≡ Focus.Enter id }
-        requires base { sight.old.base ≤ self.old.at / 8 }
+        requires base { IsHeld sight.old.base self.old.at (state_of self.old) }
         requires at { self.old.at ≤ 8 * end_of sight.old }
         requires by { prefix.now.prim < length terms.now.primitives }
-        requires named { IsNamed (length terms.now.primitives) behind }
         ensures moved { IfOk result (λ waits. Moved
             (read_prefix (limits_of self.old sight.old) id sight.old prefix.now.own (behind_units terms.now.primitives prefix.now.unit behind)
             (slice_get terms.now.primitives prefix.now.prim) self.old.stack (state_of self.old))
@@ -70,15 +71,14 @@ impl Parser {
         sight: &mut Window,
         steps: &mut Steps<L>,
     ) -> Result<bool, AllocError>
-        requires base { sight.old.base ≤ self.old.at / 8 }
+        requires base { IsHeld sight.old.base self.old.at (state_of self.old) }
         requires at { self.old.at ≤ 8 * end_of sight.old }
         requires sound { IsSound (primitive_of leaf) }
-        requires named { IsNamed (length terms.now.primitives) behind }
         requires room { has_room (primitive_of leaf) self.old.at self.old.stop ≡ true }
         ensures moved { IfOk result (λ waits. (id : ℕ) → self.old.focus ≡ Focus.Enter id → Moved
             (prefix_move (limits_of self.old sight.old) id prefix.own (content_begins (primitive_of leaf.entry) self.old.at)
-            (behind_units terms.now.primitives prefix.unit behind) (from_byte sight.old (self.old.at / 8))
-            (ask (seen_at (from_byte sight.old (self.old.at / 8))) (program (primitive_of leaf.entry) self.old.at self.old.stop) nothing)
+            (behind_units terms.now.primitives prefix.unit behind) (from_byte sight.old (anchor (state_of self.old)))
+            (ask (seen_at (from_byte sight.old (anchor (state_of self.old)))) (program (primitive_of leaf.entry) self.old.at self.old.stop) nothing)
             self.old.stack (state_of self.old))
             waits self.old.far self.new sight.new (steps.new - steps.old)) }
         ensures steps { steps.old ≤ steps.new }
@@ -103,7 +103,6 @@ impl Parser {
         first: u64,
         window: u64,
     ) -> Result<bool, AllocError>
-        requires named { IsNamed (length terms.now.primitives) behind }
         ensures moved { IfOk result (λ waits. (sight : Held) (id looks : ℕ) (reading : Reading Find) → self.old.focus ≡ Focus.Enter id
             → Answers reading self.old.scratch glance looks → sight.size ≡ window
             → Moved (prefix_move (limits_of self.old sight) id prefix.own first (behind_units terms.now.primitives prefix.unit behind) sight reading
@@ -118,6 +117,7 @@ impl Parser {
                 self.go_behind(terms, units, *end, prefix.unit, behind)?;
             }
             Found::Octets { .. } => self.fail(ParseCause::LengthOutOfRange),
+            Found::Utf8 { .. } => self.fail(ParseCause::LengthOutOfRange),
             Found::Text { .. } => self.fail(ParseCause::LengthOutOfRange),
             Found::Fails(cause) => {
                 self.fail_at(*cause, failing_bit(*cause, self.at, first));
@@ -137,7 +137,6 @@ impl Parser {
         unit: LengthUnit,
         behind: Behind,
     ) -> Result<(), AllocError>
-        requires named { IsNamed (length terms.now.primitives) behind }
         ensures becomes { OnOk result (Becomes self.old
             (units_begin end (behind_units terms.now.primitives unit behind) units self.old.stack (state_of self.old)) self.new) }
         ensures at { OnOk result ((last : ℕ) → self.old.at ≤ 8 * last → end ≤ 8 * last → self.new.at ≤ 8 * last) }
@@ -162,14 +161,13 @@ impl Parser {
         unit: LengthUnit,
         behind: Behind,
     ) -> Result<(), AllocError>
-        requires named { IsNamed (length terms.now.primitives) behind }
         ensures becomes { OnOk result (Becomes self.old
             (behind_units terms.now.primitives unit behind units self.old.stack (state_of self.old)) self.new) }
         ensures at { OnOk result (self.new.at ≡ self.old.at) }
     {
         match behind {
             Behind::Leaf(prim) => {
-                self.begin_sized(prim, units, unit);
+                self.begin_leaf(terms, prim, units, unit);
                 Ok(())
             }
             Behind::Box(body) => match inner_bits(unit, units, self.at, self.stop) {
@@ -182,6 +180,20 @@ impl Parser {
                     Ok(())
                 }
             },
+        }
+    }
+
+    // The leaf of a primitive of the tables begins, which has so many units.
+    fn begin_leaf(&mut self, terms: &Terms, prim: u32, units: u128, unit: LengthUnit)
+        ensures becomes { Becomes self.old
+            (sized_begins (slice_get terms.now.primitives prim) prim (size_of unit units) self.old.stack (state_of self.old)) self.new }
+        ensures at { self.new.at ≡ self.old.at }
+    {
+        match terms.tables().primitives().get(prim as usize) {
+            None => {
+                self.focus = Focus::Leave(End::Done);
+            }
+            Some(_) => self.begin_sized(prim, units, unit),
         }
     }
 
@@ -209,7 +221,7 @@ impl Parser {
         steps: &mut Steps<L>,
     ) -> Result<bool, AllocError>
         requires focus { self.old.focus ≡ Focus.Sized prim size }
-        requires base { sight.old.base ≤ self.old.at / 8 }
+        requires base { IsHeld sight.old.base self.old.at (state_of self.old) }
         requires at { self.old.at ≤ 8 * end_of sight.old }
         ensures moved { IfOk result (λ waits. Moved
             (read_sized (limits_of self.old sight.old) sight.old prim size (slice_get terms.now.primitives prim) self.old.stack (state_of self.old))
@@ -245,6 +257,7 @@ fn units_told(own: u64, content: &Content) -> Option<u128>
         Content::Signed(number) => signed_units(own, *number),
         Content::Begun => None,
         Content::Complex => None,
+        Content::Nil => None,
         Content::Decimal(_) => None,
         Content::Truth(_) => None,
         Content::Text { .. } => None,

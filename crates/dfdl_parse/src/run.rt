@@ -1,7 +1,8 @@
 // The machine runs until it has ended or waits for a byte.
 ghost use Rattle.std.specs.Prelude.{◌≡◌, ◌*◌, ◌≤◌, ◌-◌, IfOk, OnOk, true, false};
 ghost use Rattle.dfdl_bits.specs.Window.{end_of};
-ghost use Rattle.dfdl_parse.specs.Machines.{HasEnded, NeedsFrom};
+ghost use Rattle.dfdl_parse.specs.Machines.{HasEnded};
+ghost use Rattle.dfdl_parse.specs.Opens.{NeedsFrom};
 ghost use Rattle.dfdl_parse.specs.Running.{Advanced, Waited};
 ghost use Rattle.dfdl_parse.specs.Shown.{HasSameLimits, state_of};
 
@@ -18,7 +19,7 @@ pub(crate) fn run<L: Ledger>(
     sight: &mut Window,
     steps: &mut Steps<L>,
 ) -> Result<bool, AllocError>
-    requires base { NeedsFrom sight.old.base parser.old.focus (state_of parser.old) }
+    requires base { NeedsFrom sight.old.base parser.old.focus parser.old.stack (state_of parser.old) }
     requires at { parser.old.at ≤ 8 * end_of sight.old }
     ensures waits { IfOk result (λ waits. waits ≡ true
         → Waited terms.now parser.old parser.new sight.old sight.new (steps.new - steps.old)) }
@@ -27,7 +28,7 @@ pub(crate) fn run<L: Ledger>(
     ensures over { IfOk result (λ waits. waits ≡ false → HasEnded parser.new.focus parser.new.stack) }
     ensures steps { steps.old ≤ steps.new }
     ensures most { OnOk result (HasSameLimits parser.old parser.new) }
-    ensures low { OnOk result (NeedsFrom sight.new.base parser.new.focus (state_of parser.new)) }
+    ensures low { OnOk result (NeedsFrom sight.new.base parser.new.focus parser.new.stack (state_of parser.new)) }
     ensures at { OnOk result (parser.new.at ≤ 8 * end_of sight.new) }
 {
     let _rows = terms.rows();

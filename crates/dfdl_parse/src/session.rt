@@ -2,7 +2,8 @@
 ghost use Rattle.std.specs.Prelude.{◌≡◌, ◌+◌, ◌-◌, ◌*◌, ◌^◌, ◌<◌, ◌≤◌, ℕ, List, [], ◌++◌, true, false, IfOk, OnErr, OnOk, if◌then◌else◌, length, string_bytes};
 ghost use Rattle.dfdl_bits.specs.Window.{end_of, room_of};
 ghost use Rattle.dfdl_grammar.specs.Paths.{path_of};
-ghost use Rattle.dfdl_parse.specs.Machines.{HasEnded, NeedsFrom};
+ghost use Rattle.dfdl_parse.specs.Machines.{HasEnded};
+ghost use Rattle.dfdl_parse.specs.Opens.{NeedsFrom};
 ghost use Rattle.dfdl_parse.specs.Running.{Advanced, Waited};
 ghost use Rattle.dfdl_parse.specs.Shown.{HasSameLimits, state_of};
 ghost use Rattle.dfdl_parse.specs.Sessions.{StandsFor, IsReady, Ends, Finished, document_of};
@@ -76,7 +77,7 @@ impl<'t> Session<'t> {
 
     // Runs the machine, and keeps in mind where memory was wanting.
     fn run<L: Ledger>(&mut self, steps: &mut Steps<L>) -> Result<bool, AllocError>
-        requires base { NeedsFrom self.old.sight.base self.old.parser.focus (state_of self.old.parser) }
+        requires base { NeedsFrom self.old.sight.base self.old.parser.focus self.old.parser.stack (state_of self.old.parser) }
         requires at { self.old.parser.at ≤ 8 * end_of self.old.sight }
         ensures waits { IfOk result (λ waits. waits ≡ true
             → Waited self.old.terms.now self.old.parser self.new.parser self.old.sight self.new.sight (steps.new - steps.old)) }
@@ -85,7 +86,7 @@ impl<'t> Session<'t> {
         ensures over { IfOk result (λ waits. waits ≡ false → HasEnded self.new.parser.focus self.new.parser.stack) }
         ensures steps { steps.old ≤ steps.new }
         ensures most { OnOk result (HasSameLimits self.old.parser self.new.parser) }
-        ensures low { OnOk result (NeedsFrom self.new.sight.base self.new.parser.focus (state_of self.new.parser)) }
+        ensures low { OnOk result (NeedsFrom self.new.sight.base self.new.parser.focus self.new.parser.stack (state_of self.new.parser)) }
         ensures at { OnOk result (self.new.parser.at ≤ 8 * end_of self.new.sight) }
         ensures same { (self.new.terms ≡ self.old.terms) × (self.new.limits ≡ self.old.limits) }
         ensures kept { OnOk result (self.new.lost ≡ self.old.lost) }

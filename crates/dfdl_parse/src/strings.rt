@@ -118,7 +118,7 @@ fn read_characters<L: Ledger>(
         &mut scratch.characters,
         steps,
     )?;
-    let found = text_found(form, size, bit, text.found, scratch);
+    let found = text_found(form, size, bit, text.found, scratch)?;
     Ok(Glance {
         found,
         far: text.far,
@@ -131,27 +131,28 @@ fn text_found(
     size: TextSize,
     bit: u64,
     text: TextFound,
-    scratch: &Scratch,
-) -> Found
+    scratch: &mut Scratch,
+) -> Result<Found, AllocError>
     requires bit { bit ≤ 2 ^ 63 }
     requires content { IsTextContent form.now.content }
     requires size { bit + bits_of_text size < 2 ^ 64 }
     requires end { EndsBefore text (2 ^ 60) }
-    ensures shown { found_shown scratch.now result
-        ≡ text_reached (text_of form.now size) bit (text_shown scratch.now.characters.items text) }
-    ensures piece { HasPiece result scratch.now }
+    ensures shown { IfOk result (λ found. found_shown scratch.new found
+        ≡ text_reached (text_of form.now size) bit (text_shown scratch.old.characters.items text)) }
+    ensures piece { IfOk result (λ found. HasPiece found scratch.new) }
 {
     match text {
         TextFound::Reads { end } => {
             let (from, to) = trim(&form.pad, scratch.characters.as_slice());
             let behind = text_behind(size, bit, end);
-            content_found(&form.content, scratch, from, to, behind)
+            let found = content_found(&form.content, scratch, from, to, behind)?;
+            Ok(found)
         }
-        TextFound::HasBad => Found::Fails(ParseCause::BadCharacter),
-        TextFound::IsCut => Found::Fails(ParseCause::DataEnds),
-        TextFound::IsBoxed => Found::Fails(ParseCause::LengthOutOfRange),
-        TextFound::TooFar => Found::Past,
-        TextFound::NotYet => Found::NotYet,
+        TextFound::HasBad => Ok(Found::Fails(ParseCause::BadCharacter)),
+        TextFound::IsCut => Ok(Found::Fails(ParseCause::DataEnds)),
+        TextFound::IsBoxed => Ok(Found::Fails(ParseCause::LengthOutOfRange)),
+        TextFound::TooFar => Ok(Found::Past),
+        TextFound::NotYet => Ok(Found::NotYet),
     }
 }
 

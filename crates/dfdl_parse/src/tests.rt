@@ -1,5 +1,5 @@
 // A small record, by hand: `r` with two numbers `a` and `b`, most significant byte first.
-ghost use Rattle.std.specs.Prelude.{◌≡◌, ◌<◌, ◌≤◌, true, All, IfOk, length};
+ghost use Rattle.std.specs.Prelude.{◌≡◌, ◌<◌, ◌≤◌, None, true, false, All, IfOk, length};
 ghost use Rattle.dfdl_forms.specs.Types.{form_of};
 ghost use Rattle.dfdl_forms.specs.Binary.{most_bits, most_places};
 ghost use Rattle.dfdl_forms.specs.BinaryNumbers.{IsIntForm};
@@ -11,7 +11,7 @@ use dfdl_bits::Steps;
 use dfdl_decimal::Fixed;
 use dfdl_forms::{BitOrder, ByteOrder, IntForm, Simple};
 use dfdl_report::{LimitCause, ParseCause};
-use dfdl_terms::{Primitive, Row, RowId, RowList, Tables, Terms};
+use dfdl_terms::{Primitive, Representations, Row, RowId, RowList, Tables, Terms};
 use dfdl_value::TextValue;
 use std::alloc::{AllocError, Global};
 use std::marker::Brand;
@@ -36,11 +36,16 @@ fn form(bits: u32, kind: Simple, point: u8) -> IntForm
 }
 
 fn element(alloc: Global, name: &str, simple: Option<Simple>, body: u32) -> Result<Row, AllocError>
-    ensures { IfOk result (λ row. row ≡ Row.Elem name.now simple body) }
+    ensures { IfOk result (λ row. row ≡ Row.Elem name.now simple (record { nil = None; empty = None; are_several = false }) body) }
 {
     Ok(Row::Elem {
         name: TextValue::from_str(alloc, name)?,
         simple,
+        tried: Representations {
+            nil: None,
+            empty: None,
+            are_several: false,
+        },
         body: RowId::new(body),
     })
 }

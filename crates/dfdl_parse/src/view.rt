@@ -1,7 +1,7 @@
 // What a leaf is read by, and the box that it has.
 ghost use Rattle.std.specs.Prelude.{◌≡◌, ◌*◌, ◌^◌, ◌≤◌, Some, None, IfSome, IfNone};
 ghost use Rattle.dfdl_forms.specs.BinaryNumbers.{IsIntForm, IsPackedForm, IsTruthForm};
-ghost use Rattle.dfdl_terms.specs.declared.row.Primitive.TheVariants.{Integer, Packed, Truth, Octets};
+ghost use Rattle.dfdl_terms.specs.declared.row.Primitive.TheVariants.{Integer, Packed, Truth, Octets, NilOctets as PlacedNil};
 ghost use Rattle.dfdl_terms.specs.Rows.{IsPrimitive};
 ghost use Rattle.dfdl_grammar.specs.Leaves.{bits_of, content_begins, content_ends, empty_begins, has_room, text_begins, text_ends};
 ghost use Rattle.dfdl_grammar.specs.Prefixes.{resized};
@@ -10,7 +10,7 @@ ghost use Rattle.dfdl_parse.specs.Views.{IsSound, primitive_of};
 
 use crate::framing::aligned;
 use dfdl_forms::{BitTruthForm, IntForm, PackedForm};
-use dfdl_terms::{OctetForm, Primitive, TextContent, TextForm, TextSize};
+use dfdl_terms::{DefaultForm, NilOctets, OctetForm, Primitive, TextContent, TextForm, TextSize};
 
 /// A primitive with the size that its box has, which may be another than its own.
 #[derive(Clone, Copy)]
@@ -19,7 +19,18 @@ pub(crate) enum Leaf<'p> {
     Packed(PackedForm),
     Truth(BitTruthForm),
     Octets(OctetForm),
-    Text { form: &'p TextForm, size: TextSize },
+    Text {
+        form: &'p TextForm,
+        size: TextSize,
+    },
+    NilOctets {
+        form: &'p NilOctets,
+        bits: u64,
+    },
+    Default {
+        form: &'p DefaultForm,
+        size: TextSize,
+    },
 }
 
 impl<'p> Leaf<'p> {
@@ -34,6 +45,14 @@ impl<'p> Leaf<'p> {
             Primitive::Truth(form) => Leaf::Truth(*form),
             Primitive::Octets(form) => Leaf::Octets(*form),
             Primitive::Text(form) => Leaf::Text {
+                form,
+                size: form.size,
+            },
+            Primitive::NilOctets(form) => Leaf::NilOctets {
+                form,
+                bits: form.octets.bits,
+            },
+            Primitive::Default(form) => Leaf::Default {
                 form,
                 size: form.size,
             },
@@ -52,6 +71,8 @@ impl<'p> Leaf<'p> {
             Primitive::Packed(form) => packed_in_box(*form, size),
             Primitive::Truth(form) => truth_in_box(*form, size),
             Primitive::Octets(form) => octets_in_box(*form, size),
+            Primitive::NilOctets(form) => nil_in_box(form, size),
+            Primitive::Default(form) => Some(Leaf::Default { form, size }),
         }
     }
 }
@@ -80,6 +101,8 @@ pub(crate) fn content_begins(leaf: Leaf<'_>, bit: u64) -> u64
         Leaf::Truth(_) => bit,
         Leaf::Octets(_) => bit,
         Leaf::Text { form, size } => text_begins(&form.content, size, bit),
+        Leaf::NilOctets { .. } => bit,
+        Leaf::Default { .. } => bit,
     }
 }
 
@@ -95,7 +118,8 @@ pub(crate) fn text_begins(content: &TextContent, size: TextSize, bit: u64) -> u6
     }
 }
 
-// The bit at which a text without bits begins whose box begins at this one: a string there, and else the next whole byte.
+// The bit at which a text without bits begins whose box begins at this one: a string or nil there, and else the next whole
+// byte.
 fn empty_begins(content: &TextContent, bit: u64) -> u64
     requires { bit ≤ 2 ^ 63 }
     ensures begin { result ≡ empty_begins content.now bit }
@@ -105,6 +129,7 @@ fn empty_begins(content: &TextContent, bit: u64) -> u64
         TextContent::Number { .. } => aligned(8, bit),
         TextContent::Zoned(_) => aligned(8, bit),
         TextContent::Truth(_) => aligned(8, bit),
+        TextContent::Nil(_) => bit,
     }
 }
 
@@ -120,6 +145,8 @@ fn content_ends(leaf: Leaf<'_>, bit: u64, stop: u64) -> Option<u64>
         Leaf::Truth(form) => bit.checked_add(u64::from(form.bits)),
         Leaf::Octets(form) => bit.checked_add(form.bits),
         Leaf::Text { size, .. } => text_ends(size, bit, stop),
+        Leaf::NilOctets { bits, .. } => bit.checked_add(bits),
+        Leaf::Default { size, .. } => text_ends(size, bit, stop),
     }
 }
 
@@ -148,6 +175,8 @@ pub(crate) fn number_bits(leaf: Leaf<'_>) -> u64
         Leaf::Truth(form) => u64::from(form.bits),
         Leaf::Octets(_) => unreachable!(),
         Leaf::Text { .. } => unreachable!(),
+        Leaf::NilOctets { .. } => unreachable!(),
+        Leaf::Default { .. } => unreachable!(),
     }
 }
 
@@ -207,6 +236,18 @@ fn octets_in_box<'p>(form: OctetForm, size: TextSize) -> Option<Leaf<'p>>
             bits,
             bits_by: form.bits_by,
         })),
+        TextSize::Characters(_) => None,
+    }
+}
+
+// The bytes of nil with another size.
+fn nil_in_box<'p>(form: &'p NilOctets, size: TextSize) -> Option<Leaf<'p>>
+    ensures some { IfSome result (λ leaf. resized size (PlacedNil form.now) ≡ Some (primitive_of leaf)) }
+    ensures none { IfNone result (resized size (PlacedNil form.now) ≡ None) }
+    ensures sound { IfSome result (λ leaf. IsSound (primitive_of leaf)) }
+{
+    match size {
+        TextSize::Bits(bits) => Some(Leaf::NilOctets { form, bits }),
         TextSize::Characters(_) => None,
     }
 }

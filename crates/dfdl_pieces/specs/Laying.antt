@@ -6,7 +6,7 @@ use Rattle.dfdl_value.specs.declared.value.Value.{Value}
 use Rattle.dfdl_terms.specs.declared.event.Event.{Event}
 use Rattle.dfdl_terms.specs.declared.event.Event.TheVariants.{Start, Simple, Nil, End}
 use Rattle.dfdl_terms.specs.declared.row.Primitive.{Primitive}
-use Rattle.dfdl_terms.specs.declared.row.Primitive.TheVariants.{Integer, Packed, Truth, Octets, Text}
+use Rattle.dfdl_terms.specs.declared.row.Primitive.TheVariants.{Integer, Packed, Truth, Octets, Text, NilOctets, Default}
 use Rattle.dfdl_terms.specs.declared.row.Row.{Row}
 use Rattle.dfdl_terms.specs.declared.row.Row.TheVariants.{Leaf, Elem, Group, Skip, Align, Boxed, PrefixedLeaf, PrefixedBox}
 use Rattle.dfdl_terms.specs.Rows.{Table}
@@ -34,11 +34,13 @@ integer_form (Packed form) = None
 integer_form (Truth form) = None
 integer_form (Octets form) = None
 integer_form (Text form) = None
+integer_form (NilOctets form) = None
+integer_form (Default form) = None
 
 -- the form of the binary integer that a row writes
 abbrev pub form_in : Table → Option Row → Option IntForm
 form_in t (Some (Leaf prim)) = option_and_then integer_form (slice_get t.primitives prim)
-form_in t (Some (Elem name simple body)) = None
+form_in t (Some (Elem name simple tried body)) = None
 form_in t (Some (Group children)) = None
 form_in t (Some (Skip bits)) = None
 form_in t (Some (Align bits)) = None
@@ -89,9 +91,9 @@ in_turn inside (row ∷ rows) around more = inside row around (in_turn inside ro
 -- how a row in elements of these names is laid before others, where `inside` says it of the rows below; a complex
 -- element takes the event of its end behind all that is inside
 abbrev pub laying_by : Table → (ℕ → Names → Laying → Laying) → ℕ → Option Row → Names → Laying → Laying
-laying_by t inside row (Some (Elem name (Some kind) body)) around more =
+laying_by t inside row (Some (Elem name (Some kind) tried body)) around more =
     Takes (λ event. value_laying (name ∷ around) (form_at t body) more (value_for row event))
-laying_by t inside row (Some (Elem name None body)) around more =
+laying_by t inside row (Some (Elem name None tried body)) around more =
     Takes (λ event. begun_laying (name ∷ around) (inside body (name ∷ around) (Takes (λ end. more))) (begins row event))
 laying_by t inside row (Some (Group children)) around more = in_turn inside children around more
 laying_by t inside row (Some (Leaf prim)) around more = more

@@ -2,6 +2,7 @@
 use Rattle.std.specs.Prelude.{◌≡◌, ℕ, ◌<◌, List, [], ◌∷◌, ◌++◌, drop, map, Option, None, Some, slice_get}
 use Rattle.dfdl_forms.specs.declared.simple.Simple.{Simple as SimpleType}
 use Rattle.dfdl_value.specs.Types.{IsOfType}
+use Rattle.dfdl_terms.specs.declared.representations.Representations.{Representations}
 use Rattle.dfdl_terms.specs.Rows.{Table}
 use Rattle.dfdl_terms.specs.declared.event.Event.{Event}
 use Rattle.dfdl_terms.specs.declared.event.Event.TheVariants.{Start, Simple, Nil, End}
@@ -50,7 +51,7 @@ IsLess t steps new (Some path) = Unit {0}
 
 -- the value of a simple element is one of its type
 abbrev pub IsTyped : Table → Event → Type 0
-IsTyped t (Simple row value) = (name : List ℕ) (kind : SimpleType) (body : ℕ) → slice_get t.rows row ≡ Some (Elem name (Some kind) body) → IsOfType kind value
+IsTyped t (Simple row value) = (name : List ℕ) (kind : SimpleType) (tried : Representations) (body : ℕ) → slice_get t.rows row ≡ Some (Elem name (Some kind) tried body) → IsOfType kind value
 IsTyped t (Start row) = Unit {0}
 IsTyped t (Nil row) = Unit {0}
 IsTyped t End = Unit {0}

@@ -19,6 +19,8 @@ pub(crate) fn form_at(terms: &Terms, row: RowId) -> Option<&IntForm>
         Some(Primitive::Truth(_)) => None,
         Some(Primitive::Octets(_)) => None,
         Some(Primitive::Text(_)) => None,
+        Some(Primitive::NilOctets(_)) => None,
+        Some(Primitive::Default(_)) => None,
         None => None,
     }
 }

@@ -1,5 +1,5 @@
 // Pieces of `r`, which has the unsignedShort `a`.
-ghost use Rattle.std.specs.Prelude.{◌≡◌, IfOk};
+ghost use Rattle.std.specs.Prelude.{◌≡◌, IfOk, None, false};
 ghost use Rattle.dfdl_terms.specs.declared.row.Row.TheVariants.{Elem, Group};
 ghost use Rattle.dfdl_terms.specs.Rows.{HasElementLast, HasPlainRows};
 ghost use Rattle.dfdl_pieces.specs.Whole.{AreWholeFields};
@@ -7,7 +7,7 @@ ghost use Rattle.dfdl_pieces.specs.Whole.{AreWholeFields};
 use crate::{Unparsed, unparse};
 use dfdl_forms::{BitOrder, ByteOrder, IntForm};
 use dfdl_json::events_of_json;
-use dfdl_terms::{Primitive, Row, RowId, RowList, Tables, Terms};
+use dfdl_terms::{Primitive, Representations, Row, RowId, RowList, Tables, Terms};
 use dfdl_value::{Simple, TextValue};
 use std::alloc::{AllocError, Global};
 use std::test::Fail;
@@ -25,11 +25,17 @@ fn form(bytes_by: ByteOrder) -> IntForm
 }
 
 fn element(alloc: Global, name: &str, simple: Option<Simple>, body: u32) -> Result<Row, AllocError>
-    ensures { IfOk result (λ row. row ≡ Elem name.now simple body) }
+    ensures { IfOk result (λ row. row
+        ≡ Elem name.now simple (record { nil = None; empty = None; are_several = false }) body) }
 {
     Ok(Row::Elem {
         name: TextValue::from_str(alloc, name)?,
         simple,
+        tried: Representations {
+            nil: None,
+            empty: None,
+            are_several: false,
+        },
         body: RowId::new(body),
     })
 }

@@ -2,6 +2,7 @@
 ghost use Rattle.std.specs.Prelude.{◌≡◌, ◌+◌, ◌++◌, ◌∷◌, [], All, IfOk, IfNone, None, Some, drop, map, slice_get};
 ghost use Rattle.dfdl_json.specs.Paths.{path_of};
 ghost use Rattle.dfdl_terms.specs.Rows.{HasPlainRows};
+ghost use Rattle.dfdl_terms.specs.declared.representations.Representations.{Representations};
 ghost use Rattle.dfdl_terms.specs.declared.row.Row.TheVariants.{Elem};
 ghost use Rattle.dfdl_json.specs.Fitting.{Fits};
 ghost use Rattle.dfdl_json.specs.Steps.{steps_of};
@@ -152,7 +153,14 @@ impl<'t> Unparser<'t> {
         ensures less { IfOk result (IsLess terms.now (steps_of terms.now row + steps_left terms.now self.old.tasks.items) self.new) }
     {
         match row_at(terms, row) {
-            Some(Row::Elem { name, simple, body }) => match simple {
+            Some(
+                Row::Elem {
+                    name,
+                    simple,
+                    body,
+                    ..
+                },
+            ) => match simple {
                 Some(kind) => {
                     self.lay_simple(alloc, terms, events, row, name.as_str(), *kind, *body)
                 }
@@ -196,7 +204,7 @@ impl<'t> Unparser<'t> {
     ) -> Result<Option<TextValue>, AllocError>
         requires whole { AreWholeFields terms.now }
         requires typed { All (IsTyped terms.now) events.now }
-        requires row { slice_get terms.now.rows row ≡ Some (Elem name.now (Some kind) body) }
+        requires row { (tried : Representations) × (slice_get terms.now.rows row ≡ Some (Elem name.now (Some kind) tried body)) }
         ensures moves { IfOk result (λ missing. (more : Laying) → Moves events.now self.old
             (Takes (λ event. lays.value_laying (name.now ∷ self.old.around) (lays.form_at terms.now body) more (lays.value_for row event)))
             self.new more missing) }

@@ -8,6 +8,8 @@ pub enum Content {
     Begun,
     /// Elements.
     Complex,
+    /// Nil.
+    Nil,
     /// The value of a signed integer.
     Signed(i128),
     /// The value of an unsigned integer.

@@ -1,5 +1,5 @@
 // The nodes of one document.
-ghost use Rattle.std.specs.Prelude.{◌≡◌, ◌<◌, ◌≤◌, ◌↔◌, ◌++◌, ◌∷◌, [], vec_capacity, Some, length, slice_get, IfOk, IsErr, OnErr};
+ghost use Rattle.std.specs.Prelude.{◌≡◌, ◌<◌, ◌≤◌, ◌↔◌, ◌++◌, ◌∷◌, [], vec_capacity, Some, length, slice_get, take, IfOk, IsErr, OnErr};
 ghost use Rattle.dfdl_region.specs.Nodes.{with_node, with_content};
 
 use crate::node::{Content, Node};
@@ -103,6 +103,13 @@ impl NodeRegion {
         ensures { result.now ≡ self.now.nodes }
     {
         self.nodes.as_slice()
+    }
+
+    /// Keeps the first so many nodes, as they are, and takes the others away. The memory is kept.
+    pub fn undo_to(&mut self, count: u32)
+        ensures { self.new ≡ record self.old { nodes = take count self.old.nodes } }
+    {
+        self.nodes.truncate(count as usize);
     }
 
     /// Takes all nodes away, and keeps the memory.

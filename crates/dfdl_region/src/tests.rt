@@ -28,6 +28,11 @@ fn nodes_are_added_and_read(rt: HostRuntime) -> Result<(), Fail> {
     assert_eq!(rt; region.get(1).content, Content::Truth(true));
     region.set_content(1, child.content);
     assert_eq!(rt; region.nodes()[1], child);
+    region.undo_to(2);
+    assert_eq!(rt; region.count(), 2);
+    region.undo_to(1);
+    assert_eq!(rt; region.count(), 1);
+    assert_eq!(rt; region.get(0).content, Content::Signed(-2));
     region.clear();
     assert_eq!(rt; region.count(), 0);
     Ok(())
@@ -46,6 +51,8 @@ fn texts_are_added_and_read(rt: HostRuntime) -> Result<(), Fail> {
     assert_eq!(rt; region.all(), [0xCA, 0xFE, 0x61, 0xC3, 0xA9].as_slice());
     assert_eq!(rt; region.add(&[7]), Ok(5));
     assert_eq!(rt; region.add_characters(&[]), Ok(6));
+    region.undo_to(2);
+    assert_eq!(rt; region.all(), [0xCA, 0xFE].as_slice());
     region.clear();
     assert_eq!(rt; region.count(), 0);
     Ok(())

@@ -98,6 +98,13 @@ impl TextRegion {
         self.bytes.as_slice()
     }
 
+    /// Keeps the first so many bytes and takes the others away. The memory is kept.
+    pub fn undo_to(&mut self, count: u32)
+        ensures { self.new ≡ record self.old { bytes = take count self.old.bytes } }
+    {
+        self.bytes.truncate(count as usize);
+    }
+
     /// Takes all bytes away, and keeps the memory.
     pub fn clear(&mut self)
         ensures { self.new ≡ record self.old { bytes = [] } }

@@ -2,6 +2,7 @@
 use Rattle.std.proofs.Common.{◌≡◌, ℕ, ◌+◌, ◌<◌, List, [], ◌∷◌, length, All, Option, None, Some, refl, arith, length-append}
 use Rattle.std.proofs.lemmas.List.Elements.{All-nil, All-cons, All-append}
 use Rattle.dfdl_forms.specs.declared.simple.Simple.{Simple}
+use Rattle.dfdl_terms.specs.declared.representations.Representations.{Representations}
 use Rattle.dfdl_terms.specs.declared.framing.Framing.{Framing}
 use Rattle.dfdl_terms.specs.declared.prefix.Prefix.{Prefix}
 use Rattle.dfdl_terms.specs.declared.row.Row.{Row}
@@ -42,15 +43,15 @@ pub leaf_holds : (P : Row → Type 0) (prefix : Option Prefix) (prim : ℕ) → 
 leaf_holds P None prim bare prefixed = bare
 leaf_holds P (Some own) prim bare prefixed = prefixed own refl
 
-pub length_element : (name : List ℕ) (simple : Option Simple) (f : Framing) (content first : ℕ)
-    → length (element_rows name simple f content first) ≡ 1 + framing_size f
-length_element name simple f content first =
-    let row : Row = Elem name simple (framed_row f content first) in
+pub length_element : (name : List ℕ) (simple : Option Simple) (tried : Representations) (f : Framing) (content first : ℕ)
+    → length (element_rows name simple tried f content first) ≡ 1 + framing_size f
+length_element name simple tried f content first =
+    let row : Row = Elem name simple tried (framed_row f content first) in
     omega (arith, length-append (framed f content first) (row ∷ []), length_framed f content first)
 
 -- what holds of fill and of the element itself
-pub element_all : (P : Row → Type 0) (name : List ℕ) (simple : Option Simple) (f : Framing) (content first : ℕ) → All P (framed f content first)
-    → P (Elem name simple (framed_row f content first)) → All P (element_rows name simple f content first)
-element_all P name simple f content first fill own =
-    All-append P (framed f content first) (Elem name simple (framed_row f content first) ∷ []) fill
-    (All-cons P (Elem name simple (framed_row f content first)) [] own (All-nil P))
+pub element_all : (P : Row → Type 0) (name : List ℕ) (simple : Option Simple) (tried : Representations) (f : Framing) (content first : ℕ) → All P (framed f content first)
+    → P (Elem name simple tried (framed_row f content first)) → All P (element_rows name simple tried f content first)
+element_all P name simple tried f content first fill own =
+    All-append P (framed f content first) (Elem name simple tried (framed_row f content first) ∷ []) fill
+    (All-cons P (Elem name simple tried (framed_row f content first)) [] own (All-nil P))

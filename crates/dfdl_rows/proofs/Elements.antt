@@ -84,7 +84,7 @@ module _ (s : Schema) (idle : List Bool) (known : List (Option Refusal)) (c : �
   at_plain (Sequence framing) place is = refl
   at_plain (Reference framing) place is = refl
   at_plain (ComplexElement name framing box) place is = absurd (cc)
-  at_plain (SimpleElement name simple prim framing prefix) place is = absurd (cc)
+  at_plain (SimpleElement name simple prim framing prefix tried) place is = absurd (cc)
 
   pub group_step : (after : List ℕ) → own_refusal s.refusals c ≡ None → is_plain (component_at s.components c) ≡ true → HasNames has old
       → after ≡ uses_of s.uses c ++ ts → IsStep s (c ∷ ts) old after has None
@@ -111,7 +111,7 @@ inside_first s order is c within element none =
     first_at (Sequence framing) place is_one = absurd (cc)
     first_at (Reference framing) place is_one = absurd (cc)
     first_at (ComplexElement name framing box) place is_one = first_inside (in_order (map (look_at s) (uses_of s.uses c)) []) name []
-    first_at (SimpleElement name simple prim framing prefix) place is_one = first_inside (in_order (map (look_at s) (uses_of s.uses c)) []) name []
+    first_at (SimpleElement name simple prim framing prefix tried) place is_one = first_inside (in_order (map (look_at s) (uses_of s.uses c)) []) name []
 
 -- that of an element that is refused by itself is its own
 pub own_first : (s : Schema) (order : Places) → IsOrder s.uses order → (c : ℕ) → c < length s.uses

@@ -51,7 +51,7 @@ module _ (s : Schema) (c : ℕ) (within : c < length s.uses) where
         | false ↦ λ none. led_by_one framing none ps can rows steps all
       ]) refl
   led_by (ComplexElement name framing box) ps can rows steps all = led_itself
-  led_by (SimpleElement name simple prim framing prefix) ps can rows steps all = led_itself
+  led_by (SimpleElement name simple prim framing prefix tried) ps can rows steps all = led_itself
 
 pub led : (s : Schema) → HasOrder s.uses → AreOfOne s.uses s.components s.refusals s.places → (c : ℕ) → c < length s.uses → IsLed s c (end_of s c)
 led s ordered one = by_parts s.uses ordered.0 ordered.1 (λ c. IsLed s c (end_of s c))

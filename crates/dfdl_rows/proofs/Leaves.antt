@@ -5,13 +5,14 @@ use Rattle.std.proofs.lemmas.List.Elements.{All-tail, All-cons, All-nil, All-app
 use Rattle.std.proofs.lemmas.Option.{slice_get_within, slice_get-get_or, get_or_from_slice_get}
 use Rattle.dfdl_forms.specs.declared.simple.Simple.{Simple}
 use Rattle.dfdl_order.specs.Parts.{uses_of}
+use Rattle.dfdl_terms.specs.declared.representations.Representations.{Representations}
 use Rattle.dfdl_terms.specs.Leaves.{ReadsBy, leaf, prefixed}
 use Rattle.dfdl_terms.specs.declared.framing.Framing.{Framing}
 use Rattle.dfdl_terms.specs.declared.prefix.Prefix.{Prefix}
 use Rattle.dfdl_terms.specs.declared.row.Row.{Row}
 use Rattle.dfdl_terms.specs.declared.row.Row.TheVariants.{Elem, Group}
 use Rattle.dfdl_terms.specs.Framing.{no_fill}
-use Rattle.dfdl_rows.specs.Components.{Schema, component_at, AreOfOne, HasOrder, IsBareComponent}
+use Rattle.dfdl_rows.specs.Components.{Schema, component_at, AreOfOne, HasOrder, IsBareComponent, no_trials}
 use Rattle.dfdl_rows.specs.declared.component.Component.{Component}
 use Rattle.dfdl_rows.specs.declared.component.Component.TheVariants.{Sequence, Reference, ComplexElement, SimpleElement}
 use Rattle.dfdl_rows.specs.Fill.{framed, framed_row}
@@ -26,32 +27,32 @@ use Rattle.dfdl_rows.proofs.RowsOf.{rows_step}
 
 -- the row is no simple element
 abbrev pub IsNotSimple : Row → Type 0
-IsNotSimple row = (name : List ℕ) (simple : Simple) (body : ℕ) → row ≡ Elem name (Some simple) body → ⊥
+IsNotSimple row = (name : List ℕ) (simple : Simple) (tried : Representations) (body : ℕ) → row ≡ Elem name (Some simple) tried body → ⊥
 
-none_simple : (rows : List Row) (i : ℕ) (name : List ℕ) (simple : Simple) (body : ℕ) → All IsNotSimple rows
-    → slice_get rows i ≡ Some (Elem name (Some simple) body) → ⊥
-none_simple [] i name simple body all is = nothing_there i (Elem name (Some simple) body) is
-none_simple (row ∷ rows) zero name simple body all is =
-    let same : row ≡ Elem name (Some simple) body = cc in
-    all 0 row (omega arith) name simple body same
-none_simple (row ∷ rows) (suc i) name simple body all is = none_simple rows i name simple body (All-tail IsNotSimple row rows all) is
+none_simple : (rows : List Row) (i : ℕ) (name : List ℕ) (simple : Simple) (tried : Representations) (body : ℕ) → All IsNotSimple rows
+    → slice_get rows i ≡ Some (Elem name (Some simple) tried body) → ⊥
+none_simple [] i name simple tried body all is = nothing_there i (Elem name (Some simple) tried body) is
+none_simple (row ∷ rows) zero name simple tried body all is =
+    let same : row ≡ Elem name (Some simple) tried body = cc in
+    all 0 row (omega arith) name simple tried body same
+none_simple (row ∷ rows) (suc i) name simple tried body all is = none_simple rows i name simple tried body (All-tail IsNotSimple row rows all) is
 
 -- a simple element behind rows that are none
-only_last : (rows : List Row) (last : Row) (i : ℕ) (name : List ℕ) (simple : Simple) (body : ℕ) → All IsNotSimple rows
-    → slice_get (rows ++ last ∷ []) i ≡ Some (Elem name (Some simple) body) → last ≡ Elem name (Some simple) body
-only_last [] last zero name simple body all is = cc
-only_last [] last (suc i) name simple body all is = absurd (nothing_there i (Elem name (Some simple) body) is)
-only_last (row ∷ rows) last zero name simple body all is =
-    let same : row ≡ Elem name (Some simple) body = cc in
-    absurd (all 0 row (omega arith) name simple body same)
-only_last (row ∷ rows) last (suc i) name simple body all is = only_last rows last i name simple body (All-tail IsNotSimple row rows all) is
+only_last : (rows : List Row) (last : Row) (i : ℕ) (name : List ℕ) (simple : Simple) (tried : Representations) (body : ℕ) → All IsNotSimple rows
+    → slice_get (rows ++ last ∷ []) i ≡ Some (Elem name (Some simple) tried body) → last ≡ Elem name (Some simple) tried body
+only_last [] last zero name simple tried body all is = cc
+only_last [] last (suc i) name simple tried body all is = absurd (nothing_there i (Elem name (Some simple) tried body) is)
+only_last (row ∷ rows) last zero name simple tried body all is =
+    let same : row ≡ Elem name (Some simple) tried body = cc in
+    absurd (all 0 row (omega arith) name simple tried body same)
+only_last (row ∷ rows) last (suc i) name simple tried body all is = only_last rows last i name simple tried body (All-tail IsNotSimple row rows all) is
 
 framed_not_simple : (f : Framing) (content first : ℕ) → All IsNotSimple (framed f content first)
-framed_not_simple f content first = framed_all IsNotSimple (λ bits name simple body is. absurd (cc)) (λ bits name simple body is. absurd (cc))
-    (λ children name simple body is. absurd (cc)) f content first
+framed_not_simple f content first = framed_all IsNotSimple (λ bits name simple tried body is. absurd (cc)) (λ bits name simple tried body is. absurd (cc))
+    (λ children name simple tried body is. absurd (cc)) f content first
 
 leaf_not_simple : (prefix : Option Prefix) (prim : ℕ) → IsNotSimple (leaf_row prefix prim)
-leaf_not_simple prefix prim = leaf_holds IsNotSimple prefix prim (λ name simple body is. absurd (cc)) (λ own has name simple body is. absurd (cc))
+leaf_not_simple prefix prim = leaf_holds IsNotSimple prefix prim (λ name simple tried body is. absurd (cc)) (λ own has name simple tried body is. absurd (cc))
 
 -- a leaf reads by its primitive, with a prefix and without
 leaf_reads : (rows : List Row) (IsOne : ℕ → Type 0) (id prim : ℕ) (prefix : Option Prefix) → slice_get rows id ≡ Some (leaf_row prefix prim)
@@ -61,25 +62,25 @@ leaf_reads rows IsOne id prim (Some prefix) is one = prefixed id prim prefix is 
 
 -- among all rows, this holds of the body of a simple element of the components
 module _ (components : List Component) (all : List Row) (Q : Simple → ℕ → Type 0)
-    (holds : (number content prim : ℕ) (name : List ℕ) (simple : Simple) (f : Framing) (prefix : Option Prefix)
-    → slice_get components number ≡ Some (SimpleElement name simple prim f prefix) → slice_get all content ≡ Some (leaf_row prefix prim)
+    (holds : (number content prim : ℕ) (name : List ℕ) (simple : Simple) (f : Framing) (prefix : Option Prefix) (tried : Representations)
+    → slice_get components number ≡ Some (SimpleElement name simple prim f prefix tried) → slice_get all content ≡ Some (leaf_row prefix prim)
     → Sits all (content + 1) (framed f content (content + 1)) → Q simple (framed_row f content (content + 1))) where
   -- it holds of each simple element of the rows, where these stand among all rows
   abbrev pub BodiesFrom : ℕ → List Row → Type 0
-  BodiesFrom first rows = Sits all first rows → (i : ℕ) (name : List ℕ) (simple : Simple) (body : ℕ)
-      → slice_get rows i ≡ Some (Elem name (Some simple) body) → Q simple body
+  BodiesFrom first rows = Sits all first rows → (i : ℕ) (name : List ℕ) (simple : Simple) (tried : Representations) (body : ℕ)
+      → slice_get rows i ≡ Some (Elem name (Some simple) tried body) → Q simple body
 
   bodies_append : (first : ℕ) (xs ys : List Row) → BodiesFrom first xs → BodiesFrom (first + length xs) ys → BodiesFrom first (xs ++ ys)
-  bodies_append first xs ys here behind sits i name simple body is = elim (cases_lt i (length xs)) [
-    | inl less ↦ here (sits_left all first xs ys sits) i name simple body (sym (left xs ys i less) ∙ is)
+  bodies_append first xs ys here behind sits i name simple tried body is = elim (cases_lt i (length xs)) [
+    | inl less ↦ here (sits_left all first xs ys sits) i name simple tried body (sym (left xs ys i less) ∙ is)
     | inr more ↦
         let split : i ≡ length xs + (i - length xs) = omega (arith, more) in
-        behind (sits_right all first xs ys sits) (i - length xs) name simple body
+        behind (sits_right all first xs ys sits) (i - length xs) name simple tried body
         (sym (right xs ys (i - length xs)) ∙ (ap (slice_get (xs ++ ys)) (sym split) ∙ is))
   ]
 
   bodies_none : (first : ℕ) (rows : List Row) → All IsNotSimple rows → BodiesFrom first rows
-  bodies_none first rows none sits i name simple body is = absurd (none_simple rows i name simple body none is)
+  bodies_none first rows none sits i name simple tried body is = absurd (none_simple rows i name simple tried body none is)
 
   abbrev pub HasBodies : Numbered → Type 0
   HasBodies rows = (first : ℕ) → BodiesFrom first (rows first)
@@ -93,28 +94,28 @@ module _ (components : List Component) (all : List Row) (Q : Simple → ℕ → 
   own_bodies : (component : Component) (lasts : List ℕ) (first number : ℕ) → slice_get components number ≡ Some component
       → BodiesFrom first (own_rows component lasts first)
   own_bodies (Sequence f) lasts first number there = bodies_none first (Group lasts ∷ framed f first (first + 1))
-      (All-cons IsNotSimple (Group lasts) (framed f first (first + 1)) (λ name simple body is. absurd (cc)) (framed_not_simple f first (first + 1)))
+      (All-cons IsNotSimple (Group lasts) (framed f first (first + 1)) (λ name simple tried body is. absurd (cc)) (framed_not_simple f first (first + 1)))
   own_bodies (Reference f) lasts first number there = bodies_none first (framed f (get_or lasts 0 0) first) (framed_not_simple f (get_or lasts 0 0) first)
   own_bodies (ComplexElement own f box) lasts first number there =
       let content : ℕ = boxed_row box (get_or lasts 0 0) first in
-      let element : List Row = element_rows own None f (boxed_row box (get_or lasts 0 0) first) (first + box_size box) in
+      let element : List Row = element_rows own None no_trials f (boxed_row box (get_or lasts 0 0) first) (first + box_size box) in
       bodies_none first (box_rows box (get_or lasts 0 0) ++ element)
       (All-append IsNotSimple (box_rows box (get_or lasts 0 0)) element
-      (box_all IsNotSimple (λ bits body name simple other is. absurd (cc)) box (get_or lasts 0 0) (λ prefix boxed name simple other is. absurd (cc)))
-      (element_all IsNotSimple own None f content (first + box_size box) (framed_not_simple f content (first + box_size box))
-      (λ name simple body is. absurd (cc))))
-  own_bodies (SimpleElement own kind prim f prefix) lasts first number there = λ sits i name simple body is.
-      let same : Elem own (Some kind) (framed_row f first (first + 1)) ≡ Elem name (Some simple) body
-      = only_last (leaf_row prefix prim ∷ framed f first (first + 1)) (Elem own (Some kind) (framed_row f first (first + 1))) i name simple body
+      (box_all IsNotSimple (λ bits body name simple tried other is. absurd (cc)) box (get_or lasts 0 0) (λ prefix boxed name simple tried other is. absurd (cc)))
+      (element_all IsNotSimple own None no_trials f content (first + box_size box) (framed_not_simple f content (first + box_size box))
+      (λ name simple tried body is. absurd (cc))))
+  own_bodies (SimpleElement own kind prim f prefix trials) lasts first number there = λ sits i name simple tried body is.
+      let same : Elem own (Some kind) trials (framed_row f first (first + 1)) ≡ Elem name (Some simple) tried body
+      = only_last (leaf_row prefix prim ∷ framed f first (first + 1)) (Elem own (Some kind) trials (framed_row f first (first + 1))) i name simple tried body
       (All-cons IsNotSimple (leaf_row prefix prim) (framed f first (first + 1)) (leaf_not_simple prefix prim) (framed_not_simple f first (first + 1))) is in
       let kinds : kind ≡ simple = cc in
       let bodies : framed_row f first (first + 1) ≡ body = cc in
       let behind : Sits all (first + 1) (framed f first (first + 1))
-      = sits_left all (first + 1) (framed f first (first + 1)) (Elem own (Some kind) (framed_row f first (first + 1)) ∷ [])
-      (sits_tail all first (leaf_row prefix prim) (framed f first (first + 1) ++ Elem own (Some kind) (framed_row f first (first + 1)) ∷ []) sits) in
+      = sits_left all (first + 1) (framed f first (first + 1)) (Elem own (Some kind) trials (framed_row f first (first + 1)) ∷ [])
+      (sits_tail all first (leaf_row prefix prim) (framed f first (first + 1) ++ Elem own (Some kind) trials (framed_row f first (first + 1)) ∷ []) sits) in
       subst (λ (k : Simple). Q k body) kinds (subst (λ (n : ℕ). Q kind n) bodies
-      (holds number first prim own kind f prefix there
-      (sits_first all first (leaf_row prefix prim) (framed f first (first + 1) ++ Elem own (Some kind) (framed_row f first (first + 1)) ∷ []) sits) behind))
+      (holds number first prim own kind f prefix trials there
+      (sits_first all first (leaf_row prefix prim) (framed f first (first + 1) ++ Elem own (Some kind) trials (framed_row f first (first + 1)) ∷ []) sits) behind))
 
 -- the rows of each component of a schema
 module _ (s : Schema) (ordered : HasOrder s.uses) (one : AreOfOne s.uses s.components s.refusals s.places) where
@@ -122,11 +123,11 @@ module _ (s : Schema) (ordered : HasOrder s.uses) (one : AreOfOne s.uses s.compo
   there c within = slice_get-get_or s.components c (Sequence no_fill) (omega (arith, within, one.counted))
 
   bodies_at : (all : List Row) (Q : Simple → ℕ → Type 0)
-      → ((number content prim : ℕ) (name : List ℕ) (simple : Simple) (f : Framing) (prefix : Option Prefix)
-      → slice_get s.components number ≡ Some (SimpleElement name simple prim f prefix) → slice_get all content ≡ Some (leaf_row prefix prim)
+      → ((number content prim : ℕ) (name : List ℕ) (simple : Simple) (f : Framing) (prefix : Option Prefix) (tried : Representations)
+      → slice_get s.components number ≡ Some (SimpleElement name simple prim f prefix tried) → slice_get all content ≡ Some (leaf_row prefix prim)
       → Sits all (content + 1) (framed f content (content + 1)) → Q simple (framed_row f content (content + 1)))
-      → (c : ℕ) → c < length s.uses → (first : ℕ) → Sits all first (rows_at s c first) → (i : ℕ) (name : List ℕ) (simple : Simple) (body : ℕ)
-      → slice_get (rows_at s c first) i ≡ Some (Elem name (Some simple) body) → Q simple body
+      → (c : ℕ) → c < length s.uses → (first : ℕ) → Sits all first (rows_at s c first) → (i : ℕ) (name : List ℕ) (simple : Simple) (tried : Representations) (body : ℕ)
+      → slice_get (rows_at s c first) i ≡ Some (Elem name (Some simple) tried body) → Q simple body
   bodies_at all Q holds = by_parts s.uses ordered.0 ordered.1 (λ c. HasBodies s.components all Q holds (rows_at s c))
       (λ c within each first.
       let turn : List Row = in_turn (map (rows_at s) (uses_of s.uses c)) first in
@@ -145,9 +146,9 @@ module _ (s : Schema) (ordered : HasOrder s.uses) (one : AreOfOne s.uses s.compo
   pub rows_have_leaves : (root : ℕ) → root < length s.uses → HaveLeaves s.components (rows_of s root)
   rows_have_leaves root within =
       bodies_at (rows_of s root) (λ simple body. ReadsBy (rows_of s root) (IsAmong s.components simple) body)
-      (λ number content prim name simple f prefix component is sits.
+      (λ number content prim name simple f prefix tried component is sits.
       framed_reads (rows_of s root) (IsAmong s.components simple) f content (content + 1) sits
-      (leaf_reads (rows_of s root) (IsAmong s.components simple) content prim prefix is (number, name, f, prefix, component)))
+      (leaf_reads (rows_of s root) (IsAmong s.components simple) content prim prefix is (number, name, f, prefix, tried, component)))
       root within 0 (root_sits (rows_of s root))
 
   -- where there is neither fill nor a box nor a prefix, the component of a number has none
@@ -159,11 +160,11 @@ module _ (s : Schema) (ordered : HasOrder s.uses) (one : AreOfOne s.uses s.compo
   pub rows_have_bare_leaves : All IsBareComponent s.components → (root : ℕ) → root < length s.uses → HaveBareLeaves s.components (rows_of s root)
   rows_have_bare_leaves bare root within =
       bodies_at (rows_of s root) (λ simple body. IsLeafOf s.components simple (slice_get (rows_of s root) body))
-      (λ number content prim name simple f prefix component is sits.
+      (λ number content prim name simple f prefix tried component is sits.
       let content_is : framed_row f content (content + 1) ≡ content
-      = unframed_row f content (content + 1) (bare_at bare number (SimpleElement name simple prim f prefix) component).unfilled in
+      = unframed_row f content (content + 1) (bare_at bare number (SimpleElement name simple prim f prefix tried) component).unfilled in
       let leaf_is : leaf_row prefix prim ≡ leaf_row None prim
-      = ap (λ (own : Option Prefix). leaf_row own prim) (bare_at bare number (SimpleElement name simple prim f prefix) component).unprefixed in
+      = ap (λ (own : Option Prefix). leaf_row own prim) (bare_at bare number (SimpleElement name simple prim f prefix tried) component).unprefixed in
       subst (λ (n : ℕ). IsLeafOf s.components simple (slice_get (rows_of s root) n)) (sym content_is)
-      (subst (IsLeafOf s.components simple) (sym (is ∙ ap (λ (row : Row). Some row) leaf_is)) (number, name, f, prefix, component)))
+      (subst (IsLeafOf s.components simple) (sym (is ∙ ap (λ (row : Row). Some row) leaf_is)) (number, name, f, prefix, tried, component)))
       root within 0 (root_sits (rows_of s root))

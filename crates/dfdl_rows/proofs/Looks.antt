@@ -55,7 +55,7 @@ module _ (s : Schema) (order : Places) (is : IsOrder s.uses order) where
   idle_at None (Sequence framing) place parts b names are = (refl, are)
   idle_at None (Reference framing) place parts b names are = (refl, are)
   idle_at None (ComplexElement name framing box) place parts b names are = absurd (cc)
-  idle_at None (SimpleElement name simple prim framing prefix) place parts b names are = absurd (cc)
+  idle_at None (SimpleElement name simple prim framing prefix tried) place parts b names are = absurd (cc)
   idle_at (Some refusal) component place parts b names are = absurd (cc)
 
   idle_next : (c : ℕ) → c < length s.uses → All IsIdle (uses_of s.uses c) → IsIdle c

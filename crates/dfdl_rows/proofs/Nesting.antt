@@ -5,12 +5,13 @@ use Rattle.std.proofs.lemmas.List.Elements.{All-nil, All-tail, All-cons, All-app
 use Rattle.std.proofs.lemmas.Option.{slice_get_within}
 use Rattle.dfdl_forms.specs.declared.simple.Simple.{Simple}
 use Rattle.dfdl_order.specs.Parts.{uses_of}
+use Rattle.dfdl_terms.specs.declared.representations.Representations.{Representations}
 use Rattle.dfdl_terms.specs.declared.framing.Framing.{Framing}
 use Rattle.dfdl_terms.specs.declared.row.Row.{Row}
 use Rattle.dfdl_terms.specs.declared.row.Row.TheVariants.{Elem, Group, Boxed, PrefixedBox}
 use Rattle.dfdl_terms.specs.Rows.{ChildrenBelow, Nests, NamesWithin, IsPlainRow, HasPlainRows}
 use Rattle.dfdl_terms.specs.Framing.{no_fill}
-use Rattle.dfdl_rows.specs.Components.{Schema, component_at, CanHave, AreOfOne, HasOrder, HasPrimitive, HasBoxPrimitive, HasPrefixPrimitive, IsBareComponent}
+use Rattle.dfdl_rows.specs.Components.{Schema, component_at, CanHave, AreOfOne, HasOrder, HasPrimitive, HasBoxPrimitive, HasPrefixPrimitive, IsBareComponent, no_trials}
 use Rattle.dfdl_rows.specs.declared.component.Component.{Component}
 use Rattle.dfdl_rows.specs.declared.component.Component.TheVariants.{Sequence, Reference, ComplexElement, SimpleElement}
 use Rattle.dfdl_rows.specs.declared.component.ContentBox.{ContentBox}
@@ -107,11 +108,11 @@ module _ (f : Framing) (content first : ℕ) (low : content < first) where
       (nests_none (first + length (rows_before f) + length (rows_behind f) + 1)))))
 
   -- the row of an element behind them
-  nests_element : (name : List ℕ) (simple : Option Simple) → NestsFrom first (element_rows name simple f content first)
-  nests_element name simple =
+  nests_element : (name : List ℕ) (simple : Option Simple) (tried : Representations) → NestsFrom first (element_rows name simple tried f content first)
+  nests_element name simple tried =
       let below : framed_row f content first < first + length (framed f content first) = omega (arith, framed_below f content first low, length_framed f content first) in
-      nests_append (framed f content first) (Elem name simple (framed_row f content first) ∷ []) first nests_framed
-      (nests_cons (first + length (framed f content first)) (Elem name simple (framed_row f content first)) [] below
+      nests_append (framed f content first) (Elem name simple tried (framed_row f content first) ∷ []) first nests_framed
+      (nests_cons (first + length (framed f content first)) (Elem name simple tried (framed_row f content first)) [] below
       (nests_none (first + length (framed f content first) + 1)))
 
 -- a content in its box
@@ -127,15 +128,15 @@ own_nest (Sequence f) ps lasts first can long below =
 own_nest (Reference f) ps lasts first can long below = nests_framed f (get_or lasts 0 0) first (below 0 0 (omega (arith, can, long)))
 own_nest (ComplexElement name f box) ps lasts first can long below =
     let content : ℕ = boxed_row box (get_or lasts 0 0) first in
-    let element : List Row = element_rows name None f (boxed_row box (get_or lasts 0 0) first) (first + box_size box) in
+    let element : List Row = element_rows name None no_trials f (boxed_row box (get_or lasts 0 0) first) (first + box_size box) in
     let low : get_or lasts 0 0 < first = below 0 0 (omega (arith, can, long)) in
     nests_append (box_rows box (get_or lasts 0 0)) element first (nests_box box (get_or lasts 0 0) first low)
     (subst (λ (n : ℕ). NestsFrom (first + n) element) (sym (length_box box (get_or lasts 0 0)))
-    (nests_element f content (first + box_size box) (box_below box (get_or lasts 0 0) first low) name None))
-own_nest (SimpleElement name simple prim f prefix) ps lasts first can long below =
-    nests_cons first (leaf_row prefix prim) (element_rows name (Some simple) f first (first + 1))
+    (nests_element f content (first + box_size box) (box_below box (get_or lasts 0 0) first low) name None no_trials))
+own_nest (SimpleElement name simple prim f prefix tried) ps lasts first can long below =
+    nests_cons first (leaf_row prefix prim) (element_rows name (Some simple) tried f first (first + 1))
     (leaf_holds (ChildrenBelow first) prefix prim tt (λ own is. tt))
-    (nests_element f first (first + 1) (omega arith) name (Some simple))
+    (nests_element f first (first + 1) (omega arith) name (Some simple) tried)
 
 module _ (s : Schema) (ordered : HasOrder s.uses) (one : AreOfOne s.uses s.components s.refusals s.places) where
   nested : (c : ℕ) → c < length s.uses → IsNested (rows_at s c)
@@ -190,34 +191,34 @@ own_named count (Sequence f) lasts first has = All-cons (NamesWithin count) (Gro
 own_named count (Reference f) lasts first has = framed_named count f (get_or lasts 0 0) first
 own_named count (ComplexElement name f box) lasts first has =
     let content : ℕ = boxed_row box (get_or lasts 0 0) first in
-    let element : List Row = element_rows name None f (boxed_row box (get_or lasts 0 0) first) (first + box_size box) in
+    let element : List Row = element_rows name None no_trials f (boxed_row box (get_or lasts 0 0) first) (first + box_size box) in
     All-append (NamesWithin count) (box_rows box (get_or lasts 0 0)) element (box_all (NamesWithin count) (λ bits body. tt) box (get_or lasts 0 0)
     (λ own is. subst (HasBoxPrimitive count) is has))
-    (element_all (NamesWithin count) name None f content (first + box_size box) (framed_named count f content (first + box_size box)) tt)
-own_named count (SimpleElement name simple prim f prefix) lasts first has =
-    All-cons (NamesWithin count) (leaf_row prefix prim) (element_rows name (Some simple) f first (first + 1))
+    (element_all (NamesWithin count) name None no_trials f content (first + box_size box) (framed_named count f content (first + box_size box)) (tt, tt))
+own_named count (SimpleElement name simple prim f prefix tried) lasts first has =
+    All-cons (NamesWithin count) (leaf_row prefix prim) (element_rows name (Some simple) tried f first (first + 1))
     (leaf_holds (NamesWithin count) prefix prim has.0 (λ own is. (subst (HasPrefixPrimitive count) is has.1, has.0)))
-    (element_all (NamesWithin count) name (Some simple) f first (first + 1) (framed_named count f first (first + 1)) tt)
+    (element_all (NamesWithin count) name (Some simple) tried f first (first + 1) (framed_named count f first (first + 1)) has.2)
 
 -- each row is plain where there is neither fill nor a box nor a prefix
 unframed_plain : (f : Framing) (content first : ℕ) → has_fill f ≡ false → All IsPlainRow (framed f content first)
 unframed_plain f content first none = subst (All IsPlainRow) (sym (unframed f content first none)) (All-nil IsPlainRow)
 
-element_plain : (name : List ℕ) (simple : Option Simple) (f : Framing) (content first : ℕ) → has_fill f ≡ false
-    → All IsPlainRow (element_rows name simple f content first)
-element_plain name simple f content first none = element_all IsPlainRow name simple f content first (unframed_plain f content first none) tt
+element_plain : (name : List ℕ) (simple : Option Simple) (tried : Representations) (f : Framing) (content first : ℕ) → has_fill f ≡ false
+    → All IsPlainRow (element_rows name simple tried f content first)
+element_plain name simple tried f content first none = element_all IsPlainRow name simple tried f content first (unframed_plain f content first none) tt
 
 own_bare : (component : Component) (lasts : List ℕ) (first : ℕ) → IsBareComponent component → All IsPlainRow (own_rows component lasts first)
 own_bare (Sequence f) lasts first bare =
     All-cons IsPlainRow (Group lasts) (framed f first (first + 1)) tt (unframed_plain f first (first + 1) bare.unfilled)
 own_bare (Reference f) lasts first bare = unframed_plain f (get_or lasts 0 0) first bare.unfilled
-own_bare (ComplexElement name f Unbounded) lasts first bare = element_plain name None f (get_or lasts 0 0) (first + 0) bare.unfilled
+own_bare (ComplexElement name f Unbounded) lasts first bare = element_plain name None no_trials f (get_or lasts 0 0) (first + 0) bare.unfilled
 own_bare (ComplexElement name f (Sized bits)) lasts first bare = absurd (let none = bare.unboxed in cc)
 own_bare (ComplexElement name f (Prefixed prefix)) lasts first bare = absurd (let none = bare.unboxed in cc)
-own_bare (SimpleElement name simple prim f prefix) lasts first bare =
-    All-cons IsPlainRow (leaf_row prefix prim) (element_rows name (Some simple) f first (first + 1))
+own_bare (SimpleElement name simple prim f prefix tried) lasts first bare =
+    All-cons IsPlainRow (leaf_row prefix prim) (element_rows name (Some simple) tried f first (first + 1))
     (leaf_holds IsPlainRow prefix prim tt (λ own is. absurd (let none = bare.unprefixed in cc)))
-    (element_plain name (Some simple) f first (first + 1) bare.unfilled)
+    (element_plain name (Some simple) tried f first (first + 1) bare.unfilled)
 
 module _ (s : Schema) (ordered : HasOrder s.uses) (one : AreOfOne s.uses s.components s.refusals s.places) where
   pub rows_named : (count : ℕ) → All (HasPrimitive count) s.components → (c : ℕ) → c < length s.uses → IsAll (NamesWithin count) (rows_at s c)
@@ -245,11 +246,11 @@ last_of (b ∷ (d ∷ before)) x =
     ap (λ (n : ℕ). slice_get (b ∷ (d ∷ (before ++ x ∷ []))) n) same ∙ last_of (d ∷ before) x
 
 -- an element behind its content and fill
-element_last : (before : List Row) (f : Framing) (content first : ℕ) (name : List ℕ) (simple : Option Simple) → first ≡ length before → content + 1 ≡ first
-    → slice_get (before ++ element_rows name simple f content first) (length (before ++ element_rows name simple f content first) - 1)
-    ≡ Some (Elem name simple (length (before ++ element_rows name simple f content first) - 2))
-element_last before f content first name simple begins is =
-    let row : Row = Elem name simple (framed_row f content first) in
+element_last : (before : List Row) (f : Framing) (content first : ℕ) (name : List ℕ) (simple : Option Simple) (tried : Representations) → first ≡ length before → content + 1 ≡ first
+    → slice_get (before ++ element_rows name simple tried f content first) (length (before ++ element_rows name simple tried f content first) - 1)
+    ≡ Some (Elem name simple tried (length (before ++ element_rows name simple tried f content first) - 2))
+element_last before f content first name simple tried begins is =
+    let row : Row = Elem name simple tried (framed_row f content first) in
     let regrouped : before ++ (framed f content first ++ row ∷ []) ≡ (before ++ framed f content first) ++ row ∷ [] = sym (append_assoc before (framed f content first) (row ∷ [])) in
     let count : length (before ++ (framed f content first ++ row ∷ [])) ≡ length before + length (framed f content first ++ row ∷ [])
     = length-append before (framed f content first ++ row ∷ []) in
@@ -257,7 +258,7 @@ element_last before f content first name simple begins is =
     let same : framed_row f content first ≡ length (before ++ (framed f content first ++ row ∷ [])) - 2
     = omega (arith, begins, count, rest, framed_end f content first is, length_framed f content first) in
     ap (λ (rows : List Row). slice_get rows (length rows - 1)) regrouped
-    ∙ (last_of (before ++ framed f content first) row ∙ ap (λ (n : ℕ). Some (Elem name simple n)) same)
+    ∙ (last_of (before ++ framed f content first) row ∙ ap (λ (n : ℕ). Some (Elem name simple tried n)) same)
 
 turn_some : (f : ℕ → Numbered) (ps : List ℕ) → length ps ≡ 1 → All (λ p. 0 < length (f p 0)) ps → 0 < length (in_turn (map f ps) 0)
 turn_some f [] one all = absurd (omega (arith, one))
@@ -276,18 +277,18 @@ own_last (ComplexElement name framing box) f ps can some =
     let boxes : List Row = box_rows box (get_or (last_rows (map f ps) 0) 0 0) in
     let content : ℕ = boxed_row box (get_or (last_rows (map f ps) 0) 0 0) (0 + length (in_turn (map f ps) 0)) in
     let begin : ℕ = 0 + length (in_turn (map f ps) 0) + box_size box in
-    let regrouped : turn ++ (boxes ++ element_rows name None framing content begin) ≡ (turn ++ boxes) ++ element_rows name None framing content begin
-    = sym (append_assoc turn boxes (element_rows name None framing content begin)) in
+    let regrouped : turn ++ (boxes ++ element_rows name None no_trials framing content begin) ≡ (turn ++ boxes) ++ element_rows name None no_trials framing content begin
+    = sym (append_assoc turn boxes (element_rows name None no_trials framing content begin)) in
     let behind : last + 1 ≡ first = omega (arith, one_part f ps can, turn_some f ps can some) in
-    subst (λ (rows : List Row). slice_get rows (length rows - 1) ≡ Some (Elem name None (length rows - 2))) (sym regrouped)
-    (element_last (turn ++ boxes) framing content begin name None (omega (arith, length-append turn boxes, length_box box last)) (box_end box last first behind))
-own_last (SimpleElement name simple prim framing prefix) f ps can some =
+    subst (λ (rows : List Row). slice_get rows (length rows - 1) ≡ Some (Elem name None no_trials (length rows - 2))) (sym regrouped)
+    (element_last (turn ++ boxes) framing content begin name None no_trials (omega (arith, length-append turn boxes, length_box box last)) (box_end box last first behind))
+own_last (SimpleElement name simple prim framing prefix tried) f ps can some =
     let turn : List Row = in_turn (map f ps) 0 in
     let first : ℕ = 0 + length (in_turn (map f ps) 0) in
-    let own : List Row = element_rows name (Some simple) framing first (first + 1) in
+    let own : List Row = element_rows name (Some simple) tried framing first (first + 1) in
     let regrouped : turn ++ (leaf_row prefix prim ∷ own) ≡ (turn ++ leaf_row prefix prim ∷ []) ++ own = sym (append_assoc turn (leaf_row prefix prim ∷ []) own) in
-    subst (λ (rows : List Row). slice_get rows (length rows - 1) ≡ Some (Elem name (Some simple) (length rows - 2))) (sym regrouped)
-    (element_last (turn ++ leaf_row prefix prim ∷ []) framing first (first + 1) name (Some simple) (omega (arith, length-append turn (leaf_row prefix prim ∷ []))) refl)
+    subst (λ (rows : List Row). slice_get rows (length rows - 1) ≡ Some (Elem name (Some simple) tried (length rows - 2))) (sym regrouped)
+    (element_last (turn ++ leaf_row prefix prim ∷ []) framing first (first + 1) name (Some simple) tried (omega (arith, length-append turn (leaf_row prefix prim ∷ []))) refl)
 
 pub rows_end : (s : Schema) → HasOrder s.uses → AreOfOne s.uses s.components s.refusals s.places → (root : ℕ) → root < length s.uses
     → EndsWith (component_at s.components root) (rows_of s root)

@@ -4,7 +4,7 @@ use Rattle.std.proofs.lemmas.List.Elements.{All-tail}
 use Rattle.dfdl_order.specs.Parts.{uses_of}
 use Rattle.dfdl_order.proofs.Over.{value_step}
 use Rattle.dfdl_terms.specs.declared.row.Row.{Row}
-use Rattle.dfdl_rows.specs.Components.{Schema, component_at, CanHave, AreOfOne, HasOrder}
+use Rattle.dfdl_rows.specs.Components.{Schema, component_at, CanHave, AreOfOne, HasOrder, no_trials}
 use Rattle.dfdl_rows.specs.declared.component.Component.{Component}
 use Rattle.dfdl_rows.specs.declared.component.Component.TheVariants.{Sequence, Reference, ComplexElement, SimpleElement}
 use Rattle.dfdl_rows.specs.Sizes.{total, own_size, size_from, size_of}
@@ -30,15 +30,15 @@ length_own (Sequence framing) parts first = omega (arith, length_framed framing 
 length_own (Reference framing) parts first = length_framed framing (get_or parts 0 0) first
 length_own (ComplexElement name framing box) parts first =
     let content : ℕ = boxed_row box (get_or parts 0 0) first in
-    let element : List Row = element_rows name None framing (boxed_row box (get_or parts 0 0) first) (first + box_size box) in
+    let element : List Row = element_rows name None no_trials framing (boxed_row box (get_or parts 0 0) first) (first + box_size box) in
     omega (
       arith,
       length-append (box_rows box (get_or parts 0 0)) element,
       length_box box (get_or parts 0 0),
-      length_element name None framing content (first + box_size box),
+      length_element name None no_trials framing content (first + box_size box),
     )
-length_own (SimpleElement name simple prim framing prefix) parts first =
-    omega (arith, length_element name (Some simple) framing first (first + 1))
+length_own (SimpleElement name simple prim framing prefix tried) parts first =
+    omega (arith, length_element name (Some simple) tried framing first (first + 1))
 
 -- so many rows, wherever they begin
 abbrev pub IsLong : Numbered → ℕ → Type 0
@@ -74,7 +74,7 @@ some_own : (size : ℕ → ℕ) (component : Component) (ps : List ℕ) → CanH
 some_own size (Sequence framing) ps can all = omega arith
 some_own size (Reference framing) ps can all = let some : 0 < total (map size ps) = some_of_one size ps can all in omega (arith, some)
 some_own size (ComplexElement name framing box) ps can all = omega arith
-some_own size (SimpleElement name simple prim framing prefix) ps can all = omega arith
+some_own size (SimpleElement name simple prim framing prefix tried) ps can all = omega arith
 
 -- each component has a row
 pub some_rows : (s : Schema) → HasOrder s.uses → AreOfOne s.uses s.components s.refusals s.places → (c : ℕ) → c < length s.uses → 0 < size_of s c

@@ -5,7 +5,7 @@ use Rattle.dfdl_report.specs.declared.cause.LimitCause.{LimitCause}
 use Rattle.dfdl_report.specs.declared.cause.LimitCause.TheVariants.{Input, Window, Nodes, Text, Depth, Schema as SchemaSize, Schemas, Rows}
 use Rattle.dfdl_terms.specs.declared.row.Row.{Row}
 use Rattle.dfdl_terms.specs.declared.row.Row.TheVariants.{Elem}
-use Rattle.dfdl_rows.specs.Components.{Schema}
+use Rattle.dfdl_rows.specs.Components.{Schema, no_trials}
 use Rattle.dfdl_rows.specs.Refusals.{first_refusal}
 use Rattle.dfdl_rows.specs.Depths.{depth_of}
 use Rattle.dfdl_rows.specs.Sizes.{size_of}
@@ -66,5 +66,5 @@ pub record AreRowsOf (a : Asked) (rows : List Row) : Type 0 where
 abbrev pub EndsWith : Component → List Row → Type 0
 EndsWith (Sequence framing) rows = Unit {0}
 EndsWith (Reference framing) rows = Unit {0}
-EndsWith (ComplexElement name framing box) rows = slice_get rows (length rows - 1) ≡ Some (Elem name None (length rows - 2))
-EndsWith (SimpleElement name simple prim framing prefix) rows = slice_get rows (length rows - 1) ≡ Some (Elem name (Some simple) (length rows - 2))
+EndsWith (ComplexElement name framing box) rows = slice_get rows (length rows - 1) ≡ Some (Elem name None no_trials (length rows - 2))
+EndsWith (SimpleElement name simple prim framing prefix tried) rows = slice_get rows (length rows - 1) ≡ Some (Elem name (Some simple) tried (length rows - 2))

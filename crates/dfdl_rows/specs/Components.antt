@@ -3,7 +3,9 @@ use Rattle.std.specs.Prelude.{◌≡◌, ℕ, ◌<◌, List, [], length, get_or,
 use Rattle.dfdl_report.specs.declared.place.Place.{Place}
 use Rattle.dfdl_terms.specs.declared.framing.Framing.{Framing}
 use Rattle.dfdl_terms.specs.declared.prefix.Prefix.{Prefix}
+use Rattle.dfdl_terms.specs.declared.representations.Representations.{Representations}
 use Rattle.dfdl_terms.specs.Framing.{no_fill}
+use Rattle.dfdl_terms.specs.Rows.{AreWithin}
 use Rattle.dfdl_order.specs.Parts.{uses_of, IsOrder, Places}
 use Rattle.dfdl_rows.specs.declared.component.Component.{Component}
 use Rattle.dfdl_rows.specs.declared.component.Component.TheVariants.{Sequence, Reference, ComplexElement, SimpleElement}
@@ -11,6 +13,10 @@ use Rattle.dfdl_rows.specs.declared.component.ContentBox.{ContentBox}
 use Rattle.dfdl_rows.specs.declared.component.ContentBox.TheVariants.{Unbounded, Sized, Prefixed}
 use Rattle.dfdl_rows.specs.Fill.{has_fill}
 use Rattle.dfdl_rows.specs.declared.refusal.Refusal.{Refusal}
+
+-- no representation is tried before the normal one
+abbrev pub no_trials : Representations
+no_trials = record { nil = None; empty = None; are_several = false }
 
 -- by a component's number: its parts in schema order, what it is, the refusal of its own, if it has one, and where it begins
 pub record Schema : Type 0 where
@@ -33,7 +39,7 @@ abbrev pub CanHave : Component → List ℕ → Type 0
 CanHave (Sequence framing) parts = Unit {0}
 CanHave (Reference framing) parts = length parts ≡ 1
 CanHave (ComplexElement name framing box) parts = length parts ≡ 1
-CanHave (SimpleElement name simple prim framing prefix) parts = parts ≡ []
+CanHave (SimpleElement name simple prim framing prefix tried) parts = parts ≡ []
 
 -- the lists are those of one schema
 pub record AreOfOne (uses : List (List ℕ)) (components : List Component) (refusals : List (Option Refusal)) (places : List Place) : Type 0 where
@@ -57,33 +63,34 @@ HasBoxPrimitive count Unbounded = Unit {0}
 HasBoxPrimitive count (Sized bits) = Unit {0}
 HasBoxPrimitive count (Prefixed prefix) = prefix.prim < count
 
--- the primitives of a component are some of so many: that of a simple element, and those of length prefixes
+-- the primitives of a component are some of so many: those of a simple element, whose representations are tried by some too,
+-- and those of length prefixes
 abbrev pub HasPrimitive : ℕ → Component → Type 0
 HasPrimitive count (Sequence framing) = Unit {0}
 HasPrimitive count (Reference framing) = Unit {0}
 HasPrimitive count (ComplexElement name framing box) = HasBoxPrimitive count box
-HasPrimitive count (SimpleElement name simple prim framing prefix) = (prim < count) × HasPrefixPrimitive count prefix
+HasPrimitive count (SimpleElement name simple prim framing prefix tried) = (prim < count) × HasPrefixPrimitive count prefix × AreWithin count tried
 
 -- the fill around the content of a component
 abbrev pub framing_in : Component → Framing
 framing_in (Sequence framing) = framing
 framing_in (Reference framing) = framing
 framing_in (ComplexElement name framing box) = framing
-framing_in (SimpleElement name simple prim framing prefix) = framing
+framing_in (SimpleElement name simple prim framing prefix tried) = framing
 
 -- the box around the content of a component
 abbrev pub box_in : Component → ContentBox
 box_in (Sequence framing) = Unbounded
 box_in (Reference framing) = Unbounded
 box_in (ComplexElement name framing box) = box
-box_in (SimpleElement name simple prim framing prefix) = Unbounded
+box_in (SimpleElement name simple prim framing prefix tried) = Unbounded
 
 -- the length prefix before the content of a simple element, where there is one
 abbrev pub prefix_in : Component → Option Prefix
 prefix_in (Sequence framing) = None
 prefix_in (Reference framing) = None
 prefix_in (ComplexElement name framing box) = None
-prefix_in (SimpleElement name simple prim framing prefix) = prefix
+prefix_in (SimpleElement name simple prim framing prefix tried) = prefix
 
 -- there is neither fill nor a box around the content of a component, and no length prefix before it
 pub record IsBareComponent (component : Component) : Type 0 where

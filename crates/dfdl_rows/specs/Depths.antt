@@ -10,7 +10,7 @@ abbrev pub own_depth : Component → ℕ
 own_depth (Sequence framing) = 0
 own_depth (Reference framing) = 0
 own_depth (ComplexElement name framing box) = 1
-own_depth (SimpleElement name simple prim framing prefix) = 1
+own_depth (SimpleElement name simple prim framing prefix tried) = 1
 
 -- the greatest of some numbers
 abbrev pub greatest : List ℕ → ℕ

@@ -14,7 +14,7 @@ abbrev pub end_by : Component → ℕ → List ℕ → ℕ
 end_by (Sequence framing) c of_parts = c
 end_by (Reference framing) c of_parts = if has_fill framing then c else get_or of_parts 0 c
 end_by (ComplexElement name framing box) c of_parts = c
-end_by (SimpleElement name simple prim framing prefix) c of_parts = c
+end_by (SimpleElement name simple prim framing prefix tried) c of_parts = c
 
 -- the same, by a component's number
 abbrev pub end_from : List Component → ℕ → List ℕ → ℕ

@@ -1,6 +1,7 @@
 -- Where the values of the simple elements of rows are read.
 use Rattle.std.specs.Prelude.{◌≡◌, ℕ, List, Option, None, Some, slice_get}
 use Rattle.dfdl_forms.specs.declared.simple.Simple.{Simple}
+use Rattle.dfdl_terms.specs.declared.representations.Representations.{Representations}
 use Rattle.dfdl_terms.specs.Leaves.{ReadsBy}
 use Rattle.dfdl_terms.specs.declared.framing.Framing.{Framing}
 use Rattle.dfdl_terms.specs.declared.prefix.Prefix.{Prefix}
@@ -12,18 +13,18 @@ use Rattle.dfdl_rows.specs.declared.component.Component.TheVariants.{SimpleEleme
 -- one of the components is a simple element of this type, read by the primitive of this number, with a length prefix or without
 abbrev pub IsAmong : List Component → Simple → ℕ → Type 0
 IsAmong components simple prim =
-    (number : ℕ) × (name : List ℕ) × (framing : Framing) × (prefix : Option Prefix)
-    × (slice_get components number ≡ Some (SimpleElement name simple prim framing prefix))
+    (number : ℕ) × (name : List ℕ) × (framing : Framing) × (prefix : Option Prefix) × (tried : Representations)
+    × (slice_get components number ≡ Some (SimpleElement name simple prim framing prefix tried))
 
 -- the body of each simple element reads a value by the primitive of a component of its type
 abbrev pub HaveLeaves : List Component → List Row → Type 0
-HaveLeaves components rows = (row : ℕ) (name : List ℕ) (simple : Simple) (body : ℕ)
-    → slice_get rows row ≡ Some (Elem name (Some simple) body) → ReadsBy rows (IsAmong components simple) body
+HaveLeaves components rows = (row : ℕ) (name : List ℕ) (simple : Simple) (tried : Representations) (body : ℕ)
+    → slice_get rows row ≡ Some (Elem name (Some simple) tried body) → ReadsBy rows (IsAmong components simple) body
 
 -- there is a row, and it is a leaf without a prefix, of the primitive of a component of the type
 abbrev pub IsLeafOf : List Component → Simple → Option Row → Type 0
 IsLeafOf components simple (Some (Leaf prim)) = IsAmong components simple prim
-IsLeafOf components simple (Some (Elem name other body)) = ⊥
+IsLeafOf components simple (Some (Elem name other tried body)) = ⊥
 IsLeafOf components simple (Some (Group children)) = ⊥
 IsLeafOf components simple (Some (Skip bits)) = ⊥
 IsLeafOf components simple (Some (Align bits)) = ⊥
@@ -34,5 +35,5 @@ IsLeafOf components simple None = ⊥
 
 -- the body of each simple element is itself the leaf of a component of its type
 abbrev pub HaveBareLeaves : List Component → List Row → Type 0
-HaveBareLeaves components rows = (row : ℕ) (name : List ℕ) (simple : Simple) (body : ℕ)
-    → slice_get rows row ≡ Some (Elem name (Some simple) body) → IsLeafOf components simple (slice_get rows body)
+HaveBareLeaves components rows = (row : ℕ) (name : List ℕ) (simple : Simple) (tried : Representations) (body : ℕ)
+    → slice_get rows row ≡ Some (Elem name (Some simple) tried body) → IsLeafOf components simple (slice_get rows body)

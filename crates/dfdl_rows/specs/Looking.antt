@@ -17,14 +17,14 @@ abbrev pub is_element : Component → Bool
 is_element (Sequence framing) = false
 is_element (Reference framing) = false
 is_element (ComplexElement name framing box) = true
-is_element (SimpleElement name simple prim framing prefix) = true
+is_element (SimpleElement name simple prim framing prefix tried) = true
 
 -- a component is none
 abbrev pub is_plain : Component → Bool
 is_plain (Sequence framing) = true
 is_plain (Reference framing) = true
 is_plain (ComplexElement name framing box) = false
-is_plain (SimpleElement name simple prim framing prefix) = false
+is_plain (SimpleElement name simple prim framing prefix tried) = false
 
 -- all of these
 abbrev pub are_all : List Bool → Bool

@@ -55,7 +55,7 @@ abbrev pub at_component : Component → Place → Look → Look
 at_component (Sequence framing) place parts = parts
 at_component (Reference framing) place parts = parts
 at_component (ComplexElement name framing box) place parts = at_element place name parts
-at_component (SimpleElement name simple prim framing prefix) place parts = at_element place name parts
+at_component (SimpleElement name simple prim framing prefix tried) place parts = at_element place name parts
 
 -- the refusal of a component's own
 abbrev pub own_refusal : List (Option Refusal) → ℕ → Option Refusal

@@ -5,9 +5,10 @@ use Rattle.dfdl_forms.specs.declared.simple.Simple.{Simple}
 use Rattle.dfdl_order.specs.Folds.{value_by}
 use Rattle.dfdl_terms.specs.declared.framing.Framing.{Framing}
 use Rattle.dfdl_terms.specs.declared.prefix.Prefix.{Prefix}
+use Rattle.dfdl_terms.specs.declared.representations.Representations.{Representations}
 use Rattle.dfdl_terms.specs.declared.row.Row.{Row}
 use Rattle.dfdl_terms.specs.declared.row.Row.TheVariants.{Leaf, Elem, Group, PrefixedLeaf}
-use Rattle.dfdl_rows.specs.Components.{Schema, component_at}
+use Rattle.dfdl_rows.specs.Components.{Schema, component_at, no_trials}
 use Rattle.dfdl_rows.specs.Boxes.{box_rows, boxed_row, box_size}
 use Rattle.dfdl_rows.specs.Fill.{framed, framed_row}
 use Rattle.dfdl_rows.specs.declared.component.Component.{Component}
@@ -24,9 +25,9 @@ leaf_row None prim = Leaf prim
 leaf_row (Some prefix) prim = PrefixedLeaf prefix prim
 
 -- the rows of an element around the row of its content, from a number on: those of fill around it, and its own
-abbrev pub element_rows : List ℕ → Option Simple → Framing → ℕ → ℕ → List Row
-element_rows name simple framing content first =
-    framed framing content first ++ Elem name simple (framed_row framing content first) ∷ []
+abbrev pub element_rows : List ℕ → Option Simple → Representations → Framing → ℕ → ℕ → List Row
+element_rows name simple tried framing content first =
+    framed framing content first ++ Elem name simple tried (framed_row framing content first) ∷ []
 
 -- the rows of a component's own, from a number on, where these are the last rows of its parts: that of its content, which is a
 -- part's for a reference and a complex element, that of a box around it, then those of fill, and for an element its own
@@ -35,9 +36,9 @@ own_rows (Sequence framing) parts first = Group parts ∷ framed framing first (
 own_rows (Reference framing) parts first = framed framing (get_or parts 0 0) first
 own_rows (ComplexElement name framing box) parts first =
     box_rows box (get_or parts 0 0)
-    ++ element_rows name None framing (boxed_row box (get_or parts 0 0) first) (first + box_size box)
-own_rows (SimpleElement name simple prim framing prefix) parts first =
-    leaf_row prefix prim ∷ element_rows name (Some simple) framing first (first + 1)
+    ++ element_rows name None no_trials framing (boxed_row box (get_or parts 0 0) first) (first + box_size box)
+own_rows (SimpleElement name simple prim framing prefix tried) parts first =
+    leaf_row prefix prim ∷ element_rows name (Some simple) tried framing first (first + 1)
 
 -- the rows of parts, one part after the other
 abbrev pub in_turn : List Numbered → Numbered

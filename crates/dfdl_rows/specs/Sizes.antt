@@ -12,7 +12,7 @@ abbrev pub own_size : Component → ℕ
 own_size (Sequence framing) = 1 + framing_size framing
 own_size (Reference framing) = framing_size framing
 own_size (ComplexElement name framing box) = 1 + box_size box + framing_size framing
-own_size (SimpleElement name simple prim framing prefix) = 2 + framing_size framing
+own_size (SimpleElement name simple prim framing prefix tried) = 2 + framing_size framing
 
 -- numbers added up
 abbrev pub total : List ℕ → ℕ

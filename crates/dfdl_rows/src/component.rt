@@ -1,5 +1,5 @@
 use dfdl_forms::Simple;
-use dfdl_terms::{Framing, Prefix};
+use dfdl_terms::{Framing, Prefix, Representations};
 use dfdl_value::TextValue;
 
 /// The box around a content ('Lengths').
@@ -47,5 +47,7 @@ pub enum Component {
         framing: Framing,
         /// The length prefix before its content, if it has one ('Lengths').
         prefix: Option<Prefix>,
+        /// The representations that are tried before its normal one ('DFDL Data Syntax Grammar').
+        tried: Representations,
     },
 }

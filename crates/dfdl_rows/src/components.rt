@@ -1,6 +1,7 @@
 // The components of a schema, with an order of them.
 ghost use Rattle.std.specs.Prelude.{◌≡◌, ◌<◌, ◌↔◌, length, All, IsTrue, false};
 ghost use Rattle.dfdl_order.specs.Parts.{uses_of, IsOrder};
+ghost use Rattle.dfdl_terms.specs.Rows.{AreWithin, IsWithin};
 ghost use Rattle.dfdl_rows.specs.Components.{AreOfOne, CanHave, HasOrder, component_at, place_at};
 ghost use Rattle.dfdl_rows.specs.Refusals.{own_refusal};
 ghost use Rattle.dfdl_rows.specs.Components.{HasPrimitive, HasBoxPrimitive, HasPrefixPrimitive};
@@ -8,7 +9,7 @@ ghost use Rattle.dfdl_rows.specs.Components.{HasPrimitive, HasBoxPrimitive, HasP
 use crate::{Component, ContentBox, Refusal};
 use dfdl_order::{Order, Uses};
 use dfdl_report::Place;
-use dfdl_terms::Prefix;
+use dfdl_terms::{Prefix, Representations};
 use std::marker::Model;
 
 /// The components of a schema by number: the parts of each one in schema order, what it is, the refusal
@@ -168,9 +169,33 @@ fn has_primitive(component: &Component, count: u32) -> bool
         Component::Sequence { .. } => true,
         Component::Reference { .. } => true,
         Component::ComplexElement { content_box, .. } => has_box_primitive(*content_box, count),
-        Component::SimpleElement { prim, prefix, .. } => {
-            *prim < count && has_prefix_primitive(*prefix, count)
+        Component::SimpleElement {
+            prim,
+            prefix,
+            tried,
+            ..
+        } => {
+            *prim < count
+                && has_prefix_primitive(*prefix, count)
+                && has_tried_primitives(*tried, count)
         }
+    }
+}
+
+// Whether the primitives of the representations that are tried are some of so many.
+fn has_tried_primitives(tried: Representations, count: u32) -> bool
+    ensures { IsTrue result ↔ AreWithin count tried }
+{
+    is_within(tried.nil, count) && is_within(tried.empty, count)
+}
+
+// Whether a primitive, where there is one, is one of so many.
+fn is_within(prim: Option<u32>, count: u32) -> bool
+    ensures { IsTrue result ↔ IsWithin count prim }
+{
+    match prim {
+        Some(prim) => prim < count,
+        None => true,
     }
 }
 

@@ -31,3 +31,5 @@ pub use rows::{rows_of, terms_of};
 mod prefix_tests;
 #[cfg(test)]
 mod tests;
+#[cfg(test)]
+mod tried_tests;

@@ -1,5 +1,5 @@
 // Length prefixes before the contents of simple elements and before boxes.
-use super::tests::{Gathered, are_shown, bare_sequence, fill, named};
+use super::tests::{Gathered, NORMAL_ALONE, are_shown, bare_sequence, fill, named};
 use super::*;
 use dfdl_forms::Simple;
 use dfdl_terms::{Framing, LengthUnit, Prefix};
@@ -19,6 +19,7 @@ fn simple_with(alloc: Global, framing: Framing, prefix: Prefix) -> Result<Compon
         prim: 0,
         framing,
         prefix: Some(prefix),
+        tried: NORMAL_ALONE,
     })
 }
 

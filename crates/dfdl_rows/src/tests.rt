@@ -6,7 +6,9 @@ use super::*;
 use dfdl_forms::{BitOrder, ByteOrder, IntForm, Simple};
 use dfdl_order::{Uses, order_of};
 use dfdl_report::{LimitCause, Place, SchemaCause};
-use dfdl_terms::{Framing, LengthUnit, Prefix, Primitive, Row, RowId, Tables, Terms};
+use dfdl_terms::{
+    Framing, LengthUnit, Prefix, Primitive, Representations, Row, RowId, Tables, Terms,
+};
 use dfdl_value::TextValue;
 use std::alloc::{AllocError, Global};
 use std::test::Fail;
@@ -94,6 +96,13 @@ fn simple(alloc: Global) -> Result<Component, AllocError> {
     named(alloc, "a")
 }
 
+// No representation is tried before the normal one.
+pub(super) const NORMAL_ALONE: Representations = Representations {
+    nil: None,
+    empty: None,
+    are_several: false,
+};
+
 // A simple element of this name.
 pub(super) fn named(alloc: Global, name: &str) -> Result<Component, AllocError> {
     Ok(Component::SimpleElement {
@@ -102,10 +111,12 @@ pub(super) fn named(alloc: Global, name: &str) -> Result<Component, AllocError> 
         prim: 0,
         framing: Framing::none(),
         prefix: None,
+        tried: NORMAL_ALONE,
     })
 }
 
-fn complex(alloc: Global) -> Result<Component, AllocError> {
+// A complex element.
+pub(super) fn complex(alloc: Global) -> Result<Component, AllocError> {
     Ok(Component::ComplexElement {
         name: TextValue::from_str(alloc, "r")?,
         framing: Framing::none(),
@@ -290,6 +301,7 @@ fn filled(alloc: Global) -> Result<Gathered, RowsFault> {
         prim: 0,
         framing: fill(1, 8, 2),
         prefix: None,
+        tried: NORMAL_ALONE,
     };
     gathered.push(element, &[])?;
     Ok(gathered)

@@ -14,10 +14,17 @@ use crate::ends::ends;
 use crate::fill::push_framed;
 use crate::{Component, Components};
 use dfdl_forms::Simple;
-use dfdl_terms::{Prefix, Row, RowId, RowList};
+use dfdl_terms::{Prefix, Representations, Row, RowId, RowList};
 use dfdl_value::TextValue;
 use std::alloc::{AllocError, Global};
 use std::collections::VecDeque;
+
+// No representation is tried before the normal one.
+const NO_TRIALS: Representations = Representations {
+    nil: None,
+    empty: None,
+    are_several: false,
+};
 
 // What is to be done next: all rows of a component, or the rows of its own behind those of its parts.
 #[derive(Clone, Copy, Drop)]
@@ -190,7 +197,7 @@ fn push_own(
         } => {
             let boxed = push_boxed(rows, *content_box, first_of(parts))?;
             let body = push_framed(alloc, rows, *framing, boxed)?;
-            push_element(alloc, rows, name, None, body)
+            push_element(alloc, rows, name, None, NO_TRIALS, body)
         }
         Component::SimpleElement {
             name,
@@ -198,11 +205,12 @@ fn push_own(
             prim,
             framing,
             prefix,
+            tried,
         } => {
             let content = RowId::new(rows.len() as u32);
             rows.push(leaf_row(*prefix, *prim))?;
             let body = push_framed(alloc, rows, *framing, content)?;
-            push_element(alloc, rows, name, Some(*simple), body)
+            push_element(alloc, rows, name, Some(*simple), *tried, body)
         }
     }
 }
@@ -223,12 +231,18 @@ fn push_element(
     rows: &mut Vec<Row>,
     name: &TextValue,
     simple: Option<Simple>,
+    tried: Representations,
     body: RowId,
 ) -> Result<(), AllocError>
-    ensures { OnOk result (rows.new.items ≡ rows.old.items ++ Elem name.now simple body ∷ []) }
+    ensures { OnOk result (rows.new.items ≡ rows.old.items ++ Elem name.now simple tried body ∷ []) }
 {
     let name = name.copy(alloc)?;
-    rows.push(Row::Elem { name, simple, body })?;
+    rows.push(Row::Elem {
+        name,
+        simple,
+        tried,
+        body,
+    })?;
     Ok(())
 }
 

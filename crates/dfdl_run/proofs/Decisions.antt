@@ -2,13 +2,17 @@
 use Rattle.std.proofs.Common.{◌≡◌, ◌⊎◌, ℕ, ◌≤◌, List, length, Option, None, Some}
 use Rattle.std.proofs.Common.{IfSome, Err, refl, sym, subst, inl, inr}
 use Rattle.dfdl_edge.specs.Source.{SourceSeen}
-use Rattle.dfdl_edge.specs.Told.{IsAll}
+use Rattle.dfdl_edge.specs.declared.whole.SourceFault.{SourceFault}
+use Rattle.dfdl_edge.specs.declared.whole.SourceFault.TheVariants as kind
+use Rattle.dfdl_edge.specs.Faults.{Rose}
+use Rattle.dfdl_edge.specs.Told.{IsAll, IsLonger}
 use Rattle.dfdl_edge.specs.Whole.{IsUsedUp}
 use Rattle.dfdl_terms.specs.Rows.{Table}
 use Rattle.dfdl_grammar.specs.declared.end.End.{End as DocumentEnd}
 use Rattle.dfdl_grammar.specs.declared.end.End.TheVariants.{Done as IsDone, Failed as Fails, Stopped}
 use Rattle.dfdl_grammar.specs.States.{State}
 use Rattle.dfdl_grammar.specs.Documents.{document}
+use Rattle.dfdl_run.specs.declared.stop.Stop.{Stop}
 use Rattle.dfdl_run.specs.declared.stop.Stop.TheVariants.{OutOfMemory}
 use Rattle.dfdl_run.specs.declared.command.Verb.{Verb}
 use Rattle.dfdl_run.specs.declared.command.Verb.TheVariants.{Parse, Unparse}
@@ -16,6 +20,7 @@ use Rattle.dfdl_run.specs.Answer.{End}
 use Rattle.dfdl_run.specs.Decided.{IsAnswered, IsMeant, IsReadEnd}
 use Rattle.dfdl_run.specs.Expects.{most_input}
 use Rattle.dfdl_run.specs.Meaning.{document_end, end_of, limits}
+use Rattle.dfdl_run.specs.Sources.{source_stop}
 
 -- what holds of these bytes, where they are all that is told
 told : (P : List ℕ → Type 0) (file : Option (List ℕ)) (bytes : List ℕ) → IsAll file bytes → P bytes
@@ -60,3 +65,18 @@ read_end verb table before after bytes end (inr is) all fits used still =
       used_up = used;
       still = still;
     }))
+
+-- what stops a run by a fault of the reading
+fault_read : (verb : Verb) (table : Table) (before after : SourceSeen) (fault : SourceFault)
+    → (fault ≡ kind.TooLarge → IsLonger before.left most_input) → (fault ≡ kind.Failed → Rose before.faults after.faults)
+    → ((fault ≡ kind.Failed → ⊥) → after.faults ≡ before.faults) → IsReadEnd verb table before after (Err (source_stop fault))
+fault_read verb table before after kind.Failed long rose still = rose refl
+fault_read verb table before after kind.TooLarge long rose still =
+    inl (record { cause_is = refl; quantity_is = refl; long = long refl; still = still (λ is. cc) })
+fault_read verb table before after kind.OutOfMemory long rose still = still (λ is. cc)
+
+pub fault_end : (verb : Verb) (table : Table) (before after : SourceSeen) (stop : Stop) (fault : SourceFault) → stop ≡ source_stop fault
+    → (fault ≡ kind.TooLarge → IsLonger before.left most_input) → (fault ≡ kind.Failed → Rose before.faults after.faults)
+    → ((fault ≡ kind.Failed → ⊥) → after.faults ≡ before.faults) → IsReadEnd verb table before after (Err stop)
+fault_end verb table before after stop fault is long rose still =
+    subst (λ (s : Stop). IsReadEnd verb table before after (Err s)) (sym is) (fault_read verb table before after fault long rose still)

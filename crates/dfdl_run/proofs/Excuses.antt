@@ -1,11 +1,10 @@
 -- Which statuses come before limits, and before what data comes to.
-use Rattle.std.proofs.Common.{◌≡◌, ℕ, ◌+◌, ◌*◌, nat_le, true, false, IsTrue, List, length, Ok, Err, refl}
+use Rattle.std.proofs.Common.{ℕ, ◌+◌, ◌*◌, nat_le, true, false, IsTrue, List, length, Err, refl}
 use Rattle.dfdl_report.specs.declared.cause.LimitCause.{LimitCause}
 use Rattle.dfdl_report.specs.declared.cause.LimitCause.TheVariants.{Input, Window, Nodes, Text, Depth, Schema, Schemas, Rows}
 use Rattle.dfdl_terms.specs.Rows.{Table}
 use Rattle.dfdl_grammar.specs.declared.end.End.{End as DocumentEnd}
 use Rattle.dfdl_grammar.specs.declared.end.End.TheVariants.{Done as IsDone, Failed as Fails, Stopped}
-use Rattle.dfdl_grammar.specs.Outcomes.{Outcome}
 use Rattle.dfdl_grammar.specs.States.{State}
 use Rattle.dfdl_grammar.specs.Documents.{document}
 use Rattle.dfdl_run.proofs.Stops.{StopsByData, document-stops}

@@ -1,10 +1,12 @@
 pub mod Decisions
 pub mod Ends
 pub mod Excuses
+pub mod Feeds
 pub mod Loads
 pub mod Parses
 pub mod PieceLemmas
 pub mod Rankings
+pub mod Rests
 pub mod Stops
 pub mod Tables
 pub mod Words

@@ -30,7 +30,7 @@ use Rattle.dfdl_run.specs.declared.command.Verb.TheVariants.{Parse, Unparse}
 use Rattle.dfdl_run.specs.Answer.{End}
 use Rattle.dfdl_run.specs.Command.{Order, Orders, IsCommand, verb_word}
 use Rattle.dfdl_run.specs.Decided.{Decided, by_words, by_schema, by_data, IsDescribed, IsLoadFault}
-use Rattle.dfdl_run.specs.Decided.{IsMeant, IsPastLimit, IsReadEnd}
+use Rattle.dfdl_run.specs.Decided.{IsMeant, IsReadEnd}
 use Rattle.dfdl_run.specs.Expects.{Expects, no_command, no_documents, no_schema, no_rows, long_input}
 use Rattle.dfdl_run.specs.Expects.{meant, is_excused, most_input}
 use Rattle.dfdl_run.specs.Meaning.{end_of}

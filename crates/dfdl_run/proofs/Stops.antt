@@ -8,6 +8,7 @@ use Rattle.dfdl_looks.specs.Looks.{seen_in}
 use Rattle.dfdl_looks.specs.Tallies.{nothing}
 use Rattle.dfdl_terms.specs.Rows.{Table}
 use Rattle.dfdl_terms.specs.declared.row.Primitive.{Primitive}
+use Rattle.dfdl_terms.specs.declared.representations.Representations.{Representations}
 use Rattle.dfdl_terms.specs.declared.row.Row.{Row}
 use Rattle.dfdl_terms.specs.declared.text.TextSize.{TextSize}
 use Rattle.dfdl_terms.specs.declared.row.Row.TheVariants.{Leaf, Elem, Group, Skip, Align, Boxed, PrefixedLeaf, PrefixedBox}
@@ -17,12 +18,14 @@ use Rattle.dfdl_region.specs.Nodes.{with_content}
 use Rattle.dfdl_grammar.specs.declared.end.End.{End}
 use Rattle.dfdl_grammar.specs.declared.end.End.TheVariants.{Done, Failed, Stopped}
 use Rattle.dfdl_grammar.specs.declared.limits.Limits.{Limits}
-use Rattle.dfdl_grammar.specs.States.{Input, State, anchor, anchor_at}
+use Rattle.dfdl_grammar.specs.States.{Input, State, anchor, anchor_at, read_by}
 use Rattle.dfdl_grammar.specs.Outcomes.{Outcome, ended, follow, spend, then_do}
-use Rattle.dfdl_grammar.specs.Leaves.{Find, Fails, Finds, FindsOctets, FindsText, content_begins, has_room, hold, land, leaf, program}
+use Rattle.dfdl_grammar.specs.Leaves.{Find, Fails, Finds, FindsOctets, FindsText, content_begins, has_room, land, leaf, program}
 use Rattle.dfdl_grammar.specs.Framing.{aligned, fill_to, has_byte, pass_to, passed}
-use Rattle.dfdl_grammar.specs.Boxes.{boxed, bytes_up_to, pass_bytes, past_byte, rest as rest_of, unboxed}
-use Rattle.dfdl_grammar.specs.Elements.{begun, close, element, has_elements}
+use Rattle.dfdl_grammar.specs.Boxes.{bytes_up_to, pass_bytes, past_byte, rest as rest_of, unboxed}
+use Rattle.dfdl_grammar.specs.Elements.{attempted, begun, close, has_elements}
+use Rattle.dfdl_grammar.specs.Marks.{back, marked}
+use Rattle.dfdl_grammar.specs.Representations.{Attempt, or_else, represented, the_last, then_empty, then_nil, then_normal}
 use Rattle.dfdl_grammar.specs.Prefixes.{behind_prefix, bits_of_units, land_prefix, leaf_of, prefixed, resized, size_of, sized_leaf, units_told}
 use Rattle.dfdl_grammar.specs.Rows.{below, group, meaning, row, row_at}
 use Rattle.dfdl_grammar.specs.Documents.{document}
@@ -127,13 +130,48 @@ close-stops Done outer complex o own = own
 close-stops (Failed cause bit) outer complex o own = own
 close-stops (Stopped cause quantity) outer complex o own = own
 
-element-stops : (input : Input) (id : ℕ) (complex : Bool) (body : State → Outcome)
-    → ((s : State) → StopsByData (body s).end) → (s : State) → StopsByData (element input id complex body s).end
-element-stops input id complex body each s = elim (nat_lt (length s.nodes) input.limits.nodes) as (λ (b : Bool).
-    StopsByData (let whole : Outcome = (if b then (let o : Outcome = body (begun id s) in close o.end s.inside complex o)
+attempted-stops : (input : Input) (id : ℕ) (complex : Bool) (body : State → Outcome)
+    → ((s : State) → StopsByData (body s).end) → (instead : Option ℕ) (s : State) → StopsByData (attempted input id complex body instead s).end
+attempted-stops input id complex body each instead s = elim (nat_lt (length s.nodes) input.limits.nodes) as (λ (b : Bool).
+    StopsByData (let whole : Outcome = (if b then (let o : Outcome = body (begun id instead s) in close o.end s.inside complex o)
     else ended (Stopped Nodes input.limits.nodes) s) in whole.end)) [
-      | true ↦ close-stops (body (begun id s)).end s.inside complex (body (begun id s)) (each (begun id s))
+      | true ↦ close-stops (body (begun id instead s)).end s.inside complex (body (begun id instead s)) (each (begun id instead s))
       | false ↦ tt
+    ]
+
+last-stops : (end : End) (o : Outcome) → StopsByData o.end → StopsByData (the_last end o).end
+last-stops Done o own = own
+last-stops (Failed cause bit) o own = own
+last-stops (Stopped cause quantity) o own = own
+
+else-stops : (end : End) (o : Outcome) (next : State → Outcome) → StopsByData o.end → ((s : State) → StopsByData (next s).end)
+    → StopsByData (or_else end o next).end
+else-stops Done o next own after = own
+else-stops (Failed cause bit) o next own after = after (back o.state)
+else-stops (Stopped cause quantity) o next own after = own
+
+-- each representation stops by data
+abbrev AllStop : Attempt → Type 0
+AllStop attempt = (instead : Option ℕ) (s : State) → StopsByData (attempt instead s).end
+
+normal-stops : (attempt : Attempt) → AllStop attempt → (s : State) → StopsByData (then_normal attempt s).end
+normal-stops attempt each s = last-stops (attempt None s).end (attempt None s) (each None s)
+
+empty-stops : (empty : Option ℕ) (attempt : Attempt) → AllStop attempt → (s : State) → StopsByData (then_empty empty attempt s).end
+empty-stops None attempt each s = normal-stops attempt each s
+empty-stops (Some prim) attempt each s =
+    else-stops (attempt (Some prim) s).end (attempt (Some prim) s) (then_normal attempt) (each (Some prim) s) (normal-stops attempt each)
+
+nil-stops : (nil empty : Option ℕ) (attempt : Attempt) → AllStop attempt → (s : State) → StopsByData (then_nil nil empty attempt s).end
+nil-stops None empty attempt each s = empty-stops empty attempt each s
+nil-stops (Some prim) empty attempt each s =
+    else-stops (attempt (Some prim) s).end (attempt (Some prim) s) (then_empty empty attempt) (each (Some prim) s) (empty-stops empty attempt each)
+
+represented-stops : (tried : Representations) (attempt : Attempt) → AllStop attempt → (s : State) → StopsByData (represented tried attempt s).end
+represented-stops tried attempt each s = elim tried.are_several as (λ (b : Bool).
+    StopsByData (let whole : Outcome = (if b then then_nil tried.nil tried.empty attempt (marked s) else attempt None s) in whole.end)) [
+      | true ↦ nil-stops tried.nil tried.empty attempt each (marked s)
+      | false ↦ each None s
     ]
 
 unboxed-stops : (end : End) (outer : ℕ) (o : Outcome) → StopsByData o.end → StopsByData (unboxed end outer o).end
@@ -193,9 +231,9 @@ sized-stops input (Some primitive) size s = resized-stops input (resized size pr
 row-stops : (input : Input) (table : Table) (child : ℕ → State → Outcome) → ((id : ℕ) (s : State) → StopsByData (child id s).end)
     → (id : ℕ) (o : Option Row) (s : State) → StopsByData (row input table child id o s).end
 row-stops input table child each id None s = tt
-row-stops input table child each id (Some (Leaf prim)) s = leaf-stops input (slice_get table.primitives prim) s
-row-stops input table child each id (Some (Elem name simple body)) s =
-    element-stops input id (has_elements simple) (child body) (each body) s
+row-stops input table child each id (Some (Leaf prim)) s = leaf-stops input (slice_get table.primitives (read_by s.instead prim)) s
+row-stops input table child each id (Some (Elem name simple tried body)) s =
+    represented-stops tried (attempted input id (has_elements simple) (child body)) (attempted-stops input id (has_elements simple) (child body) (each body)) s
 row-stops input table child each id (Some (Group children)) s = group-stops child each children s
 row-stops input table child each id (Some (Skip bits)) s = pass-stops input (s.at + bits) s
 row-stops input table child each id (Some (Align bits)) s = pass-stops input (aligned bits s.at) s
@@ -203,7 +241,7 @@ row-stops input table child each id (Some (Boxed bits body)) s =
     boxed-stops input bits (child body) (each body) s (nat_le (s.at + bits) s.stop)
 row-stops input table child each id (Some (PrefixedLeaf prefix prim)) s =
     prefixed-stops input (slice_get table.primitives prefix.prim) prefix.own _
-    (λ units t. sized-stops input (slice_get table.primitives prim) (size_of prefix.unit units) t) s
+    (λ units t. sized-stops input (slice_get table.primitives (read_by s.instead prim)) (size_of prefix.unit units) t) s
 row-stops input table child each id (Some (PrefixedBox prefix body)) s =
     prefixed-stops input (slice_get table.primitives prefix.prim) prefix.own _
     (λ units t. boxed-stops input (bits_of_units prefix.unit units) (child body) (each body) t

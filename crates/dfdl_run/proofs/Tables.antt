@@ -1,14 +1,13 @@
 -- What rows that are compiled for unparsing are to those who unparse.
-use Rattle.std.proofs.Common.{◌≡◌, ℕ, ◌*◌, ◌≤◌, ◌<◌, ◌==◌, ◌||◌, IsTrue, List, length, All, Option, None, Some, Result, Ok, Err, IfOk, slice_get, get_or, refl, sym, ap, subst, ◌∙◌, arith, inl, inr}
+use Rattle.std.proofs.Common.{◌≡◌, ℕ, ◌*◌, ◌≤◌, ◌==◌, ◌||◌, IsTrue, List, All, Option, None, Some, Result, Ok, Err, IfOk, slice_get, refl, subst, arith, inl, inr}
 use Rattle.std.specs.Option.{option_and_then}
 use Rattle.std.proofs.lemmas.Bool.{or_cases, eqb-true}
 use Rattle.std.proofs.lemmas.Option.{get_or_from_slice_get, slice_get_within}
-use Rattle.dfdl_forms.specs.Types.{form_of}
 use Rattle.dfdl_forms.specs.declared.binary.IntForm.{IntForm}
 use Rattle.dfdl_forms.specs.declared.simple.Simple.{Simple}
 use Rattle.dfdl_terms.specs.Rows.{Table}
 use Rattle.dfdl_terms.specs.declared.row.Primitive.{Primitive}
-use Rattle.dfdl_terms.specs.declared.row.Primitive.TheVariants.{Integer, Packed, Truth, Octets, Text}
+use Rattle.dfdl_terms.specs.declared.row.Primitive.TheVariants.{Integer, Packed, Truth, Octets, Text, NilOctets, Default}
 use Rattle.dfdl_terms.specs.declared.row.Row.{Row}
 use Rattle.dfdl_terms.specs.declared.row.Row.TheVariants.{Leaf, Elem, Group, Skip, Align, Boxed, PrefixedLeaf, PrefixedBox}
 use Rattle.dfdl_checks.specs.Forms.{IsWhole, IsWholeUnsigned}
@@ -55,11 +54,13 @@ whole_in primitives prim simple (Some (Packed form)) is wholes typed = absurd (w
 whole_in primitives prim simple (Some (Truth form)) is wholes typed = absurd (whole_at primitives prim (Truth form) is wholes)
 whole_in primitives prim simple (Some (Octets form)) is wholes typed = absurd (whole_at primitives prim (Octets form) is wholes)
 whole_in primitives prim simple (Some (Text form)) is wholes typed = absurd (whole_at primitives prim (Text form) is wholes)
+whole_in primitives prim simple (Some (NilOctets form)) is wholes typed = absurd (whole_at primitives prim (NilOctets form) is wholes)
+whole_in primitives prim simple (Some (Default form)) is wholes typed = absurd (whole_at primitives prim (Default form) is wholes)
 
 whole_row : (t : Table) → All IsWhole t.primitives → (simple : Simple) (o : Option Row) → IsLeafOfType t.primitives simple o
     → IsWholeForm simple (form_in t o)
 whole_row t wholes simple (Some (Leaf prim)) leaf = whole_in t.primitives prim simple (slice_get t.primitives prim) refl wholes leaf
-whole_row t wholes simple (Some (Elem name other body)) leaf = absurd leaf
+whole_row t wholes simple (Some (Elem name other tried body)) leaf = absurd leaf
 whole_row t wholes simple (Some (Group children)) leaf = absurd leaf
 whole_row t wholes simple (Some (Skip bits)) leaf = absurd leaf
 whole_row t wholes simple (Some (Align bits)) leaf = absurd leaf
@@ -70,7 +71,7 @@ whole_row t wholes simple None leaf = absurd leaf
 
 -- rows whose simple elements have leaves of their types, which are all whole
 pub whole : (t : Table) → HasBareTypedLeaves t → All IsWhole t.primitives → AreWholeFields t
-whole t leaves wholes row name kind body is = whole_row t wholes kind (slice_get t.rows body) (leaves row name kind body is)
+whole t leaves wholes row name kind tried body is = whole_row t wholes kind (slice_get t.rows body) (leaves row name kind tried body is)
 
 -- two facts of what is answered give a third
 pub both_ok : {X E : Type 0} (A B C : X → Type 0) → ((x : X) → A x → B x → C x) → (r : Result X E) → IfOk r A → IfOk r B → IfOk r C

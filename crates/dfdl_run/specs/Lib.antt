@@ -3,9 +3,11 @@ pub mod Command
 pub mod CommandShown
 pub mod Decided
 pub mod Expects
+pub mod Fed
 pub mod Finished
 pub mod Meaning
 pub mod Outside
 pub mod Parsed
 pub mod Run
 pub mod Schemas
+pub mod Sources

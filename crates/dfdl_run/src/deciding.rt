@@ -1,38 +1,59 @@
 // What a run comes to, before anything is written.
-ghost use Rattle.std.specs.Prelude.{◌≡◌, ◌⊎◌, ◌<◌, ◌+◌, ◌^◌, ◌≤◌, Err, length, map};
-ghost use Rattle.std.specs.Prelude.{string_bytes};
+ghost use Rattle.std.specs.Prelude.{◌≡◌, ◌<◌, ◌+◌, ◌^◌, map, string_bytes};
 ghost use Rattle.dfdl_terms.specs.Rows.{HasElementLast, HasPlainRows};
 ghost use Rattle.dfdl_pieces.specs.Whole.{AreWholeFields};
 ghost use Rattle.dfdl_run.specs.Decided.{Decided, IsReadEnd};
-ghost use Rattle.dfdl_run.specs.Meaning.{end_of};
-ghost use Rattle.dfdl_run.specs.declared.command.Verb.TheVariants.{Unparse};
-ghost use Rattle.dfdl_run.specs.declared.stop.Stop.TheVariants.{OutOfMemory};
+ghost use Rattle.dfdl_run.specs.Sources.{source_stop};
+ghost use Rattle.dfdl_run.specs.declared.command.Verb.TheVariants.{Parse, Unparse};
 
 use crate::answer::Answer;
 use crate::command::{Verb, command_of};
 use crate::loading::{limit, load_terms};
 use crate::parsing::parse;
+use crate::reading::parsed;
 use crate::stop::Stop;
 use crate::unparsing::unparse;
 use dfdl_edge::{Files, Source, SourceFault, read_to_limit};
 use dfdl_report::LimitCause;
 use dfdl_terms::Terms;
 use std::alloc::Global;
+use std::marker::Brand;
+use std::sync::ledger::Blank;
 
 /// The most bytes that are read of the source.
 pub const MOST_INPUT: u64 = 1 << 30;
 
-// What the bytes of the source come to.
-fn meaning(alloc: Global, verb: Verb, terms: &Terms, bytes: &[u8]) -> Result<Answer, Stop>
-    requires small { length bytes.now ≤ 2 ^ 60 }
-    requires element { HasElementLast terms.now }
-    requires whole { verb ≡ Unparse → AreWholeFields terms.now }
-    requires plain { verb ≡ Unparse → HasPlainRows terms.now.rows }
-    ensures { (result ≡ Err OutOfMemory) ⊎ (result ≡ end_of verb terms.now bytes.now) }
+// What stops a run whose source is not read to its end.
+fn stop_of(fault: SourceFault) -> Stop
+    ensures { result ≡ source_stop fault }
 {
-    match verb {
-        Verb::Parse => parse(alloc, terms, bytes),
-        Verb::Unparse => unparse(alloc, terms, bytes),
+    match fault {
+        SourceFault::Failed => Stop::SourceFailed,
+        SourceFault::TooLarge => limit(LimitCause::Input, MOST_INPUT),
+        SourceFault::OutOfMemory => Stop::OutOfMemory,
+    }
+}
+
+// What the source comes to as data, which are parsed while they are read.
+fn parse_source<S: Source>(alloc: Global, source: &mut S, terms: &Terms) -> Result<Answer, Stop>
+    ensures { IsReadEnd Parse terms.now (S.seen source.old) (S.seen source.new) result }
+{
+    match parsed::<S, Brand>(alloc, source, terms, MOST_INPUT, Blank::new(1)) {
+        Ok(feeding) => parse(alloc, terms, &feeding),
+        Err(fault) => Err(stop_of(fault)),
+    }
+}
+
+// What the source comes to as an infoset, which is read whole.
+fn unparse_source<S: Source>(alloc: Global, source: &mut S, terms: &Terms) -> Result<Answer, Stop>
+    requires element { HasElementLast terms.now }
+    requires whole { AreWholeFields terms.now }
+    requires plain { HasPlainRows terms.now.rows }
+    ensures { IsReadEnd Unparse terms.now (S.seen source.old) (S.seen source.new) result }
+{
+    match read_to_limit(alloc, source, MOST_INPUT) {
+        Ok(bytes) => unparse(alloc, terms, &bytes),
+        Err(fault) => Err(stop_of(fault)),
     }
 }
 
@@ -48,11 +69,9 @@ fn read_answer<S: Source>(
     requires plain { verb ≡ Unparse → HasPlainRows terms.now.rows }
     ensures { IsReadEnd verb terms.now (S.seen source.old) (S.seen source.new) result }
 {
-    match read_to_limit(alloc, source, MOST_INPUT) {
-        Ok(bytes) => meaning(alloc, verb, terms, &bytes),
-        Err(SourceFault::Failed) => Err(Stop::SourceFailed),
-        Err(SourceFault::TooLarge) => Err(limit(LimitCause::Input, MOST_INPUT)),
-        Err(SourceFault::OutOfMemory) => Err(Stop::OutOfMemory),
+    match verb {
+        Verb::Parse => parse_source(alloc, source, terms),
+        Verb::Unparse => unparse_source(alloc, source, terms),
     }
 }
 

@@ -12,8 +12,10 @@ pub mod call;
 mod command;
 mod deciding;
 mod delivery;
+mod feeding;
 mod loading;
 mod parsing;
+mod reading;
 pub mod stop;
 mod unparsing;
 

@@ -3,6 +3,7 @@ mod fill;
 mod nested;
 mod numbers;
 mod packed;
+mod pieces;
 mod schemas;
 mod sizes;
 mod texts;

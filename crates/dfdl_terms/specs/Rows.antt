@@ -1,15 +1,19 @@
 -- Tables of rows: each row's children stand below it.
-use Rattle.std.specs.Prelude.{◌≡◌, ℕ, ◌<◌, ◌≤◌, ◌-◌, List, length, All, slice_get, Option, None, Some}
+use Rattle.std.specs.Prelude.{◌≡◌, ℕ, ◌<◌, ◌≤◌, ◌-◌, List, length, All, IsUtf8, slice_get, Option, None, Some}
 use Rattle.dfdl_forms.specs.BinaryNumbers.{IsIntForm, IsPackedForm, IsTruthForm}
 use Rattle.dfdl_forms.specs.NumberForms.{IsNumberForm}
 use Rattle.dfdl_forms.specs.Packed.{IsZonedForm}
+use Rattle.dfdl_value.specs.declared.value.Value.{Value}
+use Rattle.dfdl_value.specs.declared.value.Value.TheVariants as value
+use Rattle.dfdl_terms.specs.declared.representations.Representations.{Representations}
 use Rattle.dfdl_terms.specs.declared.text.TextContent.{TextContent}
-use Rattle.dfdl_terms.specs.declared.text.TextContent.TheVariants.{Plain, Number, Zoned, Truth as TextTruth}
+use Rattle.dfdl_terms.specs.declared.text.TextContent.TheVariants.{Plain, Number, Zoned, Truth as TextTruth, Nil}
+use Rattle.dfdl_terms.specs.declared.text.DefaultForm.{DefaultForm}
 use Rattle.dfdl_terms.specs.declared.text.TextForm.{TextForm}
 use Rattle.dfdl_terms.specs.declared.text.TextSize.{TextSize}
 use Rattle.dfdl_terms.specs.declared.text.TextSize.TheVariants.{Bits, Characters}
 use Rattle.dfdl_terms.specs.declared.row.Primitive.{Primitive}
-use Rattle.dfdl_terms.specs.declared.row.Primitive.TheVariants.{Integer, Packed, Truth, Octets, Text}
+use Rattle.dfdl_terms.specs.declared.row.Primitive.TheVariants.{Integer, Packed, Truth, Octets, Text, NilOctets, Default}
 use Rattle.dfdl_terms.specs.declared.row.Row.{Row}
 use Rattle.dfdl_terms.specs.declared.row.Row.TheVariants.{Leaf, Elem, Group, Skip, Align, Boxed, PrefixedLeaf, PrefixedBox}
 
@@ -25,7 +29,7 @@ most_rows = 65535
 -- each child of the row is below the bound
 abbrev pub ChildrenBelow : ℕ → Row → Type 0
 ChildrenBelow bound (Leaf prim) = Unit {0}
-ChildrenBelow bound (Elem name simple body) = body < bound
+ChildrenBelow bound (Elem name simple tried body) = body < bound
 ChildrenBelow bound (Group children) = All (λ c. c < bound) children
 ChildrenBelow bound (Skip bits) = Unit {0}
 ChildrenBelow bound (Align bits) = Unit {0}
@@ -48,10 +52,19 @@ pub record IsFirstBad (rows : List Row) (at : ℕ) : Type 0 where
   pub bad : ChildrenBelow at row → ⊥
   pub before : NestsBelow at rows
 
+-- the primitive is one of so many, where there is one
+abbrev pub IsWithin : ℕ → Option ℕ → Type 0
+IsWithin primitives None = Unit {0}
+IsWithin primitives (Some prim) = prim < primitives
+
+-- the primitives of the representations that are tried are some of so many
+abbrev pub AreWithin : ℕ → Representations → Type 0
+AreWithin primitives tried = IsWithin primitives tried.nil × IsWithin primitives tried.empty
+
 -- the row's numbers are in the tables
 abbrev pub NamesWithin : ℕ → Row → Type 0
 NamesWithin primitives (Leaf prim) = prim < primitives
-NamesWithin primitives (Elem name simple body) = Unit {0}
+NamesWithin primitives (Elem name simple tried body) = AreWithin primitives tried
 NamesWithin primitives (Group children) = Unit {0}
 NamesWithin primitives (Skip bits) = Unit {0}
 NamesWithin primitives (Align bits) = Unit {0}
@@ -74,11 +87,26 @@ IsTextContent Plain = Unit {0}
 IsTextContent (Number form kind) = IsNumberForm form
 IsTextContent (Zoned form) = IsZonedForm form
 IsTextContent (TextTruth form) = Unit {0}
+IsTextContent (Nil form) = Unit {0}
 
 -- the form of a text keeps its bounds
 pub record IsTextForm (form : TextForm) : Type 0 where
   pub size : IsTextSize form.size
   pub content : IsTextContent form.content
+
+-- a text is one of characters, as UTF-8
+abbrev pub IsWritten : Value → Type 0
+IsWritten (value.Int number) = Unit {0}
+IsWritten (value.Uns number) = Unit {0}
+IsWritten (value.Dec number) = Unit {0}
+IsWritten (value.Text text) = IsUtf8 text
+IsWritten (value.Truth truth) = Unit {0}
+IsWritten (value.Bytes bytes) = Unit {0}
+
+-- the form of an empty representation keeps its bounds
+pub record IsDefaultForm (form : DefaultForm) : Type 0 where
+  pub size : IsTextSize form.size
+  pub value : IsWritten form.value
 
 -- the form of a primitive keeps the bounds of its type
 abbrev pub IsPrimitive : Primitive → Type 0
@@ -87,10 +115,12 @@ IsPrimitive (Packed form) = IsPackedForm form
 IsPrimitive (Truth form) = IsTruthForm form
 IsPrimitive (Octets form) = form.bits ≤ most_length
 IsPrimitive (Text form) = IsTextForm form
+IsPrimitive (NilOctets form) = form.octets.bits ≤ most_length
+IsPrimitive (Default form) = IsDefaultForm form
 
 -- the row is an element
 abbrev pub IsElementRow : Option Row → Type 0
-IsElementRow (Some (Elem name simple body)) = Unit {0}
+IsElementRow (Some (Elem name simple tried body)) = Unit {0}
 IsElementRow (Some (Leaf prim)) = ⊥
 IsElementRow (Some (Group children)) = ⊥
 IsElementRow (Some (Skip bits)) = ⊥
@@ -115,7 +145,7 @@ pub record IsTable (t : Table) : Type 0 where
 -- a row of the content alone: neither fill nor a prefix nor a box around a content
 abbrev pub IsPlainRow : Row → Type 0
 IsPlainRow (Leaf prim) = Unit {0}
-IsPlainRow (Elem name simple body) = Unit {0}
+IsPlainRow (Elem name simple tried body) = Unit {0}
 IsPlainRow (Group children) = Unit {0}
 IsPlainRow (Skip bits) = ⊥
 IsPlainRow (Align bits) = ⊥

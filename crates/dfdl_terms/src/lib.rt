@@ -7,6 +7,7 @@
 pub mod event;
 pub mod framing;
 pub mod prefix;
+pub mod representations;
 pub mod row;
 pub mod terms;
 pub mod text;
@@ -14,6 +15,9 @@ pub mod text;
 pub use event::Event;
 pub use framing::Framing;
 pub use prefix::{LengthUnit, Prefix};
+pub use representations::Representations;
 pub use row::{Primitive, Row, RowId, RowList, Tables};
 pub use terms::{TermFault, Terms};
-pub use text::{OctetForm, TextContent, TextForm, TextSize};
+pub use text::{
+    DefaultForm, NilForm, NilOctets, NilTexts, OctetForm, TextContent, TextForm, TextSize,
+};

@@ -1,7 +1,9 @@
 ghost use Rattle.std.specs.Prelude.{◌≡◌, ◌<◌, List};
+ghost use Rattle.dfdl_terms.specs.Rows.{IsWritten};
 
 use crate::prefix::Prefix;
-use crate::text::{OctetForm, TextForm};
+use crate::representations::Representations;
+use crate::text::{DefaultForm, NilOctets, OctetForm, TextForm, text_is_written};
 use dfdl_forms::{BitTruthForm, IntForm, PackedForm};
 use dfdl_value::{Simple, TextValue};
 use std::marker::Model;
@@ -77,6 +79,19 @@ pub enum Primitive {
     Octets(OctetForm),
     /// Characters: a string, a text number or a text boolean ('Simple Types').
     Text(TextForm),
+    /// Bytes that stand for nil, and nothing else ('DFDL Data Syntax Grammar').
+    NilOctets(NilOctets),
+    /// No bits, which stand for a value ('DFDL Data Syntax Grammar').
+    Default(DefaultForm),
+}
+
+/// The text that a primitive stands for is one of characters. The call does nothing.
+pub fn default_is_written(primitive: &Primitive)
+    ensures { (form : DefaultForm) → primitive.now ≡ Primitive.Default form → IsWritten form.value }
+{
+    if let Primitive::Default(form) = primitive {
+        text_is_written(&form.value);
+    }
 }
 
 /// One step of the data syntax grammar.
@@ -86,10 +101,12 @@ pub enum Row {
     Leaf {
         prim: u32,
     },
-    /// One element: its local name, its simple type if it has one, and its content.
+    /// One element: its local name, its simple type if it has one, the representations that are tried before its normal one,
+    /// and its content.
     Elem {
         name: TextValue,
         simple: Option<Simple>,
+        tried: Representations,
         body: RowId,
     },
     /// A sequence of rows.

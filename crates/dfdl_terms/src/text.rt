@@ -1,4 +1,7 @@
-use dfdl_forms::{BitOrder, Encoding, NumberForm, PadForm, Simple, TruthForm, ZonedForm};
+ghost use Rattle.dfdl_terms.specs.Rows.{IsWritten};
+
+use dfdl_forms::{BitOrder, Encoding, Literals, NumberForm, PadForm, Simple, TruthForm, ZonedForm};
+use dfdl_value::Value;
 
 /// How the bytes of a hexBinary value lie in the data.
 #[derive(Debug, Clone, Copy, PartialEq, Eq)]
@@ -6,6 +9,48 @@ pub struct OctetForm {
     /// How many bits its box has.
     pub bits: u64,
     pub bits_by: BitOrder,
+}
+
+/// What stands for nil in the data ('DFDL Data Syntax Grammar', on nilKind and nilValue).
+#[derive(Debug, Drop)]
+pub enum NilTexts {
+    /// A text of one of these literals.
+    Literals(Literals),
+    /// One or more of this character.
+    Character(char),
+}
+
+/// How nil lies in the data.
+#[derive(Debug, Drop)]
+pub struct NilForm {
+    pub texts: NilTexts,
+    pub encoding: Encoding,
+    /// An ASCII letter stands for its other case too.
+    pub fold: bool,
+}
+
+/// How nil lies in a box of bytes, of an element whose content is no text.
+#[derive(Debug, Drop)]
+pub struct NilOctets {
+    pub octets: OctetForm,
+    pub nil: NilForm,
+}
+
+/// The empty representation of an element: a box without any bit, which stands for a value ('DFDL Data Syntax Grammar').
+#[derive(Debug, Drop)]
+pub struct DefaultForm {
+    /// How long the box is.
+    pub size: TextSize,
+    pub value: Value,
+}
+
+/// The text of a value is one of characters. The call does nothing.
+pub fn text_is_written(value: &Value)
+    ensures { IsWritten value.now }
+{
+    if let Value::Text(text) = value {
+        let _text = text.as_str();
+    }
 }
 
 /// How long a content is in the data ('Lengths').
@@ -28,6 +73,8 @@ pub enum TextContent {
     Zoned(ZonedForm),
     /// A boolean.
     Truth(TruthForm),
+    /// Nil, and nothing else.
+    Nil(NilForm),
 }
 
 /// How the characters of a text lie in the data ('Simple Types').

@@ -5,7 +5,7 @@ use super::*;
 const TEXTS: &str =
     "<xs:schema xmlns:xs=\"http://www.w3.org/2001/XMLSchema\" xmlns:dfdl=\"http://www.ogf.org/dfdl/dfdl-1.0/\"><xs:annotation><xs:appinfo source=\"http://www.ogf.org/dfdl/\"><dfdl:format representation=\"binary\" binaryNumberRep=\"binary\" encoding=\"UTF-8\" encodingErrorPolicy=\"error\" lengthKind=\"explicit\" byteOrder=\"bigEndian\"/></xs:appinfo></xs:annotation><xs:element name=\"r\" dfdl:lengthKind=\"implicit\"><xs:complexType><xs:sequence><xs:element name=\"s\" type=\"xs:string\" dfdl:length=\"3\" dfdl:lengthUnits=\"characters\"/><xs:element name=\"x\" dfdl:length=\"4\"><xs:complexType><xs:sequence><xs:element name=\"h\" type=\"xs:hexBinary\" dfdl:length=\"2\"/></xs:sequence></xs:complexType></xs:element></xs:sequence></xs:complexType></xs:element></xs:schema>";
 
-const TEXTS_PARSE: Given<'static> = Given {
+pub(super) const TEXTS_PARSE: Given<'static> = Given {
     schema: TEXTS,
     data: &[0x68, 0xC3, 0xA9, 0x22, 0xCA, 0xFE, 0, 0],
     cuts: &[2, 1, 3],

@@ -12,3 +12,10 @@ returns-clause-prefix c = λ purpose documents own f is. c.prefixes_are_bounded.
 
 pub returns-clause-kind : goal.returns-clause-kind
 returns-clause-kind c = λ purpose documents own p is. c.primitives_are_bounded.ensures.kind (judged_at purpose documents own) p is
+
+pub returns-clause-nil : goal.returns-clause-nil
+returns-clause-nil c = λ purpose documents own p is. c.representations_are_bounded.ensures.nil (judged_at purpose documents own) p is
+
+pub returns-clause-empty : goal.returns-clause-empty
+returns-clause-empty c =
+    λ purpose documents own p is written. c.representations_are_bounded.ensures.empty (judged_at purpose documents own) p is written

@@ -1,7 +1,7 @@
 use Rattle.std.proofs.Common.{◌≡◌, ◌∙◌, ap, subst, map, IfOk}
 use Rattle.dfdl_scope.specs.Shown.{chain_of}
 use Rattle.dfdl_checks.specs.Judged.{Judged}
-use Rattle.dfdl_checks.specs.JudgedShown.{prefix_judged_of}
+use Rattle.dfdl_checks.specs.JudgedShown.{facts_judged_of, prefix_judged_of}
 use Rattle.dfdl_breaches.specs.Elements.{element_at}
 use Rattle.dfdl_breaches.specs.JudgementShown.{judgement_of}
 use Rattle.dfdl_breaches.specs.declared.judgement.Judgement.{Judgement}
@@ -17,7 +17,7 @@ returns c =
       kind = c.kind_at.result;
       place = c.place.result;
       chain = chain_of c.in_ok-chain.chain;
-      facts = c.facts_at.result;
+      facts = facts_judged_of c.facts_at.result;
       root_bits_by = c.args.bits_by;
       prefix = prefix_judged_of c.lent.result;
     })

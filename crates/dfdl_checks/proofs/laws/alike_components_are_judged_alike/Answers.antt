@@ -4,6 +4,7 @@ use Rattle.dfdl_checks.specs.Boxes.{size_of_box}
 use Rattle.dfdl_checks.specs.Framing.{framing_of}
 use Rattle.dfdl_checks.specs.Numbers.{primitive_of}
 use Rattle.dfdl_checks.specs.Prefixes.{prefix_of}
+use Rattle.dfdl_checks.specs.Representations.{representations_of}
 use Rattle.dfdl_checks.specs.Rules.{breach_of_component}
 use Rattle.dfdl_checks.proofs.laws.alike_components_are_judged_alike.Goals as goal
 
@@ -12,6 +13,9 @@ returns-clause-breach c = λ a b alike. ap breach_of_component (same-component a
 
 pub returns-clause-primitive : goal.returns-clause-primitive
 returns-clause-primitive c = λ a b alike. ap primitive_of (same-component a b alike)
+
+pub returns-clause-representations : goal.returns-clause-representations
+returns-clause-representations c = λ a b alike. ap representations_of (same-component a b alike)
 
 pub returns-clause-framing : goal.returns-clause-framing
 returns-clause-framing c = λ a b alike. ap framing_of (same-component a b alike)

@@ -17,13 +17,15 @@ pub terms_of-requires-clause-named : goal.terms_of-requires-clause-named
 terms_of-requires-clause-named c =
     have c.args.purpose c.args.schema.now c.in_ok-components.components c.in_ok-tables.tables
     (c.in_ok-components.ensures.components ∙ ap (λ (q : Purpose). components_of q c.args.schema.now) c.in_ok-gathered.ensures.purpose)
-    (tables_are c.args.purpose c.args.schema.now c.in_ok-judgements.judgements.items c.in_ok-tables.tables c.in_ok-judgements.ensures c.in_ok-tables.ensures)
+    (tables_are c.args.purpose c.args.schema.now c.in_ok-judgements.judgements.items c.in_ok-tables.tables c.in_ok-judgements.ensures c.in_ok-tables.ensures.tables)
 
 pub terms_of-requires-clause-bounded : goal.terms_of-requires-clause-bounded
 terms_of-requires-clause-bounded c =
     bounded c.args.purpose c.args.schema.now c.sound_elements_have_bounded_primitives.ensures.bounded
-    c.sound_elements_have_bounded_primitives.ensures.prefix c.in_ok-tables.tables
-    (tables_are c.args.purpose c.args.schema.now c.in_ok-judgements.judgements.items c.in_ok-tables.tables c.in_ok-judgements.ensures c.in_ok-tables.ensures)
+    c.sound_elements_have_bounded_primitives.ensures.prefix c.sound_elements_have_bounded_primitives.ensures.nil
+    c.sound_elements_have_bounded_primitives.ensures.empty c.in_ok-tables.tables
+    (tables_are c.args.purpose c.args.schema.now c.in_ok-judgements.judgements.items c.in_ok-tables.tables c.in_ok-judgements.ensures c.in_ok-tables.ensures.tables)
+    c.in_ok-tables.ensures.written
 
 pub returns-in-Ok-clause-rows : goal.returns-in-Ok-clause-rows
 returns-in-Ok-clause-rows c =
@@ -32,7 +34,7 @@ returns-in-Ok-clause-rows c =
     c.number-number.ensures
     (subst (λ (q : Purpose). first_recursive (components_of q c.args.schema.now).uses ≡ None) c.in_ok-gathered.ensures.purpose c.in_ok-components.ensures.none)
     c.in-Ok.ensures.rows
-    (c.in-Ok.ensures.tables ∙ (tables_are c.args.purpose c.args.schema.now c.in_ok-judgements.judgements.items c.in_ok-tables.tables c.in_ok-judgements.ensures c.in_ok-tables.ensures))
+    (c.in-Ok.ensures.tables ∙ (tables_are c.args.purpose c.args.schema.now c.in_ok-judgements.judgements.items c.in_ok-tables.tables c.in_ok-judgements.ensures c.in_ok-tables.ensures.tables))
 
 pub returns-clause-fault : goal.returns-clause-fault
 returns-clause-fault c =
@@ -53,20 +55,20 @@ pub returns-in-Ok-clause-leaves : goal.returns-in-Ok-clause-leaves
 returns-in-Ok-clause-leaves c =
     leaves_typed c.args.purpose c.args.schema.now c.in_ok-components.components c.in-Ok.terms
     (c.in_ok-components.ensures.components ∙ ap (λ (q : Purpose). components_of q c.args.schema.now) c.in_ok-gathered.ensures.purpose)
-    (c.in-Ok.ensures.tables ∙ (tables_are c.args.purpose c.args.schema.now c.in_ok-judgements.judgements.items c.in_ok-tables.tables c.in_ok-judgements.ensures c.in_ok-tables.ensures))
+    (c.in-Ok.ensures.tables ∙ (tables_are c.args.purpose c.args.schema.now c.in_ok-judgements.judgements.items c.in_ok-tables.tables c.in_ok-judgements.ensures c.in_ok-tables.ensures.tables))
     c.in-Ok.ensures.leaves
 
 pub returns-in-Ok-clause-whole : goal.returns-in-Ok-clause-whole
 returns-in-Ok-clause-whole c = λ unparsing.
     wholes c.args.purpose c.args.schema.now unparsing c.sound_elements_have_bounded_primitives.ensures.whole
-    c.sound_elements_have_bounded_primitives.ensures.parsing c.in-Ok.terms.primitives
-    (c.in-Ok.ensures.tables ∙ (tables_are c.args.purpose c.args.schema.now c.in_ok-judgements.judgements.items c.in_ok-tables.tables c.in_ok-judgements.ensures c.in_ok-tables.ensures))
+    c.sound_elements_have_bounded_primitives.ensures.parsing c.sound_elements_have_bounded_primitives.ensures.normal c.in-Ok.terms.primitives
+    (c.in-Ok.ensures.tables ∙ (tables_are c.args.purpose c.args.schema.now c.in_ok-judgements.judgements.items c.in_ok-tables.tables c.in_ok-judgements.ensures c.in_ok-tables.ensures.tables))
 
 pub returns-in-Ok-clause-bare : goal.returns-in-Ok-clause-bare
 returns-in-Ok-clause-bare c = λ unparsing.
     bare_typed c.args.purpose c.args.schema.now c.in_ok-components.components c.in-Ok.terms
     (c.in_ok-components.ensures.components ∙ ap (λ (q : Purpose). components_of q c.args.schema.now) c.in_ok-gathered.ensures.purpose)
-    (c.in-Ok.ensures.tables ∙ (tables_are c.args.purpose c.args.schema.now c.in_ok-judgements.judgements.items c.in_ok-tables.tables c.in_ok-judgements.ensures c.in_ok-tables.ensures))
+    (c.in-Ok.ensures.tables ∙ (tables_are c.args.purpose c.args.schema.now c.in_ok-judgements.judgements.items c.in_ok-tables.tables c.in_ok-judgements.ensures c.in_ok-tables.ensures.tables))
     (c.in-Ok.ensures.bare (bare_components c.args.schema.now c.args.purpose c.in_ok-components.components unparsing
     (c.in_ok-components.ensures.components ∙ ap (λ (q : Purpose). components_of q c.args.schema.now) c.in_ok-gathered.ensures.purpose)))
 

@@ -4,11 +4,11 @@ use Rattle.dfdl_json.proofs.children.visit.Goals as goal
 
 pub returns-in_ok-push-in-Some-Elem-clause-same : goal.returns-in_ok-push-in-Some-Elem-clause-same
 returns-in_ok-push-in-Some-Elem-clause-same c =
-    elem_visited c.args.terms.now c.args.row _ _ _ _ _ _ (there _ _ _ c.in-Some-Elem.ensures.row c.in-Some-Elem.field-0-is) c.in_ok-push-in-Some-Elem.ensures.items
+    elem_visited c.args.terms.now c.args.row _ _ _ _ _ _ _ (there _ _ _ c.in-Some-Elem.ensures.row c.in-Some-Elem.field-0-is) c.in_ok-push-in-Some-Elem.ensures.items
 
 pub returns-in_ok-push-in-Some-Elem-clause-less : goal.returns-in_ok-push-in-Some-Elem-clause-less
 returns-in_ok-push-in-Some-Elem-clause-less c =
-    elem_less c.args.terms.now c.args.row [] _ _ _ _ (there _ _ _ c.in-Some-Elem.ensures.row c.in-Some-Elem.field-0-is) (below_elem _ _ _ _ _ c.in-Some-Elem.field-0-is c.in-Some-Elem.ensures.nests)
+    elem_less c.args.terms.now c.args.row [] _ _ _ _ _ (there _ _ _ c.in-Some-Elem.ensures.row c.in-Some-Elem.field-0-is) (below_elem _ _ _ _ _ _ c.in-Some-Elem.field-0-is c.in-Some-Elem.ensures.nests)
 
 pub returns-in-Some-Group-clause-same : goal.returns-in-Some-Group-clause-same
 returns-in-Some-Group-clause-same c = on_ok c.push_all.result _ _ c.push_all.ensures

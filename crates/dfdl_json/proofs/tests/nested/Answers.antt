@@ -1,14 +1,18 @@
-use Rattle.std.proofs.Common.{◌≡◌, ℕ, List, [], ◌∷◌, Option, All, ap, ◌∙◌, length, lit<}
+use Rattle.std.proofs.Common.{◌≡◌, ℕ, false, List, [], ◌∷◌, Option, None, All, ap, ◌∙◌, length, lit<}
 use Rattle.std.proofs.lemmas.List.Elements.{All-cons, All-nil}
 use Rattle.dfdl_forms.specs.declared.simple.Simple.{Simple}
+use Rattle.dfdl_terms.specs.declared.representations.Representations.{Representations}
 use Rattle.dfdl_terms.specs.declared.row.Primitive.{Primitive}
 use Rattle.dfdl_terms.specs.declared.row.Row.{Row}
 use Rattle.dfdl_terms.specs.declared.row.Row.TheVariants.{Elem, Group}
 use Rattle.dfdl_terms.specs.Rows.{HasElementLast, IsPrimitive, NamesWithin, Table}
 use Rattle.dfdl_json.proofs.tests.nested.Goals as goal
 
-element_named : (n : ℕ) (row : Row) (x : List ℕ) (s : Option Simple) (i : ℕ) → row ≡ Elem x s i → NamesWithin n row
-element_named n row x s i is = rw is tt
+abbrev no_trials : Representations
+no_trials = record { nil = None; empty = None; are_several = false }
+
+element_named : (n : ℕ) (row : Row) (x : List ℕ) (s : Option Simple) (i : ℕ) → row ≡ Elem x s no_trials i → NamesWithin n row
+element_named n row x s i is = rw is (tt, tt)
 
 group_named : (n : ℕ) (row : Row) (children : List ℕ) → row ≡ Group children → NamesWithin n row
 group_named n row children is = rw is tt
@@ -18,7 +22,7 @@ all_at : {A : Type 0} (P : A → Type 0) (xs ys : List A) → xs ≡ ys → All 
 all_at P xs ys same all = rw same all
 
 last_there : (t : Table) (rows : List Row) (forms : List Primitive) (q0 q1 q2 q3 q4 q5 q6 q7 q8 q9 q10 q11 r : Row) (x : List ℕ) (s : Option Simple) (i : ℕ)
-    → t ≡ record { rows = rows; primitives = forms } → rows ≡ q0 ∷ q1 ∷ q2 ∷ q3 ∷ q4 ∷ q5 ∷ q6 ∷ q7 ∷ q8 ∷ q9 ∷ q10 ∷ q11 ∷ r ∷ [] → r ≡ Elem x s i → HasElementLast t
+    → t ≡ record { rows = rows; primitives = forms } → rows ≡ q0 ∷ q1 ∷ q2 ∷ q3 ∷ q4 ∷ q5 ∷ q6 ∷ q7 ∷ q8 ∷ q9 ∷ q10 ∷ q11 ∷ r ∷ [] → r ≡ Elem x s no_trials i → HasElementLast t
 last_there t rows forms q0 q1 q2 q3 q4 q5 q6 q7 q8 q9 q10 q11 r x s i t_is rows_are r_is = rw (t_is, rows_are, r_is) tt
 
 all_thirteen : (P : Row → Type 0) (a b c d e f g h i j k l m : Row) → P a → P b → P c → P d → P e → P f → P g → P h → P i → P j → P k → P l → P m

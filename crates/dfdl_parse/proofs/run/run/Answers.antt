@@ -2,12 +2,14 @@ use Rattle.std.proofs.Common.{◌-◌, Bool, false, refl, subst, arith}
 use Rattle.dfdl_parse.specs.Machines.{step}
 use Rattle.dfdl_parse.specs.Shown.{limits_of, state_of}
 use Rattle.dfdl_parse.specs.Steps.{Moved}
+use Rattle.dfdl_parse.proofs.Opens.{holds}
 use Rattle.dfdl_parse.proofs.Goes.{advance, wait, stay, go_further, go_and_wait, agrees_padded, keeps_first, same_twice, still_agrees, still_low, step-smaller, padded}
 use Rattle.dfdl_parse.proofs.run.run.Goals as goal
 
 pub steps-init : goal.steps-init
 steps-init g c = record {
   low = c.requires.base;
+  holds = holds c.args.sight.now.base c.args.parser.now.focus c.args.parser.now.stack (state_of c.args.parser.now) c.requires.base;
   at = c.requires.at;
   most = (refl, refl);
   steps = omega arith;
@@ -38,9 +40,11 @@ steps-preserved g c =
     (step (limits_of c.steps.parser c.steps.sight) c.args.terms.now c.steps.sight c.steps.parser.focus c.steps.parser.stack (state_of c.steps.parser))
     w c.steps.parser.far c.step.new.self c.step.new.sight (c.step.new.steps - c.steps.steps))
     c.if-waits.false c.in_ok-waits.ensures.moved in
+    let low = still_low c.args.terms.now c.rows-rows.ensures.table.nests c.steps.parser c.step.new.self c.steps.sight c.step.new.sight
+    (c.step.new.steps - c.steps.steps) c.steps.invariant.low c.steps.invariant.at false moved in
     record {
-      low = still_low c.args.terms.now c.rows-rows.ensures.table.nests c.steps.parser c.step.new.self c.steps.sight c.step.new.sight
-          (c.step.new.steps - c.steps.steps) c.steps.invariant.low c.steps.invariant.at false moved;
+      low = low;
+      holds = holds c.step.new.sight.base c.step.new.self.focus c.step.new.self.stack (state_of c.step.new.self) low;
       at = c.in_ok-waits.ensures.at;
       most = same_twice c.args.parser.now c.steps.parser c.step.new.self c.steps.invariant.most c.in_ok-waits.ensures.most;
       steps = omega (arith, c.in_ok-waits.ensures.steps, c.steps.invariant.steps);

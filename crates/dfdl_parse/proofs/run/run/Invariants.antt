@@ -1,7 +1,7 @@
 use Rattle.std.proofs.Common.{◌-◌, ◌*◌, ◌≤◌}
 use Rattle.dfdl_bits.specs.Window.{end_of}
 use Rattle.dfdl_looks.specs.Looks.{Agrees}
-use Rattle.dfdl_parse.specs.Machines.{NeedsFrom}
+use Rattle.dfdl_parse.specs.Opens.{Holds, NeedsFrom}
 use Rattle.dfdl_parse.specs.Running.{Advanced}
 use Rattle.dfdl_parse.specs.Shown.{HasSameLimits, limits_of, shown, state_of}
 use Rattle.dfdl_parse.proofs.Falls.{measure}
@@ -10,7 +10,8 @@ use Rattle.dfdl_parse.proofs.run.run.Given as goal
 
 abbrev pub invariant-steps : goal.invariant-steps
 invariant-steps g l = record {
-  low : NeedsFrom l.sight.base l.parser.focus (state_of l.parser);
+  low : NeedsFrom l.sight.base l.parser.focus l.parser.stack (state_of l.parser);
+  holds : Holds l.sight.base l.parser.focus (state_of l.parser);
   at : l.parser.at ≤ 8 * end_of l.sight;
   most : HasSameLimits l.fn.parser l.parser;
   steps : l.fn.steps ≤ l.steps;

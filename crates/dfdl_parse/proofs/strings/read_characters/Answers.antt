@@ -10,4 +10,4 @@ returns-clause-answers g c =
     let form = text_of c.args.form.now c.args.size in
     let looks : ℕ = c.read_text.new.steps - c.args.steps.now in
     characters_read (seen_at c.args.sight.now) form c.args.bit (text_at form.encoding form.replaces c.args.extent c.args.stop c.args.byte)
-    c.read_text.new.into.items c.in_ok-text.text looks _ c.text_found-found.result c.in_ok-text.ensures.answers c.text_found-found.ensures.shown
+    c.read_text.new.into.items c.in_ok-text.text looks _ c.in_ok-found.found c.in_ok-text.ensures.answers c.in_ok-found.ensures.shown

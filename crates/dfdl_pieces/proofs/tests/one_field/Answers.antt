@@ -1,10 +1,11 @@
-use Rattle.std.proofs.Common.{◌≡◌, ℕ, zero, suc, List, [], ◌∷◌, Option, None, Some, All, refl, ap, subst, ◌∙◌, length, lit<, slice_get, arith}
+use Rattle.std.proofs.Common.{◌≡◌, ℕ, false, zero, suc, List, [], ◌∷◌, Option, None, Some, All, refl, ap, subst, ◌∙◌, length, lit<, slice_get, arith}
 use Rattle.std.proofs.lemmas.List.Elements.{All-cons, All-nil}
 use Rattle.dfdl_forms.specs.declared.binary.IntForm.{IntForm}
 use Rattle.dfdl_forms.specs.declared.order.BitOrder.TheVariants.{MostFirst}
 use Rattle.dfdl_forms.specs.declared.order.ByteOrder.{ByteOrder}
 use Rattle.dfdl_forms.specs.declared.simple.Simple.{Simple}
 use Rattle.dfdl_forms.specs.declared.simple.Simple.TheVariants.{UnsignedShort}
+use Rattle.dfdl_terms.specs.declared.representations.Representations.{Representations}
 use Rattle.dfdl_terms.specs.declared.row.Primitive.{Primitive}
 use Rattle.dfdl_terms.specs.declared.row.Primitive.TheVariants.{Integer}
 use Rattle.dfdl_terms.specs.declared.row.Row.{Row}
@@ -14,8 +15,11 @@ use Rattle.dfdl_pieces.specs.Laying.{form_at}
 use Rattle.dfdl_pieces.specs.Whole.{AreWholeFields, IsWholeForm}
 use Rattle.dfdl_pieces.proofs.tests.one_field.Goals as goal
 
-element_named : (n : ℕ) (row : Row) (x : List ℕ) (s : Option Simple) (i : ℕ) → row ≡ Elem x s i → NamesWithin n row
-element_named n row x s i is = rw is tt
+abbrev no_trials : Representations
+no_trials = record { nil = None; empty = None; are_several = false }
+
+element_named : (n : ℕ) (row : Row) (x : List ℕ) (s : Option Simple) (i : ℕ) → row ≡ Elem x s no_trials i → NamesWithin n row
+element_named n row x s i is = rw is (tt, tt)
 
 group_named : (n : ℕ) (row : Row) (children : List ℕ) → row ≡ Group children → NamesWithin n row
 group_named n row children is = rw is tt
@@ -31,37 +35,37 @@ all_four P a b c d at_a at_b at_c at_d =
     All-cons P a (b ∷ c ∷ d ∷ []) at_a (All-cons P b (c ∷ d ∷ []) at_b (All-cons P c (d ∷ []) at_c (All-cons P d [] at_d (All-nil P))))
 
 last_there : (t : Table) (rows : List Row) (forms : List Primitive) (q0 q1 q2 r : Row) (x : List ℕ) (s : Option Simple) (i : ℕ)
-    → t ≡ record { rows = rows; primitives = forms } → rows ≡ q0 ∷ q1 ∷ q2 ∷ r ∷ [] → r ≡ Elem x s i → HasElementLast t
+    → t ≡ record { rows = rows; primitives = forms } → rows ≡ q0 ∷ q1 ∷ q2 ∷ r ∷ [] → r ≡ Elem x s no_trials i → HasElementLast t
 last_there t rows forms q0 q1 q2 r x s i t_is rows_are r_is = rw (t_is, rows_are, r_is) tt
 
 abbrev the_rows : List ℕ → List ℕ → List ℕ → List Row
-the_rows x y children = Leaf 0 ∷ Elem x (Some UnsignedShort) 0 ∷ Group children ∷ Elem y None 2 ∷ []
+the_rows x y children = Leaf 0 ∷ Elem x (Some UnsignedShort) no_trials 0 ∷ Group children ∷ Elem y None no_trials 2 ∷ []
 
 abbrev the_forms : ByteOrder → List Primitive
 the_forms by = Integer (record { bits = 16; bytes_by = by; bits_by = MostFirst; point = 0; kind = UnsignedShort }) ∷ []
 
-whole_at : (by : ByteOrder) (x y children : List ℕ) (row : ℕ) (name : List ℕ) (kind : Simple) (body : ℕ)
-    → slice_get (the_rows x y children) row ≡ Some (Elem name (Some kind) body)
+whole_at : (by : ByteOrder) (x y children : List ℕ) (row : ℕ) (name : List ℕ) (kind : Simple) (tried : Representations) (body : ℕ)
+    → slice_get (the_rows x y children) row ≡ Some (Elem name (Some kind) tried body)
     → IsWholeForm kind (form_at (record { rows = the_rows x y children; primitives = the_forms by }) body)
-whole_at by x y children zero name kind body is = absurd (cc)
-whole_at by x y children (suc zero) name kind body is =
+whole_at by x y children zero name kind tried body is = absurd (cc)
+whole_at by x y children (suc zero) name kind tried body is =
     let kind_is : UnsignedShort ≡ kind = cc in
     let body_is : 0 ≡ body = cc in
     subst (λ (b : ℕ). IsWholeForm kind (form_at (record { rows = the_rows x y children; primitives = the_forms by }) b)) body_is
     (subst (λ (k : Simple). IsWholeForm k (form_at (record { rows = the_rows x y children; primitives = the_forms by }) 0)) kind_is
     (refl, record { count = 2; kind = refl; bits = refl; some = omega arith; few = omega arith; order = refl }))
-whole_at by x y children (suc (suc zero)) name kind body is = absurd (cc)
-whole_at by x y children (suc (suc (suc zero))) name kind body is = absurd (cc)
-whole_at by x y children (suc (suc (suc (suc row)))) name kind body is = absurd (cc)
+whole_at by x y children (suc (suc zero)) name kind tried body is = absurd (cc)
+whole_at by x y children (suc (suc (suc zero))) name kind tried body is = absurd (cc)
+whole_at by x y children (suc (suc (suc (suc row)))) name kind tried body is = absurd (cc)
 
 whole_there : (t : Table) (rows : List Row) (forms : List Primitive) (f : IntForm) (by : ByteOrder) (a g r : Row) (x y children : List ℕ)
     → t ≡ record { rows = rows; primitives = forms } → rows ≡ Leaf 0 ∷ a ∷ g ∷ r ∷ [] → forms ≡ Integer f ∷ []
     → f ≡ record { bits = 16; bytes_by = by; bits_by = MostFirst; point = 0; kind = UnsignedShort }
-    → a ≡ Elem x (Some UnsignedShort) 0 → g ≡ Group children → r ≡ Elem y None 2 → AreWholeFields t
+    → a ≡ Elem x (Some UnsignedShort) no_trials 0 → g ≡ Group children → r ≡ Elem y None no_trials 2 → AreWholeFields t
 whole_there t rows forms f by a g r x y children t_is rows_are forms_are f_is a_is g_is r_is =
     rw (t_is, rows_are, forms_are, f_is, a_is, g_is, r_is) (whole_at by x y children)
 
-element_plain : (row : Row) (x : List ℕ) (s : Option Simple) (i : ℕ) → row ≡ Elem x s i → IsPlainRow row
+element_plain : (row : Row) (x : List ℕ) (s : Option Simple) (i : ℕ) → row ≡ Elem x s no_trials i → IsPlainRow row
 element_plain row x s i is = rw is tt
 
 group_plain : (row : Row) (children : List ℕ) → row ≡ Group children → IsPlainRow row

@@ -1,8 +1,8 @@
-use Rattle.std.proofs.Common.{◌∙◌, refl, subst}
+use Rattle.std.proofs.Common.{subst}
 use Rattle.dfdl_compile.specs.Compiled.{compiled}
 use Rattle.dfdl_compile.specs.Faults.{IsFaultOf}
 use Rattle.dfdl_run.specs.Schemas.{most_depth, most_rows, purpose_of}
-use Rattle.dfdl_run.proofs.Loads.{compiled_described, fault_stops, refused_fault}
+use Rattle.dfdl_run.proofs.Loads.{fault_stops, refused_fault}
 use Rattle.dfdl_run.proofs.loading.load_terms.Goals as goal
 
 pub returns-in-Err-clause-err : goal.returns-in-Err-clause-err

@@ -9,10 +9,11 @@ use Rattle.dfdl_run.proofs.parsing.parse.Goals as goal
 -- the bytes of the values are those of the document
 pub line_of-requires : goal.line_of-requires
 line_of-requires c =
-    let o : Outcome = document limits c.args.terms.now c.args.bytes.now in
-    let parsed = c.in-Ok.ensures.ended in
+    let come = c.requires.come in
+    let o : Outcome = document limits c.args.terms.now come.bytes in
+    let parsed = come.ended.parsed in
     let have : HaveTexts o.state.nodes o.state.text =
-    c.documents_have_texts.ensures limits c.args.terms.now c.args.bytes.now c.are_bytes.ensures in
+    c.documents_have_texts.ensures limits c.args.terms.now come.bytes come.ended.are_bytes c.rows-rows.ensures.table.bounded in
     record {
       texts = subst (λ (nodes : List Node). HaveTexts nodes c.text.result.now) (sym (c.nodes.ensures.ended o parsed.steps parsed.allowed parsed.ends))
           (subst (λ (text : List ℕ). HaveTexts o.state.nodes text) (sym (c.text.ensures.ended o parsed.steps parsed.allowed parsed.ends)) have);

@@ -8,11 +8,9 @@ use Rattle.dfdl_parse.proofs.parser.Parser.enter.Goals as goal
 pub returns-in_ok-waits-in-Leaf-clause-moved : goal.returns-in_ok-waits-in-Leaf-clause-moved
 returns-in_ok-waits-in-Leaf-clause-moved g c =
     let old = c.args.self.now in
-    leaf-entered (limits_of old c.args.sight.now) c.args.terms.now c.args.sight.now c.args.id c.row.result.now old.stack (state_of old) old.far c.read.new.self
-    c.row.ensures.row old.focus c.in-Leaf.prim c.primitives.result.now c.index-primitives-prim.result (primitive_of c.of.result) c.in_ok-waits-in-Leaf.waits
-    c.read.new.sight (c.read.new.steps - c.args.steps.now) c.in-Leaf.is c.row.ensures.named (c.primitives.ensures ∙ c.tables.ensures.tables)
-    c.index-primitives-prim.is c.of.ensures.primitive c.requires.focus
-    (c.in_ok-waits-in-Leaf.ensures.moved one_row (refl, refl))
+    leaf-entered (limits_of old c.args.sight.now) c.args.terms.now c.args.sight.now c.args.id c.row.result.now old.stack (state_of old) old.far c.begin_leaf_of.new.self
+    c.row.ensures.row old.focus c.in-Leaf.prim c.in_ok-waits-in-Leaf.waits c.begin_leaf_of.new.sight (c.begin_leaf_of.new.steps - c.args.steps.now)
+    c.in-Leaf.is c.requires.focus (c.in_ok-waits-in-Leaf.ensures.moved one_row (refl, refl))
 
 pub returns-in_ok-begin_box-in-Boxed-clause-moved : goal.returns-in_ok-begin_box-in-Boxed-clause-moved
 returns-in_ok-begin_box-in-Boxed-clause-moved g c =

@@ -9,3 +9,8 @@ pub returns-in-Element-clause-moved : goal.returns-in-Element-clause-moved
 returns-in-Element-clause-moved c held =
     subst (λ (f : Frame). Moved (leave_done c.args.terms.now held f c.args.self.now.stack (state_of c.args.self.now)) false c.args.self.now.far c.close.new.self held 0)
     (sym c.in-Element.is) (c.close.ensures.moved held)
+
+pub returns-in-Trial-clause-moved : goal.returns-in-Trial-clause-moved
+returns-in-Trial-clause-moved c held =
+    subst (λ (f : Frame). Moved (leave_done c.args.terms.now held f c.args.self.now.stack (state_of c.args.self.now)) false c.args.self.now.far c.end_trial.new.self held 0)
+    (sym c.in-Trial.is) (c.end_trial.ensures.moved held)

@@ -10,9 +10,11 @@ use Rattle.dfdl_pieces.proofs.Moving.{if_ok, if_ok_both, if_ok_any, is_less, les
 use Rattle.dfdl_pieces.proofs.unparsing.Unparser.lay.Goals as goal
 
 pub lay_simple-requires-clause-row : goal.lay_simple-requires-clause-row
-lay_simple-requires-clause-row c =
-    there _ _ _ c.in-Some-Elem.ensures.row (c.in-Some-Elem.field-0-is ∙ (ap (λ s. Elem c.in-Some-Elem.name s c.in-Some-Elem.body) c.in-Some.is
-    ∙ ap (λ n. Elem n (Some c.in-Some.kind) c.in-Some-Elem.body) (sym c.as_str.ensures)))
+lay_simple-requires-clause-row c = (
+  c.in-Some-Elem.field-0-2,
+  there _ _ _ c.in-Some-Elem.ensures.row (c.in-Some-Elem.field-0-is ∙ (ap (λ s. Elem c.in-Some-Elem.name s c.in-Some-Elem.field-0-2 c.in-Some-Elem.body) c.in-Some.is
+      ∙ ap (λ n. Elem n (Some c.in-Some.kind) c.in-Some-Elem.field-0-2 c.in-Some-Elem.body) (sym c.as_str.ensures))),
+)
 
 pub returns-in-Some-clause-moves : goal.returns-in-Some-clause-moves
 returns-in-Some-clause-moves c =
@@ -22,9 +24,9 @@ returns-in-Some-clause-moves c =
     if_ok_both c.lay_simple.result _ _ _ c.lay_simple.ensures.moves c.lay_simple.ensures.names
     (λ missing moves names. moves_same t c.args.events.now old c.lay_simple.new.self
     (Takes (λ event. value_laying (c.as_str.result.now ∷ old.around) (form_at t c.in-Some-Elem.body) more (value_for c.args.row event))) (laying t c.args.row old.around more) missing
-    (laid_simple t c.args.row old.around more c.as_str.result.now c.in-Some.kind c.in-Some-Elem.body
-    (there _ _ _ c.in-Some-Elem.ensures.row (c.in-Some-Elem.field-0-is ∙ (ap (λ s. Elem c.in-Some-Elem.name s c.in-Some-Elem.body) c.in-Some.is
-    ∙ ap (λ n. Elem n (Some c.in-Some.kind) c.in-Some-Elem.body) (sym c.as_str.ensures)))))
+    (laid_simple t c.args.row old.around more c.as_str.result.now c.in-Some.kind c.in-Some-Elem.field-0-2 c.in-Some-Elem.body
+    (there _ _ _ c.in-Some-Elem.ensures.row (c.in-Some-Elem.field-0-is ∙ (ap (λ s. Elem c.in-Some-Elem.name s c.in-Some-Elem.field-0-2 c.in-Some-Elem.body) c.in-Some.is
+    ∙ ap (λ n. Elem n (Some c.in-Some.kind) c.in-Some-Elem.field-0-2 c.in-Some-Elem.body) (sym c.as_str.ensures)))))
     c.lay_simple.ensures.tasks names (moves more))
 
 pub returns-in-Some-clause-less : goal.returns-in-Some-clause-less
@@ -42,10 +44,10 @@ returns-in-None-simple-clause-moves c =
     (λ missing moves. moves_too c.args.events.now old new
     (Takes (λ event. begun_laying (c.as_str-in-None-simple.result.now ∷ old.around) (laying t c.in-Some-Elem.body (c.as_str-in-None-simple.result.now ∷ old.around) (Takes (λ end. more))) (begins c.args.row event)))
     (laying t c.args.row old.around more) (left t new.tasks.items new.around) missing
-    (laid_complex t c.args.row old.around more c.as_str-in-None-simple.result.now c.in-Some-Elem.body
-    (there _ _ _ c.in-Some-Elem.ensures.row (c.in-Some-Elem.field-0-is ∙ (ap (λ s. Elem c.in-Some-Elem.name s c.in-Some-Elem.body) c.in-None-simple.is
-    ∙ ap (λ n. Elem n None c.in-Some-Elem.body) (sym c.as_str-in-None-simple.ensures))))
-    (below_elem _ _ _ _ _ c.in-Some-Elem.field-0-is c.in-Some-Elem.ensures.nests)) moves)
+    (laid_complex t c.args.row old.around more c.as_str-in-None-simple.result.now c.in-Some-Elem.field-0-2 c.in-Some-Elem.body
+    (there _ _ _ c.in-Some-Elem.ensures.row (c.in-Some-Elem.field-0-is ∙ (ap (λ s. Elem c.in-Some-Elem.name s c.in-Some-Elem.field-0-2 c.in-Some-Elem.body) c.in-None-simple.is
+    ∙ ap (λ n. Elem n None c.in-Some-Elem.field-0-2 c.in-Some-Elem.body) (sym c.as_str-in-None-simple.ensures))))
+    (below_elem _ _ _ _ _ _ c.in-Some-Elem.field-0-is c.in-Some-Elem.ensures.nests)) moves)
 
 pub returns-in-None-simple-clause-less : goal.returns-in-None-simple-clause-less
 returns-in-None-simple-clause-less c =
@@ -53,9 +55,9 @@ returns-in-None-simple-clause-less c =
     let old = c.args.self.now in
     if_ok c.lay_complex.result _ _ c.lay_complex.ensures.less
     (λ missing less. less_too t (2 + steps_of t c.in-Some-Elem.body + steps_left t old.tasks.items) (steps_of t c.args.row + steps_left t old.tasks.items) c.lay_complex.new.self missing
-    (complex_less t c.args.row old.tasks.items c.lay_complex.new.self.tasks.items c.in-Some-Elem.name c.in-Some-Elem.body
-    (there _ _ _ c.in-Some-Elem.ensures.row (c.in-Some-Elem.field-0-is ∙ ap (λ s. Elem c.in-Some-Elem.name s c.in-Some-Elem.body) c.in-None-simple.is))
-    (below_elem _ _ _ _ _ c.in-Some-Elem.field-0-is c.in-Some-Elem.ensures.nests)) less)
+    (complex_less t c.args.row old.tasks.items c.lay_complex.new.self.tasks.items c.in-Some-Elem.name c.in-Some-Elem.field-0-2 c.in-Some-Elem.body
+    (there _ _ _ c.in-Some-Elem.ensures.row (c.in-Some-Elem.field-0-is ∙ ap (λ s. Elem c.in-Some-Elem.name s c.in-Some-Elem.field-0-2 c.in-Some-Elem.body) c.in-None-simple.is))
+    (below_elem _ _ _ _ _ _ c.in-Some-Elem.field-0-is c.in-Some-Elem.ensures.nests)) less)
 
 pub returns-in-Some-Group-clause-moves : goal.returns-in-Some-Group-clause-moves
 returns-in-Some-Group-clause-moves c =

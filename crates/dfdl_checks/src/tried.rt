@@ -1,0 +1,219 @@
+// The representations of a simple element besides its normal one.
+ghost use Rattle.std.specs.Prelude.{◌≡◌, IfOk, option_and_then, option_map};
+ghost use Rattle.std.specs.Option.{option_map_or};
+ghost use Rattle.dfdl_checks.specs.JudgedShown.{judged_of};
+ghost use Rattle.dfdl_checks.specs.Numbers.{primitive_of};
+ghost use Rattle.dfdl_checks.specs.Representations as tried;
+ghost use Rattle.dfdl_terms.specs.Rows.{IsPrimitive};
+
+use crate::defaults::empty_value;
+use crate::kinds::is_string_or_bytes;
+use crate::nils::nil_form_of;
+use crate::prefixes::{bounded_primitive, size_of};
+use crate::purpose::Purpose;
+use crate::representations::{is_nillable, is_prefixed};
+use crate::subject::{Kind, Subject};
+use dfdl_forms::{BitOrder, PadForm, Simple};
+use dfdl_terms::{
+    DefaultForm, NilForm, NilOctets, NilTexts, OctetForm, Primitive, TextContent, TextForm,
+    TextSize,
+};
+use dfdl_value::Value;
+use std::alloc::{AllocError, Global};
+
+/// The representations of an element besides its normal one ('DFDL Data Syntax Grammar').
+#[derive(Debug, Drop)]
+pub struct OtherRepresentations {
+    /// How its content is read as nil, where it may be nil.
+    pub nil: Option<Primitive>,
+    /// How its content is read as empty, where no bits stand for a value.
+    pub empty: Option<Primitive>,
+    /// More than one representation can be tried.
+    pub are_several: bool,
+}
+
+/// Which representations of a simple element besides its normal one are tried; a component that breaks a rule on its normal
+/// one has no other.
+pub fn other_representations(
+    alloc: Global,
+    subject: &Subject<'_, '_, '_>,
+) -> Result<OtherRepresentations, AllocError>
+    ensures { IfOk result (λ others. others ≡ tried.representations_of (judged_of subject.now)) }
+{
+    match subject.purpose {
+        Purpose::Parsing => of_kind(alloc, subject.kind, subject),
+        Purpose::Unparsing => Ok(no_representations()),
+    }
+}
+
+/// No representation besides the normal one.
+fn no_representations() -> OtherRepresentations
+    ensures { result ≡ tried.no_representations }
+{
+    OtherRepresentations {
+        nil: None,
+        empty: None,
+        are_several: false,
+    }
+}
+
+/// The representations of a component of a kind, for parsing.
+fn of_kind(
+    alloc: Global,
+    kind: Kind,
+    subject: &Subject<'_, '_, '_>,
+) -> Result<OtherRepresentations, AllocError>
+    ensures { IfOk result (λ others. others
+        ≡ tried.representations_by (judged_of subject.now) kind (primitive_of (judged_of subject.now))) }
+{
+    match kind {
+        Kind::SimpleElement(simple) => of_type(alloc, simple, subject),
+        _ => Ok(no_representations()),
+    }
+}
+
+/// The same of an element of a type.
+fn of_type(
+    alloc: Global,
+    simple: Simple,
+    subject: &Subject<'_, '_, '_>,
+) -> Result<OtherRepresentations, AllocError>
+    ensures { IfOk result (λ others. others
+        ≡ tried.representations_by (judged_of subject.now) (Kind.SimpleElement simple) (primitive_of (judged_of subject.now))) }
+{
+    match bounded_primitive(alloc, subject)? {
+        Some(primitive) => of_primitive(alloc, simple, subject, &primitive),
+        None => Ok(no_representations()),
+    }
+}
+
+/// The same of one with this primitive.
+fn of_primitive(
+    alloc: Global,
+    simple: Simple,
+    subject: &Subject<'_, '_, '_>,
+    primitive: &Primitive,
+) -> Result<OtherRepresentations, AllocError>
+    requires { IsPrimitive primitive.now }
+    ensures { IfOk result (λ others. others ≡ tried.representations_with (judged_of subject.now) simple primitive.now) }
+{
+    let nil = nil_of(alloc, subject, primitive)?;
+    let empty = empty_of(alloc, simple, subject, size_of(primitive))?;
+    Ok(OtherRepresentations {
+        nil,
+        empty,
+        are_several: are_several(subject),
+    })
+}
+
+/// Whether more than one representation can be tried, though it may always give way.
+fn are_several(subject: &Subject<'_, '_, '_>) -> bool
+    ensures { result ≡ tried.are_several (judged_of subject.now) }
+{
+    is_nillable(subject) || is_string_or_bytes(subject.kind) || subject.facts.default.is_some()
+}
+
+/// The nil representation of an element with this primitive, where it may be nil.
+fn nil_of(
+    alloc: Global,
+    subject: &Subject<'_, '_, '_>,
+    primitive: &Primitive,
+) -> Result<Option<Primitive>, AllocError>
+    ensures { IfOk result (λ nil. nil ≡ tried.nil_of (judged_of subject.now) primitive.now) }
+{
+    match nil_form_of(alloc, subject)? {
+        Some(nil) => Ok(nil_by(primitive, nil)),
+        None => Ok(None),
+    }
+}
+
+/// Nil in the box of a primitive; a primitive that is no component's own has none.
+fn nil_by(primitive: &Primitive, nil: NilForm) -> Option<Primitive>
+    ensures { result ≡ tried.nil_by primitive.now nil }
+{
+    match primitive {
+        Primitive::Integer(form) => Some(nil_octets(nil, u64::from(form.bits), form.bits_by)),
+        Primitive::Packed(form) => {
+            Some(nil_octets(nil, 4 * u64::from(form.nibbles), form.bits_by))
+        }
+        Primitive::Truth(form) => Some(nil_octets(nil, u64::from(form.bits), form.bits_by)),
+        Primitive::Octets(form) => Some(nil_octets(nil, form.bits, form.bits_by)),
+        Primitive::Text(form) => Some(Primitive::Text(nil_text(nil, form))),
+        Primitive::NilOctets(_) | Primitive::Default(_) => None,
+    }
+}
+
+/// Nil in a box of so many bits, in this order.
+fn nil_octets(nil: NilForm, bits: u64, bits_by: BitOrder) -> Primitive
+    ensures { result ≡ tried.nil_octets nil bits bits_by }
+{
+    Primitive::NilOctets(NilOctets {
+        octets: OctetForm { bits, bits_by },
+        nil,
+    })
+}
+
+/// Nil in place of what a text is read as.
+fn nil_text(nil: NilForm, form: &TextForm) -> TextForm
+    ensures { result ≡ tried.nil_text nil form.now }
+{
+    TextForm {
+        encoding: form.encoding,
+        replaces: form.replaces,
+        size: form.size,
+        pad: nil_pad(&nil.texts, form.pad),
+        content: TextContent::Nil(nil),
+    }
+}
+
+/// What is trimmed before a text is compared with those of nil.
+fn nil_pad(texts: &NilTexts, pad: PadForm) -> PadForm
+    ensures { result ≡ tried.nil_pad texts.now pad }
+{
+    match texts {
+        NilTexts::Literals(_) => pad,
+        NilTexts::Character(_) => PadForm { trim: None, ..pad },
+    }
+}
+
+/// Whether a box of a size has nothing in it.
+fn is_nothing(size: TextSize) -> bool
+    ensures { result ≡ tried.is_nothing size }
+{
+    match size {
+        TextSize::Bits(count) | TextSize::Characters(count) => count == 0,
+    }
+}
+
+/// Whether a box of a size can be empty.
+fn can_be_empty(subject: &Subject<'_, '_, '_>, size: TextSize) -> bool
+    ensures { result ≡ tried.can_be_empty (judged_of subject.now) size }
+{
+    is_prefixed(subject) || is_nothing(size)
+}
+
+/// The empty representation of an element with this size, where no bits stand for a value.
+fn empty_of(
+    alloc: Global,
+    simple: Simple,
+    subject: &Subject<'_, '_, '_>,
+    size: TextSize,
+) -> Result<Option<Primitive>, AllocError>
+    ensures { IfOk result (λ empty. empty ≡ tried.empty_of (judged_of subject.now) simple size) }
+{
+    if !can_be_empty(subject, size) {
+        return Ok(None);
+    }
+    let value = empty_value(alloc, simple, subject)?;
+    Ok(default_in(size, value))
+}
+
+/// No bits in a box of a size, which stand for a value, if there is one.
+fn default_in(size: TextSize, value: Option<Value>) -> Option<Primitive>
+    ensures { result ≡ option_map (tried.default_in size) value }
+{
+    match value {
+        Some(value) => Some(Primitive::Default(DefaultForm { size, value })),
+        None => None,
+    }
+}

@@ -1,0 +1,18 @@
+/// A place that parsing can go back to, and what was known there ('Parsing Algorithm').
+#[derive(Debug, Clone, Copy, PartialEq, Eq)]
+pub struct Mark {
+    /// its bit
+    pub at: u64,
+    /// It is a point of uncertainty.
+    pub is_point: bool,
+    /// It is a point of uncertainty that is resolved.
+    pub is_resolved: bool,
+    /// the bit at which the innermost box ends
+    pub stop: u64,
+    /// how many elements have begun
+    pub nodes: u32,
+    /// how many bytes their strings and hexBinary values have
+    pub text: u32,
+    /// the number of the innermost element that is open
+    pub inside: u32,
+}

@@ -1,0 +1,7 @@
+mod Marks
+mod Ends
+mod Passes
+mod Spaces
+mod Steps
+mod Repeats
+mod PlainLaws

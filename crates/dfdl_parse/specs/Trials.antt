@@ -1,0 +1,70 @@
+-- The steps of an element, by its representations.
+use Rattle.std.specs.Prelude.{ℕ, nat_lt, List, ◌∷◌, length, Option, Some, None, if◌then◌else◌}
+use Rattle.dfdl_bits.specs.Window.{Held}
+use Rattle.dfdl_report.specs.declared.cause.LimitCause.TheVariants.{Nodes}
+use Rattle.dfdl_terms.specs.declared.row.Row.{Row}
+use Rattle.dfdl_terms.specs.declared.row.Row.TheVariants.{Leaf, Elem, Group, Skip, Align, Boxed, PrefixedLeaf, PrefixedBox}
+use Rattle.dfdl_looks.specs.Tallies.{Tally, nothing, one_row, plus}
+use Rattle.dfdl_grammar.specs.declared.end.End.{End}
+use Rattle.dfdl_grammar.specs.declared.end.End.TheVariants.{Stopped}
+use Rattle.dfdl_grammar.specs.States.{State}
+use Rattle.dfdl_grammar.specs.Marks.{back, closed, marked}
+use Rattle.dfdl_grammar.specs.Elements.{begun, has_elements}
+use Rattle.dfdl_parse.specs.declared.frame.Frame.{Frame}
+use Rattle.dfdl_parse.specs.declared.frame.Frame.TheVariants.{Element, Trial}
+use Rattle.dfdl_parse.specs.declared.frame.Next.{Next}
+use Rattle.dfdl_parse.specs.declared.frame.Next.TheVariants as next
+use Rattle.dfdl_parse.specs.declared.frame.Focus.TheVariants.{Enter, Leave}
+use Rattle.dfdl_parse.specs.declared.frame.Parts.{Parts}
+use Rattle.dfdl_parse.specs.Moves.{Move, pass}
+
+-- what the row of an element says of it
+abbrev pub parts_of : Option Row → Option Parts
+parts_of None = None
+parts_of (Some (Leaf prim)) = None
+parts_of (Some (Elem name simple tried body)) = Some (record { complex = has_elements simple; tried = tried; body = body })
+parts_of (Some (Group children)) = None
+parts_of (Some (Skip bits)) = None
+parts_of (Some (Align bits)) = None
+parts_of (Some (Boxed bits body)) = None
+parts_of (Some (PrefixedLeaf prefix prim)) = None
+parts_of (Some (PrefixedBox prefix body)) = None
+
+-- the cost of an element's row and of its first representation
+abbrev pub two_rows : Tally
+two_rows = plus one_row one_row
+
+-- one representation of an element begins, where there are fewer elements than most
+abbrev pub attempt : Tally → ℕ → Held → ℕ → Parts → Option ℕ → List Frame → State → Move
+attempt cost most held id parts instead k s =
+    if nat_lt (length s.nodes) most
+    then pass cost held (Enter parts.body) (Element s.inside parts.complex ∷ k) (begun id instead s)
+    else pass cost held (Leave (Stopped Nodes most)) k s
+
+-- the normal representation begins, as the last one
+abbrev pub try_normal : Tally → ℕ → Held → ℕ → Parts → List Frame → State → Move
+try_normal cost most held id parts k s = attempt cost most held id parts None (Trial id next.Nothing ∷ k) s
+
+-- the empty representation begins, where there is one, and else the normal one
+abbrev pub try_empty : Tally → ℕ → Held → ℕ → Parts → Option ℕ → List Frame → State → Move
+try_empty cost most held id parts None k s = try_normal cost most held id parts k s
+try_empty cost most held id parts (Some prim) k s = attempt cost most held id parts (Some prim) (Trial id next.Normal ∷ k) s
+
+-- the nil representation begins, where there is one, and else another one
+abbrev pub try_nil : Tally → ℕ → Held → ℕ → Parts → Option ℕ → List Frame → State → Move
+try_nil cost most held id parts None k s = try_empty cost most held id parts parts.tried.empty k s
+try_nil cost most held id parts (Some prim) k s = attempt cost most held id parts (Some prim) (Trial id next.Empty ∷ k) s
+
+-- an element begins: with a mark, where it has several representations
+abbrev pub enter_element : ℕ → Held → ℕ → Parts → List Frame → State → Move
+enter_element most held id parts k s =
+    if parts.tried.are_several
+    then try_nil two_rows most held id parts parts.tried.nil k (marked s)
+    else attempt two_rows most held id parts None k s
+
+-- a representation has failed at this end: the next one begins at the mark, or the mark is closed
+abbrev pub retry : ℕ → Held → ℕ → Option Parts → Next → End → List Frame → State → Move
+retry most held id None follows end k s = pass nothing held (Leave end) k (closed s)
+retry most held id (Some parts) next.Empty end k s = try_empty one_row most held id parts parts.tried.empty k (back s)
+retry most held id (Some parts) next.Normal end k s = try_normal one_row most held id parts k (back s)
+retry most held id (Some parts) next.Nothing end k s = pass nothing held (Leave end) k (closed s)

@@ -1,0 +1,81 @@
+// The open marks of the machine.
+ghost use Rattle.std.specs.Prelude.{◌≡◌, ℕ, [], ◌∷◌, IfSome, IfNone, OnOk, IfOk, IsTrue, ◌↔◌, reverse};
+ghost use Rattle.dfdl_grammar.specs.Marks.{outer_marks};
+ghost use Rattle.dfdl_grammar.specs.States.{held_from};
+
+use dfdl_grammar::Mark;
+use std::alloc::{AllocError, Global};
+use std::marker::Model;
+
+/// Marks, the innermost first.
+#[derive(Drop)]
+pub struct Marks {
+    marks: Vec<Mark>,
+}
+
+impl Model for Marks {
+    ghost use Rattle.std.specs.Prelude.{List, reverse};
+    ghost use Rattle.dfdl_grammar.specs.declared.mark.Mark.{Mark};
+
+    ghost Value = { List Mark };
+
+    ghost view = { λ m. reverse m.marks.items };
+}
+
+impl Marks {
+    /// No marks, with the memory for so many. More are taken as they are needed.
+    pub fn open(alloc: Global, room: usize) -> Result<Marks, AllocError>
+        ensures { IfOk result (λ marks. marks ≡ []) }
+    {
+        Ok(Marks {
+            marks: Vec::with_capacity(alloc, room)?,
+        })
+    }
+
+    pub(crate) fn push(&mut self, mark: Mark) -> Result<(), AllocError>
+        ensures { OnOk result (self.new ≡ mark ∷ self.old) }
+    {
+        self.marks.push(mark)?;
+        Ok(())
+    }
+
+    /// Closes the innermost mark, if there is one.
+    pub(crate) fn close(&mut self)
+        ensures { self.new ≡ outer_marks self.old }
+    {
+        self.marks.pop();
+    }
+
+    /// The innermost mark.
+    pub(crate) fn innermost(&self) -> Option<Mark>
+        ensures some { IfSome result (λ mark. self.now ≡ mark ∷ outer_marks self.now) }
+        ensures none { IfNone result (self.now ≡ []) }
+    {
+        self.marks.last().copied()
+    }
+
+    pub(crate) fn is_empty(&self) -> bool
+        ensures { IsTrue result ↔ (self.now ≡ []) }
+    {
+        self.marks.is_empty()
+    }
+
+    /// The bit of the outermost mark that isn't resolved, or this one where there is none.
+    pub(crate) fn held_from(&self, bit: u64) -> u64
+        ensures { result ≡ held_from self.now bit }
+    {
+        first_held(self.marks.as_slice(), bit)
+    }
+}
+
+// The bit of the first mark that isn't resolved, or this one where there is none.
+fn first_held(marks: &[Mark], bit: u64) -> u64
+    ensures { result ≡ held_from (reverse marks.now) bit }
+{
+    for mark in marks {
+        if !mark.is_resolved {
+            return mark.at;
+        }
+    }
+    bit
+}

@@ -1,0 +1,240 @@
+// An element, by its representations: nil, empty and normal, in this order from one place.
+ghost use Rattle.std.specs.Prelude.{◌≡◌, ◌≤◌, ◌∷◌, Some, false, OnOk, slice_get};
+ghost use Rattle.dfdl_bits.specs.Window.{Held};
+ghost use Rattle.dfdl_grammar.specs.Marks.{back, back_to, closed, mark_at};
+ghost use Rattle.dfdl_looks.specs.Tallies.{Tally, nothing};
+ghost use Rattle.dfdl_parse.specs.Moves.{pass};
+ghost use Rattle.dfdl_parse.specs.Opens.{IsBefore};
+ghost use Rattle.dfdl_parse.specs.Trials.{attempt, enter_element, parts_of, retry, try_empty, try_nil, try_normal};
+ghost use Rattle.dfdl_parse.specs.Steps.{IsFree, Moved};
+ghost use Rattle.dfdl_parse.specs.Shown.{Becomes, HasSameLimits, state_of};
+
+use crate::frame::{Focus, Frame, Next, Parts};
+use crate::parser::Parser;
+use dfdl_grammar::{End, Mark};
+use dfdl_region::{Content, Node};
+use dfdl_report::LimitCause;
+use dfdl_terms::{Row, RowId, Terms};
+use std::alloc::AllocError;
+
+impl Parser {
+    // An element begins: with a mark, where it has several representations.
+    pub(crate) fn begin_element(&mut self, id: RowId, parts: Parts) -> Result<(), AllocError>
+        ensures moved { (held : Held) → OnOk result (Moved
+            (enter_element self.old.region.most held id parts self.old.stack (state_of self.old)) false self.old.far self.new held 0) }
+        ensures most { OnOk result (HasSameLimits self.old self.new) }
+        ensures at { OnOk result (self.new.at ≡ self.old.at) }
+    {
+        if parts.tried.are_several {
+            self.mark()?;
+            self.try_nil(id, parts, parts.tried.nil)
+        } else {
+            self.attempt(id, parts, None)
+        }
+    }
+
+    // A mark is opened here.
+    fn mark(&mut self) -> Result<(), AllocError>
+        ensures { OnOk result (self.new ≡ record self.old { marks = mark_at (state_of self.old) ∷ self.old.marks }) }
+    {
+        self.marks.push(Mark {
+            at: self.at,
+            is_point: false,
+            is_resolved: false,
+            stop: self.stop,
+            nodes: self.region.count(),
+            text: self.text.count(),
+            inside: self.inside,
+        })?;
+        Ok(())
+    }
+
+    // The nil representation begins, where there is one, and else another one.
+    fn try_nil(&mut self, id: RowId, parts: Parts, nil: Option<u32>) -> Result<(), AllocError>
+        ensures moved { (held : Held) (cost : Tally) → IsFree cost → OnOk result (Moved
+            (try_nil cost self.old.region.most held id parts nil self.old.stack (state_of self.old)) false self.old.far self.new held 0) }
+        ensures most { OnOk result (HasSameLimits self.old self.new) }
+        ensures at { OnOk result (self.new.at ≡ self.old.at) }
+    {
+        match nil {
+            None => self.try_empty(id, parts, parts.tried.empty),
+            Some(prim) => self.attempt_before(id, parts, Some(prim), Next::Empty),
+        }
+    }
+
+    // The empty representation begins, where there is one, and else the normal one.
+    fn try_empty(&mut self, id: RowId, parts: Parts, empty: Option<u32>) -> Result<(), AllocError>
+        ensures moved { (held : Held) (cost : Tally) → IsFree cost → OnOk result (Moved
+            (try_empty cost self.old.region.most held id parts empty self.old.stack (state_of self.old)) false self.old.far self.new held 0) }
+        ensures most { OnOk result (HasSameLimits self.old self.new) }
+        ensures at { OnOk result (self.new.at ≡ self.old.at) }
+    {
+        match empty {
+            None => self.try_normal(id, parts),
+            Some(prim) => self.attempt_before(id, parts, Some(prim), Next::Normal),
+        }
+    }
+
+    // The normal representation begins, as the last one.
+    fn try_normal(&mut self, id: RowId, parts: Parts) -> Result<(), AllocError>
+        ensures moved { (held : Held) (cost : Tally) → IsFree cost → OnOk result (Moved
+            (try_normal cost self.old.region.most held id parts self.old.stack (state_of self.old)) false self.old.far self.new held 0) }
+        ensures most { OnOk result (HasSameLimits self.old self.new) }
+        ensures at { OnOk result (self.new.at ≡ self.old.at) }
+    {
+        self.attempt_before(id, parts, None, Next::Nothing)
+    }
+
+    // One of several representations begins, behind which this follows where it fails.
+    fn attempt_before(
+        &mut self,
+        id: RowId,
+        parts: Parts,
+        instead: Option<u32>,
+        next: Next,
+    ) -> Result<(), AllocError>
+        ensures moved { (held : Held) (cost : Tally) → IsFree cost → OnOk result (Moved
+            (attempt cost self.old.region.most held id parts instead (Frame.Trial id next ∷ self.old.stack) (state_of self.old))
+            false self.old.far self.new held 0) }
+        ensures most { OnOk result (HasSameLimits self.old self.new) }
+        ensures at { OnOk result (self.new.at ≡ self.old.at) }
+    {
+        self.stack.push(Frame::Trial { element: id, next })?;
+        self.attempt(id, parts, instead)
+    }
+
+    // One representation of an element begins, and its content is done next.
+    fn attempt(&mut self, id: RowId, parts: Parts, instead: Option<u32>) -> Result<(), AllocError>
+        ensures moved { (held : Held) (cost : Tally) → IsFree cost → OnOk result (Moved
+            (attempt cost self.old.region.most held id parts instead self.old.stack (state_of self.old)) false self.old.far self.new held 0) }
+        ensures most { OnOk result (HasSameLimits self.old self.new) }
+        ensures at { OnOk result (self.new.at ≡ self.old.at) }
+    {
+        let outer = self.inside;
+        let node = Node {
+            element: id,
+            parent: outer,
+            content: Content::Begun,
+        };
+        match self.region.add(node) {
+            Ok(number) => {
+                let complex = parts.complex;
+                self.stack.push(Frame::Element { outer, complex })?;
+                self.inside = number;
+                self.instead = instead;
+                self.focus = Focus::Enter(parts.body);
+            }
+            Err(_) => {
+                let most = u64::from(self.region.most());
+                self.stop_at(LimitCause::Nodes, most);
+            }
+        }
+        Ok(())
+    }
+
+    // A representation has failed at this end: the next one begins at the mark, or the mark is closed.
+    pub(crate) fn retry(
+        &mut self,
+        parts: Option<Parts>,
+        id: RowId,
+        next: Next,
+        end: End,
+    ) -> Result<(), AllocError>
+        ensures moved { (held : Held) → OnOk result (Moved
+            (retry self.old.region.most held id parts next end self.old.stack (state_of self.old)) false self.old.far self.new held 0) }
+        ensures most { OnOk result (HasSameLimits self.old self.new) }
+        ensures at { OnOk result (IsBefore self.old.marks self.old.at → self.new.at ≤ self.old.at) }
+    {
+        match parts {
+            Some(parts) => self.retry_by(parts, id, next, end),
+            None => {
+                self.end_trial(end);
+                Ok(())
+            }
+        }
+    }
+
+    // A representation of an element of which this is known has failed at an end.
+    fn retry_by(&mut self, parts: Parts, id: RowId, next: Next, end: End) -> Result<(), AllocError>
+        ensures moved { (held : Held) → OnOk result (Moved
+            (retry self.old.region.most held id (Some parts) next end self.old.stack (state_of self.old)) false self.old.far self.new held 0) }
+        ensures most { OnOk result (HasSameLimits self.old self.new) }
+        ensures at { OnOk result (IsBefore self.old.marks self.old.at → self.new.at ≤ self.old.at) }
+    {
+        match next {
+            Next::Empty => {
+                self.go_back();
+                self.try_empty(id, parts, parts.tried.empty)
+            }
+            Next::Normal => {
+                self.go_back();
+                self.try_normal(id, parts)
+            }
+            Next::Nothing => {
+                self.end_trial(end);
+                Ok(())
+            }
+        }
+    }
+
+    // The last representation has come to an end, and the mark is closed.
+    pub(crate) fn end_trial(&mut self, end: End)
+        ensures moved { (held : Held) → Moved
+            (pass nothing held (Focus.Leave end) self.old.stack (closed (state_of self.old))) false self.old.far self.new held 0 }
+        ensures most { HasSameLimits self.old self.new }
+        ensures at { self.new.at ≡ self.old.at }
+    {
+        self.marks.close();
+        self.focus = Focus::Leave(end);
+    }
+
+    // The state is again that of the innermost mark, which stays open.
+    fn go_back(&mut self)
+        ensures back { Becomes self.old (record { focus = self.old.focus; stack = self.old.stack; state = back (state_of self.old) }) self.new }
+        ensures at { IsBefore self.old.marks self.old.at → self.new.at ≤ self.old.at }
+    {
+        if let Some(mark) = self.marks.innermost() {
+            self.go_to(mark);
+        }
+    }
+
+    // The state is again that of a mark, which stays open.
+    fn go_to(&mut self, mark: Mark)
+        ensures back { Becomes self.old (record { focus = self.old.focus; stack = self.old.stack; state = back_to mark (state_of self.old) }) self.new }
+        ensures at { self.new.at ≡ mark.at }
+    {
+        self.at = mark.at;
+        self.stop = mark.stop;
+        self.region.undo_to(mark.nodes);
+        self.text.undo_to(mark.text);
+        self.inside = mark.inside;
+    }
+}
+
+/// What the row of an element says of it, if a row is one.
+pub(crate) fn parts_of(terms: &Terms, id: RowId) -> Option<Parts>
+    ensures { result ≡ parts_of (slice_get terms.now.rows id) }
+{
+    if id.number() >= terms.rows() {
+        return None;
+    }
+    match terms.row(id) {
+        Row::Elem {
+            simple,
+            tried,
+            body,
+            ..
+        } => Some(Parts {
+            complex: simple.is_none(),
+            tried: *tried,
+            body: *body,
+        }),
+        Row::Leaf { .. } => None,
+        Row::Group { .. } => None,
+        Row::Skip { .. } => None,
+        Row::Align { .. } => None,
+        Row::Boxed { .. } => None,
+        Row::PrefixedLeaf { .. } => None,
+        Row::PrefixedBox { .. } => None,
+    }
+}

@@ -1,0 +1,11 @@
+/// Which representations of an element are tried before its normal one, in this order, and by which primitives of the tables
+/// their content is read in place of that of the element ('DFDL Data Syntax Grammar').
+#[derive(Debug, Clone, Copy, PartialEq, Eq)]
+pub struct Representations {
+    /// The primitive of the nil representation, where that is tried.
+    pub nil: Option<u32>,
+    /// The primitive of the empty representation, where that is tried.
+    pub empty: Option<u32>,
+    /// More than one representation can be tried, so the data are needed from the bit on at which the element begins.
+    pub are_several: bool,
+}

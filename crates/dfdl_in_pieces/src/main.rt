@@ -1,0 +1,84 @@
+//! The program `dfdl_in_pieces` tests the parser over data in pieces. It reads cases from standard
+//! input, one a line, parses the data of each whole and in pieces of 1, 2, 3 and 7 bytes, tells
+//! each run that ends otherwise than expected, and then how many cases agree.
+#![tactic(auto)]
+
+mod case;
+mod running;
+
+use case::{Case, CaseFault};
+use dfdl_edge::{SourceFault, StdSource, read_to_limit};
+use running::run_in_pieces;
+use std::alloc::AllocError;
+use std::io;
+use std::process::ExitCode;
+use thiserror::Error;
+
+// The most bytes that the cases may have together.
+const MOST_INPUT: u64 = 1 << 20;
+
+// The sizes of the pieces, in bytes; 0 is whole.
+const SIZES: [usize; 5] = [0, 1, 2, 3, 7];
+
+// Why the cases were not tried to their end.
+#[derive(Debug, Drop, Error)]
+enum Fault {
+    #[error("standard input: {0}")]
+    Input(#[from] SourceFault),
+    #[error("case {0}: {1}")]
+    Case(usize, CaseFault),
+    #[error("standard output: {0}")]
+    Output(#[from] io::Error),
+    #[error("out of memory")]
+    OutOfMemory,
+}
+
+impl From<AllocError> for Fault {
+    fn from(_: AllocError) -> Fault {
+        Fault::OutOfMemory
+    }
+}
+
+// Tries the cases on standard input; whether all agree.
+fn try_all(rt: &HostRuntime) -> Result<bool, Fault> {
+    let alloc = rt.alloc();
+    let bytes = read_to_limit(alloc, &mut StdSource::new(rt.stdin()), MOST_INPUT)?;
+    let mut tried = 0;
+    let mut agreed = 0;
+    for line in bytes.split(|byte| *byte == b'\n') {
+        if line.is_empty() {
+            continue;
+        }
+        tried += 1;
+        let case = Case::read(alloc, line).map_err(|fault| Fault::Case(tried, fault))?;
+        if agrees(rt, tried, &case)? {
+            agreed += 1;
+        }
+    }
+    println!(rt; "{agreed} of {tried} cases agree, whole and in pieces")?;
+    Ok(agreed == tried)
+}
+
+// Whether the case ends as expected however its data are cut.
+fn agrees(rt: &HostRuntime, number: usize, case: &Case) -> Result<bool, Fault> {
+    let mut all = true;
+    for size in SIZES {
+        let ended = run_in_pieces(rt.alloc(), case, size)?;
+        if ended != case.expected {
+            println!(rt; "case {number} in pieces of {size}: {ended:?}")?;
+            all = false;
+        }
+    }
+    Ok(all)
+}
+
+fn main(rt: HostRuntime) -> ExitCode {
+    match try_all(&rt) {
+        Ok(true) => ExitCode::SUCCESS,
+        Ok(false) => ExitCode::FAILURE,
+        Err(fault) => {
+            let _ = eprintln!(rt; "{fault}");
+            ExitCode::FAILURE
+        }
+    }
+}

@@ -1,0 +1,4 @@
+mod Answered
+mod Opened
+mod Runs
+mod Settled

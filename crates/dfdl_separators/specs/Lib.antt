@@ -1,0 +1,4 @@
+pub mod Courses
+pub mod Groups
+pub mod Runs
+pub mod Verdicts

@@ -1,6 +1,7 @@
-use super::{VarDef, VarValues};
+use super::{VarDef, VarFault, VarValues, Vars};
 use dfdl_forms::Simple;
 use dfdl_value::{TextValue, Value};
+use std::alloc::{AllocError, Global};
 use std::test::Fail;
 
 #[test]
@@ -26,5 +27,27 @@ fn a_definition_holds_its_start(rt: HostRuntime) -> Result<(), Fail> {
     };
     assert_eq!(rt; size.name.as_str(), "size");
     assert!(rt; size.start == Some(Value::Int(-7)));
+    Ok(())
+}
+
+fn variable(alloc: Global) -> Result<VarDef, AllocError> {
+    Ok(VarDef {
+        name: TextValue::from_str(alloc, "size")?,
+        kind: Simple::Int,
+        start: Some(Value::Int(-7)),
+        external: true,
+    })
+}
+
+#[test]
+fn an_instance_is_set_once_and_not_behind_a_read(rt: HostRuntime) -> Result<(), Fail> {
+    let definitions = [variable(rt.alloc())?, variable(rt.alloc())?];
+    let given = VarValues::new(rt.alloc());
+    let mut vars = Vars::open(rt.alloc(), &definitions, &given, 0)?;
+    assert!(rt; vars.value(0) == Some(&Value::Int(-7)));
+    assert!(rt; vars.set(0, Value::Int(1)).is_ok());
+    assert!(rt; vars.value(0) == Some(&Value::Int(1)));
+    assert!(rt; vars.set(0, Value::Int(2)) == Err(VarFault::SetTwice));
+    assert!(rt; vars.enter(1, None).is_err());
     Ok(())
 }

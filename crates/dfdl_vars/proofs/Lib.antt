@@ -1,0 +1,4 @@
+mod Backs
+mod Placed
+mod Rooms
+mod Sound

@@ -1,0 +1,4 @@
+pub mod Instances
+pub mod Kept
+pub mod Marks
+pub mod VarsShown

@@ -1,0 +1,26 @@
+// Laws of the definitions. The calls do nothing.
+ghost use Rattle.std.specs.Prelude.{◌≡◌, ◌<◌, ◌≤◌, ◌*◌, ℕ, false, List, Option, length};
+ghost use Rattle.dfdl_value.specs.declared.value.Value.{Value};
+ghost use Rattle.dfdl_vars.specs.Instances.{has, is_set};
+ghost use Rattle.dfdl_vars.specs.Kept.{Kept, IsSound, with_setting, with_read, entered, left};
+ghost use Rattle.dfdl_vars.specs.declared.instances.Change.{Change};
+ghost use Rattle.dfdl_vars.specs.declared.instances.Instance.{Instance};
+ghost use Rattle.dfdl_vars.specs.Marks.{LeadsBack};
+
+/// A way back stays open while instances are set, read, entered and left, as long as no instance is left that was open there.
+pub fn ways_back()
+    ensures here { (now : Kept) → IsSound now.instances now.changes → now.globals ≤ length now.instances → LeadsBack now now }
+    ensures set { (base now : Kept) (place : ℕ) (value : Value) → LeadsBack base now
+        → has is_set now.instances place ≡ false → LeadsBack base (with_setting now place value) }
+    ensures read { (base now : Kept) (place : ℕ) → LeadsBack base now → LeadsBack base (with_read now place) }
+    ensures entered { (base now : Kept) (var : ℕ) (start : Option Value) → LeadsBack base now
+        → LeadsBack base (entered now var start) }
+    ensures left { (base now : Kept) → LeadsBack base now → length base.instances < length now.instances
+        → LeadsBack base (left now) }
+{}
+
+/// Of changes that are kept once each there are at most two for each instance.
+pub fn few_changes()
+    ensures { (n : ℕ) (instances : List Instance) (changes : List Change) → IsSound instances changes → length instances ≤ n
+        → length changes ≤ 2 * n }
+{}

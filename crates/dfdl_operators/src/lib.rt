@@ -1,0 +1,24 @@
+//! The operators of DFDL expressions on values: sums, products, quotients, the order of values.
+//!
+//! A number in an expression is a whole number or a decimal, and means an exact number over a power
+//! of ten. specs/Numbers.antt says which number a value is and which value carries a number,
+//! specs/Operators.antt what each operator answers: the contracts cite these. It serves the chapter
+//! 'DFDL Expression Language'.
+#![tactic(auto)]
+
+mod division;
+pub mod fault;
+mod held;
+mod number;
+pub mod operators;
+mod product;
+mod quotient;
+mod remainder;
+mod rounding;
+mod sum;
+mod zeros;
+
+pub use fault::OperatorFault;
+pub use operators::{
+    absolute, add, ceiling, divide, floor, integer_divide, modulo, multiply, negate, subtract,
+};

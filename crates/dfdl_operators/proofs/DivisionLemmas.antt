@@ -1,5 +1,5 @@
 -- Lemmas on division with zeros behind the dividend or the divisor.
-use Rattle.std.proofs.Common.{◌≡◌, ◌≢◌, ℕ, zero, suc, ◌+◌, ◌-◌, ◌*◌, ◌/◌, ◌%◌, ◌^◌, ◌<◌, ◌≤◌, max, sym, ap, ◌∙◌, arith}
+use Rattle.std.proofs.Common.{◌≡◌, ℕ, ◌+◌, ◌-◌, ◌*◌, ◌/◌, ◌%◌, ◌^◌, ◌<◌, ◌≤◌, max, sym, ap, ◌∙◌, arith}
 use Rattle.std.proofs.Math.Nat.{mul_assoc, div-add-mod, mul-lt-mul_of_pos_right, mod-lt, mod-eq_of_lt}
 use Rattle.dfdl_decimal.proofs.DivisionLemmas.{by_parts}
 use Rattle.dfdl_decimal.proofs.OrderLemmas.{pow_split, pow_some, some_product}

@@ -1,5 +1,5 @@
 -- Lemmas on exact quotients at 18 digits behind the point.
-use Rattle.std.proofs.Common.{◌≡◌, ◌≢◌, ℕ, ◌+◌, ◌-◌, ◌*◌, ◌/◌, ◌%◌, ◌^◌, ◌<◌, ◌≤◌, Bool, not, ◌==◌, if◌then◌else◌, sym, ap, ◌∙◌, inl, inr, arith, Option, Some, None, Err, pos, int_lt, unsigned_abs}
+use Rattle.std.proofs.Common.{◌≡◌, ◌≢◌, ℕ, ◌+◌, ◌-◌, ◌*◌, ◌%◌, ◌^◌, ◌≤◌, Bool, not, if◌then◌else◌, sym, ap, ◌∙◌, inl, inr, arith, None, Err, pos, int_lt, unsigned_abs}
 use Rattle.std.specs.Bool.{beq}
 use Rattle.std.proofs.Math.Nat.{mul_assoc, le-mul_of_pos_right}
 use Rattle.std.proofs.lemmas.Bool.{cases_lt, ne_eqb}
@@ -7,7 +7,7 @@ use Rattle.dfdl_decimal.specs.Arithmetic.{exact_quotient}
 use Rattle.dfdl_decimal.specs.Decimal.{DecimalNumber, shortest_from, with_sign}
 use Rattle.dfdl_decimal.proofs.FixedLemmas.{shortest_from-shift, unsigned_abs-with_sign}
 use Rattle.dfdl_decimal.proofs.OrderLemmas.{pow_split, pow_some}
-use Rattle.dfdl_operators.specs.Numbers.{Answer, held, held_shortest}
+use Rattle.dfdl_operators.specs.Numbers.{held, held_shortest}
 use Rattle.dfdl_operators.specs.Operators.{exactly, quotient_answer}
 use Rattle.dfdl_operators.specs.declared.fault.OperatorFault.TheVariants.{NoQuotient}
 use Rattle.dfdl_operators.proofs.HeldLemmas.{held-far}

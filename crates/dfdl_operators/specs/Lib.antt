@@ -1,3 +1,4 @@
+pub mod Comparisons
 pub mod Faults
 pub mod NumberShown
 pub mod Numbers

@@ -3,7 +3,7 @@ use Rattle.std.specs.Prelude.{◌==◌, ◌&&◌, ◌^◌, if◌then◌else◌, 
 use Rattle.dfdl_decimal.specs.Decimal.{DecimalNumber, shortest_from, is_small}
 use Rattle.dfdl_value.specs.Types.{least_signed, greatest_signed}
 use Rattle.dfdl_value.specs.declared.value.Value.{Value}
-use Rattle.dfdl_value.specs.declared.value.Value.TheVariants.{Int, Uns, Dec, Text, Truth, Bytes}
+use Rattle.dfdl_value.specs.declared.value.Value.TheVariants.{Int, Uns, Dec}
 use Rattle.dfdl_operators.specs.declared.fault.OperatorFault.{OperatorFault}
 use Rattle.dfdl_operators.specs.declared.fault.OperatorFault.TheVariants.{PastRange, WrongType}
 

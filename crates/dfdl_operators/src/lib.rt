@@ -2,7 +2,8 @@
 //!
 //! A number in an expression is a whole number or a decimal, and means an exact number over a power
 //! of ten. specs/Numbers.antt says which number a value is and which value carries a number,
-//! specs/Operators.antt what each operator answers: the contracts cite these. It serves the chapter
+//! specs/Operators.antt what each operator answers, specs/Comparisons.antt how values compare: the
+//! contracts cite these. It serves the chapter
 //! 'DFDL Expression Language'.
 #![tactic(auto)]
 
@@ -11,6 +12,7 @@ pub mod fault;
 mod held;
 mod number;
 pub mod operators;
+pub mod order;
 mod product;
 mod quotient;
 mod remainder;
@@ -22,3 +24,4 @@ pub use fault::OperatorFault;
 pub use operators::{
     absolute, add, ceiling, divide, floor, integer_divide, modulo, multiply, negate, subtract,
 };
+pub use order::{Relation, compare};

@@ -1,6 +1,8 @@
 // The numbers of values, taken apart.
-ghost use Rattle.std.specs.Prelude.{◌≡◌, IfSome, IfOk, IfErr, Result, Err, option_map};
+ghost use Rattle.std.specs.Prelude.{◌≡◌, IfSome, IfOk, IfErr, Result, Ok, Err, option_map};
+ghost use Rattle.dfdl_decimal.specs.Arithmetic.{comparison_of};
 ghost use Rattle.dfdl_decimal.specs.Decimal.{DecimalNumber, IsFixed, with_sign};
+ghost use Rattle.dfdl_operators.specs.Comparisons.{number_comparison};
 ghost use Rattle.dfdl_operators.specs.Numbers.{Answer, number_of, on_number, on_numbers};
 ghost use Rattle.dfdl_operators.specs.NumberShown.{IsShort, IsSigned, shown};
 
@@ -92,6 +94,10 @@ pub(crate) fn operands_in(left: &Value, right: &Value) -> Result<Operands, Opera
     ensures right_sign { IfOk result (λ n. IsSigned n.right) }
     ensures err { IfErr result (λ e. (f : DecimalNumber → DecimalNumber → Answer)
         → on_numbers f (number_of left.now) (number_of right.now) ≡ Err e) }
+    ensures order { IfOk result (λ n. number_comparison (number_of left.now) (number_of right.now)
+        ≡ Ok (comparison_of (shown n.left) (shown n.right))) }
+    ensures no_order { IfErr result (λ e.
+        number_comparison (number_of left.now) (number_of right.now) ≡ Err e) }
 {
     match number_in(left) {
         Some(left) => match number_in(right) {

@@ -1,4 +1,4 @@
-use Rattle.std.proofs.Common.{Bool, not, ℕ, ◌≡◌, ◌∙◌, sym, ap, ◌*◌, ◌+◌, arith}
+use Rattle.std.proofs.Common.{not, ◌∙◌, sym, ap, ◌*◌, ◌+◌, arith}
 use Rattle.std.specs.Bool.{beq}
 use Rattle.dfdl_decimal.specs.Decimal.{with_sign}
 use Rattle.dfdl_operators.specs.Numbers.{held, held_shortest}

@@ -1,4 +1,4 @@
-use Rattle.std.proofs.Common.{◌∙◌, ◌*◌, ◌-◌, ◌^◌, ◌+ℤ◌, sym, ap, refl, arith, rules}
+use Rattle.std.proofs.Common.{◌∙◌, ◌+ℤ◌, sym, ap, refl, arith, rules}
 use Rattle.dfdl_decimal.specs.Decimal.{with_sign}
 use Rattle.dfdl_operators.specs.Numbers.{held}
 use Rattle.dfdl_operators.proofs.SumLemmas.{sum-far, sum-long, sum_of-digits}

@@ -1,4 +1,5 @@
 pub mod Comparisons
+pub mod Constructors
 pub mod Faults
 pub mod NumberShown
 pub mod Numbers

@@ -31,3 +31,12 @@ impl OperatorFault {
         }
     }
 }
+
+/// Why a function that may take memory has no result.
+#[derive(Clone, Copy, Debug, PartialEq, Eq, Error)]
+pub enum FunctionFault {
+    #[error("a fault of the expression")]
+    Fault(OperatorFault),
+    #[error("out of memory")]
+    OutOfMemory,
+}

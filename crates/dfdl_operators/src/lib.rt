@@ -7,6 +7,7 @@
 //! 'DFDL Expression Language'.
 #![tactic(auto)]
 
+pub mod constructors;
 mod division;
 pub mod fault;
 mod held;
@@ -20,7 +21,8 @@ mod rounding;
 mod sum;
 mod zeros;
 
-pub use fault::OperatorFault;
+pub use constructors::construct;
+pub use fault::{FunctionFault, OperatorFault};
 pub use operators::{
     absolute, add, ceiling, divide, floor, integer_divide, modulo, multiply, negate, subtract,
 };

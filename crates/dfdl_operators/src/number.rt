@@ -1,5 +1,5 @@
 // The numbers of values, taken apart.
-ghost use Rattle.std.specs.Prelude.{◌≡◌, IfSome, IfOk, IfErr, Result, Ok, Err, option_map};
+ghost use Rattle.std.specs.Prelude.{◌≡◌, IfSome, IfOk, IfErr, Result, Ok, Err, option_map, pos};
 ghost use Rattle.dfdl_decimal.specs.Arithmetic.{comparison_of};
 ghost use Rattle.dfdl_decimal.specs.Decimal.{DecimalNumber, IsFixed, with_sign};
 ghost use Rattle.dfdl_operators.specs.Comparisons.{number_comparison};
@@ -25,7 +25,7 @@ pub(crate) struct Operands {
     pub(crate) right: Number,
 }
 
-fn signed_whole(number: i128) -> Number
+pub(crate) fn signed_whole(number: i128) -> Number
     ensures number { with_sign result.negative result.magnitude ≡ number }
     ensures scale { result.scale ≡ 0 }
     ensures sign { IsSigned result }
@@ -37,7 +37,19 @@ fn signed_whole(number: i128) -> Number
     }
 }
 
-fn decimal(number: Fixed) -> Number
+pub(crate) fn whole(magnitude: u128) -> Number
+    ensures number { with_sign result.negative result.magnitude ≡ pos magnitude }
+    ensures scale { result.scale ≡ 0 }
+    ensures sign { IsSigned result }
+{
+    Number {
+        negative: false,
+        magnitude,
+        scale: 0,
+    }
+}
+
+pub(crate) fn decimal(number: Fixed) -> Number
     ensures number { with_sign result.negative result.magnitude ≡ number.mantissa }
     ensures scale { result.scale ≡ number.scale }
     ensures short { IsShort result }
@@ -59,11 +71,7 @@ fn number_in(value: &Value) -> Option<Number>
 {
     match value {
         Value::Int(number) => Some(signed_whole(*number)),
-        Value::Uns(number) => Some(Number {
-            negative: false,
-            magnitude: *number,
-            scale: 0,
-        }),
+        Value::Uns(number) => Some(whole(*number)),
         Value::Dec(number) => Some(decimal(*number)),
         Value::Text(_) | Value::Truth(_) | Value::Bytes(_) => None,
     }

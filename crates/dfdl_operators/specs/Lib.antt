@@ -4,3 +4,4 @@ pub mod Faults
 pub mod NumberShown
 pub mod Numbers
 pub mod Operators
+pub mod TextFunctions

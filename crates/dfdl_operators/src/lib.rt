@@ -19,6 +19,7 @@ mod quotient;
 mod remainder;
 mod rounding;
 mod sum;
+pub mod texts;
 mod zeros;
 
 pub use constructors::construct;
@@ -27,3 +28,4 @@ pub use operators::{
     absolute, add, ceiling, divide, floor, integer_divide, modulo, multiply, negate, subtract,
 };
 pub use order::{Relation, compare};
+pub use texts::{concat, contains, ends_with, starts_with, string_length, text_in};

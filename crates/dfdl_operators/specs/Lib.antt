@@ -4,4 +4,5 @@ pub mod Faults
 pub mod NumberShown
 pub mod Numbers
 pub mod Operators
+pub mod Places
 pub mod TextFunctions

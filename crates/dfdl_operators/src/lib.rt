@@ -18,6 +18,7 @@ mod product;
 mod quotient;
 mod remainder;
 mod rounding;
+pub mod substrings;
 mod sum;
 pub mod texts;
 mod zeros;
@@ -28,4 +29,5 @@ pub use operators::{
     absolute, add, ceiling, divide, floor, integer_divide, modulo, multiply, negate, subtract,
 };
 pub use order::{Relation, compare};
+pub use substrings::{substring, substring_from};
 pub use texts::{concat, contains, ends_with, starts_with, string_length, text_in};

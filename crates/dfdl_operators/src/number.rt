@@ -1,9 +1,10 @@
 // The numbers of values, taken apart.
-ghost use Rattle.std.specs.Prelude.{◌≡◌, IfSome, IfOk, IfErr, Result, Ok, Err, option_map, pos};
+ghost use Rattle.std.specs.Prelude.{◌≡◌, IfSome, IfOk, IfErr, Result, Ok, Err, Some, None, option_map, pos};
 ghost use Rattle.dfdl_decimal.specs.Arithmetic.{comparison_of};
 ghost use Rattle.dfdl_decimal.specs.Decimal.{DecimalNumber, IsFixed, with_sign};
 ghost use Rattle.dfdl_operators.specs.Comparisons.{number_comparison};
 ghost use Rattle.dfdl_operators.specs.Numbers.{Answer, number_of, on_number, on_numbers};
+ghost use Rattle.dfdl_operators.specs.declared.fault.OperatorFault.TheVariants.{WrongType};
 ghost use Rattle.dfdl_operators.specs.NumberShown.{IsShort, IsSigned, shown};
 
 use super::fault::OperatorFault;
@@ -84,6 +85,8 @@ pub(crate) fn operand_in(value: &Value) -> Result<Number, OperatorFault>
     ensures short { IfOk result IsShort }
     ensures err { IfErr result (λ e. (f : DecimalNumber → Answer)
         → on_number f (number_of value.now) ≡ Err e) }
+    ensures number { IfOk result (λ n. number_of value.now ≡ Some (shown n)) }
+    ensures none { IfErr result (λ e. (e ≡ WrongType) × (number_of value.now ≡ None)) }
 {
     match number_in(value) {
         Some(number) => Ok(number),
@@ -102,6 +105,8 @@ pub(crate) fn operands_in(left: &Value, right: &Value) -> Result<Operands, Opera
     ensures right_sign { IfOk result (λ n. IsSigned n.right) }
     ensures err { IfErr result (λ e. (f : DecimalNumber → DecimalNumber → Answer)
         → on_numbers f (number_of left.now) (number_of right.now) ≡ Err e) }
+    ensures left_number { IfOk result (λ n. number_of left.now ≡ Some (shown n.left)) }
+    ensures right_number { IfOk result (λ n. number_of right.now ≡ Some (shown n.right)) }
     ensures order { IfOk result (λ n. number_comparison (number_of left.now) (number_of right.now)
         ≡ Ok (comparison_of (shown n.left) (shown n.right))) }
     ensures no_order { IfErr result (λ e.

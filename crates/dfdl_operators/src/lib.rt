@@ -1,9 +1,11 @@
-//! The operators of DFDL expressions on values: sums, products, quotients, the order of values.
+//! The operators and functions of DFDL expressions on values: sums, products, quotients, the order of
+//! values, texts, constructors.
 //!
 //! A number in an expression is a whole number or a decimal, and means an exact number over a power
 //! of ten. specs/Numbers.antt says which number a value is and which value carries a number,
-//! specs/Operators.antt what each operator answers, specs/Comparisons.antt how values compare: the
-//! contracts cite these. It serves the chapter
+//! specs/Operators.antt what each operator answers, specs/Comparisons.antt how values compare,
+//! specs/Constructors.antt what the constructors of types give, specs/TextFunctions.antt and
+//! specs/Places.antt what the functions on texts do: the contracts cite these. It serves the chapter
 //! 'DFDL Expression Language'.
 #![tactic(auto)]
 

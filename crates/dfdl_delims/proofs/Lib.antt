@@ -1,0 +1,4 @@
+mod Adding
+mod Pieces
+mod Encoded
+mod Completing

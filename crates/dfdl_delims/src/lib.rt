@@ -1,0 +1,9 @@
+//! The literals that end or divide data: the longest text of open lists of them.
+//!
+//! `specs/Lists.antt` says which lists are open and which bytes are texts of them, and the contracts cite it. It serves the
+//! chapters 'DFDL Syntax Basics' and 'Framing' of the DFDL 1.0 specification, GFD.240.
+#![tactic(auto)]
+
+mod candidate;
+mod left;
+mod step;

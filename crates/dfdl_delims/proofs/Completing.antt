@@ -47,7 +47,7 @@ either_way : (q t r : Bool) (all : List Candidate) (test : Candidate → Bool) �
 either_way true t r all test is = is
 either_way false t r all test is = sym (and_false t)
 
-same_cases : (fold : Bool) (c : ℕ) → cases_of fold c ≡ one_each (cases fold c)
+pub same_cases : (fold : Bool) (c : ℕ) → cases_of fold c ≡ one_each (cases fold c)
 same_cases true c = refl
 same_cases false c = refl
 

@@ -2,3 +2,5 @@ mod Adding
 mod Pieces
 mod Encoded
 mod Completing
+mod Ahead
+mod Living

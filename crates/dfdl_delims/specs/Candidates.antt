@@ -1,5 +1,5 @@
 -- Mirror for the prover: what may still follow some bytes of a text, and how one byte more changes that.
-use Rattle.std.specs.Prelude.{◌≡◌, ℕ, ◌+◌, ◌-◌, ◌<◌, List, [], ◌∷◌, ◌++◌, take, drop, Option, Some, None, Bool, true, false, ◌&&◌, ◌||◌, ◌==◌, if◌then◌else◌}
+use Rattle.std.specs.Prelude.{◌≡◌, ℕ, ◌+◌, ◌-◌, ◌<◌, List, [], ◌∷◌, ◌++◌, take, drop, Option, Some, None, Bool, true, false, ◌&&◌, ◌||◌, ◌==◌, not, if◌then◌else◌}
 use Rattle.std.specs.List.{list_any, list_all}
 use Rattle.dfdl_forms.specs.declared.encoding.Encoding.{Encoding}
 use Rattle.dfdl_forms.specs.declared.literals.Piece.{Piece}
@@ -148,3 +148,60 @@ step pieces byte (candidate ∷ candidates) = stepped pieces byte candidate.left
 -- What passes a test is what passed at first and all that is to be added, where the rest of that is still to be added.
 abbrev pub Adding : List Candidate → List Candidate → List Candidate → List Candidate → Type 0
 Adding old all now rest = (test : Candidate → Bool) → (list_any test now || list_any test rest) ≡ (list_any test old || list_any test all)
+
+-- there is a text
+abbrev pub is_there : Option (List ℕ) → Bool
+is_there None = false
+is_there (Some text) = true
+
+-- the encoding has one of the characters
+abbrev pub has_one : Encoding → List ℕ → Bool
+has_one encoding characters = list_any (λ c. is_there (encoded_of encoding c)) characters
+
+-- the piece has a text
+abbrev pub has_text : Encoding → Bool → Piece → Bool
+has_text encoding fold (Char c) = has_one encoding (cases fold c)
+has_text encoding fold (Byte b) = true
+has_text encoding fold NewLine = true
+has_text encoding fold Space = true
+has_text encoding fold Spaces = true
+has_text encoding fold MaybeSpaces = true
+has_text encoding fold Nothing = true
+
+-- each of the pieces has a text
+unfoldable pub have_texts : Encoding → Bool → List Piece → Bool
+have_texts encoding fold pieces = list_all (has_text encoding fold) pieces
+
+-- nothing completes a text
+abbrev pub is_dead : List Piece → Candidate → Bool
+is_dead pieces candidate = not (have_texts candidate.encoding candidate.fold (pieces_from pieces candidate.at candidate.end))
+
+-- none of the candidates is dead
+unfoldable pub some_dead : List Piece → List Candidate → Bool
+some_dead pieces candidates = list_any (is_dead pieces) candidates
+
+-- the piece stands for nothing
+abbrev pub is_nothing : Piece → Bool
+is_nothing (Char c) = false
+is_nothing (Byte b) = false
+is_nothing NewLine = false
+is_nothing Space = false
+is_nothing Spaces = false
+is_nothing MaybeSpaces = false
+is_nothing Nothing = true
+
+-- no byte is left
+abbrev pub is_done : Left → Bool
+is_done Done = true
+is_done (One a) = false
+is_done (Two a b) = false
+is_done (Three a b c) = false
+
+-- all bytes of a text were seen
+abbrev pub is_whole : List Piece → Candidate → Bool
+is_whole pieces candidate = is_done candidate.left && list_all passes (pieces_from pieces candidate.at candidate.end)
+
+-- a text has more bytes, if the candidate isn't dead
+abbrev pub has_more : List Piece → Candidate → Bool
+has_more pieces candidate =
+    not (is_done candidate.left) || (candidate.loops || not (list_all is_nothing (pieces_from pieces candidate.at candidate.end)))

@@ -5,5 +5,6 @@
 #![tactic(auto)]
 
 mod candidate;
+mod following;
 mod left;
 mod step;

@@ -1,10 +1,10 @@
 // The candidates that others come to by a byte.
 #![tactic(auto)]
 
-ghost use Rattle.std.specs.Prelude.{◌≡◌, ℕ, ◌+◌, List, [], ◌∷◌, OnOk};
+ghost use Rattle.std.specs.Prelude.{◌≡◌, ℕ, ◌+◌, List, false, [], ◌∷◌, OnOk};
 ghost use Rattle.dfdl_forms.specs.declared.encoding.Encoding.{Encoding as AnyEncoding};
 ghost use Rattle.dfdl_literal_texts.specs.Texts.{other_case};
-ghost use Rattle.dfdl_delims.specs.Candidates.{Adds, IsNext, begun_each, begun_from, begun_line_break, begun_loop, begun_piece, cases, complete, further, passes, pieces_from, step, stepped};
+ghost use Rattle.dfdl_delims.specs.Candidates.{Adds, IsNext, begun_each, begun_from, begun_line_break, begun_loop, begun_piece, cases, complete, further, passes, pieces_from, some_dead, step, stepped};
 
 use crate::candidate::{Candidate, add_left};
 use crate::left::{Left, behind, behind_pair, left_then};
@@ -23,7 +23,7 @@ const WHITE_SPACE: [char; 26] = [
 const LINE_ENDS: [char; 4] = ['\n', '\r', '\u{85}', '\u{2028}'];
 
 // An ASCII letter in its other case, and any other character.
-fn in_other_case(c: char) -> char
+pub(crate) fn in_other_case(c: char) -> char
     ensures { result ≡ other_case c }
 {
     match c {
@@ -165,6 +165,7 @@ fn add_step(pieces: &[Piece], byte: u8, candidate: Candidate, into: &mut Vec<Can
 #[tactic(auto, using(crate::proofs::Completing::advanced))]
 pub(crate) fn advance(pieces: &[Piece], byte: u8, from: &[Candidate], into: &mut Vec<Candidate>) -> Result<(), AllocError>
     ensures adds { OnOk result (Adds [] (step pieces.now byte from.now) into.new.items) }
+    ensures dead { OnOk result (some_dead pieces.now from.now ≡ false → some_dead pieces.now into.new.items ≡ false) }
     ensures completes { OnOk result ((place : ℕ) (rest : List ℕ)
         → complete pieces.now place into.new.items rest ≡ complete pieces.now place from.now (byte ∷ rest)) }
 {

@@ -1,6 +1,7 @@
 use Rattle.dfdl_delims.specs.Candidates.{step}
 use Rattle.dfdl_delims.proofs.Adding.{step_end, step_kept}
 use Rattle.dfdl_delims.proofs.Completing.{advanced}
+use Rattle.dfdl_delims.proofs.Living.{still_live}
 use Rattle.dfdl_delims.proofs.step.advance.Goals as goal
 
 pub loop-candidate-preserved : goal.loop-candidate-preserved
@@ -15,3 +16,6 @@ returns-clause-adds c =
 
 pub returns-clause-completes : goal.returns-clause-completes
 returns-clause-completes c = advanced c.args.pieces.now c.args.byte c.args.from.now c.loop-candidate.into.items (returns-clause-adds c)
+
+pub returns-clause-dead : goal.returns-clause-dead
+returns-clause-dead c = still_live c.args.pieces.now c.args.byte c.args.from.now c.loop-candidate.into.items (returns-clause-adds c)

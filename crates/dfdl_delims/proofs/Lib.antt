@@ -4,3 +4,4 @@ mod Encoded
 mod Completing
 mod Ahead
 mod Living
+mod Fills

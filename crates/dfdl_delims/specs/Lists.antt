@@ -1,5 +1,5 @@
 -- Lists of literals that are open, and which bytes are texts of them. 'DFDL Syntax Basics' (DFDL String Literals).
-use Rattle.std.specs.Prelude.{◌≡◌, ◌↔◌, ℕ, zero, suc, List, [], ◌∷◌, ◌++◌, length, Option, Some, None, Bool, true, false, if◌then◌else◌, slice_get}
+use Rattle.std.specs.Prelude.{◌≡◌, ◌↔◌, ℕ, zero, suc, List, [], ◌∷◌, ◌++◌, length, Option, Some, None, Bool, true, false, if◌then◌else◌}
 use Rattle.std.specs.List.{list_any}
 use Rattle.dfdl_forms.specs.declared.encoding.Encoding.{Encoding}
 use Rattle.dfdl_forms.specs.declared.literals.Piece.{Piece}
@@ -16,11 +16,10 @@ abbrev pub is_text_in : Opened → List ℕ → Bool
 is_text_in list bytes = is_text_of_some list.encoding list.fold list.literals bytes
 
 -- the bytes are a text of the list at the place
-abbrev pub is_text_at : List Opened → ℕ → List ℕ → Bool
-is_text_at lists place bytes = elim (slice_get lists place) [
-  | None ↦ false
-  | Some list ↦ is_text_in list bytes
-]
+unfoldable pub is_text_at : List Opened → ℕ → List ℕ → Bool
+is_text_at [] place bytes = false
+is_text_at (list ∷ lists) zero bytes = is_text_in list bytes
+is_text_at (list ∷ lists) (suc place) bytes = is_text_at lists place bytes
 
 -- A text of some list is longer than the bytes and begins with them.
 pub record GoesOn (lists : List Opened) (bytes : List ℕ) : Type 0 where

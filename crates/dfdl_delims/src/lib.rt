@@ -5,6 +5,14 @@
 #![tactic(auto)]
 
 mod candidate;
+mod filling;
 mod following;
 mod left;
+mod mark;
+pub mod markup;
+pub mod refusal;
 mod step;
+
+pub use dfdl_forms::{Encoding, Literals, Piece};
+pub use markup::Markup;
+pub use refusal::Refusal;

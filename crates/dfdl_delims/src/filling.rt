@@ -1,0 +1,99 @@
+// The literals of a list, put into a register.
+#![tactic(auto)]
+
+ghost use Rattle.std.specs.Prelude.{◌≡◌, ◌+◌, ◌++◌, length, nat_le, OnOk};
+ghost use Rattle.dfdl_delims.specs.Registers.{filled, pieces_of, start_of, starts_of, units_of};
+
+use crate::candidate::Candidate;
+use crate::following::have_texts;
+use crate::left::Left;
+use dfdl_forms::{Encoding, Literals, Piece};
+use std::alloc::AllocError;
+
+// How many pieces a literal takes up.
+fn units(literal: &[Piece]) -> usize
+    ensures { result ≡ length (filled literal.now) }
+{
+    match literal {
+        [] => 1,
+        [_, ..] => literal.len(),
+    }
+}
+
+/// Whether the literals take up no more than so many pieces.
+pub(crate) fn fits(literals: &Literals, room: usize) -> bool
+    ensures { result ≡ nat_le (units_of literals.now) room }
+{
+    let mut left = room;
+    for at in 0..literals.len() {
+        let units = units(literals.pieces(at));
+        if units > left {
+            return false;
+        }
+        left -= units;
+    }
+    true
+}
+
+// Puts the pieces of a literal behind others.
+fn put_pieces(literal: &[Piece], pieces: &mut Vec<Piece>) -> Result<(), AllocError>
+    ensures { OnOk result (pieces.new.items ≡ pieces.old.items ++ filled literal.now) }
+{
+    match literal {
+        [] => {
+            pieces.push(Piece::Nothing)?;
+            Ok(())
+        }
+        [_, ..] => {
+            pieces.extend_from_slice(literal)?;
+            Ok(())
+        }
+    }
+}
+
+// Puts a literal behind others.
+#[tactic(auto, unfolding(crate::specs::Registers::start_of))]
+fn put_literal(
+    place: u32,
+    encoding: Encoding,
+    fold: bool,
+    literal: &[Piece],
+    starts: &mut Vec<Candidate>,
+    pieces: &mut Vec<Piece>,
+) -> Result<(), AllocError>
+    ensures starts { OnOk result (starts.new.items ≡ starts.old.items ++ start_of place encoding fold (length pieces.old.items) literal.now) }
+    ensures pieces { OnOk result (pieces.new.items ≡ pieces.old.items ++ filled literal.now) }
+{
+    let at = pieces.len();
+    put_pieces(literal, pieces)?;
+    if have_texts(encoding, fold, literal) {
+        starts.push(Candidate {
+            list: place,
+            encoding,
+            fold,
+            left: Left::Done,
+            loops: false,
+            at,
+            end: pieces.len(),
+        })?;
+    }
+    Ok(())
+}
+
+/// Puts the literals of a list behind others.
+pub(crate) fn put_literals(
+    place: u32,
+    encoding: Encoding,
+    fold: bool,
+    literals: &Literals,
+    starts: &mut Vec<Candidate>,
+    pieces: &mut Vec<Piece>,
+) -> Result<(), AllocError>
+    ensures starts { OnOk result (starts.new.items ≡ starts.old.items ++ starts_of place encoding fold (length pieces.old.items) literals.now) }
+    ensures pieces { OnOk result (pieces.new.items ≡ pieces.old.items ++ pieces_of literals.now) }
+{
+    for at in 0..literals.len() {
+        put_literal(place, encoding, fold, literals.pieces(at), starts, pieces)?;
+    }
+    Ok(())
+}

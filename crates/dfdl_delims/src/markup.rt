@@ -1,0 +1,96 @@
+// A register of open lists.
+#![tactic(auto)]
+
+ghost use Rattle.std.specs.Prelude.{◌≡◌, ◌↔◌, [], ◌∷◌, ◌++◌, List, ◌<◌, length, IfOk, OnOk, IsErrOf};
+ghost use Rattle.dfdl_delims.specs.Lists.{Opened};
+ghost use Rattle.dfdl_delims.specs.Registers.{Holds, IsFull};
+ghost use Rattle.dfdl_delims.specs.declared.refusal.Refusal.TheVariants.{Full};
+
+use crate::candidate::Candidate;
+use crate::filling::{fits, put_literals};
+use crate::mark::Mark;
+use crate::refusal::Refusal;
+use dfdl_forms::{Encoding, Literals, Piece};
+use std::alloc::{AllocError, Global};
+use std::marker::Model;
+
+/// The lists of literals that are open, the innermost pushed last. A list is named by its place, 0 the outermost.
+#[derive(Drop)]
+pub struct Markup {
+    pub(crate) marks: Vec<Mark>,
+    pub(crate) starts: Vec<Candidate>,
+    pub(crate) pieces: Vec<Piece>,
+    lists: u32,
+    units: u32,
+}
+
+impl Model for Markup {
+    ghost use Rattle.dfdl_delims.specs.Registers.{Register};
+
+    ghost Value = { Register };
+
+    ghost view = { λ m. record {
+        flat = record { marks = m.marks.items; starts = m.starts.items; pieces = m.pieces.items };
+        lists = m.lists;
+        units = m.units;
+    } };
+}
+
+impl Markup {
+    /// A register with room for so many lists, and for so many units of their literals: characters, raw bytes and classes, and
+    /// one for a literal of none.
+    pub fn open(alloc: Global, lists: u32, units: u32) -> Result<Markup, AllocError>
+        ensures holds { IfOk result (λ markup. Holds markup []) }
+        ensures room { IfOk result (λ markup. (markup.lists ≡ lists) × (markup.units ≡ units)) }
+    {
+        Ok(Markup {
+            marks: Vec::with_capacity(alloc, lists as usize)?,
+            starts: Vec::with_capacity(alloc, units as usize)?,
+            pieces: Vec::with_capacity(alloc, units as usize)?,
+            lists,
+            units,
+        })
+    }
+
+    /// Opens a list inside of the others: copies its literals. With `fold` an ASCII letter is its other case too.
+    pub fn push(&mut self, literals: &Literals, encoding: Encoding, fold: bool) -> Result<(), Refusal>
+        ensures pushed { OnOk result ((lists : List Opened) → Holds self.old lists
+            → Holds self.new (lists ++ record { encoding = encoding; fold = fold; literals = literals.now } ∷ [])) }
+        ensures full { IsErrOf result Full ↔ IsFull self.old literals.now }
+        ensures still { IsErrOf result Full → self.new ≡ self.old }
+        ensures room { (self.new.lists ≡ self.old.lists) × (self.new.units ≡ self.old.units) }
+    {
+        if self.marks.len() >= self.lists as usize {
+            return Err(Refusal::Full);
+        }
+        let units = self.units as usize;
+        if self.pieces.len() > units {
+            return Err(Refusal::Full);
+        }
+        if !fits(literals, units - self.pieces.len()) {
+            return Err(Refusal::Full);
+        }
+        let place = self.marks.len() as u32;
+        let mark = Mark {
+            starts: self.starts.len(),
+            pieces: self.pieces.len(),
+        };
+        self.marks.push(mark)?;
+        put_literals(place, encoding, fold, literals, &mut self.starts, &mut self.pieces)?;
+        Ok(())
+    }
+
+    /// Closes the innermost list.
+    pub fn pop(&mut self)
+        ensures popped { (lists : List Opened) (list : Opened) → Holds self.old (lists ++ list ∷ []) → Holds self.new lists }
+        ensures room { (self.new.lists ≡ self.old.lists) × (self.new.units ≡ self.old.units) }
+    {
+        match self.marks.pop() {
+            None => {}
+            Some(mark) => {
+                self.starts.truncate(mark.starts);
+                self.pieces.truncate(mark.pieces);
+            }
+        }
+    }
+}

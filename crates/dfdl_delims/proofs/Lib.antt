@@ -5,3 +5,5 @@ mod Completing
 mod Ahead
 mod Living
 mod Fills
+mod Never
+mod Held

@@ -80,6 +80,14 @@ impl Markup {
         Ok(())
     }
 
+    /// How many lists are open.
+    #[tactic(auto, using(crate::proofs::Held::held))]
+    pub fn len(&self) -> usize
+        ensures { (lists : List Opened) → Holds self.now lists → result ≡ length lists }
+    {
+        self.marks.len()
+    }
+
     /// Closes the innermost list.
     pub fn pop(&mut self)
         ensures popped { (lists : List Opened) (list : Opened) → Holds self.old (lists ++ list ∷ []) → Holds self.new lists }

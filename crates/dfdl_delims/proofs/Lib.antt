@@ -7,3 +7,4 @@ mod Living
 mod Fills
 mod Never
 mod Held
+mod Going

@@ -1,3 +1,5 @@
 pub mod Lists
-pub mod Candidates
+pub mod Longest
 pub mod Registers
+pub mod Candidates
+pub mod Hits

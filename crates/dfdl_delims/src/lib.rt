@@ -6,7 +6,10 @@
 
 mod candidate;
 mod filling;
+mod finding;
 mod following;
+pub mod found;
+mod hit;
 mod left;
 mod mark;
 pub mod markup;
@@ -14,5 +17,6 @@ pub mod refusal;
 mod step;
 
 pub use dfdl_forms::{Encoding, Literals, Piece};
+pub use found::{Found, Glance};
 pub use markup::Markup;
 pub use refusal::Refusal;

@@ -54,7 +54,7 @@ flat_with marks starts pieces = record { marks = marks; starts = starts; pieces 
 abbrev mark_with : ℕ → ℕ → Mark
 mark_with starts pieces = record { starts = starts; pieces = pieces }
 
-same_flat : (a b : List Mark) (c d : List Candidate) (e f : List Piece) → a ≡ b → c ≡ d → e ≡ f
+pub same_flat : (a b : List Mark) (c d : List Candidate) (e f : List Piece) → a ≡ b → c ≡ d → e ≡ f
     → flat_with a c e ≡ flat_with b d f
 same_flat a b c d e f marks starts pieces = λ i. record { marks = marks i; starts = starts i; pieces = pieces i }
 

@@ -75,7 +75,7 @@ last_more f g (Some last) place true step is = (
         lesser : (m n : ℕ) → n ≤ m → max m n ≡ m
         lesser m n less = omega (arith, less)
 
-no_both : (b : Bool) → b ≡ true → b ≡ false → ⊥
+pub no_both : (b : Bool) → b ≡ true → b ≡ false → ⊥
 no_both true is isnt = cc
 no_both false is isnt = cc
 
@@ -125,11 +125,11 @@ last_kept pieces live i d best place whole within place_is whole_is is =
 
 -- a text goes on exactly where a candidate does
 
-record More (pieces : List Piece) (live : List Candidate) : Type 0 where
-  place : ℕ
-  next : ℕ
-  more : List ℕ
-  is : complete pieces place live (next ∷ more) ≡ true
+pub record More (pieces : List Piece) (live : List Candidate) : Type 0 where
+  pub place : ℕ
+  pub next : ℕ
+  pub more : List ℕ
+  pub is : complete pieces place live (next ∷ more) ≡ true
 
 or_right : (a b : Bool) → b ≡ true → (a || b) ≡ true
 or_right true b is = refl
@@ -139,7 +139,7 @@ and_true : (a b : Bool) → a ≡ true → b ≡ true → (a && b) ≡ true
 and_true true b first second = second
 and_true false b first second = first
 
-some_goes : (pieces : List Piece) (live : List Candidate) → some_dead pieces live ≡ false → list_any (has_more pieces) live ≡ true → More pieces live
+pub some_goes : (pieces : List Piece) (live : List Candidate) → some_dead pieces live ≡ false → list_any (has_more pieces) live ≡ true → More pieces live
 unfolding some_dead complete
 some_goes pieces [] lives more = let no_it : ⊥ = cc in absurd no_it
 some_goes pieces (c ∷ live) lives more =
@@ -173,7 +173,7 @@ or_none : (a b : Bool) → a ≡ false → b ≡ false → (a || b) ≡ false
 or_none true b first second = first
 or_none false b first second = second
 
-none_goes : (pieces : List Piece) (live : List Candidate) → list_any (has_more pieces) live ≡ false → (place next : ℕ) (more : List ℕ)
+pub none_goes : (pieces : List Piece) (live : List Candidate) → list_any (has_more pieces) live ≡ false → (place next : ℕ) (more : List ℕ)
     → complete pieces place live (next ∷ more) ≡ false
 unfolding complete
 none_goes pieces [] none place next more = refl

@@ -8,3 +8,4 @@ mod Fills
 mod Never
 mod Held
 mod Going
+mod Deciders

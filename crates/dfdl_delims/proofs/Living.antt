@@ -89,7 +89,7 @@ module _ (pieces : List Piece) (byte : ℕ) where
   stepped_live (Two a b) candidate live = begun_live (left_then (Two a b) byte) candidate live
   stepped_live (Three a b c) candidate live = begun_live (left_then (Three a b c) byte) candidate live
 
-  step_live : (candidates : List Candidate) → some_dead pieces candidates ≡ false → some_dead pieces (step pieces byte candidates) ≡ false
+  pub step_live : (candidates : List Candidate) → some_dead pieces candidates ≡ false → some_dead pieces (step pieces byte candidates) ≡ false
   unfolding step some_dead
   step_live [] live = refl
   step_live (candidate ∷ candidates) live =

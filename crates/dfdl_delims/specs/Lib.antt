@@ -3,3 +3,4 @@ pub mod Longest
 pub mod Registers
 pub mod Candidates
 pub mod Hits
+pub mod Deciding

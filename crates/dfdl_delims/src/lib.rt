@@ -10,7 +10,9 @@ mod finding;
 mod following;
 pub mod found;
 mod hit;
+pub mod laws;
 mod left;
+pub mod longest;
 mod mark;
 pub mod markup;
 pub mod refusal;
@@ -18,5 +20,6 @@ mod step;
 
 pub use dfdl_forms::{Encoding, Literals, Piece};
 pub use found::{Found, Glance};
+pub use longest::Candidates;
 pub use markup::Markup;
 pub use refusal::Refusal;

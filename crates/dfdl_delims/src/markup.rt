@@ -17,9 +17,9 @@ use std::marker::Model;
 /// The lists of literals that are open, the innermost pushed last. A list is named by its place, 0 the outermost.
 #[derive(Drop)]
 pub struct Markup {
-    pub(crate) marks: Vec<Mark>,
-    pub(crate) starts: Vec<Candidate>,
-    pub(crate) pieces: Vec<Piece>,
+    marks: Vec<Mark>,
+    starts: Vec<Candidate>,
+    pieces: Vec<Piece>,
     lists: u32,
     units: u32,
 }
@@ -86,6 +86,20 @@ impl Markup {
         ensures { (lists : List Opened) → Holds self.now lists → result ≡ length lists }
     {
         self.marks.len()
+    }
+
+    /// The begins of the literals.
+    pub(crate) fn starts(&self) -> &[Candidate]
+        ensures { result.now ≡ self.now.flat.starts }
+    {
+        self.starts.as_slice()
+    }
+
+    /// The pieces of all literals.
+    pub(crate) fn pieces(&self) -> &[Piece]
+        ensures { result.now ≡ self.now.flat.pieces }
+    {
+        self.pieces.as_slice()
     }
 
     /// Closes the innermost list.

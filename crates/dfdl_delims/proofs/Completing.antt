@@ -176,9 +176,9 @@ module _ (pieces : List Piece) (place byte : ℕ) (rest : List ℕ) where
       ∙ ap (λ b. b || list_any (completes_at pieces place rest) (begun_from (pieces_from pieces candidate.at candidate.end) byte (record candidate { loops = false })))
       (each_completes white_space candidate
       ∙ ap (λ l. (candidate.list == place) && after_one candidate.encoding (one_each white_space)
-        (is_tail candidate.encoding candidate.fold l (pieces_from pieces candidate.at candidate.end)) (byte ∷ rest)) is)
+      (is_tail candidate.encoding candidate.fold l (pieces_from pieces candidate.at candidate.end)) (byte ∷ rest)) is)
       ∙ ap (λ b. ((candidate.list == place) && after_one candidate.encoding (one_each white_space)
-        (after_any candidate.encoding (one_each white_space) (behind candidate)) (byte ∷ rest)) || b)
+      (after_any candidate.encoding (one_each white_space) (behind candidate)) (byte ∷ rest)) || b)
       (from_completes (pieces_from pieces candidate.at candidate.end) (record candidate { loops = false }) refl refl)
       ∙ sym (turned (candidate.list == place) (behind candidate (byte ∷ rest))
       (after_one candidate.encoding (one_each white_space) (after_any candidate.encoding (one_each white_space) (behind candidate)) (byte ∷ rest)))

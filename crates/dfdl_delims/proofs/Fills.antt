@@ -92,7 +92,7 @@ popped flat new lists list mark is last new_starts new_pieces =
     let before : Flat = with_lists no_lists lists in
     let whole : flat ≡ with_list before list = is ∙ with_last no_lists lists list in
     let ends = same_front new.marks before.marks mark (record { starts = length before.starts; pieces = length before.pieces })
-        (sym last ∙ ap (λ (f : Flat). f.marks) whole) in
+    (sym last ∙ ap (λ (f : Flat). f.marks) whole) in
     same_flat new.marks before.marks new.starts before.starts new.pieces before.pieces ends.0
     (new_starts ∙ ap (λ (m : Mark). take m.starts flat.starts) ends.1 ∙ ap (λ (f : Flat). take (length before.starts) f.starts) whole
     ∙ take-append_seam before.starts (starts_of (length before.marks) list.encoding list.fold (length before.pieces) list.literals))
@@ -103,7 +103,7 @@ pub not_none : (flat : Flat) (lists : List Opened) (list : Opened) → flat ≡ 
 not_none flat lists list is none =
     let before : Flat = with_lists no_lists lists in
     let count = ap (λ (f : Flat). length f.marks) (is ∙ with_last no_lists lists list)
-        ∙ length-append before.marks (record { starts = length before.starts; pieces = length before.pieces } ∷ []) in
+    ∙ length-append before.marks (record { starts = length before.starts; pieces = length before.pieces } ∷ []) in
     omega (arith, none, count)
 
 pub opened : (marks : List Mark) (starts : List Candidate) (pieces : List Piece) → marks ≡ [] → starts ≡ [] → pieces ≡ []

@@ -89,7 +89,11 @@ pub(crate) fn add(candidate: Candidate, into: &mut Vec<Candidate>) -> Result<(),
 
 #[tactic(auto, using(crate::proofs::Adding::adds_none), unfolding(crate::specs::Candidates::begun))]
 /// Adds the candidate with so much left, if anything.
-pub(crate) fn add_left(left: Option<Left>, next: Candidate, into: &mut Vec<Candidate>) -> Result<(), AllocError>
+pub(crate) fn add_left(
+    left: Option<Left>,
+    next: Candidate,
+    into: &mut Vec<Candidate>,
+) -> Result<(), AllocError>
     ensures { OnOk result (Adds into.old.items (begun left next) into.new.items) }
 {
     match left {

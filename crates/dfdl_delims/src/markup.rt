@@ -30,9 +30,9 @@ impl Model for Markup {
     ghost Value = { Register };
 
     ghost view = { λ m. record {
-        flat = record { marks = m.marks.items; starts = m.starts.items; pieces = m.pieces.items };
-        lists = m.lists;
-        units = m.units;
+      flat = record { marks = m.marks.items; starts = m.starts.items; pieces = m.pieces.items };
+      lists = m.lists;
+      units = m.units;
     } };
 }
 
@@ -53,7 +53,12 @@ impl Markup {
     }
 
     /// Opens a list inside of the others: copies its literals. With `fold` an ASCII letter is its other case too.
-    pub fn push(&mut self, literals: &Literals, encoding: Encoding, fold: bool) -> Result<(), Refusal>
+    pub fn push(
+        &mut self,
+        literals: &Literals,
+        encoding: Encoding,
+        fold: bool,
+    ) -> Result<(), Refusal>
         ensures pushed { OnOk result ((lists : List Opened) → Holds self.old lists
             → Holds self.new (lists ++ record { encoding = encoding; fold = fold; literals = literals.now } ∷ [])) }
         ensures full { IsErrOf result Full ↔ IsFull self.old literals.now }
@@ -76,7 +81,14 @@ impl Markup {
             pieces: self.pieces.len(),
         };
         self.marks.push(mark)?;
-        put_literals(place, encoding, fold, literals, &mut self.starts, &mut self.pieces)?;
+        put_literals(
+            place,
+            encoding,
+            fold,
+            literals,
+            &mut self.starts,
+            &mut self.pieces,
+        )?;
         Ok(())
     }
 

@@ -34,7 +34,12 @@ pub(crate) fn in_other_case(c: char) -> char
 }
 
 // Adds what the first byte of one of these characters comes to.
-fn add_each(characters: &[char], byte: u8, next: Candidate, into: &mut Vec<Candidate>) -> Result<(), AllocError>
+fn add_each(
+    characters: &[char],
+    byte: u8,
+    next: Candidate,
+    into: &mut Vec<Candidate>,
+) -> Result<(), AllocError>
     ensures { OnOk result (Adds into.old.items (begun_each characters.now byte next) into.new.items) }
 {
     for c in characters {
@@ -43,7 +48,12 @@ fn add_each(characters: &[char], byte: u8, next: Candidate, into: &mut Vec<Candi
     Ok(())
 }
 
-fn add_cases(c: char, byte: u8, next: Candidate, into: &mut Vec<Candidate>) -> Result<(), AllocError>
+fn add_cases(
+    c: char,
+    byte: u8,
+    next: Candidate,
+    into: &mut Vec<Candidate>,
+) -> Result<(), AllocError>
     ensures { OnOk result (Adds into.old.items (begun_each (cases next.fold c) byte next) into.new.items) }
 {
     if next.fold {
@@ -63,7 +73,12 @@ fn add_line_break(byte: u8, next: Candidate, into: &mut Vec<Candidate>) -> Resul
 
 // Adds what the first byte of a piece comes to.
 #[tactic(auto, using(crate::proofs::Adding::adds_none), unfolding(crate::specs::Candidates::begun_piece, dfdl_literal_texts::specs::Texts::white_space))]
-fn add_piece(piece: Piece, byte: u8, next: Candidate, into: &mut Vec<Candidate>) -> Result<(), AllocError>
+fn add_piece(
+    piece: Piece,
+    byte: u8,
+    next: Candidate,
+    into: &mut Vec<Candidate>,
+) -> Result<(), AllocError>
     ensures { OnOk result (Adds into.old.items (begun_piece piece byte next) into.new.items) }
 {
     match piece {
@@ -106,7 +121,12 @@ pub(crate) fn piece_at(pieces: &[Piece], at: usize, end: usize) -> Option<Piece>
 }
 
 // Adds what the first byte of the pieces before a candidate comes to.
-fn add_from(pieces: &[Piece], byte: u8, candidate: Candidate, into: &mut Vec<Candidate>) -> Result<(), AllocError>
+fn add_from(
+    pieces: &[Piece],
+    byte: u8,
+    candidate: Candidate,
+    into: &mut Vec<Candidate>,
+) -> Result<(), AllocError>
     ensures { OnOk result (Adds into.old.items (begun_from (pieces_from pieces.now candidate.at candidate.end) byte candidate) into.new.items) }
 {
     let mut place = candidate;
@@ -141,7 +161,12 @@ fn add_loop(byte: u8, candidate: Candidate, into: &mut Vec<Candidate>) -> Result
 
 // Adds what a candidate comes to by a byte.
 #[tactic(auto, using(crate::proofs::Adding::adds_both), unfolding(crate::specs::Candidates::stepped))]
-fn add_step(pieces: &[Piece], byte: u8, candidate: Candidate, into: &mut Vec<Candidate>) -> Result<(), AllocError>
+fn add_step(
+    pieces: &[Piece],
+    byte: u8,
+    candidate: Candidate,
+    into: &mut Vec<Candidate>,
+) -> Result<(), AllocError>
     ensures { OnOk result (Adds into.old.items (stepped pieces.now byte candidate.left candidate) into.new.items) }
 {
     match candidate.left {
@@ -163,7 +188,12 @@ fn add_step(pieces: &[Piece], byte: u8, candidate: Candidate, into: &mut Vec<Can
 
 /// The candidates that others come to by a byte.
 #[tactic(auto, using(crate::proofs::Completing::advanced))]
-pub(crate) fn advance(pieces: &[Piece], byte: u8, from: &[Candidate], into: &mut Vec<Candidate>) -> Result<(), AllocError>
+pub(crate) fn advance(
+    pieces: &[Piece],
+    byte: u8,
+    from: &[Candidate],
+    into: &mut Vec<Candidate>,
+) -> Result<(), AllocError>
     ensures adds { OnOk result (Adds [] (step pieces.now byte from.now) into.new.items) }
     ensures dead { OnOk result (some_dead pieces.now from.now ≡ false → some_dead pieces.now into.new.items ≡ false) }
     ensures completes { OnOk result ((place : ℕ) (rest : List ℕ)

@@ -110,3 +110,16 @@ pub opened : (marks : List Mark) (starts : List Candidate) (pieces : List Piece)
     → flat_with marks starts pieces ≡ with_lists no_lists []
 unfolding with_lists
 opened marks starts pieces no_marks no_starts no_pieces = same_flat marks [] starts [] pieces [] no_marks no_starts no_pieces
+
+-- where no list is, nothing is taken
+pub taken : (flat : Flat) (marks : List Mark) (mark : Mark) → flat ≡ with_lists no_lists [] → flat.marks ≡ marks ++ mark ∷ [] → ⊥
+unfolding with_lists
+taken flat marks mark is last =
+    let count = ap length (sym last ∙ ap (λ (f : Flat). f.marks) is) in
+    let sum = length-append marks (mark ∷ []) in
+    omega (arith, count, sum)
+
+pub untaken : (flat : Flat) (marks : List Mark) → flat ≡ with_lists no_lists [] → length flat.marks ≡ 0 → flat.marks ≡ marks ++ []
+    → flat_with marks flat.starts flat.pieces ≡ with_lists no_lists []
+untaken flat marks is none same =
+    same_flat marks flat.marks flat.starts flat.starts flat.pieces flat.pieces (sym (same ∙ append-nil marks)) refl refl ∙ is

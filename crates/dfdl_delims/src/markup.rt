@@ -117,6 +117,7 @@ impl Markup {
     /// Closes the innermost list.
     pub fn pop(&mut self)
         ensures popped { (lists : List Opened) (list : Opened) → Holds self.old (lists ++ list ∷ []) → Holds self.new lists }
+        ensures none { Holds self.old [] → Holds self.new [] }
         ensures room { (self.new.lists ≡ self.old.lists) × (self.new.units ≡ self.old.units) }
     {
         match self.marks.pop() {

@@ -56,18 +56,3 @@ pub use purpose::Purpose;
 pub use rules::breach;
 pub use subject::{Breach, Facts, Kind, PrefixType, Subject};
 pub use tried::{OtherRepresentations, other_representations};
-
-#[cfg(test)]
-mod binary_tests;
-#[cfg(test)]
-mod content_tests;
-#[cfg(test)]
-mod nil_tests;
-#[cfg(test)]
-mod order_tests;
-#[cfg(test)]
-mod prefix_tests;
-#[cfg(test)]
-mod tests;
-#[cfg(test)]
-mod text_tests;

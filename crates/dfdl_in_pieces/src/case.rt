@@ -7,7 +7,7 @@ use thiserror::Error;
 // How a run ends: the exit status, and the texts on standard output and standard error.
 #[derive(Debug, PartialEq, Eq, Drop)]
 pub(crate) struct Ended {
-    pub(crate) status: u8,
+    pub(crate) status: u64,
     pub(crate) out: String,
     pub(crate) notes: String,
 }
@@ -48,7 +48,7 @@ impl Case {
             schema: String::from_str(alloc, text_of(&object, "schema")?)?,
             data: hex::decode(alloc, text_of(&object, "data")?)?,
             expected: Ended {
-                status: status.ok_or(CaseFault::Missing("status"))? as u8,
+                status: status.ok_or(CaseFault::Missing("status"))?,
                 out: String::from_str(alloc, text_of(&object, "stdout")?)?,
                 notes: String::from_str(alloc, text_of(&object, "stderr")?)?,
             },

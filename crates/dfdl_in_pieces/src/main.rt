@@ -1,6 +1,6 @@
 //! The program `dfdl_in_pieces` tests the parser over data in pieces. It reads cases from standard
 //! input, one a line, parses the data of each whole and in pieces of 1, 2, 3 and 7 bytes, tells
-//! each run that ends otherwise than expected, and then how many cases agree.
+//! each run that ends otherwise than expected, and then how many cases differ.
 #![tactic(auto)]
 
 mod case;
@@ -25,7 +25,7 @@ const SIZES: [usize; 5] = [0, 1, 2, 3, 7];
 enum Fault {
     #[error("standard input: {0}")]
     Input(#[from] SourceFault),
-    #[error("case {0}: {1}")]
+    #[error("behind {0} cases: {1}")]
     Case(usize, CaseFault),
     #[error("standard output: {0}")]
     Output(#[from] io::Error),
@@ -39,24 +39,37 @@ impl From<AllocError> for Fault {
     }
 }
 
-// Tries the cases on standard input; whether all agree.
-fn try_all(rt: &HostRuntime) -> Result<bool, Fault> {
+// The cases on standard input.
+fn read_all(rt: &HostRuntime) -> Result<Vec<Case>, Fault> {
     let alloc = rt.alloc();
     let bytes = read_to_limit(alloc, &mut StdSource::new(rt.stdin()), MOST_INPUT)?;
-    let mut tried = 0;
-    let mut agreed = 0;
+    let mut cases = Vec::new(alloc);
     for line in bytes.split(|byte| *byte == b'\n') {
         if line.is_empty() {
             continue;
         }
-        tried += 1;
-        let case = Case::read(alloc, line).map_err(|fault| Fault::Case(tried, fault))?;
-        if agrees(rt, tried, &case)? {
-            agreed += 1;
+        let read = cases.len();
+        let case = Case::read(alloc, line).map_err(|fault| Fault::Case(read, fault))?;
+        cases.push(case).map_err(|_| Fault::OutOfMemory)?;
+    }
+    Ok(cases)
+}
+
+// Tries the cases on standard input; whether none differs from what it expects.
+fn try_all(rt: &HostRuntime) -> Result<bool, Fault> {
+    let cases = read_all(rt)?;
+    let mut differ = Vec::new(rt.alloc());
+    for (number, case) in cases.iter().enumerate() {
+        if !agrees(rt, number, case)? {
+            differ.push(number).map_err(|_| Fault::OutOfMemory)?;
         }
     }
-    println!(rt; "{agreed} of {tried} cases agree, whole and in pieces")?;
-    Ok(agreed == tried)
+    println!(rt;
+        "{} cases, whole and in pieces: {} differ",
+        cases.len(),
+        differ.len()
+    )?;
+    Ok(differ.is_empty())
 }
 
 // Whether the case ends as expected however its data are cut.
@@ -65,7 +78,7 @@ fn agrees(rt: &HostRuntime, number: usize, case: &Case) -> Result<bool, Fault> {
     for size in SIZES {
         let ended = run_in_pieces(rt.alloc(), case, size)?;
         if ended != case.expected {
-            println!(rt; "case {number} in pieces of {size}: {ended:?}")?;
+            println!(rt; "case {number}, from 0, in pieces of {size}: {ended:?}")?;
             all = false;
         }
     }

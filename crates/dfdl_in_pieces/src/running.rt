@@ -34,7 +34,7 @@ pub(crate) fn run_in_pieces(alloc: Global, case: &Case, size: usize) -> Result<E
         &mut patterns,
     );
     Ok(Ended {
-        status,
+        status: u64::from(status),
         out: text_of(alloc, &out)?,
         notes: text_of(alloc, &notes)?,
     })

@@ -13,7 +13,7 @@ use Rattle.dfdl_terms.specs.declared.text.TextForm.{TextForm}
 use Rattle.dfdl_terms.specs.declared.text.TextSize.{TextSize}
 use Rattle.dfdl_terms.specs.declared.text.TextSize.TheVariants.{Bits, Characters}
 use Rattle.dfdl_terms.specs.declared.row.Primitive.{Primitive}
-use Rattle.dfdl_terms.specs.declared.row.Primitive.TheVariants.{Integer, Packed, Truth, Octets, Text, NilOctets, Default}
+use Rattle.dfdl_terms.specs.declared.row.Primitive.TheVariants.{Integer, Packed, Truth, Octets, Text, NilOctets, Default, NilValues, Pattern}
 use Rattle.dfdl_terms.specs.declared.row.Row.{Row}
 use Rattle.dfdl_terms.specs.declared.row.Row.TheVariants.{Leaf, Elem, Group, Skip, Align, Boxed, PrefixedLeaf, PrefixedBox}
 
@@ -117,6 +117,8 @@ IsPrimitive (Octets form) = form.bits ≤ most_length
 IsPrimitive (Text form) = IsTextForm form
 IsPrimitive (NilOctets form) = form.octets.bits ≤ most_length
 IsPrimitive (Default form) = IsDefaultForm form
+IsPrimitive (NilValues form) = Unit {0}
+IsPrimitive (Pattern form) = Unit {0}
 
 -- the row is an element
 abbrev pub IsElementRow : Option Row → Type 0

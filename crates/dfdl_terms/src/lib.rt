@@ -19,5 +19,6 @@ pub use representations::Representations;
 pub use row::{Primitive, Row, RowId, RowList, Tables};
 pub use terms::{TermFault, Terms};
 pub use text::{
-    DefaultForm, NilForm, NilOctets, NilTexts, OctetForm, TextContent, TextForm, TextSize,
+    DefaultForm, NilForm, NilOctets, NilTexts, NilValues, OctetForm, PatternForm, TextContent,
+    TextForm, TextSize,
 };

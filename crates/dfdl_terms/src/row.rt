@@ -3,7 +3,9 @@ ghost use Rattle.dfdl_terms.specs.Rows.{IsWritten};
 
 use crate::prefix::Prefix;
 use crate::representations::Representations;
-use crate::text::{DefaultForm, NilOctets, OctetForm, TextForm, text_is_written};
+use crate::text::{
+    DefaultForm, NilOctets, NilValues, OctetForm, PatternForm, TextForm, text_is_written,
+};
 use dfdl_forms::{BitTruthForm, IntForm, PackedForm};
 use dfdl_value::{Simple, TextValue};
 use std::marker::Model;
@@ -83,6 +85,11 @@ pub enum Primitive {
     NilOctets(NilOctets),
     /// No bits, which stand for a value ('DFDL Data Syntax Grammar').
     Default(DefaultForm),
+    /// The value that the element's own primitive gives, which stands for nil where it is one of these ('DFDL Data Syntax
+    /// Grammar').
+    NilValues(NilValues),
+    /// Characters that a pattern matches, and which are a length in bytes ('Lengths', lengthKind pattern).
+    Pattern(PatternForm),
 }
 
 /// The text that a primitive stands for is one of characters. The call does nothing.

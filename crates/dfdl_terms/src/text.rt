@@ -1,6 +1,7 @@
 ghost use Rattle.dfdl_terms.specs.Rows.{IsWritten};
 
 use dfdl_forms::{BitOrder, Encoding, Literals, NumberForm, PadForm, Simple, TruthForm, ZonedForm};
+use dfdl_length_patterns::LengthPattern;
 use dfdl_value::Value;
 
 /// How the bytes of a hexBinary value lie in the data.
@@ -34,6 +35,20 @@ pub struct NilForm {
 pub struct NilOctets {
     pub octets: OctetForm,
     pub nil: NilForm,
+}
+
+/// Values of an element that stand for nil ('DFDL Data Syntax Grammar', on nilKind logicalValue).
+#[derive(Debug, Drop)]
+pub struct NilValues {
+    pub values: Vec<Value>,
+}
+
+/// How the length of an element is told by what a pattern matches in the data ('Lengths', on lengthPattern).
+#[derive(Debug, Drop)]
+pub struct PatternForm {
+    /// The data are read as characters of this encoding.
+    pub encoding: Encoding,
+    pub pattern: LengthPattern,
 }
 
 /// The empty representation of an element: a box without any bit, which stands for a value ('DFDL Data Syntax Grammar').

@@ -14,7 +14,7 @@ use Rattle.dfdl_chars.specs.Sights.{StandsAt, StandFrom}
 use Rattle.dfdl_texts.specs.declared.extent.Extent.{Extent}
 use Rattle.dfdl_texts.specs.declared.extent.Extent.TheVariants.{Box, Characters}
 use Rattle.dfdl_texts.specs.Units.{Piece, Holds, NoMore, lies_in, unit_at, far_seen, IsUnit}
-use Rattle.dfdl_texts.specs.Texts.{Text, Reads, IsCut, past_box}
+use Rattle.dfdl_texts.specs.Texts.{Text, Reads, past_box, past_data}
 use Rattle.dfdl_texts.proofs.Pieces.{decoded}
 use Rattle.dfdl_texts.proofs.Lying.{Lies, unit-lies, first_byte}
 use Rattle.dfdl_texts.proofs.Whole.{going, going_on}
@@ -89,7 +89,7 @@ module _ (look : ℕ → Seen) (enc : Encoding) (stop : ℕ) where
     boxed-back is_box [] (suc more) k end before t stand at room =
         let past : lies_in stop k ≡ false = lt-leb (8 * k + 8) stop (omega arith) in
         ap (λ (a : Ask Piece). (ask look (and_then a (going_on enc replaces extent stop more before k)) t).reached) (unit-past enc stop k past)
-        ∙ ap (λ (b : Bool). Told (cond b IsCut (past_box extent before k))) past
+        ∙ ap (λ (b : Bool). Told (cond b (past_data extent before k) (past_box extent before k))) past
         ∙ ap (λ (e : Extent). Told (past_box e before k)) is_box
         ∙ ends-at k end before stand
     boxed-back is_box (c ∷ cs) zero k end before t stand at room =

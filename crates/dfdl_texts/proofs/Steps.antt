@@ -25,7 +25,7 @@ use Rattle.dfdl_texts.specs.declared.spot.Turn.TheVariants.{Ends}
 use Rattle.dfdl_texts.specs.declared.spot.Verdict.{Verdict}
 use Rattle.dfdl_texts.specs.declared.spot.Verdict.TheVariants.{Takes, Stops}
 use Rattle.dfdl_texts.specs.Units.{Piece, unit_at, reached_of, far_of_run, far_seen, IsUnit}
-use Rattle.dfdl_texts.specs.Texts.{Text, most_of, at_end, after_piece, text_at}
+use Rattle.dfdl_texts.specs.Texts.{Text, most_of, at_end, after_piece, at_bad, text_at}
 use Rattle.dfdl_texts.specs.Readings.{Answers, EndsWithin, Fits, Sum, Turns, sum_of, spent, found_shown, verdict_shown}
 use Rattle.dfdl_texts.proofs.Pieces.{decoded}
 use Rattle.dfdl_texts.proofs.Lying.{Lies, unit-lies}
@@ -164,7 +164,7 @@ module _ (look : ℕ → Seen) (enc : Encoding) (replaces : Bool) (extent : Exte
     go c bytes = going enc replaces extent stop more (text ++ c ∷ []) (k + bytes)
 
     judged : (verdict : Verdict)
-        → ((g : ℕ → ℕ → Ask Text) (t : Tally) → go_on look (after_piece replaces (at_end extent stop text k) g) (reached_of chars) t ≡ verdict_shown look text g t verdict)
+        → ((g : ℕ → ℕ → Ask Text) (t : Tally) → go_on look (after_piece replaces (at_bad extent text k) (at_end extent stop text k) g) (reached_of chars) t ≡ verdict_shown look text g t verdict)
         → rest left text k (spent from far) ≡ sum_of (verdict_shown look text go behind verdict)
     judged verdict is =
         ap (λ (n : ℕ). rest n text k (spent from far)) some
@@ -172,7 +172,7 @@ module _ (look : ℕ → Seen) (enc : Encoding) (replaces : Bool) (extent : Exte
         ∙ ap sum_of (is go behind)
 
     pub takes-step : (c bytes next : ℕ) (less : ℕ) (new : List ℕ)
-        → ((g : ℕ → ℕ → Ask Text) (t : Tally) → go_on look (after_piece replaces (at_end extent stop text k) g) (reached_of chars) t ≡ verdict_shown look text g t (Takes c bytes))
+        → ((g : ℕ → ℕ → Ask Text) (t : Tally) → go_on look (after_piece replaces (at_bad extent text k) (at_end extent stop text k) g) (reached_of chars) t ≡ verdict_shown look text g t (Takes c bytes))
         → new ≡ text ++ c ∷ [] → next ≡ k + bytes → less ≡ more
         → rest left text k (spent from far) ≡ rest less new next (spent to new_far)
     takes-step c bytes next less new is new_is next_is less_is =
@@ -180,7 +180,7 @@ module _ (look : ℕ → Seen) (enc : Encoding) (replaces : Bool) (extent : Exte
         ∙ same_rest more less (k + bytes) next (text ++ c ∷ []) new behind (spent to new_far) (sym less_is) (sym new_is) (sym next_is) behind-looks behind-far
 
     pub stops-step : (found : Found)
-        → ((g : ℕ → ℕ → Ask Text) (t : Tally) → go_on look (after_piece replaces (at_end extent stop text k) g) (reached_of chars) t ≡ verdict_shown look text g t (Stops found))
+        → ((g : ℕ → ℕ → Ask Text) (t : Tally) → go_on look (after_piece replaces (at_bad extent text k) (at_end extent stop text k) g) (reached_of chars) t ≡ verdict_shown look text g t (Stops found))
         → rest left text k (spent from far) ≡ record { reached = found_shown text found; looks = to; far = new_far }
     stops-step found is =
         judged (Stops found) is

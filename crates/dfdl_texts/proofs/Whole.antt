@@ -10,9 +10,9 @@ use Rattle.dfdl_looks.specs.Tallies.{Tally}
 use Rattle.dfdl_looks.specs.Asks.{Ask, Answer, Reached, Told, TooFar, Missing, Reading, ask, AsksFrom, go_on}
 use Rattle.dfdl_looks.proofs.Sequels.{ask-then, and_then-from}
 use Rattle.dfdl_texts.specs.declared.extent.Extent.{Extent}
-use Rattle.dfdl_texts.specs.declared.extent.Extent.TheVariants.{Box, Characters}
+use Rattle.dfdl_texts.specs.declared.extent.Extent.TheVariants.{Box, Characters, Front}
 use Rattle.dfdl_texts.specs.Units.{Piece, Holds, Broken, NoMore, lies_in, unit_at}
-use Rattle.dfdl_texts.specs.Texts.{Text, Reads, HasBad, IsCut, IsBoxed, most_of, past_box, at_end, after_piece, text_from, text_at, IsRead}
+use Rattle.dfdl_texts.specs.Texts.{Text, Reads, HasBad, IsCut, IsBoxed, most_of, past_box, past_data, at_end, at_bad, after_piece, text_from, text_at, IsRead}
 use Rattle.dfdl_texts.proofs.Lying.{unit-from, Lies, unit-lies}
 
 module _ (enc : Encoding) (replaces : Bool) (extent : Extent) (stop : ℕ) where
@@ -22,14 +22,14 @@ module _ (enc : Encoding) (replaces : Bool) (extent : Extent) (stop : ℕ) where
 
   -- what follows from a unit of it
   abbrev pub going_on : ℕ → List ℕ → ℕ → Piece → Ask Text
-  going_on more chars k = after_piece replaces (at_end extent stop chars k) (λ c bytes. going more (chars ++ c ∷ []) (k + bytes))
+  going_on more chars k = after_piece replaces (at_bad extent chars k) (at_end extent stop chars k) (λ c bytes. going more (chars ++ c ∷ []) (k + bytes))
 
   from-piece : (low more k : ℕ) (chars : List ℕ) → ((c bytes : ℕ) → AsksFrom low (going more (chars ++ c ∷ []) (k + bytes)))
       → (piece : Piece) → AsksFrom low (going_on more chars k piece)
   from-piece low more k chars then (Holds c bytes) = then c bytes
   from-piece low more k chars then (Broken bytes) = replaced replaces
     where
-      replaced : (b : Bool) → AsksFrom low (cond b (going more (chars ++ 0xFFFD ∷ []) (k + bytes)) (Answer HasBad))
+      replaced : (b : Bool) → AsksFrom low (cond b (going more (chars ++ 0xFFFD ∷ []) (k + bytes)) (Answer (at_bad extent chars k)))
       replaced true = then 0xFFFD bytes
       replaced false = tt
   from-piece low more k chars then NoMore = tt
@@ -99,9 +99,21 @@ module _ (enc : Encoding) (replaces : Bool) (extent : Extent) (stop : ℕ) where
     past-ended : (more k : ℕ) (chars : List ℕ) (e : Extent) → extent ≡ e → stop / 8 ≤ k → IsEnded more k chars (Told (past_box e chars k))
     past-ended more k chars Box is past = stands more k chars (λ is_box. past) (λ n is_counted. absurd (cc))
     past-ended more k chars (Characters n) is past = tt
+    past-ended more k chars Front is past = stands more k chars (λ is_box. past) (λ n is_counted. absurd (cc))
 
-    end-ended : (more k : ℕ) (chars : List ℕ) (b : Bool) → lies_in stop k ≡ b → IsEnded more k chars (Told (cond b IsCut (past_box extent chars k)))
-    end-ended more k chars true is = tt
+    cut-ended : (more k : ℕ) (chars : List ℕ) (e : Extent) → extent ≡ e → IsEnded more k chars (Told (past_data e chars k))
+    cut-ended more k chars Box is = tt
+    cut-ended more k chars (Characters n) is = tt
+    cut-ended more k chars Front is = stands more k chars (λ is_box. absurd (cc)) (λ n is_counted. absurd (cc))
+
+    bad-ended : (more k : ℕ) (chars : List ℕ) (e : Extent) → extent ≡ e → IsEnded more k chars (Told (at_bad e chars k))
+    bad-ended more k chars Box is = tt
+    bad-ended more k chars (Characters n) is = tt
+    bad-ended more k chars Front is = stands more k chars (λ is_box. absurd (cc)) (λ n is_counted. absurd (cc))
+
+    end-ended : (more k : ℕ) (chars : List ℕ) (b : Bool) → lies_in stop k ≡ b
+        → IsEnded more k chars (Told (cond b (past_data extent chars k) (past_box extent chars k)))
+    end-ended more k chars true is = cut-ended more k chars extent refl
     end-ended more k chars false is =
         let past = leb-false _ _ is in
         past-ended more k chars extent refl (omega arith)
@@ -117,9 +129,9 @@ module _ (enc : Encoding) (replaces : Bool) (extent : Extent) (stop : ℕ) where
         ended-more more k bytes c chars lies.0 lies.1 lies.2 lies.3 _ (then c bytes)
     piece-ended more k chars shown u then (Told (Broken bytes)) lies = replaced replaces
       where
-        replaced : (b : Bool) → IsEnded (suc more) k chars (ask look (cond b (going more (chars ++ 0xFFFD ∷ []) (k + bytes)) (Answer HasBad)) u).reached
+        replaced : (b : Bool) → IsEnded (suc more) k chars (ask look (cond b (going more (chars ++ 0xFFFD ∷ []) (k + bytes)) (Answer (at_bad extent chars k))) u).reached
         replaced true = ended-more more k bytes 0xFFFD chars (λ is_small. scalar-bad) lies.0 lies.1 lies.2 _ (then 0xFFFD bytes)
-        replaced false = tt
+        replaced false = bad-ended (suc more) k chars extent refl
     piece-ended more k chars shown u then (Told NoMore) lies = end-ended (suc more) k chars (lies_in stop k) refl
     piece-ended more k chars shown u then TooFar lies = tt
     piece-ended more k chars shown u then Missing lies = tt
@@ -165,10 +177,12 @@ module _ (enc : Encoding) (replaces : Bool) (extent : Extent) (stop : ℕ) where
       reaches : (e : Extent) → e ≡ Box → stop / 8 ≤ k + most_of e stop k
       reaches Box is_box = omega arith
       reaches (Characters n) is_box = absurd (cc)
+      reaches Front is_box = absurd (cc)
 
       counted : (e : Extent) (n : ℕ) → e ≡ Characters n → 0 + most_of e stop k ≡ n
       counted Box n is_counted = absurd (cc)
       counted (Characters m) n is_counted = let same : m ≡ n = cc in omega arith
+      counted Front n is_counted = absurd (cc)
 
   -- and its characters are characters, where the bytes are bytes
   pub text-scalars : (look : ℕ → Seen) (k : ℕ) (t : Tally) (chars : List ℕ) (end : ℕ)

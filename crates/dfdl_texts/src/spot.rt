@@ -5,7 +5,7 @@ ghost use Rattle.dfdl_bits.specs.Window.{end_of, seen_at};
 ghost use Rattle.dfdl_looks.specs.Asks.{Ask, Told, ask, go_on};
 ghost use Rattle.dfdl_looks.specs.Tallies.{Tally};
 ghost use Rattle.dfdl_texts.specs.Readings.{Fits, IsBehind, TakesWithin, Turns, found_shown, left_of, verdict_shown};
-ghost use Rattle.dfdl_texts.specs.Texts.{Text, after_piece, at_end};
+ghost use Rattle.dfdl_texts.specs.Texts.{Text, after_piece, at_bad, at_end};
 ghost use Rattle.dfdl_texts.specs.Units.{IsUnit, far_of_run, far_seen, reached_of, unit_at as unit_of};
 
 use crate::extent::Extent;
@@ -156,7 +156,7 @@ fn far_seen(chars: Chars, byte: u64, far: u64) -> u64
 // What is made of what stands at a byte.
 fn judge(task: &Task<'_>, byte: u64, chars: Chars) -> Verdict
     ensures shown { (look : ℕ → AnySeen) (text : List ℕ) (go : ℕ → ℕ → Ask Text) (t : Tally)
-        → go_on look (after_piece task.now.replaces (at_end task.now.extent task.now.stop text byte) go) (reached_of chars) t
+        → go_on look (after_piece task.now.replaces (at_bad task.now.extent text byte) (at_end task.now.extent task.now.stop text byte) go) (reached_of chars) t
         ≡ verdict_shown look text go t result }
     ensures within { (last : ℕ) → Fits chars byte last → TakesWithin result byte last }
 {
@@ -169,7 +169,7 @@ fn judge(task: &Task<'_>, byte: u64, chars: Chars) -> Verdict
             c: '\u{FFFD}',
             bytes: u64::from(bits / 8),
         },
-        Chars::Bad { .. } => Verdict::Stops(Found::HasBad),
+        Chars::Bad { .. } => Verdict::Stops(bad_at(task, byte)),
         Chars::End => Verdict::Stops(end_at(task, byte)),
         Chars::NotYet => Verdict::Stops(Found::NotYet),
         Chars::Over => Verdict::Stops(Found::TooFar),
@@ -180,11 +180,21 @@ fn judge(task: &Task<'_>, byte: u64, chars: Chars) -> Verdict
 fn end_at(task: &Task<'_>, byte: u64) -> Found
     ensures { (text : List ℕ) → found_shown text result ≡ Told (at_end task.now.extent task.now.stop text byte) }
 {
-    if byte < task.stop / 8 {
-        return Found::IsCut;
-    }
+    let is_cut = byte < task.stop / 8;
     match task.extent {
-        Extent::Box => Found::Reads { end: byte },
+        Extent::Box if is_cut => Found::IsCut,
+        Extent::Characters(_) if is_cut => Found::IsCut,
+        Extent::Box | Extent::Front => Found::Reads { end: byte },
         Extent::Characters(_) => Found::IsBoxed,
+    }
+}
+
+// What a text comes to where a bad unit that isn't replaced stands at a byte.
+fn bad_at(task: &Task<'_>, byte: u64) -> Found
+    ensures { (text : List ℕ) → found_shown text result ≡ Told (at_bad task.now.extent text byte) }
+{
+    match task.extent {
+        Extent::Box | Extent::Characters(_) => Found::HasBad,
+        Extent::Front => Found::Reads { end: byte },
     }
 }

@@ -61,7 +61,7 @@ fn most_of(extent: Extent, byte: u64, stop: u64) -> u64
     ensures { result ≡ most_of extent stop byte }
 {
     match extent {
-        Extent::Box => (stop / 8).saturating_sub(byte),
+        Extent::Box | Extent::Front => (stop / 8).saturating_sub(byte),
         Extent::Characters(count) => count,
     }
 }

@@ -7,6 +7,7 @@ use Rattle.dfdl_report.specs.declared.cause.ParseCause.TheVariants.{LengthOutOfR
 use Rattle.dfdl_report.specs.declared.cause.LimitCause.TheVariants.{Nodes, Text as TextLimit}
 use Rattle.dfdl_forms.specs.declared.simple.Simple.{Simple}
 use Rattle.dfdl_terms.specs.declared.representations.Representations.{Representations}
+use Rattle.dfdl_value.specs.declared.value.Value.{Value}
 use Rattle.dfdl_terms.specs.declared.row.Primitive.{Primitive}
 use Rattle.dfdl_terms.specs.declared.row.Row.{Row}
 use Rattle.dfdl_terms.specs.declared.row.Row.TheVariants.{Leaf, Elem, Group, Skip, Align, Boxed, PrefixedLeaf, PrefixedBox}
@@ -22,9 +23,9 @@ use Rattle.dfdl_looks.specs.Looks.{seen_in}
 use Rattle.dfdl_looks.specs.Tallies.{nothing, one_row}
 use Rattle.dfdl_grammar.specs.declared.end.End.{End}
 use Rattle.dfdl_grammar.specs.declared.end.End.TheVariants.{Done, Failed, Stopped}
-use Rattle.dfdl_grammar.specs.States.{Input, State, anchor, anchor_at, front, read_by}
+use Rattle.dfdl_grammar.specs.States.{Input, State, anchor, anchor_at, front}
 use Rattle.dfdl_grammar.specs.Outcomes.{Outcome, ended, follow, spend, then_do}
-use Rattle.dfdl_grammar.specs.Leaves.{Find, Fails, Finds, FindsOctets, FindsText, content_begins, has_room, land, leaf, program}
+use Rattle.dfdl_grammar.specs.Leaves.{Find, Fails, Finds, FindsOctets, FindsText, content_begins, has_room, land, leaf, nil_values, program_for, read_by, reading_prim, values_in}
 use Rattle.dfdl_grammar.specs.Framing.{aligned, fill_to, has_byte, passed}
 use Rattle.dfdl_grammar.specs.Boxes.{boxed, bytes_up_to, pass_bytes, past_byte, rest as rest_of, unboxed}
 use Rattle.dfdl_grammar.specs.Elements.{attempted, begun, close, element, left}
@@ -33,7 +34,7 @@ use Rattle.dfdl_grammar.specs.Rows.{below, group, meaning, row, row_at}
 use Rattle.dfdl_grammar.specs.Trees.{AreRead, HasLeaves, IsInTables}
 use Rattle.dfdl_grammar.proofs.Fine.{Fills, Fine, IsRead, Reads, both, closed_fine, element-ends, fine, moved, put_read, read_before, read_behind, same_or, unmarked}
 use Rattle.dfdl_grammar.proofs.Towers.{below-meaning}
-use Rattle.dfdl_grammar.proofs.Found.{value, whole-told}
+use Rattle.dfdl_grammar.proofs.Found.{value-for, whole-told}
 use Rattle.dfdl_grammar.proofs.Going.{Ends, Goes, Stays, below-goes, tried-returns}
 use Rattle.dfdl_grammar.proofs.Prefixed.{prefixed-comes}
 use Rattle.dfdl_grammar.proofs.Represented.{marked_by, represented-comes}
@@ -55,9 +56,14 @@ module _ (input : Input) (table : Table) (leaves : HasLeaves table) where
   known_within (Some prim) within = there_is table.primitives prim within
 
   -- so is the one that is read by
-  used_is : (instead : Option ℕ) (prim : ℕ) → IsKnown instead → IsInTables table prim → IsInTables table (read_by instead prim)
+  by_values : (values : Option (List Value)) (other prim : ℕ) → IsInTables table other → IsInTables table prim
+      → IsInTables table (reading_prim values other prim)
+  by_values None other prim known is = known
+  by_values (Some values) other prim known is = is
+
+  used_is : (instead : Option ℕ) (prim : ℕ) → IsKnown instead → IsInTables table prim → IsInTables table (read_by table.primitives instead prim)
   used_is None prim known is = is
-  used_is (Some other) prim known is = known
+  used_is (Some other) prim known is = by_values (values_in (slice_get table.primitives other)) other prim known is
 
   known_behind : (s t : State) → Stays s t → IsKnown s.instead → IsKnown t.instead
   known_behind s t stays known = elim stays.instead [
@@ -95,41 +101,41 @@ module _ (input : Input) (table : Table) (leaves : HasLeaves table) where
   land-reads first TooFar s read here done = absurd (cc)
   land-reads first Missing s read here done = absurd (here refl)
 
-  room-reads : (primitive : Primitive) (s : State) (room : Bool)
+  room-reads : (nil : Option (List Value)) (primitive : Primitive) (s : State) (room : Bool)
       → (cond room
-      (let reading = ask (seen_in input.bytes input.limits.window (anchor s)) (program primitive s.at s.stop) nothing in
+      (let reading = ask (seen_in input.bytes input.limits.window (anchor s)) (program_for nil primitive s.at s.stop) nothing in
       spend reading.tally (land input.limits (content_begins primitive s.at) reading.reached s))
       (ended (Failed LengthOutOfRange s.at) s)).end ≡ Done
       → IsRead s (cond room
-      (let reading = ask (seen_in input.bytes input.limits.window (anchor s)) (program primitive s.at s.stop) nothing in
+      (let reading = ask (seen_in input.bytes input.limits.window (anchor s)) (program_for nil primitive s.at s.stop) nothing in
       spend reading.tally (land input.limits (content_begins primitive s.at) reading.reached s))
       (ended (Failed LengthOutOfRange s.at) s)).state
-  room-reads primitive s true done =
-      let a : Ask Find = program primitive s.at s.stop in
+  room-reads nil primitive s true done =
+      let a : Ask Find = program_for nil primitive s.at s.stop in
       let look : ℕ → Seen = seen_in input.bytes input.limits.window (anchor s) in
       land-reads (content_begins primitive s.at) (ask look a nothing).reached s
-      (λ content end is. value look primitive s.at s.stop content end is)
+      (λ content end is. value-for look nil primitive s.at s.stop content end is)
       (λ missing. whole-told input.bytes input.limits.window (anchor s) a nothing missing) done
-  room-reads primitive s false done = absurd (cc)
+  room-reads nil primitive s false done = absurd (cc)
 
-  leaf-reads : (primitive : Primitive) → Reads (leaf input (Some primitive))
-  leaf-reads primitive s done = room-reads primitive s (has_room primitive s.at s.stop) done
+  leaf-reads : (nil : Option (List Value)) (primitive : Primitive) → Reads (leaf input nil (Some primitive))
+  leaf-reads nil primitive s done = room-reads nil primitive s (has_room primitive s.at s.stop) done
 
-  leaf-fills : (primitive : Option Primitive) → Fills (leaf input primitive)
-  leaf-fills None s done = fine s
-  leaf-fills (Some primitive) s done = (leaf-reads primitive s done).fine
+  leaf-fills : (nil : Option (List Value)) (primitive : Option Primitive) → Fills (leaf input nil primitive)
+  leaf-fills nil None s done = fine s
+  leaf-fills nil (Some primitive) s done = (leaf-reads nil primitive s done).fine
 
   -- a leaf of another size
-  of-reads : (primitive : Option Primitive) → Reads (leaf_of input primitive)
-  of-reads None s done = absurd (cc)
-  of-reads (Some primitive) s done = leaf-reads primitive s done
+  of-reads : (nil : Option (List Value)) (primitive : Option Primitive) → Reads (leaf_of input nil primitive)
+  of-reads nil None s done = absurd (cc)
+  of-reads nil (Some primitive) s done = leaf-reads nil primitive s done
 
-  sized-reads : (primitive : Primitive) (size : TextSize) → Reads (sized_leaf input (Some primitive) size)
-  sized-reads primitive size s done = of-reads (resized size primitive) s done
+  sized-reads : (nil : Option (List Value)) (primitive : Primitive) (size : TextSize) → Reads (sized_leaf input nil (Some primitive) size)
+  sized-reads nil primitive size s done = of-reads nil (resized size primitive) s done
 
-  sized-fills : (primitive : Option Primitive) (size : TextSize) → Fills (sized_leaf input primitive size)
-  sized-fills None size s done = fine s
-  sized-fills (Some primitive) size s done = (sized-reads primitive size s done).fine
+  sized-fills : (nil : Option (List Value)) (primitive : Option Primitive) (size : TextSize) → Fills (sized_leaf input nil primitive size)
+  sized-fills nil None size s done = fine s
+  sized-fills nil (Some primitive) size s done = (sized-reads nil primitive size s done).fine
 
   -- a prefix, and what it tells the size of
   prefixed-fills : (by : Option Primitive) (own : ℕ) (next : ℕ → State → Outcome) → ((units : ℕ) → Fills (next units)) → Fills (prefixed input by own next)
@@ -298,19 +304,20 @@ module _ (input : Input) (table : Table) (leaves : HasLeaves table) where
     -- a row that reads a value
     reads-below : (n : ℕ) → FillBelow n → (id : ℕ) → id < n → ReadsBy table.rows (IsInTables table) id → ReadsKnown (below input table n id)
     reads-below n fills _ less (by_leaf id prim row_is prim_is) s known done =
-        let used : ℕ = read_by s.instead prim in
+        let nil : Option (List Value) = nil_values table.primitives s.instead in
         let there = used_is s.instead prim known prim_is in
-        let same : below input table n id s ≡ spend one_row (leaf input (Some there.0) s) =
-        row-below n id (Some (Leaf prim)) less row_is s ∙ ap (λ (p : Option Primitive). spend one_row (leaf input p s)) there.1 in
-        subst (λ (o : Outcome). IsRead s o.state) (sym same) (leaf-reads there.0 s (ap (λ (o : Outcome). o.end) (sym same) ∙ done))
+        let same : below input table n id s ≡ spend one_row (leaf input nil (Some there.0) s) =
+        row-below n id (Some (Leaf prim)) less row_is s ∙ ap (λ (p : Option Primitive). spend one_row (leaf input nil p s)) there.1 in
+        subst (λ (o : Outcome). IsRead s o.state) (sym same) (leaf-reads nil there.0 s (ap (λ (o : Outcome). o.end) (sym same) ∙ done))
     reads-below n fills _ less (by_prefix id prim prefix row_is prim_is) s known done =
         let by : Option Primitive = slice_get table.primitives prefix.prim in
+        let nil : Option (List Value) = nil_values table.primitives s.instead in
         let there = used_is s.instead prim known prim_is in
-        let same : below input table n id s ≡ spend one_row (prefixed_leaf input by prefix (Some there.0) s) =
-        row-below n id (Some (PrefixedLeaf prefix prim)) less row_is s ∙ ap (λ (p : Option Primitive). spend one_row (prefixed_leaf input by prefix p s)) there.1 in
+        let same : below input table n id s ≡ spend one_row (prefixed_leaf input by prefix nil (Some there.0) s) =
+        row-below n id (Some (PrefixedLeaf prefix prim)) less row_is s ∙ ap (λ (p : Option Primitive). spend one_row (prefixed_leaf input by prefix nil p s)) there.1 in
         subst (λ (o : Outcome). IsRead s o.state) (sym same)
-        (prefixed-reads by prefix.own (λ units after. sized_leaf input (Some there.0) (size_of prefix.unit units) after)
-        (λ units. sized-reads there.0 (size_of prefix.unit units)) s (ap (λ (o : Outcome). o.end) (sym same) ∙ done))
+        (prefixed-reads by prefix.own (λ units after. sized_leaf input nil (Some there.0) (size_of prefix.unit units) after)
+        (λ units. sized-reads nil there.0 (size_of prefix.unit units)) s (ap (λ (o : Outcome). o.end) (sym same) ∙ done))
     reads-below n fills _ less (grouped id at child children row_is at_is inner) s known done =
         let same : below input table n id s ≡ spend one_row (group (below input table id) children s) = row-below n id (Some (Group children)) less row_is s in
         let all : All (λ c. c < id) children = nests id (Group children) (slice_get_within table.rows id (Group children) row_is) row_is in
@@ -330,7 +337,8 @@ module _ (input : Input) (table : Table) (leaves : HasLeaves table) where
 
     row-fills : (id : ℕ) → FillBelow id → (r : Option Row) → slice_get table.rows id ≡ r → Fills (row input table (below input table id) id r)
     row-fills id fills None is s done = fine s
-    row-fills id fills (Some (Leaf prim)) is s done = leaf-fills (slice_get table.primitives (read_by s.instead prim)) s done
+    row-fills id fills (Some (Leaf prim)) is s done =
+        leaf-fills (nil_values table.primitives s.instead) (slice_get table.primitives (read_by table.primitives s.instead prim)) s done
     row-fills id fills (Some (Elem name None tried body)) is s done =
         let within : AreWithin (length table.primitives) tried = tried-within id name None tried body is in
         element-fills id true tried (below input table id body) (below-goes input table id body)
@@ -351,10 +359,11 @@ module _ (input : Input) (table : Table) (leaves : HasLeaves table) where
     row-fills id fills (Some (Boxed bits body)) is s done =
         boxed-fills bits (below input table id body) (fills id (omega arith) body) s (nat_le (s.at + bits) s.stop) done
     row-fills id fills (Some (PrefixedLeaf prefix prim)) is s done =
-        let primitive : Option Primitive = slice_get table.primitives (read_by s.instead prim) in
+        let nil : Option (List Value) = nil_values table.primitives s.instead in
+        let primitive : Option Primitive = slice_get table.primitives (read_by table.primitives s.instead prim) in
         prefixed-fills (slice_get table.primitives prefix.prim) prefix.own
-        (λ units after. sized_leaf input primitive (size_of prefix.unit units) after)
-        (λ units. sized-fills primitive (size_of prefix.unit units)) s done
+        (λ units after. sized_leaf input nil primitive (size_of prefix.unit units) after)
+        (λ units. sized-fills nil primitive (size_of prefix.unit units)) s done
     row-fills id fills (Some (PrefixedBox prefix body)) is s done =
         let inner : State → Outcome = below input table id body in
         prefixed-fills (slice_get table.primitives prefix.prim) prefix.own

@@ -1,5 +1,5 @@
 -- What a leaf finds is what its bytes or characters are read as, and whole data have each byte or end before it.
-use Rattle.std.proofs.Common.{◌≡◌, ℕ, zero, suc, ◌+◌, ◌*◌, ◌/◌, ◌%◌, List, [], ◌∷◌, length, get_or, Bool, true, false, cond, leb, ltb, ◌-◌, nat_eq, Option, Some, None, Result, Ok, Err, ap, sym, ◌∙◌}
+use Rattle.std.proofs.Common.{◌≡◌, ℕ, zero, suc, ◌+◌, ◌*◌, ◌/◌, ◌%◌, List, [], ◌∷◌, length, get_or, min, Bool, true, false, cond, leb, ltb, ◌-◌, nat_eq, Option, Some, None, Result, Ok, Err, ap, sym, ◌∙◌}
 use Rattle.dfdl_bits.specs.declared.window.Seen.{Seen}
 use Rattle.dfdl_bits.specs.declared.window.Seen.TheVariants.{Byte, End as DataEnded, NotYet, Over}
 use Rattle.dfdl_int_binary.specs.Integers.{field_of, integer_reading}
@@ -15,12 +15,13 @@ use Rattle.dfdl_value.specs.declared.value.Value.{Value}
 use Rattle.dfdl_value.specs.declared.value.Value.TheVariants.{Int, Uns, Dec, Text, Truth as TruthValue, Bytes}
 use Rattle.dfdl_report.specs.declared.cause.ParseCause.TheVariants.{DataEnds, NotFilled, RequiredEmpty}
 use Rattle.dfdl_terms.specs.declared.row.Primitive.{Primitive}
-use Rattle.dfdl_terms.specs.declared.row.Primitive.TheVariants.{Integer, Packed, Truth, Octets, Text as Characters, NilOctets, Default}
+use Rattle.dfdl_terms.specs.declared.row.Primitive.TheVariants.{Integer, Packed, Truth, Octets, Text as Characters, NilOctets, Default, NilValues, Pattern}
 use Rattle.dfdl_region.specs.declared.node.Content.{Content}
 use Rattle.dfdl_region.specs.declared.node.Content.TheVariants.{Begun}
 use Rattle.dfdl_terms.specs.declared.text.DefaultForm.{DefaultForm}
 use Rattle.dfdl_terms.specs.declared.text.NilForm.{NilForm}
 use Rattle.dfdl_terms.specs.declared.text.OctetForm.{OctetForm}
+use Rattle.dfdl_terms.specs.declared.text.PatternForm.{PatternForm}
 use Rattle.dfdl_terms.specs.declared.text.TextContent.{TextContent}
 use Rattle.dfdl_terms.specs.declared.text.TextContent.TheVariants.{Plain, Number, Zoned, Truth as TextTruth, Nil}
 use Rattle.dfdl_terms.specs.declared.text.TextForm.{TextForm}
@@ -35,9 +36,11 @@ use Rattle.dfdl_looks.specs.Looks.{seen_in}
 use Rattle.dfdl_looks.specs.Tallies.{Tally, nothing, saw_byte, saw_end}
 use Rattle.dfdl_looks.proofs.Resumed.{on_seen}
 use Rattle.dfdl_looks.proofs.Sequels.{ask-then}
-use Rattle.dfdl_grammar.specs.Leaves.{Find, Fails, Finds, FindsOctets, FindsText, bits_of, bytes_spanned, content_find, default_find, field, find_in, find_of, is_no_size, nil_find, nil_octets_find, number_find, octets, packed_find, program, text_begins, text_behind, text_find, text_of_size, truth_find}
+use Rattle.dfdl_grammar.specs.Leaves.{Find, Fails, Finds, FindsOctets, FindsText, bits_of, bytes_spanned, content_find, default_find, field, find_in, find_of, is_no_size, nil_find, nil_octets_find, nil_value_find, is_value, number_find, pattern_find, octets, packed_find, program, program_for, text_begins, text_behind, text_find, text_of_size, truth_find}
 use Rattle.dfdl_grammar.specs.Framing.{aligned}
 use Rattle.dfdl_grammar.specs.Nils.{are_nil, is_nil}
+use Rattle.dfdl_grammar.specs.Patterns.{most_sought}
+use Rattle.std.specs.List.{list_any}
 
 -- what a program over a stretch finds is what it makes of some bytes
 pub record Made (go : List ℕ → Find) (found : Find) : Type 0 where
@@ -116,6 +119,8 @@ found_read (Octets form) bit bytes content n is unread = absurd (cc)
 found_read (Characters form) bit bytes content n is unread = absurd (cc)
 found_read (NilOctets form) bit bytes content n is unread = absurd (cc)
 found_read (Default form) bit bytes content n is unread = absurd (cc)
+found_read (NilValues form) bit bytes content n is unread = absurd (cc)
+found_read (Pattern form) bit bytes content n is unread = absurd (cc)
 
 -- what is found of a primitive is a value
 field_value : (look : ℕ → Seen) (primitive : Primitive) (bit : ℕ) (content : Content) (to : ℕ)
@@ -199,8 +204,26 @@ default_value form bit look content to true is unread =
     default_read bit form.value content to (told_one (default_find bit form.value) (Finds content to) is) unread
 default_value form bit look content to false is unread = absurd (cc)
 
+-- the number of bytes that a pattern matches is one
+pattern_value : (form : PatternForm) (first : ℕ) (look : ℕ → Seen) (content : Content) (to : ℕ) (r : Reached TextRead) (t : Tally)
+    → (go_on look (λ (text : TextRead). Answer (pattern_find form first text)) r t).reached ≡ Told (Finds content to) → content ≡ Begun → ⊥
+pattern_value form first look content to (Told (DoesRead chars end)) t is unread = absurd (cc)
+pattern_value form first look content to (Told HasBad) t is unread = absurd (cc)
+pattern_value form first look content to (Told IsCut) t is unread = absurd (cc)
+pattern_value form first look content to (Told IsBoxed) t is unread = absurd (cc)
+pattern_value form first look content to TooFar t is unread = absurd (cc)
+pattern_value form first look content to Missing t is unread = absurd (cc)
+
+then_pattern : (form : PatternForm) (first : ℕ) (look : ℕ → Seen) (content : Content) (to : ℕ) (a : Ask TextRead)
+    → (ask look (and_then a (λ (text : TextRead). Answer (pattern_find form first text))) nothing).reached ≡ Told (Finds content to)
+    → content ≡ Begun → ⊥
+then_pattern form first look content to a is unread =
+    let whole = ask-then look (λ (text : TextRead). Answer (pattern_find form first text)) a nothing in
+    pattern_value form first look content to (ask look a nothing).reached (ask look a nothing).tally
+    (sym (ap (λ (r : Reading Find). r.reached) whole) ∙ is) unread
+
 -- what a leaf finds is a value, if it is no bytes
-pub value : (look : ℕ → Seen) (primitive : Primitive) (bit stop : ℕ) (content : Content) (to : ℕ)
+value : (look : ℕ → Seen) (primitive : Primitive) (bit stop : ℕ) (content : Content) (to : ℕ)
     → (ask look (program primitive bit stop) nothing).reached ≡ Told (Finds content to) → content ≡ Begun → ⊥
 value look (Integer form) bit stop content to is unread = field_value look (Integer form) bit content to is unread
 value look (Packed form) bit stop content to is unread = field_value look (Packed form) bit content to is unread
@@ -210,6 +233,33 @@ value look (Octets form) bit stop content to is unread =
 value look (Characters form) bit stop content to is unread = sized_value form form.size bit stop look content to is unread
 value look (NilOctets form) bit stop content to is unread = then_nil_octets form.nil look content to (octets form.octets bit) is unread
 value look (Default form) bit stop content to is unread = default_value form bit look content to (is_no_size form.size) is unread
+value look (NilValues form) bit stop content to is unread = absurd (cc)
+value look (Pattern form) bit stop content to is unread =
+    then_pattern form (aligned 8 bit) look content to
+    (text_at form.encoding false extent.Front (min stop (aligned 8 bit + most_sought)) (aligned 8 bit / 8)) is unread
+
+-- so is what has to be one of some values
+nil_value_read : (values : List Value) (find : Find) (content : Content) (n : ℕ) → nil_value_find values find ≡ Finds content n → content ≡ Begun → ⊥
+nil_value_read values (Fails cause) content n is unread = absurd (cc)
+nil_value_read values (Finds other end) content n is unread = nil_read end (list_any (is_value (Finds other end)) values) content n is unread
+nil_value_read values (FindsOctets bytes end) content n is unread = nil_read end (list_any (is_value (FindsOctets bytes end)) values) content n is unread
+nil_value_read values (FindsText bytes end) content n is unread = nil_read end (list_any (is_value (FindsText bytes end)) values) content n is unread
+
+nil_value_value : (values : List Value) (look : ℕ → Seen) (content : Content) (to : ℕ) (r : Reached Find) (t : Tally)
+    → (go_on look (λ (find : Find). Answer (nil_value_find values find)) r t).reached ≡ Told (Finds content to) → content ≡ Begun → ⊥
+nil_value_value values look content to (Told find) t is unread =
+    nil_value_read values find content to (told_one (nil_value_find values find) (Finds content to) is) unread
+nil_value_value values look content to TooFar t is unread = absurd (cc)
+nil_value_value values look content to Missing t is unread = absurd (cc)
+
+pub value-for : (look : ℕ → Seen) (nil : Option (List Value)) (primitive : Primitive) (bit stop : ℕ) (content : Content) (to : ℕ)
+    → (ask look (program_for nil primitive bit stop) nothing).reached ≡ Told (Finds content to) → content ≡ Begun → ⊥
+value-for look None primitive bit stop content to is unread = value look primitive bit stop content to is unread
+value-for look (Some values) primitive bit stop content to is unread =
+    let a : Ask Find = program primitive bit stop in
+    let whole = ask-then look (λ (find : Find). Answer (nil_value_find values find)) a nothing in
+    nil_value_value values look content to (ask look a nothing).reached (ask look a nothing).tally
+    (sym (ap (λ (r : Reading Find). r.reached) whole) ∙ is) unread
 
 -- whole data have no byte that hasn't come
 no-missing : {F : Type 0} (bytes : List ℕ) (size low : ℕ) (go : Option ℕ → Ask F) (k : ℕ) (t : Tally)

@@ -6,6 +6,7 @@ use Rattle.dfdl_report.specs.declared.cause.LimitCause.TheVariants.{Nodes, Text 
 use Rattle.dfdl_report.specs.declared.cause.ParseCause.{ParseCause}
 use Rattle.dfdl_report.specs.declared.cause.ParseCause.TheVariants.{LengthOutOfRange}
 use Rattle.dfdl_terms.specs.declared.representations.Representations.{Representations}
+use Rattle.dfdl_value.specs.declared.value.Value.{Value}
 use Rattle.dfdl_terms.specs.declared.row.Primitive.{Primitive}
 use Rattle.dfdl_terms.specs.declared.row.Row.{Row}
 use Rattle.dfdl_terms.specs.declared.row.Row.TheVariants.{Leaf, Elem, Group, Skip, Align, Boxed, PrefixedLeaf, PrefixedBox}
@@ -24,13 +25,12 @@ use Rattle.dfdl_grammar.specs.declared.mark.Mark.{Mark}
 use Rattle.dfdl_grammar.specs.States.{Input, State, anchor, anchor_at}
 use Rattle.dfdl_grammar.specs.Outcomes.{Outcome, ended, follow, spend, then_do}
 use Rattle.dfdl_grammar.specs.Marks.{back, back_among, closed, marked, outer_marks}
-use Rattle.dfdl_grammar.specs.Leaves.{Find, Fails, Finds, FindsOctets, FindsText, content_begins, has_room, land, leaf, program}
+use Rattle.dfdl_grammar.specs.Leaves.{Find, Fails, Finds, FindsOctets, FindsText, content_begins, has_room, land, leaf, nil_values, program_for, read_by}
 use Rattle.dfdl_grammar.specs.Framing.{aligned, fill_to, has_byte, passed}
 use Rattle.dfdl_grammar.specs.Boxes.{boxed, bytes_up_to, pass_bytes, past_byte, rest as rest_of, unboxed}
 use Rattle.dfdl_grammar.specs.Elements.{attempted, begun, close, element, has_elements, left}
 use Rattle.dfdl_grammar.specs.Prefixes.{bits_of_units, leaf_of, prefixed, resized, size_of, sized_leaf}
 use Rattle.dfdl_grammar.specs.Rows.{below, group, meaning, row, row_at}
-use Rattle.dfdl_grammar.specs.States.{read_by}
 use Rattle.dfdl_grammar.proofs.Prefixed.{prefixed-comes}
 use Rattle.dfdl_grammar.proofs.Represented.{marked_by, represented-comes}
 
@@ -218,27 +218,27 @@ module _ (input : Input) where
   land-goes first TooFar s = still s.inside (land input.limits first TooFar s).end s
   land-goes first Missing s = still s.inside Done s
 
-  room-goes : (primitive : Primitive) (s : State) (room : Bool)
+  room-goes : (nil : Option (List Value)) (primitive : Primitive) (s : State) (room : Bool)
       → (let o : Outcome = cond room
-      (let reading = ask (seen_in input.bytes input.limits.window (anchor s)) (program primitive s.at s.stop) nothing in
+      (let reading = ask (seen_in input.bytes input.limits.window (anchor s)) (program_for nil primitive s.at s.stop) nothing in
       spend reading.tally (land input.limits (content_begins primitive s.at) reading.reached s))
       (ended (Failed LengthOutOfRange s.at) s) in Went s.inside s o.end o.state)
-  room-goes primitive s true =
-      land-goes (content_begins primitive s.at) (ask (seen_in input.bytes input.limits.window (anchor s)) (program primitive s.at s.stop) nothing).reached s
-  room-goes primitive s false = still s.inside (Failed LengthOutOfRange s.at) s
+  room-goes nil primitive s true =
+      land-goes (content_begins primitive s.at) (ask (seen_in input.bytes input.limits.window (anchor s)) (program_for nil primitive s.at s.stop) nothing).reached s
+  room-goes nil primitive s false = still s.inside (Failed LengthOutOfRange s.at) s
 
-  leaf-goes : (primitive : Option Primitive) → Goes (leaf input primitive)
-  leaf-goes None s = still s.inside Done s
-  leaf-goes (Some primitive) s = room-goes primitive s (has_room primitive s.at s.stop)
+  leaf-goes : (nil : Option (List Value)) (primitive : Option Primitive) → Goes (leaf input nil primitive)
+  leaf-goes nil None s = still s.inside Done s
+  leaf-goes nil (Some primitive) s = room-goes nil primitive s (has_room primitive s.at s.stop)
 
   -- a leaf of another size
-  of-goes : (primitive : Option Primitive) → Goes (leaf_of input primitive)
-  of-goes None s = still s.inside (Failed LengthOutOfRange s.at) s
-  of-goes (Some primitive) s = leaf-goes (Some primitive) s
+  of-goes : (nil : Option (List Value)) (primitive : Option Primitive) → Goes (leaf_of input nil primitive)
+  of-goes nil None s = still s.inside (Failed LengthOutOfRange s.at) s
+  of-goes nil (Some primitive) s = leaf-goes nil (Some primitive) s
 
-  sized-goes : (primitive : Option Primitive) (size : TextSize) → Goes (sized_leaf input primitive size)
-  sized-goes None size s = still s.inside Done s
-  sized-goes (Some primitive) size s = of-goes (resized size primitive) s
+  sized-goes : (nil : Option (List Value)) (primitive : Option Primitive) (size : TextSize) → Goes (sized_leaf input nil primitive size)
+  sized-goes nil None size s = still s.inside Done s
+  sized-goes nil (Some primitive) size s = of-goes nil (resized size primitive) s
 
   -- a prefix, and what it tells the size of
   prefixed-goes : (by : Option Primitive) (own : ℕ) (next : ℕ → State → Outcome) → ((units : ℕ) → Goes (next units)) → Goes (prefixed input by own next)
@@ -428,16 +428,18 @@ module _ (input : Input) where
   module _ (table : Table) where
     row-goes : (child : ℕ → State → Outcome) → ((id : ℕ) → Goes (child id)) → (id : ℕ) (r : Option Row) → Goes (row input table child id r)
     row-goes child goes id None s = still s.inside Done s
-    row-goes child goes id (Some (Leaf prim)) s = leaf-goes (slice_get table.primitives (read_by s.instead prim)) s
+    row-goes child goes id (Some (Leaf prim)) s =
+        leaf-goes (nil_values table.primitives s.instead) (slice_get table.primitives (read_by table.primitives s.instead prim)) s
     row-goes child goes id (Some (Elem name simple tried body)) s = element-goes id (has_elements simple) tried (child body) (goes body) s
     row-goes child goes id (Some (Group children)) s = group-goes child goes children s
     row-goes child goes id (Some (Skip bits)) s = pass-goes (s.at + bits) s (nat_le (s.at + bits) s.at) (nat_le (s.at + bits) s.stop)
     row-goes child goes id (Some (Align bits)) s = pass-goes (aligned bits s.at) s (nat_le (aligned bits s.at) s.at) (nat_le (aligned bits s.at) s.stop)
     row-goes child goes id (Some (Boxed bits body)) s = boxed-goes bits (child body) (goes body) s (nat_le (s.at + bits) s.stop)
     row-goes child goes id (Some (PrefixedLeaf prefix prim)) s =
-        let primitive : Option Primitive = slice_get table.primitives (read_by s.instead prim) in
-        prefixed-goes (slice_get table.primitives prefix.prim) prefix.own (λ units after. sized_leaf input primitive (size_of prefix.unit units) after)
-        (λ units. sized-goes primitive (size_of prefix.unit units)) s
+        let nil : Option (List Value) = nil_values table.primitives s.instead in
+        let primitive : Option Primitive = slice_get table.primitives (read_by table.primitives s.instead prim) in
+        prefixed-goes (slice_get table.primitives prefix.prim) prefix.own (λ units after. sized_leaf input nil primitive (size_of prefix.unit units) after)
+        (λ units. sized-goes nil primitive (size_of prefix.unit units)) s
     row-goes child goes id (Some (PrefixedBox prefix body)) s =
         prefixed-goes (slice_get table.primitives prefix.prim) prefix.own (λ units after. boxed input (bits_of_units prefix.unit units) (child body) after)
         (λ units after. boxed-goes (bits_of_units prefix.unit units) (child body) (goes body) after (nat_le (after.at + bits_of_units prefix.unit units) after.stop)) s

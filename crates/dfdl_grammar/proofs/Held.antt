@@ -1,5 +1,5 @@
 -- The bytes of the values of a document's elements stay there, and those of its strings stay UTF-8, whatever the rows do.
-use Rattle.std.proofs.Common.{◌≡◌, ◌⊎◌, inl, inr, ℕ, zero, suc, ◌+◌, ◌-◌, ◌*◌, ◌/◌, ◌%◌, ◌<◌, refl, List, [], ◌∷◌, ◌++◌, length, get_or, Bool, true, false, cond, leb, ltb, nat_eq, nat_le, nat_lt, Option, Some, None, Result, Ok, Err, All, ap, sym, subst, ◌∙◌, arith, IsUtf8, length-append}
+use Rattle.std.proofs.Common.{◌≡◌, ◌⊎◌, inl, inr, ℕ, zero, suc, ◌+◌, ◌-◌, ◌*◌, ◌/◌, ◌%◌, ◌<◌, refl, List, [], ◌∷◌, ◌++◌, length, get_or, min, Bool, true, false, cond, leb, ltb, nat_eq, nat_le, nat_lt, Option, Some, None, Result, Ok, Err, All, ap, sym, subst, ◌∙◌, arith, IsUtf8, length-append}
 use Rattle.std.proofs.lemmas.Bool.Decides.{nat_tests}
 use Rattle.std.proofs.lemmas.List.Elements.{All-append}
 use Rattle.std.proofs.lemmas.Str.{IsUtf8-nil}
@@ -21,12 +21,13 @@ use Rattle.dfdl_report.specs.declared.cause.LimitCause.TheVariants.{Nodes, Text 
 use Rattle.dfdl_report.specs.declared.cause.ParseCause.TheVariants.{DataEnds, LengthOutOfRange, NotFilled, RequiredEmpty}
 use Rattle.dfdl_terms.specs.declared.representations.Representations.{Representations}
 use Rattle.dfdl_terms.specs.declared.row.Primitive.{Primitive}
-use Rattle.dfdl_terms.specs.declared.row.Primitive.TheVariants.{Integer, Packed, Truth, Octets, Text as Characters, NilOctets, Default}
+use Rattle.dfdl_terms.specs.declared.row.Primitive.TheVariants.{Integer, Packed, Truth, Octets, Text as Characters, NilOctets, Default, NilValues, Pattern}
 use Rattle.dfdl_terms.specs.declared.row.Row.{Row}
 use Rattle.dfdl_terms.specs.declared.row.Row.TheVariants.{Leaf, Elem, Group, Skip, Align, Boxed, PrefixedLeaf, PrefixedBox}
 use Rattle.dfdl_terms.specs.declared.text.DefaultForm.{DefaultForm}
 use Rattle.dfdl_terms.specs.declared.text.NilForm.{NilForm}
 use Rattle.dfdl_terms.specs.declared.text.OctetForm.{OctetForm}
+use Rattle.dfdl_terms.specs.declared.text.PatternForm.{PatternForm}
 use Rattle.dfdl_terms.specs.declared.text.TextContent.{TextContent}
 use Rattle.dfdl_terms.specs.declared.text.TextContent.TheVariants.{Plain, Number, Zoned, Truth as TextTruth, Nil}
 use Rattle.dfdl_terms.specs.declared.text.TextForm.{TextForm}
@@ -52,13 +53,15 @@ use Rattle.dfdl_looks.specs.Tallies.{Tally, nothing}
 use Rattle.dfdl_looks.proofs.Sequels.{ask-then}
 use Rattle.dfdl_grammar.specs.declared.end.End.{End}
 use Rattle.dfdl_grammar.specs.declared.end.End.TheVariants.{Done, Failed, Stopped}
-use Rattle.dfdl_grammar.specs.States.{Input, State, anchor, anchor_at, front, read_by}
+use Rattle.dfdl_grammar.specs.States.{Input, State, anchor, anchor_at, front}
 use Rattle.dfdl_grammar.specs.Outcomes.{Outcome, ended, follow, spend, then_do}
-use Rattle.dfdl_grammar.specs.Leaves.{Find, Fails, Finds, FindsOctets, FindsText, bits_of, bytes_spanned, content_begins, content_find, default_find, field, find_in, find_of, has_room, is_no_size, land, leaf, nil_find, nil_octets_find, number_find, octets, packed_find, program, text_begins, text_behind, text_find, text_of_size, truth_find}
+use Rattle.dfdl_grammar.specs.Leaves.{Find, Fails, Finds, FindsOctets, FindsText, bits_of, bytes_spanned, content_begins, content_find, default_find, field, find_in, find_of, has_room, is_no_size, land, leaf, nil_find, nil_octets_find, nil_value_find, nil_values, is_value, number_find, pattern_find, octets, packed_find, program, program_for, read_by, text_begins, text_behind, text_find, text_of_size, truth_find}
 use Rattle.dfdl_grammar.specs.Framing.{aligned, fill_to, has_byte, passed}
 use Rattle.dfdl_grammar.specs.Boxes.{boxed, bytes_up_to, pass_bytes, past_byte, rest as rest_of, unboxed}
 use Rattle.dfdl_grammar.specs.Elements.{attempted, begun, close, element, has_elements, left}
 use Rattle.dfdl_grammar.specs.Nils.{are_nil, is_nil}
+use Rattle.dfdl_grammar.specs.Patterns.{most_sought}
+use Rattle.std.specs.List.{list_any}
 use Rattle.dfdl_grammar.specs.Prefixes.{bits_of_units, leaf_of, prefixed, resized, size_of, sized_leaf}
 use Rattle.dfdl_grammar.specs.Rows.{below, group, meaning, row, row_at}
 use Rattle.dfdl_grammar.proofs.Found.{made, told_one}
@@ -116,6 +119,8 @@ found-held (Octets form) bit bytes = tt
 found-held (Characters form) bit bytes = IsUtf8-nil
 found-held (NilOctets form) bit bytes = tt
 found-held (Default form) bit bytes = tt
+found-held (NilValues form) bit bytes = tt
+found-held (Pattern form) bit bytes = tt
 
 -- a value that is written, in a box without bits
 default-held : (bit : ℕ) (v : Value) → IsWritten v → IsHeld (default_find bit v)
@@ -133,6 +138,20 @@ nil-octets-held form (Finds content end) = tt
 nil-octets-held form (FindsOctets bytes end) = nil-held end (are_nil form bytes)
 nil-octets-held form (FindsText bytes end) = tt
 
+-- a value that has to be one of some
+nil-value-held : (values : List Value) (find : Find) → IsHeld (nil_value_find values find)
+nil-value-held values (Fails cause) = tt
+nil-value-held values (Finds content end) = nil-held end (list_any (is_value (Finds content end)) values)
+nil-value-held values (FindsOctets bytes end) = nil-held end (list_any (is_value (FindsOctets bytes end)) values)
+nil-value-held values (FindsText bytes end) = nil-held end (list_any (is_value (FindsText bytes end)) values)
+
+-- the number of bytes that a pattern matches
+pattern-held : (form : PatternForm) (first : ℕ) (text : TextRead) → IsHeld (pattern_find form first text)
+pattern-held form first (DoesRead chars end) = λ bytes. tt
+pattern-held form first HasBad = tt
+pattern-held form first IsCut = tt
+pattern-held form first IsBoxed = tt
+
 -- the value that a primitive stands for is written
 abbrev IsSound : Primitive → Type 0
 IsSound (Integer form) = Unit {0}
@@ -142,6 +161,8 @@ IsSound (Octets form) = Unit {0}
 IsSound (Characters form) = Unit {0}
 IsSound (NilOctets form) = Unit {0}
 IsSound (Default form) = IsWritten form.value
+IsSound (NilValues form) = Unit {0}
+IsSound (Pattern form) = Unit {0}
 
 -- the same of one that there may be
 abbrev IsSoundOr : Option Primitive → Type 0
@@ -156,6 +177,8 @@ sound (Octets form) is = tt
 sound (Characters form) is = tt
 sound (NilOctets form) is = tt
 sound (Default form) is = is.value
+sound (NilValues form) is = tt
+sound (Pattern form) is = tt
 
 sound-at : (primitives : List Primitive) (prim : ℕ) → All IsPrimitive primitives → IsSoundOr (slice_get primitives prim)
 sound-at [] prim all = tt
@@ -175,6 +198,8 @@ resized-sound (Bits n) (Octets form) is = tt
 resized-sound (Bits n) (Characters form) is = tt
 resized-sound (Bits n) (NilOctets form) is = tt
 resized-sound (Bits n) (Default form) is = is
+resized-sound (Bits n) (NilValues form) is = tt
+resized-sound (Bits n) (Pattern form) is = tt
 resized-sound (Counted n) (Integer form) is = tt
 resized-sound (Counted n) (Packed form) is = tt
 resized-sound (Counted n) (Truth form) is = tt
@@ -182,6 +207,8 @@ resized-sound (Counted n) (Octets form) is = tt
 resized-sound (Counted n) (Characters form) is = tt
 resized-sound (Counted n) (NilOctets form) is = tt
 resized-sound (Counted n) (Default form) is = is
+resized-sound (Counted n) (NilValues form) is = tt
+resized-sound (Counted n) (Pattern form) is = tt
 
 -- whether a find is that the data end
 ends-or : (found : Find) → IsHeld found ⊎ (Fails DataEnds ≡ found → ⊥)
@@ -276,6 +303,19 @@ module _ (input : Input) (small : All (λ b. b < 256) input.bytes) where
       subst IsHeld (told_one (default_find bit form.value) found is) (default-held bit form.value written)
   no-bits-held look form bit found false written is = subst IsHeld (told_one (Fails RequiredEmpty) found is) tt
 
+  pattern-then-held : (look : ℕ → Seen) (form : PatternForm) (first : ℕ) (r : Reached TextRead) (t : Tally) (found : Find)
+      → (go_on look (λ (text : TextRead). Answer (pattern_find form first text)) r t).reached ≡ Told found → IsHeld found
+  pattern-then-held look form first (Told text) t found is = subst IsHeld (told_one (pattern_find form first text) found is) (pattern-held form first text)
+  pattern-then-held look form first TooFar t found is = absurd (cc)
+  pattern-then-held look form first Missing t found is = absurd (cc)
+
+  sought-held : (look : ℕ → Seen) (form : PatternForm) (first : ℕ) (a : Ask TextRead) (found : Find)
+      → (ask look (and_then a (λ (text : TextRead). Answer (pattern_find form first text))) nothing).reached ≡ Told found → IsHeld found
+  sought-held look form first a found is =
+      let whole = ask-then look (λ (text : TextRead). Answer (pattern_find form first text)) a nothing in
+      pattern-then-held look form first (ask look a nothing).reached (ask look a nothing).tally found
+      (sym (ap (λ (r : Reading Find). r.reached) whole) ∙ is)
+
   program-held : (size low : ℕ) (primitive : Primitive) → IsSound primitive → (bit stop : ℕ) (found : Find)
       → (ask (seen_in input.bytes size low) (program primitive bit stop) nothing).reached ≡ Told found → IsHeld found
   program-held size low (Integer form) good bit stop found is = field-held (seen_in input.bytes size low) (Integer form) bit found is
@@ -287,6 +327,26 @@ module _ (input : Input) (small : All (λ b. b < 256) input.bytes) where
       nil-bytes-held (seen_in input.bytes size low) form.nil (octets form.octets bit) found is
   program-held size low (Default form) good bit stop found is =
       no-bits-held (seen_in input.bytes size low) form bit found (is_no_size form.size) good is
+  program-held size low (NilValues form) good bit stop found is = subst IsHeld (told_one (Fails RequiredEmpty) found is) tt
+  program-held size low (Pattern form) good bit stop found is =
+      sought-held (seen_in input.bytes size low) form (aligned 8 bit)
+      (text_at form.encoding false extent.Front (min stop (aligned 8 bit + most_sought)) (aligned 8 bit / 8)) found is
+
+  nil-value-then-held : (look : ℕ → Seen) (values : List Value) (r : Reached Find) (t : Tally) (found : Find)
+      → (go_on look (λ (find : Find). Answer (nil_value_find values find)) r t).reached ≡ Told found → IsHeld found
+  nil-value-then-held look values (Told find) t found is = subst IsHeld (told_one (nil_value_find values find) found is) (nil-value-held values find)
+  nil-value-then-held look values TooFar t found is = absurd (cc)
+  nil-value-then-held look values Missing t found is = absurd (cc)
+
+  program-for-held : (size low : ℕ) (nil : Option (List Value)) (primitive : Primitive) → IsSound primitive → (bit stop : ℕ) (found : Find)
+      → (ask (seen_in input.bytes size low) (program_for nil primitive bit stop) nothing).reached ≡ Told found → IsHeld found
+  program-for-held size low None primitive good bit stop found is = program-held size low primitive good bit stop found is
+  program-for-held size low (Some values) primitive good bit stop found is =
+      let look : ℕ → Seen = seen_in input.bytes size low in
+      let a : Ask Find = program primitive bit stop in
+      let whole = ask-then look (λ (find : Find). Answer (nil_value_find values find)) a nothing in
+      nil-value-then-held look values (ask look a nothing).reached (ask look a nothing).tally found
+      (sym (ap (λ (r : Reading Find). r.reached) whole) ∙ is)
 
   abbrev Has : State → Type 0
   Has s = HaveTexts s.nodes s.text
@@ -322,28 +382,29 @@ module _ (input : Input) (small : All (λ b. b < 256) input.bytes) where
   land-keeps first TooFar held s has = has
   land-keeps first Missing held s has = has
 
-  room-keeps : (primitive : Primitive) → IsSound primitive → (s : State) → Has s → (room : Bool)
+  room-keeps : (nil : Option (List Value)) (primitive : Primitive) → IsSound primitive → (s : State) → Has s → (room : Bool)
       → Has (cond room
-      (let reading = ask (seen_in input.bytes input.limits.window (anchor s)) (program primitive s.at s.stop) nothing in
+      (let reading = ask (seen_in input.bytes input.limits.window (anchor s)) (program_for nil primitive s.at s.stop) nothing in
       spend reading.tally (land input.limits (content_begins primitive s.at) reading.reached s))
       (ended (Failed LengthOutOfRange s.at) s)).state
-  room-keeps primitive good s has true =
-      land-keeps (content_begins primitive s.at) (ask (seen_in input.bytes input.limits.window (anchor s)) (program primitive s.at s.stop) nothing).reached
-      (λ found is. program-held input.limits.window (anchor s) primitive good s.at s.stop found is) s has
-  room-keeps primitive good s has false = has
+  room-keeps nil primitive good s has true =
+      land-keeps (content_begins primitive s.at) (ask (seen_in input.bytes input.limits.window (anchor s)) (program_for nil primitive s.at s.stop) nothing).reached
+      (λ found is. program-for-held input.limits.window (anchor s) nil primitive good s.at s.stop found is) s has
+  room-keeps nil primitive good s has false = has
 
-  leaf-keeps : (primitive : Option Primitive) → IsSoundOr primitive → Keeps (leaf input primitive)
-  leaf-keeps None good s has = has
-  leaf-keeps (Some primitive) good s has = room-keeps primitive good s has (has_room primitive s.at s.stop)
+  leaf-keeps : (nil : Option (List Value)) (primitive : Option Primitive) → IsSoundOr primitive → Keeps (leaf input nil primitive)
+  leaf-keeps nil None good s has = has
+  leaf-keeps nil (Some primitive) good s has = room-keeps nil primitive good s has (has_room primitive s.at s.stop)
 
   -- a leaf of another size
-  of-keeps : (primitive : Option Primitive) → IsSoundOr primitive → Keeps (leaf_of input primitive)
-  of-keeps None good s has = has
-  of-keeps (Some primitive) good s has = leaf-keeps (Some primitive) good s has
+  of-keeps : (nil : Option (List Value)) (primitive : Option Primitive) → IsSoundOr primitive → Keeps (leaf_of input nil primitive)
+  of-keeps nil None good s has = has
+  of-keeps nil (Some primitive) good s has = leaf-keeps nil (Some primitive) good s has
 
-  sized-keeps : (primitive : Option Primitive) (size : TextSize) → IsSoundOr primitive → Keeps (sized_leaf input primitive size)
-  sized-keeps None size good s has = has
-  sized-keeps (Some primitive) size good s has = of-keeps (resized size primitive) (resized-sound size primitive good) s has
+  sized-keeps : (nil : Option (List Value)) (primitive : Option Primitive) (size : TextSize) → IsSoundOr primitive
+      → Keeps (sized_leaf input nil primitive size)
+  sized-keeps nil None size good s has = has
+  sized-keeps nil (Some primitive) size good s has = of-keeps nil (resized size primitive) (resized-sound size primitive good) s has
 
   -- a prefix, and what it tells the size of
   prefixed-keeps : (by : Option Primitive) (own : ℕ) (next : ℕ → State → Outcome) → ((units : ℕ) → Keeps (next units)) → Keeps (prefixed input by own next)
@@ -445,7 +506,8 @@ module _ (input : Input) (small : All (λ b. b < 256) input.bytes) where
         → Keeps (row input table child id r)
     row-keeps child keeps goes id None s has = has
     row-keeps child keeps goes id (Some (Leaf prim)) s has =
-        let used : ℕ = read_by s.instead prim in leaf-keeps (slice_get table.primitives used) (sound-at table.primitives used bounded) s has
+        let used : ℕ = read_by table.primitives s.instead prim in
+        leaf-keeps (nil_values table.primitives s.instead) (slice_get table.primitives used) (sound-at table.primitives used bounded) s has
     row-keeps child keeps goes id (Some (Elem name simple tried body)) s has =
         element-keeps id (has_elements simple) tried (child body) (keeps body) (goes body) s has
     row-keeps child keeps goes id (Some (Group children)) s has = group-keeps child keeps children s has
@@ -454,10 +516,11 @@ module _ (input : Input) (small : All (λ b. b < 256) input.bytes) where
         pass-keeps (aligned bits s.at) s has (nat_le (aligned bits s.at) s.at) (nat_le (aligned bits s.at) s.stop)
     row-keeps child keeps goes id (Some (Boxed bits body)) s has = boxed-keeps bits (child body) (keeps body) s has (nat_le (s.at + bits) s.stop)
     row-keeps child keeps goes id (Some (PrefixedLeaf prefix prim)) s has =
-        let used : ℕ = read_by s.instead prim in
+        let used : ℕ = read_by table.primitives s.instead prim in
+        let nil : Option (List Value) = nil_values table.primitives s.instead in
         let primitive : Option Primitive = slice_get table.primitives used in
-        prefixed-keeps (slice_get table.primitives prefix.prim) prefix.own (λ units after. sized_leaf input primitive (size_of prefix.unit units) after)
-        (λ units. sized-keeps primitive (size_of prefix.unit units) (sound-at table.primitives used bounded)) s has
+        prefixed-keeps (slice_get table.primitives prefix.prim) prefix.own (λ units after. sized_leaf input nil primitive (size_of prefix.unit units) after)
+        (λ units. sized-keeps nil primitive (size_of prefix.unit units) (sound-at table.primitives used bounded)) s has
     row-keeps child keeps goes id (Some (PrefixedBox prefix body)) s has =
         prefixed-keeps (slice_get table.primitives prefix.prim) prefix.own (λ units after. boxed input (bits_of_units prefix.unit units) (child body) after)
         (λ units after kept. boxed-keeps (bits_of_units prefix.unit units) (child body) (keeps body) after kept

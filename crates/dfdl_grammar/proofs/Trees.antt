@@ -4,6 +4,7 @@ use Rattle.std.specs.Prelude.{slice_get}
 use Rattle.dfdl_report.specs.declared.cause.LimitCause.TheVariants.{Nodes, Text as TextLimit}
 use Rattle.dfdl_report.specs.declared.cause.ParseCause.TheVariants.{LengthOutOfRange}
 use Rattle.dfdl_terms.specs.declared.representations.Representations.{Representations}
+use Rattle.dfdl_value.specs.declared.value.Value.{Value}
 use Rattle.dfdl_terms.specs.declared.row.Primitive.{Primitive}
 use Rattle.dfdl_terms.specs.declared.row.Row.{Row}
 use Rattle.dfdl_terms.specs.declared.row.Row.TheVariants.{Leaf, Elem, Group, Skip, Align, Boxed, PrefixedLeaf, PrefixedBox}
@@ -18,9 +19,9 @@ use Rattle.dfdl_looks.specs.Looks.{seen_in}
 use Rattle.dfdl_looks.specs.Tallies.{nothing}
 use Rattle.dfdl_grammar.specs.declared.end.End.{End}
 use Rattle.dfdl_grammar.specs.declared.end.End.TheVariants.{Done, Failed, Stopped}
-use Rattle.dfdl_grammar.specs.States.{Input, State, anchor, anchor_at, front, read_by}
+use Rattle.dfdl_grammar.specs.States.{Input, State, anchor, anchor_at, front}
 use Rattle.dfdl_grammar.specs.Outcomes.{Outcome, ended, follow, spend, then_do}
-use Rattle.dfdl_grammar.specs.Leaves.{Find, Fails, Finds, FindsOctets, FindsText, content_begins, has_room, land, leaf, program}
+use Rattle.dfdl_grammar.specs.Leaves.{Find, Fails, Finds, FindsOctets, FindsText, content_begins, has_room, land, leaf, nil_values, program_for, read_by}
 use Rattle.dfdl_grammar.specs.Framing.{aligned, fill_to, has_byte, passed}
 use Rattle.dfdl_grammar.specs.Boxes.{boxed, bytes_up_to, pass_bytes, past_byte, rest as rest_of, unboxed}
 use Rattle.dfdl_grammar.specs.Elements.{attempted, begun, close, element, has_elements, left}
@@ -138,27 +139,27 @@ module _ (input : Input) (table : Table) where
   land-keeps first TooFar s good = (good, same_length (length s.nodes))
   land-keeps first Missing s good = (good, same_length (length s.nodes))
 
-  room-keeps : (primitive : Primitive) (s : State) → Grows table s → (room : Bool)
+  room-keeps : (nil : Option (List Value)) (primitive : Primitive) (s : State) → Grows table s → (room : Bool)
       → Follows s (cond room
-      (let reading = ask (seen_in input.bytes input.limits.window (anchor s)) (program primitive s.at s.stop) nothing in
+      (let reading = ask (seen_in input.bytes input.limits.window (anchor s)) (program_for nil primitive s.at s.stop) nothing in
       spend reading.tally (land input.limits (content_begins primitive s.at) reading.reached s))
       (ended (Failed LengthOutOfRange s.at) s)).state
-  room-keeps primitive s good true =
-      land-keeps (content_begins primitive s.at) (ask (seen_in input.bytes input.limits.window (anchor s)) (program primitive s.at s.stop) nothing).reached s good
-  room-keeps primitive s good false = (good, same_length (length s.nodes))
+  room-keeps nil primitive s good true =
+      land-keeps (content_begins primitive s.at) (ask (seen_in input.bytes input.limits.window (anchor s)) (program_for nil primitive s.at s.stop) nothing).reached s good
+  room-keeps nil primitive s good false = (good, same_length (length s.nodes))
 
-  leaf-keeps : (primitive : Option Primitive) → Keeps (leaf input primitive)
-  leaf-keeps None s good = (good, same_length (length s.nodes))
-  leaf-keeps (Some primitive) s good = room-keeps primitive s good (has_room primitive s.at s.stop)
+  leaf-keeps : (nil : Option (List Value)) (primitive : Option Primitive) → Keeps (leaf input nil primitive)
+  leaf-keeps nil None s good = (good, same_length (length s.nodes))
+  leaf-keeps nil (Some primitive) s good = room-keeps nil primitive s good (has_room primitive s.at s.stop)
 
   -- a leaf of another size
-  of-keeps : (primitive : Option Primitive) → Keeps (leaf_of input primitive)
-  of-keeps None s good = (good, same_length (length s.nodes))
-  of-keeps (Some primitive) s good = leaf-keeps (Some primitive) s good
+  of-keeps : (nil : Option (List Value)) (primitive : Option Primitive) → Keeps (leaf_of input nil primitive)
+  of-keeps nil None s good = (good, same_length (length s.nodes))
+  of-keeps nil (Some primitive) s good = leaf-keeps nil (Some primitive) s good
 
-  sized-keeps : (primitive : Option Primitive) (size : TextSize) → Keeps (sized_leaf input primitive size)
-  sized-keeps None size s good = (good, same_length (length s.nodes))
-  sized-keeps (Some primitive) size s good = of-keeps (resized size primitive) s good
+  sized-keeps : (nil : Option (List Value)) (primitive : Option Primitive) (size : TextSize) → Keeps (sized_leaf input nil primitive size)
+  sized-keeps nil None size s good = (good, same_length (length s.nodes))
+  sized-keeps nil (Some primitive) size s good = of-keeps nil (resized size primitive) s good
 
   -- a prefix, and what it tells the size of
   prefixed-keeps : (by : Option Primitive) (own : ℕ) (next : ℕ → State → Outcome) → ((units : ℕ) → Keeps (next units)) → Keeps (prefixed input by own next)
@@ -289,7 +290,8 @@ module _ (input : Input) (table : Table) where
   row-keeps : (child : ℕ → State → Outcome) → ((id : ℕ) → Keeps (child id)) → ((id : ℕ) → Goes (child id)) → (id : ℕ) (r : Option Row)
       → slice_get table.rows id ≡ r → Keeps (row input table child id r)
   row-keeps child keeps goes id None is s good = (good, same_length (length s.nodes))
-  row-keeps child keeps goes id (Some (Leaf prim)) is s good = leaf-keeps (slice_get table.primitives (read_by s.instead prim)) s good
+  row-keeps child keeps goes id (Some (Leaf prim)) is s good =
+      leaf-keeps (nil_values table.primitives s.instead) (slice_get table.primitives (read_by table.primitives s.instead prim)) s good
   row-keeps child keeps goes id (Some (Elem name simple tried body)) is s good =
       element-keeps id (has_elements simple) tried (child body) (subst (λ (r : Option Row). IsElementRow r) (sym is) tt) (keeps body) (goes body) s good
   row-keeps child keeps goes id (Some (Group children)) is s good = group-keeps child keeps children s good
@@ -297,9 +299,10 @@ module _ (input : Input) (table : Table) where
   row-keeps child keeps goes id (Some (Align bits)) is s good = pass-keeps (aligned bits s.at) s good (nat_le (aligned bits s.at) s.at) (nat_le (aligned bits s.at) s.stop)
   row-keeps child keeps goes id (Some (Boxed bits body)) is s good = boxed-keeps bits (child body) (keeps body) s good (nat_le (s.at + bits) s.stop)
   row-keeps child keeps goes id (Some (PrefixedLeaf prefix prim)) is s good =
-      let primitive : Option Primitive = slice_get table.primitives (read_by s.instead prim) in
-      prefixed-keeps (slice_get table.primitives prefix.prim) prefix.own (λ units after. sized_leaf input primitive (size_of prefix.unit units) after)
-      (λ units. sized-keeps primitive (size_of prefix.unit units)) s good
+      let nil : Option (List Value) = nil_values table.primitives s.instead in
+      let primitive : Option Primitive = slice_get table.primitives (read_by table.primitives s.instead prim) in
+      prefixed-keeps (slice_get table.primitives prefix.prim) prefix.own (λ units after. sized_leaf input nil primitive (size_of prefix.unit units) after)
+      (λ units. sized-keeps nil primitive (size_of prefix.unit units)) s good
   row-keeps child keeps goes id (Some (PrefixedBox prefix body)) is s good =
       prefixed-keeps (slice_get table.primitives prefix.prim) prefix.own (λ units after. boxed input (bits_of_units prefix.unit units) (child body) after)
       (λ units after kept. boxed-keeps (bits_of_units prefix.unit units) (child body) (keeps body) after kept

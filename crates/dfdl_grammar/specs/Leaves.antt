@@ -1,5 +1,8 @@
 -- What the content of a simple element is read as. 'Simple Types'.
-use Rattle.std.specs.Prelude.{ℕ, zero, suc, ◌+◌, ◌-◌, ◌*◌, ◌/◌, ◌%◌, Bool, nat_eq, nat_le, ◌&&◌, List, [], ◌++◌, length, Option, Some, None, Result, Ok, Err, if◌then◌else◌}
+use Rattle.std.specs.Prelude.{ℕ, zero, suc, ◌+◌, ◌-◌, ◌*◌, ◌/◌, ◌%◌, min, Bool, true, false, not, nat_eq, nat_le, ◌&&◌, List, [], ◌++◌, length, Option, Some, None, Result, Ok, Err, slice_get, if◌then◌else◌}
+use Rattle.std.specs.List.{list_any}
+use Rattle.std.specs.Ordering.{int_eq}
+use Rattle.std.specs.Str.{bytes_eq}
 use Rattle.dfdl_report.specs.declared.cause.LimitCause.TheVariants.{Window, Text as TextLimit}
 use Rattle.dfdl_report.specs.declared.cause.ParseCause.{ParseCause}
 use Rattle.dfdl_report.specs.declared.cause.ParseCause.TheVariants.{BadCharacter, BadNibble, DataEnds, LengthOutOfRange, NotANumber, NotFilled, PastType, RequiredEmpty, UnknownBoolean}
@@ -16,11 +19,12 @@ use Rattle.dfdl_packed.specs.Zoned.{zoned_reading}
 use Rattle.dfdl_packed.specs.declared.fault.PackedFault.{PackedFault}
 use Rattle.dfdl_packed.specs.declared.fault.PackedFault.TheVariants as packed
 use Rattle.dfdl_terms.specs.declared.row.Primitive.{Primitive}
-use Rattle.dfdl_terms.specs.declared.row.Primitive.TheVariants.{Integer, Packed, Truth, Octets, Text, NilOctets, Default}
+use Rattle.dfdl_terms.specs.declared.row.Primitive.TheVariants.{Integer, Packed, Truth, Octets, Text, NilOctets, Default, NilValues, Pattern}
 use Rattle.dfdl_terms.specs.declared.text.DefaultForm.{DefaultForm}
 use Rattle.dfdl_terms.specs.declared.text.NilForm.{NilForm}
 use Rattle.dfdl_terms.specs.declared.text.NilOctets.{NilOctets as NilOctetsForm}
 use Rattle.dfdl_terms.specs.declared.text.OctetForm.{OctetForm}
+use Rattle.dfdl_terms.specs.declared.text.PatternForm.{PatternForm}
 use Rattle.dfdl_terms.specs.declared.text.TextContent.{TextContent}
 use Rattle.dfdl_terms.specs.declared.text.TextContent.TheVariants.{Plain, Number, Zoned, Truth as TextTruth, Nil}
 use Rattle.dfdl_terms.specs.declared.text.TextForm.{TextForm}
@@ -44,6 +48,7 @@ use Rattle.dfdl_grammar.specs.States.{Input, State, anchor}
 use Rattle.dfdl_grammar.specs.Outcomes.{Outcome, ended, spend}
 use Rattle.dfdl_grammar.specs.Framing.{aligned}
 use Rattle.dfdl_grammar.specs.Nils.{are_nil, is_nil}
+use Rattle.dfdl_grammar.specs.Patterns.{matched_width, most_sought}
 use Rattle.dfdl_grammar.specs.Octets.{octets_from}
 
 -- What a leaf finds: why it fails; or its content, the bytes of a hexBinary or those of a string, as UTF-8, and the bit behind
@@ -72,6 +77,8 @@ bits_of (Octets form) = form.bits
 bits_of (Text form) = bits_of_text form.size
 bits_of (NilOctets form) = form.octets.bits
 bits_of (Default form) = bits_of_text form.size
+bits_of (NilValues form) = 0
+bits_of (Pattern form) = 0
 
 -- the bit at which a text without bits begins whose box begins at this one: a string or nil there, and else the next whole byte
 abbrev pub empty_begins : TextContent → ℕ → ℕ
@@ -94,6 +101,8 @@ content_begins (Octets form) bit = bit
 content_begins (Text form) bit = text_begins form.content form.size bit
 content_begins (NilOctets form) bit = bit
 content_begins (Default form) bit = bit
+content_begins (NilValues form) bit = bit
+content_begins (Pattern form) bit = aligned 8 bit
 
 -- the bit at which the box of a text ends whose box begins at a bit; where its characters are counted it is that of the box around
 abbrev pub text_ends : TextSize → ℕ → ℕ → ℕ
@@ -109,6 +118,8 @@ content_ends (Octets form) bit stop = bit + form.bits
 content_ends (Text form) bit stop = text_ends form.size bit stop
 content_ends (NilOctets form) bit stop = bit + form.octets.bits
 content_ends (Default form) bit stop = text_ends form.size bit stop
+content_ends (NilValues form) bit stop = bit
+content_ends (Pattern form) bit stop = stop
 
 -- the box of a primitive that begins at a bit ends in the box around it, and its content begins in it
 abbrev pub has_room : Primitive → ℕ → ℕ → Bool
@@ -148,6 +159,8 @@ find_in (Octets form) bit bytes = FindsOctets (octets_from form.bits_by bytes (b
 find_in (Text form) bit bytes = FindsText [] bit
 find_in (NilOctets form) bit bytes = FindsOctets [] bit
 find_in (Default form) bit bytes = FindsOctets [] bit
+find_in (NilValues form) bit bytes = FindsOctets [] bit
+find_in (Pattern form) bit bytes = FindsOctets [] bit
 
 -- The bits of a field are found by a look at each byte that they lie in, in the order of the data.
 abbrev pub field : Primitive → ℕ → Ask Find
@@ -183,6 +196,28 @@ default_find bit (value.Dec d) = Finds (Decimal d) bit
 default_find bit (value.Text text) = FindsText text bit
 default_find bit (value.Truth truth) = Finds (content.Truth truth) bit
 default_find bit (value.Bytes bytes) = FindsOctets bytes bit
+
+-- both are true, or both are false
+abbrev pub is_truth : Bool → Bool → Bool
+is_truth true y = y
+is_truth false y = not y
+
+-- what is found is this value
+abbrev pub is_value : Find → Value → Bool
+is_value (Finds (Signed x) end) (value.Int y) = int_eq x y
+is_value (Finds (Unsigned x) end) (value.Uns y) = nat_eq x y
+is_value (Finds (Decimal x) end) (value.Dec y) = int_eq x.mantissa y.mantissa && nat_eq x.scale y.scale
+is_value (Finds (content.Truth x) end) (value.Truth y) = is_truth x y
+is_value (FindsOctets xs end) (value.Bytes ys) = bytes_eq xs ys
+is_value (FindsText xs end) (value.Text ys) = bytes_eq xs ys
+is_value find value = false
+
+-- what is found that has to be one of some values, which are nil; where it isn't, another representation follows
+abbrev pub nil_value_find : List Value → Find → Find
+nil_value_find values (Fails cause) = Fails cause
+nil_value_find values (Finds content end) = nil_find end (list_any (is_value (Finds content end)) values)
+nil_value_find values (FindsOctets bytes end) = nil_find end (list_any (is_value (FindsOctets bytes end)) values)
+nil_value_find values (FindsText bytes end) = nil_find end (list_any (is_value (FindsText bytes end)) values)
 
 -- there is no bit in a box of this size
 abbrev pub is_no_size : TextSize → Bool
@@ -226,6 +261,19 @@ text_of_size form (Bits bits) bit stop = boxed_text form bit (text_begins form.c
 text_of_size form (Characters count) bit stop =
     and_then (text_at form.encoding form.replaces (extent.Characters count) stop (aligned 8 bit / 8)) (λ text. Answer (text_find form bit text))
 
+-- what the characters are found as in which a pattern is sought from a bit on: the number of bytes that it matches, in a box without
+-- bits there
+abbrev pub pattern_find : PatternForm → ℕ → TextRead → Find
+pattern_find form first (Reads characters end) = Finds (Unsigned (matched_width form characters)) first
+pattern_find form first HasBad = Fails BadCharacter
+pattern_find form first IsCut = Fails DataEnds
+pattern_find form first IsBoxed = Fails LengthOutOfRange
+
+-- a pattern that is sought from a bit on, up to the first bad unit, in a box that ends at another bit
+abbrev pub sought : PatternForm → ℕ → ℕ → Ask Find
+sought form first stop =
+    and_then (text_at form.encoding false extent.Front (min stop (first + most_sought)) (first / 8)) (λ text. Answer (pattern_find form first text))
+
 -- what the leaf of a primitive finds whose box begins at a bit, inside of a box that ends at another bit
 abbrev pub program : Primitive → ℕ → ℕ → Ask Find
 program (Integer form) bit stop = field (Integer form) bit
@@ -235,6 +283,33 @@ program (Octets form) bit stop = octets form bit
 program (Text form) bit stop = text_of_size form form.size bit stop
 program (NilOctets form) bit stop = nil_octets form bit
 program (Default form) bit stop = default_of form bit
+program (NilValues form) bit stop = Answer (Fails RequiredEmpty)
+program (Pattern form) bit stop = sought form (aligned 8 bit) stop
+
+-- what the leaf of a primitive finds, which has to be one of some values that are nil, if there are these
+abbrev pub program_for : Option (List Value) → Primitive → ℕ → ℕ → Ask Find
+program_for None primitive bit stop = program primitive bit stop
+program_for (Some values) primitive bit stop = and_then (program primitive bit stop) (λ find. Answer (nil_value_find values find))
+
+-- the values of an element that are nil, where a primitive tells them
+abbrev pub values_in : Option Primitive → Option (List Value)
+values_in (Some (NilValues form)) = Some form.values.items
+values_in _ = None
+
+-- the number of the primitive by which a leaf is read: this one, unless it tells values
+abbrev pub reading_prim : Option (List Value) → ℕ → ℕ → ℕ
+reading_prim None instead prim = instead
+reading_prim (Some values) instead prim = prim
+
+-- the values that are nil, where an element has to have one of them, by the number of the primitive that is there in place of its own
+abbrev pub nil_values : List Primitive → Option ℕ → Option (List Value)
+nil_values primitives None = None
+nil_values primitives (Some instead) = values_in (slice_get primitives instead)
+
+-- the number of the primitive by which a leaf is read whose own has this number
+abbrev pub read_by : List Primitive → Option ℕ → ℕ → ℕ
+read_by primitives None prim = prim
+read_by primitives (Some instead) prim = reading_prim (values_in (slice_get primitives instead)) instead prim
 
 -- the bit at which a leaf fails: that of its box where this is longer than it can be, and else that of its content
 abbrev pub failing_bit : ParseCause → ℕ → ℕ → ℕ
@@ -262,11 +337,12 @@ land limits first (Told (FindsText bytes end)) s = hold limits.text content.Text
 land limits first TooFar s = ended (Stopped Window limits.window) s
 land limits first Missing s = ended Done s
 
--- the leaf of a primitive, which gives the innermost open element its content; its box can't pass the end of the one around it
-abbrev pub leaf : Input → Option Primitive → State → Outcome
-leaf input None s = ended Done s
-leaf input (Some primitive) s =
+-- the leaf of a primitive, which gives the innermost open element its content, one of the values that are nil, if there are these;
+-- its box can't pass the end of the one around it
+abbrev pub leaf : Input → Option (List Value) → Option Primitive → State → Outcome
+leaf input nil None s = ended Done s
+leaf input nil (Some primitive) s =
     if has_room primitive s.at s.stop
-    then (let reading : Reading Find = ask (seen_in input.bytes input.limits.window (anchor s)) (program primitive s.at s.stop) nothing in
+    then (let reading : Reading Find = ask (seen_in input.bytes input.limits.window (anchor s)) (program_for nil primitive s.at s.stop) nothing in
     spend reading.tally (land input.limits (content_begins primitive s.at) reading.reached s))
     else ended (Failed LengthOutOfRange s.at) s

@@ -4,6 +4,7 @@ pub mod Marks
 pub mod Framing
 pub mod Octets
 pub mod Nils
+pub mod Patterns
 pub mod Leaves
 pub mod Boxes
 pub mod Elements

@@ -1,5 +1,6 @@
--- Length prefixes: a number that stands before a content and tells how long that is. 'Lengths' (lengthKind prefixed).
-use Rattle.std.specs.Prelude.{ℕ, ◌-◌, ◌*◌, ◌/◌, ◌%◌, ◌^◌, min, Bool, nat_eq, nat_le, ◌&&◌, ℤ, pos, negsuc, Option, Some, None, if◌then◌else◌}
+-- What stands before a content and tells how long that is: a number, or characters that a pattern matches, which belong to the
+-- content. 'Lengths' (lengthKind prefixed and pattern).
+use Rattle.std.specs.Prelude.{ℕ, ◌-◌, ◌*◌, ◌/◌, ◌%◌, ◌^◌, min, Bool, nat_eq, nat_le, ◌&&◌, ℤ, pos, negsuc, List, Option, Some, None, if◌then◌else◌}
 use Rattle.dfdl_forms.specs.Binary.{most_bits}
 use Rattle.dfdl_forms.specs.Packed.{most_nibbles}
 use Rattle.dfdl_forms.specs.Types.{form_of}
@@ -9,9 +10,10 @@ use Rattle.dfdl_terms.specs.declared.prefix.LengthUnit.{LengthUnit}
 use Rattle.dfdl_terms.specs.declared.prefix.LengthUnit.TheVariants as unit
 use Rattle.dfdl_terms.specs.declared.prefix.Prefix.{Prefix}
 use Rattle.dfdl_terms.specs.declared.row.Primitive.{Primitive}
-use Rattle.dfdl_terms.specs.declared.row.Primitive.TheVariants.{Integer, Packed, Truth, Octets, Text, NilOctets, Default}
+use Rattle.dfdl_terms.specs.declared.row.Primitive.TheVariants.{Integer, Packed, Truth, Octets, Text, NilOctets, Default, NilValues, Pattern}
 use Rattle.dfdl_terms.specs.declared.text.TextSize.{TextSize}
 use Rattle.dfdl_terms.specs.declared.text.TextSize.TheVariants.{Bits, Characters}
+use Rattle.dfdl_value.specs.declared.value.Value.{Value}
 use Rattle.dfdl_region.specs.declared.node.Content.{Content}
 use Rattle.dfdl_region.specs.declared.node.Content.TheVariants.{Signed, Unsigned}
 use Rattle.dfdl_looks.specs.Asks.{Reached, Told, TooFar, Missing, Reading, ask}
@@ -51,17 +53,19 @@ resized (Bits bits) (Octets form) = Some (Octets (record form { bits = bits }))
 resized (Bits bits) (NilOctets form) = Some (NilOctets (record form { octets = record form.octets { bits = bits } }))
 resized size (Text form) = Some (Text (record form { size = size }))
 resized size (Default form) = Some (Default (record form { size = size }))
+resized (Bits bits) (NilValues form) = None
+resized (Bits bits) (Pattern form) = None
 resized (Characters count) primitive = None
 
 -- the leaf of a primitive with another size; a size that it can't have fails
-abbrev pub leaf_of : Input → Option Primitive → State → Outcome
-leaf_of input None s = ended (Failed LengthOutOfRange s.at) s
-leaf_of input (Some primitive) s = leaf input (Some primitive) s
+abbrev pub leaf_of : Input → Option (List Value) → Option Primitive → State → Outcome
+leaf_of input nil None s = ended (Failed LengthOutOfRange s.at) s
+leaf_of input nil (Some primitive) s = leaf input nil (Some primitive) s
 
 -- the leaf of a primitive that has this size in place of its own
-abbrev pub sized_leaf : Input → Option Primitive → TextSize → State → Outcome
-sized_leaf input None size s = ended Done s
-sized_leaf input (Some primitive) size s = leaf_of input (resized size primitive) s
+abbrev pub sized_leaf : Input → Option (List Value) → Option Primitive → TextSize → State → Outcome
+sized_leaf input nil None size s = ended Done s
+sized_leaf input nil (Some primitive) size s = leaf_of input nil (resized size primitive) s
 
 -- how many units are left of a whole number of them, behind those that are the prefix's own; none where that would be less than 0
 abbrev pub units_left : ℕ → ℤ → Option ℕ
@@ -98,9 +102,9 @@ prefixed input (Some primitive) own next s =
     else ended (Failed LengthOutOfRange s.at) s
 
 -- a prefix and the leaf whose size it tells
-abbrev pub prefixed_leaf : Input → Option Primitive → Prefix → Option Primitive → State → Outcome
-prefixed_leaf input by prefix primitive s =
-    prefixed input by prefix.own (λ units after. sized_leaf input primitive (size_of prefix.unit units) after) s
+abbrev pub prefixed_leaf : Input → Option Primitive → Prefix → Option (List Value) → Option Primitive → State → Outcome
+prefixed_leaf input by prefix nil primitive s =
+    prefixed input by prefix.own (λ units after. sized_leaf input nil primitive (size_of prefix.unit units) after) s
 
 -- a prefix and the box whose size it tells, with what is in it
 abbrev pub prefixed_box : Input → Option Primitive → Prefix → (State → Outcome) → State → Outcome

@@ -5,9 +5,9 @@ use Rattle.dfdl_terms.specs.declared.row.Row.TheVariants.{Leaf, Elem, Group, Ski
 use Rattle.dfdl_terms.specs.Rows.{Table}
 use Rattle.dfdl_grammar.specs.declared.end.End.TheVariants.{Done}
 use Rattle.dfdl_looks.specs.Tallies.{one_row}
-use Rattle.dfdl_grammar.specs.States.{Input, State, read_by}
+use Rattle.dfdl_grammar.specs.States.{Input, State}
 use Rattle.dfdl_grammar.specs.Outcomes.{Outcome, ended, spend, then_do}
-use Rattle.dfdl_grammar.specs.Leaves.{leaf}
+use Rattle.dfdl_grammar.specs.Leaves.{leaf, nil_values, read_by}
 use Rattle.dfdl_grammar.specs.Framing.{align, skip}
 use Rattle.dfdl_grammar.specs.Boxes.{boxed}
 use Rattle.dfdl_grammar.specs.Elements.{element, has_elements}
@@ -21,14 +21,16 @@ group child (id ∷ ids) s = then_do (child id s) (group child ids)
 -- the meaning of a row of this number, where child is that of the rows inside it; of no row it is nothing
 abbrev pub row : Input → Table → (ℕ → State → Outcome) → ℕ → Option Row → State → Outcome
 row input table child id None s = ended Done s
-row input table child id (Some (Leaf prim)) s = leaf input (slice_get table.primitives (read_by s.instead prim)) s
+row input table child id (Some (Leaf prim)) s =
+    leaf input (nil_values table.primitives s.instead) (slice_get table.primitives (read_by table.primitives s.instead prim)) s
 row input table child id (Some (Elem name simple tried body)) s = element input id (has_elements simple) tried (child body) s
 row input table child id (Some (Group children)) s = group child children s
 row input table child id (Some (Skip bits)) s = skip input bits s
 row input table child id (Some (Align bits)) s = align input bits s
 row input table child id (Some (Boxed bits body)) s = boxed input bits (child body) s
 row input table child id (Some (PrefixedLeaf prefix prim)) s =
-    prefixed_leaf input (slice_get table.primitives prefix.prim) prefix (slice_get table.primitives (read_by s.instead prim)) s
+    prefixed_leaf input (slice_get table.primitives prefix.prim) prefix (nil_values table.primitives s.instead)
+    (slice_get table.primitives (read_by table.primitives s.instead prim)) s
 row input table child id (Some (PrefixedBox prefix body)) s =
     prefixed_box input (slice_get table.primitives prefix.prim) prefix (child body) s
 

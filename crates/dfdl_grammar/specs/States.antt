@@ -11,7 +11,7 @@ pub record Input : Type 0 where
 
 -- The bit that comes next, the bit at which the innermost box ends, the elements that have begun, the bytes of the strings and
 -- hexBinary values among them, the number of the innermost element that is open, the primitive by which its content is read in
--- place of its own, if there is one, and the open marks with the innermost first.
+-- place of its own or that tells which of its values are nil, if there is one, and the open marks with the innermost first.
 pub record State : Type 0 where
   pub at : ℕ
   pub stop : ℕ
@@ -41,8 +41,3 @@ anchor_at s bit = held_from s.marks bit / 8
 -- the first byte that is still needed
 abbrev pub anchor : State → ℕ
 anchor s = anchor_at s s.at
-
--- the primitive by which a leaf is read whose own has this number
-abbrev pub read_by : Option ℕ → ℕ → ℕ
-read_by None prim = prim
-read_by (Some instead) prim = instead

@@ -8,6 +8,7 @@
 //! - Leaves: what a simple element's content is read as ('Simple Types').
 //! - Octets: the bytes that stand in the data from a bit on ('Simple Types').
 //! - Nils: what stands for nil in the data ('DFDL Data Syntax Grammar').
+//! - Patterns: how many bytes a pattern matches in the data ('Lengths').
 //! - Framing: alignment and skips ('Framing').
 //! - Boxes: a box around a content, and what the content leaves of it ('Lengths').
 //! - Prefixes: a number before a content that tells how long that is ('Lengths').

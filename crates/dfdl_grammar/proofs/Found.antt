@@ -36,7 +36,7 @@ use Rattle.dfdl_looks.specs.Looks.{seen_in}
 use Rattle.dfdl_looks.specs.Tallies.{Tally, nothing, saw_byte, saw_end}
 use Rattle.dfdl_looks.proofs.Resumed.{on_seen}
 use Rattle.dfdl_looks.proofs.Sequels.{ask-then}
-use Rattle.dfdl_grammar.specs.Leaves.{Find, Fails, Finds, FindsOctets, FindsText, bits_of, bytes_spanned, content_find, default_find, field, find_in, find_of, is_no_size, nil_find, nil_octets_find, nil_value_find, is_value, number_find, pattern_find, octets, packed_find, program, program_for, text_begins, text_behind, text_find, text_of_size, truth_find}
+use Rattle.dfdl_grammar.specs.Leaves.{Find, Fails, Finds, FindsOctets, FindsText, bits_of, bytes_spanned, content_find, default_find, field, find_in, find_of, is_no_size, nil_find, nil_octets_find, nil_value_find, is_bytes, is_text, is_value, number_find, pattern_find, octets, packed_find, program, program_for, text_begins, text_behind, text_find, text_of_size, truth_find}
 use Rattle.dfdl_grammar.specs.Framing.{aligned}
 use Rattle.dfdl_grammar.specs.Nils.{are_nil, is_nil}
 use Rattle.dfdl_grammar.specs.Patterns.{most_sought}
@@ -241,9 +241,9 @@ value look (Pattern form) bit stop content to is unread =
 -- so is what has to be one of some values
 nil_value_read : (values : List Value) (find : Find) (content : Content) (n : ℕ) → nil_value_find values find ≡ Finds content n → content ≡ Begun → ⊥
 nil_value_read values (Fails cause) content n is unread = absurd (cc)
-nil_value_read values (Finds other end) content n is unread = nil_read end (list_any (is_value (Finds other end)) values) content n is unread
-nil_value_read values (FindsOctets bytes end) content n is unread = nil_read end (list_any (is_value (FindsOctets bytes end)) values) content n is unread
-nil_value_read values (FindsText bytes end) content n is unread = nil_read end (list_any (is_value (FindsText bytes end)) values) content n is unread
+nil_value_read values (Finds other end) content n is unread = nil_read end (list_any (is_value other) values) content n is unread
+nil_value_read values (FindsOctets bytes end) content n is unread = nil_read end (list_any (is_bytes bytes) values) content n is unread
+nil_value_read values (FindsText bytes end) content n is unread = nil_read end (list_any (is_text bytes) values) content n is unread
 
 nil_value_value : (values : List Value) (look : ℕ → Seen) (content : Content) (to : ℕ) (r : Reached Find) (t : Tally)
     → (go_on look (λ (find : Find). Answer (nil_value_find values find)) r t).reached ≡ Told (Finds content to) → content ≡ Begun → ⊥

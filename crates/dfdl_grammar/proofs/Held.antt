@@ -55,7 +55,7 @@ use Rattle.dfdl_grammar.specs.declared.end.End.{End}
 use Rattle.dfdl_grammar.specs.declared.end.End.TheVariants.{Done, Failed, Stopped}
 use Rattle.dfdl_grammar.specs.States.{Input, State, anchor, anchor_at, front}
 use Rattle.dfdl_grammar.specs.Outcomes.{Outcome, ended, follow, spend, then_do}
-use Rattle.dfdl_grammar.specs.Leaves.{Find, Fails, Finds, FindsOctets, FindsText, bits_of, bytes_spanned, content_begins, content_find, default_find, field, find_in, find_of, has_room, is_no_size, land, leaf, nil_find, nil_octets_find, nil_value_find, nil_values, is_value, number_find, pattern_find, octets, packed_find, program, program_for, read_by, text_begins, text_behind, text_find, text_of_size, truth_find}
+use Rattle.dfdl_grammar.specs.Leaves.{Find, Fails, Finds, FindsOctets, FindsText, bits_of, bytes_spanned, content_begins, content_find, default_find, field, find_in, find_of, has_room, is_no_size, land, leaf, nil_find, nil_octets_find, nil_value_find, nil_values, is_bytes, is_text, is_value, number_find, pattern_find, octets, packed_find, program, program_for, read_by, text_begins, text_behind, text_find, text_of_size, truth_find}
 use Rattle.dfdl_grammar.specs.Framing.{aligned, fill_to, has_byte, passed}
 use Rattle.dfdl_grammar.specs.Boxes.{boxed, bytes_up_to, pass_bytes, past_byte, rest as rest_of, unboxed}
 use Rattle.dfdl_grammar.specs.Elements.{attempted, begun, close, element, has_elements, left}
@@ -141,9 +141,9 @@ nil-octets-held form (FindsText bytes end) = tt
 -- a value that has to be one of some
 nil-value-held : (values : List Value) (find : Find) → IsHeld (nil_value_find values find)
 nil-value-held values (Fails cause) = tt
-nil-value-held values (Finds content end) = nil-held end (list_any (is_value (Finds content end)) values)
-nil-value-held values (FindsOctets bytes end) = nil-held end (list_any (is_value (FindsOctets bytes end)) values)
-nil-value-held values (FindsText bytes end) = nil-held end (list_any (is_value (FindsText bytes end)) values)
+nil-value-held values (Finds content end) = nil-held end (list_any (is_value content) values)
+nil-value-held values (FindsOctets bytes end) = nil-held end (list_any (is_bytes bytes) values)
+nil-value-held values (FindsText bytes end) = nil-held end (list_any (is_text bytes) values)
 
 -- the number of bytes that a pattern matches
 pattern-held : (form : PatternForm) (first : ℕ) (text : TextRead) → IsHeld (pattern_find form first text)

@@ -202,22 +202,30 @@ abbrev pub is_truth : Bool → Bool → Bool
 is_truth true y = y
 is_truth false y = not y
 
--- what is found is this value
-abbrev pub is_value : Find → Value → Bool
-is_value (Finds (Signed x) end) (value.Int y) = int_eq x y
-is_value (Finds (Unsigned x) end) (value.Uns y) = nat_eq x y
-is_value (Finds (Decimal x) end) (value.Dec y) = int_eq x.mantissa y.mantissa && nat_eq x.scale y.scale
-is_value (Finds (content.Truth x) end) (value.Truth y) = is_truth x y
-is_value (FindsOctets xs end) (value.Bytes ys) = bytes_eq xs ys
-is_value (FindsText xs end) (value.Text ys) = bytes_eq xs ys
-is_value find value = false
+-- the value of a number or boolean is this one
+abbrev pub is_value : Content → Value → Bool
+is_value (Signed x) (value.Int y) = int_eq x y
+is_value (Unsigned x) (value.Uns y) = nat_eq x y
+is_value (Decimal x) (value.Dec y) = int_eq x.mantissa y.mantissa && nat_eq x.scale y.scale
+is_value (content.Truth x) (value.Truth y) = is_truth x y
+is_value content value = false
+
+-- the value of a hexBinary is this one
+abbrev pub is_bytes : List ℕ → Value → Bool
+is_bytes xs (value.Bytes ys) = bytes_eq xs ys
+is_bytes xs value = false
+
+-- the value of a string is this one
+abbrev pub is_text : List ℕ → Value → Bool
+is_text xs (value.Text ys) = bytes_eq xs ys
+is_text xs value = false
 
 -- what is found that has to be one of some values, which are nil; where it isn't, another representation follows
 abbrev pub nil_value_find : List Value → Find → Find
 nil_value_find values (Fails cause) = Fails cause
-nil_value_find values (Finds content end) = nil_find end (list_any (is_value (Finds content end)) values)
-nil_value_find values (FindsOctets bytes end) = nil_find end (list_any (is_value (FindsOctets bytes end)) values)
-nil_value_find values (FindsText bytes end) = nil_find end (list_any (is_value (FindsText bytes end)) values)
+nil_value_find values (Finds content end) = nil_find end (list_any (is_value content) values)
+nil_value_find values (FindsOctets bytes end) = nil_find end (list_any (is_bytes bytes) values)
+nil_value_find values (FindsText bytes end) = nil_find end (list_any (is_text bytes) values)
 
 -- there is no bit in a box of this size
 abbrev pub is_no_size : TextSize → Bool

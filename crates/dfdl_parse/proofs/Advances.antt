@@ -6,6 +6,7 @@ use Rattle.dfdl_bits.specs.declared.window.Seen.{Seen}
 use Rattle.dfdl_bits.specs.declared.window.Seen.TheVariants.{Byte, End as DataEnded, NotYet, Over}
 use Rattle.dfdl_report.specs.declared.cause.LimitCause.TheVariants.{Nodes}
 use Rattle.dfdl_report.specs.declared.cause.ParseCause.TheVariants.{LengthOutOfRange}
+use Rattle.dfdl_value.specs.declared.value.Value.{Value}
 use Rattle.dfdl_terms.specs.declared.row.Primitive.{Primitive}
 use Rattle.dfdl_terms.specs.declared.row.Row.{Row}
 use Rattle.dfdl_terms.specs.declared.row.Row.TheVariants.{Leaf, Elem, Group, Skip, Align, Boxed, PrefixedLeaf, PrefixedBox}
@@ -17,10 +18,10 @@ use Rattle.dfdl_looks.proofs.Waiting.{kept}
 use Rattle.dfdl_grammar.specs.declared.end.End.{End}
 use Rattle.dfdl_grammar.specs.declared.end.End.TheVariants.{Done, Failed, Stopped}
 use Rattle.dfdl_grammar.specs.declared.limits.Limits.{Limits}
-use Rattle.dfdl_grammar.specs.States.{State, anchor, anchor_at, read_by}
+use Rattle.dfdl_grammar.specs.States.{State, anchor, anchor_at}
 use Rattle.dfdl_grammar.specs.Marks.{back, marked}
 use Rattle.dfdl_terms.specs.declared.text.TextSize.{TextSize}
-use Rattle.dfdl_grammar.specs.Leaves.{content_begins, has_room, program}
+use Rattle.dfdl_grammar.specs.Leaves.{content_begins, has_room, nil_values, program, program_for, read_by}
 use Rattle.dfdl_grammar.specs.Prefixes.{resized}
 use Rattle.dfdl_grammar.specs.Framing.{aligned}
 use Rattle.dfdl_grammar.specs.Elements.{begun, has_elements}
@@ -39,7 +40,7 @@ use Rattle.dfdl_parse.specs.Trials.{attempt, parts_of, retry, try_empty, try_nil
 use Rattle.dfdl_parse.specs.Running.{Slid}
 use Rattle.dfdl_parse.proofs.Windows.{agrees_from, end_from}
 use Rattle.dfdl_parse.proofs.Beyond.{beyond-byte, beyond-end}
-use Rattle.dfdl_parse.proofs.Programs.{program-from}
+use Rattle.dfdl_parse.proofs.Programs.{program_for-from}
 use Rattle.dfdl_parse.proofs.Finishes.{Anchored, Stands}
 
 -- the window behind a step, and what the step cost while the end of the data wasn't told
@@ -59,42 +60,42 @@ pass-keeps t held focus k s tail far = record {
 
 module _ (held : Held) (s : State) where
   -- a step that looks at a leaf
-  looked-keeps : Anchored held s → (cost : Tally) → cost.tail ≡ 0 → cost.far ≡ 0 → (primitive : Primitive) (machine : Machine) (waits : Bool)
+  looked-keeps : Anchored held s → (cost : Tally) → cost.tail ≡ 0 → cost.far ≡ 0 → (nil : Option (List Value)) (primitive : Primitive) (machine : Machine) (waits : Bool)
       → let sight : Held = from_byte held (anchor s) in
-      Keeps held (record { tally = plus cost (ask (seen_at sight) (program primitive s.at s.stop) nothing).tally; machine = machine; held = sight; waits = waits })
-  looked-keeps stands cost no_tail no_far primitive machine waits =
+      Keeps held (record { tally = plus cost (ask (seen_at sight) (program_for nil primitive s.at s.stop) nothing).tally; machine = machine; held = sight; waits = waits })
+  looked-keeps stands cost no_tail no_far nil primitive machine waits =
       let sight : Held = from_byte held (anchor s) in
       let ends : end_of sight ≡ end_of held = end_from held (anchor s) stands.base stands.end in
-      let from = program-from (anchor s) primitive s.at s.stop stands.low in
-      let here : Tally = (ask (seen_at sight) (program primitive s.at s.stop) nothing).tally in
+      let from = program_for-from (anchor s) nil primitive s.at s.stop stands.low in
+      let here : Tally = (ask (seen_at sight) (program_for nil primitive s.at s.stop) nothing).tally in
       record {
         slid = record { size = refl; ended = refl; end = ends; base = stands.base };
         agrees = λ whole agrees. agrees_from held whole (anchor s) stands.base stands.end agrees;
-        tail = λ on. ap (λ (n : ℕ). first_of n here.tail) no_tail ∙ (kept sight on (program primitive s.at s.stop) from nothing).0;
-        far = λ on. let most = (kept sight on (program primitive s.at s.stop) from nothing).1 in omega (arith, most, ends);
+        tail = λ on. ap (λ (n : ℕ). first_of n here.tail) no_tail ∙ (kept sight on (program_for nil primitive s.at s.stop) from nothing).0;
+        far = λ on. let most = (kept sight on (program_for nil primitive s.at s.stop) from nothing).1 in omega (arith, most, ends);
       }
 
-  leaf-keeps : Anchored held s → (cost : Tally) → cost.tail ≡ 0 → cost.far ≡ 0 → (limits : Limits) (focus : Focus) (primitive : Option Primitive) (k : List Frame)
-      → Keeps held (read_leaf cost limits focus held primitive k s)
-  leaf-keeps stands cost no_tail no_far limits focus None k = pass-keeps cost held (Leave Done) k s no_tail no_far
-  leaf-keeps stands cost no_tail no_far limits focus (Some primitive) k = by (has_room primitive s.at s.stop)
+  leaf-keeps : Anchored held s → (cost : Tally) → cost.tail ≡ 0 → cost.far ≡ 0 → (limits : Limits) (focus : Focus) (nil : Option (List Value)) (primitive : Option Primitive) (k : List Frame)
+      → Keeps held (read_leaf cost limits focus held nil primitive k s)
+  leaf-keeps stands cost no_tail no_far limits focus nil None k = pass-keeps cost held (Leave Done) k s no_tail no_far
+  leaf-keeps stands cost no_tail no_far limits focus nil (Some primitive) k = by (has_room primitive s.at s.stop)
     where
       by : (room : Bool)
           → Keeps held (cond room
           (read_move cost limits focus (content_begins primitive s.at) (from_byte held (anchor s))
-          (ask (seen_at (from_byte held (anchor s))) (program primitive s.at s.stop) nothing) k s)
+          (ask (seen_at (from_byte held (anchor s))) (program_for nil primitive s.at s.stop) nothing) k s)
           (pass cost held (Leave (Failed LengthOutOfRange s.at)) k s))
-      by true = looked-keeps stands cost no_tail no_far primitive _ _
+      by true = looked-keeps stands cost no_tail no_far nil primitive _ _
       by false = pass-keeps cost held _ k s no_tail no_far
 
-  resized-keeps : Anchored held s → (limits : Limits) (focus : Focus) (primitive : Option Primitive) (k : List Frame) → Keeps held (read_resized limits focus held primitive k s)
-  resized-keeps stands limits focus None k = pass-keeps nothing held _ k s refl refl
-  resized-keeps stands limits focus (Some primitive) k = leaf-keeps stands nothing refl refl limits focus (Some primitive) k
+  resized-keeps : Anchored held s → (limits : Limits) (focus : Focus) (nil : Option (List Value)) (primitive : Option Primitive) (k : List Frame) → Keeps held (read_resized limits focus held nil primitive k s)
+  resized-keeps stands limits focus nil None k = pass-keeps nothing held _ k s refl refl
+  resized-keeps stands limits focus nil (Some primitive) k = leaf-keeps stands nothing refl refl limits focus nil (Some primitive) k
 
-  sized-keeps : Anchored held s → (limits : Limits) (prim : ℕ) (size : TextSize) (primitive : Option Primitive) (k : List Frame)
-      → Keeps held (read_sized limits held prim size primitive k s)
-  sized-keeps stands limits prim size None k = pass-keeps nothing held _ k s refl refl
-  sized-keeps stands limits prim size (Some primitive) k = resized-keeps stands limits (Sized prim size) (resized size primitive) k
+  sized-keeps : Anchored held s → (limits : Limits) (prim : ℕ) (size : TextSize) (nil : Option (List Value)) (primitive : Option Primitive) (k : List Frame)
+      → Keeps held (read_sized limits held prim size nil primitive k s)
+  sized-keeps stands limits prim size nil None k = pass-keeps nothing held _ k s refl refl
+  sized-keeps stands limits prim size nil (Some primitive) k = resized-keeps stands limits (Sized prim size) nil (resized size primitive) k
 
   prefix-keeps : Anchored held s → (limits : Limits) (id own : ℕ) (next : ℕ → List Frame → State → Machine) (primitive : Option Primitive) (k : List Frame)
       → Keeps held (read_prefix limits id held own next primitive k s)
@@ -106,7 +107,7 @@ module _ (held : Held) (s : State) where
           (prefix_move limits id own (content_begins primitive s.at) next (from_byte held (anchor s))
           (ask (seen_at (from_byte held (anchor s))) (program primitive s.at s.stop) nothing) k s)
           (pass one_row held (Leave (Failed LengthOutOfRange s.at)) k s))
-      by true = looked-keeps stands one_row refl refl primitive _ _
+      by true = looked-keeps stands one_row refl refl None primitive _ _
       by false = pass-keeps one_row held _ k s refl refl
 
   begin-keeps : (to : ℕ) (k : List Frame) (over inside : Bool)
@@ -249,7 +250,9 @@ module _ (held : Held) (s : State) where
 
   enter-keeps : Anchored held s → (limits : Limits) (table : Table) (id : ℕ) (r : Option Row) (k : List Frame) → Keeps held (enter limits table held id r k s)
   enter-keeps stands limits table id None k = pass-keeps one_row held _ _ _ refl refl
-  enter-keeps stands limits table id (Some (Leaf prim)) k = leaf-keeps stands one_row refl refl limits (Enter id) (slice_get table.primitives (read_by s.instead prim)) k
+  enter-keeps stands limits table id (Some (Leaf prim)) k =
+      leaf-keeps stands one_row refl refl limits (Enter id) (nil_values table.primitives s.instead)
+      (slice_get table.primitives (read_by table.primitives s.instead prim)) k
   enter-keeps stands limits table id (Some (Elem name simple tried body)) k =
       element-keeps limits.nodes id (record { complex = has_elements simple; tried = tried; body = body }) k tried.are_several
   enter-keeps stands limits table id (Some (Group children)) k = group-keeps id children k
@@ -263,7 +266,7 @@ module _ (held : Held) (s : State) where
     far = λ on. omega arith;
   }
   enter-keeps stands limits table id (Some (PrefixedLeaf prefix prim)) k =
-      prefix-keeps stands limits id prefix.own (behind_units table.primitives prefix.unit (behind.Leaf (read_by s.instead prim))) (slice_get table.primitives prefix.prim) k
+      prefix-keeps stands limits id prefix.own (behind_units table.primitives prefix.unit (behind.Leaf (read_by table.primitives s.instead prim))) (slice_get table.primitives prefix.prim) k
   enter-keeps stands limits table id (Some (PrefixedBox prefix body)) k =
       prefix-keeps stands limits id prefix.own (behind_units table.primitives prefix.unit (behind.Box body)) (slice_get table.primitives prefix.prim) k
 
@@ -289,6 +292,6 @@ module _ (held : Held) (s : State) where
   step-keeps limits table (Enter id) k stands = enter-keeps stands limits table id (slice_get table.rows id) k
   step-keeps limits table (Pass to) k stands = fill-keeps limits to k stands
   step-keeps limits table (PassRest bit outer) k stands = rest-keeps limits bit outer k stands
-  step-keeps limits table (Sized prim size) k stands = sized-keeps stands limits prim size (slice_get table.primitives prim) k
+  step-keeps limits table (Sized prim size) k stands = sized-keeps stands limits prim size (nil_values table.primitives s.instead) (slice_get table.primitives prim) k
   step-keeps limits table (Leave end_told) [] stands = pass-keeps nothing held _ _ _ refl refl
   step-keeps limits table (Leave end_told) (frame ∷ k) stands = leave-keeps limits table frame end_told k

@@ -9,7 +9,9 @@ use Rattle.dfdl_bits.specs.declared.window.Seen.TheVariants.{Byte, End as DataEn
 use Rattle.dfdl_report.specs.declared.cause.LimitCause.{LimitCause}
 use Rattle.dfdl_report.specs.declared.cause.LimitCause.TheVariants.{Nodes, Window}
 use Rattle.dfdl_report.specs.declared.cause.ParseCause.{ParseCause}
+use Rattle.dfdl_value.specs.declared.value.Value.{Value}
 use Rattle.dfdl_terms.specs.declared.row.Primitive.{Primitive}
+use Rattle.dfdl_grammar.specs.Leaves.{nil_values, read_by}
 use Rattle.dfdl_terms.specs.declared.row.Row.{Row}
 use Rattle.dfdl_terms.specs.declared.row.Row.TheVariants.{Leaf, Elem, Group, Skip, Align, Boxed, PrefixedLeaf, PrefixedBox}
 use Rattle.dfdl_terms.specs.Rows.{Table, Nests}
@@ -19,7 +21,7 @@ use Rattle.dfdl_looks.specs.Tallies.{Tally, nothing, one_row, plus, saw_byte, sa
 use Rattle.dfdl_looks.proofs.Resumed.{on_seen}
 use Rattle.dfdl_grammar.specs.declared.end.End.{End}
 use Rattle.dfdl_grammar.specs.declared.end.End.TheVariants.{Done, Failed, Stopped}
-use Rattle.dfdl_grammar.specs.States.{Input, State, anchor_at, read_by}
+use Rattle.dfdl_grammar.specs.States.{Input, State, anchor_at}
 use Rattle.dfdl_grammar.specs.Marks.{back, closed, marked}
 use Rattle.dfdl_grammar.specs.Representations.{then_empty, then_nil, then_normal}
 use Rattle.dfdl_grammar.specs.Outcomes.{Outcome, ended, spend, then_do}
@@ -292,7 +294,9 @@ module _ (input : Input) (table : Table) where
       → (enter input.limits table held id r k s).waits ≡ false
       → Does input table (finish input table k (spend one_row (row input table (below input table id) id r s))) (enter input.limits table held id r k s)
   enter-ahead nests held id None k s is fits going = finish-spend input table k one_row (ended Done s)
-  enter-ahead nests held id (Some (Leaf prim)) k s is fits going = leaf-of input table one_row (Enter id) held (slice_get table.primitives (read_by s.instead prim)) k s (sees held s fits.stands fits) going
+  enter-ahead nests held id (Some (Leaf prim)) k s is fits going =
+      leaf-of input table one_row (Enter id) held (nil_values table.primitives s.instead)
+      (slice_get table.primitives (read_by table.primitives s.instead prim)) k s (sees held s fits.stands fits) going
   enter-ahead nests held id (Some (Elem name simple tried body)) k s is fits going =
       let less : body < id = nests id (Elem name simple tried body) (slice_get_within table.rows id (Elem name simple tried body) is) is in
       element-ahead held id (record { complex = has_elements simple; tried = tried; body = body }) k s (ap parts_of is) less tried.are_several
@@ -306,19 +310,20 @@ module _ (input : Input) (table : Table) where
       finish-spend input table k one_row (boxed input bits (below input table id body) s)
       ∙ ap (spend one_row) (box-ahead input table id bits body k s less (nat_le (s.at + bits) s.stop))
   enter-ahead nests held id (Some (PrefixedLeaf prefix prim)) k s is fits going =
-      let by : ℕ = read_by s.instead prim in
+      let by : ℕ = read_by table.primitives s.instead prim in
+      let nil : Option (List Value) = nil_values table.primitives s.instead in
       let primitive : Option Primitive = slice_get table.primitives by in
-      prefix-of input table id prefix.own (λ units after. sized_leaf input primitive (size_of prefix.unit units) after)
-      (behind_units table.primitives prefix.unit (behind.Leaf by)) k
-      (λ units after. sized-begin input table by (size_of prefix.unit units) primitive k after refl)
-      held (slice_get table.primitives prefix.prim) s (sees held s fits.stands fits) going
+      prefix-of input table id prefix.own (λ units after. sized_leaf input nil primitive (size_of prefix.unit units) after)
+      (behind_units table.primitives prefix.unit (behind.Leaf by)) k s
+      (λ units at. sized-begin input table by (size_of prefix.unit units) primitive k (record s { at = at }) refl)
+      held (slice_get table.primitives prefix.prim) (sees held s fits.stands fits) going
   enter-ahead nests held id (Some (PrefixedBox prefix body)) k s is fits going =
       let less : body < id = nests id (PrefixedBox prefix body) (slice_get_within table.rows id (PrefixedBox prefix body) is) is in
       prefix-of input table id prefix.own (λ units after. boxed input (bits_of_units prefix.unit units) (below input table id body) after)
-      (behind_units table.primitives prefix.unit (behind.Box body)) k
-      (λ units after. box-ahead input table id (bits_of_units prefix.unit units) body k after less
-      (nat_le (after.at + bits_of_units prefix.unit units) after.stop))
-      held (slice_get table.primitives prefix.prim) s (sees held s fits.stands fits) going
+      (behind_units table.primitives prefix.unit (behind.Box body)) k s
+      (λ units at. box-ahead input table id (bits_of_units prefix.unit units) body k (record s { at = at }) less
+      (nat_le (at + bits_of_units prefix.unit units) s.stop))
+      held (slice_get table.primitives prefix.prim) (sees held s fits.stands fits) going
 
   -- the children of a row stand below it
   children-below : Nests table.rows → (id : ℕ) (r : Option Row) → slice_get table.rows id ≡ r → All (λ c. c < id) (children_of r)
@@ -377,6 +382,6 @@ module _ (input : Input) (table : Table) where
   step-ahead nests held (Pass to) k s fits going = fill-ahead held to k s fits going
   step-ahead nests held (PassRest bit outer) k s fits going = rest-of held bit outer k s fits going
   step-ahead nests held (Sized prim size) k s fits going =
-      sized-of input table held prim size (slice_get table.primitives prim) k s (sees held s fits.stands fits) going
+      sized-of input table held prim size (nil_values table.primitives s.instead) (slice_get table.primitives prim) k s (sees held s fits.stands fits) going
   step-ahead nests held (Leave end) [] s fits going = after_nothing input table [] (ended end s)
   step-ahead nests held (Leave end) (frame ∷ k) s fits going = leave-ahead nests held frame end k s

@@ -10,11 +10,14 @@ use Rattle.dfdl_packed.specs.declared.fault.PackedFault.{PackedFault}
 use Rattle.dfdl_packed.specs.declared.fault.PackedFault.TheVariants as packed
 use Rattle.dfdl_text_string.specs.Truths.{truth_of}
 use Rattle.dfdl_terms.specs.declared.text.NilForm.{NilForm}
+use Rattle.dfdl_terms.specs.declared.text.PatternForm.{PatternForm}
+use Rattle.dfdl_texts.specs.Texts.{Text as TextRead, Reads as DoesRead, HasBad, IsCut, IsBoxed}
 use Rattle.dfdl_terms.specs.declared.text.TextContent.{TextContent}
 use Rattle.dfdl_terms.specs.declared.text.TextContent.TheVariants.{Plain, Number, Zoned, Truth, Nil}
 use Rattle.dfdl_looks.specs.Asks.{Reached, Told, TooFar, Missing}
-use Rattle.dfdl_grammar.specs.Leaves.{Find, Fails, Finds, FindsOctets, FindsText, content_find, default_find, find_of, nil_find, nil_octets_find, number_find, packed_find, truth_find}
+use Rattle.dfdl_grammar.specs.Leaves.{Find, Fails, Finds, FindsOctets, FindsText, content_find, default_find, find_of, nil_find, nil_octets_find, nil_value_find, is_bytes, is_text, is_value, number_find, pattern_find, packed_find, truth_find}
 use Rattle.dfdl_grammar.specs.Nils.{are_nil, is_nil}
+use Rattle.std.specs.List.{list_any}
 use Rattle.dfdl_parse.specs.declared.leaf.Found.{Found}
 use Rattle.dfdl_parse.specs.declared.leaf.Found.TheVariants.{Reads, Octets as HasOctets, Utf8, Text as HasText, Fails as HasFailed, Past, NotYet}
 use Rattle.dfdl_parse.specs.declared.leaf.Scratch.{Scratch}
@@ -61,6 +64,19 @@ nil_octets-at P form (Fails cause) there = tt
 nil_octets-at P form (Finds content end) there = tt
 nil_octets-at P form (FindsOctets bytes end) there = nil-at P end (are_nil form bytes) there
 nil_octets-at P form (FindsText bytes end) there = tt
+
+pub nil_value-at : (P : ℕ → Type 0) (values : List Value) (find : Find) → AtEnd P (Told find) → AtEnd P (Told (nil_value_find values find))
+nil_value-at P values (Fails cause) there = tt
+nil_value-at P values (Finds content end) there = nil-at P end (list_any (is_value content) values) there
+nil_value-at P values (FindsOctets bytes end) there = nil-at P end (list_any (is_bytes bytes) values) there
+nil_value-at P values (FindsText bytes end) there = nil-at P end (list_any (is_text bytes) values) there
+
+-- the number of bytes that a pattern matches stands where it is sought
+pub pattern-at : (P : ℕ → Type 0) (form : PatternForm) (first : ℕ) (text : TextRead) → P first → AtEnd P (Told (pattern_find form first text))
+pattern-at P form first (DoesRead characters end) there = there
+pattern-at P form first HasBad there = tt
+pattern-at P form first IsCut there = tt
+pattern-at P form first IsBoxed there = tt
 
 pub default-at : (P : ℕ → Type 0) (end : ℕ) (v : Value) → P end → AtEnd P (Told (default_find end v))
 default-at P end (value.Int z) there = there

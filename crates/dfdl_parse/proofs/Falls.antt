@@ -6,6 +6,7 @@ use Rattle.dfdl_bits.specs.declared.window.Seen.{Seen}
 use Rattle.dfdl_bits.specs.declared.window.Seen.TheVariants.{Byte, End as DataEnded, NotYet, Over}
 use Rattle.dfdl_report.specs.declared.cause.LimitCause.TheVariants.{Nodes}
 use Rattle.dfdl_report.specs.declared.cause.ParseCause.TheVariants.{LengthOutOfRange}
+use Rattle.dfdl_value.specs.declared.value.Value.{Value}
 use Rattle.dfdl_terms.specs.declared.row.Primitive.{Primitive}
 use Rattle.dfdl_terms.specs.declared.row.Row.{Row}
 use Rattle.dfdl_terms.specs.declared.row.Row.TheVariants.{Leaf, Elem, Group, Skip, Align, Boxed, PrefixedLeaf, PrefixedBox}
@@ -15,11 +16,11 @@ use Rattle.dfdl_looks.specs.Tallies.{Tally, nothing, one_row, saw_byte}
 use Rattle.dfdl_grammar.specs.declared.end.End.{End}
 use Rattle.dfdl_grammar.specs.declared.end.End.TheVariants.{Done, Failed, Stopped}
 use Rattle.dfdl_grammar.specs.declared.limits.Limits.{Limits}
-use Rattle.dfdl_grammar.specs.States.{Input, State, anchor, anchor_at, read_by}
+use Rattle.dfdl_grammar.specs.States.{Input, State, anchor, anchor_at}
 use Rattle.dfdl_grammar.specs.Marks.{back, marked}
 use Rattle.dfdl_grammar.specs.Outcomes.{Outcome}
 use Rattle.dfdl_terms.specs.declared.text.TextSize.{TextSize}
-use Rattle.dfdl_grammar.specs.Leaves.{Find, Fails, Finds, FindsOctets, FindsText, content_begins, has_room, program}
+use Rattle.dfdl_grammar.specs.Leaves.{Find, Fails, Finds, FindsOctets, FindsText, content_begins, has_room, nil_values, program, program_for, read_by}
 use Rattle.dfdl_grammar.specs.Prefixes.{bits_of_units, resized, size_of, units_told}
 use Rattle.dfdl_grammar.specs.Framing.{aligned}
 use Rattle.dfdl_grammar.specs.Elements.{begun, has_elements}
@@ -62,32 +63,32 @@ landed-falls limits focus first TooFar k s going = refl
 landed-falls limits focus first Missing k s going = absurd (cc)
 
 -- a leaf falls by its row, or from the focus in which it waits
-read-falls : (cost : Tally) (limits : Limits) (focus : Focus) (held : Held) (primitive : Primitive) (k : List Frame) (s : State) → 1 < 4 * cost.rows + mode focus → (room : Bool)
+read-falls : (cost : Tally) (limits : Limits) (focus : Focus) (held : Held) (nil : Option (List Value)) (primitive : Primitive) (k : List Frame) (s : State) → 1 < 4 * cost.rows + mode focus → (room : Bool)
     → let sight : Held = from_byte held (anchor s) in
     let move : Move = cond room
-    (read_move cost limits focus (content_begins primitive s.at) sight (ask (seen_at sight) (program primitive s.at s.stop) nothing) k s)
+    (read_move cost limits focus (content_begins primitive s.at) sight (ask (seen_at sight) (program_for nil primitive s.at s.stop) nothing) k s)
     (pass cost held (Leave (Failed LengthOutOfRange s.at)) k s) in
     move.waits ≡ false → Falls focus k move
-read-falls cost limits focus held primitive k s some true going =
-    let here : Reading Find = ask (seen_at (from_byte held (anchor s))) (program primitive s.at s.stop) nothing in
+read-falls cost limits focus held nil primitive k s some true going =
+    let here : Reading Find = ask (seen_at (from_byte held (anchor s))) (program_for nil primitive s.at s.stop) nothing in
     let falls = landed-falls limits focus (content_begins primitive s.at) here.reached k s going in
     omega arith
-read-falls cost limits focus held primitive k s some false going = omega arith
+read-falls cost limits focus held nil primitive k s some false going = omega arith
 
-leaf-falls : (cost : Tally) (limits : Limits) (focus : Focus) (held : Held) (primitive : Option Primitive) (k : List Frame) (s : State) → 1 < 4 * cost.rows + mode focus
-    → (read_leaf cost limits focus held primitive k s).waits ≡ false → Falls focus k (read_leaf cost limits focus held primitive k s)
-leaf-falls cost limits focus held None k s some going = omega arith
-leaf-falls cost limits focus held (Some primitive) k s some going = read-falls cost limits focus held primitive k s some (has_room primitive s.at s.stop) going
+leaf-falls : (cost : Tally) (limits : Limits) (focus : Focus) (held : Held) (nil : Option (List Value)) (primitive : Option Primitive) (k : List Frame) (s : State) → 1 < 4 * cost.rows + mode focus
+    → (read_leaf cost limits focus held nil primitive k s).waits ≡ false → Falls focus k (read_leaf cost limits focus held nil primitive k s)
+leaf-falls cost limits focus held nil None k s some going = omega arith
+leaf-falls cost limits focus held nil (Some primitive) k s some going = read-falls cost limits focus held nil primitive k s some (has_room primitive s.at s.stop) going
 
-resized-falls : (limits : Limits) (prim : ℕ) (size : TextSize) (held : Held) (primitive : Option Primitive) (k : List Frame) (s : State)
-    → (read_resized limits (Sized prim size) held primitive k s).waits ≡ false → Falls (Sized prim size) k (read_resized limits (Sized prim size) held primitive k s)
-resized-falls limits prim size held None k s going = omega arith
-resized-falls limits prim size held (Some primitive) k s going = leaf-falls nothing limits (Sized prim size) held (Some primitive) k s (omega arith) going
+resized-falls : (limits : Limits) (prim : ℕ) (size : TextSize) (held : Held) (nil : Option (List Value)) (primitive : Option Primitive) (k : List Frame) (s : State)
+    → (read_resized limits (Sized prim size) held nil primitive k s).waits ≡ false → Falls (Sized prim size) k (read_resized limits (Sized prim size) held nil primitive k s)
+resized-falls limits prim size held nil None k s going = omega arith
+resized-falls limits prim size held nil (Some primitive) k s going = leaf-falls nothing limits (Sized prim size) held nil (Some primitive) k s (omega arith) going
 
-sized-falls : (limits : Limits) (held : Held) (prim : ℕ) (size : TextSize) (primitive : Option Primitive) (k : List Frame) (s : State)
-    → (read_sized limits held prim size primitive k s).waits ≡ false → Falls (Sized prim size) k (read_sized limits held prim size primitive k s)
-sized-falls limits held prim size None k s going = omega arith
-sized-falls limits held prim size (Some primitive) k s going = resized-falls limits prim size held (resized size primitive) k s going
+sized-falls : (limits : Limits) (held : Held) (prim : ℕ) (size : TextSize) (nil : Option (List Value)) (primitive : Option Primitive) (k : List Frame) (s : State)
+    → (read_sized limits held prim size nil primitive k s).waits ≡ false → Falls (Sized prim size) k (read_sized limits held prim size nil primitive k s)
+sized-falls limits held prim size nil None k s going = omega arith
+sized-falls limits held prim size nil (Some primitive) k s going = resized-falls limits prim size held nil (resized size primitive) k s going
 
 -- what is left of a machine besides its rows
 abbrev left_of : Machine → ℕ
@@ -216,7 +217,9 @@ filled-falls window sight to Over k s going = omega arith
 enter-falls : (limits : Limits) (table : Table) (held : Held) (id : ℕ) (r : Option Row) (k : List Frame) (s : State)
     → (enter limits table held id r k s).waits ≡ false → Falls (Enter id) k (enter limits table held id r k s)
 enter-falls limits table held id None k s going = omega arith
-enter-falls limits table held id (Some (Leaf prim)) k s going = leaf-falls one_row limits (Enter id) held (slice_get table.primitives (read_by s.instead prim)) k s (omega arith) going
+enter-falls limits table held id (Some (Leaf prim)) k s going =
+    leaf-falls one_row limits (Enter id) held (nil_values table.primitives s.instead)
+    (slice_get table.primitives (read_by table.primitives s.instead prim)) k s (omega arith) going
 enter-falls limits table held id (Some (Elem name simple tried body)) k s going =
     element-falls limits.nodes held id (record { complex = has_elements simple; tried = tried; body = body }) k s tried.are_several
 enter-falls limits table held id (Some (Group children)) k s going = group-falls held id children k s
@@ -227,8 +230,8 @@ enter-falls limits table held id (Some (Align bits)) k s going =
 enter-falls limits table held id (Some (Boxed bits body)) k s going =
     let falls = box-begun-falls bits body k s (nat_le (s.at + bits) s.stop) in omega arith
 enter-falls limits table held id (Some (PrefixedLeaf prefix prim)) k s going =
-    prefix-falls limits id prefix.own (behind_units table.primitives prefix.unit (behind.Leaf (read_by s.instead prim))) k
-    (λ units after. begun-falls (read_by s.instead prim) (size_of prefix.unit units) (slice_get table.primitives (read_by s.instead prim)) k after)
+    prefix-falls limits id prefix.own (behind_units table.primitives prefix.unit (behind.Leaf (read_by table.primitives s.instead prim))) k
+    (λ units after. begun-falls (read_by table.primitives s.instead prim) (size_of prefix.unit units) (slice_get table.primitives (read_by table.primitives s.instead prim)) k after)
     held (slice_get table.primitives prefix.prim) s
 enter-falls limits table held id (Some (PrefixedBox prefix body)) k s going =
     prefix-falls limits id prefix.own (behind_units table.primitives prefix.unit (behind.Box body)) k
@@ -263,7 +266,7 @@ step-falls limits table held (PassRest bit outer) k s on going =
 step-falls limits table held (Pass to) k s on going =
     let low : ℕ = anchor_at s (to - 1) in
     filled-falls limits.window (from_byte held (min low (end_of held))) to (seen_beyond held low ((to - 1) / 8)) k s going
-step-falls limits table held (Sized prim size) k s on going = sized-falls limits held prim size (slice_get table.primitives prim) k s going
+step-falls limits table held (Sized prim size) k s on going = sized-falls limits held prim size (nil_values table.primitives s.instead) (slice_get table.primitives prim) k s going
 step-falls limits table held (Leave end) [] s on going = absurd (on refl)
 step-falls limits table held (Leave end) (frame ∷ k) s on going = leave-falls limits table held frame end k s
 

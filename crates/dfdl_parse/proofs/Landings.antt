@@ -1,11 +1,12 @@
 -- What the code made of a leaf or a prefix, said of the parser before it.
-use Rattle.std.proofs.Common.{◌≡◌, inl, inr, ℕ, ◌<◌, List, [], length, get_or, ltb, Bool, true, false, Option, Some, refl, ap, sym, subst, ◌∙◌, arith}
+use Rattle.std.proofs.Common.{◌≡◌, inl, inr, ℕ, ◌<◌, List, [], length, get_or, ltb, Bool, true, false, Option, Some, None, refl, ap, sym, subst, ◌∙◌, arith}
 use Rattle.std.specs.Prelude.{slice_get}
 use Rattle.std.proofs.lemmas.Option.{slice_get-get_or, slice_get_cases}
 use Rattle.std.proofs.lemmas.Bool.Decides.{nat_tests}
 use Rattle.dfdl_bits.specs.Window.{Held}
 use Rattle.dfdl_bits.specs.declared.window.Seen.{Seen}
 use Rattle.dfdl_terms.specs.declared.prefix.LengthUnit.{LengthUnit}
+use Rattle.dfdl_value.specs.declared.value.Value.{Value}
 use Rattle.dfdl_terms.specs.declared.row.Primitive.{Primitive}
 use Rattle.dfdl_terms.specs.declared.row.Row.{Row}
 use Rattle.dfdl_terms.specs.declared.row.Row.TheVariants.{Leaf, Boxed}
@@ -13,7 +14,8 @@ use Rattle.dfdl_terms.specs.declared.text.TextSize.{TextSize}
 use Rattle.dfdl_terms.specs.Rows.{Table, NamesWithin}
 use Rattle.dfdl_looks.specs.Tallies.{nothing, one_row}
 use Rattle.dfdl_grammar.specs.declared.limits.Limits.{Limits}
-use Rattle.dfdl_grammar.specs.States.{State, read_by}
+use Rattle.dfdl_grammar.specs.States.{State}
+use Rattle.dfdl_grammar.specs.Leaves.{nil_values, read_by}
 use Rattle.dfdl_grammar.specs.Prefixes.{bits_of_units, resized, size_of}
 use Rattle.dfdl_parse.specs.declared.frame.Frame.{Frame}
 use Rattle.dfdl_parse.specs.declared.frame.Focus.{Focus}
@@ -40,16 +42,16 @@ moved-at old mid new begins first held there waited looks move same at is moved 
     subst (λ (h : Held). Moved (move (record old { scratch = mid.scratch }) begins h) waited old.far new there looks) is two
 
 -- a leaf that has the size that was told
-pub sized-moved : (limits : Limits) (held : Held) (focus : Focus) (prim : ℕ) (size : TextSize) (primitives : List Primitive) (first primitive : Primitive) (k : List Frame) (s : State)
+pub sized-moved : (limits : Limits) (held : Held) (nil : Option (List Value)) (focus : Focus) (prim : ℕ) (size : TextSize) (primitives : List Primitive) (first primitive : Primitive) (k : List Frame) (s : State)
     (waited : Bool) (far : ℕ) (new : Parser) (now_held : Held) (looks : ℕ) → focus ≡ Sized prim size → slice_get primitives prim ≡ Some first → resized size first ≡ Some primitive
-    → Moved (read_leaf nothing limits focus held (Some primitive) k s) waited far new now_held looks
-    → Moved (read_sized limits held prim size (slice_get primitives prim) k s) waited far new now_held looks
-sized-moved limits held focus prim size primitives first primitive k s waited far new now_held looks at is sized moved =
-    let one : Moved (read_leaf nothing limits (Sized prim size) held (Some primitive) k s) waited far new now_held looks =
-    subst (λ (f : Focus). Moved (read_leaf nothing limits f held (Some primitive) k s) waited far new now_held looks) at moved in
-    let two : Moved (read_resized limits (Sized prim size) held (resized size first) k s) waited far new now_held looks =
-    subst (λ (p : Option Primitive). Moved (read_resized limits (Sized prim size) held p k s) waited far new now_held looks) (sym sized) one in
-    subst (λ (p : Option Primitive). Moved (read_sized limits held prim size p k s) waited far new now_held looks) (sym is) two
+    → Moved (read_leaf nothing limits focus held nil (Some primitive) k s) waited far new now_held looks
+    → Moved (read_sized limits held prim size nil (slice_get primitives prim) k s) waited far new now_held looks
+sized-moved limits held nil focus prim size primitives first primitive k s waited far new now_held looks at is sized moved =
+    let one : Moved (read_leaf nothing limits (Sized prim size) held nil (Some primitive) k s) waited far new now_held looks =
+    subst (λ (f : Focus). Moved (read_leaf nothing limits f held nil (Some primitive) k s) waited far new now_held looks) at moved in
+    let two : Moved (read_resized limits (Sized prim size) held nil (resized size first) k s) waited far new now_held looks =
+    subst (λ (p : Option Primitive). Moved (read_resized limits (Sized prim size) held nil p k s) waited far new now_held looks) (sym sized) one in
+    subst (λ (p : Option Primitive). Moved (read_sized limits held prim size nil p k s) waited far new now_held looks) (sym is) two
 
 -- a leaf behind a prefix
 pub leaf-becomes : (old new : Parser) (primitives : List Primitive) (unit : LengthUnit) (b : Behind) (prim units : ℕ) → b ≡ behind.Leaf prim
@@ -99,12 +101,14 @@ module _ (limits : Limits) (table : Table) (held : Held) (id : ℕ) (r : Row) (k
     (at : slice_get table.rows id ≡ Some r) where
   -- a leaf is entered
   pub leaf-entered : (focus : Focus) (prim : ℕ) (waited : Bool) (now_held : Held) (looks : ℕ) → r ≡ Leaf prim → focus ≡ Enter id
-      → Moved (read_leaf one_row limits focus held (slice_get table.primitives (read_by s.instead prim)) k s) waited far new now_held looks
+      → Moved (read_leaf one_row limits focus held (nil_values table.primitives s.instead)
+      (slice_get table.primitives (read_by table.primitives s.instead prim)) k s) waited far new now_held looks
       → Moved (enter limits table held id (slice_get table.rows id) k s) waited far new now_held looks
   leaf-entered focus prim waited now_held looks is enters moved =
       let row_is : slice_get table.rows id ≡ Some (Leaf prim) = at ∙ ap (λ (x : Row). Some x) is in
       subst (λ (o : Option Row). Moved (enter limits table held id o k s) waited far new now_held looks) (sym row_is)
-      (subst (λ (f : Focus). Moved (read_leaf one_row limits f held (slice_get table.primitives (read_by s.instead prim)) k s) waited far new now_held looks) enters moved)
+      (subst (λ (f : Focus). Moved (read_leaf one_row limits f held (nil_values table.primitives s.instead)
+      (slice_get table.primitives (read_by table.primitives s.instead prim)) k s) waited far new now_held looks) enters moved)
 
   -- a box is entered
   pub box-entered : (bits body looks : ℕ) → r ≡ Boxed bits body → looks ≡ 0

@@ -7,8 +7,9 @@ use Rattle.dfdl_report.specs.declared.cause.ParseCause.TheVariants.{LengthOutOfR
 use Rattle.dfdl_forms.specs.Binary.{most_bits}
 use Rattle.dfdl_forms.specs.Packed.{most_nibbles}
 use Rattle.dfdl_forms.specs.Types.{form_of}
+use Rattle.dfdl_value.specs.declared.value.Value.{Value}
 use Rattle.dfdl_terms.specs.declared.row.Primitive.{Primitive}
-use Rattle.dfdl_terms.specs.declared.row.Primitive.TheVariants.{Integer, Packed, Truth, Octets, Text, NilOctets, Default}
+use Rattle.dfdl_terms.specs.declared.row.Primitive.TheVariants.{Integer, Packed, Truth, Octets, Text, NilOctets, Default, NilValues, Pattern}
 use Rattle.dfdl_terms.specs.declared.text.TextSize.{TextSize}
 use Rattle.dfdl_terms.specs.declared.text.TextSize.TheVariants.{Bits, Characters}
 use Rattle.dfdl_terms.specs.Rows.{Table}
@@ -19,7 +20,7 @@ use Rattle.dfdl_looks.proofs.Resumed.{asked}
 use Rattle.dfdl_grammar.specs.declared.end.End.TheVariants.{Done, Failed}
 use Rattle.dfdl_grammar.specs.States.{Input, State, anchor}
 use Rattle.dfdl_grammar.specs.Outcomes.{Outcome, ended, spend, then_do}
-use Rattle.dfdl_grammar.specs.Leaves.{Find, Fails, Finds, FindsOctets, FindsText, content_begins, content_ends, has_room, land, leaf, program}
+use Rattle.dfdl_grammar.specs.Leaves.{Find, Fails, Finds, FindsOctets, FindsText, content_begins, content_ends, has_room, land, leaf, nil_values, program, program_for}
 use Rattle.dfdl_grammar.specs.Prefixes.{behind_prefix, is_size, land_prefix, leaf_of, prefixed, resized, sized_leaf, units_told}
 use Rattle.dfdl_grammar.specs.Boxes.{rest, unboxed}
 use Rattle.dfdl_grammar.specs.Rows.{below}
@@ -33,7 +34,7 @@ use Rattle.dfdl_parse.specs.Moves.{Machine, Move, is_missing, landed, pass, read
 use Rattle.dfdl_parse.specs.Prefixed.{at_end, can_fit, landed_prefix, prefix_move, read_prefix, read_resized, read_sized, sized_begins, units_begin}
 use Rattle.dfdl_parse.specs.Ahead.{finish, ahead}
 use Rattle.dfdl_parse.proofs.Windows.{agrees_from}
-use Rattle.dfdl_parse.proofs.Programs.{program-from}
+use Rattle.dfdl_parse.proofs.Programs.{program_for-from}
 use Rattle.dfdl_parse.proofs.Finishes.{Anchored, Does, after_nothing, finish-spend, found, land-nothing}
 
 -- the window shows the data at a leaf: it agrees with them, has the size of the limit, and holds the bytes that are needed
@@ -59,95 +60,97 @@ module _ (input : Input) (table : Table) where
   land-ahead focus first Missing k s is = absurd (cc)
 
   -- the reading of a leaf over the data is its reading over the window
-  leaf-reads : (held : Held) (primitive : Primitive) (s : State) → Sees held input s
-      → ((ask (seen_at (from_byte held (anchor s))) (program primitive s.at s.stop) nothing).reached ≡ Missing → ⊥)
-      → ask (seen_at (from_byte held (anchor s))) (program primitive s.at s.stop) nothing
-      ≡ ask (seen_in input.bytes input.limits.window (anchor s)) (program primitive s.at s.stop) nothing
-  leaf-reads held primitive s sees here =
+  leaf-reads : (held : Held) (nil : Option (List Value)) (primitive : Primitive) (s : State) → Sees held input s
+      → ((ask (seen_at (from_byte held (anchor s))) (program_for nil primitive s.at s.stop) nothing).reached ≡ Missing → ⊥)
+      → ask (seen_at (from_byte held (anchor s))) (program_for nil primitive s.at s.stop) nothing
+      ≡ ask (seen_in input.bytes input.limits.window (anchor s)) (program_for nil primitive s.at s.stop) nothing
+  leaf-reads held nil primitive s sees here =
       asked (from_byte held (anchor s)) input.bytes (agrees_from held input.bytes (anchor s) sees.stands.base sees.stands.end sees.agrees)
-      (program primitive s.at s.stop) (program-from (anchor s) primitive s.at s.stop sees.stands.low) nothing here
-      ∙ ap (λ (size : ℕ). ask (seen_in input.bytes size (anchor s)) (program primitive s.at s.stop) nothing) sees.size
+      (program_for nil primitive s.at s.stop) (program_for-from (anchor s) nil primitive s.at s.stop sees.stands.low) nothing here
+      ∙ ap (λ (size : ℕ). ask (seen_in input.bytes size (anchor s)) (program_for nil primitive s.at s.stop) nothing) sees.size
 
   -- a leaf that has room, and one that hasn't
-  leaf-ahead : (cost : Tally) (focus : Focus) (held : Held) (primitive : Primitive) (k : List Frame) (s : State) → Sees held input s → (room : Bool)
+  leaf-ahead : (cost : Tally) (focus : Focus) (held : Held) (nil : Option (List Value)) (primitive : Primitive) (k : List Frame) (s : State) → Sees held input s → (room : Bool)
       → let sight : Held = from_byte held (anchor s) in
       let move : Move = cond room
-      (read_move cost input.limits focus (content_begins primitive s.at) sight (ask (seen_at sight) (program primitive s.at s.stop) nothing) k s)
+      (read_move cost input.limits focus (content_begins primitive s.at) sight (ask (seen_at sight) (program_for nil primitive s.at s.stop) nothing) k s)
       (pass cost held (Leave (Failed LengthOutOfRange s.at)) k s) in
-      let whole : Reading Find = ask (seen_in input.bytes input.limits.window (anchor s)) (program primitive s.at s.stop) nothing in
+      let whole : Reading Find = ask (seen_in input.bytes input.limits.window (anchor s)) (program_for nil primitive s.at s.stop) nothing in
       move.waits ≡ false
       → Does input table (finish input table k (spend cost (cond room
       (spend whole.tally (land input.limits (content_begins primitive s.at) whole.reached s))
       (ended (Failed LengthOutOfRange s.at) s)))) move
-  leaf-ahead cost focus held primitive k s sees true going =
-      let here : Reading Find = ask (seen_at (from_byte held (anchor s))) (program primitive s.at s.stop) nothing in
-      let same = leaf-reads held primitive s sees (found here.reached going) in
+  leaf-ahead cost focus held nil primitive k s sees true going =
+      let here : Reading Find = ask (seen_at (from_byte held (anchor s))) (program_for nil primitive s.at s.stop) nothing in
+      let same = leaf-reads held nil primitive s sees (found here.reached going) in
       let first : ℕ = content_begins primitive s.at in
       ap (λ (r : Reading Find). finish input table k (spend cost (spend r.tally (land input.limits first r.reached s)))) (sym same)
       ∙ ap (finish input table k) (spend-spend cost here.tally (land input.limits first here.reached s))
       ∙ finish-spend input table k (plus cost here.tally) (land input.limits first here.reached s)
       ∙ ap (spend (plus cost here.tally)) (land-ahead focus first here.reached k s going)
-  leaf-ahead cost focus held primitive k s sees false going = finish-spend input table k cost (ended (Failed LengthOutOfRange s.at) s)
+  leaf-ahead cost focus held nil primitive k s sees false going = finish-spend input table k cost (ended (Failed LengthOutOfRange s.at) s)
 
-  pub leaf-of : (cost : Tally) (focus : Focus) (held : Held) (primitive : Option Primitive) (k : List Frame) (s : State) → Sees held input s
-      → (read_leaf cost input.limits focus held primitive k s).waits ≡ false
-      → Does input table (finish input table k (spend cost (leaf input primitive s))) (read_leaf cost input.limits focus held primitive k s)
-  leaf-of cost focus held None k s sees going = finish-spend input table k cost (ended Done s)
-  leaf-of cost focus held (Some primitive) k s sees going = leaf-ahead cost focus held primitive k s sees (has_room primitive s.at s.stop) going
+  pub leaf-of : (cost : Tally) (focus : Focus) (held : Held) (nil : Option (List Value)) (primitive : Option Primitive) (k : List Frame) (s : State) → Sees held input s
+      → (read_leaf cost input.limits focus held nil primitive k s).waits ≡ false
+      → Does input table (finish input table k (spend cost (leaf input nil primitive s))) (read_leaf cost input.limits focus held nil primitive k s)
+  leaf-of cost focus held nil None k s sees going = finish-spend input table k cost (ended Done s)
+  leaf-of cost focus held nil (Some primitive) k s sees going = leaf-ahead cost focus held nil primitive k s sees (has_room primitive s.at s.stop) going
 
   -- a leaf whose size was told
-  resized-of : (focus : Focus) (held : Held) (primitive : Option Primitive) (k : List Frame) (s : State) → Sees held input s
-      → (read_resized input.limits focus held primitive k s).waits ≡ false
-      → Does input table (finish input table k (leaf_of input primitive s)) (read_resized input.limits focus held primitive k s)
-  resized-of focus held None k s sees going = after_nothing input table k (ended (Failed LengthOutOfRange s.at) s)
-  resized-of focus held (Some primitive) k s sees going =
-      ap (finish input table k) (sym (spend-nothing (leaf input (Some primitive) s)))
-      ∙ leaf-of nothing focus held (Some primitive) k s sees going
+  resized-of : (focus : Focus) (held : Held) (nil : Option (List Value)) (primitive : Option Primitive) (k : List Frame) (s : State) → Sees held input s
+      → (read_resized input.limits focus held nil primitive k s).waits ≡ false
+      → Does input table (finish input table k (leaf_of input nil primitive s)) (read_resized input.limits focus held nil primitive k s)
+  resized-of focus held nil None k s sees going = after_nothing input table k (ended (Failed LengthOutOfRange s.at) s)
+  resized-of focus held nil (Some primitive) k s sees going =
+      ap (finish input table k) (sym (spend-nothing (leaf input nil (Some primitive) s)))
+      ∙ leaf-of nothing focus held nil (Some primitive) k s sees going
 
-  pub sized-of : (held : Held) (prim : ℕ) (size : TextSize) (primitive : Option Primitive) (k : List Frame) (s : State) → Sees held input s
-      → (read_sized input.limits held prim size primitive k s).waits ≡ false
-      → Does input table (finish input table k (sized_leaf input primitive size s)) (read_sized input.limits held prim size primitive k s)
-  sized-of held prim size None k s sees going = after_nothing input table k (ended Done s)
-  sized-of held prim size (Some primitive) k s sees going = resized-of (Sized prim size) held (resized size primitive) k s sees going
+  pub sized-of : (held : Held) (prim : ℕ) (size : TextSize) (nil : Option (List Value)) (primitive : Option Primitive) (k : List Frame) (s : State) → Sees held input s
+      → (read_sized input.limits held prim size nil primitive k s).waits ≡ false
+      → Does input table (finish input table k (sized_leaf input nil primitive size s)) (read_sized input.limits held prim size nil primitive k s)
+  sized-of held prim size nil None k s sees going = after_nothing input table k (ended Done s)
+  sized-of held prim size nil (Some primitive) k s sees going = resized-of (Sized prim size) held nil (resized size primitive) k s sees going
 
   -- a leaf that would pass the end of the box fails where it begins, whether it can have that size or not
-  too-long : (s : State) (bits : ℕ) → nat_le (s.at + bits) s.stop ≡ false → (test : Bool) (primitive : Primitive)
+  too-long : (nil : Option (List Value)) (s : State) (bits : ℕ) → nat_le (s.at + bits) s.stop ≡ false → (test : Bool) (primitive : Primitive)
       → (test ≡ true → content_ends primitive s.at s.stop ≡ s.at + bits)
-      → leaf_of input (cond test (Some primitive) None) s ≡ ended (Failed LengthOutOfRange s.at) s
-  too-long s bits over true primitive ends =
-      let whole : Reading Find = ask (seen_in input.bytes input.limits.window (anchor s)) (program primitive s.at s.stop) nothing in
+      → leaf_of input nil (cond test (Some primitive) None) s ≡ ended (Failed LengthOutOfRange s.at) s
+  too-long nil s bits over true primitive ends =
+      let whole : Reading Find = ask (seen_in input.bytes input.limits.window (anchor s)) (program_for nil primitive s.at s.stop) nothing in
       ap (λ (room : Bool). cond room (spend whole.tally (land input.limits (content_begins primitive s.at) whole.reached s)) (ended (Failed LengthOutOfRange s.at) s))
       (no-room primitive s.at bits s.stop (ends refl) over)
-  too-long s bits over false primitive ends = refl
+  too-long nil s bits over false primitive ends = refl
 
-  sized-too-long : (s : State) (size : TextSize) (primitive : Primitive) → can_fit size s.at s.stop ≡ false
-      → leaf_of input (resized size primitive) s ≡ ended (Failed LengthOutOfRange s.at) s
-  sized-too-long s (Characters count) primitive over = absurd (cc)
-  sized-too-long s (Bits bits) (Integer form) over =
-      too-long s bits over (is_size (most_bits (form_of form.kind)) bits) (Integer (record form { bits = bits })) (λ can. refl)
-  sized-too-long s (Bits bits) (Packed form) over =
-      too-long s bits over (nat_eq (bits % 4) 0 && is_size (most_nibbles form.rep) (bits / 4)) (Packed (record form { nibbles = bits / 4 }))
+  sized-too-long : (nil : Option (List Value)) (s : State) (size : TextSize) (primitive : Primitive) → can_fit size s.at s.stop ≡ false
+      → leaf_of input nil (resized size primitive) s ≡ ended (Failed LengthOutOfRange s.at) s
+  sized-too-long nil s (Characters count) primitive over = absurd (cc)
+  sized-too-long nil s (Bits bits) (Integer form) over =
+      too-long nil s bits over (is_size (most_bits (form_of form.kind)) bits) (Integer (record form { bits = bits })) (λ can. refl)
+  sized-too-long nil s (Bits bits) (Packed form) over =
+      too-long nil s bits over (nat_eq (bits % 4) 0 && is_size (most_nibbles form.rep) (bits / 4)) (Packed (record form { nibbles = bits / 4 }))
       (λ can. whole-nibbles s.at bits (is_size (most_nibbles form.rep) (bits / 4)) can)
     where
       whole-nibbles : (at bits : ℕ) (few : Bool) → (nat_eq (bits % 4) 0 && few) ≡ true → at + 4 * (bits / 4) ≡ at + bits
       whole-nibbles at bits few can = let whole : bits % 4 ≡ 0 = grind (arith, nat_tests) in omega arith
-  sized-too-long s (Bits bits) (Truth form) over = too-long s bits over (is_size 32 bits) (Truth (record form { bits = bits })) (λ can. refl)
-  sized-too-long s (Bits bits) (Octets form) over = too-long s bits over true (Octets (record form { bits = bits })) (λ can. refl)
-  sized-too-long s (Bits bits) (Text form) over = too-long s bits over true (Text (record form { size = Bits bits })) (λ can. refl)
-  sized-too-long s (Bits bits) (NilOctets form) over =
-      too-long s bits over true (NilOctets (record form { octets = record form.octets { bits = bits } })) (λ can. refl)
-  sized-too-long s (Bits bits) (Default form) over = too-long s bits over true (Default (record form { size = Bits bits })) (λ can. refl)
+  sized-too-long nil s (Bits bits) (Truth form) over = too-long nil s bits over (is_size 32 bits) (Truth (record form { bits = bits })) (λ can. refl)
+  sized-too-long nil s (Bits bits) (Octets form) over = too-long nil s bits over true (Octets (record form { bits = bits })) (λ can. refl)
+  sized-too-long nil s (Bits bits) (Text form) over = too-long nil s bits over true (Text (record form { size = Bits bits })) (λ can. refl)
+  sized-too-long nil s (Bits bits) (NilOctets form) over =
+      too-long nil s bits over true (NilOctets (record form { octets = record form.octets { bits = bits } })) (λ can. refl)
+  sized-too-long nil s (Bits bits) (Default form) over = too-long nil s bits over true (Default (record form { size = Bits bits })) (λ can. refl)
+  sized-too-long nil s (Bits bits) (NilValues form) over = refl
+  sized-too-long nil s (Bits bits) (Pattern form) over = refl
 
   sized-fits : (prim : ℕ) (size : TextSize) (primitive : Primitive) (k : List Frame) (s : State) → slice_get table.primitives prim ≡ Some primitive
       → (fits : Bool) → can_fit size s.at s.stop ≡ fits
-      → finish input table k (sized_leaf input (Some primitive) size s)
+      → finish input table k (sized_leaf input (nil_values table.primitives s.instead) (Some primitive) size s)
       ≡ ahead input table (cond fits (record { focus = Sized prim size; stack = k; state = s }) (at_end (Failed LengthOutOfRange s.at) k s))
   sized-fits prim size primitive k s is true fit =
-      ap (λ (p : Option Primitive). finish input table k (sized_leaf input p size s)) (sym is)
-  sized-fits prim size primitive k s is false fit = ap (finish input table k) (sized-too-long s size primitive fit)
+      ap (λ (p : Option Primitive). finish input table k (sized_leaf input (nil_values table.primitives s.instead) p size s)) (sym is)
+  sized-fits prim size primitive k s is false fit = ap (finish input table k) (sized-too-long (nil_values table.primitives s.instead) s size primitive fit)
 
   pub sized-begin : (prim : ℕ) (size : TextSize) (primitive : Option Primitive) (k : List Frame) (s : State) → slice_get table.primitives prim ≡ primitive
-      → finish input table k (sized_leaf input primitive size s) ≡ ahead input table (sized_begins primitive prim size k s)
+      → finish input table k (sized_leaf input (nil_values table.primitives s.instead) primitive size s) ≡ ahead input table (sized_begins primitive prim size k s)
   sized-begin prim size None k s is = refl
   sized-begin prim size (Some primitive) k s is = sized-fits prim size primitive k s is (can_fit size s.at s.stop) refl
 
@@ -167,23 +170,23 @@ module _ (input : Input) (table : Table) where
 
   -- a prefix, where what follows it does its part
   module _ (id own : ℕ) (follow : ℕ → State → Outcome) (next : ℕ → List Frame → State → Machine) (k : List Frame)
-      (goes : (units : ℕ) (s : State) → finish input table k (follow units s) ≡ ahead input table (next units k s)) where
-    units-ahead : (end : ℕ) (units : Option ℕ) (s : State)
+      (s : State) (goes : (units at : ℕ) → finish input table k (follow units (record s { at = at })) ≡ ahead input table (next units k (record s { at = at }))) where
+    units-ahead : (end : ℕ) (units : Option ℕ)
         → finish input table k (behind_prefix end follow s units) ≡ ahead input table (units_begin end next units k s)
-    units-ahead end None s = refl
-    units-ahead end (Some units) s = goes units (record s { at = end })
+    units-ahead end None = refl
+    units-ahead end (Some units) = goes units end
 
-    prefix-landed : (first : ℕ) (reached : Reached Find) (s : State) → is_missing reached ≡ false
+    prefix-landed : (first : ℕ) (reached : Reached Find) → is_missing reached ≡ false
         → finish input table k (land_prefix input.limits own first follow reached s)
         ≡ ahead input table (landed_prefix input.limits id own first next reached k s)
-    prefix-landed first (Told (Fails cause)) s is = refl
-    prefix-landed first (Told (Finds content end)) s is = units-ahead end (units_told own content) s
-    prefix-landed first (Told (FindsOctets bytes end)) s is = refl
-    prefix-landed first (Told (FindsText bytes end)) s is = refl
-    prefix-landed first TooFar s is = refl
-    prefix-landed first Missing s is = absurd (cc)
+    prefix-landed first (Told (Fails cause)) is = refl
+    prefix-landed first (Told (Finds content end)) is = units-ahead end (units_told own content)
+    prefix-landed first (Told (FindsOctets bytes end)) is = refl
+    prefix-landed first (Told (FindsText bytes end)) is = refl
+    prefix-landed first TooFar is = refl
+    prefix-landed first Missing is = absurd (cc)
 
-    prefix-ahead : (held : Held) (primitive : Primitive) (s : State) → Sees held input s → (room : Bool)
+    prefix-ahead : (held : Held) (primitive : Primitive) → Sees held input s → (room : Bool)
         → let sight : Held = from_byte held (anchor s) in
         let move : Move = cond room
         (prefix_move input.limits id own (content_begins primitive s.at) next sight (ask (seen_at sight) (program primitive s.at s.stop) nothing) k s)
@@ -193,18 +196,18 @@ module _ (input : Input) (table : Table) where
         → Does input table (finish input table k (spend one_row (cond room
         (spend whole.tally (land_prefix input.limits own (content_begins primitive s.at) follow whole.reached s))
         (ended (Failed LengthOutOfRange s.at) s)))) move
-    prefix-ahead held primitive s sees true going =
+    prefix-ahead held primitive sees true going =
         let here : Reading Find = ask (seen_at (from_byte held (anchor s))) (program primitive s.at s.stop) nothing in
-        let same = leaf-reads held primitive s sees (found here.reached going) in
+        let same = leaf-reads held None primitive s sees (found here.reached going) in
         let first : ℕ = content_begins primitive s.at in
         ap (λ (r : Reading Find). finish input table k (spend one_row (spend r.tally (land_prefix input.limits own first follow r.reached s)))) (sym same)
         ∙ ap (finish input table k) (spend-spend one_row here.tally (land_prefix input.limits own first follow here.reached s))
         ∙ finish-spend input table k (plus one_row here.tally) (land_prefix input.limits own first follow here.reached s)
-        ∙ ap (spend (plus one_row here.tally)) (prefix-landed first here.reached s going)
-    prefix-ahead held primitive s sees false going = finish-spend input table k one_row (ended (Failed LengthOutOfRange s.at) s)
+        ∙ ap (spend (plus one_row here.tally)) (prefix-landed first here.reached going)
+    prefix-ahead held primitive sees false going = finish-spend input table k one_row (ended (Failed LengthOutOfRange s.at) s)
 
-    pub prefix-of : (held : Held) (primitive : Option Primitive) (s : State) → Sees held input s
+    pub prefix-of : (held : Held) (primitive : Option Primitive) → Sees held input s
         → (read_prefix input.limits id held own next primitive k s).waits ≡ false
         → Does input table (finish input table k (spend one_row (prefixed input primitive own follow s))) (read_prefix input.limits id held own next primitive k s)
-    prefix-of held None s sees going = finish-spend input table k one_row (ended (Failed LengthOutOfRange s.at) s)
-    prefix-of held (Some primitive) s sees going = prefix-ahead held primitive s sees (has_room primitive s.at s.stop) going
+    prefix-of held None sees going = finish-spend input table k one_row (ended (Failed LengthOutOfRange s.at) s)
+    prefix-of held (Some primitive) sees going = prefix-ahead held primitive sees (has_room primitive s.at s.stop) going

@@ -11,7 +11,7 @@ use Rattle.dfdl_looks.specs.Tallies.{nothing, Tally, saw_end}
 use Rattle.dfdl_looks.proofs.Resumed.{on_seen}
 use Rattle.dfdl_looks.proofs.Seeing.{seen_within}
 use Rattle.dfdl_looks.proofs.Stretches.{after, after-looks, after-far, ask-stretch}
-use Rattle.dfdl_terms.specs.declared.row.Primitive.TheVariants.{Integer, Packed, Truth, Octets, Text, NilOctets, Default}
+use Rattle.dfdl_terms.specs.declared.row.Primitive.TheVariants.{Integer, Packed, Truth, Octets, Text, NilOctets, Default, NilValues, Pattern}
 use Rattle.dfdl_grammar.specs.Leaves.{Find, Fails, bits_of, bytes_spanned, field, find_in, program}
 use Rattle.dfdl_parse.specs.declared.leaf.Found.{Found}
 use Rattle.dfdl_parse.specs.declared.leaf.Found.TheVariants.{Reads, Octets as HasOctets, Utf8, Text as HasText, Fails as HasFailed, Past, NotYet as NotCome}
@@ -115,6 +115,8 @@ number-field (Octets form) bit stop is = absurd is
 number-field (Text form) bit stop is = absurd is
 number-field (NilOctets form) bit stop is = absurd is
 number-field (Default form) bit stop is = absurd is
+number-field (NilValues form) bit stop is = absurd is
+number-field (Pattern form) bit stop is = absurd is
 
 module _ (look : ℕ → Seen) (primitive : Primitive) (bit : ℕ) (bytes : List ℕ)
     (seen : (i : ℕ) → i < length bytes → look (bit / 8 + i) ≡ Byte (get_or bytes i 0)) where

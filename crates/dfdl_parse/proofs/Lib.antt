@@ -6,6 +6,7 @@ pub mod Leaves
 pub mod HexBinaries
 pub mod StringReadings
 pub mod NilReadings
+pub mod PatternReadings
 pub mod Lists
 pub mod Programs
 pub mod Texts

@@ -8,6 +8,7 @@ use Rattle.dfdl_bits.specs.declared.window.Seen.TheVariants.{Byte, End as DataEn
 use Rattle.dfdl_report.specs.declared.cause.ParseCause.{ParseCause}
 use Rattle.dfdl_report.specs.declared.cause.ParseCause.TheVariants.{LengthOutOfRange}
 use Rattle.dfdl_report.specs.declared.cause.LimitCause.TheVariants.{Nodes, Text as TextLimit}
+use Rattle.dfdl_value.specs.declared.value.Value.{Value}
 use Rattle.dfdl_terms.specs.declared.row.Primitive.{Primitive}
 use Rattle.dfdl_terms.specs.declared.row.Row.{Row}
 use Rattle.dfdl_terms.specs.declared.row.Row.TheVariants.{Leaf, Elem, Group, Skip, Align, Boxed, PrefixedLeaf, PrefixedBox}
@@ -18,11 +19,11 @@ use Rattle.dfdl_grammar.specs.declared.end.End.{End}
 use Rattle.dfdl_grammar.specs.declared.end.End.TheVariants.{Done, Failed, Stopped}
 use Rattle.dfdl_grammar.specs.declared.limits.Limits.{Limits}
 use Rattle.dfdl_grammar.specs.Outcomes.{ended}
-use Rattle.dfdl_grammar.specs.States.{State, anchor, anchor_at, read_by}
+use Rattle.dfdl_grammar.specs.States.{State, anchor, anchor_at}
 use Rattle.dfdl_grammar.specs.Marks.{back, marked}
 use Rattle.dfdl_terms.specs.declared.text.TextSize.{TextSize}
 use Rattle.dfdl_grammar.specs.Prefixes.{bits_of_units, resized, size_of, units_told}
-use Rattle.dfdl_grammar.specs.Leaves.{Find, Fails, Finds, FindsOctets, FindsText, content_begins, has_room, program}
+use Rattle.dfdl_grammar.specs.Leaves.{Find, Fails, Finds, FindsOctets, FindsText, content_begins, has_room, nil_values, program, program_for, read_by}
 use Rattle.dfdl_grammar.specs.Framing.{aligned}
 use Rattle.dfdl_grammar.specs.Elements.{begun, has_elements}
 use Rattle.dfdl_parse.specs.declared.frame.Frame.{Frame}
@@ -40,7 +41,7 @@ use Rattle.dfdl_parse.specs.Opens.{AreOpen, IsHeld, NeedsBehind, NeedsFrom}
 use Rattle.dfdl_parse.specs.Trials.{attempt, parts_of, retry, try_empty, try_nil, try_normal, two_rows}
 use Rattle.dfdl_parse.proofs.Beyond.{beyond-byte}
 use Rattle.dfdl_parse.proofs.Opens.{back-open, closed-open, later, lower, risen}
-use Rattle.dfdl_parse.proofs.Texts.{EndsBehind, program-ends}
+use Rattle.dfdl_parse.proofs.Texts.{EndsBehind, program_for-ends}
 use Rattle.dfdl_parse.proofs.Finishes.{Anchored, Stands}
 
 -- the bytes that are needed behind a step are held
@@ -167,33 +168,33 @@ retry-low most held id (Some parts) next.Normal cause bit k s opens =
 retry-low most held id (Some parts) next.Nothing cause bit k s opens = closed-open held.base s.at id next.Nothing k s.marks opens
 
 module _ (held : Held) (s : State) where
-  read-low : (cost : Tally) (limits : Limits) (focus : Focus) (primitive : Primitive) (k : List Frame) → Anchored held s → NeedsFrom (anchor s) focus k s
+  read-low : (cost : Tally) (limits : Limits) (focus : Focus) (nil : Option (List Value)) (primitive : Primitive) (k : List Frame) → Anchored held s → NeedsFrom (anchor s) focus k s
       → AreOpen held.base s.at k s.marks → (room : Bool)
       → IsLow (cond room
       (read_move cost limits focus (content_begins primitive s.at) (from_byte held (anchor s))
-      (ask (seen_at (from_byte held (anchor s))) (program primitive s.at s.stop) nothing) k s)
+      (ask (seen_at (from_byte held (anchor s))) (program_for nil primitive s.at s.stop) nothing) k s)
       (pass cost held (Leave (Failed LengthOutOfRange s.at)) k s))
-  read-low cost limits focus primitive k stands stays opens true =
+  read-low cost limits focus nil primitive k stands stays opens true =
       landed-low limits focus (content_begins primitive s.at) (anchor s)
-      (ask (seen_at (from_byte held (anchor s))) (program primitive s.at s.stop) nothing).reached k s stands.low (risen held.base s.at s.at k s.marks opens)
-      (program-ends (seen_at (from_byte held (anchor s))) primitive s.at s.stop nothing) stays
-  read-low cost limits focus primitive k stands stays opens false = opens
+      (ask (seen_at (from_byte held (anchor s))) (program_for nil primitive s.at s.stop) nothing).reached k s stands.low (risen held.base s.at s.at k s.marks opens)
+      (program_for-ends (seen_at (from_byte held (anchor s))) nil primitive s.at s.stop nothing) stays
+  read-low cost limits focus nil primitive k stands stays opens false = opens
 
-  leaf-low : (cost : Tally) (limits : Limits) (focus : Focus) (primitive : Option Primitive) (k : List Frame) → Anchored held s → NeedsFrom (anchor s) focus k s
-      → held.base ≤ s.at / 8 → AreOpen held.base s.at k s.marks → IsLow (read_leaf cost limits focus held primitive k s)
-  leaf-low cost limits focus None k stands stays low opens = (low, opens)
-  leaf-low cost limits focus (Some primitive) k stands stays low opens = read-low cost limits focus primitive k stands stays opens (has_room primitive s.at s.stop)
+  leaf-low : (cost : Tally) (limits : Limits) (focus : Focus) (nil : Option (List Value)) (primitive : Option Primitive) (k : List Frame) → Anchored held s → NeedsFrom (anchor s) focus k s
+      → held.base ≤ s.at / 8 → AreOpen held.base s.at k s.marks → IsLow (read_leaf cost limits focus held nil primitive k s)
+  leaf-low cost limits focus nil None k stands stays low opens = (low, opens)
+  leaf-low cost limits focus nil (Some primitive) k stands stays low opens = read-low cost limits focus nil primitive k stands stays opens (has_room primitive s.at s.stop)
 
-  resized-low : (limits : Limits) (prim : ℕ) (size : TextSize) (primitive : Option Primitive) (k : List Frame) → Anchored held s → held.base ≤ s.at / 8
-      → AreOpen held.base s.at k s.marks → IsLow (read_resized limits (Sized prim size) held primitive k s)
-  resized-low limits prim size None k stands low opens = opens
-  resized-low limits prim size (Some primitive) k stands low opens =
-      leaf-low nothing limits (Sized prim size) (Some primitive) k stands (stands.low, risen held.base s.at s.at k s.marks opens) low opens
+  resized-low : (limits : Limits) (prim : ℕ) (size : TextSize) (nil : Option (List Value)) (primitive : Option Primitive) (k : List Frame) → Anchored held s → held.base ≤ s.at / 8
+      → AreOpen held.base s.at k s.marks → IsLow (read_resized limits (Sized prim size) held nil primitive k s)
+  resized-low limits prim size nil None k stands low opens = opens
+  resized-low limits prim size nil (Some primitive) k stands low opens =
+      leaf-low nothing limits (Sized prim size) nil (Some primitive) k stands (stands.low, risen held.base s.at s.at k s.marks opens) low opens
 
-  told-low : (limits : Limits) (prim : ℕ) (size : TextSize) (primitive : Option Primitive) (k : List Frame) → Anchored held s → held.base ≤ s.at / 8
-      → AreOpen held.base s.at k s.marks → IsLow (read_sized limits held prim size primitive k s)
-  told-low limits prim size None k stands low opens = (low, opens)
-  told-low limits prim size (Some primitive) k stands low opens = resized-low limits prim size (resized size primitive) k stands low opens
+  told-low : (limits : Limits) (prim : ℕ) (size : TextSize) (nil : Option (List Value)) (primitive : Option Primitive) (k : List Frame) → Anchored held s → held.base ≤ s.at / 8
+      → AreOpen held.base s.at k s.marks → IsLow (read_sized limits held prim size nil primitive k s)
+  told-low limits prim size nil None k stands low opens = (low, opens)
+  told-low limits prim size nil (Some primitive) k stands low opens = resized-low limits prim size nil (resized size primitive) k stands low opens
 
   prefix-low : (limits : Limits) (id own : ℕ) (next : ℕ → List Frame → State → Machine) (primitive : Option Primitive) (k : List Frame) → Anchored held s
       → AreOpen held.base s.at k s.marks
@@ -210,7 +211,7 @@ module _ (held : Held) (s : State) where
       by true =
           prefix-landed-low limits id own next k (anchor s) follows (content_begins primitive s.at)
           (ask (seen_at (from_byte held (anchor s))) (program primitive s.at s.stop) nothing).reached s stands.low (risen held.base s.at s.at k s.marks opens)
-          (program-ends (seen_at (from_byte held (anchor s))) primitive s.at s.stop nothing)
+          (program_for-ends (seen_at (from_byte held (anchor s))) None primitive s.at s.stop nothing)
       by false = opens
 
   begin-low : (to : ℕ) (k : List Frame) → held.base ≤ s.at / 8 → AreOpen held.base s.at k s.marks → (over inside : Bool) → nat_le to s.at ≡ over
@@ -233,7 +234,8 @@ module _ (held : Held) (s : State) where
       → AreOpen held.base s.at k s.marks → IsLow (enter limits table held id r k s)
   enter-low limits table id None k stands low opens = (low, opens)
   enter-low limits table id (Some (Leaf prim)) k stands low opens =
-      leaf-low one_row limits (Enter id) (slice_get table.primitives (read_by s.instead prim)) k stands (stands.low, risen held.base s.at s.at k s.marks opens) low opens
+      leaf-low one_row limits (Enter id) (nil_values table.primitives s.instead)
+      (slice_get table.primitives (read_by table.primitives s.instead prim)) k stands (stands.low, risen held.base s.at s.at k s.marks opens) low opens
   enter-low limits table id (Some (Elem name simple tried body)) k stands low opens =
       element-low limits.nodes id (record { complex = has_elements simple; tried = tried; body = body }) k low opens tried.are_several
   enter-low limits table id (Some (Group children)) k stands low opens = group-low id children k low opens
@@ -243,7 +245,7 @@ module _ (held : Held) (s : State) where
       begin-low (aligned bits s.at) k low opens (nat_le (aligned bits s.at) s.at) (nat_le (aligned bits s.at) s.stop) refl
   enter-low limits table id (Some (Boxed bits body)) k stands low opens = box-begun-low held.base bits body k s low opens (nat_le (s.at + bits) s.stop)
   enter-low limits table id (Some (PrefixedLeaf prefix prim)) k stands low opens =
-      let by : ℕ = read_by s.instead prim in
+      let by : ℕ = read_by table.primitives s.instead prim in
       prefix-low limits id prefix.own (behind_units table.primitives prefix.unit (behind.Leaf by)) (slice_get table.primitives prefix.prim) k stands opens
       (λ units after is still. sized-low (anchor s) by (size_of prefix.unit units) (slice_get table.primitives by) k after is still)
   enter-low limits table id (Some (PrefixedBox prefix body)) k stands low opens =
@@ -292,7 +294,7 @@ module _ (held : Held) (s : State) where
       let few : low ≤ (to - 1) / 8 = stands.1 in
       filled-low limits.window (from_byte held (min low (end_of held))) to (seen_beyond held low ((to - 1) / 8)) k s (omega arith) needs.1.0
       (given-up (to - 1) k needs.1.1)
-  step-low limits table (Sized prim size) k stands needs = told-low limits prim size (slice_get table.primitives prim) k stands needs.0 needs.1
+  step-low limits table (Sized prim size) k stands needs = told-low limits prim size (nil_values table.primitives s.instead) (slice_get table.primitives prim) k stands needs.0 needs.1
   step-low limits table (Leave told) [] stands needs = needs
   step-low limits table (Leave told) (frame ∷ k) stands needs = leave-low limits table frame told k needs
 

@@ -1,23 +1,25 @@
 -- Where the looks of a leaf lie.
-use Rattle.std.proofs.Common.{ℕ, zero, suc, ◌+◌, ◌-◌, ◌/◌, ◌%◌, ◌≤◌, Bool, true, false, cond, nat_eq, [], arith}
+use Rattle.std.proofs.Common.{ℕ, zero, suc, ◌+◌, ◌-◌, ◌/◌, ◌%◌, ◌≤◌, min, Bool, true, false, cond, nat_eq, List, [], Option, Some, None, arith}
 use Rattle.dfdl_looks.specs.Asks.{Ask, Answer, Look, AsksFrom, and_then}
 use Rattle.dfdl_looks.proofs.Sequels.{and_then-from}
 use Rattle.dfdl_looks.proofs.Stretched.{look_at-from}
 use Rattle.dfdl_report.specs.declared.cause.ParseCause.TheVariants.{DataEnds, NotFilled}
+use Rattle.dfdl_value.specs.declared.value.Value.{Value}
 use Rattle.dfdl_terms.specs.declared.row.Primitive.{Primitive}
-use Rattle.dfdl_terms.specs.declared.row.Primitive.TheVariants.{Integer, Packed, Truth, Octets, Text, NilOctets, Default}
+use Rattle.dfdl_terms.specs.declared.row.Primitive.TheVariants.{Integer, Packed, Truth, Octets, Text, NilOctets, Default, NilValues, Pattern}
 use Rattle.dfdl_terms.specs.declared.text.OctetForm.{OctetForm}
 use Rattle.dfdl_terms.specs.declared.text.TextContent.{TextContent}
 use Rattle.dfdl_terms.specs.declared.text.TextContent.TheVariants.{Plain, Number, Zoned, Truth as TextTruth, Nil}
 use Rattle.dfdl_terms.specs.declared.text.TextForm.{TextForm}
 use Rattle.dfdl_terms.specs.declared.text.TextSize.{TextSize}
 use Rattle.dfdl_terms.specs.declared.text.TextSize.TheVariants.{Bits, Characters}
-use Rattle.dfdl_texts.specs.Texts.{text_at}
+use Rattle.dfdl_texts.specs.Texts.{Text as TextRead, text_at}
 use Rattle.dfdl_texts.specs.declared.extent.Extent.{Extent}
 use Rattle.dfdl_texts.specs.declared.extent.Extent.TheVariants as extent
 use Rattle.dfdl_texts.proofs.Whole.{text-from}
 use Rattle.dfdl_grammar.specs.Framing.{aligned}
-use Rattle.dfdl_grammar.specs.Leaves.{Find, Fails, FindsOctets, bits_of, bytes_spanned, empty_begins, field, find_in, nil_octets_find, octets, program, text_begins, text_find, text_of_size}
+use Rattle.dfdl_grammar.specs.Patterns.{most_sought}
+use Rattle.dfdl_grammar.specs.Leaves.{Find, Fails, FindsOctets, bits_of, bytes_spanned, empty_begins, field, find_in, nil_octets_find, nil_value_find, octets, pattern_find, program, program_for, text_begins, text_find, text_of_size}
 
 -- looks that lie behind a byte lie behind one before it
 lower : {F : Type 0} (low k : ℕ) → low ≤ k → (a : Ask F) → AsksFrom k a → AsksFrom low a
@@ -70,7 +72,7 @@ octets-from low form bit base =
     (from-either low (nat_eq (form.bits % 8) 0) (field (Octets form) bit) (Answer (Fails NotFilled)) (field-from low (Octets form) bit base) tt)
 
 -- each look of a leaf is at the byte of its box's first bit or behind it
-pub program-from : (low : ℕ) (primitive : Primitive) (bit stop : ℕ) → low ≤ bit / 8 → AsksFrom low (program primitive bit stop)
+program-from : (low : ℕ) (primitive : Primitive) (bit stop : ℕ) → low ≤ bit / 8 → AsksFrom low (program primitive bit stop)
 program-from low (Integer form) bit stop base = field-from low (Integer form) bit base
 program-from low (Packed form) bit stop base = field-from low (Packed form) bit base
 program-from low (Truth form) bit stop base = field-from low (Truth form) bit base
@@ -79,3 +81,15 @@ program-from low (Text form) bit stop base = size-from low form form.size bit st
 program-from low (NilOctets form) bit stop base =
     and_then-from low (octets form.octets bit) (λ find. Answer (nil_octets_find form.nil find)) (octets-from low form.octets bit base) (λ find. tt)
 program-from low (Default form) bit stop base = tt
+program-from low (NilValues form) bit stop base = tt
+program-from low (Pattern form) bit stop base =
+    let first : ℕ = aligned 8 bit in
+    let text : Ask TextRead = text_at form.encoding false extent.Front (min stop (first + most_sought)) (first / 8) in
+    and_then-from low text (λ text. Answer (pattern_find form first text))
+    (lower low (first / 8) (omega arith) text (text-from form.encoding false extent.Front (min stop (first + most_sought)) (first / 8))) (λ text. tt)
+
+pub program_for-from : (low : ℕ) (nil : Option (List Value)) (primitive : Primitive) (bit stop : ℕ) → low ≤ bit / 8
+    → AsksFrom low (program_for nil primitive bit stop)
+program_for-from low None primitive bit stop base = program-from low primitive bit stop base
+program_for-from low (Some values) primitive bit stop base =
+    and_then-from low (program primitive bit stop) (λ find. Answer (nil_value_find values find)) (program-from low primitive bit stop base) (λ find. tt)

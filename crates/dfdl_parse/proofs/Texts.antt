@@ -1,13 +1,14 @@
 -- What a leaf finds ends at its first bit or behind it.
-use Rattle.std.proofs.Common.{◌≡◌, ℕ, zero, suc, ◌+◌, ◌-◌, ◌*◌, ◌/◌, ◌%◌, ◌≤◌, Bool, true, false, cond, nat_eq, refl, List, [], ◌∷◌, Option, Some, None, subst, sym, arith}
+use Rattle.std.proofs.Common.{◌≡◌, ℕ, zero, suc, ◌+◌, ◌-◌, ◌*◌, ◌/◌, ◌%◌, ◌≤◌, min, Bool, true, false, cond, nat_eq, refl, List, [], ◌∷◌, Option, Some, None, subst, sym, arith}
 use Rattle.dfdl_bits.specs.declared.window.Seen.{Seen}
 use Rattle.dfdl_bits.specs.declared.window.Seen.TheVariants.{Byte, End, NotYet, Over}
 use Rattle.dfdl_report.specs.declared.cause.ParseCause.TheVariants.{DataEnds, NotFilled, RequiredEmpty}
 use Rattle.dfdl_int_binary.specs.Integers.{field_of, integer_reading}
 use Rattle.dfdl_int_binary.specs.Truths.{truth_field_of, truth_reading}
 use Rattle.dfdl_packed.specs.Packed.{nibbles_in, packed_reading}
+use Rattle.dfdl_value.specs.declared.value.Value.{Value}
 use Rattle.dfdl_terms.specs.declared.row.Primitive.{Primitive}
-use Rattle.dfdl_terms.specs.declared.row.Primitive.TheVariants.{Integer, Packed, Truth, Octets, Text, NilOctets, Default}
+use Rattle.dfdl_terms.specs.declared.row.Primitive.TheVariants.{Integer, Packed, Truth, Octets, Text, NilOctets, Default, NilValues, Pattern}
 use Rattle.dfdl_terms.specs.declared.text.NilForm.{NilForm}
 use Rattle.dfdl_terms.specs.declared.text.OctetForm.{OctetForm}
 use Rattle.dfdl_terms.specs.declared.text.TextForm.{TextForm}
@@ -21,10 +22,12 @@ use Rattle.dfdl_looks.specs.Asks.{Ask, Answer, Reached, Told, TooFar, Missing, R
 use Rattle.dfdl_looks.specs.Tallies.{Tally, saw_byte, saw_end}
 use Rattle.dfdl_looks.proofs.Resumed.{on_seen}
 use Rattle.dfdl_looks.proofs.Sequels.{ask-then}
-use Rattle.dfdl_grammar.specs.Leaves.{Find, Fails, FindsOctets, bytes_spanned, default_find, field, find_in, is_no_size, nil_octets_find, octets, program, text_behind, text_begins, text_find, text_of_size}
+use Rattle.dfdl_grammar.specs.Leaves.{Find, Fails, FindsOctets, bytes_spanned, default_find, field, find_in, is_no_size, nil_octets_find, nil_value_find, octets, pattern_find, program, program_for, text_behind, text_begins, text_find, text_of_size}
 use Rattle.dfdl_grammar.specs.Framing.{aligned}
+use Rattle.dfdl_grammar.specs.Patterns.{most_sought}
+use Rattle.dfdl_terms.specs.declared.text.PatternForm.{PatternForm}
 use Rattle.dfdl_text_string.specs.Padding.{trimmed}
-use Rattle.dfdl_parse.proofs.Ends.{AtEnd, content-at, default-at, nil_octets-at, number-at, packed-at, truth-at}
+use Rattle.dfdl_parse.proofs.Ends.{AtEnd, content-at, default-at, nil_octets-at, nil_value-at, number-at, packed-at, pattern-at, truth-at}
 
 -- what is found ends at this bit or behind it
 abbrev pub EndsBehind : ℕ → Reached Find → Type 0
@@ -106,7 +109,20 @@ module _ (look : ℕ → Seen) where
   nil-ends form bit TooFar u ends = tt
   nil-ends form bit Missing u ends = tt
 
-  pub program-ends : (primitive : Primitive) (bit stop : ℕ) (t : Tally) → EndsBehind bit (ask look (program primitive bit stop) t).reached
+  -- the number of bytes that a pattern matches stands where it is sought
+  found-pattern-ends : (form : PatternForm) (bit first : ℕ) → bit ≤ first → (r : Reached TextRead) (u : Tally)
+      → EndsBehind bit (go_on look (λ text. Answer (pattern_find form first text)) r u).reached
+  found-pattern-ends form bit first behind (Told text) u = pattern-at (λ e. bit ≤ e) form first text behind
+  found-pattern-ends form bit first behind TooFar u = tt
+  found-pattern-ends form bit first behind Missing u = tt
+
+  pattern-ends : (form : PatternForm) (bit first : ℕ) (text : Ask TextRead) (t : Tally) → bit ≤ first
+      → EndsBehind bit (ask look (and_then text (λ text. Answer (pattern_find form first text))) t).reached
+  pattern-ends form bit first text t behind =
+      subst (λ (r : Reading Find). EndsBehind bit r.reached) (sym (ask-then look (λ text. Answer (pattern_find form first text)) text t))
+      (found-pattern-ends form bit first behind (ask look text t).reached (ask look text t).tally)
+
+  program-ends : (primitive : Primitive) (bit stop : ℕ) (t : Tally) → EndsBehind bit (ask look (program primitive bit stop) t).reached
   program-ends (Integer form) bit stop t =
       run-ends bit (bytes_spanned bit form.bits) (bit / 8) (find_in (Integer form) bit) t
       (λ bytes. number-at (λ e. bit ≤ e) (bit + form.bits) (integer_reading form (field_of form bytes (bit % 8))) (omega arith))
@@ -122,8 +138,27 @@ module _ (look : ℕ → Seen) where
       let bytes : Ask Find = octets form.octets bit in
       subst (λ (r : Reading Find). EndsBehind bit r.reached) (sym (ask-then look (λ find. Answer (nil_octets_find form.nil find)) bytes t))
       (nil-ends form.nil bit (ask look bytes t).reached (ask look bytes t).tally (octets-end form.octets bit t))
+  program-ends (NilValues form) bit stop t = tt
+  program-ends (Pattern form) bit stop t =
+      let first : ℕ = aligned 8 bit in
+      pattern-ends form bit first (text_at form.encoding false extent.Front (min stop (first + most_sought)) (first / 8)) t (omega arith)
   program-ends (Default form) bit stop t = default-ends (is_no_size form.size)
     where
       default-ends : (none : Bool) → EndsBehind bit (Told (cond none (default_find bit form.value) (Fails RequiredEmpty)))
       default-ends true = default-at (λ e. bit ≤ e) bit form.value (omega arith)
       default-ends false = tt
+
+  -- a value that has to be one of some ends where it does
+  nil-value-ends : (values : List Value) (bit : ℕ) (r : Reached Find) (u : Tally) → EndsBehind bit r
+      → EndsBehind bit (go_on look (λ find. Answer (nil_value_find values find)) r u).reached
+  nil-value-ends values bit (Told find) u ends = nil_value-at (λ e. bit ≤ e) values find ends
+  nil-value-ends values bit TooFar u ends = tt
+  nil-value-ends values bit Missing u ends = tt
+
+  pub program_for-ends : (nil : Option (List Value)) (primitive : Primitive) (bit stop : ℕ) (t : Tally)
+      → EndsBehind bit (ask look (program_for nil primitive bit stop) t).reached
+  program_for-ends None primitive bit stop t = program-ends primitive bit stop t
+  program_for-ends (Some values) primitive bit stop t =
+      let a : Ask Find = program primitive bit stop in
+      subst (λ (r : Reading Find). EndsBehind bit r.reached) (sym (ask-then look (λ find. Answer (nil_value_find values find)) a t))
+      (nil-value-ends values bit (ask look a t).reached (ask look a t).tally (program-ends primitive bit stop t))

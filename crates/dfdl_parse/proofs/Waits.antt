@@ -6,6 +6,7 @@ use Rattle.dfdl_bits.specs.declared.window.Seen.{Seen}
 use Rattle.dfdl_bits.specs.declared.window.Seen.TheVariants.{Byte, End as DataEnded, NotYet, Over}
 use Rattle.dfdl_report.specs.declared.cause.LimitCause.TheVariants.{Nodes}
 use Rattle.dfdl_report.specs.declared.cause.ParseCause.TheVariants.{DataEnds, LengthOutOfRange}
+use Rattle.dfdl_value.specs.declared.value.Value.{Value}
 use Rattle.dfdl_terms.specs.declared.row.Primitive.{Primitive}
 use Rattle.dfdl_terms.specs.declared.row.Row.{Row}
 use Rattle.dfdl_terms.specs.declared.row.Row.TheVariants.{Leaf, Elem, Group, Skip, Align, Boxed, PrefixedLeaf, PrefixedBox}
@@ -17,11 +18,11 @@ use Rattle.dfdl_looks.proofs.Waiting.{missed, waits_while, counted}
 use Rattle.dfdl_grammar.specs.declared.end.End.{End}
 use Rattle.dfdl_grammar.specs.declared.end.End.TheVariants.{Done, Failed, Stopped}
 use Rattle.dfdl_grammar.specs.declared.limits.Limits.{Limits}
-use Rattle.dfdl_grammar.specs.States.{Input, State, anchor, anchor_at, read_by}
+use Rattle.dfdl_grammar.specs.States.{Input, State, anchor, anchor_at}
 use Rattle.dfdl_grammar.specs.Marks.{back, marked}
 use Rattle.dfdl_grammar.specs.Outcomes.{Outcome, ended, spend}
 use Rattle.dfdl_terms.specs.declared.text.TextSize.{TextSize}
-use Rattle.dfdl_grammar.specs.Leaves.{Find, content_begins, has_room, land, leaf, program}
+use Rattle.dfdl_grammar.specs.Leaves.{Find, content_begins, has_room, land, leaf, nil_values, program, program_for, read_by}
 use Rattle.dfdl_grammar.specs.Prefixes.{bits_of_units, land_prefix, leaf_of, prefixed, resized, size_of, sized_leaf}
 use Rattle.dfdl_grammar.specs.Boxes.{boxed}
 use Rattle.dfdl_grammar.specs.Framing.{aligned, fill_to}
@@ -43,7 +44,7 @@ use Rattle.dfdl_parse.specs.Trials.{attempt, parts_of, retry, try_empty, try_nil
 use Rattle.dfdl_parse.specs.Ahead.{finish}
 use Rattle.dfdl_parse.proofs.Windows.{agrees_from, end_from}
 use Rattle.dfdl_parse.proofs.Beyond.{beyond-missed, beyond-waits}
-use Rattle.dfdl_parse.proofs.Programs.{program-from}
+use Rattle.dfdl_parse.proofs.Programs.{program_for-from}
 use Rattle.dfdl_parse.proofs.Finishes.{Fits, finish-spend, from_here}
 use Rattle.dfdl_parse.proofs.LeafSteps.{Sees}
 use Rattle.dfdl_parse.proofs.Ahead.{filled, rest-seen, rested}
@@ -68,27 +69,27 @@ first_told (suc n) t some = refl
 
 module _ (table : Table) (held : Held) (s : State) where
   -- what a leaf reads over whole data
-  abbrev whole_of : Input → Primitive → Reading Find
-  whole_of input primitive = ask (seen_in input.bytes input.limits.window (anchor s)) (program primitive s.at s.stop) nothing
+  abbrev whole_of : Input → Option (List Value) → Primitive → Reading Find
+  whole_of input nil primitive = ask (seen_in input.bytes input.limits.window (anchor s)) (program_for nil primitive s.at s.stop) nothing
 
   -- the outcome of a look at a leaf that was in vain, behind a cost that missed nothing, whatever is made of it
-  look-lost : (input : Input) (cost : Tally) → cost.tail ≡ 0 → (primitive : Primitive) (k : List Frame) (o : Outcome) → Sees held input s → length input.bytes ≡ end_of held
-      → (ask (seen_at (from_byte held (anchor s))) (program primitive s.at s.stop) nothing).reached ≡ Missing → held.ended ≡ false
-      → ((finish input table k (spend cost (spend (whole_of input primitive).tally o))).tally.tail
-      ≡ (ask (seen_at (from_byte held (anchor s))) (program primitive s.at s.stop) nothing).tally.looks)
-      × (end_of held < (finish input table k (spend cost (spend (whole_of input primitive).tally o))).tally.far)
-  look-lost input cost no_tail primitive k o sees all missing on =
+  look-lost : (input : Input) (cost : Tally) → cost.tail ≡ 0 → (nil : Option (List Value)) (primitive : Primitive) (k : List Frame) (o : Outcome) → Sees held input s → length input.bytes ≡ end_of held
+      → (ask (seen_at (from_byte held (anchor s))) (program_for nil primitive s.at s.stop) nothing).reached ≡ Missing → held.ended ≡ false
+      → ((finish input table k (spend cost (spend (whole_of input nil primitive).tally o))).tally.tail
+      ≡ (ask (seen_at (from_byte held (anchor s))) (program_for nil primitive s.at s.stop) nothing).tally.looks)
+      × (end_of held < (finish input table k (spend cost (spend (whole_of input nil primitive).tally o))).tally.far)
+  look-lost input cost no_tail nil primitive k o sees all missing on =
       let sight : Held = from_byte held (anchor s) in
-      let here : Reading Find = ask (seen_at sight) (program primitive s.at s.stop) nothing in
-      let whole : Reading Find = whole_of input primitive in
+      let here : Reading Find = ask (seen_at sight) (program_for nil primitive s.at s.stop) nothing in
+      let whole : Reading Find = whole_of input nil primitive in
       let ends : end_of sight ≡ end_of held = end_from held (anchor s) sees.stands.base sees.stands.end in
       let told = missed sight input.bytes (agrees_from held input.bytes (anchor s) sees.stands.base sees.stands.end sees.agrees) (all ∙ sym ends) on
-      (program primitive s.at s.stop) (program-from (anchor s) primitive s.at s.stop sees.stands.low) nothing refl missing in
-      let same : ask (seen_in input.bytes held.size (anchor s)) (program primitive s.at s.stop) nothing ≡ whole =
-      ap (λ (size : ℕ). ask (seen_in input.bytes size (anchor s)) (program primitive s.at s.stop) nothing) sees.size in
+      (program_for nil primitive s.at s.stop) (program_for-from (anchor s) nil primitive s.at s.stop sees.stands.low) nothing refl missing in
+      let same : ask (seen_in input.bytes held.size (anchor s)) (program_for nil primitive s.at s.stop) nothing ≡ whole =
+      ap (λ (size : ℕ). ask (seen_in input.bytes size (anchor s)) (program_for nil primitive s.at s.stop) nothing) sees.size in
       let tail : whole.tally.tail ≡ here.tally.looks = ap (λ (r : Reading Find). r.tally.tail) (sym same) ∙ told.0 in
       let far : length input.bytes < whole.tally.far = subst (λ (r : Reading Find). length input.bytes < r.tally.far) same told.1 in
-      let some : 0 < here.tally.looks = counted (seen_at sight) (program primitive s.at s.stop) nothing missing in
+      let some : 0 < here.tally.looks = counted (seen_at sight) (program_for nil primitive s.at s.stop) nothing missing in
       let rest : Outcome = finish input table k o in
       let is : finish input table k (spend cost (spend whole.tally o)) ≡ spend (plus cost whole.tally) rest =
       ap (finish input table k) (spend-spend cost whole.tally o)
@@ -104,62 +105,66 @@ module _ (table : Table) (held : Held) (s : State) where
       )
 
   -- a step whose look at a leaf was in vain
-  look-waits : (cost : Tally) → cost.tail ≡ 0 → cost.looks ≡ 0 → (focus : Focus) (primitive : Primitive) (k : List Frame) (machine : Machine) (waits : Bool)
+  look-waits : (cost : Tally) → cost.tail ≡ 0 → cost.looks ≡ 0 → (focus : Focus) (nil : Option (List Value)) (primitive : Primitive) (k : List Frame) (machine : Machine) (waits : Bool)
       → machine ≡ record { focus = focus; stack = k; state = s }
       → ((input : Input) → Fits held input focus s → Sees held input s) → (made : Input → Outcome)
-      → ((input : Input) → from_here input table focus k s ≡ finish input table k (spend cost (spend (whole_of input primitive).tally (made input))))
-      → (ask (seen_at (from_byte held (anchor s))) (program primitive s.at s.stop) nothing).reached ≡ Missing
+      → ((input : Input) → from_here input table focus k s ≡ finish input table k (spend cost (spend (whole_of input nil primitive).tally (made input))))
+      → (ask (seen_at (from_byte held (anchor s))) (program_for nil primitive s.at s.stop) nothing).reached ≡ Missing
       → Waits table held focus k s (record {
-        tally = plus cost (ask (seen_at (from_byte held (anchor s))) (program primitive s.at s.stop) nothing).tally;
+        tally = plus cost (ask (seen_at (from_byte held (anchor s))) (program_for nil primitive s.at s.stop) nothing).tally;
         machine = machine;
         held = from_byte held (anchor s);
         waits = waits;
       })
-  look-waits cost no_tail no_looks focus primitive k machine waits stays sees made is missing =
+  look-waits cost no_tail no_looks focus nil primitive k machine waits stays sees made is missing =
       let sight : Held = from_byte held (anchor s) in
-      let here : Reading Find = ask (seen_at sight) (program primitive s.at s.stop) nothing in
-      let stands = waits_while sight (program primitive s.at s.stop) nothing missing in
+      let here : Reading Find = ask (seen_at sight) (program_for nil primitive s.at s.stop) nothing in
+      let stands = waits_while sight (program_for nil primitive s.at s.stop) nothing missing in
       let short : length sight.bytes < sight.size = stands.1 in
       record {
         machine = stays;
         on = stands.0;
         room = omega arith;
         missed = λ input fits all.
-            let lost = look-lost input cost no_tail primitive k (made input) (sees input fits) all missing stands.0 in
+            let lost = look-lost input cost no_tail nil primitive k (made input) (sees input fits) all missing stands.0 in
             let looks : here.tally.looks ≡ (plus cost here.tally).looks = omega arith in (
               ap (λ (o : Outcome). o.tally.tail) (is input) ∙ lost.0 ∙ looks,
               subst (λ (o : Outcome). end_of held < o.tally.far) (sym (is input)) lost.1,
             );
       }
 
+  -- the values that are nil, if a leaf has to have one of them
+  abbrev nil : Option (List Value)
+  nil = nil_values table.primitives s.instead
+
   -- what a leaf comes to that has room
   abbrev read_over : Input → Primitive → Outcome
-  read_over input primitive = land input.limits (content_begins primitive s.at) (whole_of input primitive).reached s
+  read_over input primitive = land input.limits (content_begins primitive s.at) (whole_of input nil primitive).reached s
 
-  read-waits : (limits : Limits) (id prim : ℕ) (primitive : Primitive) (k : List Frame) → slice_get table.primitives (read_by s.instead prim) ≡ Some primitive
+  read-waits : (limits : Limits) (id prim : ℕ) (primitive : Primitive) (k : List Frame) → slice_get table.primitives (read_by table.primitives s.instead prim) ≡ Some primitive
       → slice_get table.rows id ≡ Some (Leaf prim) → (room : Bool) → has_room primitive s.at s.stop ≡ room
       → let sight : Held = from_byte held (anchor s) in
       let move : Move = cond room
-      (read_move one_row limits (Enter id) (content_begins primitive s.at) sight (ask (seen_at sight) (program primitive s.at s.stop) nothing) k s)
+      (read_move one_row limits (Enter id) (content_begins primitive s.at) sight (ask (seen_at sight) (program_for nil primitive s.at s.stop) nothing) k s)
       (pass one_row held (Leave (Failed LengthOutOfRange s.at)) k s) in
       move.waits ≡ true → Waits table held (Enter id) k s move
   unfolding meaning
   read-waits limits id prim primitive k is at false has waits = absurd (cc)
   read-waits limits id prim primitive k is at true has waits =
-      let here : Reading Find = ask (seen_at (from_byte held (anchor s))) (program primitive s.at s.stop) nothing in
+      let here : Reading Find = ask (seen_at (from_byte held (anchor s))) (program_for nil primitive s.at s.stop) nothing in
       let missing : here.reached ≡ Missing = is_lost here.reached waits in
-      look-waits one_row refl refl (Enter id) primitive k _ _
+      look-waits one_row refl refl (Enter id) nil primitive k _ _
       (ap (λ (r : Reached Find). landed limits (Enter id) (content_begins primitive s.at) r k s) missing)
       (λ input fits. record { agrees = fits.agrees; size = fits.size; stands = fits.stands }) (λ input. read_over input primitive)
       (λ input. ap (λ (r : Option Row). finish input table k (spend one_row (row input table (below input table id) id r s))) at
-      ∙ ap (λ (p : Option Primitive). finish input table k (spend one_row (leaf input p s))) is
-      ∙ ap (λ (b : Bool). finish input table k (spend one_row (cond b (spend (whole_of input primitive).tally (read_over input primitive))
+      ∙ ap (λ (p : Option Primitive). finish input table k (spend one_row (leaf input nil p s))) is
+      ∙ ap (λ (b : Bool). finish input table k (spend one_row (cond b (spend (whole_of input nil primitive).tally (read_over input primitive))
       (ended (Failed LengthOutOfRange s.at) s)))) has)
       missing
 
-  leaf-waits : (limits : Limits) (id prim : ℕ) (primitive : Option Primitive) (k : List Frame) → slice_get table.primitives (read_by s.instead prim) ≡ primitive
-      → slice_get table.rows id ≡ Some (Leaf prim) → (read_leaf one_row limits (Enter id) held primitive k s).waits ≡ true
-      → Waits table held (Enter id) k s (read_leaf one_row limits (Enter id) held primitive k s)
+  leaf-waits : (limits : Limits) (id prim : ℕ) (primitive : Option Primitive) (k : List Frame) → slice_get table.primitives (read_by table.primitives s.instead prim) ≡ primitive
+      → slice_get table.rows id ≡ Some (Leaf prim) → (read_leaf one_row limits (Enter id) held nil primitive k s).waits ≡ true
+      → Waits table held (Enter id) k s (read_leaf one_row limits (Enter id) held nil primitive k s)
   leaf-waits limits id prim None k is at waits = absurd (cc)
   leaf-waits limits id prim (Some primitive) k is at waits = read-waits limits id prim primitive k is at (has_room primitive s.at s.stop) refl waits
 
@@ -168,33 +173,33 @@ module _ (table : Table) (held : Held) (s : State) where
       → resized size first ≡ Some primitive → (room : Bool) → has_room primitive s.at s.stop ≡ room
       → let sight : Held = from_byte held (anchor s) in
       let move : Move = cond room
-      (read_move nothing limits (Sized prim size) (content_begins primitive s.at) sight (ask (seen_at sight) (program primitive s.at s.stop) nothing) k s)
+      (read_move nothing limits (Sized prim size) (content_begins primitive s.at) sight (ask (seen_at sight) (program_for nil primitive s.at s.stop) nothing) k s)
       (pass nothing held (Leave (Failed LengthOutOfRange s.at)) k s) in
       move.waits ≡ true → Waits table held (Sized prim size) k s move
   sized-room-waits limits prim size first primitive k is sized false has waits = absurd (cc)
   sized-room-waits limits prim size first primitive k is sized true has waits =
-      let here : Reading Find = ask (seen_at (from_byte held (anchor s))) (program primitive s.at s.stop) nothing in
+      let here : Reading Find = ask (seen_at (from_byte held (anchor s))) (program_for nil primitive s.at s.stop) nothing in
       let missing : here.reached ≡ Missing = is_lost here.reached waits in
-      look-waits nothing refl refl (Sized prim size) primitive k _ _
+      look-waits nothing refl refl (Sized prim size) nil primitive k _ _
       (ap (λ (r : Reached Find). landed limits (Sized prim size) (content_begins primitive s.at) r k s) missing)
       (λ input fits. record { agrees = fits.agrees; size = fits.size; stands = fits.stands }) (λ input. read_over input primitive)
-      (λ input. ap (λ (p : Option Primitive). finish input table k (sized_leaf input p size s)) is
-      ∙ ap (λ (p : Option Primitive). finish input table k (leaf_of input p s)) sized
-      ∙ ap (λ (b : Bool). finish input table k (cond b (spend (whole_of input primitive).tally (read_over input primitive))
+      (λ input. ap (λ (p : Option Primitive). finish input table k (sized_leaf input nil p size s)) is
+      ∙ ap (λ (p : Option Primitive). finish input table k (leaf_of input nil p s)) sized
+      ∙ ap (λ (b : Bool). finish input table k (cond b (spend (whole_of input nil primitive).tally (read_over input primitive))
       (ended (Failed LengthOutOfRange s.at) s))) has
-      ∙ ap (finish input table k) (sym (spend-nothing (spend (whole_of input primitive).tally (read_over input primitive)))))
+      ∙ ap (finish input table k) (sym (spend-nothing (spend (whole_of input nil primitive).tally (read_over input primitive)))))
       missing
 
   resized-waits : (limits : Limits) (prim : ℕ) (size : TextSize) (first : Primitive) (primitive : Option Primitive) (k : List Frame) → slice_get table.primitives prim ≡ Some first
-      → resized size first ≡ primitive → (read_resized limits (Sized prim size) held primitive k s).waits ≡ true
-      → Waits table held (Sized prim size) k s (read_resized limits (Sized prim size) held primitive k s)
+      → resized size first ≡ primitive → (read_resized limits (Sized prim size) held nil primitive k s).waits ≡ true
+      → Waits table held (Sized prim size) k s (read_resized limits (Sized prim size) held nil primitive k s)
   resized-waits limits prim size first None k is sized waits = absurd (cc)
   resized-waits limits prim size first (Some primitive) k is sized waits =
       sized-room-waits limits prim size first primitive k is sized (has_room primitive s.at s.stop) refl waits
 
   sized-waits : (limits : Limits) (prim : ℕ) (size : TextSize) (primitive : Option Primitive) (k : List Frame) → slice_get table.primitives prim ≡ primitive
-      → (read_sized limits held prim size primitive k s).waits ≡ true
-      → Waits table held (Sized prim size) k s (read_sized limits held prim size primitive k s)
+      → (read_sized limits held prim size nil primitive k s).waits ≡ true
+      → Waits table held (Sized prim size) k s (read_sized limits held prim size nil primitive k s)
   sized-waits limits prim size None k is waits = absurd (cc)
   sized-waits limits prim size (Some primitive) k is waits = resized-waits limits prim size primitive (resized size primitive) k is refl waits
 
@@ -212,14 +217,14 @@ module _ (table : Table) (held : Held) (s : State) where
         let here : Reading Find = ask (seen_at (from_byte held (anchor s))) (program primitive s.at s.stop) nothing in
         let missing : here.reached ≡ Missing = is_lost here.reached waits in
         let first : ℕ = content_begins primitive s.at in
-        look-waits one_row refl refl (Enter id) primitive k _ _
+        look-waits one_row refl refl (Enter id) None primitive k _ _
         (ap (λ (r : Reached Find). landed_prefix limits id own first next r k s) missing)
         (λ input fits. record { agrees = fits.agrees; size = fits.size; stands = fits.stands })
-        (λ input. land_prefix input.limits own first (follow input) (whole_of input primitive).reached s)
+        (λ input. land_prefix input.limits own first (follow input) (whole_of input None primitive).reached s)
         (λ input. means input
         ∙ ap (λ (p : Option Primitive). finish input table k (spend one_row (prefixed input p own (follow input) s))) is
         ∙ ap (λ (b : Bool). finish input table k (spend one_row (cond b
-        (spend (whole_of input primitive).tally (land_prefix input.limits own first (follow input) (whole_of input primitive).reached s))
+        (spend (whole_of input None primitive).tally (land_prefix input.limits own first (follow input) (whole_of input None primitive).reached s))
         (ended (Failed LengthOutOfRange s.at) s)))) has)
         missing
 
@@ -355,7 +360,7 @@ module _ (table : Table) (held : Held) (s : State) where
       → Waits table held (Enter id) k s (enter limits table held id r k s)
   unfolding meaning
   enter-waits limits id None k at waits = absurd (cc)
-  enter-waits limits id (Some (Leaf prim)) k at waits = leaf-waits limits id prim (slice_get table.primitives (read_by s.instead prim)) k refl at waits
+  enter-waits limits id (Some (Leaf prim)) k at waits = leaf-waits limits id prim (slice_get table.primitives (read_by table.primitives s.instead prim)) k refl at waits
   enter-waits limits id (Some (Elem name simple tried body)) k at waits =
       absurd (element-on limits.nodes id (record { complex = has_elements simple; tried = tried; body = body }) k tried.are_several waits)
   enter-waits limits id (Some (Skip bits)) k at waits =
@@ -366,8 +371,8 @@ module _ (table : Table) (held : Held) (s : State) where
   enter-waits limits id (Some (Boxed bits body)) k at waits = absurd (cc)
   enter-waits limits id (Some (PrefixedLeaf prefix prim)) k at waits =
       let by : Option Primitive = slice_get table.primitives prefix.prim in
-      prefix-waits limits id prefix.own (λ input units after. sized_leaf input (slice_get table.primitives (read_by s.instead prim)) (size_of prefix.unit units) after)
-      (behind_units table.primitives prefix.unit (behind.Leaf (read_by s.instead prim))) k by
+      prefix-waits limits id prefix.own (λ input units after. sized_leaf input nil (slice_get table.primitives (read_by table.primitives s.instead prim)) (size_of prefix.unit units) after)
+      (behind_units table.primitives prefix.unit (behind.Leaf (read_by table.primitives s.instead prim))) k by
       (λ input. ap (λ (r : Option Row). finish input table k (spend one_row (row input table (below input table id) id r s))) at)
       by refl waits
   enter-waits limits id (Some (PrefixedBox prefix body)) k at waits =

@@ -7,6 +7,7 @@ use Rattle.dfdl_grammar.specs.Framing.{fill_to}
 use Rattle.dfdl_grammar.specs.Boxes.{bytes_up_to, pass_bytes, rest, unboxed}
 use Rattle.dfdl_grammar.specs.Elements.{attempted, close}
 use Rattle.dfdl_grammar.specs.Representations.{or_else, the_last, then_empty, then_normal}
+use Rattle.dfdl_grammar.specs.Leaves.{nil_values}
 use Rattle.dfdl_grammar.specs.Prefixes.{sized_leaf}
 use Rattle.dfdl_grammar.specs.Rows.{below, group, meaning}
 use Rattle.dfdl_parse.specs.declared.frame.Frame.{Frame}
@@ -49,7 +50,7 @@ focused input table (Enter id) s = meaning input table id s
 focused input table (Pass to) s = fill_to input to s
 focused input table (PassRest bit outer) s =
     let passed : Outcome = pass_bytes input (bytes_up_to s.stop (bit / 8)) (bit / 8) s in unboxed passed.end outer passed
-focused input table (Sized prim size) s = sized_leaf input (slice_get table.primitives prim) size s
+focused input table (Sized prim size) s = sized_leaf input (nil_values table.primitives s.instead) (slice_get table.primitives prim) size s
 focused input table (Leave end) s = ended end s
 
 -- the outcome of the whole

@@ -9,6 +9,7 @@ pub mod Shown
 pub mod Steps
 pub mod Strings
 pub mod Nils
+pub mod Patterned
 pub mod Ahead
 pub mod Runs
 pub mod Running

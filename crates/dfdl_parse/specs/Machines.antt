@@ -12,7 +12,8 @@ use Rattle.dfdl_looks.specs.Tallies.{nothing, one_row, saw_byte, saw_end, saw_no
 use Rattle.dfdl_grammar.specs.declared.end.End.{End}
 use Rattle.dfdl_grammar.specs.declared.end.End.TheVariants.{Done, Failed, Stopped}
 use Rattle.dfdl_grammar.specs.declared.limits.Limits.{Limits}
-use Rattle.dfdl_grammar.specs.States.{State, anchor_at, read_by}
+use Rattle.dfdl_grammar.specs.States.{State, anchor_at}
+use Rattle.dfdl_grammar.specs.Leaves.{nil_values, read_by}
 use Rattle.dfdl_grammar.specs.Framing.{aligned}
 use Rattle.dfdl_grammar.specs.Marks.{closed}
 use Rattle.dfdl_grammar.specs.Elements.{has_elements, left}
@@ -111,7 +112,8 @@ enter_group held id (child ∷ rest) k s = pass one_row held (Enter child) (Rest
 -- a row begins
 abbrev pub enter : Limits → Table → Held → ℕ → Option Row → List Frame → State → Move
 enter limits table held id None k s = pass one_row held (Leave Done) k s
-enter limits table held id (Some (Leaf prim)) k s = read_leaf one_row limits (Enter id) held (slice_get table.primitives (read_by s.instead prim)) k s
+enter limits table held id (Some (Leaf prim)) k s =
+    read_leaf one_row limits (Enter id) held (nil_values table.primitives s.instead) (slice_get table.primitives (read_by table.primitives s.instead prim)) k s
 enter limits table held id (Some (Elem name simple tried body)) k s =
     enter_element limits.nodes held id (record { complex = has_elements simple; tried = tried; body = body }) k s
 enter limits table held id (Some (Group children)) k s = enter_group held id children k s
@@ -119,7 +121,8 @@ enter limits table held id (Some (Skip bits)) k s = enter_fill held (s.at + bits
 enter limits table held id (Some (Align bits)) k s = enter_fill held (aligned bits s.at) k s
 enter limits table held id (Some (Boxed bits body)) k s = enter_box held bits body k s
 enter limits table held id (Some (PrefixedLeaf prefix prim)) k s =
-    read_prefix limits id held prefix.own (behind_units table.primitives prefix.unit (behind.Leaf (read_by s.instead prim))) (slice_get table.primitives prefix.prim) k s
+    read_prefix limits id held prefix.own (behind_units table.primitives prefix.unit (behind.Leaf (read_by table.primitives s.instead prim)))
+    (slice_get table.primitives prefix.prim) k s
 enter limits table held id (Some (PrefixedBox prefix body)) k s =
     read_prefix limits id held prefix.own (behind_units table.primitives prefix.unit (behind.Box body)) (slice_get table.primitives prefix.prim) k s
 
@@ -153,7 +156,8 @@ abbrev pub step : Limits → Table → Held → Focus → List Frame → State �
 step limits table held (Enter id) k s = enter limits table held id (slice_get table.rows id) k s
 step limits table held (Pass to) k s = fill limits held to k s
 step limits table held (PassRest bit outer) k s = pass_rest limits held bit outer k s
-step limits table held (Sized prim size) k s = read_sized limits held prim size (slice_get table.primitives prim) k s
+step limits table held (Sized prim size) k s =
+    read_sized limits held prim size (nil_values table.primitives s.instead) (slice_get table.primitives prim) k s
 step limits table held (Leave end) [] s = pass nothing held (Leave end) [] s
 step limits table held (Leave end) (frame ∷ k) s = leave limits table held frame end k s
 

@@ -4,6 +4,7 @@ use Rattle.dfdl_bits.specs.Window.{Held, from_byte, seen_at}
 use Rattle.dfdl_report.specs.declared.cause.LimitCause.TheVariants.{Window}
 use Rattle.dfdl_report.specs.declared.cause.ParseCause.TheVariants.{LengthOutOfRange}
 use Rattle.dfdl_terms.specs.declared.prefix.LengthUnit.{LengthUnit}
+use Rattle.dfdl_value.specs.declared.value.Value.{Value}
 use Rattle.dfdl_terms.specs.declared.row.Primitive.{Primitive}
 use Rattle.dfdl_terms.specs.declared.text.TextSize.{TextSize}
 use Rattle.dfdl_terms.specs.declared.text.TextSize.TheVariants.{Bits, Characters}
@@ -83,11 +84,11 @@ read_prefix limits id held own next (Some primitive) k s =
     else pass one_row held (Leave (Failed LengthOutOfRange s.at)) k s
 
 -- the leaf of a primitive that can have the size that was told
-abbrev pub read_resized : Limits → Focus → Held → Option Primitive → List Frame → State → Move
-read_resized limits focus held None k s = pass nothing held (Leave (Failed LengthOutOfRange s.at)) k s
-read_resized limits focus held (Some primitive) k s = read_leaf nothing limits focus held (Some primitive) k s
+abbrev pub read_resized : Limits → Focus → Held → Option (List Value) → Option Primitive → List Frame → State → Move
+read_resized limits focus held nil None k s = pass nothing held (Leave (Failed LengthOutOfRange s.at)) k s
+read_resized limits focus held nil (Some primitive) k s = read_leaf nothing limits focus held nil (Some primitive) k s
 
 -- the leaf of a primitive that has this size in place of its own
-abbrev pub read_sized : Limits → Held → ℕ → TextSize → Option Primitive → List Frame → State → Move
-read_sized limits held prim size None k s = pass nothing held (Leave Done) k s
-read_sized limits held prim size (Some primitive) k s = read_resized limits (Sized prim size) held (resized size primitive) k s
+abbrev pub read_sized : Limits → Held → ℕ → TextSize → Option (List Value) → Option Primitive → List Frame → State → Move
+read_sized limits held prim size nil None k s = pass nothing held (Leave Done) k s
+read_sized limits held prim size nil (Some primitive) k s = read_resized limits (Sized prim size) held nil (resized size primitive) k s

@@ -90,6 +90,8 @@ IsNumber (primitive.Octets form) = ⊥
 IsNumber (primitive.Text form) = ⊥
 IsNumber (primitive.NilOctets form) = ⊥
 IsNumber (primitive.Default form) = ⊥
+IsNumber (primitive.NilValues form) = ⊥
+IsNumber (primitive.Pattern form) = ⊥
 
 -- the answer is this reading of a leaf, in so many looks
 pub record Answers (reading : Reading Find) (scratch : Scratch) (glance : Glance) (looks_made : ℕ) : Type 0 where

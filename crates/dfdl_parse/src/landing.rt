@@ -7,25 +7,25 @@ ghost use Rattle.dfdl_region.specs.Nodes.{with_content};
 ghost use Rattle.dfdl_grammar.specs.declared.end.End.{End as AnyEnd};
 ghost use Rattle.dfdl_grammar.specs.declared.end.End.TheVariants.{Done};
 ghost use Rattle.dfdl_grammar.specs.Outcomes.{ended};
-ghost use Rattle.dfdl_grammar.specs.Leaves.{Find, content_begins, failing_bit, has_room, hold, program};
+ghost use Rattle.dfdl_grammar.specs.Leaves.{Find, content_begins, failing_bit, has_room, hold, nil_values, program_for, read_by, values_in};
 ghost use Rattle.dfdl_looks.specs.Asks.{Reading, ask};
 ghost use Rattle.dfdl_looks.specs.Tallies.{Tally, nothing};
-ghost use Rattle.dfdl_grammar.specs.States.{anchor, read_by};
+ghost use Rattle.dfdl_grammar.specs.States.{anchor};
 ghost use Rattle.dfdl_parse.specs.Opens.{IsHeld};
 ghost use Rattle.dfdl_parse.specs.Moves.{read_leaf, read_move};
 ghost use Rattle.dfdl_parse.specs.Steps.{Answers, HasPiece, IsFree, IsWithin, Moved};
 ghost use Rattle.dfdl_parse.specs.Shown.{Comes, HasSameLimits, limits_of, state_of};
-ghost use Rattle.dfdl_parse.specs.Views.{IsSound, primitive_of};
+ghost use Rattle.dfdl_parse.specs.Views.{IsSound, primitive_of, wanted as wanted_of};
 
 use crate::frame::Focus;
-use crate::leaf::{Found, Glance, read_leaf};
+use crate::leaf::{Found, Glance, read_wanted};
 use crate::parser::Parser;
-use crate::view::{Leaf, content_begins, has_room};
+use crate::view::{Leaf, Wanted, content_begins, has_room};
 use dfdl_bits::{Steps, Window};
 use dfdl_grammar::End;
 use dfdl_region::Content;
 use dfdl_report::{LimitCause, ParseCause};
-use dfdl_terms::Terms;
+use dfdl_terms::{Primitive, Terms};
 use std::alloc::AllocError;
 use std::sync::ledger::Ledger;
 
@@ -41,33 +41,47 @@ impl Parser {
         requires base { IsHeld sight.old.base self.old.at (state_of self.old) }
         requires at { self.old.at ≤ 8 * end_of sight.old }
         ensures moved { IfOk result (λ waits. (cost : Tally) → IsFree cost → Moved
-            (read_leaf cost (limits_of self.old sight.old) self.old.focus sight.old
-            (slice_get terms.now.primitives (read_by self.old.instead prim)) self.old.stack (state_of self.old))
+            (read_leaf cost (limits_of self.old sight.old) self.old.focus sight.old (nil_values terms.now.primitives self.old.instead)
+            (slice_get terms.now.primitives (read_by terms.now.primitives self.old.instead prim)) self.old.stack (state_of self.old))
             waits self.old.far self.new sight.new (steps.new - steps.old)) }
         ensures steps { steps.old ≤ steps.new }
         ensures most { OnOk result (HasSameLimits self.old self.new) }
         ensures at { OnOk result (self.new.at ≤ 8 * end_of sight.new) }
     {
-        let prim = self.read_by(prim);
+        let prim = self.read_by(terms, prim);
+        let wanted = self.wanted(terms);
         match terms.tables().primitives().get(prim as usize) {
             None => {
                 self.focus = Focus::Leave(End::Done);
                 Ok(false)
             }
             Some(primitive) => {
-                let waits = self.read(Leaf::of(primitive), sight, steps)?;
+                let waits = self.read(Leaf::of(primitive), wanted, sight, steps)?;
                 Ok(waits)
             }
         }
     }
 
     // The primitive by which a leaf is read whose own has this number.
-    pub(crate) fn read_by(&self, prim: u32) -> u32
-        ensures { result ≡ read_by self.now.instead prim }
+    pub(crate) fn read_by(&self, terms: &Terms, prim: u32) -> u32
+        ensures { result ≡ read_by terms.now.primitives self.now.instead prim }
     {
         match self.instead {
             None => prim,
-            Some(instead) => instead,
+            Some(instead) => match values_at(terms, instead) {
+                Wanted::Any => instead,
+                Wanted::OneOf(_) => prim,
+            },
+        }
+    }
+
+    // Which values of a leaf are wanted.
+    pub(crate) fn wanted<'t>(&self, terms: &'t Terms) -> Wanted<'t>
+        ensures { wanted_of result ≡ nil_values terms.now.primitives self.now.instead }
+    {
+        match self.instead {
+            None => Wanted::Any,
+            Some(instead) => values_at(terms, instead),
         }
     }
 
@@ -75,6 +89,7 @@ impl Parser {
     pub(crate) fn read<L: Ledger>(
         &mut self,
         leaf: Leaf<'_>,
+        wanted: Wanted<'_>,
         sight: &mut Window,
         steps: &mut Steps<L>,
     ) -> Result<bool, AllocError>
@@ -82,7 +97,7 @@ impl Parser {
         requires at { self.old.at ≤ 8 * end_of sight.old }
         requires sound { IsSound (primitive_of leaf) }
         ensures moved { IfOk result (λ waits. (cost : Tally) → IsFree cost → Moved
-            (read_leaf cost (limits_of self.old sight.old) self.old.focus sight.old (Some (primitive_of leaf.entry)) self.old.stack (state_of self.old))
+            (read_leaf cost (limits_of self.old sight.old) self.old.focus sight.old (wanted_of wanted.entry) (Some (primitive_of leaf.entry)) self.old.stack (state_of self.old))
             waits self.old.far self.new sight.new (steps.new - steps.old)) }
         ensures steps { steps.old ≤ steps.new }
         ensures most { OnOk result (HasSameLimits self.old self.new) }
@@ -93,7 +108,7 @@ impl Parser {
             self.fail(ParseCause::LengthOutOfRange);
             return Ok(false);
         }
-        let waits = self.read_in_box(leaf, sight, steps)?;
+        let waits = self.read_in_box(leaf, wanted, sight, steps)?;
         Ok(waits)
     }
 
@@ -101,6 +116,7 @@ impl Parser {
     fn read_in_box<L: Ledger>(
         &mut self,
         leaf: Leaf<'_>,
+        wanted: Wanted<'_>,
         sight: &mut Window,
         steps: &mut Steps<L>,
     ) -> Result<bool, AllocError>
@@ -110,7 +126,7 @@ impl Parser {
         requires room { has_room (primitive_of leaf) self.old.at self.old.stop ≡ true }
         ensures moved { IfOk result (λ waits. (cost : Tally) → IsFree cost → Moved
             (read_move cost (limits_of self.old sight.old) self.old.focus (content_begins (primitive_of leaf.entry) self.old.at) (from_byte sight.old (anchor (state_of self.old)))
-            (ask (seen_at (from_byte sight.old (anchor (state_of self.old)))) (program (primitive_of leaf.entry) self.old.at self.old.stop) nothing)
+            (ask (seen_at (from_byte sight.old (anchor (state_of self.old)))) (program_for (wanted_of wanted.entry) (primitive_of leaf.entry) self.old.at self.old.stop) nothing)
             self.old.stack (state_of self.old))
             waits self.old.far self.new sight.new (steps.new - steps.old)) }
         ensures steps { steps.old ≤ steps.new }
@@ -119,7 +135,7 @@ impl Parser {
     {
         let _end = sight.end();
         let first = content_begins(leaf, self.at);
-        let glance = self.glance(leaf, sight, steps)?;
+        let glance = self.glance(leaf, wanted, sight, steps)?;
         Ok(self.land(glance, first, sight.size() as u64))
     }
 
@@ -128,6 +144,7 @@ impl Parser {
     pub(crate) fn glance<L: Ledger>(
         &mut self,
         leaf: Leaf<'_>,
+        wanted: Wanted<'_>,
         sight: &mut Window,
         steps: &mut Steps<L>,
     ) -> Result<Glance, AllocError>
@@ -136,7 +153,7 @@ impl Parser {
         requires sound { IsSound (primitive_of leaf) }
         requires room { has_room (primitive_of leaf) self.old.at self.old.stop ≡ true }
         ensures answers { IfOk result (λ g. Answers
-            (ask (seen_at sight.new) (program (primitive_of leaf.entry) self.old.at self.old.stop) nothing) self.new.scratch g (steps.new - steps.old)) }
+            (ask (seen_at sight.new) (program_for (wanted_of wanted.entry) (primitive_of leaf.entry) self.old.at self.old.stop) nothing) self.new.scratch g (steps.new - steps.old)) }
         ensures held { sight.new ≡ from_byte sight.old (anchor (state_of self.old)) }
         ensures end { end_of sight.new ≡ end_of sight.old }
         ensures steps { steps.old ≤ steps.new }
@@ -146,7 +163,15 @@ impl Parser {
     {
         let _end = sight.end();
         sight.drop_before(self.anchor_at(self.at));
-        let glance = read_leaf(leaf, self.at, self.stop, sight, &mut self.scratch, steps)?;
+        let glance = read_wanted(
+            wanted,
+            leaf,
+            self.at,
+            self.stop,
+            sight,
+            &mut self.scratch,
+            steps,
+        )?;
         Ok(glance)
     }
 
@@ -235,6 +260,16 @@ impl Parser {
     {
         let most = u64::from(self.text.most());
         self.stop_at(LimitCause::Text, most);
+    }
+}
+
+// Which values are nil, where the primitive of a number tells them.
+fn values_at(terms: &Terms, prim: u32) -> Wanted<'_>
+    ensures { wanted_of result ≡ values_in (slice_get terms.now.primitives prim) }
+{
+    match terms.tables().primitives().get(prim as usize) {
+        Some(Primitive::NilValues(form)) => Wanted::OneOf(form.values.as_slice()),
+        _ => Wanted::Any,
     }
 }
 

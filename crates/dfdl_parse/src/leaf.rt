@@ -3,19 +3,21 @@ ghost use Rattle.std.specs.Prelude.{◌≡◌, ℕ, ◌+◌, ◌-◌, ◌*◌, �
 ghost use Rattle.dfdl_bits.specs.Window.{end_of, seen_at};
 ghost use Rattle.dfdl_forms.specs.BinaryNumbers.{IsIntForm, IsPackedForm, IsTruthForm};
 ghost use Rattle.dfdl_terms.specs.declared.row.Primitive.TheVariants.{Integer, Packed, Truth};
-ghost use Rattle.dfdl_grammar.specs.Leaves.{bits_of, bytes_spanned, find_in, find_of, has_room, packed_find, program};
+ghost use Rattle.dfdl_grammar.specs.Leaves.{bits_of, bytes_spanned, find_in, find_of, has_room, packed_find, program, program_for};
 ghost use Rattle.dfdl_looks.specs.Asks.{Told, ask};
 ghost use Rattle.dfdl_looks.specs.Tallies.{nothing};
 ghost use Rattle.dfdl_bits.specs.declared.window.Seen.TheVariants.{Byte};
 ghost use Rattle.dfdl_parse.specs.declared.leaf.Scratch.{Scratch as AnyScratch};
 ghost use Rattle.dfdl_parse.specs.Steps.{Answers, CutShort, HasNone, HasPiece, IsNumber, IsPlain, IsWithin, far_of_run, found_shown};
-ghost use Rattle.dfdl_parse.specs.Views.{IsSound, primitive_of};
+ghost use Rattle.dfdl_parse.specs.Views.{IsSound, primitive_of, wanted as wanted_of};
 
 use crate::defaults::read_default;
+use crate::nil_values::nil_value_found;
 use crate::nils::read_nil_octets;
 use crate::octets::read_octets;
+use crate::patterns::read_pattern;
 use crate::strings::read_string;
-use crate::view::{Leaf, number_bits};
+use crate::view::{Leaf, Wanted, number_bits};
 use dfdl_bits::{Seen, Steps, Window, number_at};
 use dfdl_forms::{BitTruthForm, Form, IntForm, PackedForm};
 use dfdl_int_binary::{read, read_truth};
@@ -29,12 +31,15 @@ use std::sync::ledger::Ledger;
 /// What is read before it has a place in the regions.
 #[derive(Drop)]
 pub(crate) struct Scratch {
-    /// the characters of a string, before they are trimmed
+    /// the characters of a string, before they are trimmed, or those in which a pattern is sought
     pub(crate) characters: Vec<char>,
     /// the bytes of a hexBinary, of a default, or of characters that may be nil
     pub(crate) octets: Vec<u8>,
     /// the places of a text that a literal can end at
     pub(crate) places: Vec<bool>,
+    /// the text in which a pattern is sought
+    pub(crate) text: String,
+    pub(crate) alloc: Global,
 }
 
 impl Scratch {
@@ -48,6 +53,8 @@ impl Scratch {
             characters: Vec::new(alloc),
             octets: Vec::new(alloc),
             places: Vec::new(alloc),
+            text: String::new(alloc),
+            alloc,
         }
     }
 }
@@ -118,6 +125,47 @@ pub(crate) fn read_leaf<L: Ledger>(
             let glance = read_default(form, size, bit, scratch)?;
             Ok(glance)
         }
+        Leaf::NilValues(_) => Ok(Glance {
+            found: Found::Fails(ParseCause::RequiredEmpty),
+            far: 0,
+        }),
+        Leaf::Pattern(form) => {
+            let glance = read_pattern(form, bit, stop, sight, scratch, steps)?;
+            Ok(glance)
+        }
+    }
+}
+
+/// Reads a leaf of which these values are wanted.
+pub(crate) fn read_wanted<L: Ledger>(
+    wanted: Wanted<'_>,
+    leaf: Leaf<'_>,
+    bit: u64,
+    stop: u64,
+    sight: &Window,
+    scratch: &mut Scratch,
+    steps: &mut Steps<L>,
+) -> Result<Glance, AllocError>
+    requires base { sight.now.base ≤ bit / 8 }
+    requires at { bit ≤ 8 * end_of sight.now }
+    requires bound { end_of sight.now ≤ 2 ^ 60 }
+    requires sound { IsSound (primitive_of leaf) }
+    requires room { has_room (primitive_of leaf) bit stop ≡ true }
+    ensures answers { IfOk result (λ g. Answers (ask (seen_at sight.now) (program_for (wanted_of wanted.entry) (primitive_of leaf.entry) bit stop) nothing) scratch.new g (steps.new - steps.old)) }
+    ensures steps { steps.old ≤ steps.new }
+    ensures within { IfOk result (λ g. IsWithin g.found (end_of sight.now)) }
+    ensures pieces { IfOk result (λ g. HasPiece g.found scratch.new) }
+{
+    let glance = read_leaf(leaf, bit, stop, sight, scratch, steps)?;
+    match wanted {
+        Wanted::Any => Ok(glance),
+        Wanted::OneOf(values) => {
+            let found = nil_value_found(values, glance.found, scratch)?;
+            Ok(Glance {
+                found,
+                far: glance.far,
+            })
+        }
     }
 }
 
@@ -163,6 +211,8 @@ fn found_in(leaf: Leaf<'_>, bit: u64, bytes: &[u8]) -> Found
         Leaf::Text { .. } => unreachable!(),
         Leaf::NilOctets { .. } => unreachable!(),
         Leaf::Default { .. } => unreachable!(),
+        Leaf::NilValues(_) => unreachable!(),
+        Leaf::Pattern(_) => unreachable!(),
     }
 }
 

@@ -21,11 +21,13 @@ mod leaf_tests;
 pub mod marks;
 #[cfg(test)]
 mod nil_tests;
+mod nil_values;
 mod nils;
 mod octets;
 mod outcome;
 pub mod parser;
 mod path;
+mod patterns;
 #[cfg(test)]
 mod prefix_tests;
 mod prefixes;

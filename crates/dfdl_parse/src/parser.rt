@@ -208,7 +208,7 @@ impl Parser {
                 Ok(false)
             }
             Row::PrefixedLeaf { prefix, prim } => {
-                let behind = Behind::Leaf(self.read_by(*prim));
+                let behind = Behind::Leaf(self.read_by(terms, *prim));
                 let waits = self.begin_prefix(terms, id, prefix, behind, sight, steps)?;
                 Ok(waits)
             }

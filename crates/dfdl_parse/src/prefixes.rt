@@ -2,7 +2,7 @@
 ghost use Rattle.std.specs.Prelude.{◌≡◌, ℕ, ◌+◌, ◌-◌, ◌*◌, ◌/◌, ◌^◌, ◌<◌, ◌≤◌, Some, true, false, IfOk, IfSome, IfNone, OnOk, length, slice_get};
 ghost use Rattle.dfdl_bits.specs.Window.{Held, end_of, from_byte, seen_at};
 ghost use Rattle.dfdl_terms.specs.declared.row.Primitive.{Primitive as AnyPrimitive};
-ghost use Rattle.dfdl_grammar.specs.Leaves.{Find, content_begins, has_room, program};
+ghost use Rattle.dfdl_grammar.specs.Leaves.{Find, content_begins, has_room, nil_values, program};
 ghost use Rattle.dfdl_grammar.specs.Prefixes.{bits_of_units, size_of, units_left, units_told};
 ghost use Rattle.dfdl_looks.specs.Asks.{Reading, ask};
 ghost use Rattle.dfdl_looks.specs.Tallies.{nothing};
@@ -18,7 +18,7 @@ use crate::frame::{Behind, Focus};
 use crate::landing::failing_bit;
 use crate::leaf::{Found, Glance};
 use crate::parser::Parser;
-use crate::view::{Leaf, content_begins, has_room};
+use crate::view::{Leaf, Wanted, content_begins, has_room};
 use dfdl_bits::{Steps, Window};
 use dfdl_grammar::End;
 use dfdl_region::Content;
@@ -87,7 +87,7 @@ impl Parser {
     {
         let _end = sight.end();
         let first = content_begins(leaf, self.at);
-        let glance = self.glance(leaf, sight, steps)?;
+        let glance = self.glance(leaf, Wanted::Any, sight, steps)?;
         let window = sight.size() as u64;
         let waits = self.land_prefix(terms, glance, prefix, behind, first, window)?;
         Ok(waits)
@@ -224,7 +224,7 @@ impl Parser {
         requires base { IsHeld sight.old.base self.old.at (state_of self.old) }
         requires at { self.old.at ≤ 8 * end_of sight.old }
         ensures moved { IfOk result (λ waits. Moved
-            (read_sized (limits_of self.old sight.old) sight.old prim size (slice_get terms.now.primitives prim) self.old.stack (state_of self.old))
+            (read_sized (limits_of self.old sight.old) sight.old prim size (nil_values terms.now.primitives self.old.instead) (slice_get terms.now.primitives prim) self.old.stack (state_of self.old))
             waits self.old.far self.new sight.new (steps.new - steps.old)) }
         ensures steps { steps.old ≤ steps.new }
         ensures most { OnOk result (HasSameLimits self.old self.new) }
@@ -241,7 +241,8 @@ impl Parser {
                 Ok(false)
             }
             Some(leaf) => {
-                let waits = self.read(leaf, sight, steps)?;
+                let wanted = self.wanted(terms);
+                let waits = self.read(leaf, wanted, sight, steps)?;
                 Ok(waits)
             }
         }

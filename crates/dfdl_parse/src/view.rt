@@ -10,7 +10,11 @@ ghost use Rattle.dfdl_parse.specs.Views.{IsSound, primitive_of};
 
 use crate::framing::aligned;
 use dfdl_forms::{BitTruthForm, IntForm, PackedForm};
-use dfdl_terms::{DefaultForm, NilOctets, OctetForm, Primitive, TextContent, TextForm, TextSize};
+use dfdl_terms::{
+    DefaultForm, NilOctets, NilValues, OctetForm, PatternForm, Primitive, TextContent, TextForm,
+    TextSize,
+};
+use dfdl_value::Value;
 
 /// A primitive with the size that its box has, which may be another than its own.
 #[derive(Clone, Copy)]
@@ -31,6 +35,17 @@ pub(crate) enum Leaf<'p> {
         form: &'p DefaultForm,
         size: TextSize,
     },
+    NilValues(&'p NilValues),
+    Pattern(&'p PatternForm),
+}
+
+/// Which values of a leaf are wanted.
+#[derive(Clone, Copy)]
+pub(crate) enum Wanted<'p> {
+    /// Any value.
+    Any,
+    /// One of these, which are nil.
+    OneOf(&'p [Value]),
 }
 
 impl<'p> Leaf<'p> {
@@ -56,6 +71,8 @@ impl<'p> Leaf<'p> {
                 form,
                 size: form.size,
             },
+            Primitive::NilValues(form) => Leaf::NilValues(form),
+            Primitive::Pattern(form) => Leaf::Pattern(form),
         }
     }
 
@@ -73,6 +90,8 @@ impl<'p> Leaf<'p> {
             Primitive::Octets(form) => octets_in_box(*form, size),
             Primitive::NilOctets(form) => nil_in_box(form, size),
             Primitive::Default(form) => Some(Leaf::Default { form, size }),
+            Primitive::NilValues(_) => None,
+            Primitive::Pattern(_) => None,
         }
     }
 }
@@ -103,6 +122,8 @@ pub(crate) fn content_begins(leaf: Leaf<'_>, bit: u64) -> u64
         Leaf::Text { form, size } => text_begins(&form.content, size, bit),
         Leaf::NilOctets { .. } => bit,
         Leaf::Default { .. } => bit,
+        Leaf::NilValues(_) => bit,
+        Leaf::Pattern(_) => aligned(8, bit),
     }
 }
 
@@ -147,6 +168,8 @@ fn content_ends(leaf: Leaf<'_>, bit: u64, stop: u64) -> Option<u64>
         Leaf::Text { size, .. } => text_ends(size, bit, stop),
         Leaf::NilOctets { bits, .. } => bit.checked_add(bits),
         Leaf::Default { size, .. } => text_ends(size, bit, stop),
+        Leaf::NilValues(_) => Some(bit),
+        Leaf::Pattern(_) => Some(stop),
     }
 }
 
@@ -177,6 +200,8 @@ pub(crate) fn number_bits(leaf: Leaf<'_>) -> u64
         Leaf::Text { .. } => unreachable!(),
         Leaf::NilOctets { .. } => unreachable!(),
         Leaf::Default { .. } => unreachable!(),
+        Leaf::NilValues(_) => unreachable!(),
+        Leaf::Pattern(_) => unreachable!(),
     }
 }
 

@@ -1,0 +1,52 @@
+-- The reading of a pattern, by that of its text; how many bytes the characters of a match have.
+use Rattle.std.proofs.Common.{◌≡◌, ℕ, ◌+◌, ◌/◌, min, false, List, refl, ap, sym, subst, ◌∙◌}
+use Rattle.dfdl_bits.specs.declared.window.Seen.{Seen}
+use Rattle.dfdl_looks.specs.Asks.{Ask, Answer, Reached, Told, TooFar, Missing, Reading, and_then, ask, go_on}
+use Rattle.dfdl_looks.specs.Tallies.{Tally, nothing}
+use Rattle.dfdl_looks.proofs.Sequels.{ask-then}
+use Rattle.dfdl_terms.specs.declared.text.PatternForm.{PatternForm}
+use Rattle.dfdl_texts.specs.Texts.{Text, text_at}
+use Rattle.dfdl_texts.specs.declared.extent.Extent.TheVariants as extent
+use Rattle.dfdl_grammar.specs.Framing.{aligned}
+use Rattle.dfdl_grammar.specs.Patterns.{most_sought}
+use Rattle.dfdl_texts.specs.Readings.{Answers as TextAnswers, found_shown as text_shown}
+use Rattle.dfdl_texts.specs.declared.found.Glance.{Glance as TextGlance}
+use Rattle.dfdl_grammar.specs.Leaves.{Find, pattern_find, sought}
+use Rattle.dfdl_parse.specs.declared.leaf.Found.{Found}
+use Rattle.dfdl_parse.specs.declared.leaf.Scratch.{Scratch}
+use Rattle.dfdl_parse.specs.Patterned.{pattern_reached}
+use Rattle.dfdl_parse.specs.Steps.{Answers, found_shown}
+
+module _ (look : ℕ → Seen) (form : PatternForm) (first : ℕ) where
+  behind-pattern : (r : Reached Text) (t : Tally)
+      → go_on look (λ text. Answer (pattern_find form first text)) r t ≡ record { reached = pattern_reached form first r; tally = t }
+  behind-pattern (Told text) t = refl
+  behind-pattern TooFar t = refl
+  behind-pattern Missing t = refl
+
+  -- the answer of a pattern, by that of its text
+  pub pattern-read : (text : Ask Text) (chars : List ℕ) (glance : TextGlance) (looks : ℕ) (scratch : Scratch) (found : Found)
+      → TextAnswers (ask look text nothing) chars glance looks
+      → found_shown scratch found ≡ pattern_reached form first (text_shown chars glance.found)
+      → Answers (ask look (and_then text (λ text. Answer (pattern_find form first text))) nothing) scratch (record { found = found; far = glance.far }) looks
+  pattern-read text chars glance looks scratch found answers shown =
+      let here : Reading Text = ask look text nothing in
+      let whole : ask look (and_then text (λ text. Answer (pattern_find form first text))) nothing
+          ≡ record { reached = pattern_reached form first here.reached; tally = here.tally } =
+      ask-then look (λ text. Answer (pattern_find form first text)) text nothing ∙ behind-pattern here.reached here.tally in
+      record {
+        reached = ap (λ (r : Reading Find). r.reached) whole ∙ ap (pattern_reached form first) answers.reached ∙ sym shown;
+        looks = ap (λ (r : Reading Find). r.tally.looks) whole ∙ answers.looks;
+        far = ap (λ (r : Reading Find). r.tally.far) whole ∙ answers.far;
+      }
+
+-- the same from the next whole byte behind a bit on, up to the end of its box or of so many bits
+pub sought-read : (look : ℕ → Seen) (form : PatternForm) (bit stop first last : ℕ) → first ≡ aligned 8 bit → last ≡ min stop (first + most_sought)
+    → (chars : List ℕ) (glance : TextGlance) (looks : ℕ) (scratch : Scratch) (found : Found)
+    → TextAnswers (ask look (text_at form.encoding false extent.Front last (first / 8)) nothing) chars glance looks
+    → found_shown scratch found ≡ pattern_reached form first (text_shown chars glance.found)
+    → Answers (ask look (sought form (aligned 8 bit) stop) nothing) scratch (record { found = found; far = glance.far }) looks
+sought-read look form bit stop first last at ends chars glance looks scratch found answers shown =
+    subst (λ (f : ℕ). Answers (ask look (sought form f stop) nothing) scratch (record { found = found; far = glance.far }) looks) at
+    (pattern-read look form first (text_at form.encoding false extent.Front (min stop (first + most_sought)) (first / 8)) chars glance looks scratch found
+    (subst (λ (l : ℕ). TextAnswers (ask look (text_at form.encoding false extent.Front l (first / 8)) nothing) chars glance looks) ends answers) shown)

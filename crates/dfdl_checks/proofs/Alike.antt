@@ -43,4 +43,5 @@ same-component a b alike = λ i. record {
   facts = alike.facts i;
   root_bits_by = alike.root_bits_by i;
   prefix = same-prefix a.prefix b.prefix alike.prefix i;
+  pattern_is_refused = alike.pattern_is_refused i;
 }

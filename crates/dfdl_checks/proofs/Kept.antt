@@ -4,11 +4,12 @@ use Rattle.std.specs.Option.{option_map_or}
 use Rattle.dfdl_report.specs.declared.cause.SchemaCause.{SchemaCause}
 use Rattle.dfdl_report.specs.declared.cause.SchemaCause.TheVariants as causes
 use Rattle.dfdl_report.specs.declared.place.Place.{Place}
-use Rattle.dfdl_checks.specs.Rules.{breach_of, first_breach, rules, is_unbuilt, property_twice, is_property_missing, is_value_not_carried, is_expression_not_allowed, is_literal_malformed, is_type_not_carried, is_max_length_missing, is_length_kind_not_allowed, is_length_in_characters, is_length_out_of_range, is_prefix_type_not_allowed, is_prefix_not_whole, are_orders_apart, is_second_bit_order, is_character_not_encoded, is_alignment_not_allowed, is_pattern_malformed, are_codes_malformed, are_truths_malformed, is_pad_no_character, is_pad_malformed, is_separator_malformed, are_truth_texts_malformed, is_pad_not_encoded, is_separator_not_encoded, are_truth_texts_not_encoded, is_separator_other, are_separators_unfit, is_base_unfit, is_prefix_type_missing}
+use Rattle.dfdl_checks.specs.Rules.{breach_of, first_breach, rules, is_unbuilt, property_twice, is_property_missing, is_value_not_carried, is_expression_not_allowed, is_literal_malformed, is_type_not_carried, is_max_length_missing, is_length_kind_not_allowed, is_length_in_characters, is_length_out_of_range, is_prefix_type_not_allowed, is_prefix_not_whole, is_pattern_refused, are_orders_apart, is_second_bit_order, is_character_not_encoded, is_alignment_not_allowed, is_pattern_malformed, are_codes_malformed, are_truths_malformed, is_pad_no_character, is_pad_malformed, is_separator_malformed, are_truth_texts_malformed, is_pad_not_encoded, is_separator_not_encoded, are_truth_texts_not_encoded, is_separator_other, are_separators_unfit, is_base_unfit, is_prefix_type_missing}
 use Rattle.dfdl_checks.specs.Defaults.{is_default_not_allowed}
 use Rattle.dfdl_checks.specs.FillBytes.{is_fill_malformed, is_fill_other}
 use Rattle.dfdl_checks.specs.Flaws.{has_flaw}
-use Rattle.dfdl_checks.specs.Nils.{is_nil_malformed, is_nil_not_allowed, is_nil_not_encoded}
+use Rattle.dfdl_checks.specs.NilValues.{is_nil_not_allowed}
+use Rattle.dfdl_checks.specs.Nils.{is_nil_malformed, is_nil_not_encoded}
 use Rattle.dfdl_checks.specs.declared.flaw.Flaw.TheVariants as flaws
 use Rattle.dfdl_checks.specs.Judged.{Judged}
 use Rattle.dfdl_checks.specs.declared.subject.Breach.{Breach}
@@ -28,6 +29,7 @@ pub record IsKept (s : Judged) : Type 0 where
   pub length : is_length_out_of_range s ≡ false
   pub prefix_type : is_prefix_type_not_allowed s ≡ false
   pub prefix_length : is_prefix_not_whole s ≡ false
+  pub pattern_built : is_pattern_refused s ≡ false
   pub orders : are_orders_apart s ≡ false
   pub bit_order : is_second_bit_order s ≡ false
   pub encoded : is_character_not_encoded s ≡ false
@@ -67,7 +69,8 @@ keeps-all s none =
     let length_at = first-kept causes.ConstantLength _ _ length_units_at.1 in
     let prefix_type_at = first-kept causes.PrefixType _ _ length_at.1 in
     let prefix_length_at = first-kept causes.PrefixLength _ _ prefix_type_at.1 in
-    let orders_at = first-kept causes.OrdersApart _ _ prefix_length_at.1 in
+    let pattern_built_at = first-kept causes.PatternRefused _ _ prefix_length_at.1 in
+    let orders_at = first-kept causes.OrdersApart _ _ pattern_built_at.1 in
     let bit_order_at = first-kept causes.SecondBitOrder _ _ orders_at.1 in
     let encoded_at = first-kept causes.EncodingNotAllowed _ _ bit_order_at.1 in
     let alignment_at = first-kept causes.Alignment _ _ encoded_at.1 in
@@ -91,6 +94,7 @@ keeps-all s none =
       length = itself-kept _ s.place length_at.0;
       prefix_type = itself-kept _ s.place prefix_type_at.0;
       prefix_length = itself-kept _ s.place prefix_length_at.0;
+      pattern_built = itself-kept _ s.place pattern_built_at.0;
       orders = itself-kept _ s.place orders_at.0;
       bit_order = itself-kept _ s.place bit_order_at.0;
       encoded = itself-kept _ s.place encoded_at.0;

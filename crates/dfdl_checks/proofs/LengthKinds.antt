@@ -15,11 +15,11 @@ use Rattle.dfdl_checks.specs.declared.applicability.Bearers.TheVariants as beare
 use Rattle.dfdl_checks.specs.declared.purpose.Purpose.{Purpose}
 use Rattle.dfdl_checks.specs.declared.purpose.Purpose.TheVariants.{Parsing, Unparsing}
 
--- the length is that of the type, one of its own or that of a prefix
+-- the length is that of the type, one of its own, that of a prefix or by a pattern
 abbrev pub is_kind_told : Told → Bool
-is_kind_told t = is_word (codes "implicit") t || is_word (codes "explicit") t || is_word (codes "prefixed") t
+is_kind_told t = is_word (codes "implicit") t || is_word (codes "explicit") t || is_word (codes "prefixed") t || is_word (codes "pattern") t
 
--- what is told of the kind of a length: one of these three, and for unparsing that of the type
+-- what is told of the kind of a length: one of these four, and for unparsing that of the type
 pub record HasKind (purpose : Purpose) (t : Told) : Type 0 where
   pub kind : is_kind_told t ≡ true
   pub implicit : purpose ≡ Unparsing → is_word (codes "explicit") t ≡ false
@@ -56,7 +56,7 @@ implicit-alone r t has others =
     alone : (a b c : Bool) → (a || (b || (c || false))) ≡ true → (b || c) ≡ false → a ≡ true
     alone a b c h k = grind (arith, h, k)
 
--- for parsing, it is one of the three
+-- for parsing, it is one of the four
 number-told : (r : Row) (t : Told) → HasBuilt r number_kinds.parsing t → (is_word (codes "delimited") t || is_word (codes "pattern") t) ≡ false
     → is_kind_told t ≡ true
 number-told r t has others =
@@ -65,7 +65,7 @@ number-told r t has others =
     (bytes_eq (literal has.written) (codes "prefixed")) (bytes_eq (literal has.written) (codes "delimited")) (bytes_eq (literal has.written) (codes "pattern"))
     has.built_is (subst (λ t. (is_word (codes "delimited") t || is_word (codes "pattern") t) ≡ false) has.is others))
   where
-    alone : (a b c d e : Bool) → (a || (b || (c || (d || (e || false))))) ≡ true → (d || e) ≡ false → (a || b || c) ≡ true
+    alone : (a b c d e : Bool) → (a || (b || (c || (d || (e || false))))) ≡ true → (d || e) ≡ false → (a || b || c || e) ≡ true
     alone a b c d e h k = grind (arith, h, k)
 
 number-kind : (purpose : Purpose) (r : Row) (t : Told) → HasBuilt r (built_for purpose number_kinds) t
@@ -77,17 +77,17 @@ number-kind Unparsing r t has others = implicit-kind Unparsing t (implicit-alone
 abbrev boolean_kinds : Applicability
 boolean_kinds =
     applies_by (codes "lengthKind") bearers.BinaryBooleans
-    (BuiltWords (codes "implicit" ∷ codes "explicit" ∷ codes "prefixed" ∷ codes "delimited" ∷ [])) (word (codes "implicit"))
+    (BuiltWords (codes "implicit" ∷ codes "explicit" ∷ codes "prefixed" ∷ codes "delimited" ∷ codes "pattern" ∷ [])) (word (codes "implicit"))
 
 boolean-told : (r : Row) (t : Told) → HasBuilt r boolean_kinds.parsing t → is_word (codes "delimited") t ≡ false → is_kind_told t ≡ true
 boolean-told r t has other =
     subst (λ t. is_kind_told t ≡ true) (sym has.is)
     (alone (bytes_eq (literal has.written) (codes "implicit")) (bytes_eq (literal has.written) (codes "explicit"))
-    (bytes_eq (literal has.written) (codes "prefixed")) (bytes_eq (literal has.written) (codes "delimited"))
+    (bytes_eq (literal has.written) (codes "prefixed")) (bytes_eq (literal has.written) (codes "delimited")) (bytes_eq (literal has.written) (codes "pattern"))
     has.built_is (subst (λ t. is_word (codes "delimited") t ≡ false) has.is other))
   where
-    alone : (a b c d : Bool) → (a || (b || (c || (d || false)))) ≡ true → d ≡ false → (a || b || c) ≡ true
-    alone a b c d h k = grind (arith, h, k)
+    alone : (a b c d e : Bool) → (a || (b || (c || (d || (e || false))))) ≡ true → d ≡ false → (a || b || c || e) ≡ true
+    alone a b c d e h k = grind (arith, h, k)
 
 boolean-kind : (purpose : Purpose) (r : Row) (t : Told) → HasBuilt r (built_for purpose boolean_kinds) t → is_word (codes "delimited") t ≡ false
     → HasKind purpose t
@@ -97,16 +97,17 @@ boolean-kind Unparsing r t has other = implicit-kind Unparsing t (one-word (code
 -- the kinds of lengths of texts, of bytes and of complex elements
 abbrev boxed_kinds : Applicability
 boxed_kinds =
-    applies_by (codes "lengthKind") bearers.BoxedElements (BuiltWords (codes "implicit" ∷ codes "explicit" ∷ codes "prefixed" ∷ [])) (word (codes "implicit"))
+    applies_by (codes "lengthKind") bearers.BoxedElements (BuiltWords (codes "implicit" ∷ codes "explicit" ∷ codes "prefixed" ∷ codes "pattern" ∷ []))
+    (word (codes "implicit"))
 
 boxed-told : (r : Row) (t : Told) → HasBuilt r boxed_kinds.parsing t → is_kind_told t ≡ true
 boxed-told r t has =
     subst (λ t. is_kind_told t ≡ true) (sym has.is)
     (alone (bytes_eq (literal has.written) (codes "implicit")) (bytes_eq (literal has.written) (codes "explicit"))
-    (bytes_eq (literal has.written) (codes "prefixed")) has.built_is)
+    (bytes_eq (literal has.written) (codes "prefixed")) (bytes_eq (literal has.written) (codes "pattern")) has.built_is)
   where
-    alone : (a b c : Bool) → (a || (b || (c || false))) ≡ true → (a || b || c) ≡ true
-    alone a b c h = grind (arith, h)
+    alone : (a b c d : Bool) → (a || (b || (c || (d || false)))) ≡ true → (a || b || c || d) ≡ true
+    alone a b c d h = grind (arith, h)
 
 boxed-kind : (purpose : Purpose) (r : Row) (t : Told) → HasBuilt r (built_for purpose boxed_kinds) t → HasKind purpose t
 boxed-kind Parsing r t has = parsed-kind t (boxed-told r t has)
@@ -122,7 +123,7 @@ unfolding applicability_table property_table
 number-length s kept binary = number-kind s.purpose _ _ kinds not-by-content
   where
     kinds : HasBuilt kind_row (built_for s.purpose number_kinds) (told_at s (codes "lengthKind"))
-    kinds = built-by s kept 8 number_kinds refl binary _ refl refl
+    kinds = built-by s kept 9 number_kinds refl binary _ refl refl
 
     first-of : (a b c d e : Bool) → a ≡ true → ((a && (b || c)) || d || e) ≡ false → b ≡ false
     first-of a b c d e x y = grind (arith, x, y)
@@ -138,7 +139,7 @@ unfolding applicability_table property_table
 boolean-length s kept binary = boolean-kind s.purpose _ _ kinds not-delimited
   where
     kinds : HasBuilt kind_row (built_for s.purpose boolean_kinds) (told_at s (codes "lengthKind"))
-    kinds = built-by s kept 9 boolean_kinds refl binary _ refl refl
+    kinds = built-by s kept 10 boolean_kinds refl binary _ refl refl
 
     second-of : (a b c d : Bool) → b ≡ true → (a || (b && c) || d) ≡ false → c ≡ false
     second-of a b c d x y = grind (arith, x, y)
@@ -154,4 +155,4 @@ unfolding applicability_table property_table
 boxed-length s kept boxed = boxed-kind s.purpose _ _ kinds
   where
     kinds : HasBuilt kind_row (built_for s.purpose boxed_kinds) (told_at s (codes "lengthKind"))
-    kinds = built-by s kept 7 boxed_kinds refl boxed _ refl refl
+    kinds = built-by s kept 8 boxed_kinds refl boxed _ refl refl

@@ -19,6 +19,8 @@ pub mod SoundPads
 pub mod SoundTexts
 pub mod Sound
 pub mod SoundPrefixes
+pub mod SoundPatterns
+pub mod PatternBounds
 pub mod SoundNils
 pub mod Made
 pub mod Alike

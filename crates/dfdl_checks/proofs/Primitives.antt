@@ -19,7 +19,7 @@ use Rattle.dfdl_scope.specs.Expressions.{literal}
 use Rattle.dfdl_scope.specs.Scoping.{Told, Value, Absent, Twice}
 use Rattle.dfdl_terms.specs.Rows.{IsPrimitive, IsTextSize, most_length}
 use Rattle.dfdl_terms.specs.declared.row.Primitive.{Primitive}
-use Rattle.dfdl_terms.specs.declared.row.Primitive.TheVariants.{Integer, Packed, Truth, Octets, Text, NilOctets, Default}
+use Rattle.dfdl_terms.specs.declared.row.Primitive.TheVariants.{Integer, Packed, Truth, Octets, Text, NilOctets, Default, NilValues, Pattern}
 use Rattle.dfdl_terms.specs.declared.text.OctetForm.{OctetForm}
 use Rattle.dfdl_terms.specs.declared.text.TextContent.{TextContent}
 use Rattle.dfdl_terms.specs.declared.text.TextForm.{TextForm}
@@ -36,7 +36,7 @@ use Rattle.dfdl_checks.specs.Numbers.{HasBitOrder, binary_of_type, field_bits, f
 use Rattle.dfdl_checks.specs.Orders.{field_order, order_for, orders_of}
 use Rattle.dfdl_checks.specs.Packed.{allowed_codes, codes_for, codes_in, codes_of_text, codes_told, is_strict, nibbles_in, nibbles_within, are_four, rep_of, usual_codes}
 use Rattle.dfdl_checks.specs.BuiltTypes.{is_built_type, is_whole_type}
-use Rattle.dfdl_checks.specs.Subjects.{binary_bits, has_point, is_characters, is_explicit, is_octets, is_prefixed, is_string, is_text, is_text_boolean, is_text_number, is_truths, simple_of, told_at}
+use Rattle.dfdl_checks.specs.Subjects.{binary_bits, has_point, is_characters, is_explicit, is_octets, is_sized_by_data, is_string, is_text, is_text_boolean, is_text_number, is_truths, simple_of, told_at}
 use Rattle.dfdl_checks.specs.Texts.{content_of, is_replaced, octets_by, octets_of, pad_of, size_in, text_by, text_of, text_size}
 use Rattle.dfdl_checks.specs.Values.{is_number}
 use Rattle.dfdl_checks.specs.declared.purpose.Purpose.{Purpose}
@@ -96,6 +96,8 @@ IsOf s (Octets form) = IsOctetsOf s form
 IsOf s (Text form) = IsTextOf s form
 IsOf s (NilOctets form) = ⊥
 IsOf s (Default form) = ⊥
+IsOf s (NilValues form) = ⊥
+IsOf s (Pattern form) = ⊥
 
 -- the same, where there is one
 abbrev IsOfIf : Judged → Option Primitive → Type 0
@@ -295,7 +297,7 @@ one-nibble reps.Ibm4690 n is = (omega (arith, is), omega (arith, is))
 
 -- the nibbles of a field are as many as one of its representation can have
 nibbles-few : (s : Judged) (rep : PackedRep) (n : ℕ) → field_nibbles s rep ≡ Some n → (1 ≤ n) × (n ≤ most_nibbles rep)
-nibbles-few s rep n is = by (is_explicit s) (is_prefixed s) is
+nibbles-few s rep n is = by (is_explicit s) (is_sized_by_data s) is
   where
     by : (b c : Bool) → (if b then nibbles_within rep (constant_length s) else if c then Some 1 else None) ≡ Some n → (1 ≤ n) × (n ≤ most_nibbles rep)
     by true c is =
@@ -394,6 +396,8 @@ bounded patterns s (Octets form) is = octets-bounded (of-component s (Octets for
 bounded patterns s (Text form) is = text-bounded s form patterns (of-component s (Text form) is)
 bounded patterns s (NilOctets form) is = absurd (of-component s (NilOctets form) is)
 bounded patterns s (Default form) is = absurd (of-component s (Default form) is)
+bounded patterns s (NilValues form) is = tt
+bounded patterns s (Pattern form) is = tt
 bounded patterns s (Truth form) is = truth-bounded (of-component s (Truth form) is)
   where
     truth-bounded : IsTruthOf s form → IsPrimitive (Truth form)
@@ -408,6 +412,8 @@ kind-is s (Octets form) of = of.kind
 kind-is s (Text form) of = of.kind ∙ ap Some (content-typed s of.simple form.content of.content)
 kind-is s (NilOctets form) of = absurd of
 kind-is s (Default form) of = absurd of
+kind-is s (NilValues form) of = absurd of
+kind-is s (Pattern form) of = absurd of
 
 pub typed : (s : Judged) (p : Primitive) → primitive_of s ≡ Some p → simple_of s.kind ≡ Some (type_of p)
 typed s p is = kind-is s p (of-component s p is)
@@ -421,6 +427,8 @@ in-order s (Octets form) of = of.bits_by
 in-order s (Text form) of = tt
 in-order s (NilOctets form) of = absurd of
 in-order s (Default form) of = absurd of
+in-order s (NilValues form) of = absurd of
+in-order s (Pattern form) of = absurd of
 
 pub ordered : (s : Judged) (p : Primitive) → primitive_of s ≡ Some p → HasBitOrder (field_order s) p
 ordered s p is = in-order s p (of-component s p is)
@@ -486,6 +494,8 @@ whole-of s (Octets form) purpose of = apart (sym of.parsing ∙ purpose)
 whole-of s (Text form) purpose of = apart (sym of.parsing ∙ purpose)
 whole-of s (NilOctets form) purpose of = of
 whole-of s (Default form) purpose of = of
+whole-of s (NilValues form) purpose of = of
+whole-of s (Pattern form) purpose of = of
 
 pub whole : (s : Judged) (p : Primitive) → s.purpose ≡ Unparsing → primitive_of s ≡ Some p → IsWhole p
 whole s p purpose is = whole-of s p purpose (of-component s p is)

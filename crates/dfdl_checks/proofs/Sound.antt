@@ -14,7 +14,7 @@ use Rattle.dfdl_checks.proofs.Built.{all-hold, built-at, built-by, either-word, 
 use Rattle.dfdl_checks.proofs.Flawless.{HasNoFlaw, HasBuilt, value-built}
 use Rattle.dfdl_checks.proofs.Kept.{IsKept}
 use Rattle.dfdl_checks.proofs.Once.{is_twice}
-use Rattle.dfdl_checks.proofs.SoundBoxes.{as-octets, number-told, prefixed-is}
+use Rattle.dfdl_checks.proofs.SoundBoxes.{as-octets, number-told, sized-is}
 use Rattle.dfdl_checks.proofs.SoundTexts.{as-text, truth-no-number}
 use Rattle.dfdl_checks.proofs.Told.{rep-of, rep-word}
 use Rattle.dfdl_checks.proofs.Types.{number-or-truth, plain-bits, represented-else, represented-value, truth-bits, whole-apart, whole-represented}
@@ -26,7 +26,7 @@ use Rattle.dfdl_checks.specs.Numbers.{binary_of_type, field_bits, field_nibbles,
 use Rattle.dfdl_checks.specs.Orders.{orders_of}
 use Rattle.dfdl_checks.specs.Packed.{codes_for, codes_told, is_strict, nibbles_within, rep_of, rep_told}
 use Rattle.dfdl_checks.specs.Rules.{are_truth_texts_other, first_breach, rules, has_falsity, has_size, has_truth, is_delimited_boolean, is_length_by_content, is_size, is_text_without_size, is_unsized}
-use Rattle.dfdl_checks.specs.Subjects.{has_point, has_representation, is_binary, is_binary_boolean, is_binary_number, is_boolean, is_explicit, is_explicit_binary, is_octets, is_packed, is_prefixed, is_simple, is_string, is_text, is_text_boolean, is_text_number, is_told, is_truths, is_word, number_bits, simple_of, told_at, value_bits}
+use Rattle.dfdl_checks.specs.Subjects.{has_point, has_representation, is_binary, is_binary_boolean, is_binary_number, is_boolean, is_explicit, is_explicit_binary, is_octets, is_packed, is_simple, is_sized_by_data, is_string, is_text, is_text_boolean, is_text_number, is_told, is_truths, is_word, number_bits, simple_of, told_at, value_bits}
 use Rattle.dfdl_checks.specs.Table.{Applicability, EachNumber, EveryValue, applicability_table, applies_by, built_for, word}
 use Rattle.dfdl_checks.specs.Texts.{octets_of, text_of}
 use Rattle.dfdl_checks.specs.Values.{is_value, is_within}
@@ -46,7 +46,7 @@ constant : (s : Judged) → IsKept s → is_explicit_binary s ≡ true → is_so
 unfolding applicability_table property_table
 constant s kept explicit =
     some-length (unit_bits (told_at s (codes "lengthUnits"))) _
-    (number-told _ _ (built-at s kept 10 (codes "length") bearers.ExplicitBinaries EachNumber refl explicit _ refl refl))
+    (number-told _ _ (built-at s kept 11 (codes "length") bearers.ExplicitBinaries EachNumber refl explicit _ refl refl))
 
 -- the value that is told, or nothing
 abbrev written-in : Told → List ℕ
@@ -77,7 +77,7 @@ places s sound number = by (has_point (form_of sound.simple)) refl
     decimal : has_point (form_of sound.simple) ≡ true → is_some (places_told (told_at s (codes "binaryDecimalVirtualPoint"))) ≡ true
     decimal point =
         some-places (codes "binaryDecimalVirtualPoint") _
-        (no-flaw s sound.kept 58 (codes "binaryDecimalVirtualPoint") bearers.BinaryDecimals EveryValue refl
+        (no-flaw s sound.kept 59 (codes "binaryDecimalVirtualPoint") bearers.BinaryDecimals EveryValue refl
         (all-hold _ _ (sound.form.decimal ∙ point) number) _ refl)
         (once-at s sound.kept (codes "binaryDecimalVirtualPoint") _ refl)
 
@@ -151,7 +151,7 @@ module _ (s : Judged) (sound : IsSound s) (binary : IsSoundBinary s sound) where
       → is_some (field_bits s most) ≡ true
   size-of most plain is = subst (λ m. is_some (field_bits s m) ≡ true) is (some-size plain)
 
-  -- the nibbles of a packed number are whole, where it has a length of its own, and where it hasn't it has a prefix
+  -- the nibbles of a packed number are whole, where it has a length of its own, and where it hasn't the data tell one
   some-nibbles : (rep : PackedRep) → is_binary_number s ≡ true → rep_of s ≡ Some rep → is_some (field_nibbles s rep) ≡ true
   some-nibbles rep number is = by (is_explicit s) refl
     where
@@ -163,19 +163,19 @@ module _ (s : Judged) (sound : IsSound s) (binary : IsSoundBinary s sound) where
           sizeless (is_binary_number s) (is_length_by_content s) (is_unsized s.kind) (is_some (rep_of s)) _ (is_delimited_boolean s) (is_text_without_size s) number
           (ap is_some is) sound.kept.length_kind
 
-      last : (a b c : Bool) → (a || b || c) ≡ true → a ≡ false → b ≡ false → c ≡ true
-      last a b c x y z = grind (arith, x, y, z)
+      last : (a b c d : Bool) → (a || b || c || d) ≡ true → a ≡ false → b ≡ false → (c || d) ≡ true
+      last a b c d x y z = grind (arith, x, y, z)
 
-      prefixed : is_explicit s ≡ false → is_prefixed s ≡ true
-      prefixed other =
-          prefixed-is s sound.form.simple
-          ∙ last (is_told s (codes "lengthKind") (codes "implicit")) (is_explicit s) (is_told s (codes "lengthKind") (codes "prefixed")) binary.length.kind no-implicit
-          other
+      by-data : is_explicit s ≡ false → is_sized_by_data s ≡ true
+      by-data other =
+          sized-is s sound.form.simple
+          ∙ last (is_told s (codes "lengthKind") (codes "implicit")) (is_explicit s) (is_told s (codes "lengthKind") (codes "prefixed"))
+          (is_told s (codes "lengthKind") (codes "pattern")) binary.length.kind no-implicit other
 
       by : (b : Bool) → is_explicit s ≡ b
-          → is_some (if b then nibbles_within rep (constant_length s) else if is_prefixed s then Some 1 else None) ≡ true
+          → is_some (if b then nibbles_within rep (constant_length s) else if is_sized_by_data s then Some 1 else None) ≡ true
       by true explicit = sym (ap (λ r. is_size r (value_bits s.kind) (constant_length s)) is) ∙ sized explicit
-      by false other = ap (λ p. is_some {T = ℕ} (if p then Some 1 else None)) (prefixed other)
+      by false other = ap (λ p. is_some {T = ℕ} (if p then Some 1 else None)) (by-data other)
 
   -- its sign codes are some that are allowed
   some-signs : (rep : PackedRep) → is_binary_number s ≡ true → rep_of s ≡ Some rep

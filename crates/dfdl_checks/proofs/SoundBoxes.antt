@@ -19,7 +19,7 @@ use Rattle.dfdl_checks.specs.Lengths.{number_told}
 use Rattle.dfdl_checks.specs.Numbers.{IsTextOrBytesValue}
 use Rattle.dfdl_checks.specs.Orders.{field_order}
 use Rattle.dfdl_checks.specs.Rules.{first_breach, rules, is_delimited_boolean, is_field_out_of_range, is_number_length_not_allowed}
-use Rattle.dfdl_checks.specs.Subjects.{is_boxed, is_complex, is_explicit, is_group, is_hex_binary, is_prefixed, is_simple, is_string, is_text, is_text_boolean, is_text_number, is_told, told_at}
+use Rattle.dfdl_checks.specs.Subjects.{is_boxed, is_complex, is_explicit, is_group, is_hex_binary, is_simple, is_sized_by_data, is_string, is_text, is_text_boolean, is_text_number, is_told, told_at}
 use Rattle.dfdl_checks.specs.Table.{EachNumber, EveryValue, applicability_table}
 use Rattle.dfdl_checks.specs.Texts.{octets_by, octets_of}
 use Rattle.dfdl_checks.specs.declared.applicability.Bearers.TheVariants as bearers
@@ -37,7 +37,7 @@ number-told r t has =
 own-number : (s : Judged) → IsKept s → is_explicit_box s ≡ true → is_some (number_told (told_at s (codes "length"))) ≡ true
 unfolding applicability_table property_table
 own-number s kept explicit =
-    number-told _ _ (built-at s kept 11 (codes "length") bearers.ExplicitBoxes EachNumber refl explicit _ refl refl)
+    number-told _ _ (built-at s kept 12 (codes "length") bearers.ExplicitBoxes EachNumber refl explicit _ refl refl)
 
 -- an implicit one is that of the type
 type-number : (s : Judged) → IsKept s → is_implicit_box s ≡ true → is_some s.facts.max_length ≡ true
@@ -46,7 +46,7 @@ type-number s kept implicit = second (is_implicit_box s) (is_some s.facts.max_le
     second : (a b : Bool) → a ≡ true → (a && not b) ≡ false → b ≡ true
     second a b x y = grind (arith, x, y)
 
--- a box that no prefix sizes isn't past the greatest length
+-- a box that the data don't size isn't past the greatest length
 not-past : (s : Judged) → IsKept s → (is_explicit_box s || is_implicit_box s) ≡ true → is_some (box_number s) ≡ true → is_some (box_units s) ≡ true
 not-past s kept sized told =
     last (is_field_out_of_range s) (is_explicit_box s || is_implicit_box s) (is_some (box_number s)) (is_some (box_units s)) sized told kept.length
@@ -61,9 +61,9 @@ no-units unit = ap (λ b. is_some {T = ℕ} (if b then Some 0 else None)) few
     few : nat_le (0 * unit) most_length ≡ true
     few = let none : 0 * unit ≡ 0 = omega arith in ap (λ n. nat_le n most_length) none
 
--- a box has units by a length of its own, by that of a prefix or by that of its type
-pub some-units : (s : Judged) → IsKept s → is_boxed s ≡ true → (is_explicit s || is_prefixed s || is_implicit_box s) ≡ true → is_some (box_units s) ≡ true
-some-units s kept boxed sized = by (is_explicit s) (is_prefixed s) refl refl
+-- a box has units by a length of its own, by one that the data tell or by that of its type
+pub some-units : (s : Judged) → IsKept s → is_boxed s ≡ true → (is_explicit s || is_sized_by_data s || is_implicit_box s) ≡ true → is_some (box_units s) ≡ true
+some-units s kept boxed sized = by (is_explicit s) (is_sized_by_data s) refl refl
   where
     last : (a b c : Bool) → a ≡ false → b ≡ false → (a || b || c) ≡ true → c ≡ true
     last a b c x y z = grind (arith, x, y, z)
@@ -74,20 +74,20 @@ some-units s kept boxed sized = by (is_explicit s) (is_prefixed s) refl refl
     first : (a b : Bool) → a ≡ true → (a || b) ≡ true
     first a b x = grind (arith, x)
 
-    by : (e p : Bool) → is_explicit s ≡ e → is_prefixed s ≡ p → is_some (box_units s) ≡ true
-    by true p explicit prefixed =
+    by : (e p : Bool) → is_explicit s ≡ e → is_sized_by_data s ≡ p → is_some (box_units s) ≡ true
+    by true p explicit sized_so =
         let own = all-hold _ _ boxed explicit in
         not-past s kept (first _ (is_implicit_box s) own)
-        (ap (λ e. is_some (if e then number_told (told_at s (codes "length")) else if is_prefixed s then Some 0 else s.facts.max_length)) explicit
+        (ap (λ e. is_some (if e then number_told (told_at s (codes "length")) else if is_sized_by_data s then Some 0 else s.facts.max_length)) explicit
         ∙ own-number s kept own)
-    by false true other prefixed =
-        ap (λ e. is_some (units_within (box_unit s) (if e then number_told (told_at s (codes "length")) else if is_prefixed s then Some 0 else s.facts.max_length))) other
-        ∙ ap (λ p. is_some (units_within (box_unit s) (if p then Some 0 else s.facts.max_length))) prefixed
+    by false true other sized_so =
+        ap (λ e. is_some (units_within (box_unit s) (if e then number_told (told_at s (codes "length")) else if is_sized_by_data s then Some 0 else s.facts.max_length))) other
+        ∙ ap (λ p. is_some (units_within (box_unit s) (if p then Some 0 else s.facts.max_length))) sized_so
         ∙ no-units (box_unit s)
     by false false other apart =
-        let implicit = last (is_explicit s) (is_prefixed s) (is_implicit_box s) other apart sized in
+        let implicit = last (is_explicit s) (is_sized_by_data s) (is_implicit_box s) other apart sized in
         not-past s kept (second (is_explicit_box s) _ implicit)
-        (ap (λ e. is_some (if e then number_told (told_at s (codes "length")) else if is_prefixed s then Some 0 else s.facts.max_length)) other
+        (ap (λ e. is_some (if e then number_told (told_at s (codes "length")) else if is_sized_by_data s then Some 0 else s.facts.max_length)) other
         ∙ ap (λ p. is_some (if p then Some 0 else s.facts.max_length)) apart
         ∙ type-number s kept implicit)
 
@@ -106,7 +106,7 @@ has-box s none purpose explicit =
 
     units : is_some (box_units s) ≡ true
     units =
-        let has = parts (is_text s) (is_hex_binary s.kind) (is_complex s.kind) (is_explicit s) (is_prefixed s) (is_implicit_box s) explicit in
+        let has = parts (is_text s) (is_hex_binary s.kind) (is_complex s.kind) (is_explicit s) (is_sized_by_data s) (is_implicit_box s) explicit in
         some-units s (keeps-all s none) has.0 has.1
 
 -- no simple element is a group
@@ -118,9 +118,11 @@ no-group Sequence is = grind (arith, is)
 no-group Choice is = grind (arith, is)
 no-group (PrefixNumber simple) is = refl
 
--- of a simple element, a length prefix is told of its length
-pub prefixed-is : (s : Judged) → is_simple s.kind ≡ true → is_prefixed s ≡ is_told s (codes "lengthKind") (codes "prefixed")
-prefixed-is s simple = ap (λ b. not b && is_told s (codes "lengthKind") (codes "prefixed")) (no-group s.kind simple)
+-- of a simple element whose length the data tell, a length prefix or a pattern is told
+pub sized-is : (s : Judged) → is_simple s.kind ≡ true
+    → is_sized_by_data s ≡ (is_told s (codes "lengthKind") (codes "prefixed") || is_told s (codes "lengthKind") (codes "pattern"))
+sized-is s simple =
+    ap (λ b. (not b && is_told s (codes "lengthKind") (codes "prefixed")) || (not b && is_told s (codes "lengthKind") (codes "pattern"))) (no-group s.kind simple)
 
 -- a text or bytes stand in a box
 value-boxed : (s : Judged) → (is_text s || is_hex_binary s.kind) ≡ true → is_boxed s ≡ true
@@ -134,9 +136,10 @@ value-length s kept is = boxed-length s kept (value-boxed s is)
 pub value-units : (s : Judged) → IsSound s → (is_text s || is_hex_binary s.kind) ≡ true → is_some (box_units s) ≡ true
 value-units s sound is =
     some-units s sound.kept (value-boxed s is)
-    (subst (λ p. (is_explicit s || p || is_implicit_box s) ≡ true) (sym (prefixed-is s sound.form.simple))
+    (subst (λ p. (is_explicit s || p || is_implicit_box s) ≡ true) (sym (sized-is s sound.form.simple))
     (one (is_string s.kind) (is_text_number s) (is_text_boolean s) (is_hex_binary s.kind) (is_told s (codes "lengthKind") (codes "implicit"))
-    (is_explicit s) (is_told s (codes "lengthKind") (codes "prefixed")) is (value-length s sound.kept is).kind not-implicit))
+    (is_explicit s) (is_told s (codes "lengthKind") (codes "prefixed")) (is_told s (codes "lengthKind") (codes "pattern")) is
+    (value-length s sound.kept is).kind not-implicit))
   where
     third : (a b c : Bool) → (a || b || c) ≡ false → c ≡ false
     third a b c h = grind (arith, h)
@@ -144,8 +147,9 @@ value-units s sound is =
     not-implicit : ((is_text_number s || is_text_boolean s) && is_told s (codes "lengthKind") (codes "implicit")) ≡ false
     not-implicit = third (is_number_length_not_allowed s) (is_delimited_boolean s) _ sound.kept.length_kind
 
-    one : (a b c d i e p : Bool) → (a || b || c || d) ≡ true → (i || e || p) ≡ true → ((b || c) && i) ≡ false → (e || p || ((a || d) && i)) ≡ true
-    one a b c d i e p x y z = grind (arith, x, y, z)
+    one : (a b c d i e p q : Bool) → (a || b || c || d) ≡ true → (i || e || p || q) ≡ true → ((b || c) && i) ≡ false
+        → (e || (p || q) || ((a || d) && i)) ≡ true
+    one a b c d i e p q x y z = grind (arith, x, y, z)
 
 -- so bytes have a primitive
 pub as-octets : (s : Judged) → IsSound s → is_hex_binary s.kind ≡ true → is_some (octets_of s) ≡ true

@@ -1,9 +1,9 @@
 -- The representations besides the normal one keep the bounds of their forms.
-use Rattle.std.proofs.Common.{◌≡◌, refl, sym, ap, subst, ℕ, ◌≤◌, ◌*◌, Option, Some, None, Bool, true, false, if◌then◌else◌, option_and_then, option_map, arith}
+use Rattle.std.proofs.Common.{◌≡◌, refl, sym, ap, subst, ℕ, List, ◌≤◌, ◌*◌, Option, Some, None, Bool, true, false, if◌then◌else◌, option_and_then, option_map, arith}
 use Rattle.dfdl_forms.specs.declared.order.BitOrder.{BitOrder}
 use Rattle.dfdl_terms.specs.Rows.{IsPrimitive, IsTextSize, IsWritten, most_length}
 use Rattle.dfdl_terms.specs.declared.row.Primitive.{Primitive}
-use Rattle.dfdl_terms.specs.declared.row.Primitive.TheVariants.{Integer, Packed, Truth, Octets, Text, NilOctets, Default}
+use Rattle.dfdl_terms.specs.declared.row.Primitive.TheVariants.{Integer, Packed, Truth, Octets, Text, NilOctets, Default, NilValues, Pattern}
 use Rattle.dfdl_terms.specs.declared.text.DefaultForm.{DefaultForm}
 use Rattle.dfdl_terms.specs.declared.text.NilForm.{NilForm}
 use Rattle.dfdl_terms.specs.declared.text.TextSize.{TextSize}
@@ -13,10 +13,11 @@ use Rattle.dfdl_checks.proofs.Contents.{ArePatternsBounded}
 use Rattle.dfdl_checks.proofs.Primitives.{bounded}
 use Rattle.dfdl_checks.specs.Defaults.{empty_value}
 use Rattle.dfdl_checks.specs.Judged.{Judged}
-use Rattle.dfdl_checks.specs.Nils.{nil_form_of}
+use Rattle.dfdl_checks.specs.Nils.{is_nil_by_value, nil_form_of}
+use Rattle.dfdl_checks.specs.NilValues.{nil_values}
 use Rattle.dfdl_checks.specs.Numbers.{primitive_of}
 use Rattle.dfdl_checks.specs.Prefixes.{size_of}
-use Rattle.dfdl_checks.specs.Representations.{can_be_empty, default_in, nil_by, nil_octets, no_representations, representations_by, representations_for, representations_of}
+use Rattle.dfdl_checks.specs.Representations.{can_be_empty, default_in, nil_by, nil_in, nil_octets, no_representations, representations_by, representations_for, representations_of}
 use Rattle.dfdl_checks.specs.declared.purpose.Purpose.{Purpose}
 use Rattle.dfdl_checks.specs.declared.purpose.Purpose.TheVariants.{Parsing, Unparsing}
 use Rattle.dfdl_checks.specs.declared.subject.Kind.{Kind}
@@ -31,6 +32,8 @@ size-bounded (Octets form) is = is
 size-bounded (Text form) is = is.size
 size-bounded (NilOctets form) is = is
 size-bounded (Default form) is = is.size
+size-bounded (NilValues form) is = omega arith
+size-bounded (Pattern form) is = omega arith
 
 -- nil in a box that is no longer keeps the bounds of its form
 in-octets : (nil : NilForm) (bits : ℕ) (bits_by : BitOrder) (q : Primitive) → bits ≤ most_length → Some (nil_octets nil bits bits_by) ≡ Some q → IsPrimitive q
@@ -45,14 +48,24 @@ nil-in (Octets form) q nil of is = in-octets nil form.bits form.bits_by q of is
 nil-in (Text form) q nil of is = subst (λ q. IsPrimitive q) (some-is _ _ is) (record { size = of.size; content = tt })
 nil-in (NilOctets form) q nil of is = absurd (none-some _ is)
 nil-in (Default form) q nil of is = absurd (none-some _ is)
+nil-in (NilValues form) q nil of is = absurd (none-some _ is)
+nil-in (Pattern form) q nil of is = absurd (none-some _ is)
 
 module _ (patterns : ArePatternsBounded) (s : Judged) (q : Primitive) where
   nil-of-form : (p : Primitive) (form : Option NilForm) → IsPrimitive p → option_and_then (nil_by p) form ≡ Some q → IsPrimitive q
   nil-of-form p (Some nil) of is = nil-in p q nil of is
   nil-of-form p None of is = absurd (none-some _ is)
 
+  -- whether it is by values or by texts
+  nil-of-either : (by-value : Bool) (p : Primitive) (values : Option (List Value)) (form : Option NilForm) → IsPrimitive p
+      → (if by-value then option_map nil_in values else option_and_then (nil_by p) form) ≡ Some q → IsPrimitive q
+  nil-of-either true p (Some values) form of is = subst (λ q. IsPrimitive q) (some-is _ _ is) tt
+  nil-of-either true p None form of is = absurd (none-some _ is)
+  nil-of-either false p values form of is = nil-of-form p form of is
+
   nil-of-kind : (kind : Kind) (o : Option Primitive) → primitive_of s ≡ o → (representations_by s kind o).nil ≡ Some q → IsPrimitive q
-  nil-of-kind (SimpleElement simple) (Some p) told is = nil-of-form p (nil_form_of s) (bounded patterns s p told) is
+  nil-of-kind (SimpleElement simple) (Some p) told is =
+      nil-of-either (is_nil_by_value s) p (nil_values s simple) (nil_form_of s) (bounded patterns s p told) is
   nil-of-kind (SimpleElement simple) None told is = absurd (none-some _ is)
   nil-of-kind ComplexElement o told is = absurd (none-some _ is)
   nil-of-kind UncarriedElement o told is = absurd (none-some _ is)

@@ -37,3 +37,4 @@ pub record IsAlike (a b : Judged) : Type 0 where
   pub facts : a.facts ≡ b.facts
   pub root_bits_by : a.root_bits_by ≡ b.root_bits_by
   pub prefix : AreAlikePrefixes a.prefix b.prefix
+  pub pattern_is_refused : a.pattern_is_refused ≡ b.pattern_is_refused

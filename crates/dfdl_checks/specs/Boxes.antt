@@ -4,7 +4,7 @@ use Rattle.dfdl_terms.specs.Rows.{most_length}
 use Rattle.dfdl_checks.specs.Encodings.{character_bits, encoding_told}
 use Rattle.dfdl_checks.specs.Judged.{Judged}
 use Rattle.dfdl_checks.specs.Lengths.{length_in, number_told, unit_bits}
-use Rattle.dfdl_checks.specs.Subjects.{is_boxed, is_complex, is_explicit, is_prefixed, is_string, is_string_or_bytes, is_text, is_told, told_at}
+use Rattle.dfdl_checks.specs.Subjects.{is_boxed, is_complex, is_explicit, is_sized_by_data, is_string, is_string_or_bytes, is_text, is_told, told_at}
 use Rattle.dfdl_checks.specs.declared.purpose.Purpose.{Purpose}
 use Rattle.dfdl_checks.specs.declared.purpose.Purpose.TheVariants.{Parsing, Unparsing}
 
@@ -38,12 +38,12 @@ counts_units subject = is_text subject || is_explicit subject
 abbrev pub box_unit : Judged → ℕ
 box_unit subject = if counts_units subject then told_unit subject else 8
 
--- How many units the box has, where a number is told: as many as its own length, else as many as the type. Where a prefix tells
+-- How many units the box has, where a number is told: as many as its own length, else as many as the type. Where the data tell
 -- them, none stand for them.
 abbrev pub box_number : Judged → Option ℕ
 box_number subject =
     if is_explicit subject then number_told (told_at subject (codes "length"))
-    else if is_prefixed subject then Some 0
+    else if is_sized_by_data subject then Some 0
     else subject.facts.max_length
 
 -- a number of units of so many bits, where they aren't past the greatest length

@@ -5,7 +5,7 @@ use Rattle.dfdl_forms.specs.declared.order.BitOrder.TheVariants.{MostFirst}
 use Rattle.dfdl_forms.specs.declared.simple.Form.TheVariants.{Unsigned}
 use Rattle.dfdl_forms.specs.Types.{form_of}
 use Rattle.dfdl_terms.specs.declared.row.Primitive.{Primitive}
-use Rattle.dfdl_terms.specs.declared.row.Primitive.TheVariants.{Integer, Packed, Truth, Octets, Text, NilOctets, Default}
+use Rattle.dfdl_terms.specs.declared.row.Primitive.TheVariants.{Integer, Packed, Truth, Octets, Text, NilOctets, Default, NilValues, Pattern}
 
 -- one, two, four or eight bytes
 abbrev pub is_whole : ℕ → Bool
@@ -27,3 +27,5 @@ IsWhole (Octets form) = ⊥
 IsWhole (Text form) = ⊥
 IsWhole (NilOctets form) = ⊥
 IsWhole (Default form) = ⊥
+IsWhole (NilValues form) = ⊥
+IsWhole (Pattern form) = ⊥

@@ -26,7 +26,8 @@ pub record PrefixJudged : Type 0 where
   pub chain : List Element
 
 -- a component: what its rows are made for, its kind, its start tag, the chain that its properties are asked of, what else
--- it states, the order of bits of the schema's root, and the type that its property prefixLengthType names, if it names one
+-- it states, the order of bits of the schema's root, the type that its property prefixLengthType names, if it names one, and whether the
+-- pattern of its length can't be built
 pub record Judged : Type 0 where
   pub purpose : Purpose
   pub kind : Kind
@@ -35,3 +36,4 @@ pub record Judged : Type 0 where
   pub facts : FactsJudged
   pub root_bits_by : BitOrder
   pub prefix : Option PrefixJudged
+  pub pattern_is_refused : Bool

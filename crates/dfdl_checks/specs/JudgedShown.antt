@@ -32,4 +32,5 @@ judged_of subject = record {
   facts = facts_judged_of subject.facts;
   root_bits_by = subject.root_bits_by;
   prefix = prefix_judged_of subject.prefix;
+  pattern_is_refused = subject.pattern_is_refused;
 }

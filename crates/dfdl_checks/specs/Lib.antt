@@ -13,6 +13,7 @@ pub mod Pads
 pub mod FillBytes
 pub mod Nils
 pub mod Defaults
+pub mod NilValues
 pub mod NumberTexts
 pub mod BooleanTexts
 pub mod Applying
@@ -23,6 +24,7 @@ pub mod BuiltTypes
 pub mod Texts
 pub mod Numbers
 pub mod Prefixes
+pub mod Patterns
 pub mod Representations
 pub mod Rules
 pub mod Framing

@@ -18,7 +18,7 @@ use Rattle.dfdl_terms.specs.declared.text.NilTexts.TheVariants.{Literals, Charac
 use Rattle.dfdl_checks.specs.Encodings.{encoding_told}
 use Rattle.dfdl_checks.specs.Judged.{Judged}
 use Rattle.dfdl_checks.specs.Pads.{is_malformed, is_other, is_outside, lacks_character, single}
-use Rattle.dfdl_checks.specs.Subjects.{is_complex, is_explicit, is_nillable, is_told, told_at}
+use Rattle.dfdl_checks.specs.Subjects.{is_explicit, is_nillable, is_told, told_at}
 
 -- nil is one of some literals
 abbrev pub is_nil_by_literals : Judged → Bool
@@ -27,6 +27,10 @@ is_nil_by_literals subject = is_nillable subject && is_told subject (codes "nilK
 -- nil is one or more of a character
 abbrev pub is_nil_by_character : Judged → Bool
 is_nil_by_character subject = is_nillable subject && is_told subject (codes "nilKind") (codes "literalCharacter")
+
+-- nil is the value of some literals
+abbrev pub is_nil_by_value : Judged → Bool
+is_nil_by_value subject = is_nillable subject && is_told subject (codes "nilKind") (codes "logicalValue")
 
 -- the literals of nil that are told, where they are some; `%ES;` may be one
 abbrev pub literals_told : Told → Option (List (List Piece))
@@ -57,7 +61,7 @@ nil_character subject = nil_character_told (told_at subject (codes "nilValue"))
 -- an element that may be nil, whose texts of nil are no list of literals
 abbrev pub is_nil_malformed : Judged → Bool
 is_nil_malformed subject =
-    (is_nil_by_literals subject && are_literals_malformed (told_at subject (codes "nilValue")))
+    ((is_nil_by_literals subject || is_nil_by_value subject) && are_literals_malformed (told_at subject (codes "nilValue")))
     || (is_nil_by_character subject && is_malformed (nil_character subject))
 
 -- the encoding lacks a piece that is a character
@@ -92,10 +96,6 @@ is_length_fixed subject = is_explicit subject || is_told subject (codes "lengthK
 -- nil by what is no single character, or by one where the length is neither the element's own nor that of its type
 abbrev pub is_nil_unfit : Judged → Bool
 is_nil_unfit subject = is_nil_by_character subject && (is_other (nil_character subject) || not (is_length_fixed subject))
-
--- 29: a complex element that may be nil, or nil by what can't stand for it
-abbrev pub is_nil_not_allowed : Judged → Bool
-is_nil_not_allowed subject = (is_complex subject.kind && subject.facts.is_nillable) || is_nil_unfit subject
 
 -- the texts of nil at the component
 abbrev pub nil_texts : Judged → Option NilTexts

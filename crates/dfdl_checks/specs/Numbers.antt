@@ -13,7 +13,7 @@ use Rattle.dfdl_forms.specs.declared.simple.Simple.TheVariants.{Boolean, HexBina
 use Rattle.dfdl_scope.specs.Expressions.{literal}
 use Rattle.dfdl_scope.specs.Scoping.{Told, Value, Absent, Twice}
 use Rattle.dfdl_terms.specs.declared.row.Primitive.{Primitive}
-use Rattle.dfdl_terms.specs.declared.row.Primitive.TheVariants.{Integer, Packed, Truth, Octets, Text, NilOctets, Default}
+use Rattle.dfdl_terms.specs.declared.row.Primitive.TheVariants.{Integer, Packed, Truth, Octets, Text, NilOctets, Default, NilValues, Pattern}
 use Rattle.dfdl_terms.specs.declared.text.TextContent.{TextContent}
 use Rattle.dfdl_terms.specs.declared.text.TextContent.TheVariants.{Plain, Number, Zoned, Truth as TextTruth, Nil}
 use Rattle.dfdl_checks.specs.Booleans.{falsity_told, truth_told}
@@ -22,7 +22,7 @@ use Rattle.dfdl_checks.specs.Lengths.{constant_length, size_within}
 use Rattle.dfdl_checks.specs.Orders.{is_least_first, orders_of, told_order}
 use Rattle.dfdl_checks.specs.Packed.{codes_for, is_strict, nibbles_within, rep_of, rep_word}
 use Rattle.dfdl_checks.specs.BuiltTypes.{is_built_type}
-use Rattle.dfdl_checks.specs.Subjects.{has_point, is_binary_number, is_explicit, is_octets, is_prefixed, is_text, is_told, is_truths, told_at, value_bits}
+use Rattle.dfdl_checks.specs.Subjects.{has_point, is_binary_number, is_explicit, is_octets, is_sized_by_data, is_text, is_told, is_truths, told_at, value_bits}
 use Rattle.dfdl_checks.specs.Texts.{octets_of, text_of}
 use Rattle.dfdl_checks.specs.Values.{is_within}
 use Rattle.dfdl_checks.specs.declared.orders.Orders.{Orders}
@@ -52,7 +52,7 @@ own_size Parsing most length = size_within most length
 own_size Unparsing most length = None
 
 -- How many bits the component's field has, where its type has at most so many: its own length, else as many as the type, which also
--- stand for those that a prefix tells.
+-- stand for those that the data tell.
 abbrev pub field_bits : Judged → ℕ → Option ℕ
 field_bits subject most = if is_explicit subject then own_size subject.purpose most (constant_length subject) else Some most
 
@@ -68,12 +68,12 @@ number_of_type subject simple =
     number_by simple (orders_of subject) (field_bits subject (most_bits (form_of simple)))
     (places_of simple (told_at subject (codes "binaryDecimalVirtualPoint")))
 
--- How many nibbles the field of a packed number has: those of its own length, since no type has a size in nibbles. Where a prefix
--- tells them, one stands for them.
+-- How many nibbles the field of a packed number has: those of its own length, since no type has a size in nibbles. Where the data
+-- tell them, one stands for them.
 abbrev pub field_nibbles : Judged → PackedRep → Option ℕ
 field_nibbles subject rep =
     if is_explicit subject then nibbles_within rep (constant_length subject)
-    else if is_prefixed subject then Some 1
+    else if is_sized_by_data subject then Some 1
     else None
 
 -- a packed number of the type, in these orders, with so many nibbles, these sign codes and so many digits behind its point
@@ -164,6 +164,8 @@ type_of (Octets form) = HexBinary
 type_of (Text form) = text_type form.content
 type_of (NilOctets form) = HexBinary
 type_of (Default form) = HexBinary
+type_of (NilValues form) = HexBinary
+type_of (Pattern form) = HexBinary
 
 -- the bits of a primitive's fields come in this order; a text and no bits have none
 abbrev pub HasBitOrder : BitOrder → Primitive → Type 0
@@ -174,15 +176,20 @@ HasBitOrder order (Octets form) = form.bits_by ≡ order
 HasBitOrder order (Text form) = Unit {0}
 HasBitOrder order (NilOctets form) = form.octets.bits_by ≡ order
 HasBitOrder order (Default form) = Unit {0}
+HasBitOrder order (NilValues form) = Unit {0}
+HasBitOrder order (Pattern form) = Unit {0}
 
 -- the order of bits that is told of a component is that of its primitive and of the schema's root
 pub record IsInBitOrder (subject : Judged) : Type 0 where
   pub primitive : (p : Primitive) → primitive_of subject ≡ Some p → HasBitOrder (told_order subject) p
   pub root : told_order subject ≡ subject.root_bits_by
 
--- the properties of a component say that its length is its own, that of its type or that of a prefix
+-- the properties of a component say that its length is its own, that of its type, that of a prefix or by a pattern
 abbrev pub HasLengthKind : Judged → Type 0
-HasLengthKind subject = IsTrue (is_told subject (codes "lengthKind") (codes "implicit") || is_explicit subject || is_told subject (codes "lengthKind") (codes "prefixed"))
+HasLengthKind subject =
+    IsTrue
+    (is_told subject (codes "lengthKind") (codes "implicit") || is_explicit subject || is_told subject (codes "lengthKind") (codes "prefixed")
+    || is_told subject (codes "lengthKind") (codes "pattern"))
 
 -- the properties of a binary number or boolean say which kind of length it has, and which bits come first; where the type has
 -- more than 8 bits, which bytes come first, and where the least significant bits of a number do, that the least significant bytes

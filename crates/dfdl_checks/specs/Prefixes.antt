@@ -12,7 +12,7 @@ use Rattle.dfdl_scope.specs.Scoping.{Told, Value, Absent, Twice, told}
 use Rattle.dfdl_terms.specs.declared.prefix.LengthUnit.{LengthUnit}
 use Rattle.dfdl_terms.specs.declared.prefix.LengthUnit.TheVariants as unit
 use Rattle.dfdl_terms.specs.declared.row.Primitive.{Primitive}
-use Rattle.dfdl_terms.specs.declared.row.Primitive.TheVariants.{Integer, Packed, Truth, Octets, Text, NilOctets, Default}
+use Rattle.dfdl_terms.specs.declared.row.Primitive.TheVariants.{Integer, Packed, Truth, Octets, Text, NilOctets, Default, NilValues, Pattern}
 use Rattle.dfdl_terms.specs.declared.text.TextSize.{TextSize}
 use Rattle.dfdl_terms.specs.declared.text.TextSize.TheVariants.{Bits, Characters}
 use Rattle.dfdl_checks.specs.Encodings.{encoding_told}
@@ -49,6 +49,7 @@ judged_prefix subject prefix simple = record {
   facts = no_facts;
   root_bits_by = subject.root_bits_by;
   prefix = None;
+  pattern_is_refused = false;
 }
 
 -- the same, where it is an integer type
@@ -95,7 +96,7 @@ unit_told told = if is_word (codes "bits") told then unit.Bits else if is_word (
 abbrev pub counts_prefix : Judged → Bool
 counts_prefix subject = is_told subject (codes "prefixIncludesPrefixLength") (codes "yes")
 
--- how long the fields of a primitive are
+-- how long the fields of a primitive are; what is no component's own may have none
 abbrev pub size_of : Primitive → TextSize
 size_of (Integer form) = Bits form.bits
 size_of (Packed form) = Bits (4 * form.nibbles)
@@ -104,6 +105,8 @@ size_of (Octets form) = Bits form.bits
 size_of (Text form) = form.size
 size_of (NilOctets form) = Bits form.octets.bits
 size_of (Default form) = form.size
+size_of (NilValues form) = Bits 0
+size_of (Pattern form) = Bits 0
 
 -- each character of the encoding is one byte
 abbrev pub is_of_bytes : Option Encoding → Bool

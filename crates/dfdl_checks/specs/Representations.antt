@@ -1,12 +1,12 @@
 -- The representations of a simple element besides its normal one, which are tried before it for parsing ('DFDL Data Syntax Grammar',
 -- on nil and empty representations).
-use Rattle.std.specs.Prelude.{ℕ, ◌*◌, ◌==◌, ◌||◌, Bool, false, Option, Some, None, is_some, option_and_then, option_map, if◌then◌else◌}
+use Rattle.std.specs.Prelude.{ℕ, List, ◌*◌, ◌==◌, ◌||◌, Bool, false, Option, Some, None, is_some, option_and_then, option_map, if◌then◌else◌}
 use Rattle.std.specs.Option.{option_map_or}
 use Rattle.dfdl_forms.specs.declared.order.BitOrder.{BitOrder}
 use Rattle.dfdl_forms.specs.declared.simple.Simple.{Simple}
 use Rattle.dfdl_forms.specs.declared.text.PadForm.{PadForm}
 use Rattle.dfdl_terms.specs.declared.row.Primitive.{Primitive}
-use Rattle.dfdl_terms.specs.declared.row.Primitive.TheVariants.{Integer, Packed, Truth, Octets, Text, NilOctets, Default}
+use Rattle.dfdl_terms.specs.declared.row.Primitive.TheVariants.{Integer, Packed, Truth, Octets, Text, NilOctets, Default, NilValues, Pattern}
 use Rattle.dfdl_terms.specs.declared.text.NilForm.{NilForm}
 use Rattle.dfdl_terms.specs.declared.text.NilTexts.{NilTexts}
 use Rattle.dfdl_terms.specs.declared.text.NilTexts.TheVariants.{Literals, Character}
@@ -17,10 +17,11 @@ use Rattle.dfdl_terms.specs.declared.text.TextSize.TheVariants.{Bits, Characters
 use Rattle.dfdl_value.specs.declared.value.Value.{Value}
 use Rattle.dfdl_checks.specs.Defaults.{empty_value}
 use Rattle.dfdl_checks.specs.Judged.{Judged}
-use Rattle.dfdl_checks.specs.Nils.{nil_form_of}
+use Rattle.dfdl_checks.specs.Nils.{is_nil_by_value, nil_form_of}
+use Rattle.dfdl_checks.specs.NilValues.{nil_values}
 use Rattle.dfdl_checks.specs.Numbers.{primitive_of}
 use Rattle.dfdl_checks.specs.Prefixes.{size_of}
-use Rattle.dfdl_checks.specs.Subjects.{is_nillable, is_prefixed, is_string_or_bytes}
+use Rattle.dfdl_checks.specs.Subjects.{is_nillable, is_sized_by_data, is_string_or_bytes}
 use Rattle.dfdl_checks.specs.declared.purpose.Purpose.{Purpose}
 use Rattle.dfdl_checks.specs.declared.purpose.Purpose.TheVariants.{Parsing, Unparsing}
 use Rattle.dfdl_checks.specs.declared.subject.Kind.{Kind}
@@ -49,19 +50,27 @@ nil_by (Octets form) nil = Some (nil_octets nil form.bits form.bits_by)
 nil_by (Text form) nil = Some (Text (nil_text nil form))
 nil_by (NilOctets form) nil = None
 nil_by (Default form) nil = None
+nil_by (NilValues form) nil = None
+nil_by (Pattern form) nil = None
 
--- the nil representation of an element with this primitive, where it may be nil
-abbrev pub nil_of : Judged → Primitive → Option Primitive
-nil_of subject primitive = option_and_then (nil_by primitive) (nil_form_of subject)
+-- nil in place of some values
+abbrev pub nil_in : List Value → Primitive
+nil_in values = NilValues (record { values = values })
+
+-- the nil representation of an element of the type with this primitive, where it may be nil: by its value, or by what stands in its box
+abbrev pub nil_of : Judged → Simple → Primitive → Option Primitive
+nil_of subject simple primitive =
+    if is_nil_by_value subject then option_map nil_in (nil_values subject simple)
+    else option_and_then (nil_by primitive) (nil_form_of subject)
 
 -- a box of this size has nothing in it
 abbrev pub is_nothing : TextSize → Bool
 is_nothing (Bits n) = n == 0
 is_nothing (Characters n) = n == 0
 
--- a box of this size can be empty: a prefix tells how long it is, or it has nothing in it
+-- a box of this size can be empty: the data tell how long it is, or it has nothing in it
 abbrev pub can_be_empty : Judged → TextSize → Bool
-can_be_empty subject size = is_prefixed subject || is_nothing size
+can_be_empty subject size = is_sized_by_data subject || is_nothing size
 
 -- no bits in a box of this size, which stand for a value
 abbrev pub default_in : TextSize → Value → Primitive
@@ -83,7 +92,7 @@ no_representations = record { nil = None; empty = None; are_several = false }
 -- the representations of an element of the type with this primitive
 abbrev pub representations_with : Judged → Simple → Primitive → OtherRepresentations
 representations_with subject simple primitive = record {
-  nil = nil_of subject primitive;
+  nil = nil_of subject simple primitive;
   empty = empty_of subject simple (size_of primitive);
   are_several = are_several subject;
 }

@@ -14,7 +14,8 @@ use Rattle.dfdl_checks.specs.Boxes.{is_box_too_long, is_implicit_box}
 use Rattle.dfdl_checks.specs.Defaults.{is_default_not_allowed}
 use Rattle.dfdl_checks.specs.FillBytes.{is_fill_malformed, is_fill_other}
 use Rattle.dfdl_checks.specs.Lengths.{constant_length, size_within}
-use Rattle.dfdl_checks.specs.Nils.{is_nil_malformed, is_nil_not_allowed, is_nil_not_encoded}
+use Rattle.dfdl_checks.specs.NilValues.{is_nil_not_allowed}
+use Rattle.dfdl_checks.specs.Nils.{is_nil_malformed, is_nil_not_encoded}
 use Rattle.dfdl_checks.specs.Orders.{is_least_first, is_same_order, told_order}
 use Rattle.dfdl_checks.specs.BooleanTexts.{are_truth_texts_outside, false_texts, is_list_malformed, is_list_other, true_texts}
 use Rattle.dfdl_checks.specs.NumberTexts.{base_of, decimal_at, grouping_at, pattern_at, pattern_in, pattern_of, zoned_form_of}
@@ -203,6 +204,10 @@ is_prefix_type_not_allowed subject = is_prefixed subject && is_no_prefix_type su
 abbrev pub is_prefix_not_whole : Judged → Bool
 is_prefix_not_whole subject = option_map_or (is_not_whole subject) (prefix_subject subject) false
 
+-- 20: an element whose length is by a pattern that can't be built
+abbrev pub is_pattern_refused : Judged → Bool
+is_pattern_refused subject = subject.pattern_is_refused
+
 -- 21: a binary number whose least significant bits come first, of which littleEndian isn't told
 abbrev pub are_orders_apart : Judged → Bool
 are_orders_apart subject =
@@ -305,6 +310,7 @@ rules =
     ∷ at_itself causes.ConstantLength is_length_out_of_range
     ∷ at_itself causes.PrefixType is_prefix_type_not_allowed
     ∷ at_itself causes.PrefixLength is_prefix_not_whole
+    ∷ at_itself causes.PatternRefused is_pattern_refused
     ∷ at_itself causes.OrdersApart are_orders_apart
     ∷ at_itself causes.SecondBitOrder is_second_bit_order
     ∷ at_itself causes.EncodingNotAllowed is_character_not_encoded

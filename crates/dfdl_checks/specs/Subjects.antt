@@ -203,11 +203,19 @@ is_standard subject = is_text_number subject && not (is_told subject (codes "tex
 abbrev pub is_nillable : Judged → Bool
 is_nillable subject = is_element subject.kind && is_simple subject.kind && subject.facts.is_nillable
 
--- a component whose content stands in a box of its own length, that of its type or that of a prefix: a text, an element of type
--- hexBinary, or a complex element, which has a box by its own length or a prefix alone
+-- a component whose content stands in a box of its own length, that of its type or one that the data tell: a text, an element of
+-- type hexBinary, or a complex element, which has none of its type
 abbrev pub is_boxed : Judged → Bool
 is_boxed subject = is_text subject || is_hex_binary subject.kind || is_complex subject.kind
+
+-- what is no group has a length by a pattern
+abbrev pub is_by_pattern : Judged → Bool
+is_by_pattern subject = not (is_group subject.kind) && is_told subject (codes "lengthKind") (codes "pattern")
 
 -- what is no group has a length prefix
 abbrev pub is_prefixed : Judged → Bool
 is_prefixed subject = not (is_group subject.kind) && is_told subject (codes "lengthKind") (codes "prefixed")
+
+-- the data tell the length, by a prefix or by what a pattern matches in them
+abbrev pub is_sized_by_data : Judged → Bool
+is_sized_by_data subject = is_prefixed subject || is_by_pattern subject

@@ -4,7 +4,7 @@
 use Rattle.std.specs.Prelude.{ℕ, List, [], ◌∷◌, Bool, true, false, codes}
 use Rattle.dfdl_checks.specs.Values.{is_among, is_number, is_within}
 use Rattle.dfdl_checks.specs.declared.applicability.Bearers.{Bearers}
-use Rattle.dfdl_checks.specs.declared.applicability.Bearers.TheVariants.{EveryComponent, FramedComponents, Elements, OtherElements, SimpleElements, NillableElements, RepresentedElements, BoxedElements, Strings, PaddedStrings, PaddedBooleans, PaddedNumbers, Texts, TextNumbers, TextBooleans, StandardNumbers, ZonedNumbers, PatternNumbers, LooseTexts, BinaryNumbers, BinaryBooleans, OrderedBinaries, ExplicitBinaries, ExplicitBoxes, ImplicitStrings, PrefixedElements, PackedNumbers, BinaryDecimals, PatternElements, Groups, Sequences, EmptySequences}
+use Rattle.dfdl_checks.specs.declared.applicability.Bearers.TheVariants.{EveryComponent, FramedComponents, Elements, OtherElements, SimpleElements, NillableElements, TextNillables, RepresentedElements, BoxedElements, Strings, PaddedStrings, PaddedBooleans, PaddedNumbers, Texts, TextNumbers, TextBooleans, StandardNumbers, ZonedNumbers, PatternNumbers, LooseTexts, BinaryNumbers, BinaryBooleans, OrderedBinaries, ExplicitBinaries, ExplicitBoxes, ImplicitStrings, PrefixedElements, PackedNumbers, BinaryDecimals, PatternElements, Groups, Sequences, EmptySequences}
 use Rattle.dfdl_checks.specs.declared.purpose.Purpose.{Purpose}
 use Rattle.dfdl_checks.specs.declared.purpose.Purpose.TheVariants.{Parsing, Unparsing}
 
@@ -56,17 +56,19 @@ unfoldable pub applicability_table : List Applicability
 applicability_table =
     applies_by (codes "representation") RepresentedElements EveryValue (word (codes "binary"))
     ∷ applies (codes "encoding") Texts EveryValue
-    ∷ applies (codes "encoding") NillableElements EveryValue
+    ∷ applies (codes "encoding") TextNillables EveryValue
+    ∷ applies (codes "encoding") PatternElements EveryValue
     ∷ applies (codes "encodingErrorPolicy") Texts EveryValue
     ∷ applies (codes "byteOrder") OrderedBinaries EveryValue
     ∷ applies_by (codes "bitOrder") EveryComponent EveryValue (word (codes "mostSignificantBitFirst"))
     ∷ applies (codes "lengthKind") OtherElements (word (codes "implicit"))
-    ∷ applies_by (codes "lengthKind") BoxedElements (Words (codes "implicit" ∷ codes "explicit" ∷ codes "prefixed" ∷ [])) (word (codes "implicit"))
+    ∷ applies_by (codes "lengthKind") BoxedElements (Words (codes "implicit" ∷ codes "explicit" ∷ codes "prefixed" ∷ codes "pattern" ∷ []))
+    (word (codes "implicit"))
     ∷ applies_by (codes "lengthKind") BinaryNumbers
     (Words (codes "implicit" ∷ codes "explicit" ∷ codes "prefixed" ∷ codes "delimited" ∷ codes "pattern" ∷ []))
     (Words (codes "implicit" ∷ codes "delimited" ∷ codes "pattern" ∷ []))
     ∷ applies_by (codes "lengthKind") BinaryBooleans
-    (Words (codes "implicit" ∷ codes "explicit" ∷ codes "prefixed" ∷ codes "delimited" ∷ [])) (word (codes "implicit"))
+    (Words (codes "implicit" ∷ codes "explicit" ∷ codes "prefixed" ∷ codes "delimited" ∷ codes "pattern" ∷ [])) (word (codes "implicit"))
     ∷ applies (codes "length") ExplicitBinaries EachNumber
     ∷ applies (codes "length") ExplicitBoxes EachNumber
     ∷ applies (codes "lengthUnits") ExplicitBinaries EveryValue
@@ -86,7 +88,7 @@ applicability_table =
     ∷ applies (codes "separator") Groups (word (codes ""))
     ∷ applies (codes "initiatedContent") Groups (word (codes "no"))
     ∷ applies (codes "ignoreCase") TextBooleans EveryValue
-    ∷ applies (codes "ignoreCase") NillableElements EveryValue
+    ∷ applies (codes "ignoreCase") TextNillables EveryValue
     ∷ applies (codes "sequenceKind") Sequences (word (codes "ordered"))
     ∷ applies (codes "hiddenGroupRef") EmptySequences NoValue
     ∷ applies_by (codes "textTrimKind") Texts EveryValue (word (codes "none"))
@@ -116,7 +118,7 @@ applicability_table =
     ∷ applies (codes "binaryPackedSignCodes") PackedNumbers EveryValue
     ∷ applies (codes "binaryNumberCheckPolicy") PackedNumbers EveryValue
     ∷ applies (codes "binaryDecimalVirtualPoint") BinaryDecimals EveryValue
-    ∷ applies (codes "nilKind") NillableElements (Words (codes "literalValue" ∷ codes "literalCharacter" ∷ []))
+    ∷ applies (codes "nilKind") NillableElements EveryValue
     ∷ applies (codes "nilValue") NillableElements EveryValue
     ∷ applies (codes "nilValueDelimiterPolicy") SimpleElements EveryValue
     ∷ applies (codes "emptyValueDelimiterPolicy") SimpleElements EveryValue

@@ -12,6 +12,8 @@ pub enum Bearers {
     SimpleElements,
     /// Simple elements that may be nil.
     NillableElements,
+    /// Those among them whose nil is told by texts, and not by values.
+    TextNillables,
     /// Simple elements and types of prefixes but those of type string and hexBinary.
     RepresentedElements,
     /// Components whose content stands in a box: texts, elements of type hexBinary, and complex elements.

@@ -9,6 +9,7 @@ use crate::kinds::{
     is_decimal, is_element, is_group, is_prefix_number, is_represented, is_sequence, is_simple,
     is_string, value_bits,
 };
+use crate::nils::is_nil_by_value;
 use crate::number_texts::base_of;
 use crate::orders::is_least_first;
 use crate::pads::is_padded_text;
@@ -31,6 +32,7 @@ pub(crate) fn is_bearer(bearers: Bearers, subject: &Subject<'_, '_, '_>) -> bool
         Bearers::OtherElements => is_element(kind) && !is_boxed(subject) && !is_binary(subject),
         Bearers::SimpleElements => is_element(kind) && is_simple(kind),
         Bearers::NillableElements => is_nillable(subject),
+        Bearers::TextNillables => is_nillable(subject) && !is_nil_by_value(subject),
         Bearers::RepresentedElements => is_represented(kind),
         Bearers::BoxedElements => is_boxed(subject),
         Bearers::Strings => is_string(kind),

@@ -10,7 +10,7 @@ use crate::encodings::{character_bits, encoding_told};
 use crate::kinds::{is_complex, is_string, is_string_or_bytes};
 use crate::lengths::unit_bits;
 use crate::purpose::Purpose;
-use crate::representations::{is_boxed, is_explicit, is_prefixed, is_text, is_word};
+use crate::representations::{is_boxed, is_explicit, is_sized_by_data, is_text, is_word};
 use crate::subject::Subject;
 use crate::values::is_number;
 use dfdl_scope::{Asked, literal, property};
@@ -91,14 +91,14 @@ fn is_past_most(subject: &Subject<'_, '_, '_>) -> bool
     has_number(subject) && box_units(subject).is_none()
 }
 
-/// Whether a number of units is told, or a prefix tells one.
+/// Whether a number of units is told, or the data tell one.
 fn has_number(subject: &Subject<'_, '_, '_>) -> bool
     ensures { result ≡ is_some (boxes.box_number (judged_of subject.now)) }
 {
     if is_explicit(subject) {
         return is_number_told(property(subject.chain, "length"));
     }
-    if is_prefixed(subject) {
+    if is_sized_by_data(subject) {
         return true;
     }
     subject.facts.max_length.is_some()
@@ -134,7 +134,7 @@ pub(crate) fn box_units(subject: &Subject<'_, '_, '_>) -> Option<u64>
     if is_explicit(subject) {
         return units_told(unit, property(subject.chain, "length"));
     }
-    if is_prefixed(subject) {
+    if is_sized_by_data(subject) {
         return units_within(unit, 0);
     }
     match subject.facts.max_length {

@@ -10,7 +10,11 @@ use dfdl_value::{ByteValue, ReadFault, TextValue, Value};
 use std::alloc::{AllocError, Global};
 
 /// The value of a type that a text says.
-fn value_of(alloc: Global, simple: Simple, text: &str) -> Result<Option<Value>, AllocError>
+pub(crate) fn value_of(
+    alloc: Global,
+    simple: Simple,
+    text: &str,
+) -> Result<Option<Value>, AllocError>
     ensures { IfOk result (λ value. value ≡ defaults.value_of simple text.now) }
 {
     match Value::read(alloc, simple, text) {

@@ -15,10 +15,11 @@ ghost use Rattle.dfdl_checks.specs.Framing.{framing_of};
 ghost use Rattle.dfdl_checks.specs.Judged.{Judged};
 ghost use Rattle.dfdl_checks.specs.Numbers.{IsBinaryValue, IsTextOrBytesValue, primitive_of, type_of};
 ghost use Rattle.dfdl_checks.specs.Pads.{has_character, is_padded_text, pad_at, single};
+ghost use Rattle.dfdl_checks.specs.Patterns.{length_pattern, pattern_encoding, pattern_prefix};
 ghost use Rattle.dfdl_checks.specs.Prefixes.{is_integer, prefix_of};
 ghost use Rattle.dfdl_checks.specs.Representations.{no_representations, representations_of};
 ghost use Rattle.dfdl_checks.specs.Rules.{breach_of_component, first_breach, rules};
-ghost use Rattle.dfdl_checks.specs.Subjects.{is_binary, is_hex_binary, is_nillable, is_prefixed, is_simple, is_text, simple_of, told_at};
+ghost use Rattle.dfdl_checks.specs.Subjects.{is_binary, is_by_pattern, is_element, is_hex_binary, is_nillable, is_prefixed, is_simple, is_text, simple_of, told_at};
 ghost use Rattle.dfdl_checks.specs.declared.prefixes.PrefixForm.{PrefixForm};
 ghost use Rattle.dfdl_checks.specs.declared.purpose.Purpose.TheVariants.{Parsing, Unparsing};
 ghost use Rattle.dfdl_checks.specs.declared.subject.Kind.TheVariants.{ComplexElement};
@@ -43,6 +44,20 @@ pub fn sound_texts_have_pad_characters()
 /// An element with a length prefix has, where neither it nor the type of its prefix has a breach, a prefix for parsing.
 pub fn sound_elements_have_prefixes()
     ensures { (j : Judged) → breach_of_component j ≡ None → j.purpose ≡ Parsing → IsTrue (is_prefixed j) → IsSome (prefix_of j) }
+{}
+
+/// An element whose length is by a pattern has, where it breaks no rule, one for parsing.
+pub fn sound_elements_have_patterns()
+    ensures { (j : Judged) → first_breach rules j ≡ None → j.purpose ≡ Parsing → IsTrue (is_element j.kind) → IsTrue (is_by_pattern j)
+        → IsSome (pattern_prefix j) }
+{}
+
+/// A pattern that tells a length, whether its component breaks rules or not, keeps the bounds of its form, stands before a content
+/// without a length prefix, and is there for parsing alone.
+pub fn patterns_stand_alone()
+    ensures bounded { (j : Judged) (f : PrefixForm) → pattern_prefix j ≡ Some f → IsPrimitive f.primitive }
+    ensures alone { (j : Judged) (f : PrefixForm) → pattern_prefix j ≡ Some f → prefix_of j ≡ None }
+    ensures parsing { (j : Judged) → j.purpose ≡ Unparsing → pattern_prefix j ≡ None }
 {}
 
 /// A component with a primitive, whether it breaks rules or not, is an element of the primitive's type, or a prefix of it, and
@@ -96,7 +111,7 @@ pub fn boxes_are_bounded()
 {}
 
 /// Components whose chains give the same, name by name, and those of the types of their prefixes, have the same breach, the same
-/// primitive, the same other representations, the same fill, the same box and the same prefix.
+/// primitive, the same other representations, the same fill, the same box, the same prefix, and the same pattern of their length.
 pub fn alike_components_are_judged_alike()
     ensures breach { (a b : Judged) → IsAlike a b → breach_of_component a ≡ breach_of_component b }
     ensures primitive { (a b : Judged) → IsAlike a b → primitive_of a ≡ primitive_of b }
@@ -104,6 +119,9 @@ pub fn alike_components_are_judged_alike()
     ensures framing { (a b : Judged) → IsAlike a b → framing_of a ≡ framing_of b }
     ensures size { (a b : Judged) → IsAlike a b → size_of_box a ≡ size_of_box b }
     ensures prefix { (a b : Judged) → IsAlike a b → prefix_of a ≡ prefix_of b }
+    ensures text { (a b : Judged) → IsAlike a b → length_pattern a ≡ length_pattern b }
+    ensures encoding { (a b : Judged) → IsAlike a b → pattern_encoding a ≡ pattern_encoding b }
+    ensures pattern { (a b : Judged) → IsAlike a b → pattern_prefix a ≡ pattern_prefix b }
 {}
 
 /// Chains that give the same, name by name, tell the same of each property.

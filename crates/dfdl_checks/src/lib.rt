@@ -7,10 +7,11 @@
 //! `specs/Table.antt`. `primitive` says how the values of a simple element without a breach lie in the data, by
 //! `specs/Numbers.antt` and `specs/Texts.antt`: text numbers are read by `specs/NumberTexts.antt`, text booleans by
 //! `specs/BooleanTexts.antt`, and the characters by which texts are padded and trimmed are those of `specs/Pads.antt`.
-//! `prefix` says how the length prefix of an element lies in the data, by `specs/Prefixes.antt`. `framing` says which fill
-//! stands around a component, by `specs/Framing.antt`, and `size_of_box` how long a complex element's box is, by
-//! `specs/Boxes.antt`. `other_representations` says which representations of a simple element are tried before its normal
-//! one, by `specs/Representations.antt`, which stands on `specs/Nils.antt` and `specs/Defaults.antt`. The chapters are
+//! `prefix` says how the length prefix of an element lies in the data, by `specs/Prefixes.antt`, and `length_pattern` which
+//! pattern tells its length, by `specs/Patterns.antt`. `framing` says which fill stands around a component, by
+//! `specs/Framing.antt`, and `size_of_box` how long a complex element's box is, by `specs/Boxes.antt`.
+//! `other_representations` says which representations of a simple element are tried before its normal one, by
+//! `specs/Representations.antt`, which stands on `specs/Nils.antt`, `specs/NilValues.antt` and `specs/Defaults.antt`. The chapters are
 //! 'Property Scoping and DFDL Schema Checking', 'DFDL Data Syntax Grammar', 'Framing', 'Lengths' and 'Simple Types'.
 #![tactic(auto)]
 
@@ -29,12 +30,14 @@ mod kinds;
 pub mod laws;
 mod length_rules;
 mod lengths;
+mod nil_values;
 mod nils;
 mod number;
 mod number_texts;
 mod orders;
 mod packed;
 mod pads;
+mod patterns;
 mod prefixes;
 mod purpose;
 mod representations;
@@ -51,6 +54,7 @@ pub use boxes::size_of_box;
 pub use fill::framing;
 pub use number::primitive;
 pub use orders::bit_order;
+pub use patterns::{length_pattern, pattern_encoding};
 pub use prefixes::{PrefixForm, prefix};
 pub use purpose::Purpose;
 pub use rules::breach;

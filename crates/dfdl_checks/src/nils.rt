@@ -9,7 +9,6 @@ ghost use Rattle.dfdl_literals.specs.Readings.{literals_reading};
 ghost use Rattle.dfdl_scope.specs.Told.{told_by};
 
 use crate::encodings::encoding_told;
-use crate::kinds::is_complex;
 use crate::pads::{is_malformed, is_other, is_outside, lacks_character, single};
 use crate::representations::{is_explicit, is_nillable, is_word};
 use crate::subject::Subject;
@@ -31,6 +30,13 @@ fn is_nil_by_character(subject: &Subject<'_, '_, '_>) -> bool
     ensures { result ≡ nils.is_nil_by_character (judged_of subject.now) }
 {
     is_nillable(subject) && is_word(subject.chain, "nilKind", "literalCharacter")
+}
+
+/// Whether nil is the value of some literals.
+pub(crate) fn is_nil_by_value(subject: &Subject<'_, '_, '_>) -> bool
+    ensures { result ≡ nils.is_nil_by_value (judged_of subject.now) }
+{
+    is_nillable(subject) && is_word(subject.chain, "nilKind", "logicalValue")
 }
 
 /// The literals that a text is, if it is some; `%ES;` may be one.
@@ -56,7 +62,7 @@ fn literals_told(alloc: Global, told: Asked<'_>) -> Result<Option<Literals>, All
 }
 
 /// The literals of nil at a component.
-fn nil_literals(
+pub(crate) fn nil_literals(
     alloc: Global,
     subject: &Subject<'_, '_, '_>,
 ) -> Result<Option<Literals>, AllocError>
@@ -114,7 +120,7 @@ pub(crate) fn is_nil_malformed(
     if is_nil_by_character(subject) && is_malformed(nil_character(subject)) {
         return Ok(true);
     }
-    if !is_nil_by_literals(subject) {
+    if !(is_nil_by_literals(subject) || is_nil_by_value(subject)) {
         return Ok(false);
     }
     are_literals_malformed(alloc, property(subject.chain, "nilValue"))
@@ -197,17 +203,10 @@ fn is_length_fixed(subject: &Subject<'_, '_, '_>) -> bool
 
 /// Whether nil is by what is no single character, or by one where the length is neither the element's own nor that of its
 /// type.
-fn is_nil_unfit(subject: &Subject<'_, '_, '_>) -> bool
+pub(crate) fn is_nil_unfit(subject: &Subject<'_, '_, '_>) -> bool
     ensures { result ≡ nils.is_nil_unfit (judged_of subject.now) }
 {
     is_nil_by_character(subject) && (is_other(nil_character(subject)) || !is_length_fixed(subject))
-}
-
-/// Whether it is a complex element that may be nil, or nil is by what can't stand for it.
-pub(crate) fn is_nil_not_allowed(subject: &Subject<'_, '_, '_>) -> bool
-    ensures { result ≡ nils.is_nil_not_allowed (judged_of subject.now) }
-{
-    (is_complex(subject.kind) && subject.facts.is_nillable) || is_nil_unfit(subject)
 }
 
 /// The texts of nil by literals at a component.

@@ -13,7 +13,7 @@ use crate::lengths::constant_size;
 use crate::orders::{Orders, orders_of};
 use crate::packed::{codes_for, constant_nibbles, is_strict, rep_of};
 use crate::purpose::Purpose;
-use crate::representations::{is_explicit, is_prefixed, is_text};
+use crate::representations::{is_explicit, is_sized_by_data, is_text};
 use crate::rules::is_built_type;
 use crate::subject::{Kind, Subject};
 use crate::text::{octets_of, text_of};
@@ -177,14 +177,14 @@ fn packed_by(
     }
 }
 
-/// How many nibbles the field of a packed number has; one where a prefix tells them.
+/// How many nibbles the field of a packed number has; one where the data tell them.
 fn field_nibbles(rep: PackedRep, subject: &Subject<'_, '_, '_>) -> Option<u32>
     ensures { result ≡ numbers.field_nibbles (judged_of subject.now) rep }
 {
     if is_explicit(subject) {
         return constant_nibbles(rep, subject.chain);
     }
-    if is_prefixed(subject) {
+    if is_sized_by_data(subject) {
         return Some(1);
     }
     None

@@ -120,6 +120,7 @@ fn judged_integer<'s, 'e, 'c>(
             facts: NO_FACTS,
             root_bits_by: subject.root_bits_by,
             prefix: None,
+            pattern_is_refused: false,
         }),
         _ => None,
     }
@@ -186,7 +187,7 @@ fn counts_prefix(subject: &Subject<'_, '_, '_>) -> bool
     is_word(subject.chain, "prefixIncludesPrefixLength", "yes")
 }
 
-/// How long the fields of a primitive are.
+/// How long the fields of a primitive are; what is no component's own may have none.
 pub(crate) fn size_of(primitive: &Primitive) -> TextSize
     requires { IsPrimitive primitive.now }
     ensures size { result ≡ prefixes.size_of primitive.now }
@@ -200,6 +201,7 @@ pub(crate) fn size_of(primitive: &Primitive) -> TextSize
         Primitive::Text(form) => form.size,
         Primitive::NilOctets(form) => TextSize::Bits(form.octets.bits),
         Primitive::Default(form) => form.size,
+        Primitive::NilValues(_) | Primitive::Pattern(_) => TextSize::Bits(0),
     }
 }
 

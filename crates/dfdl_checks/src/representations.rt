@@ -114,9 +114,23 @@ pub(crate) fn is_boxed(subject: &Subject<'_, '_, '_>) -> bool
     is_text(subject) || is_hex_binary(subject.kind) || is_complex(subject.kind)
 }
 
+/// Whether what is no group has a length by a pattern.
+pub(crate) fn is_by_pattern(subject: &Subject<'_, '_, '_>) -> bool
+    ensures { result ≡ subjects.is_by_pattern (judged_of subject.now) }
+{
+    !is_group(subject.kind) && is_word(subject.chain, "lengthKind", "pattern")
+}
+
 /// Whether it has a length prefix.
 pub(crate) fn is_prefixed(subject: &Subject<'_, '_, '_>) -> bool
     ensures { result ≡ subjects.is_prefixed (judged_of subject.now) }
 {
     !is_group(subject.kind) && is_word(subject.chain, "lengthKind", "prefixed")
+}
+
+/// Whether the data tell the length, by a prefix or by what a pattern matches in them.
+pub(crate) fn is_sized_by_data(subject: &Subject<'_, '_, '_>) -> bool
+    ensures { result ≡ subjects.is_sized_by_data (judged_of subject.now) }
+{
+    is_prefixed(subject) || is_by_pattern(subject)
 }

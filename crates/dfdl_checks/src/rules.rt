@@ -14,7 +14,7 @@ use crate::length_rules::{
     is_length_in_characters, is_length_kind_not_allowed, is_length_out_of_range,
     is_max_length_missing, is_prefix_not_whole, is_prefix_type_missing, is_prefix_type_not_allowed,
 };
-use crate::nils::is_nil_not_allowed;
+use crate::nil_values::is_nil_not_allowed;
 use crate::orders::{bit_order, is_least_first, is_same_order};
 use crate::packed::codes_told;
 use crate::prefixes::prefix_subject;
@@ -106,6 +106,9 @@ fn length_breach(alloc: Global, subject: &Subject<'_, '_, '_>) -> Result<Option<
     if is_prefix_not_whole(alloc, subject)? {
         return told_here(SchemaCause::PrefixLength, subject);
     }
+    if subject.pattern_is_refused {
+        return told_here(SchemaCause::PatternRefused, subject);
+    }
     content_breach(alloc, subject)
 }
 
@@ -115,7 +118,7 @@ fn content_breach(
     alloc: Global,
     subject: &Subject<'_, '_, '_>,
 ) -> Result<Option<Breach>, AllocError>
-    ensures { IfOk result (λ breach. breach ≡ spec.first_breach (drop 13 spec.rules) (judged_of subject.now)) }
+    ensures { IfOk result (λ breach. breach ≡ spec.first_breach (drop 14 spec.rules) (judged_of subject.now)) }
 {
     if are_orders_apart(subject) {
         return told_here(SchemaCause::OrdersApart, subject);
@@ -150,9 +153,9 @@ fn representation_breach(
     alloc: Global,
     subject: &Subject<'_, '_, '_>,
 ) -> Result<Option<Breach>, AllocError>
-    ensures { IfOk result (λ breach. breach ≡ spec.first_breach (drop 21 spec.rules) (judged_of subject.now)) }
+    ensures { IfOk result (λ breach. breach ≡ spec.first_breach (drop 22 spec.rules) (judged_of subject.now)) }
 {
-    if is_nil_not_allowed(subject) {
+    if is_nil_not_allowed(alloc, subject)? {
         return told_here(SchemaCause::NilNotAllowed, subject);
     }
     if is_default_not_allowed(alloc, subject)? {

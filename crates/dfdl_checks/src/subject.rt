@@ -63,6 +63,8 @@ pub struct Subject<'s, 'e, 'c> {
     pub root_bits_by: BitOrder,
     /// The type that its property prefixLengthType names, if it names one.
     pub prefix: Option<PrefixType<'s, 'e, 'c>>,
+    /// The pattern of its length can't be built.
+    pub pattern_is_refused: bool,
 }
 
 /// A rule that a component breaks, by its cause, and where that is told.

@@ -13,7 +13,7 @@ pub(crate) fn applicabilities() -> &'static [Applicability]
     &APPLICABILITIES
 }
 
-static APPLICABILITIES: [Applicability; 65] = [
+static APPLICABILITIES: [Applicability; 66] = [
     Applicability {
         name: "representation",
         bearers: Bearers::RepresentedElements,
@@ -28,7 +28,13 @@ static APPLICABILITIES: [Applicability; 65] = [
     },
     Applicability {
         name: "encoding",
-        bearers: Bearers::NillableElements,
+        bearers: Bearers::TextNillables,
+        parsing: Built::EveryValue,
+        unparsing: Built::EveryValue,
+    },
+    Applicability {
+        name: "encoding",
+        bearers: Bearers::PatternElements,
         parsing: Built::EveryValue,
         unparsing: Built::EveryValue,
     },
@@ -59,7 +65,7 @@ static APPLICABILITIES: [Applicability; 65] = [
     Applicability {
         name: "lengthKind",
         bearers: Bearers::BoxedElements,
-        parsing: Built::Words(&["implicit", "explicit", "prefixed"]),
+        parsing: Built::Words(&["implicit", "explicit", "prefixed", "pattern"]),
         unparsing: Built::Words(&["implicit"]),
     },
     Applicability {
@@ -71,7 +77,7 @@ static APPLICABILITIES: [Applicability; 65] = [
     Applicability {
         name: "lengthKind",
         bearers: Bearers::BinaryBooleans,
-        parsing: Built::Words(&["implicit", "explicit", "prefixed", "delimited"]),
+        parsing: Built::Words(&["implicit", "explicit", "prefixed", "delimited", "pattern"]),
         unparsing: Built::Words(&["implicit"]),
     },
     Applicability {
@@ -190,7 +196,7 @@ static APPLICABILITIES: [Applicability; 65] = [
     },
     Applicability {
         name: "ignoreCase",
-        bearers: Bearers::NillableElements,
+        bearers: Bearers::TextNillables,
         parsing: Built::EveryValue,
         unparsing: Built::EveryValue,
     },
@@ -371,8 +377,8 @@ static APPLICABILITIES: [Applicability; 65] = [
     Applicability {
         name: "nilKind",
         bearers: Bearers::NillableElements,
-        parsing: Built::Words(&["literalValue", "literalCharacter"]),
-        unparsing: Built::Words(&["literalValue", "literalCharacter"]),
+        parsing: Built::EveryValue,
+        unparsing: Built::EveryValue,
     },
     Applicability {
         name: "nilValue",

@@ -2,21 +2,24 @@
 ghost use Rattle.std.specs.Prelude.{◌≡◌, IfOk, option_and_then, option_map};
 ghost use Rattle.std.specs.Option.{option_map_or};
 ghost use Rattle.dfdl_checks.specs.JudgedShown.{judged_of};
+ghost use Rattle.dfdl_checks.specs.Nils.{nil_form_of};
+ghost use Rattle.dfdl_checks.specs.NilValues.{nil_values};
 ghost use Rattle.dfdl_checks.specs.Numbers.{primitive_of};
 ghost use Rattle.dfdl_checks.specs.Representations as tried;
 ghost use Rattle.dfdl_terms.specs.Rows.{IsPrimitive};
 
 use crate::defaults::empty_value;
 use crate::kinds::is_string_or_bytes;
-use crate::nils::nil_form_of;
+use crate::nil_values::nil_values;
+use crate::nils::{is_nil_by_value, nil_form_of};
 use crate::prefixes::{bounded_primitive, size_of};
 use crate::purpose::Purpose;
-use crate::representations::{is_nillable, is_prefixed};
+use crate::representations::{is_nillable, is_sized_by_data};
 use crate::subject::{Kind, Subject};
 use dfdl_forms::{BitOrder, PadForm, Simple};
 use dfdl_terms::{
-    DefaultForm, NilForm, NilOctets, NilTexts, OctetForm, Primitive, TextContent, TextForm,
-    TextSize,
+    DefaultForm, NilForm, NilOctets, NilTexts, NilValues, OctetForm, Primitive, TextContent,
+    TextForm, TextSize, ValueList,
 };
 use dfdl_value::Value;
 use std::alloc::{AllocError, Global};
@@ -97,7 +100,7 @@ fn of_primitive(
     requires { IsPrimitive primitive.now }
     ensures { IfOk result (λ others. others ≡ tried.representations_with (judged_of subject.now) simple primitive.now) }
 {
-    let nil = nil_of(alloc, subject, primitive)?;
+    let nil = nil_of(alloc, simple, subject, primitive)?;
     let empty = empty_of(alloc, simple, subject, size_of(primitive))?;
     Ok(OtherRepresentations {
         nil,
@@ -113,13 +116,45 @@ fn are_several(subject: &Subject<'_, '_, '_>) -> bool
     is_nillable(subject) || is_string_or_bytes(subject.kind) || subject.facts.default.is_some()
 }
 
-/// The nil representation of an element with this primitive, where it may be nil.
+/// The nil representation of an element of a type with this primitive, where it may be nil.
 fn nil_of(
+    alloc: Global,
+    simple: Simple,
+    subject: &Subject<'_, '_, '_>,
+    primitive: &Primitive,
+) -> Result<Option<Primitive>, AllocError>
+    ensures { IfOk result (λ nil. nil ≡ tried.nil_of (judged_of subject.now) simple primitive.now) }
+{
+    if is_nil_by_value(subject) {
+        nil_of_values(alloc, simple, subject)
+    } else {
+        nil_of_texts(alloc, subject, primitive)
+    }
+}
+
+/// Nil in place of the values of a type that stand for it.
+fn nil_of_values(
+    alloc: Global,
+    simple: Simple,
+    subject: &Subject<'_, '_, '_>,
+) -> Result<Option<Primitive>, AllocError>
+    ensures { IfOk result (λ nil. nil ≡ option_map tried.nil_in (nil_values (judged_of subject.now) simple)) }
+{
+    match nil_values(alloc, simple, subject)? {
+        Some(values) => Ok(Some(Primitive::NilValues(NilValues {
+            values: ValueList::from_vec(values),
+        }))),
+        None => Ok(None),
+    }
+}
+
+/// Nil in the box of a primitive, by the texts that stand for it.
+fn nil_of_texts(
     alloc: Global,
     subject: &Subject<'_, '_, '_>,
     primitive: &Primitive,
 ) -> Result<Option<Primitive>, AllocError>
-    ensures { IfOk result (λ nil. nil ≡ tried.nil_of (judged_of subject.now) primitive.now) }
+    ensures { IfOk result (λ nil. nil ≡ option_and_then (tried.nil_by primitive.now) (nil_form_of (judged_of subject.now))) }
 {
     match nil_form_of(alloc, subject)? {
         Some(nil) => Ok(nil_by(primitive, nil)),
@@ -139,7 +174,10 @@ fn nil_by(primitive: &Primitive, nil: NilForm) -> Option<Primitive>
         Primitive::Truth(form) => Some(nil_octets(nil, u64::from(form.bits), form.bits_by)),
         Primitive::Octets(form) => Some(nil_octets(nil, form.bits, form.bits_by)),
         Primitive::Text(form) => Some(Primitive::Text(nil_text(nil, form))),
-        Primitive::NilOctets(_) | Primitive::Default(_) => None,
+        Primitive::NilOctets(_)
+        | Primitive::Default(_)
+        | Primitive::NilValues(_)
+        | Primitive::Pattern(_) => None,
     }
 }
 
@@ -189,7 +227,7 @@ fn is_nothing(size: TextSize) -> bool
 fn can_be_empty(subject: &Subject<'_, '_, '_>, size: TextSize) -> bool
     ensures { result ≡ tried.can_be_empty (judged_of subject.now) size }
 {
-    is_prefixed(subject) || is_nothing(size)
+    is_sized_by_data(subject) || is_nothing(size)
 }
 
 /// The empty representation of an element with this size, where no bits stand for a value.

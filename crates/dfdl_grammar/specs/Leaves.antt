@@ -301,7 +301,7 @@ program_for (Some values) primitive bit stop = and_then (program primitive bit s
 
 -- the values of an element that are nil, where a primitive tells them
 abbrev pub values_in : Option Primitive → Option (List Value)
-values_in (Some (NilValues form)) = Some form.values.items
+values_in (Some (NilValues form)) = Some form.values
 values_in _ = None
 
 -- the number of the primitive by which a leaf is read: this one, unless it tells values

@@ -11,6 +11,7 @@ pub mod representations;
 pub mod row;
 pub mod terms;
 pub mod text;
+pub mod value_list;
 
 pub use event::Event;
 pub use framing::Framing;
@@ -22,3 +23,4 @@ pub use text::{
     DefaultForm, NilForm, NilOctets, NilTexts, NilValues, OctetForm, PatternForm, TextContent,
     TextForm, TextSize,
 };
+pub use value_list::ValueList;

@@ -1,5 +1,6 @@
 ghost use Rattle.dfdl_terms.specs.Rows.{IsWritten};
 
+use crate::value_list::ValueList;
 use dfdl_forms::{BitOrder, Encoding, Literals, NumberForm, PadForm, Simple, TruthForm, ZonedForm};
 use dfdl_length_patterns::LengthPattern;
 use dfdl_value::Value;
@@ -40,7 +41,7 @@ pub struct NilOctets {
 /// Values of an element that stand for nil ('DFDL Data Syntax Grammar', on nilKind logicalValue).
 #[derive(Debug, Drop)]
 pub struct NilValues {
-    pub values: Vec<Value>,
+    pub values: ValueList,
 }
 
 /// How the length of an element is told by what a pattern matches in the data ('Lengths', on lengthPattern).

@@ -3,6 +3,7 @@ use Rattle.dfdl_checks.proofs.Alike.{same-component}
 use Rattle.dfdl_checks.specs.Boxes.{size_of_box}
 use Rattle.dfdl_checks.specs.Framing.{framing_of}
 use Rattle.dfdl_checks.specs.Numbers.{primitive_of}
+use Rattle.dfdl_checks.specs.Patterns.{length_pattern, pattern_encoding, pattern_prefix}
 use Rattle.dfdl_checks.specs.Prefixes.{prefix_of}
 use Rattle.dfdl_checks.specs.Representations.{representations_of}
 use Rattle.dfdl_checks.specs.Rules.{breach_of_component}
@@ -25,3 +26,12 @@ returns-clause-size c = λ a b alike. ap size_of_box (same-component a b alike)
 
 pub returns-clause-prefix : goal.returns-clause-prefix
 returns-clause-prefix c = λ a b alike. ap prefix_of (same-component a b alike)
+
+pub returns-clause-text : goal.returns-clause-text
+returns-clause-text c = λ a b alike. ap length_pattern (same-component a b alike)
+
+pub returns-clause-encoding : goal.returns-clause-encoding
+returns-clause-encoding c = λ a b alike. ap pattern_encoding (same-component a b alike)
+
+pub returns-clause-pattern : goal.returns-clause-pattern
+returns-clause-pattern c = λ a b alike. ap pattern_prefix (same-component a b alike)

@@ -33,3 +33,6 @@ pub use operators::{
 pub use order::{Relation, compare};
 pub use substrings::{substring, substring_from};
 pub use texts::{concat, contains, ends_with, starts_with, string_length, text_in};
+
+#[cfg(test)]
+mod tests;

@@ -51,3 +51,24 @@ fn an_instance_is_set_once_and_not_behind_a_read(rt: HostRuntime) -> Result<(), 
     assert!(rt; vars.enter(1, None).is_err());
     Ok(())
 }
+
+// A mark, an instance of its own behind it that is set and left again, and one that is still open, and back to the mark.
+#[test]
+fn going_back_takes_away_what_was_done(rt: HostRuntime) -> Result<(), Fail> {
+    let definitions = [variable(rt.alloc())?];
+    let given = VarValues::new(rt.alloc());
+    let mut vars = Vars::open(rt.alloc(), &definitions, &given, 2)?;
+    let mark = vars.mark();
+    assert!(rt; vars.enter(0, Some(Value::Int(5))).is_ok());
+    assert!(rt; vars.value(0) == Some(&Value::Int(5)));
+    vars.leave();
+    assert!(rt; vars.value(0) == Some(&Value::Int(-7)));
+    assert!(rt; vars.set(0, Value::Int(1)).is_ok());
+    vars.read(0);
+    assert!(rt; vars.enter(0, None).is_ok());
+    vars.undo_to(mark);
+    assert!(rt; vars.value(0) == Some(&Value::Int(-7)));
+    assert!(rt; vars.set(0, Value::Int(3)).is_ok());
+    assert!(rt; vars.value(0) == Some(&Value::Int(3)));
+    Ok(())
+}

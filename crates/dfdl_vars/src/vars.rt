@@ -170,7 +170,8 @@ impl Vars {
     /// Goes back to a mark: each instance is open, set and read as it was there.
     pub fn undo_to(&mut self, mark: VarMark)
         requires { IsLive mark self.old }
-        ensures { (base : Kept) → LeadsBack base self.old → mark ≡ mark_of base → self.new ≡ base }
+        ensures back { (base : Kept) → LeadsBack base self.old → mark ≡ mark_of base → self.new ≡ base }
+        ensures globals { self.new.globals ≡ self.old.globals }
     {
         self.instances.truncate(mark.instances);
         go_back(&mut self.instances, &mut self.changes, mark.changes);

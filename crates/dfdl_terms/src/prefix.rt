@@ -6,10 +6,11 @@ pub enum LengthUnit {
     Characters,
 }
 
-/// A length prefix: a number that stands before a content and tells how long that is ('Lengths', on lengthKind prefixed).
+/// What tells how long a content is that stands behind it: a number, or what a pattern matches in the content itself
+/// ('Lengths', on lengthKind prefixed and pattern).
 #[derive(Debug, Clone, Copy, PartialEq, Eq)]
 pub struct Prefix {
-    /// It is read by the primitive of this number in the tables, as an integer.
+    /// It is read by the primitive of this number in the tables, as an integer; a pattern takes no bits.
     pub prim: u32,
     pub unit: LengthUnit,
     /// So many of the units that it counts are its own.

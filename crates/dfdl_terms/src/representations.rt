@@ -2,7 +2,7 @@
 /// their content is read in place of that of the element ('DFDL Data Syntax Grammar').
 #[derive(Debug, Clone, Copy, PartialEq, Eq)]
 pub struct Representations {
-    /// The primitive of the nil representation, where that is tried.
+    /// The primitive of the nil representation, where that is tried; one that tells values leaves the element's own in its place.
     pub nil: Option<u32>,
     /// The primitive of the empty representation, where that is tried.
     pub empty: Option<u32>,

@@ -1,5 +1,5 @@
 -- What is known of each pattern that tells a length.
-use Rattle.std.proofs.Common.{◌≡◌, refl, sym, ap, subst, ◌∙◌, ℕ, List, Option, Some, None, Bool, true, false, not, if◌then◌else◌, ◌&&◌, option_and_then, codes, IsTrue, arith}
+use Rattle.std.proofs.Common.{◌≡◌, refl, ap, subst, ◌∙◌, ℕ, List, Option, Some, None, Bool, true, false, not, if◌then◌else◌, ◌&&◌, option_and_then, codes, arith}
 use Rattle.dfdl_forms.specs.declared.encoding.Encoding.{Encoding}
 use Rattle.dfdl_terms.specs.Rows.{IsPrimitive}
 use Rattle.dfdl_checks.proofs.BoxBounds.{none-some, some-is}
@@ -7,7 +7,7 @@ use Rattle.dfdl_checks.proofs.Built.{other-word}
 use Rattle.dfdl_checks.specs.Judged.{Judged}
 use Rattle.dfdl_checks.specs.Patterns.{form_by, is_measured, length_pattern, pattern_encoding, pattern_for, pattern_prefix, pattern_told}
 use Rattle.dfdl_checks.specs.Prefixes.{form_of_type, judged_integer, prefix_for, prefix_of}
-use Rattle.dfdl_checks.specs.Subjects.{is_binary_number, is_by_pattern, is_element, is_group, is_prefixed, is_told, told_at}
+use Rattle.dfdl_checks.specs.Subjects.{is_binary_number, is_element, is_group, is_prefixed, is_told, told_at}
 use Rattle.dfdl_checks.specs.declared.prefixes.PrefixForm.{PrefixForm}
 use Rattle.dfdl_checks.specs.declared.purpose.Purpose.{Purpose}
 use Rattle.dfdl_checks.specs.declared.purpose.Purpose.TheVariants.{Parsing, Unparsing}

@@ -61,7 +61,8 @@ applicability_table =
     ∷ applies (codes "encodingErrorPolicy") Texts EveryValue
     ∷ applies (codes "byteOrder") OrderedBinaries EveryValue
     ∷ applies_by (codes "bitOrder") EveryComponent EveryValue (word (codes "mostSignificantBitFirst"))
-    ∷ applies (codes "lengthKind") OtherElements (word (codes "implicit"))
+    ∷ applies_by (codes "lengthKind") OtherElements (Words (codes "implicit" ∷ codes "explicit" ∷ codes "prefixed" ∷ codes "pattern" ∷ []))
+    (word (codes "implicit"))
     ∷ applies_by (codes "lengthKind") BoxedElements (Words (codes "implicit" ∷ codes "explicit" ∷ codes "prefixed" ∷ codes "pattern" ∷ []))
     (word (codes "implicit"))
     ∷ applies_by (codes "lengthKind") BinaryNumbers

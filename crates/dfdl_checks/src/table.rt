@@ -59,7 +59,7 @@ static APPLICABILITIES: [Applicability; 66] = [
     Applicability {
         name: "lengthKind",
         bearers: Bearers::OtherElements,
-        parsing: Built::Words(&["implicit"]),
+        parsing: Built::Words(&["implicit", "explicit", "prefixed", "pattern"]),
         unparsing: Built::Words(&["implicit"]),
     },
     Applicability {

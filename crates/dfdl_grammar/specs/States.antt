@@ -1,5 +1,5 @@
 -- What is known while data are parsed. 'Parsing Algorithm'.
-use Rattle.std.specs.Prelude.{ℕ, ◌/◌, List, [], ◌∷◌, Option, Some, None, if◌then◌else◌}
+use Rattle.std.specs.Prelude.{ℕ, ◌/◌, List, [], ◌∷◌, Option, None, if◌then◌else◌}
 use Rattle.dfdl_region.specs.declared.node.Node.{Node}
 use Rattle.dfdl_grammar.specs.declared.limits.Limits.{Limits}
 use Rattle.dfdl_grammar.specs.declared.mark.Mark.{Mark}

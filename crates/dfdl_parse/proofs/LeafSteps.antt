@@ -1,5 +1,5 @@
 -- The steps of leaves and prefixes do a part of what is ahead.
-use Rattle.std.proofs.Common.{◌≡◌, ℕ, ◌+◌, ◌-◌, ◌*◌, ◌/◌, ◌%◌, ◌<◌, nat_eq, nat_le, ◌&&◌, refl, List, ◌∷◌, Bool, true, false, cond, Option, Some, None, ap, sym, ◌∙◌, arith}
+use Rattle.std.proofs.Common.{◌≡◌, ℕ, ◌+◌, ◌*◌, ◌/◌, ◌%◌, ◌<◌, nat_eq, nat_le, ◌&&◌, refl, List, ◌∷◌, Bool, true, false, cond, Option, Some, None, ap, sym, ◌∙◌, arith}
 use Rattle.std.specs.Prelude.{slice_get}
 use Rattle.std.proofs.lemmas.Bool.Decides.{nat_tests}
 use Rattle.dfdl_bits.specs.Window.{Held, from_byte, seen_at}

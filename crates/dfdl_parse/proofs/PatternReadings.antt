@@ -32,7 +32,7 @@ module _ (look : ℕ → Seen) (form : PatternForm) (first : ℕ) where
   pattern-read text chars glance looks scratch found answers shown =
       let here : Reading Text = ask look text nothing in
       let whole : ask look (and_then text (λ text. Answer (pattern_find form first text))) nothing
-          ≡ record { reached = pattern_reached form first here.reached; tally = here.tally } =
+      ≡ record { reached = pattern_reached form first here.reached; tally = here.tally } =
       ask-then look (λ text. Answer (pattern_find form first text)) text nothing ∙ behind-pattern here.reached here.tally in
       record {
         reached = ap (λ (r : Reading Find). r.reached) whole ∙ ap (pattern_reached form first) answers.reached ∙ sym shown;

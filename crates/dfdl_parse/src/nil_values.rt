@@ -31,10 +31,7 @@ pub(crate) fn nil_value_found(
 {
     match found {
         Found::Reads { content, end } => Ok(nil_found(is_content(values, content), end)),
-        Found::Octets { end } => Ok(nil_found(
-            are_octets(values, scratch.octets.as_slice()),
-            end,
-        )),
+        Found::Octets { end } => Ok(nil_found(are_octets(values, scratch.octets.as_slice()), end)),
         Found::Utf8 { end } => Ok(nil_found(is_text(values, scratch.octets.as_slice()), end)),
         Found::Text { from, to, end } => {
             let is_nil = are_text(values, scratch, from, to)?;

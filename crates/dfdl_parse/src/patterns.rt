@@ -98,11 +98,7 @@ fn matched_width(form: &PatternForm, scratch: &mut Scratch) -> Result<u128, Allo
 {
     put_text(scratch.characters.as_slice(), &mut scratch.text)?;
     let found = form.pattern.find(scratch.alloc, scratch.text.as_str())?;
-    Ok(width_of_match(
-        form.encoding,
-        scratch.characters.as_slice(),
-        found,
-    ))
+    Ok(width_of_match(form.encoding, scratch.characters.as_slice(), found))
 }
 
 /// Puts characters into a text, in place of what it has.

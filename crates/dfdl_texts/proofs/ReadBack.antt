@@ -1,5 +1,5 @@
 -- What is written in an encoding is read back as a text.
-use Rattle.std.proofs.Common.{◌≡◌, ℕ, zero, suc, ◌+◌, ◌*◌, ◌/◌, ◌<◌, ◌≤◌, Bool, true, false, cond, List, [], ◌∷◌, ◌++◌, length, refl, ap, sym, subst, ◌∙◌, arith, append_assoc}
+use Rattle.std.proofs.Common.{◌≡◌, ℕ, zero, suc, ◌+◌, ◌*◌, ◌/◌, ◌<◌, ◌≤◌, Bool, false, cond, List, [], ◌∷◌, ◌++◌, length, ap, sym, subst, ◌∙◌, arith, append_assoc}
 use Rattle.std.proofs.lemmas.Bool.{lt-leb, cond-false}
 use Rattle.std.proofs.lemmas.List.{append-nil}
 use Rattle.dfdl_forms.specs.declared.encoding.Encoding.{Encoding}
@@ -9,10 +9,10 @@ use Rattle.dfdl_bits.specs.declared.window.Seen.TheVariants.{Byte}
 use Rattle.dfdl_looks.specs.Tallies.{Tally, nothing}
 use Rattle.dfdl_looks.specs.Asks.{Ask, Answer, Reached, Told, Reading, ask, and_then}
 use Rattle.dfdl_chars.specs.declared.decode.Chars.TheVariants.{Char}
-use Rattle.dfdl_chars.specs.Decoding.{Boxed, Decoded, decoded_at, no_look}
+use Rattle.dfdl_chars.specs.Decoding.{Boxed, Decoded, no_look}
 use Rattle.dfdl_chars.specs.Sights.{StandsAt, StandFrom}
 use Rattle.dfdl_texts.specs.declared.extent.Extent.{Extent}
-use Rattle.dfdl_texts.specs.declared.extent.Extent.TheVariants.{Box, Characters}
+use Rattle.dfdl_texts.specs.declared.extent.Extent.TheVariants.{Box}
 use Rattle.dfdl_texts.specs.Units.{Piece, Holds, NoMore, lies_in, unit_at, far_seen, IsUnit}
 use Rattle.dfdl_texts.specs.Texts.{Text, Reads, past_box, past_data}
 use Rattle.dfdl_texts.proofs.Pieces.{decoded}

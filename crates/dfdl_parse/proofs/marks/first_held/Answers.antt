@@ -1,4 +1,4 @@
-use Rattle.std.proofs.Common.{◌∙◌, arith}
+use Rattle.std.proofs.Common.{◌∙◌}
 use Rattle.dfdl_parse.proofs.Opens.{from-here, from-next}
 use Rattle.dfdl_parse.proofs.marks.first_held.Goals as goal
 

@@ -1,4 +1,4 @@
-use Rattle.std.proofs.Common.{◌-◌, arith}
+use Rattle.std.proofs.Common.{◌-◌}
 use Rattle.dfdl_bits.specs.Window.{seen_at}
 use Rattle.dfdl_parse.proofs.PatternReadings.{sought-read}
 use Rattle.dfdl_parse.proofs.patterns.read_pattern.Goals as goal

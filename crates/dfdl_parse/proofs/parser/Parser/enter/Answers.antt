@@ -1,7 +1,6 @@
-use Rattle.std.proofs.Common.{◌-◌, refl, ◌∙◌, arith}
+use Rattle.std.proofs.Common.{◌-◌, refl, arith}
 use Rattle.dfdl_looks.specs.Tallies.{one_row}
 use Rattle.dfdl_parse.specs.Shown.{limits_of, state_of}
-use Rattle.dfdl_parse.specs.Views.{primitive_of}
 use Rattle.dfdl_parse.proofs.Landings.{box-entered, leaf-entered}
 use Rattle.dfdl_parse.proofs.parser.Parser.enter.Goals as goal
 

@@ -1,5 +1,5 @@
 use Rattle.std.proofs.Common.{◌≡◌, ℕ, ◌-◌, ◌*◌, ◌/◌, ◌≤◌, min, subst, sym, ◌∙◌, ap, arith}
-use Rattle.dfdl_bits.specs.Window.{Held, end_of, from_byte}
+use Rattle.dfdl_bits.specs.Window.{end_of, from_byte}
 use Rattle.dfdl_grammar.specs.States.{State, anchor_at}
 use Rattle.dfdl_parse.specs.Moves.{Machine}
 use Rattle.dfdl_parse.specs.Machines.{fill, fill_move, seen_beyond}

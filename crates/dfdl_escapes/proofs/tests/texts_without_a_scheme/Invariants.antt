@@ -1,0 +1,7 @@
+use Rattle.dfdl_escapes.proofs.tests.texts_without_a_scheme.Given as goal
+
+abbrev pub ghosts-scanned : goal.ghosts-scanned
+ghosts-scanned g a = record { name = a.blank.name; parts = a.blank.parts }
+
+abbrev pub ghosts-scanned_in : goal.ghosts-scanned_in
+ghosts-scanned_in g a = record { name = a.blank.name; parts = a.blank.parts }

@@ -1,0 +1,6 @@
+pub mod Steps
+pub mod Readings
+pub mod Contents
+pub mod Written
+pub mod Sought
+pub mod Reads

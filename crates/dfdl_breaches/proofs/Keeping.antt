@@ -1,5 +1,5 @@
 -- What is kept of elements and formats, and the elements of chains.
-use Rattle.std.proofs.Common.{◌≡◌, refl, sym, ap, subst, ◌∙◌, ℕ, zero, ◌<◌, List, length, get_or, map, Option, Some, None, option_map, IfSome, arith}
+use Rattle.std.proofs.Common.{◌≡◌, refl, sym, ap, subst, ◌∙◌, ℕ, zero, ◌<◌, List, length, get_or, map, Bool, Option, Some, None, option_map, IfSome, arith}
 use Rattle.dfdl_documents.specs.Documents.{SchemaDocument}
 use Rattle.std.proofs.lemmas.List.{get_or-map}
 use mathlib.Core.Path.{fun_ext}
@@ -98,11 +98,12 @@ same_element a b place own twice format default = λ i. record {
 }
 
 -- a component whose parts are those of the documents
-pub same_judged : (documents : List SchemaDocument) (own : Site) (j : Judged) → j.kind ≡ kind_at documents own
+pub same_judged : (refused : Site → Bool) (documents : List SchemaDocument) (own : Site) (j : Judged) → j.kind ≡ kind_at documents own
     → j.place.document ≡ (place_of documents own).document → j.place.at ≡ (place_of documents own).at → j.chain ≡ chain_at documents own
     → j.facts ≡ facts_at documents own → j.root_bits_by ≡ root_bits_by documents → j.prefix ≡ prefix_at documents own
-    → j ≡ judged_at j.purpose documents own
-same_judged documents own j kind document at chain facts root prefix = λ i. record {
+    → j.pattern_is_refused ≡ refused own
+    → j ≡ judged_at j.purpose refused documents own
+same_judged refused documents own j kind document at chain facts root prefix is_refused = λ i. record {
   purpose = j.purpose;
   kind = kind i;
   place = same_place j.place (place_of documents own).document (place_of documents own).at document at i;
@@ -110,4 +111,5 @@ same_judged documents own j kind document at chain facts root prefix = λ i. rec
   facts = facts i;
   root_bits_by = root i;
   prefix = prefix i;
+  pattern_is_refused = is_refused i;
 }

@@ -6,3 +6,7 @@ mod Roots
 pub mod Searches
 mod Tables
 mod PrefixTypes
+pub mod Building
+mod Forms
+pub mod Refusals
+mod Judged

@@ -3,9 +3,9 @@ use Rattle.dfdl_checks.specs.Boxes.{size_of_box}
 use Rattle.dfdl_checks.specs.Framing.{framing_of}
 use Rattle.dfdl_checks.specs.Judged.{Judged}
 use Rattle.dfdl_checks.specs.Numbers.{primitive_of}
-use Rattle.dfdl_checks.specs.Prefixes.{prefix_of}
 use Rattle.dfdl_checks.specs.Representations.{representations_of}
 use Rattle.dfdl_checks.specs.Rules.{breach_of_component}
+use Rattle.dfdl_breaches.specs.Judging.{form_before}
 use Rattle.dfdl_breaches.specs.declared.judgement.Judgement.{Judgement}
 
 -- what is told
@@ -15,6 +15,6 @@ judgement_of j = record {
   primitive = primitive_of j;
   framing = framing_of j;
   size = size_of_box j;
-  prefix = prefix_of j;
+  prefix = form_before j;
   others = representations_of j;
 }

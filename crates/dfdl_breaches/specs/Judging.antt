@@ -1,10 +1,11 @@
 -- What is wrong at each component of a schema by itself, how the values of its simple elements lie in the data, which fill and
 -- which box stand around its content, and which other representations it has.
-use Rattle.std.specs.Prelude.{ℕ, List, Option, None, if◌then◌else◌}
+use Rattle.std.specs.Prelude.{ℕ, List, Option, None, Some, Bool, if◌then◌else◌}
 use Rattle.dfdl_documents.specs.Documents.{SchemaDocument}
 use Rattle.dfdl_components.specs.declared.site.Site.{Site}
 use Rattle.dfdl_components.specs.Sites.{role_of}
 use Rattle.dfdl_checks.specs.Judged.{Judged}
+use Rattle.dfdl_checks.specs.Patterns.{pattern_prefix}
 use Rattle.dfdl_checks.specs.Prefixes.{prefix_of}
 use Rattle.dfdl_checks.specs.Representations.{no_representations, representations_of}
 use Rattle.dfdl_checks.specs.Rules.{breach_of_component}
@@ -26,9 +27,9 @@ use Rattle.dfdl_breaches.specs.Prefixes.{prefix_at}
 use Rattle.dfdl_breaches.specs.Roots.{chain_at, root_bits_by}
 use Rattle.dfdl_breaches.specs.declared.judgement.Judgement.{Judgement}
 
--- a component as the rules see it
-abbrev pub judged_at : Purpose → List SchemaDocument → Site → Judged
-judged_at purpose documents own = record {
+-- a component as the rules see it, where the patterns of these elements are refused
+abbrev pub judged_at : Purpose → (Site → Bool) → List SchemaDocument → Site → Judged
+judged_at purpose refused documents own = record {
   purpose = purpose;
   kind = kind_at documents own;
   place = place_of documents own;
@@ -36,31 +37,41 @@ judged_at purpose documents own = record {
   facts = facts_at documents own;
   root_bits_by = root_bits_by documents;
   prefix = prefix_at documents own;
+  pattern_is_refused = refused own;
 }
 
 -- the first rule that a component breaks, or else the type of its prefix
-abbrev pub breach_at : Purpose → List SchemaDocument → Site → Option Breach
-breach_at purpose documents own = breach_of_component (judged_at purpose documents own)
+abbrev pub breach_at : Purpose → (Site → Bool) → List SchemaDocument → Site → Option Breach
+breach_at purpose refused documents own = breach_of_component (judged_at purpose refused documents own)
 
 -- how the values of a component lie in the data, where they are of a type and of a size that are built
-abbrev pub primitive_at : Purpose → List SchemaDocument → Site → Option Primitive
-primitive_at purpose documents own = primitive_of (judged_at purpose documents own)
+abbrev pub primitive_at : Purpose → (Site → Bool) → List SchemaDocument → Site → Option Primitive
+primitive_at purpose refused documents own = primitive_of (judged_at purpose refused documents own)
 
 -- the fill around the content of a component
-abbrev pub framing_at : Purpose → List SchemaDocument → Site → Framing
-framing_at purpose documents own = framing_of (judged_at purpose documents own)
+abbrev pub framing_at : Purpose → (Site → Bool) → List SchemaDocument → Site → Framing
+framing_at purpose refused documents own = framing_of (judged_at purpose refused documents own)
 
 -- how many bits the box has around the content of a component, if it has one
-abbrev pub size_at : Purpose → List SchemaDocument → Site → Option ℕ
-size_at purpose documents own = size_of_box (judged_at purpose documents own)
+abbrev pub size_at : Purpose → (Site → Bool) → List SchemaDocument → Site → Option ℕ
+size_at purpose refused documents own = size_of_box (judged_at purpose refused documents own)
 
--- how the length prefix of a component lies in the data, if it has one
-abbrev pub form_of_prefix : Purpose → List SchemaDocument → Site → Option PrefixForm
-form_of_prefix purpose documents own = prefix_of (judged_at purpose documents own)
+-- the first of two forms that is there
+abbrev pub form_or : Option PrefixForm → Option PrefixForm → Option PrefixForm
+form_or (Some form) other = Some form
+form_or None other = other
+
+-- what stands before the content of a component and tells its length: a length prefix, or what its pattern matches
+abbrev pub form_before : Judged → Option PrefixForm
+form_before subject = form_or (prefix_of subject) (pattern_prefix subject)
+
+-- the same of an element of the documents
+abbrev pub form_of_prefix : Purpose → (Site → Bool) → List SchemaDocument → Site → Option PrefixForm
+form_of_prefix purpose refused documents own = form_before (judged_at purpose refused documents own)
 
 -- which representations of a component are tried before its normal one
-abbrev pub others_at : Purpose → List SchemaDocument → Site → OtherRepresentations
-others_at purpose documents own = representations_of (judged_at purpose documents own)
+abbrev pub others_at : Purpose → (Site → Bool) → List SchemaDocument → Site → OtherRepresentations
+others_at purpose refused documents own = representations_of (judged_at purpose refused documents own)
 
 -- nothing is told of what is no component
 abbrev pub no_judgement : Judgement
@@ -74,15 +85,15 @@ no_judgement = record {
 }
 
 -- what is told of an element of the documents
-unfoldable pub judgement_at : Purpose → List SchemaDocument → Site → Judgement
-judgement_at purpose documents own =
+unfoldable pub judgement_at : Purpose → (Site → Bool) → List SchemaDocument → Site → Judgement
+judgement_at purpose refused documents own =
     if is_component (role_of documents own) then
     record {
-      breach = breach_at purpose documents own;
-      primitive = primitive_at purpose documents own;
-      framing = framing_at purpose documents own;
-      size = size_at purpose documents own;
-      prefix = form_of_prefix purpose documents own;
-      others = others_at purpose documents own;
+      breach = breach_at purpose refused documents own;
+      primitive = primitive_at purpose refused documents own;
+      framing = framing_at purpose refused documents own;
+      size = size_at purpose refused documents own;
+      prefix = form_of_prefix purpose refused documents own;
+      others = others_at purpose refused documents own;
     }
     else no_judgement

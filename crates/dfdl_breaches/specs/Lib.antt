@@ -3,8 +3,10 @@ pub mod Elements
 pub mod Roots
 pub mod Prefixes
 pub mod Judging
+pub mod Builds
 pub mod Numbered
 pub mod Tabled
 pub mod KeptShown
 pub mod PrefixesShown
 pub mod JudgementShown
+pub mod BuildsShown

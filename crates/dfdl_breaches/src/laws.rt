@@ -1,10 +1,12 @@
 // Laws of the definitions that the contracts cite. The calls do nothing.
-ghost use Rattle.std.specs.Prelude.{◌≡◌, List, Some, None, IsTrue, IsSome};
+ghost use Rattle.std.specs.Prelude.{◌≡◌, Bool, false, List, Some, None, IsTrue, IsSome};
 ghost use Rattle.dfdl_terms.specs.Rows.{IsPrimitive, IsWritten};
 ghost use Rattle.dfdl_terms.specs.declared.row.Primitive.{Primitive};
 ghost use Rattle.dfdl_terms.specs.declared.row.Primitive.TheVariants.{Default};
 ghost use Rattle.dfdl_terms.specs.declared.text.DefaultForm.{DefaultForm};
+ghost use Rattle.dfdl_edge.specs.Faults.{Rose};
 ghost use Rattle.dfdl_documents.specs.Documents.{SchemaDocument};
+ghost use Rattle.dfdl_components.specs.Sites.{IsSite};
 ghost use Rattle.dfdl_components.specs.declared.site.Site.{Site};
 ghost use Rattle.dfdl_checks.specs.Forms.{IsWhole};
 ghost use Rattle.dfdl_checks.specs.Numbers.{type_of};
@@ -14,6 +16,7 @@ ghost use Rattle.dfdl_checks.specs.declared.purpose.Purpose.{Purpose};
 ghost use Rattle.dfdl_checks.specs.declared.purpose.Purpose.TheVariants.{Unparsing};
 ghost use Rattle.dfdl_chains.specs.Kinds.{kind_at};
 ghost use Rattle.dfdl_checks.specs.declared.prefixes.PrefixForm.{PrefixForm};
+ghost use Rattle.dfdl_breaches.specs.Builds.{AreAllBuilt, PatternsSeen, pattern_at};
 ghost use Rattle.dfdl_breaches.specs.Judging.{breach_at, form_of_prefix, others_at, primitive_at};
 
 use dfdl_checks::laws::{
@@ -23,26 +26,26 @@ use dfdl_checks::laws::{
 
 /// A simple element without a breach has a primitive. Each primitive, of an element with breaches too,
 /// keeps the bounds of its type, which is that of the element, and each one for unparsing is a whole
-/// unsigned integer. So does each primitive of a length prefix, of which there is none for unparsing, and each one of a nil
+/// unsigned integer. So does each primitive of a length prefix or a pattern, of which there is none for unparsing, and each one of a nil
 /// representation, or of an empty one whose text is one of characters; for unparsing only the normal representation is tried.
 pub fn sound_elements_have_bounded_primitives()
-    ensures sound { (purpose : Purpose) (documents : List SchemaDocument) (own : Site) → breach_at purpose documents own ≡ None
-        → IsTrue (is_simple (kind_at documents own)) → IsSome (primitive_at purpose documents own) }
-    ensures prefix { (purpose : Purpose) (documents : List SchemaDocument) (own : Site) (f : PrefixForm)
-        → form_of_prefix purpose documents own ≡ Some f → IsPrimitive f.primitive }
-    ensures parsing { (documents : List SchemaDocument) (own : Site) → form_of_prefix Unparsing documents own ≡ None }
-    ensures nil { (purpose : Purpose) (documents : List SchemaDocument) (own : Site) (p : Primitive)
-        → (others_at purpose documents own).nil ≡ Some p → IsPrimitive p }
-    ensures empty { (purpose : Purpose) (documents : List SchemaDocument) (own : Site) (p : Primitive)
-        → (others_at purpose documents own).empty ≡ Some p → ((form : DefaultForm) → p ≡ Default form → IsWritten form.value)
+    ensures sound { (purpose : Purpose) (refused : Site → Bool) (documents : List SchemaDocument) (own : Site) → breach_at purpose refused documents own ≡ None
+        → IsTrue (is_simple (kind_at documents own)) → IsSome (primitive_at purpose refused documents own) }
+    ensures prefix { (purpose : Purpose) (refused : Site → Bool) (documents : List SchemaDocument) (own : Site) (f : PrefixForm)
+        → form_of_prefix purpose refused documents own ≡ Some f → IsPrimitive f.primitive }
+    ensures parsing { (refused : Site → Bool) (documents : List SchemaDocument) (own : Site) → form_of_prefix Unparsing refused documents own ≡ None }
+    ensures nil { (purpose : Purpose) (refused : Site → Bool) (documents : List SchemaDocument) (own : Site) (p : Primitive)
+        → (others_at purpose refused documents own).nil ≡ Some p → IsPrimitive p }
+    ensures empty { (purpose : Purpose) (refused : Site → Bool) (documents : List SchemaDocument) (own : Site) (p : Primitive)
+        → (others_at purpose refused documents own).empty ≡ Some p → ((form : DefaultForm) → p ≡ Default form → IsWritten form.value)
         → IsPrimitive p }
-    ensures normal { (documents : List SchemaDocument) (own : Site) → others_at Unparsing documents own ≡ no_representations }
-    ensures bounded { (purpose : Purpose) (documents : List SchemaDocument) (own : Site) (p : Primitive)
-        → primitive_at purpose documents own ≡ Some p → IsPrimitive p }
-    ensures kind { (purpose : Purpose) (documents : List SchemaDocument) (own : Site) (p : Primitive)
-        → primitive_at purpose documents own ≡ Some p → simple_of (kind_at documents own) ≡ Some (type_of p) }
-    ensures whole { (documents : List SchemaDocument) (own : Site) (p : Primitive)
-        → primitive_at Unparsing documents own ≡ Some p → IsWhole p }
+    ensures normal { (refused : Site → Bool) (documents : List SchemaDocument) (own : Site) → others_at Unparsing refused documents own ≡ no_representations }
+    ensures bounded { (purpose : Purpose) (refused : Site → Bool) (documents : List SchemaDocument) (own : Site) (p : Primitive)
+        → primitive_at purpose refused documents own ≡ Some p → IsPrimitive p }
+    ensures kind { (purpose : Purpose) (refused : Site → Bool) (documents : List SchemaDocument) (own : Site) (p : Primitive)
+        → primitive_at purpose refused documents own ≡ Some p → simple_of (kind_at documents own) ≡ Some (type_of p) }
+    ensures whole { (refused : Site → Bool) (documents : List SchemaDocument) (own : Site) (p : Primitive)
+        → primitive_at Unparsing refused documents own ≡ Some p → IsWhole p }
 {
     sound_elements_have_primitives();
     primitives_are_bounded();
@@ -50,3 +53,18 @@ pub fn sound_elements_have_bounded_primitives()
     representations_are_bounded();
     primitives_for_unparsing_are_whole();
 }
+
+/// What the builds of the patterns of a schema tell: one that is refused is that of an element with a pattern, and the count of refused
+/// builds rises. Where none is refused, and for unparsing, what builds patterns is left as it was.
+#[tactic(auto, using(crate::proofs::Refusals::has_pattern, crate::proofs::Refusals::rises, crate::proofs::Refusals::still, crate::proofs::Refusals::unparsed))]
+pub fn refused_patterns_are_told()
+    ensures told { (purpose : Purpose) (refused : Site → Bool) (documents : List SchemaDocument) (old new : PatternsSeen) (own : Site)
+        → AreAllBuilt purpose refused documents old new → IsSite documents own → IsTrue (refused own)
+        → IsSome (pattern_at purpose documents own) }
+    ensures rose { (purpose : Purpose) (refused : Site → Bool) (documents : List SchemaDocument) (old new : PatternsSeen) (own : Site)
+        → AreAllBuilt purpose refused documents old new → IsSite documents own → IsTrue (refused own) → Rose old.faults new.faults }
+    ensures still { (purpose : Purpose) (refused : Site → Bool) (documents : List SchemaDocument) (old new : PatternsSeen)
+        → AreAllBuilt purpose refused documents old new → ((own : Site) → IsSite documents own → refused own ≡ false) → new ≡ old }
+    ensures unparsing { (refused : Site → Bool) (documents : List SchemaDocument) (old new : PatternsSeen)
+        → AreAllBuilt Unparsing refused documents old new → new ≡ old }
+{}

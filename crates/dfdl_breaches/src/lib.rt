@@ -1,10 +1,11 @@
 //! What is wrong at each component of a schema by itself: for every element of its documents the first rule that the
-//! component there breaks, and how its values, its length prefix and its other representations lie in the data.
+//! component there breaks, and how its values, what tells its length and its other representations lie in the data.
 //!
 //! A component is judged by what the elements of its chain give: their own properties, the formats that they refer to
 //! (`specs/References.antt` of dfdl_references), each joined once with those that it refers to (`specs/Formats.antt`), and the
 //! default formats of their documents (`specs/Elements.antt`). The type of its length prefix is judged with it, by a chain of
-//! its own (`specs/Prefixes.antt`). The contract of `breaches` cites `specs/Judging.antt`. It serves the chapter 'Property
+//! its own (`specs/Prefixes.antt`), and the pattern of its length is built (`specs/Builds.antt`). The contract of `breaches` cites
+//! `specs/Judging.antt`. It serves the chapter 'Property
 //! Scoping and DFDL Schema Checking'.
 #![tactic(auto)]
 
@@ -13,6 +14,7 @@ mod entries;
 mod entry;
 mod formats;
 mod judgement;
+mod judging;
 mod kept;
 pub mod laws;
 mod prefixes;

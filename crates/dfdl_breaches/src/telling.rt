@@ -1,12 +1,13 @@
 // What is told of all components of a schema.
-ghost use Rattle.std.specs.Prelude.{◌≡◌, IfOk, All};
+ghost use Rattle.std.specs.Prelude.{◌≡◌, All, IfOk, IfErr};
 ghost use Rattle.dfdl_components.specs.Rules.{loading_rules, AllKeep};
 ghost use Rattle.dfdl_components.specs.Sites.{IsSite};
 ghost use Rattle.dfdl_chains.specs.Chains.{chain_sites};
-ghost use Rattle.dfdl_chains.specs.Everywhere.{for_each};
-ghost use Rattle.dfdl_checks.specs.JudgedShown.{judged_of};
+ghost use Rattle.dfdl_checks.specs.Patterns.{length_pattern};
+ghost use Rattle.dfdl_breaches.specs.Builds.{AreBuiltInPart, AreJudged, always, never, pattern_at};
+ghost use Rattle.dfdl_breaches.specs.BuildsShown.{IsPushed, IsToldBy};
 ghost use Rattle.dfdl_breaches.specs.JudgementShown.{judgement_of};
-ghost use Rattle.dfdl_breaches.specs.Judging.{judged_at, judgement_at};
+ghost use Rattle.dfdl_breaches.specs.Judging.{judged_at, judgement_at, no_judgement};
 ghost use Rattle.dfdl_breaches.specs.KeptShown.{AreKept};
 ghost use Rattle.dfdl_breaches.specs.Roots as spec;
 
@@ -14,16 +15,15 @@ use crate::chain::chain_at;
 use crate::entries::entries_of;
 use crate::formats::formats_of;
 use crate::judgement::Judgement;
+use crate::judging::judge;
 use crate::kept::Kept;
 use crate::prefixes::{lent, prefix_at};
 use crate::root::root_of;
 use crate::sites::sites_of;
 use dfdl_chains::{chain_sites, facts_at, is_component, kind_at};
-use dfdl_checks::{
-    OtherRepresentations, Purpose, Subject, bit_order, breach, framing, other_representations,
-    prefix, primitive, size_of_box,
-};
+use dfdl_checks::{OtherRepresentations, Purpose, Subject, bit_order};
 use dfdl_components::{Schema, Site};
+use dfdl_edge::Patterns;
 use dfdl_forms::BitOrder;
 use dfdl_scope::Properties;
 use dfdl_terms::Framing;
@@ -61,26 +61,8 @@ fn root_bits_by(alloc: Global, kept: &Kept<'_, '_>, schema: &Schema) -> Result<B
     bit_order_at(alloc, kept, schema, root, chain.as_slice())
 }
 
-// What is told of a component, by what the rules see of it.
-fn told_of(alloc: Global, subject: &Subject<'_, '_, '_>) -> Result<Judgement, AllocError>
-    ensures { IfOk result (λ judgement. judgement ≡ judgement_of (judged_of subject.now)) }
-{
-    let breach = breach(alloc, subject)?;
-    let primitive = primitive(alloc, subject)?;
-    let prefix = prefix(alloc, subject)?;
-    let others = other_representations(alloc, subject)?;
-    Ok(Judgement {
-        breach,
-        primitive,
-        framing: framing(subject),
-        size: size_of_box(subject),
-        prefix,
-        others,
-    })
-}
-
 // What is told of a component whose chain has these elements.
-fn judged<'s>(
+fn judged<'s, P: Patterns>(
     alloc: Global,
     kept: &Kept<'_, 's>,
     schema: &'s Schema,
@@ -88,13 +70,17 @@ fn judged<'s>(
     bits_by: BitOrder,
     site: Site,
     sites: &[Site],
+    patterns: &mut P,
 ) -> Result<Judgement, AllocError>
     requires kept { AreKept schema.now kept.now }
     requires order { bits_by ≡ spec.root_bits_by schema.now }
     requires site { IsSite schema.now site }
     requires chain { sites.now ≡ chain_sites schema.now site }
     requires within { All (IsSite schema.now) sites.now }
-    ensures { IfOk result (λ judgement. judgement ≡ judgement_of (judged_at purpose schema.now site)) }
+    ensures { IsToldBy (length_pattern (judged_at purpose never schema.now site))
+        (λ is_refused. judgement_of (judged_at purpose (always is_refused) schema.now site))
+        (record { faults = P.faults patterns.old; last = P.last_refused patterns.old })
+        (record { faults = P.faults patterns.new; last = P.last_refused patterns.new }) result }
 {
     let chain = chain_at(alloc, kept, schema, sites)?;
     let prefix = prefix_at(alloc, kept, schema, site, sites, &chain)?;
@@ -106,13 +92,13 @@ fn judged<'s>(
         facts: facts_at(schema, site, sites),
         root_bits_by: bits_by,
         prefix: lent(&prefix),
+        pattern_is_refused: false,
     };
-    told_of(alloc, &subject)
+    judge(alloc, &subject, patterns)
 }
 
 // What is told of an element. The list takes its chain.
-#[tactic(auto, unfolding(crate::specs::Judging::judgement_at))]
-fn judgement<'s>(
+fn judgement<'s, P: Patterns>(
     alloc: Global,
     kept: &Kept<'_, 's>,
     schema: &'s Schema,
@@ -120,25 +106,18 @@ fn judgement<'s>(
     bits_by: BitOrder,
     site: Site,
     chain: &mut Vec<Site>,
+    patterns: &mut P,
 ) -> Result<Judgement, AllocError>
     requires kept { AreKept schema.now kept.now }
     requires order { bits_by ≡ spec.root_bits_by schema.now }
     requires site { IsSite schema.now site }
-    ensures { IfOk result (λ judgement. judgement ≡ judgement_at purpose schema.now site) }
+    ensures { IsToldBy (pattern_at purpose schema.now site)
+        (λ is_refused. judgement_at purpose (always is_refused) schema.now site)
+        (record { faults = P.faults patterns.old; last = P.last_refused patterns.old })
+        (record { faults = P.faults patterns.new; last = P.last_refused patterns.new }) result }
 {
     if !is_component(schema.role(site)) {
-        return Ok(Judgement {
-            breach: None,
-            primitive: None,
-            framing: Framing::none(),
-            size: None,
-            prefix: None,
-            others: OtherRepresentations {
-                nil: None,
-                empty: None,
-                are_several: false,
-            },
-        });
+        return Ok(nothing_told());
     }
     chain_sites(schema, &kept.sites.numbers, site, chain)?;
     judged(
@@ -149,42 +128,110 @@ fn judgement<'s>(
         bits_by,
         site,
         chain.as_slice(),
+        patterns,
     )
 }
 
-// What is told of all elements.
-fn judgements<'s>(
+// Nothing is told of what is no component.
+fn nothing_told() -> Judgement
+    ensures { result ≡ no_judgement }
+{
+    Judgement {
+        breach: None,
+        primitive: None,
+        framing: Framing::none(),
+        size: None,
+        prefix: None,
+        others: OtherRepresentations {
+            nil: None,
+            empty: None,
+            are_several: false,
+        },
+    }
+}
+
+// What is told of an element, behind what is told of others.
+fn push_judgement<'s, P: Patterns>(
     alloc: Global,
     kept: &Kept<'_, 's>,
     schema: &'s Schema,
     purpose: Purpose,
     bits_by: BitOrder,
+    site: Site,
+    chain: &mut Vec<Site>,
+    patterns: &mut P,
+    judgements: &mut Vec<Judgement>,
+) -> Result<(), AllocError>
+    requires kept { AreKept schema.now kept.now }
+    requires order { bits_by ≡ spec.root_bits_by schema.now }
+    requires site { IsSite schema.now site }
+    ensures { IsPushed (pattern_at purpose schema.now site)
+        (λ is_refused. judgement_at purpose (always is_refused) schema.now site)
+        (record { faults = P.faults patterns.old; last = P.last_refused patterns.old })
+        (record { faults = P.faults patterns.new; last = P.last_refused patterns.new })
+        judgements.old.items judgements.new.items result }
+{
+    let judgement = judgement(alloc, kept, schema, purpose, bits_by, site, chain, patterns)?;
+    judgements.push(judgement)?;
+    Ok(())
+}
+
+// What is told of all elements.
+fn judgements<'s, P: Patterns>(
+    alloc: Global,
+    kept: &Kept<'_, 's>,
+    schema: &'s Schema,
+    purpose: Purpose,
+    bits_by: BitOrder,
+    patterns: &mut P,
 ) -> Result<Vec<Judgement>, AllocError>
     requires kept { AreKept schema.now kept.now }
     requires order { bits_by ≡ spec.root_bits_by schema.now }
-    ensures { IfOk result (λ judgements. judgements.items ≡ for_each schema.now (judgement_at purpose schema.now)) }
+    ensures judged { IfOk result (λ judgements. AreJudged purpose schema.now
+        (record { faults = P.faults patterns.old; last = P.last_refused patterns.old })
+        (record { faults = P.faults patterns.new; last = P.last_refused patterns.new }) judgements.items) }
+    ensures part { IfErr result (λ _. AreBuiltInPart purpose schema.now
+        (record { faults = P.faults patterns.old; last = P.last_refused patterns.old })
+        (record { faults = P.faults patterns.new; last = P.last_refused patterns.new })) }
 {
     let mut judgements = Vec::new(alloc);
     let mut chain = Vec::new(alloc);
     for site in kept.sites.all.as_slice() {
-        judgements.push(judgement(alloc, kept, schema, purpose, bits_by, *site, &mut chain)?)?;
+        push_judgement(
+            alloc,
+            kept,
+            schema,
+            purpose,
+            bits_by,
+            *site,
+            &mut chain,
+            patterns,
+            &mut judgements,
+        )?;
     }
     Ok(judgements)
 }
 
 /// What is told of each element of a schema's documents, in the order of their numbers: of a component
-/// the first rule that it breaks, how its values, its length prefix and its other representations lie in the data, and the fill
+/// the first rule that it breaks, how its values, what tells its length and its other representations lie in the data, and the fill
 /// and the box around its content; of every other element nothing.
 ///
 /// What its rows are made for decides which forms are built. The order of bits is that of the root, which is found once. The
-/// properties of each element are collected once, and each format is joined once.
-pub fn breaches(
+/// properties of each element are collected once, and each format is joined once. The pattern of each component's length is built
+/// once, in the order of the elements; one that `patterns` refuses is a rule that the component breaks.
+pub fn breaches<P: Patterns>(
     alloc: Global,
     schema: &Schema,
     purpose: Purpose,
+    patterns: &mut P,
 ) -> Result<Vec<Judgement>, AllocError>
     requires { AllKeep (loading_rules schema.now) schema.now }
-    ensures { IfOk result (λ judgements. judgements.items ≡ for_each schema.now (judgement_at purpose schema.now)) }
+    ensures judged { IfOk result (λ judgements. AreJudged purpose schema.now
+        (record { faults = P.faults patterns.old; last = P.last_refused patterns.old })
+        (record { faults = P.faults patterns.new; last = P.last_refused patterns.new }) judgements.items) }
+    ensures part { IfErr result (λ _. AreBuiltInPart purpose schema.now
+        (record { faults = P.faults patterns.old; last = P.last_refused patterns.old })
+        (record { faults = P.faults patterns.new; last = P.last_refused patterns.new })) }
 {
     let sites = sites_of(alloc, schema)?;
     let formats = formats_of(alloc, schema, &sites)?;
@@ -197,5 +244,5 @@ pub fn breaches(
         nothing: &nothing,
     };
     let bits_by = root_bits_by(alloc, &kept, schema)?;
-    judgements(alloc, &kept, schema, purpose, bits_by)
+    judgements(alloc, &kept, schema, purpose, bits_by, patterns)
 }

@@ -1,9 +1,9 @@
 // What is told of schemas in memory.
-use crate::laws::sound_elements_have_bounded_primitives;
+use crate::laws::{refused_patterns_are_told, sound_elements_have_bounded_primitives};
 use crate::{Judgement, breaches};
 use dfdl_checks::{OtherRepresentations, PrefixForm, Purpose};
 use dfdl_components::{Schema, load};
-use dfdl_edge::{MemoryFile, MemoryFiles};
+use dfdl_edge::{MemoryFile, MemoryFiles, MemoryPatterns};
 use dfdl_forms::ByteOrder;
 use dfdl_terms::{Framing, Primitive};
 use std::alloc::{AllocError, Global};
@@ -55,12 +55,23 @@ fn file_in(
 /// What is told of the elements of some files that have a breach or a primitive, as a line: the number
 /// of the cause, or the fill and the length prefix where there is some, and the bits and the order of bytes.
 fn told(alloc: Global, purpose: Purpose, files: Vec<MemoryFile>) -> Result<String, AllocError> {
+    let mut patterns = MemoryPatterns::new(Vec::new(alloc));
+    told_by(alloc, purpose, files, &mut patterns)
+}
+
+/// The same, where these builds their patterns.
+fn told_by(
+    alloc: Global,
+    purpose: Purpose,
+    files: Vec<MemoryFile>,
+    patterns: &mut MemoryPatterns,
+) -> Result<String, AllocError> {
     let mut files = MemoryFiles::new(files, Vec::new(alloc));
     let Ok(schema) = load(alloc, &mut files, "a", 10_000, 2) else {
         return String::from_str(alloc, "refused");
     };
     let mut line = String::new(alloc);
-    for judgement in breaches(alloc, &schema, purpose)? {
+    for judgement in breaches(alloc, &schema, purpose, patterns)? {
         let piece = told_of(alloc, judgement)?;
         line.push_str(piece.as_str())?;
     }
@@ -83,12 +94,17 @@ fn told_of(alloc: Global, judgement: Judgement) -> Result<String, AllocError> {
         Some(Primitive::Integer(form)) => format!(in alloc; "{before}big{} ", form.bits),
         Some(Primitive::Octets(form)) => format!(in alloc; "{before}octets{} ", form.bits),
         Some(Primitive::Text(_)) => format!(in alloc; "{before}text "),
-        Some(Primitive::NilOctets(_) | Primitive::Default(_)) => Ok(String::new(alloc)),
+        Some(
+            Primitive::NilOctets(_)
+            | Primitive::Default(_)
+            | Primitive::NilValues(_)
+            | Primitive::Pattern(_),
+        ) => Ok(String::new(alloc)),
         None => Ok(String::new(alloc)),
     }
 }
 
-/// The fill and the length prefix of one element.
+/// The fill of one element, and what tells its length.
 fn before(
     alloc: Global,
     framing: Framing,
@@ -103,6 +119,12 @@ fn before(
                 ..
             },
         ) => format!(in alloc; "{fill}prefix{}/{own}:", form.bits),
+        Some(
+            PrefixForm {
+                primitive: Primitive::Pattern(_),
+                ..
+            },
+        ) => format!(in alloc; "{fill}pattern:"),
         Some(_) => format!(in alloc; "{fill}prefix:"),
         None => Ok(fill),
     }
@@ -361,8 +383,9 @@ fn others_told(alloc: Global, purpose: Purpose, components: &str) -> Result<Stri
     let Ok(schema) = load(alloc, &mut files, "a", 10_000, 2) else {
         return String::from_str(alloc, "refused");
     };
+    let mut patterns = MemoryPatterns::new(Vec::new(alloc));
     let mut line = String::new(alloc);
-    for judgement in breaches(alloc, &schema, purpose)? {
+    for judgement in breaches(alloc, &schema, purpose, &mut patterns)? {
         if judgement.primitive.is_some() {
             let piece = others_of(alloc, &judgement.others)?;
             line.push_str(piece.as_str())?;
@@ -384,8 +407,40 @@ fn other_representations_are_told_for_parsing(rt: HostRuntime) -> Result<(), Fai
     Ok(())
 }
 
+/// Two strings with patterns.
+const PATTERNS: &str =
+    "<x:element name=\"r\" type=\"x:string\" d:lengthPattern=\"a+\"/><x:element name=\"s\" type=\"x:string\" d:lengthPattern=\"b+\"/>";
+
+#[test]
+fn each_pattern_is_built_once(rt: HostRuntime) -> Result<(), Fail> {
+    let alloc = rt.alloc();
+    let default = "encoding=\"US-ASCII\" encodingErrorPolicy=\"error\" lengthKind=\"pattern\"";
+    let cases: [(Purpose, &[u64], &str, u64, Option<&str>); 3] = [
+        (Purpose::Parsing, &[], "pattern:text pattern:text ", 0, None),
+        (
+            Purpose::Parsing,
+            &[2],
+            "pattern:text C20@0 ",
+            1,
+            Some("\\A(?:b+)"),
+        ),
+        (Purpose::Unparsing, &[1, 2], "C3@0 C3@0 ", 0, None),
+    ];
+    for (purpose, failing, line, faults, last) in cases {
+        let mut files = Vec::new(alloc);
+        files.push(file_of(alloc, "a", default, "", PATTERNS)?)?;
+        let mut patterns = MemoryPatterns::new(failing.to_vec(alloc)?);
+        let found = told_by(alloc, purpose, files, &mut patterns)?;
+        assert_eq!(rt; found.as_str(), line);
+        assert_eq!(rt; patterns.faults(), faults);
+        assert_eq!(rt; patterns.last_refused(), last);
+    }
+    Ok(())
+}
+
 #[test]
 fn laws_take_no_input(_rt: HostRuntime) -> Result<(), Fail> {
     sound_elements_have_bounded_primitives();
+    refused_patterns_are_told();
     Ok(())
 }

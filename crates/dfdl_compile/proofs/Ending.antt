@@ -75,37 +75,37 @@ fault_is primitives a (rows.Limit cause quantity) is = limit_is primitives a cau
 fault_is primitives a rows.OutOfMemory is = tt
 
 -- the same of the documents, where no component reaches itself
-pub root_table : (purpose : Purpose) (documents : List SchemaDocument) (depth most : ℕ) (root : Site) (schema : Schema) (number : ℕ) (t : Table) → schema ≡ components_of purpose documents
-    → number ≡ number_of documents root → first_recursive (components_of purpose documents).uses ≡ None → AreRowsOf (asked schema number depth most) t.rows → t.primitives ≡ primitives_of purpose documents
-    → by_root purpose documents depth most (Some root) ≡ Ok t
-root_table purpose documents depth most root schema number t schema_is number_is none are same =
-    ap (by_recursion documents (primitives_of purpose documents) (asked (components_of purpose documents) (number_of documents root) depth most)) none
-    ∙ table_is (primitives_of purpose documents) (asked (components_of purpose documents) (number_of documents root) depth most) t
-    (subst (λ (n : ℕ). AreRowsOf (asked (components_of purpose documents) n depth most) t.rows) number_is
+pub root_table : (purpose : Purpose) (refused : Site → Bool) (documents : List SchemaDocument) (depth most : ℕ) (root : Site) (schema : Schema) (number : ℕ) (t : Table) → schema ≡ components_of purpose refused documents
+    → number ≡ number_of documents root → first_recursive (components_of purpose refused documents).uses ≡ None → AreRowsOf (asked schema number depth most) t.rows → t.primitives ≡ primitives_of purpose refused documents
+    → by_root purpose refused documents depth most (Some root) ≡ Ok t
+root_table purpose refused documents depth most root schema number t schema_is number_is none are same =
+    ap (by_recursion documents (primitives_of purpose refused documents) (asked (components_of purpose refused documents) (number_of documents root) depth most)) none
+    ∙ table_is (primitives_of purpose refused documents) (asked (components_of purpose refused documents) (number_of documents root) depth most) t
+    (subst (λ (n : ℕ). AreRowsOf (asked (components_of purpose refused documents) n depth most) t.rows) number_is
     (subst (λ (s : Schema). AreRowsOf (asked s number depth most) t.rows) schema_is are)) same
 
-pub root_fault : (purpose : Purpose) (documents : List SchemaDocument) (depth most : ℕ) (root : Site) (schema : Schema) (number : ℕ) (e : RowsFault) → schema ≡ components_of purpose documents
-    → number ≡ number_of documents root → first_recursive (components_of purpose documents).uses ≡ None → IsRowsFault (asked schema number depth most) e
-    → IsFaultOf (by_root purpose documents depth most (Some root)) (fault_of e)
-root_fault purpose documents depth most root schema number e schema_is number_is none is =
-    subst (λ (r : Result Table CompileEnd). IsFaultOf r (fault_of e)) (sym (ap (by_recursion documents (primitives_of purpose documents) (asked (components_of purpose documents) (number_of documents root) depth most)) none))
-    (fault_is (primitives_of purpose documents) (asked (components_of purpose documents) (number_of documents root) depth most) e
-    (subst (λ (n : ℕ). IsRowsFault (asked (components_of purpose documents) n depth most) e) number_is
+pub root_fault : (purpose : Purpose) (refused : Site → Bool) (documents : List SchemaDocument) (depth most : ℕ) (root : Site) (schema : Schema) (number : ℕ) (e : RowsFault) → schema ≡ components_of purpose refused documents
+    → number ≡ number_of documents root → first_recursive (components_of purpose refused documents).uses ≡ None → IsRowsFault (asked schema number depth most) e
+    → IsFaultOf (by_root purpose refused documents depth most (Some root)) (fault_of e)
+root_fault purpose refused documents depth most root schema number e schema_is number_is none is =
+    subst (λ (r : Result Table CompileEnd). IsFaultOf r (fault_of e)) (sym (ap (by_recursion documents (primitives_of purpose refused documents) (asked (components_of purpose refused documents) (number_of documents root) depth most)) none))
+    (fault_is (primitives_of purpose refused documents) (asked (components_of purpose refused documents) (number_of documents root) depth most) e
+    (subst (λ (n : ℕ). IsRowsFault (asked (components_of purpose refused documents) n depth most) e) number_is
     (subst (λ (s : Schema). IsRowsFault (asked s number depth most) e) schema_is is)))
 
 -- a component that reaches itself
-pub recursion_fault : (purpose : Purpose) (documents : List SchemaDocument) (depth most : ℕ) (root : Site) (e : CompileFault) → IsRecursionFault purpose documents e
-    → IsFaultOf (by_root purpose documents depth most (Some root)) e
-recursion_fault purpose documents depth most root (fault.Refused cause place) is =
-    ap (by_recursion documents (primitives_of purpose documents) (asked (components_of purpose documents) (number_of documents root) depth most)) is.1
+pub recursion_fault : (purpose : Purpose) (refused : Site → Bool) (documents : List SchemaDocument) (depth most : ℕ) (root : Site) (e : CompileFault) → IsRecursionFault purpose refused documents e
+    → IsFaultOf (by_root purpose refused documents depth most (Some root)) e
+recursion_fault purpose refused documents depth most root (fault.Refused cause place) is =
+    ap (by_recursion documents (primitives_of purpose refused documents) (asked (components_of purpose refused documents) (number_of documents root) depth most)) is.1
     ∙ (ap (λ (c : SchemaCause). Err (ends.Refused c (place_of documents (site_at documents is.0)))) (sym is.2)
     ∙ ap (λ (p : Place). Err (ends.Refused cause p)) (sym is.3))
-recursion_fault purpose documents depth most root (fault.Limit cause quantity) is = absurd is
-recursion_fault purpose documents depth most root fault.OutOfMemory is = tt
+recursion_fault purpose refused documents depth most root (fault.Limit cause quantity) is = absurd is
+recursion_fault purpose refused documents depth most root fault.OutOfMemory is = tt
 
 -- the number of a root
-pub root_within : (purpose : Purpose) (documents : List SchemaDocument) (root : Site) (schema : Schema) (number : ℕ) → schema ≡ components_of purpose documents → number ≡ number_of documents root
+pub root_within : (purpose : Purpose) (refused : Site → Bool) (documents : List SchemaDocument) (root : Site) (schema : Schema) (number : ℕ) → schema ≡ components_of purpose refused documents → number ≡ number_of documents root
     → IsSite documents root → number < length schema.uses
-root_within purpose documents root schema number schema_is number_is within =
+root_within purpose refused documents root schema number schema_is number_is within =
     subst (λ (s : Schema). number < length s.uses) (sym schema_is)
-    (omega (arith, number_is, number_below documents root within, length_uses purpose documents))
+    (omega (arith, number_is, number_below documents root within, length_uses purpose refused documents))

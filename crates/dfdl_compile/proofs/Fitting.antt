@@ -1,5 +1,5 @@
 -- The components of documents are those of one schema.
-use Rattle.std.proofs.Common.{◌≡◌, ℕ, zero, suc, ◌<◌, ◌≤◌, List, [], ◌∷◌, length, map, get_or, All, Option, Some, None, option_map, ap, sym, subst, ◌∙◌, refl, arith}
+use Rattle.std.proofs.Common.{◌≡◌, ℕ, zero, suc, ◌<◌, ◌≤◌, List, [], ◌∷◌, length, map, get_or, All, Bool, Option, Some, None, option_map, ap, sym, subst, ◌∙◌, refl, arith}
 use Rattle.std.proofs.lemmas.List.{length-map}
 use Rattle.std.proofs.lemmas.List.Elements.{All-nil, All-append, All-push, All-cons}
 use Rattle.dfdl_constructs.specs.declared.role.Role.{Role}
@@ -66,21 +66,21 @@ pub sites_within : (documents : List SchemaDocument) (sites : List Site) → sit
 sites_within documents sites are = subst (λ (xs : List Site). All (IsSite documents) xs) (sym are) (all_within documents)
 
 -- there are as many components as elements
-pub length_uses : (purpose : Purpose) (documents : List SchemaDocument) → length (components_of purpose documents).uses ≡ count_of documents
+pub length_uses : (purpose : Purpose) (refused : Site → Bool) (documents : List SchemaDocument) → length (components_of purpose refused documents).uses ≡ count_of documents
 unfolding components_of
-length_uses purpose documents = length_of (part_numbers documents) (all_sites documents) ∙ length_all documents
+length_uses purpose refused documents = length_of (part_numbers documents) (all_sites documents) ∙ length_all documents
 
 parts_below : (documents : List SchemaDocument) (own : Site) → IsSite documents own → All (λ p. p < count_of documents) (part_numbers documents own)
 parts_below documents own within = each (IsSite documents) (λ p. p < count_of documents) (number_of documents) (number_below documents) (parts_at documents own) (parts_are_within documents own within)
 
-uses_below : (purpose : Purpose) (documents : List SchemaDocument) → All (λ parts. All (λ p. p < count_of documents) parts) (components_of purpose documents).uses
+uses_below : (purpose : Purpose) (refused : Site → Bool) (documents : List SchemaDocument) → All (λ parts. All (λ p. p < count_of documents) parts) (components_of purpose refused documents).uses
 unfolding components_of
-uses_below purpose documents = each (IsSite documents) (λ parts. All (λ p. p < count_of documents) parts) (part_numbers documents) (parts_below documents) (all_sites documents) (all_within documents)
+uses_below purpose refused documents = each (IsSite documents) (λ parts. All (λ p. p < count_of documents) parts) (part_numbers documents) (parts_below documents) (all_sites documents) (all_within documents)
 
 -- each part is a component
-pub closed : (purpose : Purpose) (documents : List SchemaDocument) (uses : List (List ℕ)) → uses ≡ (components_of purpose documents).uses → IsClosed uses
-closed purpose documents uses are = subst IsClosed (sym are)
-    (subst (λ (n : ℕ). All (λ parts. All (λ p. p < n) parts) (components_of purpose documents).uses) (sym (length_uses purpose documents)) (uses_below purpose documents))
+pub closed : (purpose : Purpose) (refused : Site → Bool) (documents : List SchemaDocument) (uses : List (List ℕ)) → uses ≡ (components_of purpose refused documents).uses → IsClosed uses
+closed purpose refused documents uses are = subst IsClosed (sym are)
+    (subst (λ (n : ℕ). All (λ parts. All (λ p. p < n) parts) (components_of purpose refused documents).uses) (sym (length_uses purpose refused documents)) (uses_below purpose refused documents))
 
 -- what two lists have at one place
 fits : {X A B : Type 0} (P : A → B → Type 0) (f : X → A) (g : X → B) → ((x : X) → P (f x) (g x)) → (a : A) (b : B) (xs : List X) (c : ℕ) → c < length xs
@@ -89,19 +89,19 @@ fits P f g holds a b [] c less = absurd (omega (arith, less))
 fits P f g holds a b (x ∷ xs) zero less = holds x
 fits P f g holds a b (x ∷ xs) (suc c) less = fits P f g holds a b xs c (omega (arith, less))
 
-module _ (purpose : Purpose) (documents : List SchemaDocument) (own : Site) where
+module _ (purpose : Purpose) (refused : Site → Bool) (documents : List SchemaDocument) (own : Site) where
   -- the element or group of this kind that an element of the documents is
   abbrev pub of_kind : Kind → Component
-  of_kind kind = component_by (element_name documents own) (primitive_by (judgement_at purpose documents own)) (number_of documents own)
-      (judgement_at purpose documents own).framing (judgement_at purpose documents own).size
-      (option_map (prefix_by (prefix_number documents own)) (judgement_at purpose documents own).prefix)
-      (tried_by (nil_number documents own) (empty_number documents own) (judgement_at purpose documents own).others) kind
+  of_kind kind = component_by (element_name documents own) (primitive_by (judgement_at purpose refused documents own)) (number_of documents own)
+      (judgement_at purpose refused documents own).framing (judgement_at purpose refused documents own).size
+      (option_map (prefix_by (prefix_number documents own)) (judgement_at purpose refused documents own).prefix)
+      (tried_by (nil_number documents own) (empty_number documents own) (judgement_at purpose refused documents own).others) kind
 
   abbrev pub made : Role → Component
-  made role.GroupReference = reference_by (judgement_at purpose documents own).framing (referred documents own names.Group)
+  made role.GroupReference = reference_by (judgement_at purpose refused documents own).framing (referred documents own names.Group)
   made r = of_kind (kind_by documents own r)
 
-  pub made_is : (r : Role) → r ≡ role_of documents own → component_of documents own (judgement_at purpose documents own) r ≡ made r
+  pub made_is : (r : Role) → r ≡ role_of documents own → component_of documents own (judgement_at purpose refused documents own) r ≡ made r
   unfolding kind_at
   made_is role.GroupReference is = refl
   made_is r is = ap (λ (q : Role). of_kind (kind_by documents own q)) (sym is)
@@ -111,7 +111,7 @@ module _ (purpose : Purpose) (documents : List SchemaDocument) (own : Site) wher
   typed_fits NotCarried = refl
   typed_fits (Defined type) = refl
 
-  reference_fits : (o : Option Site) → CanHave (reference_by (judgement_at purpose documents own).framing o) (map (number_of documents) (listed o))
+  reference_fits : (o : Option Site) → CanHave (reference_by (judgement_at purpose refused documents own).framing o) (map (number_of documents) (listed o))
   reference_fits None = tt
   reference_fits (Some group) = refl
 
@@ -122,36 +122,36 @@ module _ (purpose : Purpose) (documents : List SchemaDocument) (own : Site) wher
   role_fits role.GroupReference = reference_fits (referred documents own names.Group)
   role_fits _ = tt
 
-  pub can_have : CanHave (component_at purpose documents own) (part_numbers documents own)
+  pub can_have : CanHave (component_at purpose refused documents own) (part_numbers documents own)
   unfolding parts_at
   can_have = subst (λ (component : Component). CanHave component (part_numbers documents own)) (sym (made_is (role_of documents own) refl)) (role_fits (role_of documents own))
 
 -- the lists of the components are those of one schema
-of_one : (purpose : Purpose) (documents : List SchemaDocument) → AreOfOne (components_of purpose documents).uses (components_of purpose documents).components (components_of purpose documents).refusals (components_of purpose documents).places
+of_one : (purpose : Purpose) (refused : Site → Bool) (documents : List SchemaDocument) → AreOfOne (components_of purpose refused documents).uses (components_of purpose refused documents).components (components_of purpose refused documents).refusals (components_of purpose refused documents).places
 unfolding components_of
-of_one purpose documents = record {
-  counted = length_of (component_at purpose documents) (all_sites documents) ∙ sym (length_of (part_numbers documents) (all_sites documents));
-  judged = length_of (refusal_at purpose documents) (all_sites documents) ∙ sym (length_of (part_numbers documents) (all_sites documents));
+of_one purpose refused documents = record {
+  counted = length_of (component_at purpose refused documents) (all_sites documents) ∙ sym (length_of (part_numbers documents) (all_sites documents));
+  judged = length_of (refusal_at purpose refused documents) (all_sites documents) ∙ sym (length_of (part_numbers documents) (all_sites documents));
   placed = length_of (place_of documents) (all_sites documents) ∙ sym (length_of (part_numbers documents) (all_sites documents));
-  fit = λ c less. fits CanHave (component_at purpose documents) (part_numbers documents) (can_have purpose documents) (Sequence no_fill) [] (all_sites documents) c
+  fit = λ c less. fits CanHave (component_at purpose refused documents) (part_numbers documents) (can_have purpose refused documents) (Sequence no_fill) [] (all_sites documents) c
       (omega (arith, less, length_of (part_numbers documents) (all_sites documents)));
 }
 
-pub are_of_one : (purpose : Purpose) (documents : List SchemaDocument) (uses : List (List ℕ)) (components : List Component) (refusals : List (Option Refusal)) (places : List Place)
-    → uses ≡ (components_of purpose documents).uses → components ≡ (components_of purpose documents).components → refusals ≡ (components_of purpose documents).refusals
-    → places ≡ (components_of purpose documents).places → AreOfOne uses components refusals places
-are_of_one purpose documents uses components refusals places a b c d = rw (a, b, c, d) (of_one purpose documents)
+pub are_of_one : (purpose : Purpose) (refused : Site → Bool) (documents : List SchemaDocument) (uses : List (List ℕ)) (components : List Component) (refusals : List (Option Refusal)) (places : List Place)
+    → uses ≡ (components_of purpose refused documents).uses → components ≡ (components_of purpose refused documents).components → refusals ≡ (components_of purpose refused documents).refusals
+    → places ≡ (components_of purpose refused documents).places → AreOfOne uses components refusals places
+are_of_one purpose refused documents uses components refusals places a b c d = rw (a, b, c, d) (of_one purpose refused documents)
 
 -- the components are those of the documents
 made_of : List (List ℕ) → List Component → List (Option Refusal) → List Place → Schema
 made_of uses components refusals places = record { uses = uses; components = components; refusals = refusals; places = places }
 
-pub whole : (purpose : Purpose) (documents : List SchemaDocument) (uses : List (List ℕ)) (components : List Component) (refusals : List (Option Refusal)) (places : List Place)
-    → uses ≡ (components_of purpose documents).uses → components ≡ (components_of purpose documents).components → refusals ≡ (components_of purpose documents).refusals
-    → places ≡ (components_of purpose documents).places → record { uses = uses; components = components; refusals = refusals; places = places } ≡ components_of purpose documents
+pub whole : (purpose : Purpose) (refused : Site → Bool) (documents : List SchemaDocument) (uses : List (List ℕ)) (components : List Component) (refusals : List (Option Refusal)) (places : List Place)
+    → uses ≡ (components_of purpose refused documents).uses → components ≡ (components_of purpose refused documents).components → refusals ≡ (components_of purpose refused documents).refusals
+    → places ≡ (components_of purpose refused documents).places → record { uses = uses; components = components; refusals = refusals; places = places } ≡ components_of purpose refused documents
 unfolding made_of
-whole purpose documents uses components refusals places a b c d =
+whole purpose refused documents uses components refusals places a b c d =
     ap (λ (u : List (List ℕ)). made_of u components refusals places) a
-    ∙ (ap (λ (k : List Component). made_of (components_of purpose documents).uses k refusals places) b
-    ∙ (ap (λ (r : List (Option Refusal)). made_of (components_of purpose documents).uses (components_of purpose documents).components r places) c
-    ∙ ap (λ (p : List Place). made_of (components_of purpose documents).uses (components_of purpose documents).components (components_of purpose documents).refusals p) d))
+    ∙ (ap (λ (k : List Component). made_of (components_of purpose refused documents).uses k refusals places) b
+    ∙ (ap (λ (r : List (Option Refusal)). made_of (components_of purpose refused documents).uses (components_of purpose refused documents).components r places) c
+    ∙ ap (λ (p : List Place). made_of (components_of purpose refused documents).uses (components_of purpose refused documents).components (components_of purpose refused documents).refusals p) d))

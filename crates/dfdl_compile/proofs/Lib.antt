@@ -2,3 +2,4 @@ mod Fitting
 mod Searches
 mod Ending
 mod Taken
+mod Coming

@@ -54,20 +54,20 @@ use Rattle.dfdl_compile.specs.Primitives.{HasTypedLeaves, HasBareTypedLeaves, Ha
 use Rattle.dfdl_compile.proofs.Fitting.{all_within, each, made, made_is, of_kind, twice}
 
 -- what is told of an element, where it is a component
-judgement_if : Purpose → List SchemaDocument → Site → Bool → Judgement
-judgement_if purpose documents own b =
+judgement_if : Purpose → (Site → Bool) → List SchemaDocument → Site → Bool → Judgement
+judgement_if purpose refused documents own b =
     if b then record {
-      breach = breach_at purpose documents own;
-      primitive = judged purpose documents own;
-      framing = framing_at purpose documents own;
-      size = size_at purpose documents own;
-      prefix = form_of_prefix purpose documents own;
-      others = others_at purpose documents own;
+      breach = breach_at purpose refused documents own;
+      primitive = judged purpose refused documents own;
+      framing = framing_at purpose refused documents own;
+      size = size_at purpose refused documents own;
+      prefix = form_of_prefix purpose refused documents own;
+      others = others_at purpose refused documents own;
     } else no_judgement
 
 -- what holds of a byte, of each primitive that is judged, of that of each prefix, and of those of each nil and each empty
 -- representation holds of those of an element
-module _ (P : Primitive → Type 0) (byte : P a_byte) (purpose : Purpose) (documents : List SchemaDocument) where
+module _ (P : Primitive → Type 0) (byte : P a_byte) (purpose : Purpose) (refused : Site → Bool) (documents : List SchemaDocument) where
   by_some : (o : Option Primitive) → ((p : Primitive) → o ≡ Some p → P p) → P (unwrap_or o a_byte)
   by_some None holds = byte
   by_some (Some p) holds = holds p refl
@@ -76,91 +76,91 @@ module _ (P : Primitive → Type 0) (byte : P a_byte) (purpose : Purpose) (docum
   by_prefix None holds = byte
   by_prefix (Some f) holds = holds f refl
 
-  by_component : (own : Site) (b : Bool) → ((p : Primitive) → judged purpose documents own ≡ Some p → P p) → P (primitive_by (judgement_if purpose documents own b))
+  by_component : (own : Site) (b : Bool) → ((p : Primitive) → judged purpose refused documents own ≡ Some p → P p) → P (primitive_by (judgement_if purpose refused documents own b))
   unfolding judgement_if
-  by_component own true holds = by_some (judged purpose documents own) holds
+  by_component own true holds = by_some (judged purpose refused documents own) holds
   by_component own false holds = byte
 
-  by_prefixed : (own : Site) (b : Bool) → ((f : PrefixForm) → form_of_prefix purpose documents own ≡ Some f → P f.primitive)
-      → P (prefix_primitive_by (judgement_if purpose documents own b))
+  by_prefixed : (own : Site) (b : Bool) → ((f : PrefixForm) → form_of_prefix purpose refused documents own ≡ Some f → P f.primitive)
+      → P (prefix_primitive_by (judgement_if purpose refused documents own b))
   unfolding judgement_if
-  by_prefixed own true holds = by_prefix (form_of_prefix purpose documents own) holds
+  by_prefixed own true holds = by_prefix (form_of_prefix purpose refused documents own) holds
   by_prefixed own false holds = byte
 
-  by_nil : (own : Site) (b : Bool) → ((p : Primitive) → (others_at purpose documents own).nil ≡ Some p → P p)
-      → P (nil_primitive_by (judgement_if purpose documents own b))
+  by_nil : (own : Site) (b : Bool) → ((p : Primitive) → (others_at purpose refused documents own).nil ≡ Some p → P p)
+      → P (nil_primitive_by (judgement_if purpose refused documents own b))
   unfolding judgement_if
-  by_nil own true holds = by_some (others_at purpose documents own).nil holds
+  by_nil own true holds = by_some (others_at purpose refused documents own).nil holds
   by_nil own false holds = byte
 
-  by_empty : (own : Site) (b : Bool) → ((p : Primitive) → (others_at purpose documents own).empty ≡ Some p → P p)
-      → P (empty_primitive_by (judgement_if purpose documents own b))
+  by_empty : (own : Site) (b : Bool) → ((p : Primitive) → (others_at purpose refused documents own).empty ≡ Some p → P p)
+      → P (empty_primitive_by (judgement_if purpose refused documents own b))
   unfolding judgement_if
-  by_empty own true holds = by_some (others_at purpose documents own).empty holds
+  by_empty own true holds = by_some (others_at purpose refused documents own).empty holds
   by_empty own false holds = byte
 
-  holds_at : (own : Site) → ((p : Primitive) → judged purpose documents own ≡ Some p → P p) → P (primitive_at purpose documents own)
+  holds_at : (own : Site) → ((p : Primitive) → judged purpose refused documents own ≡ Some p → P p) → P (primitive_at purpose refused documents own)
   unfolding judgement_at judgement_if
   holds_at own holds = by_component own (is_component (role_of documents own)) holds
 
-  prefix_holds_at : (own : Site) → ((f : PrefixForm) → form_of_prefix purpose documents own ≡ Some f → P f.primitive)
-      → P (prefix_primitive_at purpose documents own)
+  prefix_holds_at : (own : Site) → ((f : PrefixForm) → form_of_prefix purpose refused documents own ≡ Some f → P f.primitive)
+      → P (prefix_primitive_at purpose refused documents own)
   unfolding judgement_at judgement_if
   prefix_holds_at own holds = by_prefixed own (is_component (role_of documents own)) holds
 
-  nil_holds_at : (own : Site) → ((p : Primitive) → (others_at purpose documents own).nil ≡ Some p → P p) → P (nil_primitive_at purpose documents own)
+  nil_holds_at : (own : Site) → ((p : Primitive) → (others_at purpose refused documents own).nil ≡ Some p → P p) → P (nil_primitive_at purpose refused documents own)
   unfolding judgement_at judgement_if
   nil_holds_at own holds = by_nil own (is_component (role_of documents own)) holds
 
-  empty_holds_at : (own : Site) → ((p : Primitive) → (others_at purpose documents own).empty ≡ Some p → P p)
-      → P (empty_primitive_at purpose documents own)
+  empty_holds_at : (own : Site) → ((p : Primitive) → (others_at purpose refused documents own).empty ≡ Some p → P p)
+      → P (empty_primitive_at purpose refused documents own)
   unfolding judgement_at judgement_if
   empty_holds_at own holds = by_empty own (is_component (role_of documents own)) holds
 
   holds_of_each : (f : Site → Primitive) → ((own : Site) → P (f own)) → All P (for_each documents f)
   holds_of_each f holds = each (IsSite documents) P f (λ own within. holds own) (all_sites documents) (all_within documents)
 
-  holds_of : ((own : Site) (p : Primitive) → judged purpose documents own ≡ Some p → P p)
-      → ((own : Site) (f : PrefixForm) → form_of_prefix purpose documents own ≡ Some f → P f.primitive)
-      → ((own : Site) (p : Primitive) → (others_at purpose documents own).nil ≡ Some p → P p)
-      → ((own : Site) (p : Primitive) → (others_at purpose documents own).empty ≡ Some p → P p)
-      → (tables : List Primitive) → tables ≡ primitives_of purpose documents → All P tables
+  holds_of : ((own : Site) (p : Primitive) → judged purpose refused documents own ≡ Some p → P p)
+      → ((own : Site) (f : PrefixForm) → form_of_prefix purpose refused documents own ≡ Some f → P f.primitive)
+      → ((own : Site) (p : Primitive) → (others_at purpose refused documents own).nil ≡ Some p → P p)
+      → ((own : Site) (p : Primitive) → (others_at purpose refused documents own).empty ≡ Some p → P p)
+      → (tables : List Primitive) → tables ≡ primitives_of purpose refused documents → All P tables
   unfolding primitives_of
   holds_of holds prefixes nils empties tables are = subst (λ (ps : List Primitive). All P ps) (sym are)
-      (All-append P (for_each documents (primitive_at purpose documents))
-      (for_each documents (prefix_primitive_at purpose documents)
-      ++ (for_each documents (nil_primitive_at purpose documents) ++ for_each documents (empty_primitive_at purpose documents)))
-      (holds_of_each (primitive_at purpose documents) (λ own. holds_at own (holds own)))
-      (All-append P (for_each documents (prefix_primitive_at purpose documents))
-      (for_each documents (nil_primitive_at purpose documents) ++ for_each documents (empty_primitive_at purpose documents))
-      (holds_of_each (prefix_primitive_at purpose documents) (λ own. prefix_holds_at own (prefixes own)))
-      (All-append P (for_each documents (nil_primitive_at purpose documents)) (for_each documents (empty_primitive_at purpose documents))
-      (holds_of_each (nil_primitive_at purpose documents) (λ own. nil_holds_at own (nils own)))
-      (holds_of_each (empty_primitive_at purpose documents) (λ own. empty_holds_at own (empties own))))))
+      (All-append P (for_each documents (primitive_at purpose refused documents))
+      (for_each documents (prefix_primitive_at purpose refused documents)
+      ++ (for_each documents (nil_primitive_at purpose refused documents) ++ for_each documents (empty_primitive_at purpose refused documents)))
+      (holds_of_each (primitive_at purpose refused documents) (λ own. holds_at own (holds own)))
+      (All-append P (for_each documents (prefix_primitive_at purpose refused documents))
+      (for_each documents (nil_primitive_at purpose refused documents) ++ for_each documents (empty_primitive_at purpose refused documents))
+      (holds_of_each (prefix_primitive_at purpose refused documents) (λ own. prefix_holds_at own (prefixes own)))
+      (All-append P (for_each documents (nil_primitive_at purpose refused documents)) (for_each documents (empty_primitive_at purpose refused documents))
+      (holds_of_each (nil_primitive_at purpose refused documents) (λ own. nil_holds_at own (nils own)))
+      (holds_of_each (empty_primitive_at purpose refused documents) (λ own. empty_holds_at own (empties own))))))
 
 -- the table is that of the documents
-pub tables_are : (purpose : Purpose) (documents : List SchemaDocument) (judgements : List Judgement) (tables : List Primitive)
-    → judgements ≡ for_each documents (judgement_at purpose documents)
+pub tables_are : (purpose : Purpose) (refused : Site → Bool) (documents : List SchemaDocument) (judgements : List Judgement) (tables : List Primitive)
+    → judgements ≡ for_each documents (judgement_at purpose refused documents)
     → tables ≡ map primitive_by judgements
     ++ (map prefix_primitive_by judgements ++ (map nil_primitive_by judgements ++ map empty_primitive_by judgements))
-    → tables ≡ primitives_of purpose documents
+    → tables ≡ primitives_of purpose refused documents
 unfolding primitives_of
-tables_are purpose documents judgements tables told are =
+tables_are purpose refused documents judgements tables told are =
     are ∙ (λ i. own i ++ (prefixes i ++ (nils i ++ empties i)))
   where
-    at_each : (f : Judgement → Primitive) → map f judgements ≡ for_each documents (λ (s : Site). f (judgement_at purpose documents s))
-    at_each f = ap (map f) told ∙ twice f (judgement_at purpose documents) (all_sites documents)
+    at_each : (f : Judgement → Primitive) → map f judgements ≡ for_each documents (λ (s : Site). f (judgement_at purpose refused documents s))
+    at_each f = ap (map f) told ∙ twice f (judgement_at purpose refused documents) (all_sites documents)
 
-    own : map primitive_by judgements ≡ for_each documents (primitive_at purpose documents)
+    own : map primitive_by judgements ≡ for_each documents (primitive_at purpose refused documents)
     own = at_each primitive_by
 
-    prefixes : map prefix_primitive_by judgements ≡ for_each documents (prefix_primitive_at purpose documents)
+    prefixes : map prefix_primitive_by judgements ≡ for_each documents (prefix_primitive_at purpose refused documents)
     prefixes = at_each prefix_primitive_by
 
-    nils : map nil_primitive_by judgements ≡ for_each documents (nil_primitive_at purpose documents)
+    nils : map nil_primitive_by judgements ≡ for_each documents (nil_primitive_at purpose refused documents)
     nils = at_each nil_primitive_by
 
-    empties : map empty_primitive_by judgements ≡ for_each documents (empty_primitive_at purpose documents)
+    empties : map empty_primitive_by judgements ≡ for_each documents (empty_primitive_at purpose refused documents)
     empties = at_each empty_primitive_by
 
 -- it keeps the bounds of its type, if its text is one of characters
@@ -168,36 +168,36 @@ abbrev IsBoundedIf : Primitive → Type 0
 IsBoundedIf p = HasWrittenText p → IsPrimitive p
 
 -- each keeps the bounds of its type
-pub bounded : (purpose : Purpose) (documents : List SchemaDocument)
-    → ((purpose : Purpose) (documents : List SchemaDocument) (own : Site) (p : Primitive) → judged purpose documents own ≡ Some p → IsPrimitive p)
-    → ((purpose : Purpose) (documents : List SchemaDocument) (own : Site) (f : PrefixForm) → form_of_prefix purpose documents own ≡ Some f
+pub bounded : (purpose : Purpose) (refused : Site → Bool) (documents : List SchemaDocument)
+    → ((purpose : Purpose) (refused : Site → Bool) (documents : List SchemaDocument) (own : Site) (p : Primitive) → judged purpose refused documents own ≡ Some p → IsPrimitive p)
+    → ((purpose : Purpose) (refused : Site → Bool) (documents : List SchemaDocument) (own : Site) (f : PrefixForm) → form_of_prefix purpose refused documents own ≡ Some f
     → IsPrimitive f.primitive)
-    → ((purpose : Purpose) (documents : List SchemaDocument) (own : Site) (p : Primitive) → (others_at purpose documents own).nil ≡ Some p → IsPrimitive p)
-    → ((purpose : Purpose) (documents : List SchemaDocument) (own : Site) (p : Primitive) → (others_at purpose documents own).empty ≡ Some p
+    → ((purpose : Purpose) (refused : Site → Bool) (documents : List SchemaDocument) (own : Site) (p : Primitive) → (others_at purpose refused documents own).nil ≡ Some p → IsPrimitive p)
+    → ((purpose : Purpose) (refused : Site → Bool) (documents : List SchemaDocument) (own : Site) (p : Primitive) → (others_at purpose refused documents own).empty ≡ Some p
     → HasWrittenText p → IsPrimitive p)
-    → (tables : List Primitive) → tables ≡ primitives_of purpose documents → All HasWrittenText tables → All IsPrimitive tables
-bounded purpose documents law prefixes nils empties tables are written =
+    → (tables : List Primitive) → tables ≡ primitives_of purpose refused documents → All HasWrittenText tables → All IsPrimitive tables
+bounded purpose refused documents law prefixes nils empties tables are written =
     let each_if : All IsBoundedIf tables = holds_of IsBoundedIf
     (λ text. record { some = omega arith; few = omega arith; short = omega arith; places = omega arith })
-    purpose documents (λ own p is text. law purpose documents own p is) (λ own f is text. prefixes purpose documents own f is)
-    (λ own p is text. nils purpose documents own p is) (empties purpose documents) tables are in
+    purpose refused documents (λ own p is text. law purpose refused documents own p is) (λ own f is text. prefixes purpose refused documents own f is)
+    (λ own p is text. nils purpose refused documents own p is) (empties purpose refused documents) tables are in
     λ k d less. each_if k d less (written k d less)
 
 -- each for unparsing is a whole unsigned integer
-pub wholes : (purpose : Purpose) (documents : List SchemaDocument) → purpose ≡ Unparsing
-    → ((documents : List SchemaDocument) (own : Site) (p : Primitive) → judged Unparsing documents own ≡ Some p → IsWhole p)
-    → ((documents : List SchemaDocument) (own : Site) → form_of_prefix Unparsing documents own ≡ None)
-    → ((documents : List SchemaDocument) (own : Site) → others_at Unparsing documents own ≡ no_representations)
-    → (tables : List Primitive) → tables ≡ primitives_of purpose documents → All IsWhole tables
-wholes purpose documents unparsing law none normal tables are =
-    holds_of IsWhole (record { bits = refl; kind = refl; bits_by = refl; point = refl }) Unparsing documents (law documents)
-    (λ own f is. absurd (never (none documents own) is))
-    (λ own p is. absurd (never (ap (λ (o : OtherRepresentations). o.nil) (normal documents own)) is))
-    (λ own p is. absurd (never (ap (λ (o : OtherRepresentations). o.empty) (normal documents own)) is)) tables
-    (are ∙ ap (λ (q : Purpose). primitives_of q documents) unparsing)
+pub wholes : (purpose : Purpose) (refused : Site → Bool) (documents : List SchemaDocument) → purpose ≡ Unparsing
+    → ((refused : Site → Bool) (documents : List SchemaDocument) (own : Site) (p : Primitive) → judged Unparsing refused documents own ≡ Some p → IsWhole p)
+    → ((refused : Site → Bool) (documents : List SchemaDocument) (own : Site) → form_of_prefix Unparsing refused documents own ≡ None)
+    → ((refused : Site → Bool) (documents : List SchemaDocument) (own : Site) → others_at Unparsing refused documents own ≡ no_representations)
+    → (tables : List Primitive) → tables ≡ primitives_of purpose refused documents → All IsWhole tables
+wholes purpose refused documents unparsing law none normal tables are =
+    holds_of IsWhole (record { bits = refl; kind = refl; bits_by = refl; point = refl }) Unparsing refused documents (law refused documents)
+    (λ own f is. absurd (no_form (none refused documents own) is))
+    (λ own p is. absurd (no_form (ap (λ (o : OtherRepresentations). o.nil) (normal refused documents own)) is))
+    (λ own p is. absurd (no_form (ap (λ (o : OtherRepresentations). o.empty) (normal refused documents own)) is)) tables
+    (are ∙ ap (λ (q : Purpose). primitives_of q refused documents) unparsing)
   where
-    never : {X : Type 0} {o : Option X} {x : X} → o ≡ None → o ≡ Some x → ⊥
-    never is other = cc
+    no_form : {X : Type 0} {o : Option X} {x : X} → o ≡ None → o ≡ Some x → ⊥
+    no_form is other = cc
 
 -- there are as many primitives of one kind as elements
 length_each : (documents : List SchemaDocument) (f : Site → Primitive) → length (for_each documents f) ≡ count_of documents
@@ -208,26 +208,26 @@ abbrev count_primitives : List SchemaDocument → ℕ
 count_primitives documents = count_of documents + (count_of documents + (count_of documents + count_of documents))
 
 -- there are four times as many primitives as elements
-length_primitives : (purpose : Purpose) (documents : List SchemaDocument) → length (primitives_of purpose documents) ≡ count_primitives documents
+length_primitives : (purpose : Purpose) (refused : Site → Bool) (documents : List SchemaDocument) → length (primitives_of purpose refused documents) ≡ count_primitives documents
 unfolding primitives_of
-length_primitives purpose documents =
-    let own = length_each documents (primitive_at purpose documents) in
-    let prefixes = length_each documents (prefix_primitive_at purpose documents) in
-    let nils = length_each documents (nil_primitive_at purpose documents) in
-    let empties = length_each documents (empty_primitive_at purpose documents) in
-    let last = length-append (for_each documents (nil_primitive_at purpose documents)) (for_each documents (empty_primitive_at purpose documents)) in
-    let behind = length-append (for_each documents (prefix_primitive_at purpose documents))
-    (for_each documents (nil_primitive_at purpose documents) ++ for_each documents (empty_primitive_at purpose documents)) in
-    let all = length-append (for_each documents (primitive_at purpose documents))
-    (for_each documents (prefix_primitive_at purpose documents)
-    ++ (for_each documents (nil_primitive_at purpose documents) ++ for_each documents (empty_primitive_at purpose documents))) in
+length_primitives purpose refused documents =
+    let own = length_each documents (primitive_at purpose refused documents) in
+    let prefixes = length_each documents (prefix_primitive_at purpose refused documents) in
+    let nils = length_each documents (nil_primitive_at purpose refused documents) in
+    let empties = length_each documents (empty_primitive_at purpose refused documents) in
+    let last = length-append (for_each documents (nil_primitive_at purpose refused documents)) (for_each documents (empty_primitive_at purpose refused documents)) in
+    let behind = length-append (for_each documents (prefix_primitive_at purpose refused documents))
+    (for_each documents (nil_primitive_at purpose refused documents) ++ for_each documents (empty_primitive_at purpose refused documents)) in
+    let all = length-append (for_each documents (primitive_at purpose refused documents))
+    (for_each documents (prefix_primitive_at purpose refused documents)
+    ++ (for_each documents (nil_primitive_at purpose refused documents) ++ for_each documents (empty_primitive_at purpose refused documents))) in
     omega (arith, all, behind, last, own, prefixes, nils, empties)
 
-module _ (purpose : Purpose) (documents : List SchemaDocument) where
+module _ (purpose : Purpose) (refused : Site → Bool) (documents : List SchemaDocument) where
   abbrev count : ℕ
   count = count_primitives documents
 
-  has_number : (own : Site) → IsSite documents own → HasPrimitive count (component_at purpose documents own)
+  has_number : (own : Site) → IsSite documents own → HasPrimitive count (component_at purpose refused documents own)
   has_number own within = by_role (role_of documents own)
     where
       own_below : number_of documents own < count
@@ -258,45 +258,45 @@ module _ (purpose : Purpose) (documents : List SchemaDocument) where
       by_box None None = tt
       by_box None (Some form) = prefix_below
 
-      by_group : (o : Option Site) → HasPrimitive count (reference_by (judgement_at purpose documents own).framing o)
+      by_group : (o : Option Site) → HasPrimitive count (reference_by (judgement_at purpose refused documents own).framing o)
       by_group None = tt
       by_group (Some group) = tt
 
-      by_kind : (k : Kind) → HasPrimitive count (of_kind purpose documents own k)
-      by_kind kind.ComplexElement = by_box (judgement_at purpose documents own).size (judgement_at purpose documents own).prefix
-      by_kind (kind.SimpleElement simple) = (own_below, by_prefix (judgement_at purpose documents own).prefix, by_others (judgement_at purpose documents own).others)
-      by_kind kind.UncarriedElement = (own_below, by_prefix (judgement_at purpose documents own).prefix, by_others (judgement_at purpose documents own).others)
+      by_kind : (k : Kind) → HasPrimitive count (of_kind purpose refused documents own k)
+      by_kind kind.ComplexElement = by_box (judgement_at purpose refused documents own).size (judgement_at purpose refused documents own).prefix
+      by_kind (kind.SimpleElement simple) = (own_below, by_prefix (judgement_at purpose refused documents own).prefix, by_others (judgement_at purpose refused documents own).others)
+      by_kind kind.UncarriedElement = (own_below, by_prefix (judgement_at purpose refused documents own).prefix, by_others (judgement_at purpose refused documents own).others)
       by_kind kind.Sequence = tt
       by_kind kind.Choice = tt
       by_kind (kind.PrefixNumber simple) = tt
 
-      by_role : (r : Role) → HasPrimitive count (component_of documents own (judgement_at purpose documents own) r)
+      by_role : (r : Role) → HasPrimitive count (component_of documents own (judgement_at purpose refused documents own) r)
       by_role role.GroupReference = by_group (referred documents own names.Group)
       by_role _ = by_kind (kind_at documents own)
 
   -- the primitives of each component are in the table
-  pub have : (schema : Schema) (tables : List Primitive) → schema ≡ components_of purpose documents
-      → tables ≡ primitives_of purpose documents → All (HasPrimitive (length tables)) schema.components
+  pub have : (schema : Schema) (tables : List Primitive) → schema ≡ components_of purpose refused documents
+      → tables ≡ primitives_of purpose refused documents → All (HasPrimitive (length tables)) schema.components
   unfolding components_of
   have schema tables schema_is tables_are =
       subst (λ (n : ℕ). All (HasPrimitive n) schema.components)
-      (sym (ap (λ (ps : List Primitive). length ps) tables_are ∙ length_primitives purpose documents))
+      (sym (ap (λ (ps : List Primitive). length ps) tables_are ∙ length_primitives purpose refused documents))
       (subst (λ (s : Schema). All (HasPrimitive count) s.components) (sym schema_is)
-      (each (IsSite documents) (HasPrimitive count) (component_at purpose documents) has_number (all_sites documents) (all_within documents)))
+      (each (IsSite documents) (HasPrimitive count) (component_at purpose refused documents) has_number (all_sites documents) (all_within documents)))
 
   -- a component that is a simple element has the type of its primitive, and the primitive's number
   typed_component : (own : Site) (name : List ℕ) (simple : Simple) (prim : ℕ) (framing : Framing) (prefix : Option Prefix) (tried : Representations)
-      → component_at purpose documents own ≡ SimpleElement name simple prim framing prefix tried
-      → (type_of (primitive_at purpose documents own) ≡ simple) × (number_of documents own ≡ prim)
+      → component_at purpose refused documents own ≡ SimpleElement name simple prim framing prefix tried
+      → (type_of (primitive_at purpose refused documents own) ≡ simple) × (number_of documents own ≡ prim)
   typed_component own name simple prim framing prefix tried = by_role (role_of documents own)
     where
-      by_group : (o : Option Site) → reference_by (judgement_at purpose documents own).framing o ≡ SimpleElement name simple prim framing prefix tried
-          → (type_of (primitive_at purpose documents own) ≡ simple) × (number_of documents own ≡ prim)
+      by_group : (o : Option Site) → reference_by (judgement_at purpose refused documents own).framing o ≡ SimpleElement name simple prim framing prefix tried
+          → (type_of (primitive_at purpose refused documents own) ≡ simple) × (number_of documents own ≡ prim)
       by_group None is = absurd (cc)
       by_group (Some group) is = absurd (cc)
 
-      by_kind : (k : Kind) → of_kind purpose documents own k ≡ SimpleElement name simple prim framing prefix tried
-          → (type_of (primitive_at purpose documents own) ≡ simple) × (number_of documents own ≡ prim)
+      by_kind : (k : Kind) → of_kind purpose refused documents own k ≡ SimpleElement name simple prim framing prefix tried
+          → (type_of (primitive_at purpose refused documents own) ≡ simple) × (number_of documents own ≡ prim)
       by_kind kind.ComplexElement is = absurd (cc)
       by_kind (kind.SimpleElement other) is = (cc, cc)
       by_kind kind.UncarriedElement is = (cc, cc)
@@ -304,47 +304,47 @@ module _ (purpose : Purpose) (documents : List SchemaDocument) where
       by_kind kind.Choice is = absurd (cc)
       by_kind (kind.PrefixNumber other) is = absurd (cc)
 
-      by_role : (r : Role) → component_of documents own (judgement_at purpose documents own) r ≡ SimpleElement name simple prim framing prefix tried
-          → (type_of (primitive_at purpose documents own) ≡ simple) × (number_of documents own ≡ prim)
+      by_role : (r : Role) → component_of documents own (judgement_at purpose refused documents own) r ≡ SimpleElement name simple prim framing prefix tried
+          → (type_of (primitive_at purpose refused documents own) ≡ simple) × (number_of documents own ≡ prim)
       by_role role.GroupReference is = by_group (referred documents own names.Group) is
       by_role _ is = by_kind (kind_at documents own) is
 
   -- the primitive of an element stands at the element's number
   there : (own : Site) → IsSite documents own
-      → slice_get (primitives_of purpose documents) (number_of documents own) ≡ Some (primitive_at purpose documents own)
+      → slice_get (primitives_of purpose refused documents) (number_of documents own) ≡ Some (primitive_at purpose refused documents own)
   unfolding primitives_of
   there own within =
       let below = number_below documents own within in
-      let long = length_each documents (primitive_at purpose documents) in
-      let all = length-append (for_each documents (primitive_at purpose documents)) behind in
-      slice_get-get_or (for_each documents (primitive_at purpose documents) ++ behind) (number_of documents own) a_byte (omega (arith, below, long, all))
-      ∙ (ap Some (get_or_append_left (for_each documents (primitive_at purpose documents)) behind a_byte (number_of documents own) (omega (arith, below, long)))
-      ∙ ap Some (value-at documents (primitive_at purpose documents) own a_byte within))
+      let long = length_each documents (primitive_at purpose refused documents) in
+      let all = length-append (for_each documents (primitive_at purpose refused documents)) behind in
+      slice_get-get_or (for_each documents (primitive_at purpose refused documents) ++ behind) (number_of documents own) a_byte (omega (arith, below, long, all))
+      ∙ (ap Some (get_or_append_left (for_each documents (primitive_at purpose refused documents)) behind a_byte (number_of documents own) (omega (arith, below, long)))
+      ∙ ap Some (value-at documents (primitive_at purpose refused documents) own a_byte within))
     where
       behind : List Primitive
-      behind = for_each documents (prefix_primitive_at purpose documents)
-          ++ (for_each documents (nil_primitive_at purpose documents) ++ for_each documents (empty_primitive_at purpose documents))
+      behind = for_each documents (prefix_primitive_at purpose refused documents)
+          ++ (for_each documents (nil_primitive_at purpose refused documents) ++ for_each documents (empty_primitive_at purpose refused documents))
 
   -- the leaf of a simple element among the components has the element's type
-  among_typed : (simple : Simple) (prim : ℕ) → IsAmong (map (component_at purpose documents) (all_sites documents)) simple prim
-      → IsOfType simple (slice_get (primitives_of purpose documents) prim)
+  among_typed : (simple : Simple) (prim : ℕ) → IsAmong (map (component_at purpose refused documents) (all_sites documents)) simple prim
+      → IsOfType simple (slice_get (primitives_of purpose refused documents) prim)
   among_typed simple prim (number, name, framing, prefix, tried, is) =
       let less : number < length (all_sites documents) = omega (
         arith,
-        slice_get_within (map (component_at purpose documents) (all_sites documents)) number (SimpleElement name simple prim framing prefix tried) is,
-        length-map (all_sites documents) (component_at purpose documents),
+        slice_get_within (map (component_at purpose refused documents) (all_sites documents)) number (SimpleElement name simple prim framing prefix tried) is,
+        length-map (all_sites documents) (component_at purpose refused documents),
       ) in
       let own : Site = get_or (all_sites documents) number (site 0 0) in
-      let found : Some (component_at purpose documents own) ≡ Some (SimpleElement name simple prim framing prefix tried) =
-      sym (slice_get-map (component_at purpose documents) (all_sites documents) number
-      ∙ ap (option_map (component_at purpose documents)) (slice_get-get_or (all_sites documents) number (site 0 0) less)) ∙ is in
-      let same : component_at purpose documents own ≡ SimpleElement name simple prim framing prefix tried = cc in
+      let found : Some (component_at purpose refused documents own) ≡ Some (SimpleElement name simple prim framing prefix tried) =
+      sym (slice_get-map (component_at purpose refused documents) (all_sites documents) number
+      ∙ ap (option_map (component_at purpose refused documents)) (slice_get-get_or (all_sites documents) number (site 0 0) less)) ∙ is in
+      let same : component_at purpose refused documents own ≡ SimpleElement name simple prim framing prefix tried = cc in
       let both = typed_component own name simple prim framing prefix tried same in
-      subst (λ (n : ℕ). IsOfType simple (slice_get (primitives_of purpose documents) n)) both.1
+      subst (λ (n : ℕ). IsOfType simple (slice_get (primitives_of purpose refused documents) n)) both.1
       (subst (λ (o : Option Primitive). IsOfType simple o) (sym (there own (all_within documents number (site 0 0) less))) both.0)
 
-  leaf_typed : (simple : Simple) (o : Option Row) → IsLeafOf (map (component_at purpose documents) (all_sites documents)) simple o
-      → IsLeafOfType (primitives_of purpose documents) simple o
+  leaf_typed : (simple : Simple) (o : Option Row) → IsLeafOf (map (component_at purpose refused documents) (all_sites documents)) simple o
+      → IsLeafOfType (primitives_of purpose refused documents) simple o
   leaf_typed simple (Some (Leaf prim)) one = among_typed simple prim one
   leaf_typed simple (Some (Elem name other tried body)) one = absurd one
   leaf_typed simple (Some (Group children)) one = absurd one
@@ -356,14 +356,14 @@ module _ (purpose : Purpose) (documents : List SchemaDocument) where
   leaf_typed simple None one = absurd one
 
   -- what the body of a simple element reads has the element's type
-  reads_typed : (rows : List Row) (simple : Simple) (id : ℕ) → ReadsBy rows (IsAmong (map (component_at purpose documents) (all_sites documents)) simple) id
-      → ReadsBy rows (λ prim. IsOfType simple (slice_get (primitives_of purpose documents) prim)) id
+  reads_typed : (rows : List Row) (simple : Simple) (id : ℕ) → ReadsBy rows (IsAmong (map (component_at purpose refused documents) (all_sites documents)) simple) id
+      → ReadsBy rows (λ prim. IsOfType simple (slice_get (primitives_of purpose refused documents) prim)) id
   reads_typed rows simple id (leaf _ prim is among) = leaf id prim is (among_typed simple prim among)
   reads_typed rows simple id (prefixed _ prim prefix is among) = prefixed id prim prefix is (among_typed simple prim among)
   reads_typed rows simple id (grouped _ at child children is there reads) = grouped id at child children is there (reads_typed rows simple child reads)
 
   -- each simple element is read by a primitive of its type
-  pub leaves_typed : (schema : Schema) (t : Table) → schema ≡ components_of purpose documents → t.primitives ≡ primitives_of purpose documents
+  pub leaves_typed : (schema : Schema) (t : Table) → schema ≡ components_of purpose refused documents → t.primitives ≡ primitives_of purpose refused documents
       → HaveLeaves schema.components t.rows → HasTypedLeaves t
   unfolding components_of
   leaves_typed schema t schema_is primitives_are leaves row name simple tried body is =
@@ -372,7 +372,7 @@ module _ (purpose : Purpose) (documents : List SchemaDocument) where
       (subst (λ (s : Schema). ReadsBy t.rows (IsAmong s.components simple) body) schema_is (leaves row name simple tried body is)))
 
   -- the same, where each is read by a leaf
-  pub bare_typed : (schema : Schema) (t : Table) → schema ≡ components_of purpose documents → t.primitives ≡ primitives_of purpose documents
+  pub bare_typed : (schema : Schema) (t : Table) → schema ≡ components_of purpose refused documents → t.primitives ≡ primitives_of purpose refused documents
       → HaveBareLeaves schema.components t.rows → HasBareTypedLeaves t
   unfolding components_of
   bare_typed schema t schema_is primitives_are leaves row name simple tried body is =
@@ -387,21 +387,22 @@ record IsBare (told : Judgement) : Type 0 where
   unprefixed : told.prefix ≡ None
 
 -- no component has any of them for unparsing
-module _ (documents : List SchemaDocument) where
-  bare_by : (own : Site) (b : Bool) → IsBare (judgement_if Unparsing documents own b)
+module _ (refused : Site → Bool) (documents : List SchemaDocument)
+    (none : (refused : Site → Bool) (documents : List SchemaDocument) (own : Site) → form_of_prefix Unparsing refused documents own ≡ None) where
+  bare_by : (own : Site) (b : Bool) → IsBare (judgement_if Unparsing refused documents own b)
   unfolding judgement_if
-  bare_by own true = record { unfilled = refl; unboxed = refl; unprefixed = refl }
+  bare_by own true = record { unfilled = refl; unboxed = refl; unprefixed = none refused documents own }
   bare_by own false = record { unfilled = refl; unboxed = refl; unprefixed = refl }
 
-  bare_judgement : (own : Site) → IsBare (judgement_at Unparsing documents own)
+  bare_judgement : (own : Site) → IsBare (judgement_at Unparsing refused documents own)
   unfolding judgement_at judgement_if
   bare_judgement own = bare_by own (is_component (role_of documents own))
 
   -- without fill, and with a box or a prefix only where the judgement has one
-  bare_component : (own : Site) → IsBareComponent (component_at Unparsing documents own)
+  bare_component : (own : Site) → IsBareComponent (component_at Unparsing refused documents own)
   bare_component own = by_role (role_of documents own)
     where
-      told : IsBare (judgement_at Unparsing documents own)
+      told : IsBare (judgement_at Unparsing refused documents own)
       told = bare_judgement own
 
       by_prefix : (o : Option PrefixForm) → o ≡ None → option_map (prefix_by (prefix_number documents own)) o ≡ None
@@ -413,18 +414,18 @@ module _ (documents : List SchemaDocument) where
       by_box (Some bits) o is none = absurd (cc)
       by_box None (Some prefix) is none = absurd (cc)
 
-      unprefixed : option_map (prefix_by (prefix_number documents own)) (judgement_at Unparsing documents own).prefix ≡ None
-      unprefixed = by_prefix (judgement_at Unparsing documents own).prefix told.unprefixed
+      unprefixed : option_map (prefix_by (prefix_number documents own)) (judgement_at Unparsing refused documents own).prefix ≡ None
+      unprefixed = by_prefix (judgement_at Unparsing refused documents own).prefix told.unprefixed
 
-      unboxed : box_by (judgement_at Unparsing documents own).size (option_map (prefix_by (prefix_number documents own)) (judgement_at Unparsing documents own).prefix) ≡ Unbounded
-      unboxed = by_box (judgement_at Unparsing documents own).size (option_map (prefix_by (prefix_number documents own)) (judgement_at Unparsing documents own).prefix)
+      unboxed : box_by (judgement_at Unparsing refused documents own).size (option_map (prefix_by (prefix_number documents own)) (judgement_at Unparsing refused documents own).prefix) ≡ Unbounded
+      unboxed = by_box (judgement_at Unparsing refused documents own).size (option_map (prefix_by (prefix_number documents own)) (judgement_at Unparsing refused documents own).prefix)
           told.unboxed unprefixed
 
-      by_group : (o : Option Site) → IsBareComponent (reference_by (judgement_at Unparsing documents own).framing o)
+      by_group : (o : Option Site) → IsBareComponent (reference_by (judgement_at Unparsing refused documents own).framing o)
       by_group None = record { unfilled = told.unfilled; unboxed = refl; unprefixed = refl }
       by_group (Some group) = record { unfilled = told.unfilled; unboxed = refl; unprefixed = refl }
 
-      by_kind : (k : Kind) → IsBareComponent (of_kind Unparsing documents own k)
+      by_kind : (k : Kind) → IsBareComponent (of_kind Unparsing refused documents own k)
       by_kind kind.ComplexElement = record { unfilled = told.unfilled; unboxed = unboxed; unprefixed = refl }
       by_kind (kind.SimpleElement simple) = record { unfilled = told.unfilled; unboxed = refl; unprefixed = unprefixed }
       by_kind kind.UncarriedElement = record { unfilled = told.unfilled; unboxed = refl; unprefixed = unprefixed }
@@ -432,49 +433,49 @@ module _ (documents : List SchemaDocument) where
       by_kind kind.Choice = record { unfilled = told.unfilled; unboxed = refl; unprefixed = refl }
       by_kind (kind.PrefixNumber simple) = record { unfilled = told.unfilled; unboxed = refl; unprefixed = refl }
 
-      by_role : (r : Role) → IsBareComponent (component_of documents own (judgement_at Unparsing documents own) r)
+      by_role : (r : Role) → IsBareComponent (component_of documents own (judgement_at Unparsing refused documents own) r)
       by_role role.GroupReference = by_group (referred documents own names.Group)
       by_role _ = by_kind (kind_at documents own)
 
-  pub bare_components : (purpose : Purpose) (schema : Schema) → purpose ≡ Unparsing → schema ≡ components_of purpose documents → All IsBareComponent schema.components
+  pub bare_components : (purpose : Purpose) (schema : Schema) → purpose ≡ Unparsing → schema ≡ components_of purpose refused documents → All IsBareComponent schema.components
   unfolding components_of
   bare_components purpose schema unparsing schema_is =
-      subst (λ (s : Schema). All IsBareComponent s.components) (sym (schema_is ∙ ap (λ (q : Purpose). components_of q documents) unparsing))
-      (each (IsSite documents) IsBareComponent (component_at Unparsing documents) (λ own within. bare_component own) (all_sites documents) (all_within documents))
+      subst (λ (s : Schema). All IsBareComponent s.components) (sym (schema_is ∙ ap (λ (q : Purpose). components_of q refused documents) unparsing))
+      (each (IsSite documents) IsBareComponent (component_at Unparsing refused documents) (λ own within. bare_component own) (all_sites documents) (all_within documents))
 
 -- the row of an element of a type is an element
-typed_last : (t : Table) (purpose : Purpose) (documents : List SchemaDocument) (own : Site) (typed : Typed)
-    → EndsWith (of_kind purpose documents own (kind_of_type typed)) t.rows → HasElementLast t
-typed_last t purpose documents own (Carried simple) ends = subst IsElementRow (sym ends) tt
-typed_last t purpose documents own NotCarried ends = subst IsElementRow (sym ends) tt
-typed_last t purpose documents own (Defined type) ends = subst IsElementRow (sym ends) tt
+typed_last : (t : Table) (purpose : Purpose) (refused : Site → Bool) (documents : List SchemaDocument) (own : Site) (typed : Typed)
+    → EndsWith (of_kind purpose refused documents own (kind_of_type typed)) t.rows → HasElementLast t
+typed_last t purpose refused documents own (Carried simple) ends = subst IsElementRow (sym ends) tt
+typed_last t purpose refused documents own NotCarried ends = subst IsElementRow (sym ends) tt
+typed_last t purpose refused documents own (Defined type) ends = subst IsElementRow (sym ends) tt
 
 global_role : (r : Role) → is_global_element r ≡ true → r ≡ role.GlobalElement
 global_role role.GlobalElement is = refl
 global_role _ is = absurd (cc)
 
 -- a global element is that of its type
-global_is : (purpose : Purpose) (documents : List SchemaDocument) (own : Site) → is_global_element (role_of documents own) ≡ true
-    → component_at purpose documents own ≡ of_kind purpose documents own (kind_of_type (element_type documents own))
-global_is purpose documents own global =
+global_is : (purpose : Purpose) (refused : Site → Bool) (documents : List SchemaDocument) (own : Site) → is_global_element (role_of documents own) ≡ true
+    → component_at purpose refused documents own ≡ of_kind purpose refused documents own (kind_of_type (element_type documents own))
+global_is purpose refused documents own global =
     let is : role_of documents own ≡ role.GlobalElement = global_role (role_of documents own) global in
-    made_is purpose documents own (role_of documents own) refl
-    ∙ ap (λ (r : Role). made purpose documents own r) is
+    made_is purpose refused documents own (role_of documents own) refl
+    ∙ ap (λ (r : Role). made purpose refused documents own r) is
 
 -- the component of a root's number
-at_root : (purpose : Purpose) (documents : List SchemaDocument) (root : Site) → IsSite documents root
-    → part_at (components_of purpose documents).components (number_of documents root) ≡ component_at purpose documents root
+at_root : (purpose : Purpose) (refused : Site → Bool) (documents : List SchemaDocument) (root : Site) → IsSite documents root
+    → part_at (components_of purpose refused documents).components (number_of documents root) ≡ component_at purpose refused documents root
 unfolding components_of
-at_root purpose documents root within = value-at documents (component_at purpose documents) root (Sequence no_fill) within
+at_root purpose refused documents root within = value-at documents (component_at purpose refused documents) root (Sequence no_fill) within
 
 -- the last row is an element, where the root is one
-pub root_element : (purpose : Purpose) (documents : List SchemaDocument) (root : Site) (schema : Schema) (number : ℕ) (t : Table)
-    → schema ≡ components_of purpose documents
+pub root_element : (purpose : Purpose) (refused : Site → Bool) (documents : List SchemaDocument) (root : Site) (schema : Schema) (number : ℕ) (t : Table)
+    → schema ≡ components_of purpose refused documents
     → number ≡ number_of documents root → IsSite documents root → is_global_element (role_of documents root) ≡ true
     → EndsWith (part_at schema.components number) t.rows → HasElementLast t
-root_element purpose documents root schema number t schema_is number_is within global ends =
-    typed_last t purpose documents root (element_type documents root)
+root_element purpose refused documents root schema number t schema_is number_is within global ends =
+    typed_last t purpose refused documents root (element_type documents root)
     (subst (λ (k : Component). EndsWith k t.rows)
     (ap (λ (s : Schema). part_at s.components number) schema_is
-    ∙ (ap (λ (n : ℕ). part_at (components_of purpose documents).components n) number_is
-    ∙ (at_root purpose documents root within ∙ global_is purpose documents root global))) ends)
+    ∙ (ap (λ (n : ℕ). part_at (components_of purpose refused documents).components n) number_is
+    ∙ (at_root purpose refused documents root within ∙ global_is purpose refused documents root global))) ends)

@@ -1,5 +1,5 @@
 -- THE meaning of a schema: its rows, or why it has none.
-use Rattle.std.specs.Prelude.{ℕ, List, nat_lt, length, Option, None, Some, Result, Ok, Err, if◌then◌else◌}
+use Rattle.std.specs.Prelude.{ℕ, Bool, List, nat_lt, length, Option, None, Some, Result, Ok, Err, if◌then◌else◌}
 use Rattle.dfdl_report.specs.declared.cause.LimitCause.{LimitCause}
 use Rattle.dfdl_report.specs.declared.cause.LimitCause.TheVariants.{Depth, Rows}
 use Rattle.dfdl_report.specs.declared.cause.SchemaCause.{SchemaCause}
@@ -64,12 +64,12 @@ abbrev pub first_place : Place
 first_place = record { document = 0; at = 0 }
 
 -- what documents with this root come to
-abbrev pub by_root : Purpose → List SchemaDocument → ℕ → ℕ → Option Site → Result Table CompileEnd
-by_root purpose documents depth rows None = Err (Refused NameNotFound first_place)
-by_root purpose documents depth rows (Some root) =
-    by_recursion documents (primitives_of purpose documents) (asked (components_of purpose documents) (number_of documents root) depth rows)
-    (first_recursive (components_of purpose documents).uses)
+abbrev pub by_root : Purpose → (Site → Bool) → List SchemaDocument → ℕ → ℕ → Option Site → Result Table CompileEnd
+by_root purpose refused documents depth rows None = Err (Refused NameNotFound first_place)
+by_root purpose refused documents depth rows (Some root) =
+    by_recursion documents (primitives_of purpose refused documents) (asked (components_of purpose refused documents) (number_of documents root) depth rows)
+    (first_recursive (components_of purpose refused documents).uses)
 
 -- what documents come to for a purpose, where elements may be nested so deep, and there may be so many rows
-unfoldable pub compiled : Purpose → List SchemaDocument → ℕ → ℕ → Result Table CompileEnd
-compiled purpose documents depth rows = by_root purpose documents depth rows (root_of documents)
+unfoldable pub compiled : Purpose → (Site → Bool) → List SchemaDocument → ℕ → ℕ → Result Table CompileEnd
+compiled purpose refused documents depth rows = by_root purpose refused documents depth rows (root_of documents)

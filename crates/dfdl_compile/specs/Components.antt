@@ -1,7 +1,7 @@
 -- The components of a schema's documents: each element of them is one, by its number among those of all
 -- documents. What is no component is an empty sequence, and nothing reaches it ('DFDL Schema Component
 -- Model').
-use Rattle.std.specs.Prelude.{ℕ, ◌+◌, List, [], ◌++◌, map, Option, None, Some, option_map, codes}
+use Rattle.std.specs.Prelude.{ℕ, ◌+◌, Bool, List, [], ◌++◌, map, Option, None, Some, option_map, codes}
 use Rattle.std.specs.Option.{unwrap_or}
 use Rattle.dfdl_constructs.specs.declared.role.Role.{Role}
 use Rattle.dfdl_constructs.specs.declared.role.Role.TheVariants as role
@@ -109,8 +109,8 @@ abbrev pub component_with : List SchemaDocument → Site → Judgement → Compo
 component_with documents own judgement = component_of documents own judgement (role_of documents own)
 
 -- what an element of the documents is
-abbrev pub component_at : Purpose → List SchemaDocument → Site → Component
-component_at purpose documents own = component_with documents own (judgement_at purpose documents own)
+abbrev pub component_at : Purpose → (Site → Bool) → List SchemaDocument → Site → Component
+component_at purpose refused documents own = component_with documents own (judgement_at purpose refused documents own)
 
 -- the numbers of the parts of a component
 abbrev pub part_numbers : List SchemaDocument → Site → List ℕ
@@ -121,38 +121,38 @@ abbrev pub refusal_of : Breach → Refusal
 refusal_of breach = record { cause = breach.cause; place = breach.place }
 
 -- the refusal of a component's own: the first rule that it breaks by itself
-abbrev pub refusal_at : Purpose → List SchemaDocument → Site → Option Refusal
-refusal_at purpose documents own = option_map refusal_of (judgement_at purpose documents own).breach
+abbrev pub refusal_at : Purpose → (Site → Bool) → List SchemaDocument → Site → Option Refusal
+refusal_at purpose refused documents own = option_map refusal_of (judgement_at purpose refused documents own).breach
 
 -- the components of the documents
-unfoldable pub components_of : Purpose → List SchemaDocument → Schema
-components_of purpose documents = record {
+unfoldable pub components_of : Purpose → (Site → Bool) → List SchemaDocument → Schema
+components_of purpose refused documents = record {
   uses = for_each documents (part_numbers documents);
-  components = for_each documents (component_at purpose documents);
-  refusals = for_each documents (refusal_at purpose documents);
+  components = for_each documents (component_at purpose refused documents);
+  refusals = for_each documents (refusal_at purpose refused documents);
   places = for_each documents (place_of documents);
 }
 
 -- the primitive of an element of the documents
-abbrev pub primitive_at : Purpose → List SchemaDocument → Site → Primitive
-primitive_at purpose documents own = primitive_by (judgement_at purpose documents own)
+abbrev pub primitive_at : Purpose → (Site → Bool) → List SchemaDocument → Site → Primitive
+primitive_at purpose refused documents own = primitive_by (judgement_at purpose refused documents own)
 
 -- the primitive of the length prefix of an element of the documents
-abbrev pub prefix_primitive_at : Purpose → List SchemaDocument → Site → Primitive
-prefix_primitive_at purpose documents own = prefix_primitive_by (judgement_at purpose documents own)
+abbrev pub prefix_primitive_at : Purpose → (Site → Bool) → List SchemaDocument → Site → Primitive
+prefix_primitive_at purpose refused documents own = prefix_primitive_by (judgement_at purpose refused documents own)
 
 -- the primitive of the nil representation of an element of the documents
-abbrev pub nil_primitive_at : Purpose → List SchemaDocument → Site → Primitive
-nil_primitive_at purpose documents own = nil_primitive_by (judgement_at purpose documents own)
+abbrev pub nil_primitive_at : Purpose → (Site → Bool) → List SchemaDocument → Site → Primitive
+nil_primitive_at purpose refused documents own = nil_primitive_by (judgement_at purpose refused documents own)
 
 -- the primitive of the empty representation of an element of the documents
-abbrev pub empty_primitive_at : Purpose → List SchemaDocument → Site → Primitive
-empty_primitive_at purpose documents own = empty_primitive_by (judgement_at purpose documents own)
+abbrev pub empty_primitive_at : Purpose → (Site → Bool) → List SchemaDocument → Site → Primitive
+empty_primitive_at purpose refused documents own = empty_primitive_by (judgement_at purpose refused documents own)
 
 -- the primitives of the documents: those of their elements by the elements' numbers, and behind them, each in the same order, those
 -- of their prefixes, of their nil representations and of their empty ones
-unfoldable pub primitives_of : Purpose → List SchemaDocument → List Primitive
-primitives_of purpose documents =
-    for_each documents (primitive_at purpose documents)
-    ++ (for_each documents (prefix_primitive_at purpose documents)
-    ++ (for_each documents (nil_primitive_at purpose documents) ++ for_each documents (empty_primitive_at purpose documents)))
+unfoldable pub primitives_of : Purpose → (Site → Bool) → List SchemaDocument → List Primitive
+primitives_of purpose refused documents =
+    for_each documents (primitive_at purpose refused documents)
+    ++ (for_each documents (prefix_primitive_at purpose refused documents)
+    ++ (for_each documents (nil_primitive_at purpose refused documents) ++ for_each documents (empty_primitive_at purpose refused documents)))

@@ -1,7 +1,8 @@
 -- What a fault of compiling says of a schema.
-use Rattle.std.specs.Prelude.{◌≡◌, ℕ, List, Some, Result, Err}
+use Rattle.std.specs.Prelude.{◌≡◌, ℕ, Bool, List, Some, Result, Err}
 use Rattle.dfdl_report.specs.declared.cause.SchemaCause.TheVariants.{Recursive}
 use Rattle.dfdl_documents.specs.Documents.{SchemaDocument}
+use Rattle.dfdl_components.specs.declared.site.Site.{Site}
 use Rattle.dfdl_checks.specs.declared.purpose.Purpose.{Purpose}
 use Rattle.dfdl_chains.specs.Everywhere.{site_at}
 use Rattle.dfdl_breaches.specs.Elements.{place_of}
@@ -19,9 +20,9 @@ IsFaultOf answer (Limit cause quantity) = answer ≡ Err (ends.Limit cause quant
 IsFaultOf answer OutOfMemory = Unit {0}
 
 -- a component of the documents reaches itself, and this is told of the first one
-abbrev pub IsRecursionFault : Purpose → List SchemaDocument → CompileFault → Type 0
-IsRecursionFault purpose documents (Refused cause place) =
-    (c : ℕ) × (first_recursive (components_of purpose documents).uses ≡ Some c) × (cause ≡ Recursive)
+abbrev pub IsRecursionFault : Purpose → (Site → Bool) → List SchemaDocument → CompileFault → Type 0
+IsRecursionFault purpose refused documents (Refused cause place) =
+    (c : ℕ) × (first_recursive (components_of purpose refused documents).uses ≡ Some c) × (cause ≡ Recursive)
     × (place ≡ place_of documents (site_at documents c))
-IsRecursionFault purpose documents (Limit cause quantity) = ⊥
-IsRecursionFault purpose documents OutOfMemory = Unit {0}
+IsRecursionFault purpose refused documents (Limit cause quantity) = ⊥
+IsRecursionFault purpose refused documents OutOfMemory = Unit {0}

@@ -1,15 +1,17 @@
 // The terms of a schema, or why it has none.
-ghost use Rattle.std.specs.Prelude.{◌≡◌, ◌<◌, ◌≤◌, true, length, All, Ok, Some, None, IfOk, IfErr};
+ghost use Rattle.std.specs.Prelude.{◌≡◌, ◌<◌, ◌≤◌, Bool, true, length, All, Ok, Some, None, IfOk, IfErr};
 ghost use Rattle.dfdl_terms.specs.Rows.{HasElementLast, HasPlainRows, most_rows};
 ghost use Rattle.dfdl_report.specs.declared.cause.SchemaCause.TheVariants.{Recursive};
 ghost use Rattle.dfdl_components.specs.Rules.{AllKeep, loading_rules};
 ghost use Rattle.dfdl_components.specs.Sites.{IsSite, role_of};
+ghost use Rattle.dfdl_components.specs.declared.site.Site as declared_site;
 ghost use Rattle.dfdl_chains.specs.Everywhere as everywhere;
 ghost use Rattle.dfdl_chains.specs.Shown.{AreNumbers};
 ghost use Rattle.dfdl_breaches.specs.Elements.{place_of};
 ghost use Rattle.dfdl_compile.specs.declared.fault.CompileFault.TheVariants.{Refused, OutOfMemory};
 ghost use Rattle.dfdl_compile.specs.Components.{components_of};
-ghost use Rattle.dfdl_compile.specs.Compiled.{by_root, compiled, first_recursive};
+ghost use Rattle.dfdl_compile.specs.Builds.{ComesTo, ComesToFault};
+ghost use Rattle.dfdl_compile.specs.Compiled.{by_root, first_recursive};
 ghost use Rattle.dfdl_compile.specs.Primitives.{HasTypedLeaves, HasBareTypedLeaves};
 ghost use Rattle.dfdl_checks.specs.Forms.{IsWhole};
 ghost use Rattle.dfdl_checks.specs.declared.purpose.Purpose.TheVariants.{Parsing, Unparsing};
@@ -28,6 +30,7 @@ use dfdl_breaches::{Judgement, breaches, root_of};
 use dfdl_chains::{Numbers, all_sites};
 use dfdl_checks::Purpose;
 use dfdl_components::{Schema, Site};
+use dfdl_edge::Patterns;
 use dfdl_order::laws::nothing_in_an_order_reaches_itself;
 use dfdl_order::{OrderFault, Uses, order_of};
 use dfdl_report::{Place, SchemaCause};
@@ -69,8 +72,10 @@ fn gather(
     judgements: &[Judgement],
 ) -> Result<Gathered, CompileFault>
     requires numbers { AreNumbers schema.now numbers.now }
-    requires judgements { judgements.now ≡ for_each schema.now (judgement_at purpose schema.now) }
-    ensures gathered { IfOk result (AreGathered schema.now) }
+    requires told { length judgements.now ≡ length (everywhere.all_sites schema.now) }
+    ensures gathered { (refused : declared_site.Site → Bool)
+        → judgements.now ≡ for_each schema.now (judgement_at purpose refused schema.now)
+        → IfOk result (AreGathered refused schema.now) }
     ensures purpose { IfOk result (λ g. g.purpose ≡ purpose) }
     ensures only_memory { IfErr result (λ e. e ≡ OutOfMemory) }
 {
@@ -105,10 +110,13 @@ fn recursive(schema: &Schema, sites: &[Site], component: u32) -> CompileFault
 
 // The components in an order, or the fault of one that reaches itself.
 fn ordered(alloc: Global, schema: &Schema, gathered: Gathered) -> Result<Components, CompileFault>
-    requires { AreGathered schema.now gathered }
-    ensures components { IfOk result (λ made. made ≡ components_of gathered.purpose schema.now) }
-    ensures none { IfOk result (λ made. first_recursive (components_of gathered.purpose schema.now).uses ≡ None) }
-    ensures fault { IfErr result (IsRecursionFault gathered.purpose schema.now) }
+    requires { (refused : declared_site.Site → Bool) × AreGathered refused schema.now gathered }
+    ensures components { (refused : declared_site.Site → Bool) → AreGathered refused schema.now gathered
+        → IfOk result (λ made. made ≡ components_of gathered.purpose refused schema.now) }
+    ensures none { (refused : declared_site.Site → Bool) → AreGathered refused schema.now gathered
+        → IfOk result (λ made. first_recursive (components_of gathered.purpose refused schema.now).uses ≡ None) }
+    ensures fault { (refused : declared_site.Site → Bool) → AreGathered refused schema.now gathered
+        → IfErr result (IsRecursionFault gathered.purpose refused schema.now) }
 {
     nothing_in_an_order_reaches_itself();
     let Gathered {
@@ -128,21 +136,27 @@ fn ordered(alloc: Global, schema: &Schema, gathered: Gathered) -> Result<Compone
     }
 }
 
-// The terms of a schema with this root, or why it has none.
+// The terms of a schema with this root, of whose elements this is told, or why it has none.
 fn compile_root(
     alloc: Global,
     schema: &Schema,
     purpose: Purpose,
+    judgements: Vec<Judgement>,
     root: Site,
     depth: u32,
     rows: u32,
 ) -> Result<Terms, CompileFault>
-    requires keeps { AllKeep (loading_rules schema.now) schema.now }
+    requires told { (refused : declared_site.Site → Bool)
+        × (judgements.items ≡ for_each schema.now (judgement_at purpose refused schema.now)) }
     requires within { IsSite schema.now root }
     requires global { is_global_element (role_of schema.now root) ≡ true }
     requires few { rows ≤ most_rows }
-    ensures rows { IfOk result (λ t. by_root purpose schema.now depth rows (Some root) ≡ Ok t) }
-    ensures fault { IfErr result (IsFaultOf (by_root purpose schema.now depth rows (Some root))) }
+    ensures rows { (refused : declared_site.Site → Bool)
+        → judgements.items ≡ for_each schema.now (judgement_at purpose refused schema.now)
+        → IfOk result (λ t. by_root purpose refused schema.now depth rows (Some root) ≡ Ok t) }
+    ensures fault { (refused : declared_site.Site → Bool)
+        → judgements.items ≡ for_each schema.now (judgement_at purpose refused schema.now)
+        → IfErr result (IsFaultOf (by_root purpose refused schema.now depth rows (Some root))) }
     ensures element { IfOk result HasElementLast }
     ensures leaves { IfOk result HasTypedLeaves }
     ensures whole { purpose ≡ Unparsing → IfOk result (λ t. All IsWhole t.primitives) }
@@ -151,7 +165,6 @@ fn compile_root(
 {
     sound_elements_have_bounded_primitives();
     let numbers = Numbers::of(alloc, schema)?;
-    let judgements = breaches(alloc, schema, purpose)?;
     let gathered = gather(alloc, schema, &numbers, purpose, judgements.as_slice())?;
     let components = ordered(alloc, schema, gathered)?;
     let tables = tables(alloc, judgements)?;
@@ -162,27 +175,32 @@ fn compile_root(
     }
 }
 
-// The terms of a schema for a purpose.
-#[tactic(auto, unfolding(crate::specs::Compiled::compiled))]
-fn compile_for(
+// The terms of a schema for a purpose. The patterns of all elements are built, reached or not.
+fn compile_for<P: Patterns>(
     alloc: Global,
     schema: &Schema,
     purpose: Purpose,
     depth: u32,
     rows: u32,
+    patterns: &mut P,
 ) -> Result<Terms, CompileFault>
     requires keeps { AllKeep (loading_rules schema.now) schema.now }
     requires few { rows ≤ most_rows }
-    ensures rows { IfOk result (λ t. compiled purpose schema.now depth rows ≡ Ok t) }
-    ensures fault { IfErr result (IsFaultOf (compiled purpose schema.now depth rows)) }
+    ensures rows { IfOk result (λ t. ComesTo purpose schema.now depth rows
+        (record { faults = P.faults patterns.old; last = P.last_refused patterns.old })
+        (record { faults = P.faults patterns.new; last = P.last_refused patterns.new }) (Ok t)) }
+    ensures fault { IfErr result (ComesToFault purpose schema.now depth rows
+        (record { faults = P.faults patterns.old; last = P.last_refused patterns.old })
+        (record { faults = P.faults patterns.new; last = P.last_refused patterns.new })) }
     ensures element { IfOk result HasElementLast }
     ensures leaves { IfOk result HasTypedLeaves }
     ensures whole { purpose ≡ Unparsing → IfOk result (λ t. All IsWhole t.primitives) }
     ensures bare { purpose ≡ Unparsing → IfOk result HasBareTypedLeaves }
     ensures plain { purpose ≡ Unparsing → IfOk result (λ t. HasPlainRows t.rows) }
 {
+    let judgements = breaches(alloc, schema, purpose, patterns)?;
     match root_of(schema) {
-        Some(root) => compile_root(alloc, schema, purpose, root, depth, rows),
+        Some(root) => compile_root(alloc, schema, purpose, judgements, root, depth, rows),
         None => Err(CompileFault::Refused {
             cause: SchemaCause::NameNotFound,
             place: Place { document: 0, at: 0 },
@@ -191,34 +209,49 @@ fn compile_for(
 }
 
 /// The terms by which data of a schema are parsed, whose documents keep the rules of loading. Elements may be nested in
-/// one another `depth` deep, and there may be `rows` rows.
-pub fn compile(alloc: Global, schema: &Schema, depth: u32, rows: u32) -> Result<Terms, CompileFault>
-    requires keeps { AllKeep (loading_rules schema.now) schema.now }
-    requires few { rows ≤ most_rows }
-    ensures rows { IfOk result (λ t. compiled Parsing schema.now depth rows ≡ Ok t) }
-    ensures fault { IfErr result (IsFaultOf (compiled Parsing schema.now depth rows)) }
-    ensures element { IfOk result HasElementLast }
-    ensures leaves { IfOk result HasTypedLeaves }
-{
-    compile_for(alloc, schema, Purpose::Parsing, depth, rows)
-}
-
-/// The terms by which infosets of a schema are unparsed, under the same conditions. Fewer forms are built for unparsing:
-/// each leaf is a whole unsigned integer, and there is neither fill nor a box nor a length prefix.
-pub fn compile_for_unparse(
+/// one another `depth` deep, and there may be `rows` rows. The patterns of lengths are built by `patterns`, each once.
+pub fn compile<P: Patterns>(
     alloc: Global,
     schema: &Schema,
     depth: u32,
     rows: u32,
+    patterns: &mut P,
 ) -> Result<Terms, CompileFault>
     requires keeps { AllKeep (loading_rules schema.now) schema.now }
     requires few { rows ≤ most_rows }
-    ensures rows { IfOk result (λ t. compiled Unparsing schema.now depth rows ≡ Ok t) }
-    ensures fault { IfErr result (IsFaultOf (compiled Unparsing schema.now depth rows)) }
+    ensures rows { IfOk result (λ t. ComesTo Parsing schema.now depth rows
+        (record { faults = P.faults patterns.old; last = P.last_refused patterns.old })
+        (record { faults = P.faults patterns.new; last = P.last_refused patterns.new }) (Ok t)) }
+    ensures fault { IfErr result (ComesToFault Parsing schema.now depth rows
+        (record { faults = P.faults patterns.old; last = P.last_refused patterns.old })
+        (record { faults = P.faults patterns.new; last = P.last_refused patterns.new })) }
+    ensures element { IfOk result HasElementLast }
+    ensures leaves { IfOk result HasTypedLeaves }
+{
+    compile_for(alloc, schema, Purpose::Parsing, depth, rows, patterns)
+}
+
+/// The terms by which infosets of a schema are unparsed, under the same conditions. Fewer forms are built for unparsing:
+/// each leaf is a whole unsigned integer, and there is neither fill nor a box nor a length prefix, and no pattern is built.
+pub fn compile_for_unparse<P: Patterns>(
+    alloc: Global,
+    schema: &Schema,
+    depth: u32,
+    rows: u32,
+    patterns: &mut P,
+) -> Result<Terms, CompileFault>
+    requires keeps { AllKeep (loading_rules schema.now) schema.now }
+    requires few { rows ≤ most_rows }
+    ensures rows { IfOk result (λ t. ComesTo Unparsing schema.now depth rows
+        (record { faults = P.faults patterns.old; last = P.last_refused patterns.old })
+        (record { faults = P.faults patterns.new; last = P.last_refused patterns.new }) (Ok t)) }
+    ensures fault { IfErr result (ComesToFault Unparsing schema.now depth rows
+        (record { faults = P.faults patterns.old; last = P.last_refused patterns.old })
+        (record { faults = P.faults patterns.new; last = P.last_refused patterns.new })) }
     ensures element { IfOk result HasElementLast }
     ensures leaves { IfOk result HasBareTypedLeaves }
     ensures whole { IfOk result (λ t. All IsWhole t.primitives) }
     ensures plain { IfOk result (λ t. HasPlainRows t.rows) }
 {
-    compile_for(alloc, schema, Purpose::Unparsing, depth, rows)
+    compile_for(alloc, schema, Purpose::Unparsing, depth, rows, patterns)
 }

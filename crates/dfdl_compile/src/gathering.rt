@@ -1,5 +1,5 @@
 // The components of a schema's documents.
-ghost use Rattle.std.specs.Prelude.{◌≡◌, ◌+◌, ◌<◌, ◌++◌, ◌∷◌, [], length, map, All, IfOk, OnOk, IfErr, option_map};
+ghost use Rattle.std.specs.Prelude.{◌≡◌, ◌+◌, ◌<◌, ◌++◌, ◌∷◌, [], Bool, length, map, All, IfOk, OnOk, IfErr, option_map};
 ghost use Rattle.dfdl_order.specs.declared.fault.OrderFault.TheVariants.{OutOfMemory};
 ghost use Rattle.dfdl_components.specs.Recursion.{count_of, number_of};
 ghost use Rattle.dfdl_components.specs.Sites.{IsSite};
@@ -8,6 +8,7 @@ ghost use Rattle.dfdl_chains.specs.Shown.{AreNumbers};
 ghost use Rattle.dfdl_breaches.specs.Elements.{place_of};
 ghost use Rattle.dfdl_breaches.specs.Judging.{judgement_at};
 ghost use Rattle.dfdl_checks.specs.declared.purpose.Purpose as declared_purpose;
+ghost use Rattle.dfdl_components.specs.declared.site.Site as declared_site;
 ghost use Rattle.dfdl_compile.specs.Components as spec;
 ghost use Rattle.dfdl_compile.specs.Primitives.{primitive_by};
 
@@ -239,8 +240,9 @@ pub(crate) fn components(
     requires sites { All (IsSite schema.now) sites.now }
     requires numbers { AreNumbers schema.now numbers.now }
     requires told { length judgements.now ≡ length sites.now }
-    ensures { (purpose : declared_purpose.Purpose) → judgements.now ≡ map (judgement_at purpose schema.now) sites.now
-        → IfOk result (λ made. made.items ≡ map (spec.component_at purpose schema.now) sites.now) }
+    ensures { (purpose : declared_purpose.Purpose) (refused : declared_site.Site → Bool)
+        → judgements.now ≡ map (judgement_at purpose refused schema.now) sites.now
+        → IfOk result (λ made. made.items ≡ map (spec.component_at purpose refused schema.now) sites.now) }
 {
     let mut made = Vec::new(alloc);
     for at in 0..sites.len() {

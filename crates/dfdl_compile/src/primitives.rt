@@ -48,6 +48,8 @@ fn type_of(primitive: &Primitive) -> Simple
         Primitive::Text(form) => text_type(&form.content),
         Primitive::NilOctets(_) => Simple::HexBinary,
         Primitive::Default(_) => Simple::HexBinary,
+        Primitive::NilValues(_) => Simple::HexBinary,
+        Primitive::Pattern(_) => Simple::HexBinary,
     }
 }
 

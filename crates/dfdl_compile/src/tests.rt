@@ -1,7 +1,7 @@
 // The terms of a schema in memory.
 use crate::compile;
 use dfdl_components::load;
-use dfdl_edge::{MemoryFile, MemoryFiles};
+use dfdl_edge::{MemoryFile, MemoryFiles, MemoryPatterns};
 use dfdl_terms::{Primitive, Representations, Row, RowId, Terms, TextContent};
 use dfdl_value::Value;
 use std::alloc::{AllocError, Global};
@@ -29,7 +29,8 @@ fn terms(alloc: Global) -> Result<Option<Terms>, AllocError> {
     let Ok(schema) = load(alloc, &mut files, "a", 10_000, 1) else {
         return Ok(None);
     };
-    match compile(alloc, &schema, 2, 10) {
+    let mut patterns = MemoryPatterns::new(Vec::new(alloc));
+    match compile(alloc, &schema, 2, 10, &mut patterns) {
         Ok(terms) => Ok(Some(terms)),
         Err(_) => Ok(None),
     }

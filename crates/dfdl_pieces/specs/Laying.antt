@@ -6,7 +6,7 @@ use Rattle.dfdl_value.specs.declared.value.Value.{Value}
 use Rattle.dfdl_terms.specs.declared.event.Event.{Event}
 use Rattle.dfdl_terms.specs.declared.event.Event.TheVariants.{Start, Simple, Nil, End}
 use Rattle.dfdl_terms.specs.declared.row.Primitive.{Primitive}
-use Rattle.dfdl_terms.specs.declared.row.Primitive.TheVariants.{Integer, Packed, Truth, Octets, Text, NilOctets, Default}
+use Rattle.dfdl_terms.specs.declared.row.Primitive.TheVariants.{Integer, Packed, Truth, Octets, Text, NilOctets, Default, NilValues, Pattern}
 use Rattle.dfdl_terms.specs.declared.row.Row.{Row}
 use Rattle.dfdl_terms.specs.declared.row.Row.TheVariants.{Leaf, Elem, Group, Skip, Align, Boxed, PrefixedLeaf, PrefixedBox}
 use Rattle.dfdl_terms.specs.Rows.{Table}
@@ -36,6 +36,8 @@ integer_form (Octets form) = None
 integer_form (Text form) = None
 integer_form (NilOctets form) = None
 integer_form (Default form) = None
+integer_form (NilValues form) = None
+integer_form (Pattern form) = None
 
 -- the form of the binary integer that a row writes
 abbrev pub form_in : Table → Option Row → Option IntForm

@@ -21,6 +21,8 @@ pub(crate) fn form_at(terms: &Terms, row: RowId) -> Option<&IntForm>
         Some(Primitive::Text(_)) => None,
         Some(Primitive::NilOctets(_)) => None,
         Some(Primitive::Default(_)) => None,
+        Some(Primitive::NilValues(_)) => None,
+        Some(Primitive::Pattern(_)) => None,
         None => None,
     }
 }

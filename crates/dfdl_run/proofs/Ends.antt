@@ -1,8 +1,9 @@
 -- How a run ends, from what it decided and what came of it.
-use Rattle.std.proofs.Common.{◌≡◌, ◌⊎◌, ℕ, ◌+◌, ◌++◌, IsTrue, List, [], length, Option}
+use Rattle.std.proofs.Common.{◌≡◌, ◌⊎◌, ℕ, ◌+◌, ◌++◌, ◌==◌, Bool, IsTrue, List, [], length, Option}
 use Rattle.std.proofs.Common.{None, Some, Ok, Err, refl, sym, ap, subst, ◌∙◌, arith, append-nil}
 use Rattle.std.proofs.Common.{inl, inr}
 use Rattle.std.proofs.Math.Seq.{take-length}
+use Rattle.std.proofs.lemmas.Bool.{eqb-true, or_cases}
 use Rattle.dfdl_edge.specs.Faults.{Rose}
 use Rattle.dfdl_edge.specs.Files.{FilesSeen}
 use Rattle.dfdl_edge.specs.Sink.{Adds, AddsFront, SinkSeen}
@@ -11,6 +12,8 @@ use Rattle.dfdl_edge.specs.Whole.{IsUsedUp}
 use Rattle.dfdl_report.specs.Lines.{memory_line}
 use Rattle.dfdl_report.specs.declared.cause.LimitCause.TheVariants.{Input, Window, Nodes, Text, Depth, Schema, Schemas, Rows}
 use Rattle.dfdl_documents.specs.Faults.{IsFailed}
+use Rattle.dfdl_components.specs.declared.site.Site.{Site}
+use Rattle.dfdl_breaches.specs.Builds.{PatternsSeen}
 use Rattle.dfdl_terms.specs.Rows.{Table}
 use Rattle.dfdl_run.specs.declared.command.Verb.{Verb}
 use Rattle.dfdl_run.specs.declared.answer.Answer.{Answer}
@@ -27,7 +30,7 @@ use Rattle.dfdl_run.specs.Expects.{meant, is_excused, Tells, Gives, NoneFailed, 
 use Rattle.dfdl_run.specs.Finished.{Finished, all, no_sink, no_memory, Writes}
 use Rattle.dfdl_run.specs.Outside.{Inputs, Outside}
 use Rattle.dfdl_run.specs.Run.{IsRun, FilesFail, SinkFails, SourceFails, is_of_data}
-use Rattle.dfdl_run.specs.Run.{is_before_data}
+use Rattle.dfdl_run.specs.Run.{is_before_data, is_before_schema}
 use Rattle.dfdl_run.specs.Schemas.{asked}
 use Rattle.dfdl_run.proofs.Excuses.{end_excused, limit_excused}
 use Rattle.dfdl_run.proofs.Rankings.{LoadingIsOne, Ranked, same, files, source, memory, ranked, due_memory}
@@ -55,14 +58,14 @@ same_adds (Some before) (Some now) is =
     let same_bytes : now ≡ before = cc in same_bytes ∙ sym (append-nil before)
 
 -- each end that is expected is excused by want of memory
-memory_excused : (words : List (List ℕ)) (told : Inputs) (b : End) → Expects words told b
+memory_excused : (words : List (List ℕ)) (refused : Site → Bool) (told : Inputs) (b : End) → Expects words refused told b
     → IsTrue (is_excused b 9)
-memory_excused words told _ (no_command at place) = refl
-memory_excused words told _ (no_documents order due orders expects) = due_memory told.files order.schema due expects
-memory_excused words told _ (no_schema order documents cause document at orders there loaded wrong) = refl
-memory_excused words told _ (no_rows order documents cause quantity orders there loaded past) = limit_excused cause quantity
-memory_excused words told _ (long_input order documents table bytes orders there loaded schema input_is long) = refl
-memory_excused words told _ (meant order documents table bytes orders there loaded schema input_is few) = (end_excused order.verb table bytes).memory
+memory_excused words refused told _ (no_command at place) = refl
+memory_excused words refused told _ (no_documents order due orders expects) = due_memory told.files order.schema due expects
+memory_excused words refused told _ (no_schema order documents cause document at orders there loaded wrong) = refl
+memory_excused words refused told _ (no_rows order documents cause quantity orders there loaded past) = limit_excused cause quantity
+memory_excused words refused told _ (long_input order documents table bytes orders there loaded schema input_is long) = refl
+memory_excused words refused told _ (meant order documents table bytes orders there loaded schema input_is few) = (end_excused order.verb table bytes).memory
 
 -- the statuses of answers are those of data
 of_data : (answer : Answer) → IsTrue (is_of_data (status_of (Ok answer)))
@@ -181,36 +184,55 @@ read_still verb table before after (Err (NoDocument cause document at)) read wel
 read_still verb table before after (Err (Refused cause document at)) read well = absurd read
 
 -- no schema is no usage
-load_late : (verb : Verb) (before after : FilesSeen) (name : List ℕ) (stop : Stop)
-    → IsLoadFault verb before after name stop
+load_late : (verb : Verb) (refused : Site → Bool) (before after : FilesSeen) (seen now : PatternsSeen) (name : List ℕ) (stop : Stop)
+    → IsLoadFault verb refused before after seen now name stop
     → status_of (Err stop) ≡ 4 → ⊥
-load_late verb before after name (Usage word) fault four = absurd fault
-load_late verb before after name (FilesFailed failed) fault four = cc
-load_late verb before after name (NoDocument cause document at) fault four = cc
-load_late verb before after name (Refused cause document at) fault four = cc
-load_late verb before after name SourceFailed fault four = absurd fault
-load_late verb before after name (Limit cause quantity) fault four = cc
-load_late verb before after name OutOfMemory fault four = cc
+load_late verb refused before after seen now name (Usage word) fault four = absurd fault
+load_late verb refused before after seen now name (FilesFailed failed) fault four = cc
+load_late verb refused before after seen now name (NoDocument cause document at) fault four = cc
+load_late verb refused before after seen now name (Refused cause document at) fault four = cc
+load_late verb refused before after seen now name SourceFailed fault four = absurd fault
+load_late verb refused before after seen now name (Limit cause quantity) fault four = cc
+load_late verb refused before after seen now name OutOfMemory fault four = cc
 
 -- the count of faults of the files stands where no load failed
-load_still : (verb : Verb) (before after : FilesSeen) (name : List ℕ) (stop : Stop)
-    → IsLoadFault verb before after name stop
+load_still : (verb : Verb) (refused : Site → Bool) (before after : FilesSeen) (seen now : PatternsSeen) (name : List ℕ) (stop : Stop)
+    → IsLoadFault verb refused before after seen now name stop
     → ((status_of (Err stop) ≡ 7) ⊎ (status_of (Err stop) ≡ 9) → ⊥) → after.faults ≡ before.faults
-load_still verb before after name (FilesFailed failed) fault well = absurd (well (inl refl))
-load_still verb before after name (NoDocument cause document at) fault well =
-    ap (λ (f : FilesSeen). f.faults) fault.refused.seen
-load_still verb before after name (Refused cause document at) fault well =
+load_still verb refused before after seen now name (FilesFailed failed) fault well = absurd (well (inl refl))
+load_still verb refused before after seen now name (NoDocument cause document at) fault well =
+    ap (λ (f : FilesSeen). f.faults) fault.0.refused.seen
+load_still verb refused before after seen now name (Refused cause document at) fault well =
     ap (λ (f : FilesSeen). f.faults) fault.loaded.seen
-load_still verb before after name (Limit Schema quantity) (inl limit) well = ap (λ (f : FilesSeen). f.faults) limit.1.seen
-load_still verb before after name (Limit Schemas quantity) (inl limit) well = ap (λ (f : FilesSeen). f.faults) limit.1.seen
-load_still verb before after name (Limit cause quantity) (inl limit) well = absurd limit
-load_still verb before after name (Limit cause quantity) (inr past) well = ap (λ (f : FilesSeen). f.faults) past.loaded.seen
-load_still verb before after name OutOfMemory fault well = fault
-load_still verb before after name (Usage word) fault well = absurd fault
-load_still verb before after name SourceFailed fault well = absurd fault
+load_still verb refused before after seen now name (Limit Schema quantity) (inl limit) well = ap (λ (f : FilesSeen). f.faults) limit.0.1.seen
+load_still verb refused before after seen now name (Limit Schemas quantity) (inl limit) well = ap (λ (f : FilesSeen). f.faults) limit.0.1.seen
+load_still verb refused before after seen now name (Limit cause quantity) (inl limit) well = absurd limit.0
+load_still verb refused before after seen now name (Limit cause quantity) (inr past) well = ap (λ (f : FilesSeen). f.faults) past.loaded.seen
+load_still verb refused before after seen now name OutOfMemory fault well = fault.0
+load_still verb refused before after seen now name (Usage word) fault well = absurd fault
+load_still verb refused before after seen now name SourceFailed fault well = absurd fault
 
-module _ (loading : LoadingIsOne) (words : List (List ℕ)) (before after : Outside) (status : ℕ) (a : End)
-    (decided : Decided words before.inputs after.inputs a) (finished : Finished a before.outputs after.outputs status) where
+-- what builds patterns is left as it was where a file ended the run
+load_unbuilt : (verb : Verb) (refused : Site → Bool) (before after : FilesSeen) (seen now : PatternsSeen) (name : List ℕ) (stop : Stop)
+    → IsLoadFault verb refused before after seen now name stop
+    → IsTrue (is_before_schema (status_of (Err stop))) → now ≡ seen
+load_unbuilt verb refused before after seen now name (Usage word) fault early = absurd fault
+load_unbuilt verb refused before after seen now name (FilesFailed failed) fault early = fault.1
+load_unbuilt verb refused before after seen now name (NoDocument cause document at) fault early = fault.1
+load_unbuilt verb refused before after seen now name (Refused cause document at) fault early = absurd (cc)
+load_unbuilt verb refused before after seen now name SourceFailed fault early = absurd fault
+load_unbuilt verb refused before after seen now name (Limit cause quantity) fault early = absurd (cc)
+load_unbuilt verb refused before after seen now name OutOfMemory fault early = absurd (cc)
+
+-- what data came to has no status of words and files
+before_data : (status : ℕ) → IsTrue (is_before_schema status) → IsTrue (is_before_data status)
+before_data status early = elim (or_cases (status == 4) (status == 7) early) [
+  | inl four ↦ subst (λ (s : ℕ). IsTrue (is_before_data s)) (sym (eqb-true status 4 four)) refl
+  | inr seven ↦ subst (λ (s : ℕ). IsTrue (is_before_data s)) (sym (eqb-true status 7 seven)) refl
+]
+
+module _ (loading : LoadingIsOne) (words : List (List ℕ)) (refused : Site → Bool) (before after : Outside) (status : ℕ) (a : End)
+    (decided : Decided words refused before.inputs after.inputs a) (finished : Finished a before.outputs after.outputs status) where
   -- what it is to end so
   abbrev Ends : End → Type 0
   Ends b = Gives b before.outputs after.outputs status
@@ -289,10 +311,10 @@ module _ (loading : LoadingIsOne) (words : List (List ℕ)) (before after : Outs
   comes b number (inl excused) = inl excused
   comes b number (inr gives) = inr (λ is. sym gives.status_is ∙ is, λ is. gives.status_is ∙ is)
 
-  expected : (b : End) → Expects words before.inputs b → IsAsExpected b before after status
+  expected : (b : End) → Expects words refused before.inputs b → IsAsExpected b before after status
   expected b expects =
-      let ranking = ranked loading before.inputs after.inputs words a b decided expects in
-      let is_exact = exact b ranking finished (memory_excused words before.inputs b expects) in
+      let ranking = ranked loading refused before.inputs after.inputs words a b decided expects in
+      let is_exact = exact b ranking finished (memory_excused words refused before.inputs b expects) in
       record {
         exact = is_exact;
         complete = complete b ranking finished;
@@ -304,12 +326,12 @@ module _ (loading : LoadingIsOne) (words : List (List ℕ)) (before after : Outs
   abbrev AtEnd : Type 0
   AtEnd = (status ≡ status_of a) × Tells (note_of a) before.outputs.notes after.outputs.notes
 
-  source_rises : a ≡ Err SourceFailed → Decided words before.inputs after.inputs a
+  source_rises : a ≡ Err SourceFailed → Decided words refused before.inputs after.inputs a
       → Rose before.inputs.source.faults after.inputs.source.faults
   source_rises end (by_words at place is untouched) = absurd (let no = sym end ∙ is in cc)
   source_rises end (by_schema order stop orders is fault loads unread) =
       let same_stop : stop ≡ SourceFailed = let no = sym is ∙ end in cc in
-      absurd (subst (λ (s : Stop). IsLoadFault order.verb before.inputs.files after.inputs.files order.schema s) same_stop fault)
+      absurd (subst (λ (s : Stop). IsLoadFault order.verb refused before.inputs.files after.inputs.files before.inputs.patterns after.inputs.patterns order.schema s) same_stop fault)
   source_rises end (by_data order table orders found read) =
       subst (λ (e : End). IsReadEnd order.verb table before.inputs.source after.inputs.source e) end read
 
@@ -331,12 +353,12 @@ module _ (loading : LoadingIsOne) (words : List (List ℕ)) (before after : Outs
   sink_failed (all gives still) is = absurd (never_six a (sym gives.status_is ∙ is))
 
   names : (name : List ℕ) → a ≡ Err (FilesFailed name) → Ends a
-      → Decided words before.inputs after.inputs a → FilesFail words before after
+      → Decided words refused before.inputs after.inputs a → FilesFail words before after
   names name end gives (by_words at place is untouched) = absurd (let no = sym end ∙ is in cc)
   names name end gives (by_schema order stop orders is fault loads unread) =
       let same_stop : stop ≡ FilesFailed name = let no = sym is ∙ end in cc in
       let failed : IsFailed before.inputs.files after.inputs.files (asked order.schema) name =
-      subst (λ (s : Stop). IsLoadFault order.verb before.inputs.files after.inputs.files order.schema s) same_stop fault in
+      (subst (λ (s : Stop). IsLoadFault order.verb refused before.inputs.files after.inputs.files before.inputs.patterns after.inputs.patterns order.schema s) same_stop fault).0 in
       record {
         rose = failed.rose;
         named = record {
@@ -386,7 +408,7 @@ module _ (loading : LoadingIsOne) (words : List (List ℕ)) (before after : Outs
   stopped stop is (no_memory number none told) = inr number
 
   unread : Finished a before.outputs after.outputs status
-      → Decided words before.inputs after.inputs a
+      → Decided words refused before.inputs after.inputs a
       → IsTrue (is_before_data status) → after.inputs.source ≡ before.inputs.source
   unread end (by_words at place is untouched) early = ap (λ (i : Inputs). i.source) untouched
   unread end (by_schema order stop orders is fault loads kept) early = kept
@@ -399,7 +421,7 @@ module _ (loading : LoadingIsOne) (words : List (List ℕ)) (before after : Outs
       absurd (let no : IsTrue (is_before_data 9) = subst (λ (s : ℕ). IsTrue (is_before_data s)) number early in cc)
 
   unloaded : Finished a before.outputs after.outputs status
-      → Decided words before.inputs after.inputs a
+      → Decided words refused before.inputs after.inputs a
       → status ≡ 4 → after.inputs.files ≡ before.inputs.files
   unloaded end (by_words at place is untouched) four = ap (λ (i : Inputs). i.files) untouched
   unloaded end (by_schema order stop orders is fault loads kept) four =
@@ -407,7 +429,7 @@ module _ (loading : LoadingIsOne) (words : List (List ℕ)) (before after : Outs
     where
       no_usage : (status ≡ status_of (Err stop)) ⊎ (status ≡ 9) → ⊥
       no_usage (inl own) =
-          load_late order.verb before.inputs.files after.inputs.files order.schema stop fault (sym own ∙ four)
+          load_late order.verb refused before.inputs.files after.inputs.files before.inputs.patterns after.inputs.patterns order.schema stop fault (sym own ∙ four)
       no_usage (inr none) = absurd (omega arith)
   unloaded (all gives still) (by_data order table orders found read) four =
       absurd (read_late order.verb table before.inputs.source after.inputs.source a read
@@ -415,8 +437,26 @@ module _ (loading : LoadingIsOne) (words : List (List ℕ)) (before after : Outs
   unloaded (no_sink line number rose written told) (by_data order table orders found read) four = absurd (omega arith)
   unloaded (no_memory number none told) (by_data order table orders found read) four = absurd (omega arith)
 
+  unbuilt : Finished a before.outputs after.outputs status
+      → Decided words refused before.inputs after.inputs a
+      → IsTrue (is_before_schema status) → after.inputs.patterns ≡ before.inputs.patterns
+  unbuilt end (by_words at place is untouched) early = ap (λ (i : Inputs). i.patterns) untouched
+  unbuilt end (by_schema order stop orders is fault loads kept) early = by (stopped stop is end)
+    where
+      by : (status ≡ status_of (Err stop)) ⊎ (status ≡ 9) → after.inputs.patterns ≡ before.inputs.patterns
+      by (inl own) = load_unbuilt order.verb refused before.inputs.files after.inputs.files before.inputs.patterns after.inputs.patterns order.schema
+          stop fault (subst (λ (s : ℕ). IsTrue (is_before_schema s)) own early)
+      by (inr none) = absurd (let no : IsTrue (is_before_schema 9) = subst (λ (s : ℕ). IsTrue (is_before_schema s)) none early in cc)
+  unbuilt (all gives still) (by_data order table orders found read) early =
+      absurd (read_late order.verb table before.inputs.source after.inputs.source a read
+      (subst (λ (s : ℕ). IsTrue (is_before_data s)) gives.status_is (before_data status early)))
+  unbuilt (no_sink line number rose written told) (by_data order table orders found read) early =
+      absurd (let no : IsTrue (is_before_schema 6) = subst (λ (s : ℕ). IsTrue (is_before_schema s)) number early in cc)
+  unbuilt (no_memory number none told) (by_data order table orders found read) early =
+      absurd (let no : IsTrue (is_before_schema 9) = subst (λ (s : ℕ). IsTrue (is_before_schema s)) number early in cc)
+
   used_up : Finished a before.outputs after.outputs status
-      → Decided words before.inputs after.inputs a
+      → Decided words refused before.inputs after.inputs a
       → IsTrue (is_of_data status) → IsUsedUp before.inputs.source.left after.inputs.source.left
   used_up (no_sink line number rose written told) decision of =
       absurd (let no : IsTrue (is_of_data 6) = subst (λ (s : ℕ). IsTrue (is_of_data s)) number of in cc)
@@ -437,7 +477,7 @@ module _ (loading : LoadingIsOne) (words : List (List ℕ)) (before after : Outs
   out_still (no_memory number none told) not_failed = ap (λ (s : SinkSeen). s.faults) none
 
   source_still : Finished a before.outputs after.outputs status
-      → Decided words before.inputs after.inputs a
+      → Decided words refused before.inputs after.inputs a
       → (status ≡ 5 → ⊥) → (status ≡ 9 → ⊥)
       → after.inputs.source.faults ≡ before.inputs.source.faults
   source_still end (by_words at place is untouched) not_failed some =
@@ -453,12 +493,12 @@ module _ (loading : LoadingIsOne) (words : List (List ℕ)) (before after : Outs
       either (inr none) = some none
 
   files_still : Finished a before.outputs after.outputs status
-      → Decided words before.inputs after.inputs a
+      → Decided words refused before.inputs after.inputs a
       → (status ≡ 7 → ⊥) → (status ≡ 9 → ⊥) → after.inputs.files.faults ≡ before.inputs.files.faults
   files_still end (by_words at place is untouched) not_failed some =
       ap (λ (i : Inputs). i.files.faults) untouched
   files_still end (by_schema order stop orders is fault loads kept) not_failed some =
-      load_still order.verb before.inputs.files after.inputs.files order.schema stop fault
+      load_still order.verb refused before.inputs.files after.inputs.files before.inputs.patterns after.inputs.patterns order.schema stop fault
       (λ own. either (stopped stop is end) own)
     where
       either : (status ≡ status_of (Err stop)) ⊎ (status ≡ 9)
@@ -469,7 +509,7 @@ module _ (loading : LoadingIsOne) (words : List (List ℕ)) (before after : Outs
   files_still end (by_data order table orders found read) not_failed some =
       ap (λ (f : FilesSeen). f.faults) found.loaded.seen
 
-  few_loads : Decided words before.inputs after.inputs a → AreFewLoads before.inputs.files after.inputs.files
+  few_loads : Decided words refused before.inputs after.inputs a → AreFewLoads before.inputs.files after.inputs.files
   few_loads (by_words at place is untouched) =
       record { n = 0; few = omega arith; loads = ap (λ (i : Inputs). i.files.loads) untouched }
   few_loads (by_schema order stop orders is fault loads kept) = loads
@@ -481,6 +521,7 @@ module _ (loading : LoadingIsOne) (words : List (List ℕ)) (before after : Outs
 
   pub run_is : IsRun words before after status
   run_is = record {
+    refused = refused;
     answered = (a, decided, finished);
     expected = expected;
     source_failed = source_failed finished;
@@ -490,6 +531,7 @@ module _ (loading : LoadingIsOne) (words : List (List ℕ)) (before after : Outs
     unwritten = unwritten finished;
     unread = unread finished decided;
     unloaded = unloaded finished decided;
+    unbuilt = unbuilt finished decided;
     used_up = used_up finished decided;
     out_still = out_still finished;
     source_still = source_still finished decided;

@@ -1,5 +1,5 @@
 -- What a run has decided is what is expected of it, or an end that comes before that.
-use Rattle.std.proofs.Common.{◌≡◌, ◌⊎◌, ℕ, zero, suc, ◌+◌, ◌<◌, ◌≤◌, IsTrue, List, length, Option, Some, IfSome, Ok}
+use Rattle.std.proofs.Common.{◌≡◌, ◌⊎◌, ℕ, zero, suc, ◌+◌, ◌<◌, ◌≤◌, Bool, IsTrue, List, length, Option, Some, IfSome, Ok}
 use Rattle.std.proofs.Common.{Err, refl, sym, ap, subst, ◌∙◌, inl, inr, arith}
 use Rattle.dfdl_fronts.specs.Fronts.{IsPlace}
 use Rattle.dfdl_fronts.proofs.Places.{one_place}
@@ -162,51 +162,51 @@ keeps_all documents cause place name keeps refused =
     let none = keeps refused.own refused.first.within in let some = refused.first.broken in cc
 
 -- documents that are refused as a schema are refused in one way
-one_refused : (verb : Verb) (documents : List SchemaDocument) (a b : SchemaCause) (document name : List ℕ) (at byte : ℕ)
-    → IsNoSchema verb documents a document at → IsNoSchema verb documents b name byte
+one_refused : (verb : Verb) (refused : Site → Bool) (documents : List SchemaDocument) (a b : SchemaCause) (document name : List ℕ) (at byte : ℕ)
+    → IsNoSchema verb refused documents a document at → IsNoSchema verb refused documents b name byte
     → (let e : End = Err (Refused a document at) in e) ≡ Err (Refused b name byte)
-one_refused verb documents _ _ _ _ _ _ (breaks a p document first) (breaks b q name second) =
+one_refused verb refused documents _ _ _ _ _ _ (breaks a p document first) (breaks b q name second) =
     alike a b document name p.at q.at (one_broken documents a b p q document name first second)
-one_refused verb documents _ _ _ _ _ _ (breaks a p document first) (refuses b q keeps is) =
+one_refused verb refused documents _ _ _ _ _ _ (breaks a p document first) (refuses b q keeps is) =
     absurd (keeps_all documents a p document keeps first)
-one_refused verb documents _ _ _ _ _ _ (refuses a p keeps is) (breaks b q name second) =
+one_refused verb refused documents _ _ _ _ _ _ (refuses a p keeps is) (breaks b q name second) =
     absurd (keeps_all documents b q name keeps second)
-one_refused verb documents _ _ _ _ _ _ (refuses a p keeps is) (refuses b q keeps' is') =
+one_refused verb refused documents _ _ _ _ _ _ (refuses a p keeps is) (refuses b q keeps' is') =
     let both = sym is ∙ is' in cc
 
 -- a schema is not refused
-no_refusal : (verb : Verb) (documents : List SchemaDocument) (cause : SchemaCause) (document : List ℕ) (at : ℕ) (table : Table)
-    → IsNoSchema verb documents cause document at → IsSchemaOf verb documents table → ⊥
-no_refusal verb documents _ _ _ table (breaks cause place name refused) schema =
-    keeps_all documents cause place name schema.keeps refused
-no_refusal verb documents _ _ _ table (refuses cause place keeps is) schema =
+no_refusal : (verb : Verb) (refused : Site → Bool) (documents : List SchemaDocument) (cause : SchemaCause) (document : List ℕ) (at : ℕ) (table : Table)
+    → IsNoSchema verb refused documents cause document at → IsSchemaOf verb refused documents table → ⊥
+no_refusal verb refused documents _ _ _ table (breaks cause place name broken) schema =
+    keeps_all documents cause place name schema.keeps broken
+no_refusal verb refused documents _ _ _ table (refuses cause place keeps is) schema =
     absurd (let both = sym is ∙ schema.compiled_is in cc)
 
 -- documents are a schema of one table of rows
-one_schema : (verb : Verb) (documents : List SchemaDocument) (a b : Table) → IsSchemaOf verb documents a → IsSchemaOf verb documents b → a ≡ b
-one_schema verb documents a b first second = let both = sym first.compiled_is ∙ second.compiled_is in cc
+one_schema : (verb : Verb) (refused : Site → Bool) (documents : List SchemaDocument) (a b : Table) → IsSchemaOf verb refused documents a → IsSchemaOf verb refused documents b → a ≡ b
+one_schema verb refused documents a b first second = let both = sym first.compiled_is ∙ second.compiled_is in cc
 
 -- documents that pass a limit pass one
-one_past : (verb : Verb) (documents : List SchemaDocument) (a b : LimitCause) (n m : ℕ) → IsPast verb documents a n → IsPast verb documents b m
+one_past : (verb : Verb) (refused : Site → Bool) (documents : List SchemaDocument) (a b : LimitCause) (n m : ℕ) → IsPast verb refused documents a n → IsPast verb refused documents b m
     → (let e : End = Err (Limit a n) in e) ≡ Err (Limit b m)
-one_past verb documents a b n m first second = let both = sym first.compiled_is ∙ second.compiled_is in cc
+one_past verb refused documents a b n m first second = let both = sym first.compiled_is ∙ second.compiled_is in cc
 
 -- documents that pass a limit are no schema
-no_past : (verb : Verb) (documents : List SchemaDocument) (cause : LimitCause) (quantity : ℕ) (table : Table)
-    → IsPast verb documents cause quantity → IsSchemaOf verb documents table → ⊥
-no_past verb documents cause quantity table past schema = absurd (let both = sym past.compiled_is ∙ schema.compiled_is in cc)
+no_past : (verb : Verb) (refused : Site → Bool) (documents : List SchemaDocument) (cause : LimitCause) (quantity : ℕ) (table : Table)
+    → IsPast verb refused documents cause quantity → IsSchemaOf verb refused documents table → ⊥
+no_past verb refused documents cause quantity table past schema = absurd (let both = sym past.compiled_is ∙ schema.compiled_is in cc)
 
 -- and they are not refused
-past_refused : (verb : Verb) (documents : List SchemaDocument) (cause : SchemaCause) (document : List ℕ) (at : ℕ) (limit : LimitCause) (quantity : ℕ)
-    → IsNoSchema verb documents cause document at → IsPast verb documents limit quantity → ⊥
-past_refused verb documents _ _ _ limit quantity (breaks cause place name refused) past =
-    keeps_all documents cause place name past.keeps refused
-past_refused verb documents _ _ _ limit quantity (refuses cause place keeps is) past =
+past_refused : (verb : Verb) (refused : Site → Bool) (documents : List SchemaDocument) (cause : SchemaCause) (document : List ℕ) (at : ℕ) (limit : LimitCause) (quantity : ℕ)
+    → IsNoSchema verb refused documents cause document at → IsPast verb refused documents limit quantity → ⊥
+past_refused verb refused documents _ _ _ limit quantity (breaks cause place name broken) past =
+    keeps_all documents cause place name past.keeps broken
+past_refused verb refused documents _ _ _ limit quantity (refuses cause place keeps is) past =
     absurd (let both = sym is ∙ past.compiled_is in cc)
 
-module _ (loading : LoadingIsOne) (before after : Inputs) where
+module _ (loading : LoadingIsOne) (refused : Site → Bool) (before after : Inputs) where
   abbrev Fault : Verb → List ℕ → Stop → Type 0
-  Fault verb name stop = IsLoadFault verb before.files after.files name stop
+  Fault verb name stop = IsLoadFault verb refused before.files after.files before.patterns after.patterns name stop
 
   -- the loading has ended in the way that is due, or by a failed load
   of_ends : (name : List ℕ) (found due : DocumentsFault) → EndsBy before.files after.files (asked name) found
@@ -227,15 +227,15 @@ module _ (loading : LoadingIsOne) (before after : Inputs) where
   -- there is no schema, and the documents are due to end
   due_ranked : (verb : Verb) (name : List ℕ) (stop : Stop) (due : DocumentsFault) → Fault verb name stop
       → IsDue before.files (asked name) due → Ranked before after (Err stop) (Err (stop_of due))
-  due_ranked verb name (FilesFailed failed) due fault_is expects = ends_ranked name (fault.Files failed) due fault_is expects
+  due_ranked verb name (FilesFailed failed) due fault_is expects = ends_ranked name (fault.Files failed) due fault_is.0 expects
   due_ranked verb name OutOfMemory due fault_is expects = memory refl (due_memory before.files name due expects)
   due_ranked verb name (Limit cause quantity) due (inl limit) expects =
-      ends_ranked name (fault.Limit cause quantity) due limit expects
+      ends_ranked name (fault.Limit cause quantity) due limit.0 expects
   due_ranked verb name (Limit cause quantity) due (inr past) expects =
       absurd (loading.no_fault_due before.files (asked name) past.documents due past.loaded.are expects)
   due_ranked verb name (NoDocument cause document at) due fault_is expects =
-      subst (λ (byte : ℕ). Ranked before after (Err (NoDocument cause document byte)) (Err (stop_of due))) fault_is.place_is
-      (ends_ranked name (fault.Document cause fault_is.place document) due fault_is.refused expects)
+      subst (λ (byte : ℕ). Ranked before after (Err (NoDocument cause document byte)) (Err (stop_of due))) fault_is.0.place_is
+      (ends_ranked name (fault.Document cause fault_is.0.place document) due fault_is.0.refused expects)
   due_ranked verb name (Refused cause document at) due fault_is expects =
       absurd (loading.no_fault_due before.files (asked name) fault_is.documents due fault_is.loaded.are expects)
   due_ranked verb name (Usage word) due fault_is expects = absurd fault_is
@@ -263,26 +263,26 @@ module _ (loading : LoadingIsOne) (before after : Inputs) where
       → AreTold before.files documents → AreDocuments before.files name documents
       → IsTrue (is_excused b 7) → IsTrue (is_excused b 9)
       → ((cause : SchemaCause) (document : List ℕ) (at : ℕ) → stop ≡ Refused cause document at
-      → IsNoSchema verb documents cause document at → Ranked before after (Err stop) b)
+      → IsNoSchema verb refused documents cause document at → Ranked before after (Err stop) b)
       → ((cause : LimitCause) (quantity : ℕ) → stop ≡ Limit cause quantity
-      → IsPast verb documents cause quantity → Ranked before after (Err stop) b)
+      → IsPast verb refused documents cause quantity → Ranked before after (Err stop) b)
       → Ranked before after (Err stop) b
   there_ranked verb name documents (FilesFailed failed) b fault_is told loaded seven nine refused_is past_is =
-      loaded_ranked name documents (fault.Files failed) b fault_is told loaded seven nine
+      loaded_ranked name documents (fault.Files failed) b fault_is.0 told loaded seven nine
   there_ranked verb name documents OutOfMemory b fault_is told loaded seven nine refused_is past_is = memory refl nine
   there_ranked verb name documents (Limit cause quantity) b (inl limit) told loaded seven nine refused_is past_is =
-      loaded_ranked name documents (fault.Limit cause quantity) b limit told loaded seven nine
+      loaded_ranked name documents (fault.Limit cause quantity) b limit.0 told loaded seven nine
   there_ranked verb name documents (Limit cause quantity) b (inr past) told loaded seven nine refused_is past_is =
       past_is cause quantity refl
-      (subst (λ (ds : List SchemaDocument). IsPast verb ds cause quantity)
+      (subst (λ (ds : List SchemaDocument). IsPast verb refused ds cause quantity)
       (loading.documents before.files (asked name) past.documents documents past.loaded.are loaded told) past.past)
   there_ranked verb name documents (NoDocument cause document at) b fault_is told loaded seven nine refused_is past_is =
-      subst (λ (byte : ℕ). Ranked before after (Err (NoDocument cause document byte)) b) fault_is.place_is
-      (loaded_ranked name documents (fault.Document cause fault_is.place document) b fault_is.refused told loaded seven nine)
+      subst (λ (byte : ℕ). Ranked before after (Err (NoDocument cause document byte)) b) fault_is.0.place_is
+      (loaded_ranked name documents (fault.Document cause fault_is.0.place document) b fault_is.0.refused told loaded seven nine)
   there_ranked verb name documents (Refused cause document at) b fault_is told loaded seven nine refused_is past_is =
       refused_is cause document at refl
-      (subst (λ (ds : List SchemaDocument). IsNoSchema verb ds cause document at)
-      (loading.documents before.files (asked name) fault_is.documents documents fault_is.loaded.are loaded told) fault_is.refused)
+      (subst (λ (ds : List SchemaDocument). IsNoSchema verb refused ds cause document at)
+      (loading.documents before.files (asked name) fault_is.documents documents fault_is.loaded.are loaded told) fault_is.refusal)
   there_ranked verb name documents (Usage word) b fault_is told loaded seven nine refused_is past_is = absurd fault_is
   there_ranked verb name documents SourceFailed b fault_is told loaded seven nine refused_is past_is = absurd fault_is
 
@@ -333,7 +333,7 @@ module _ (loading : LoadingIsOne) (before after : Inputs) where
   -- the words are an order, so that they have no place at which no command goes on
   module _ (words : List (List ℕ)) where
     at_words : (at : ℕ) (a b : End) → IsPlace IsCommand words at → a ≡ Err (Usage (at + 1))
-        → Expects words before b → Ranked before after a b
+        → Expects words refused before b → Ranked before after a b
     at_words at a _ place is (no_command other place') =
         same (is
         ∙ ap (λ (n : ℕ). let e : End = Err (Usage (n + 1)) in e) (one_place IsCommand words at other place place'))
@@ -355,48 +355,48 @@ module _ (loading : LoadingIsOne) (before after : Inputs) where
         (subst (λ (n : List ℕ). Fault order.verb n stop) (orders_schema words order other orders others) fault_is)
 
     at_schema : (order : Order) (stop : Stop) (b : End) → Orders words order
-        → Fault order.verb order.schema stop → Expects words before b → Ranked before after (Err stop) b
+        → Fault order.verb order.schema stop → Expects words refused before b → Ranked before after (Err stop) b
     at_schema order stop _ orders fault_is (no_command at place) =
         absurd (place.no_text (order, orders))
     at_schema order stop _ orders fault_is (no_documents other due others expects) =
         due_ranked other.verb other.schema stop due (renamed order other stop orders others fault_is) expects
     at_schema order stop _ orders fault_is (no_schema other documents cause document byte others told loaded wrong) =
         there_ranked other.verb other.schema documents stop _ (renamed order other stop orders others fault_is) told loaded refl refl
-        (λ found name at is refused. same (ap (λ (s : Stop). let e : End = Err s in e) is
-        ∙ one_refused other.verb documents found cause name document at byte refused wrong))
-        (λ limit quantity is past. absurd (past_refused other.verb documents cause document byte limit quantity wrong past))
+        (λ found name at is one. same (ap (λ (s : Stop). let e : End = Err s in e) is
+        ∙ one_refused other.verb refused documents found cause name document at byte one wrong))
+        (λ limit quantity is past. absurd (past_refused other.verb refused documents cause document byte limit quantity wrong past))
     at_schema order stop _ orders fault_is (no_rows other documents cause quantity others told loaded past) =
         there_ranked other.verb other.schema documents stop _ (renamed order other stop orders others fault_is) told loaded
         (limit_files cause quantity) (limit_excused cause quantity)
-        (λ found name at is refused. absurd (past_refused other.verb documents found name at cause quantity refused past))
+        (λ found name at is one. absurd (past_refused other.verb refused documents found name at cause quantity one past))
         (λ limit number is other_past. same (ap (λ (s : Stop). let e : End = Err s in e) is
-        ∙ one_past other.verb documents limit cause number quantity other_past past))
+        ∙ one_past other.verb refused documents limit cause number quantity other_past past))
     at_schema order stop _ orders fault_is (long_input other documents table bytes others told loaded schema input_is long) =
         there_ranked other.verb other.schema documents stop _ (renamed order other stop orders others fault_is) told loaded refl refl
-        (λ found name at is refused. absurd (no_refusal other.verb documents found name at table refused schema))
-        (λ limit quantity is past. absurd (no_past other.verb documents limit quantity table past schema))
+        (λ found name at is one. absurd (no_refusal other.verb refused documents found name at table one schema))
+        (λ limit quantity is past. absurd (no_past other.verb refused documents limit quantity table past schema))
     at_schema order stop _ orders fault_is (meant other documents table bytes others told loaded schema input_is few) =
         there_ranked other.verb other.schema documents stop _ (renamed order other stop orders others fault_is) told loaded
         (end_excused other.verb table bytes).files (end_excused other.verb table bytes).memory
-        (λ found name at is refused. absurd (no_refusal other.verb documents found name at table refused schema))
-        (λ limit quantity is past. absurd (no_past other.verb documents limit quantity table past schema))
+        (λ found name at is one. absurd (no_refusal other.verb refused documents found name at table one schema))
+        (λ limit quantity is past. absurd (no_past other.verb refused documents limit quantity table past schema))
 
     -- the loaded documents are a schema, where another order of the same words has all of them
     schema_of : (order other : Order) (table : Table) (documents : List SchemaDocument)
         → Orders words order → Orders words other
-        → IsDescribed order.verb before.files after.files order.schema table
+        → IsDescribed order.verb refused before.files after.files before.patterns after.patterns order.schema table
         → AreTold before.files documents → AreDocuments before.files other.schema documents
-        → IsSchemaOf other.verb documents table
+        → IsSchemaOf other.verb refused documents table
     schema_of order other table documents orders others found told loaded =
-        subst (λ (v : Verb). IsSchemaOf v documents table) (orders_verb words order other orders others)
-        (subst (λ (ds : List SchemaDocument). IsSchemaOf order.verb ds table)
+        subst (λ (v : Verb). IsSchemaOf v refused documents table) (orders_verb words order other orders others)
+        (subst (λ (ds : List SchemaDocument). IsSchemaOf order.verb refused ds table)
         (loading.documents before.files (asked other.schema) found.documents documents
         (subst (λ (n : List ℕ). AreDocuments before.files n found.documents) (orders_schema words order other orders others) found.loaded.are) loaded told)
         found.schema)
 
     at_data : (order : Order) (table : Table) (a b : End) → Orders words order
-        → IsDescribed order.verb before.files after.files order.schema table
-        → IsReadEnd order.verb table before.source after.source a → Expects words before b
+        → IsDescribed order.verb refused before.files after.files before.patterns after.patterns order.schema table
+        → IsReadEnd order.verb table before.source after.source a → Expects words refused before b
         → Ranked before after a b
     at_data order table a _ orders found read (no_command at place) =
         absurd (place.no_text (order, orders))
@@ -404,19 +404,19 @@ module _ (loading : LoadingIsOne) (before after : Inputs) where
         absurd (loading.no_fault_due before.files (asked other.schema) found.documents due
         (subst (λ (n : List ℕ). AreDocuments before.files n found.documents) (orders_schema words order other orders others) found.loaded.are) expects)
     at_data order table a _ orders found read (no_schema other documents cause document byte others told loaded wrong) =
-        absurd (no_refusal other.verb documents cause document byte table wrong (schema_of order other table documents orders others found told loaded))
+        absurd (no_refusal other.verb refused documents cause document byte table wrong (schema_of order other table documents orders others found told loaded))
     at_data order table a _ orders found read (no_rows other documents cause quantity others told loaded past) =
-        absurd (no_past other.verb documents cause quantity table past (schema_of order other table documents orders others found told loaded))
+        absurd (no_past other.verb refused documents cause quantity table past (schema_of order other table documents orders others found told loaded))
     at_data order table a _ orders found read (long_input other documents table' bytes others told loaded schema input_is long) =
         long_ranked bytes order.verb table a long input_is read
     at_data order table a _ orders found read (meant other documents table' bytes others told loaded schema input_is few) =
         let same_table : table ≡ table' =
-        one_schema other.verb documents table table' (schema_of order other table documents orders others found told loaded) schema in
+        one_schema other.verb refused documents table table' (schema_of order other table documents orders others found told loaded) schema in
         subst (λ (v : Verb). Ranked before after a (end_of v table' bytes)) (orders_verb words order other orders others)
         (subst (λ (t : Table). Ranked before after a (end_of order.verb t bytes)) same_table
         (meant_ranked bytes order.verb table a few input_is read))
 
-    pub ranked : (a b : End) → Decided words before after a → Expects words before b
+    pub ranked : (a b : End) → Decided words refused before after a → Expects words refused before b
         → Ranked before after a b
     ranked a b (by_words at place is untouched) expects = at_words at a b place is expects
     ranked a b (by_schema order stop orders is fault_is loads unread) expects =

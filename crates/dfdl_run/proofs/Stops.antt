@@ -7,6 +7,7 @@ use Rattle.dfdl_looks.specs.Asks.{Reached, Told, TooFar, Missing, ask}
 use Rattle.dfdl_looks.specs.Looks.{seen_in}
 use Rattle.dfdl_looks.specs.Tallies.{nothing}
 use Rattle.dfdl_terms.specs.Rows.{Table}
+use Rattle.dfdl_value.specs.declared.value.Value.{Value}
 use Rattle.dfdl_terms.specs.declared.row.Primitive.{Primitive}
 use Rattle.dfdl_terms.specs.declared.representations.Representations.{Representations}
 use Rattle.dfdl_terms.specs.declared.row.Row.{Row}
@@ -18,9 +19,9 @@ use Rattle.dfdl_region.specs.Nodes.{with_content}
 use Rattle.dfdl_grammar.specs.declared.end.End.{End}
 use Rattle.dfdl_grammar.specs.declared.end.End.TheVariants.{Done, Failed, Stopped}
 use Rattle.dfdl_grammar.specs.declared.limits.Limits.{Limits}
-use Rattle.dfdl_grammar.specs.States.{Input, State, anchor, anchor_at, read_by}
+use Rattle.dfdl_grammar.specs.States.{Input, State, anchor, anchor_at}
 use Rattle.dfdl_grammar.specs.Outcomes.{Outcome, ended, follow, spend, then_do}
-use Rattle.dfdl_grammar.specs.Leaves.{Find, Fails, Finds, FindsOctets, FindsText, content_begins, has_room, land, leaf, program}
+use Rattle.dfdl_grammar.specs.Leaves.{Find, Fails, Finds, FindsOctets, FindsText, content_begins, has_room, land, leaf, nil_values, program, program_for, read_by}
 use Rattle.dfdl_grammar.specs.Framing.{aligned, fill_to, has_byte, pass_to, passed}
 use Rattle.dfdl_grammar.specs.Boxes.{bytes_up_to, pass_bytes, past_byte, rest as rest_of, unboxed}
 use Rattle.dfdl_grammar.specs.Elements.{attempted, begun, close, has_elements}
@@ -62,19 +63,19 @@ land-stops limits first (Told (FindsText bytes end)) s =
 land-stops limits first TooFar s = tt
 land-stops limits first Missing s = tt
 
-room-stops : (input : Input) (primitive : Primitive) (s : State) (room : Bool)
+room-stops : (input : Input) (nil : Option (List Value)) (primitive : Primitive) (s : State) (room : Bool)
     → StopsByData (let whole : Outcome = (if room then
-    (let reading = ask (seen_in input.bytes input.limits.window (anchor s)) (program primitive s.at s.stop) nothing in
+    (let reading = ask (seen_in input.bytes input.limits.window (anchor s)) (program_for nil primitive s.at s.stop) nothing in
     spend reading.tally (land input.limits (content_begins primitive s.at) reading.reached s))
     else ended (Failed LengthOutOfRange s.at) s) in whole.end)
-room-stops input primitive s true =
+room-stops input nil primitive s true =
     land-stops input.limits (content_begins primitive s.at)
-    (ask (seen_in input.bytes input.limits.window (anchor s)) (program primitive s.at s.stop) nothing).reached s
-room-stops input primitive s false = tt
+    (ask (seen_in input.bytes input.limits.window (anchor s)) (program_for nil primitive s.at s.stop) nothing).reached s
+room-stops input nil primitive s false = tt
 
-leaf-stops : (input : Input) (primitive : Option Primitive) (s : State) → StopsByData (leaf input primitive s).end
-leaf-stops input None s = tt
-leaf-stops input (Some primitive) s = room-stops input primitive s (has_room primitive s.at s.stop)
+leaf-stops : (input : Input) (nil : Option (List Value)) (primitive : Option Primitive) (s : State) → StopsByData (leaf input nil primitive s).end
+leaf-stops input nil None s = tt
+leaf-stops input nil (Some primitive) s = room-stops input nil primitive s (has_room primitive s.at s.stop)
 
 passed-stops : (window to : ℕ) (reached : Reached Bool) (s : State) → StopsByData (passed window to reached s).end
 passed-stops window to (Told true) s = tt
@@ -220,18 +221,20 @@ prefixed-stops : (input : Input) (primitive : Option Primitive) (own : ℕ) (nex
 prefixed-stops input None own next each s = tt
 prefixed-stops input (Some primitive) own next each s = prefix-room-stops input primitive own next each s (has_room primitive s.at s.stop)
 
-resized-stops : (input : Input) (primitive : Option Primitive) (s : State) → StopsByData (leaf_of input primitive s).end
-resized-stops input None s = tt
-resized-stops input (Some primitive) s = leaf-stops input (Some primitive) s
+resized-stops : (input : Input) (nil : Option (List Value)) (primitive : Option Primitive) (s : State) → StopsByData (leaf_of input nil primitive s).end
+resized-stops input nil None s = tt
+resized-stops input nil (Some primitive) s = leaf-stops input nil (Some primitive) s
 
-sized-stops : (input : Input) (primitive : Option Primitive) (size : TextSize) (s : State) → StopsByData (sized_leaf input primitive size s).end
-sized-stops input None size s = tt
-sized-stops input (Some primitive) size s = resized-stops input (resized size primitive) s
+sized-stops : (input : Input) (nil : Option (List Value)) (primitive : Option Primitive) (size : TextSize) (s : State)
+    → StopsByData (sized_leaf input nil primitive size s).end
+sized-stops input nil None size s = tt
+sized-stops input nil (Some primitive) size s = resized-stops input nil (resized size primitive) s
 
 row-stops : (input : Input) (table : Table) (child : ℕ → State → Outcome) → ((id : ℕ) (s : State) → StopsByData (child id s).end)
     → (id : ℕ) (o : Option Row) (s : State) → StopsByData (row input table child id o s).end
 row-stops input table child each id None s = tt
-row-stops input table child each id (Some (Leaf prim)) s = leaf-stops input (slice_get table.primitives (read_by s.instead prim)) s
+row-stops input table child each id (Some (Leaf prim)) s =
+    leaf-stops input (nil_values table.primitives s.instead) (slice_get table.primitives (read_by table.primitives s.instead prim)) s
 row-stops input table child each id (Some (Elem name simple tried body)) s =
     represented-stops tried (attempted input id (has_elements simple) (child body)) (attempted-stops input id (has_elements simple) (child body) (each body)) s
 row-stops input table child each id (Some (Group children)) s = group-stops child each children s
@@ -241,7 +244,8 @@ row-stops input table child each id (Some (Boxed bits body)) s =
     boxed-stops input bits (child body) (each body) s (nat_le (s.at + bits) s.stop)
 row-stops input table child each id (Some (PrefixedLeaf prefix prim)) s =
     prefixed-stops input (slice_get table.primitives prefix.prim) prefix.own _
-    (λ units t. sized-stops input (slice_get table.primitives (read_by s.instead prim)) (size_of prefix.unit units) t) s
+    (λ units t. sized-stops input (nil_values table.primitives s.instead) (slice_get table.primitives (read_by table.primitives s.instead prim))
+    (size_of prefix.unit units) t) s
 row-stops input table child each id (Some (PrefixedBox prefix body)) s =
     prefixed-stops input (slice_get table.primitives prefix.prim) prefix.own _
     (λ units t. boxed-stops input (bits_of_units prefix.unit units) (child body) (each body) t

@@ -7,7 +7,7 @@ use Rattle.dfdl_forms.specs.declared.binary.IntForm.{IntForm}
 use Rattle.dfdl_forms.specs.declared.simple.Simple.{Simple}
 use Rattle.dfdl_terms.specs.Rows.{Table}
 use Rattle.dfdl_terms.specs.declared.row.Primitive.{Primitive}
-use Rattle.dfdl_terms.specs.declared.row.Primitive.TheVariants.{Integer, Packed, Truth, Octets, Text, NilOctets, Default}
+use Rattle.dfdl_terms.specs.declared.row.Primitive.TheVariants.{Integer, Packed, Truth, Octets, Text, NilOctets, Default, NilValues, Pattern}
 use Rattle.dfdl_terms.specs.declared.row.Row.{Row}
 use Rattle.dfdl_terms.specs.declared.row.Row.TheVariants.{Leaf, Elem, Group, Skip, Align, Boxed, PrefixedLeaf, PrefixedBox}
 use Rattle.dfdl_checks.specs.Forms.{IsWhole, IsWholeUnsigned}
@@ -56,6 +56,8 @@ whole_in primitives prim simple (Some (Octets form)) is wholes typed = absurd (w
 whole_in primitives prim simple (Some (Text form)) is wholes typed = absurd (whole_at primitives prim (Text form) is wholes)
 whole_in primitives prim simple (Some (NilOctets form)) is wholes typed = absurd (whole_at primitives prim (NilOctets form) is wholes)
 whole_in primitives prim simple (Some (Default form)) is wholes typed = absurd (whole_at primitives prim (Default form) is wholes)
+whole_in primitives prim simple (Some (NilValues form)) is wholes typed = absurd (whole_at primitives prim (NilValues form) is wholes)
+whole_in primitives prim simple (Some (Pattern form)) is wholes typed = absurd (whole_at primitives prim (Pattern form) is wholes)
 
 whole_row : (t : Table) → All IsWhole t.primitives → (simple : Simple) (o : Option Row) → IsLeafOfType t.primitives simple o
     → IsWholeForm simple (form_in t o)

@@ -1,5 +1,5 @@
 -- What a run has found out before it writes anything.
-use Rattle.std.specs.Prelude.{◌≡◌, ◌⊎◌, ℕ, ◌+◌, ◌≤◌, List, length, IfSome, Ok, Err}
+use Rattle.std.specs.Prelude.{◌≡◌, ◌⊎◌, ℕ, ◌+◌, ◌≤◌, Bool, List, length, IfSome, Ok, Err}
 use Rattle.dfdl_fronts.specs.Fronts.{IsPlace}
 use Rattle.dfdl_edge.specs.Faults.{Rose}
 use Rattle.dfdl_edge.specs.Files.{FilesSeen}
@@ -14,6 +14,9 @@ use Rattle.dfdl_report.specs.declared.place.Place.{Place}
 use Rattle.dfdl_documents.specs.Documents.{SchemaDocument}
 use Rattle.dfdl_documents.specs.Loading.{IsCounted, after_loads}
 use Rattle.dfdl_documents.specs.Faults.{IsFailed, IsLimit, IsNoDocument}
+use Rattle.dfdl_components.specs.Rules.{AllKeep, loading_rules}
+use Rattle.dfdl_components.specs.declared.site.Site.{Site}
+use Rattle.dfdl_breaches.specs.Builds.{AreAllBuilt, AreBuiltInPart, PatternsSeen}
 use Rattle.dfdl_terms.specs.Rows.{Table}
 use Rattle.dfdl_run.specs.declared.stop.Stop.{Stop}
 use Rattle.dfdl_run.specs.declared.stop.Stop.TheVariants.{Usage, FilesFailed, NoDocument, Refused}
@@ -25,7 +28,7 @@ use Rattle.dfdl_run.specs.Command.{Order, Orders, IsCommand}
 use Rattle.dfdl_run.specs.Expects.{most_input}
 use Rattle.dfdl_run.specs.Meaning.{end_of}
 use Rattle.dfdl_run.specs.Outside.{Inputs}
-use Rattle.dfdl_run.specs.Schemas.{AreDocuments, IsNoSchema, IsPast, IsSchemaOf, asked, most_schemas}
+use Rattle.dfdl_run.specs.Schemas.{AreDocuments, IsNoSchema, IsPast, IsSchemaOf, asked, most_schemas, purpose_of}
 
 -- all documents of the schema were loaded, each by one load that did not fail
 pub record AreLoadedOnce (before after : FilesSeen) (name : List ℕ) (documents : List SchemaDocument)
@@ -33,25 +36,37 @@ pub record AreLoadedOnce (before after : FilesSeen) (name : List ℕ) (documents
   pub are : AreDocuments before name documents
   pub seen : after ≡ after_loads (length documents) before
 
--- the documents are loaded, and a schema of these rows
-pub record IsDescribed (verb : Verb) (before after : FilesSeen) (name : List ℕ) (table : Table) : Type 0 where
+-- the documents are loaded, the patterns of their elements built, of which these are refused, and they are a schema of these rows
+pub record IsDescribed (verb : Verb) (refused : Site → Bool) (before after : FilesSeen) (seen now : PatternsSeen) (name : List ℕ)
+    (table : Table) : Type 0 where
   pub documents : List SchemaDocument
   pub loaded : AreLoadedOnce before after name documents
-  pub schema : IsSchemaOf verb documents table
+  pub built : AreAllBuilt (purpose_of verb) refused documents seen now
+  pub schema : IsSchemaOf verb refused documents table
 
--- the documents are loaded, and refused as a schema at this byte of the document of this name
-pub record IsRefusedSchema (verb : Verb) (before after : FilesSeen) (name : List ℕ) (cause : SchemaCause)
-    (document : List ℕ) (at : ℕ) : Type 0 where
+-- the documents are loaded, and refused as a schema at this byte of the document of this name; where they keep the rules of loading the
+-- patterns of their elements were built, of which these are refused, else none was
+pub record IsRefusedSchema (verb : Verb) (refused : Site → Bool) (before after : FilesSeen) (seen now : PatternsSeen) (name : List ℕ)
+    (cause : SchemaCause) (document : List ℕ) (at : ℕ) : Type 0 where
   pub documents : List SchemaDocument
   pub loaded : AreLoadedOnce before after name documents
-  pub refused : IsNoSchema verb documents cause document at
+  pub built : AllKeep (loading_rules documents) documents → AreAllBuilt (purpose_of verb) refused documents seen now
+  pub unbuilt : (AllKeep (loading_rules documents) documents → ⊥) → now ≡ seen
+  pub refusal : IsNoSchema verb refused documents cause document at
 
--- the documents are loaded, and their components pass a limit
-pub record IsPastLimit (verb : Verb) (before after : FilesSeen) (name : List ℕ) (cause : LimitCause) (quantity : ℕ)
-    : Type 0 where
+-- the documents are loaded, the patterns of their elements built, of which these are refused, and their components pass a limit
+pub record IsPastLimit (verb : Verb) (refused : Site → Bool) (before after : FilesSeen) (seen now : PatternsSeen) (name : List ℕ)
+    (cause : LimitCause) (quantity : ℕ) : Type 0 where
   pub documents : List SchemaDocument
   pub loaded : AreLoadedOnce before after name documents
-  pub past : IsPast verb documents cause quantity
+  pub built : AreAllBuilt (purpose_of verb) refused documents seen now
+  pub past : IsPast verb refused documents cause quantity
+
+-- the documents are loaded, and the patterns of some of their elements built
+pub record AreBuiltOnce (verb : Verb) (before after : FilesSeen) (seen now : PatternsSeen) (name : List ℕ) : Type 0 where
+  pub documents : List SchemaDocument
+  pub loaded : AreLoadedOnce before after name documents
+  pub built : AreBuiltInPart (purpose_of verb) documents seen now
 
 -- the file of this name, the next one to be loaded, is no document from this byte on
 pub record IsUnreadable (before after : FilesSeen) (name : List ℕ) (cause : DocCause)
@@ -61,17 +76,19 @@ pub record IsUnreadable (before after : FilesSeen) (name : List ℕ) (cause : Do
   pub refused : IsNoDocument before after (asked name) cause place document
 
 -- there is no schema, for what stops the run
-abbrev pub IsLoadFault : Verb → FilesSeen → FilesSeen → List ℕ → Stop → Type 0
-IsLoadFault verb before after name (FilesFailed failed) = IsFailed before after (asked name) failed
-IsLoadFault verb before after name OutOfMemory = after.faults ≡ before.faults
-IsLoadFault verb before after name (Limit cause quantity) =
-    IsLimit before after (asked name) cause quantity ⊎ IsPastLimit verb before after name cause quantity
-IsLoadFault verb before after name (NoDocument cause document at) =
-    IsUnreadable before after name cause document at
-IsLoadFault verb before after name (Refused cause document at) =
-    IsRefusedSchema verb before after name cause document at
-IsLoadFault verb before after name (Usage word) = ⊥
-IsLoadFault verb before after name SourceFailed = ⊥
+abbrev pub IsLoadFault : Verb → (Site → Bool) → FilesSeen → FilesSeen → PatternsSeen → PatternsSeen → List ℕ → Stop → Type 0
+IsLoadFault verb refused before after seen now name (FilesFailed failed) = IsFailed before after (asked name) failed × (now ≡ seen)
+IsLoadFault verb refused before after seen now name OutOfMemory =
+    (after.faults ≡ before.faults) × ((now ≡ seen) ⊎ AreBuiltOnce verb before after seen now name)
+IsLoadFault verb refused before after seen now name (Limit cause quantity) =
+    (IsLimit before after (asked name) cause quantity × (now ≡ seen))
+    ⊎ IsPastLimit verb refused before after seen now name cause quantity
+IsLoadFault verb refused before after seen now name (NoDocument cause document at) =
+    IsUnreadable before after name cause document at × (now ≡ seen)
+IsLoadFault verb refused before after seen now name (Refused cause document at) =
+    IsRefusedSchema verb refused before after seen now name cause document at
+IsLoadFault verb refused before after seen now name (Usage word) = ⊥
+IsLoadFault verb refused before after seen now name SourceFailed = ⊥
 
 -- files were loaded, no more than a schema may have documents
 abbrev pub AreFewLoads : FilesSeen → FilesSeen → Type 0
@@ -107,16 +124,17 @@ IsReadEnd verb table before after (Err (FilesFailed name)) = ⊥
 IsReadEnd verb table before after (Err (NoDocument cause document at)) = ⊥
 IsReadEnd verb table before after (Err (Refused cause document at)) = ⊥
 
--- What was decided, by the stage at which it was. Where the words decide, nothing is loaded; else
--- the documents of the schema are. Only where the data decides is the source touched.
-pub data Decided (words : List (List ℕ)) (before after : Inputs) (end : End) : Type 0 where
+-- What was decided, by the stage at which it was, where the patterns of lengths of these elements are refused. Where the words decide,
+-- nothing is loaded; else the documents of the schema are, and then the patterns of their elements are built. Only where the data decides
+-- is the source touched.
+pub data Decided (words : List (List ℕ)) (refused : Site → Bool) (before after : Inputs) (end : End) : Type 0 where
   by_words : (at : ℕ) → IsPlace IsCommand words at → end ≡ Err (Usage (at + 1)) → after ≡ before
-      → Decided words before after end
+      → Decided words refused before after end
   by_schema : (order : Order) (stop : Stop) → Orders words order → end ≡ Err stop
-      → IsLoadFault order.verb before.files after.files order.schema stop
+      → IsLoadFault order.verb refused before.files after.files before.patterns after.patterns order.schema stop
       → AreFewLoads before.files after.files
-      → after.source ≡ before.source → Decided words before after end
+      → after.source ≡ before.source → Decided words refused before after end
   by_data : (order : Order) (table : Table) → Orders words order
-      → IsDescribed order.verb before.files after.files order.schema table
+      → IsDescribed order.verb refused before.files after.files before.patterns after.patterns order.schema table
       → IsReadEnd order.verb table before.source after.source end
-      → Decided words before after end
+      → Decided words refused before after end

@@ -4,6 +4,7 @@ use Rattle.dfdl_edge.specs.Faults.{Rose}
 use Rattle.dfdl_edge.specs.Sink.{Adds}
 use Rattle.dfdl_edge.specs.Whole.{IsUsedUp}
 use Rattle.dfdl_documents.specs.Faults.{IsFailed}
+use Rattle.dfdl_components.specs.declared.site.Site.{Site}
 use Rattle.dfdl_report.specs.Lines.{files_line, memory_line, sink_line, source_line}
 use Rattle.dfdl_run.specs.Answer.{End}
 use Rattle.dfdl_run.specs.Command.{Order, Orders}
@@ -20,6 +21,10 @@ is_of_data status = status == 0 || status == 1 || status == 3 || status == 11 ||
 -- the statuses of runs that words, files or the schema ended
 abbrev pub is_before_data : ℕ → Bool
 is_before_data status = status == 2 || status == 4 || status == 7
+
+-- the statuses of runs that words or files ended
+abbrev pub is_before_schema : ℕ → Bool
+is_before_schema status = status == 4 || status == 7
 
 -- the file of a document of the command's schema is the one last failed, and the note names it
 pub record NamesFile (words : List (List ℕ)) (before after : Outside) : Type 0 where
@@ -46,11 +51,13 @@ pub record FilesFail (words : List (List ℕ)) (before after : Outside) : Type 0
 
 -- one run on these words that has ended with this status
 pub record IsRun (words : List (List ℕ)) (before after : Outside) (status : ℕ) : Type 0 where
+  -- the elements of the schema whose patterns of lengths were refused in this run
+  pub refused : Site → Bool
   -- told or not: an end was decided by the words, the schema or the data, and the run ended with it
-  pub answered : (end : End) × Decided words before.inputs after.inputs end
+  pub answered : (end : End) × Decided words refused before.inputs after.inputs end
       × Finished end before.outputs after.outputs status
-  -- where the outside tells its bytes: the run is as expected
-  pub expected : (end : End) → Expects words before.inputs end
+  -- where the outside tells its bytes: the run is as expected by these refusals
+  pub expected : (end : End) → Expects words refused before.inputs end
       → IsAsExpected end before after status
   -- the faults of the outside and want of memory
   pub source_failed : status ≡ 5 → SourceFails before after
@@ -58,12 +65,13 @@ pub record IsRun (words : List (List ℕ)) (before after : Outside) (status : �
   pub files_failed : status ≡ 7 → FilesFail words before after
   pub out_of_memory : status ≡ 9 → Tells memory_line before.outputs.notes after.outputs.notes
   -- what the run leaves as it was: `out` at each status that has nothing written, the source where
-  -- something before the data ended the run, the files where the words did; and the source is used
-  -- up where its data came to something
+  -- something before the data ended the run, the files where the words did, and what builds patterns
+  -- where the words or a file did; and the source is used up where its data came to something
   pub unwritten : (status ≡ 0 → ⊥) → (status ≡ 3 → ⊥) → (status ≡ 6 → ⊥) → (status ≡ 11 → ⊥)
       → Adds before.outputs.out.taken [] after.outputs.out.taken
   pub unread : IsTrue (is_before_data status) → after.inputs.source ≡ before.inputs.source
   pub unloaded : status ≡ 4 → after.inputs.files ≡ before.inputs.files
+  pub unbuilt : IsTrue (is_before_schema status) → after.inputs.patterns ≡ before.inputs.patterns
   pub used_up : IsTrue (is_of_data status) → IsUsedUp before.inputs.source.left after.inputs.source.left
   -- each count of faults stands where the status is not that of its fault; want of memory for a
   -- note can hide a fault of the source or of the files

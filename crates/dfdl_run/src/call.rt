@@ -10,7 +10,7 @@ use dfdl_edge::{Files, Patterns, Sink, Source};
 use std::alloc::Global;
 
 /// One run of the program: the words of the command, the files, the data on `source`, the answer on
-/// `out` and the notes. The result is the exit status.
+/// `out` and the notes. The patterns of lengths are built by `patterns`. The result is the exit status.
 pub fn run<S: Source, K: Sink, N: Sink, F: Files, C: Chooser, P: Patterns>(
     alloc: Global,
     words: &[String],
@@ -23,21 +23,27 @@ pub fn run<S: Source, K: Sink, N: Sink, F: Files, C: Chooser, P: Patterns>(
 ) -> u8
     ensures run { IsRun (map string_bytes words.now)
         (record {
-          inputs = record { files = F.seen files.old; source = S.seen source.old };
+          inputs = record {
+            files = F.seen files.old;
+            source = S.seen source.old;
+            patterns = record { faults = P.faults patterns.old; last = P.last_refused patterns.old };
+          };
           outputs = record { out = K.seen out.old; notes = N.seen notes.old };
         })
         (record {
-          inputs = record { files = F.seen files.new; source = S.seen source.new };
+          inputs = record {
+            files = F.seen files.new;
+            source = S.seen source.new;
+            patterns = record { faults = P.faults patterns.new; last = P.last_refused patterns.new };
+          };
           outputs = record { out = K.seen out.new; notes = N.seen notes.new };
         }) result }
 
-    // Nothing is chosen and no pattern is built.
+    // Nothing is chosen.
     ensures chooser { chooser.new ≡ chooser.old }
-    ensures patterns { patterns.new ≡ patterns.old }
 {
     loading_is_one();
     let _ = chooser;
-    let _ = patterns;
-    let end = decide(alloc, words, files, source);
+    let end = decide(alloc, words, files, source, patterns);
     finish(alloc, out, notes, &end)
 }

@@ -1,5 +1,6 @@
 // What a run comes to, before anything is written.
-ghost use Rattle.std.specs.Prelude.{◌≡◌, ◌<◌, ◌+◌, ◌^◌, map, string_bytes};
+ghost use Rattle.std.specs.Prelude.{◌≡◌, Bool, ◌<◌, ◌+◌, ◌^◌, map, string_bytes};
+ghost use Rattle.dfdl_components.specs.declared.site.Site.{Site};
 ghost use Rattle.dfdl_terms.specs.Rows.{HasElementLast, HasPlainRows};
 ghost use Rattle.dfdl_pieces.specs.Whole.{AreWholeFields};
 ghost use Rattle.dfdl_run.specs.Decided.{Decided, IsReadEnd};
@@ -13,7 +14,7 @@ use crate::parsing::parse;
 use crate::reading::parsed;
 use crate::stop::Stop;
 use crate::unparsing::unparse;
-use dfdl_edge::{Files, Source, SourceFault, read_to_limit};
+use dfdl_edge::{Files, Patterns, Source, SourceFault, read_to_limit};
 use dfdl_report::LimitCause;
 use dfdl_terms::Terms;
 use std::alloc::Global;
@@ -76,21 +77,30 @@ fn read_answer<S: Source>(
 }
 
 // What a run comes to.
-pub(crate) fn decide<S: Source, F: Files>(
+pub(crate) fn decide<S: Source, F: Files, P: Patterns>(
     alloc: Global,
     words: &[String],
     files: &mut F,
     source: &mut S,
+    patterns: &mut P,
 ) -> Result<Answer, Stop>
-    ensures { Decided (map string_bytes words.now)
-        (record { files = F.seen files.old; source = S.seen source.old })
-        (record { files = F.seen files.new; source = S.seen source.new }) result }
+    ensures { (refused : Site → Bool) × Decided (map string_bytes words.now) refused
+        (record {
+          files = F.seen files.old;
+          source = S.seen source.old;
+          patterns = record { faults = P.faults patterns.old; last = P.last_refused patterns.old };
+        })
+        (record {
+          files = F.seen files.new;
+          source = S.seen source.new;
+          patterns = record { faults = P.faults patterns.new; last = P.last_refused patterns.new };
+        }) result }
 {
     let command = match command_of(words) {
         Ok(command) => command,
         Err(at) => return Err(usage(at)),
     };
-    match load_terms(alloc, files, command.verb, command.schema) {
+    match load_terms(alloc, files, patterns, command.verb, command.schema) {
         Ok(terms) => read_answer(alloc, source, command.verb, &terms),
         Err(stop) => Err(stop),
     }

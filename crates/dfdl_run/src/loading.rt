@@ -1,10 +1,10 @@
 // The loading of a schema.
-ghost use Rattle.std.specs.Prelude.{◌≡◌, ◌⊎◌, Ok, IfOk, IfErr};
+ghost use Rattle.std.specs.Prelude.{◌≡◌, ◌⊎◌, Bool, Ok, IfOk, IfErr};
 ghost use Rattle.dfdl_components.specs.Rules.{AllKeep, loading_rules};
 ghost use Rattle.dfdl_documents.specs.Loading.{document_at};
 ghost use Rattle.dfdl_terms.specs.Rows.{HasElementLast, HasPlainRows};
-ghost use Rattle.dfdl_compile.specs.Compiled as compiler;
-ghost use Rattle.dfdl_compile.specs.Faults.{IsFaultOf};
+ghost use Rattle.dfdl_components.specs.declared.site.Site as declared_site;
+ghost use Rattle.dfdl_compile.specs.Builds.{ComesTo, ComesToFault};
 ghost use Rattle.dfdl_pieces.specs.Whole.{AreWholeFields};
 ghost use Rattle.dfdl_run.specs.Decided.{AreFewLoads, IsDescribed, IsLoadFault};
 ghost use Rattle.dfdl_run.specs.Schemas.{most_depth, most_rows, purpose_of, schema_stop};
@@ -14,7 +14,7 @@ use crate::command::Verb;
 use crate::stop::Stop;
 use dfdl_compile::{CompileFault, compile, compile_for_unparse};
 use dfdl_components::{Schema, SchemaFault, load};
-use dfdl_edge::Files;
+use dfdl_edge::{Files, Patterns};
 use dfdl_report::{LimitCause, Place, SchemaCause};
 use dfdl_terms::Terms;
 use dfdl_value::TextValue;
@@ -86,39 +86,53 @@ pub(crate) fn limit(cause: LimitCause, quantity: u64) -> Stop
 }
 
 // The terms of a loaded schema for a verb.
-fn compiled(alloc: Global, verb: Verb, schema: &Schema) -> Result<Terms, CompileFault>
+fn compiled<P: Patterns>(
+    alloc: Global,
+    verb: Verb,
+    schema: &Schema,
+    patterns: &mut P,
+) -> Result<Terms, CompileFault>
     requires keeps { AllKeep (loading_rules schema.now) schema.now }
-    ensures rows { IfOk result (λ t. compiler.compiled (purpose_of verb) schema.now most_depth most_rows ≡ Ok t) }
-    ensures fault { IfErr result (IsFaultOf (compiler.compiled (purpose_of verb) schema.now most_depth most_rows)) }
+    ensures rows { IfOk result (λ t. ComesTo (purpose_of verb) schema.now most_depth most_rows
+        (record { faults = P.faults patterns.old; last = P.last_refused patterns.old })
+        (record { faults = P.faults patterns.new; last = P.last_refused patterns.new }) (Ok t)) }
+    ensures fault { IfErr result (ComesToFault (purpose_of verb) schema.now most_depth most_rows
+        (record { faults = P.faults patterns.old; last = P.last_refused patterns.old })
+        (record { faults = P.faults patterns.new; last = P.last_refused patterns.new })) }
     ensures element { IfOk result HasElementLast }
     ensures whole { verb ≡ Unparse → IfOk result AreWholeFields }
     ensures plain { verb ≡ Unparse → IfOk result (λ t. HasPlainRows t.rows) }
 {
     match verb {
-        Verb::Parse => compile(alloc, schema, MOST_DEPTH, MOST_ROWS),
-        Verb::Unparse => compile_for_unparse(alloc, schema, MOST_DEPTH, MOST_ROWS),
+        Verb::Parse => compile(alloc, schema, MOST_DEPTH, MOST_ROWS, patterns),
+        Verb::Unparse => compile_for_unparse(alloc, schema, MOST_DEPTH, MOST_ROWS, patterns),
     }
 }
 
 // The terms for a verb of the schema whose first document has this name, or what stops the run in their place.
-pub(crate) fn load_terms<F: Files>(
+pub(crate) fn load_terms<F: Files, P: Patterns>(
     alloc: Global,
     files: &mut F,
+    patterns: &mut P,
     verb: Verb,
     name: &str,
 ) -> Result<Terms, Stop>
     ensures element { IfOk result HasElementLast }
     ensures whole { verb ≡ Unparse → IfOk result AreWholeFields }
     ensures plain { verb ≡ Unparse → IfOk result (λ t. HasPlainRows t.rows) }
-    ensures ok { IfOk result (IsDescribed verb (F.seen files.old) (F.seen files.new) name.now) }
-    ensures err { IfErr result (IsLoadFault verb (F.seen files.old) (F.seen files.new) name.now) }
+    ensures ok { IfOk result (λ t. (refused : declared_site.Site → Bool) × IsDescribed verb refused (F.seen files.old) (F.seen files.new)
+        (record { faults = P.faults patterns.old; last = P.last_refused patterns.old })
+        (record { faults = P.faults patterns.new; last = P.last_refused patterns.new }) name.now t) }
+    ensures err { IfErr result (λ stop. (refused : declared_site.Site → Bool) × IsLoadFault verb refused (F.seen files.old) (F.seen files.new)
+        (record { faults = P.faults patterns.old; last = P.last_refused patterns.old })
+        (record { faults = P.faults patterns.new; last = P.last_refused patterns.new }) name.now stop) }
     ensures few { AreFewLoads (F.seen files.old) (F.seen files.new) }
 {
     let schema = match load(alloc, files, name, MOST_SCHEMA, MOST_SCHEMAS) {
         Ok(schema) => schema,
         Err(fault) => return Err(stop_of(fault)),
     };
-    match compiled(alloc, verb, &schema) {
+    match compiled(alloc, verb, &schema, patterns) {
         Ok(terms) => Ok(terms),
         Err(CompileFault::Refused { cause, place }) => Err(refused(alloc, &schema, cause, place)),
         Err(CompileFault::Limit { cause, quantity }) => Err(limit(cause, u64::from(quantity))),

@@ -3,6 +3,7 @@ mod fill;
 mod nested;
 mod numbers;
 mod packed;
+mod patterns;
 mod pieces;
 mod schemas;
 mod sizes;
@@ -20,7 +21,7 @@ const SCHEMA: &str =
 const LINE: &str = "{\"r\":{\"a\":\"1\",\"b\":\"515\"}}\n";
 
 // What a run is given: its words, the file `s.xsd`, the data with the cuts of its reads, and the
-// numbers of the reads and writes that fail.
+// numbers of the reads, writes and builds of patterns that fail.
 #[derive(Clone, Copy)]
 struct Given<'a> {
     words: &'a [&'a str],
@@ -29,6 +30,7 @@ struct Given<'a> {
     cuts: &'a [usize],
     failing_reads: &'a [u64],
     failing_writes: &'a [u64],
+    failing_builds: &'a [u64],
 }
 
 const PARSE: Given<'static> = Given {
@@ -38,6 +40,7 @@ const PARSE: Given<'static> = Given {
     cuts: &[],
     failing_reads: &[],
     failing_writes: &[],
+    failing_builds: &[],
 };
 
 const UNPARSE: Given<'static> = Given {
@@ -75,7 +78,7 @@ fn run_of<R: AllocGlobal>(rt: &R, given: &Given<'_>) -> Result<Ended, AllocError
     let mut out = MemorySink::new(alloc, given.failing_writes.to_vec(alloc)?);
     let mut notes = MemorySink::new(alloc, Vec::new(alloc));
     let mut chooser = FirstReady { picks: 0 };
-    let mut patterns = MemoryPatterns::new(Vec::new(alloc));
+    let mut patterns = MemoryPatterns::new(given.failing_builds.to_vec(alloc)?);
     let status = run(
         alloc,
         &words,

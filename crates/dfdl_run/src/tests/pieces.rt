@@ -115,7 +115,8 @@ fn read_of<R: AllocGlobal>(
         bytes: SCHEMA.as_bytes().to_vec(alloc)?,
     })?;
     let mut files = MemoryFiles::new(held, Vec::new(alloc));
-    let Ok(terms) = load_terms(alloc, &mut files, Verb::Parse, "s.xsd") else {
+    let mut patterns = MemoryPatterns::new(Vec::new(alloc));
+    let Ok(terms) = load_terms(alloc, &mut files, &mut patterns, Verb::Parse, "s.xsd") else {
         return Err("no schema".into());
     };
     let mut bytes = Vec::new(alloc);

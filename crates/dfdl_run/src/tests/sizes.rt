@@ -153,6 +153,7 @@ fn given_of<'a>(words: &'a [&'a str], schema: &'a str, data: &'a [u8]) -> Given<
         cuts: &[700, 1],
         failing_reads: &[],
         failing_writes: &[],
+        failing_builds: &[],
     }
 }
 

@@ -1,21 +1,26 @@
 use Rattle.std.proofs.Common.{refl}
 use Rattle.dfdl_breaches.specs.Judging.{judged_at}
 use Rattle.dfdl_checks.specs.declared.purpose.Purpose.TheVariants.{Unparsing}
+use Rattle.dfdl_breaches.proofs.Forms.{bounded_before, none_before}
 use Rattle.dfdl_breaches.proofs.laws.sound_elements_have_bounded_primitives.Goals as goal
 
 pub returns-clause-whole : goal.returns-clause-whole
 returns-clause-whole c =
-    λ documents own p is. c.primitives_for_unparsing_are_whole.ensures (judged_at Unparsing documents own) p refl is
+    λ refused documents own p is. c.primitives_for_unparsing_are_whole.ensures (judged_at Unparsing refused documents own) p refl is
 
 pub returns-clause-prefix : goal.returns-clause-prefix
-returns-clause-prefix c = λ purpose documents own f is. c.prefixes_are_bounded.ensures.bounded (judged_at purpose documents own) f is
+returns-clause-prefix c = λ purpose refused documents own f is.
+    bounded_before c.prefixes_are_bounded.ensures.bounded (judged_at purpose refused documents own) f is
+
+pub returns-clause-parsing : goal.returns-clause-parsing
+returns-clause-parsing c = λ refused documents own. none_before c.prefixes_are_bounded.ensures.parsing (judged_at Unparsing refused documents own) refl
 
 pub returns-clause-kind : goal.returns-clause-kind
-returns-clause-kind c = λ purpose documents own p is. c.primitives_are_bounded.ensures.kind (judged_at purpose documents own) p is
+returns-clause-kind c = λ purpose refused documents own p is. c.primitives_are_bounded.ensures.kind (judged_at purpose refused documents own) p is
 
 pub returns-clause-nil : goal.returns-clause-nil
-returns-clause-nil c = λ purpose documents own p is. c.representations_are_bounded.ensures.nil (judged_at purpose documents own) p is
+returns-clause-nil c = λ purpose refused documents own p is. c.representations_are_bounded.ensures.nil (judged_at purpose refused documents own) p is
 
 pub returns-clause-empty : goal.returns-clause-empty
 returns-clause-empty c =
-    λ purpose documents own p is written. c.representations_are_bounded.ensures.empty (judged_at purpose documents own) p is written
+    λ purpose refused documents own p is written. c.representations_are_bounded.ensures.empty (judged_at purpose refused documents own) p is written

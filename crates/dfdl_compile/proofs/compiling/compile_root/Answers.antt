@@ -1,5 +1,9 @@
-use Rattle.std.proofs.Common.{◌≡◌, ◌∙◌, None, Some, ap, subst, sym}
+use Rattle.std.proofs.Common.{◌≡◌, ◌∙◌, List, None, Some, ap, length, subst, sym}
+use Rattle.std.proofs.lemmas.List.{length-map}
 use Rattle.dfdl_checks.specs.declared.purpose.Purpose.{Purpose}
+use Rattle.dfdl_chains.specs.Everywhere.{all_sites}
+use Rattle.dfdl_breaches.specs.Judging.{judgement_at}
+use Rattle.dfdl_breaches.specs.declared.judgement.Judgement.{Judgement}
 use Rattle.dfdl_compile.specs.Compiled.{by_root, first_recursive}
 use Rattle.dfdl_compile.specs.Components.{components_of}
 use Rattle.dfdl_compile.specs.Faults.{IsFaultOf}
@@ -7,72 +11,91 @@ use Rattle.dfdl_compile.proofs.Ending.{root_table, root_fault, root_within}
 use Rattle.dfdl_compile.proofs.Taken.{bare_typed, bounded, have, leaves_typed, root_element, tables_are, bare_components, wholes}
 use Rattle.dfdl_compile.proofs.compiling.compile_root.Goals as goal
 
+pub gather-requires-clause-told : goal.gather-requires-clause-told
+gather-requires-clause-told c =
+    ap (λ (js : List Judgement). length js) (c.as_slice.ensures.value ∙ c.requires.told.1)
+    ∙ length-map (all_sites c.args.schema.now) (judgement_at c.args.purpose c.requires.told.0 c.args.schema.now)
+
+pub ordered-requires : goal.ordered-requires
+ordered-requires c = (c.requires.told.0, c.in_ok-gathered.ensures.gathered c.requires.told.0 (c.as_slice.ensures.value ∙ c.requires.told.1))
+
 pub terms_of-requires-clause-within : goal.terms_of-requires-clause-within
 terms_of-requires-clause-within c =
-    root_within c.args.purpose c.args.schema.now c.args.root c.in_ok-components.components c.number-number.result
-    (c.in_ok-components.ensures.components ∙ ap (λ (q : Purpose). components_of q c.args.schema.now) c.in_ok-gathered.ensures.purpose)
+    root_within c.args.purpose c.requires.told.0 c.args.schema.now c.args.root c.in_ok-components.components c.number-number.result
+    (c.in_ok-components.ensures.components c.requires.told.0 (c.in_ok-gathered.ensures.gathered c.requires.told.0 (c.as_slice.ensures.value ∙ c.requires.told.1))
+    ∙ ap (λ (q : Purpose). components_of q c.requires.told.0 c.args.schema.now) c.in_ok-gathered.ensures.purpose)
     c.number-number.ensures c.requires.within
 
 pub terms_of-requires-clause-named : goal.terms_of-requires-clause-named
 terms_of-requires-clause-named c =
-    have c.args.purpose c.args.schema.now c.in_ok-components.components c.in_ok-tables.tables
-    (c.in_ok-components.ensures.components ∙ ap (λ (q : Purpose). components_of q c.args.schema.now) c.in_ok-gathered.ensures.purpose)
-    (tables_are c.args.purpose c.args.schema.now c.in_ok-judgements.judgements.items c.in_ok-tables.tables c.in_ok-judgements.ensures c.in_ok-tables.ensures.tables)
+    have c.args.purpose c.requires.told.0 c.args.schema.now c.in_ok-components.components c.in_ok-tables.tables
+    (c.in_ok-components.ensures.components c.requires.told.0 (c.in_ok-gathered.ensures.gathered c.requires.told.0 (c.as_slice.ensures.value ∙ c.requires.told.1))
+    ∙ ap (λ (q : Purpose). components_of q c.requires.told.0 c.args.schema.now) c.in_ok-gathered.ensures.purpose)
+    (tables_are c.args.purpose c.requires.told.0 c.args.schema.now c.args.judgements.items c.in_ok-tables.tables c.requires.told.1 c.in_ok-tables.ensures.tables)
 
 pub terms_of-requires-clause-bounded : goal.terms_of-requires-clause-bounded
 terms_of-requires-clause-bounded c =
-    bounded c.args.purpose c.args.schema.now c.sound_elements_have_bounded_primitives.ensures.bounded
+    bounded c.args.purpose c.requires.told.0 c.args.schema.now c.sound_elements_have_bounded_primitives.ensures.bounded
     c.sound_elements_have_bounded_primitives.ensures.prefix c.sound_elements_have_bounded_primitives.ensures.nil
     c.sound_elements_have_bounded_primitives.ensures.empty c.in_ok-tables.tables
-    (tables_are c.args.purpose c.args.schema.now c.in_ok-judgements.judgements.items c.in_ok-tables.tables c.in_ok-judgements.ensures c.in_ok-tables.ensures.tables)
+    (tables_are c.args.purpose c.requires.told.0 c.args.schema.now c.args.judgements.items c.in_ok-tables.tables c.requires.told.1 c.in_ok-tables.ensures.tables)
     c.in_ok-tables.ensures.written
 
 pub returns-in-Ok-clause-rows : goal.returns-in-Ok-clause-rows
-returns-in-Ok-clause-rows c =
-    root_table c.args.purpose c.args.schema.now c.args.depth c.args.rows c.args.root c.in_ok-components.components c.number-number.result c.in-Ok.terms
-    (c.in_ok-components.ensures.components ∙ ap (λ (q : Purpose). components_of q c.args.schema.now) c.in_ok-gathered.ensures.purpose)
+returns-in-Ok-clause-rows c = λ refused told.
+    root_table c.args.purpose refused c.args.schema.now c.args.depth c.args.rows c.args.root c.in_ok-components.components c.number-number.result c.in-Ok.terms
+    (c.in_ok-components.ensures.components refused (c.in_ok-gathered.ensures.gathered refused (c.as_slice.ensures.value ∙ told))
+    ∙ ap (λ (q : Purpose). components_of q refused c.args.schema.now) c.in_ok-gathered.ensures.purpose)
     c.number-number.ensures
-    (subst (λ (q : Purpose). first_recursive (components_of q c.args.schema.now).uses ≡ None) c.in_ok-gathered.ensures.purpose c.in_ok-components.ensures.none)
+    (subst (λ (q : Purpose). first_recursive (components_of q refused c.args.schema.now).uses ≡ None) c.in_ok-gathered.ensures.purpose
+    (c.in_ok-components.ensures.none refused (c.in_ok-gathered.ensures.gathered refused (c.as_slice.ensures.value ∙ told))))
     c.in-Ok.ensures.rows
-    (c.in-Ok.ensures.tables ∙ (tables_are c.args.purpose c.args.schema.now c.in_ok-judgements.judgements.items c.in_ok-tables.tables c.in_ok-judgements.ensures c.in_ok-tables.ensures.tables))
+    (c.in-Ok.ensures.tables ∙ (tables_are c.args.purpose refused c.args.schema.now c.args.judgements.items c.in_ok-tables.tables told c.in_ok-tables.ensures.tables))
 
 pub returns-clause-fault : goal.returns-clause-fault
-returns-clause-fault c =
-    subst (IsFaultOf (by_root c.args.purpose c.args.schema.now c.args.depth c.args.rows (Some c.args.root))) (sym c.fault_of.ensures)
-    (root_fault c.args.purpose c.args.schema.now c.args.depth c.args.rows c.args.root c.in_ok-components.components c.number-number.result c.in-Err.fault
-    (c.in_ok-components.ensures.components ∙ ap (λ (q : Purpose). components_of q c.args.schema.now) c.in_ok-gathered.ensures.purpose)
+returns-clause-fault c = λ refused told.
+    subst (IsFaultOf (by_root c.args.purpose refused c.args.schema.now c.args.depth c.args.rows (Some c.args.root))) (sym c.fault_of.ensures)
+    (root_fault c.args.purpose refused c.args.schema.now c.args.depth c.args.rows c.args.root c.in_ok-components.components c.number-number.result c.in-Err.fault
+    (c.in_ok-components.ensures.components refused (c.in_ok-gathered.ensures.gathered refused (c.as_slice.ensures.value ∙ told))
+    ∙ ap (λ (q : Purpose). components_of q refused c.args.schema.now) c.in_ok-gathered.ensures.purpose)
     c.number-number.ensures
-    (subst (λ (q : Purpose). first_recursive (components_of q c.args.schema.now).uses ≡ None) c.in_ok-gathered.ensures.purpose c.in_ok-components.ensures.none)
+    (subst (λ (q : Purpose). first_recursive (components_of q refused c.args.schema.now).uses ≡ None) c.in_ok-gathered.ensures.purpose
+    (c.in_ok-components.ensures.none refused (c.in_ok-gathered.ensures.gathered refused (c.as_slice.ensures.value ∙ told))))
     c.in-Err.ensures.fault)
 
 pub returns-in-Ok-clause-element : goal.returns-in-Ok-clause-element
 returns-in-Ok-clause-element c =
-    root_element c.args.purpose c.args.schema.now c.args.root c.in_ok-components.components c.number-number.result c.in-Ok.terms
-    (c.in_ok-components.ensures.components ∙ ap (λ (q : Purpose). components_of q c.args.schema.now) c.in_ok-gathered.ensures.purpose)
+    root_element c.args.purpose c.requires.told.0 c.args.schema.now c.args.root c.in_ok-components.components c.number-number.result c.in-Ok.terms
+    (c.in_ok-components.ensures.components c.requires.told.0 (c.in_ok-gathered.ensures.gathered c.requires.told.0 (c.as_slice.ensures.value ∙ c.requires.told.1))
+    ∙ ap (λ (q : Purpose). components_of q c.requires.told.0 c.args.schema.now) c.in_ok-gathered.ensures.purpose)
     c.number-number.ensures c.requires.within c.requires.global c.in-Ok.ensures.root
 
 pub returns-in-Ok-clause-leaves : goal.returns-in-Ok-clause-leaves
 returns-in-Ok-clause-leaves c =
-    leaves_typed c.args.purpose c.args.schema.now c.in_ok-components.components c.in-Ok.terms
-    (c.in_ok-components.ensures.components ∙ ap (λ (q : Purpose). components_of q c.args.schema.now) c.in_ok-gathered.ensures.purpose)
-    (c.in-Ok.ensures.tables ∙ (tables_are c.args.purpose c.args.schema.now c.in_ok-judgements.judgements.items c.in_ok-tables.tables c.in_ok-judgements.ensures c.in_ok-tables.ensures.tables))
+    leaves_typed c.args.purpose c.requires.told.0 c.args.schema.now c.in_ok-components.components c.in-Ok.terms
+    (c.in_ok-components.ensures.components c.requires.told.0 (c.in_ok-gathered.ensures.gathered c.requires.told.0 (c.as_slice.ensures.value ∙ c.requires.told.1))
+    ∙ ap (λ (q : Purpose). components_of q c.requires.told.0 c.args.schema.now) c.in_ok-gathered.ensures.purpose)
+    (c.in-Ok.ensures.tables ∙ (tables_are c.args.purpose c.requires.told.0 c.args.schema.now c.args.judgements.items c.in_ok-tables.tables c.requires.told.1 c.in_ok-tables.ensures.tables))
     c.in-Ok.ensures.leaves
 
 pub returns-in-Ok-clause-whole : goal.returns-in-Ok-clause-whole
 returns-in-Ok-clause-whole c = λ unparsing.
-    wholes c.args.purpose c.args.schema.now unparsing c.sound_elements_have_bounded_primitives.ensures.whole
+    wholes c.args.purpose c.requires.told.0 c.args.schema.now unparsing c.sound_elements_have_bounded_primitives.ensures.whole
     c.sound_elements_have_bounded_primitives.ensures.parsing c.sound_elements_have_bounded_primitives.ensures.normal c.in-Ok.terms.primitives
-    (c.in-Ok.ensures.tables ∙ (tables_are c.args.purpose c.args.schema.now c.in_ok-judgements.judgements.items c.in_ok-tables.tables c.in_ok-judgements.ensures c.in_ok-tables.ensures.tables))
+    (c.in-Ok.ensures.tables ∙ (tables_are c.args.purpose c.requires.told.0 c.args.schema.now c.args.judgements.items c.in_ok-tables.tables c.requires.told.1 c.in_ok-tables.ensures.tables))
 
 pub returns-in-Ok-clause-bare : goal.returns-in-Ok-clause-bare
 returns-in-Ok-clause-bare c = λ unparsing.
-    bare_typed c.args.purpose c.args.schema.now c.in_ok-components.components c.in-Ok.terms
-    (c.in_ok-components.ensures.components ∙ ap (λ (q : Purpose). components_of q c.args.schema.now) c.in_ok-gathered.ensures.purpose)
-    (c.in-Ok.ensures.tables ∙ (tables_are c.args.purpose c.args.schema.now c.in_ok-judgements.judgements.items c.in_ok-tables.tables c.in_ok-judgements.ensures c.in_ok-tables.ensures.tables))
-    (c.in-Ok.ensures.bare (bare_components c.args.schema.now c.args.purpose c.in_ok-components.components unparsing
-    (c.in_ok-components.ensures.components ∙ ap (λ (q : Purpose). components_of q c.args.schema.now) c.in_ok-gathered.ensures.purpose)))
+    bare_typed c.args.purpose c.requires.told.0 c.args.schema.now c.in_ok-components.components c.in-Ok.terms
+    (c.in_ok-components.ensures.components c.requires.told.0 (c.in_ok-gathered.ensures.gathered c.requires.told.0 (c.as_slice.ensures.value ∙ c.requires.told.1))
+    ∙ ap (λ (q : Purpose). components_of q c.requires.told.0 c.args.schema.now) c.in_ok-gathered.ensures.purpose)
+    (c.in-Ok.ensures.tables ∙ (tables_are c.args.purpose c.requires.told.0 c.args.schema.now c.args.judgements.items c.in_ok-tables.tables c.requires.told.1 c.in_ok-tables.ensures.tables))
+    (c.in-Ok.ensures.bare (bare_components c.requires.told.0 c.args.schema.now c.sound_elements_have_bounded_primitives.ensures.parsing c.args.purpose c.in_ok-components.components unparsing
+    (c.in_ok-components.ensures.components c.requires.told.0 (c.in_ok-gathered.ensures.gathered c.requires.told.0 (c.as_slice.ensures.value ∙ c.requires.told.1))
+    ∙ ap (λ (q : Purpose). components_of q c.requires.told.0 c.args.schema.now) c.in_ok-gathered.ensures.purpose)))
 
 pub returns-in-Ok-clause-plain : goal.returns-in-Ok-clause-plain
 returns-in-Ok-clause-plain c = λ unparsing.
-    c.in-Ok.ensures.plain (bare_components c.args.schema.now c.args.purpose c.in_ok-components.components unparsing
-    (c.in_ok-components.ensures.components ∙ ap (λ (q : Purpose). components_of q c.args.schema.now) c.in_ok-gathered.ensures.purpose))
+    c.in-Ok.ensures.plain (bare_components c.requires.told.0 c.args.schema.now c.sound_elements_have_bounded_primitives.ensures.parsing c.args.purpose c.in_ok-components.components unparsing
+    (c.in_ok-components.ensures.components c.requires.told.0 (c.in_ok-gathered.ensures.gathered c.requires.told.0 (c.as_slice.ensures.value ∙ c.requires.told.1))
+    ∙ ap (λ (q : Purpose). components_of q c.requires.told.0 c.args.schema.now) c.in_ok-gathered.ensures.purpose))

@@ -1,5 +1,4 @@
 use Rattle.std.proofs.Common.{◌∙◌, List, map, length, option_map, ap, sym}
-use Rattle.std.proofs.lemmas.List.{length-map}
 use Rattle.dfdl_components.specs.declared.site.Site.{Site}
 use Rattle.dfdl_chains.specs.Everywhere.{all_sites}
 use Rattle.dfdl_breaches.specs.Elements.{place_of}
@@ -14,9 +13,7 @@ components-requires-clause-sites c = sites_within c.args.schema.now c.as_slice.r
 
 pub components-requires-clause-told : goal.components-requires-clause-told
 components-requires-clause-told c =
-    ap (λ (js : List Judgement). length js) c.requires.judgements
-    ∙ (length-map (all_sites c.args.schema.now) (judgement_at c.args.purpose c.args.schema.now)
-    ∙ ap (λ (sites : List Site). length sites) (sym (c.as_slice.ensures.value ∙ c.in_ok-sites.ensures)))
+    c.requires.told ∙ ap (λ (sites : List Site). length sites) (sym (c.as_slice.ensures.value ∙ c.in_ok-sites.ensures))
 
 pub places-requires : goal.places-requires
 places-requires c = sites_within c.args.schema.now c.as_slice-2.result.now (c.as_slice-2.ensures.value ∙ c.in_ok-sites.ensures)
@@ -26,16 +23,16 @@ uses-requires-clause-sites c = sites_within c.args.schema.now c.as_slice-3.resul
 
 pub returns-clause-gathered : goal.returns-clause-gathered
 unfolding components_of
-returns-clause-gathered c =
+returns-clause-gathered c = λ refused told.
     let sites = c.in_ok-sites.ensures in
-    let judged = c.requires.judgements ∙ ap (map (judgement_at c.args.purpose c.args.schema.now)) (sym (c.as_slice.ensures.value ∙ sites)) in
+    let judged = told ∙ ap (map (judgement_at c.args.purpose refused c.args.schema.now)) (sym (c.as_slice.ensures.value ∙ sites)) in
     record {
       sites = sites;
       uses = c.in-Ok.ensures.uses ∙ ap (map (part_numbers c.args.schema.now)) (c.as_slice-3.ensures.value ∙ sites);
-      components = c.in_ok-components.ensures c.args.purpose judged
-          ∙ ap (map (component_at c.args.purpose c.args.schema.now)) (c.as_slice.ensures.value ∙ sites);
+      components = c.in_ok-components.ensures c.args.purpose refused judged
+          ∙ ap (map (component_at c.args.purpose refused c.args.schema.now)) (c.as_slice.ensures.value ∙ sites);
       refusals = c.in_ok-refusals.ensures
-          ∙ (ap (map (λ (j : Judgement). option_map refusal_of j.breach)) c.requires.judgements
-          ∙ twice (λ (j : Judgement). option_map refusal_of j.breach) (judgement_at c.args.purpose c.args.schema.now) (all_sites c.args.schema.now));
+          ∙ (ap (map (λ (j : Judgement). option_map refusal_of j.breach)) told
+          ∙ twice (λ (j : Judgement). option_map refusal_of j.breach) (judgement_at c.args.purpose refused c.args.schema.now) (all_sites c.args.schema.now));
       places = c.in_ok-places.ensures ∙ ap (map (place_of c.args.schema.now)) (c.as_slice-2.ensures.value ∙ sites);
     }

@@ -8,4 +8,4 @@ returns-clause-run g c =
       no_fault_due = c.loading_is_one.ensures.no_fault_due;
       no_fault = c.loading_is_one.ensures.no_fault;
       fault_due = c.loading_is_one.ensures.fault_due;
-    }) _ _ _ _ _ c.decide-end.ensures c.finish.ensures
+    }) _ c.decide-end.ensures.0 _ _ _ _ c.decide-end.ensures.1 c.finish.ensures

@@ -1,0 +1,121 @@
+// What is told of a component, with the pattern of its length.
+ghost use Rattle.std.specs.Prelude.{◌≡◌, true, false, IfOk, Some};
+ghost use Rattle.dfdl_length_patterns.specs.Patterns.{anchored};
+ghost use Rattle.dfdl_checks.specs.JudgedShown.{judged_of};
+ghost use Rattle.dfdl_checks.specs.Patterns.{form_by, length_pattern, pattern_prefix};
+ghost use Rattle.dfdl_breaches.specs.BuildsShown.{IsToldBy, with_refused};
+ghost use Rattle.dfdl_breaches.specs.Judging.{form_or};
+ghost use Rattle.dfdl_breaches.specs.JudgementShown.{judgement_of};
+
+use crate::judgement::Judgement;
+use dfdl_checks::{
+    PrefixForm, Subject, breach, framing, length_pattern, other_representations, pattern_encoding,
+    prefix, primitive, size_of_box,
+};
+use dfdl_edge::{PatternRefusal, Patterns};
+use dfdl_forms::Encoding;
+use dfdl_length_patterns::LengthPattern;
+use dfdl_terms::{LengthUnit, PatternForm, Primitive};
+use std::alloc::{AllocError, Global};
+
+// The first of two forms that is there.
+fn form_or(form: Option<PrefixForm>, other: Option<PrefixForm>) -> Option<PrefixForm>
+    ensures { result ≡ form_or form other }
+{
+    match form {
+        Some(form) => Some(form),
+        None => other,
+    }
+}
+
+// What tells the length of a content by this pattern, which is of this text.
+fn form_by(encoding: Option<Encoding>, text: &str, pattern: LengthPattern) -> Option<PrefixForm>
+    requires { pattern ≡ anchored text.now }
+    ensures { result ≡ form_by encoding (Some text.now) }
+{
+    let _ = text;
+    match encoding {
+        Some(encoding) => Some(PrefixForm {
+            primitive: Primitive::Pattern(PatternForm { encoding, pattern }),
+            unit: LengthUnit::Bytes,
+            own: 0,
+        }),
+        None => None,
+    }
+}
+
+// What is told of a component, by what the rules see of it and by its pattern.
+fn told_of(
+    alloc: Global,
+    subject: &Subject<'_, '_, '_>,
+    pattern: Option<PrefixForm>,
+) -> Result<Judgement, AllocError>
+    requires { pattern ≡ pattern_prefix (judged_of subject.now) }
+    ensures { IfOk result (λ judgement. judgement ≡ judgement_of (judged_of subject.now)) }
+{
+    let breach = breach(alloc, subject)?;
+    let primitive = primitive(alloc, subject)?;
+    let prefix = prefix(alloc, subject)?;
+    let others = other_representations(alloc, subject)?;
+    Ok(Judgement {
+        breach,
+        primitive,
+        framing: framing(subject),
+        size: size_of_box(subject),
+        prefix: form_or(prefix, pattern),
+        others,
+    })
+}
+
+// What is told of a component whose pattern can't be built.
+fn told_of_refused(alloc: Global, subject: &Subject<'_, '_, '_>) -> Result<Judgement, AllocError>
+    ensures { IfOk result (λ judgement. judgement ≡ judgement_of (with_refused true (judged_of subject.now))) }
+{
+    let subject = Subject {
+        pattern_is_refused: true,
+        ..*subject
+    };
+    told_of(alloc, &subject, None)
+}
+
+// What is told of a component whose length a pattern of this text tells.
+fn judge_by<P: Patterns>(
+    alloc: Global,
+    subject: &Subject<'_, '_, '_>,
+    text: &str,
+    patterns: &mut P,
+) -> Result<Judgement, AllocError>
+    requires subject { subject.now.pattern_is_refused ≡ false }
+    requires text { Some text.now ≡ length_pattern (judged_of subject.now) }
+    ensures { IsToldBy (length_pattern (judged_of subject.now))
+        (λ is_refused. judgement_of (with_refused is_refused (judged_of subject.now)))
+        (record { faults = P.faults patterns.old; last = P.last_refused patterns.old })
+        (record { faults = P.faults patterns.new; last = P.last_refused patterns.new }) result }
+{
+    match LengthPattern::build(alloc, patterns, text) {
+        Ok(pattern) => {
+            let form = form_by(pattern_encoding(subject), text, pattern);
+            told_of(alloc, subject, form)
+        }
+        Err(PatternRefusal::Refused) => told_of_refused(alloc, subject),
+        Err(PatternRefusal::OutOfMemory) => Err(AllocError),
+    }
+}
+
+/// What is told of a component. The pattern that tells its length is built once.
+pub(crate) fn judge<P: Patterns>(
+    alloc: Global,
+    subject: &Subject<'_, '_, '_>,
+    patterns: &mut P,
+) -> Result<Judgement, AllocError>
+    requires { subject.now.pattern_is_refused ≡ false }
+    ensures { IsToldBy (length_pattern (judged_of subject.now))
+        (λ is_refused. judgement_of (with_refused is_refused (judged_of subject.now)))
+        (record { faults = P.faults patterns.old; last = P.last_refused patterns.old })
+        (record { faults = P.faults patterns.new; last = P.last_refused patterns.new }) result }
+{
+    match length_pattern(subject) {
+        Some(text) => judge_by(alloc, subject, text, patterns),
+        None => told_of(alloc, subject, None),
+    }
+}

@@ -1,5 +1,5 @@
 -- What a leaf finds is what its bytes or characters are read as, and whole data have each byte or end before it.
-use Rattle.std.proofs.Common.{◌≡◌, ℕ, zero, suc, ◌+◌, ◌*◌, ◌/◌, ◌%◌, List, [], ◌∷◌, length, get_or, min, Bool, true, false, cond, leb, ltb, ◌-◌, nat_eq, Option, Some, None, Result, Ok, Err, ap, sym, ◌∙◌}
+use Rattle.std.proofs.Common.{◌≡◌, ℕ, zero, suc, ◌+◌, ◌*◌, ◌/◌, ◌%◌, List, [], ◌∷◌, length, get_or, Bool, true, false, cond, leb, ltb, ◌-◌, nat_eq, Option, Some, None, Result, Ok, Err, ap, sym, ◌∙◌}
 use Rattle.dfdl_bits.specs.declared.window.Seen.{Seen}
 use Rattle.dfdl_bits.specs.declared.window.Seen.TheVariants.{Byte, End as DataEnded, NotYet, Over}
 use Rattle.dfdl_int_binary.specs.Integers.{field_of, integer_reading}
@@ -36,10 +36,9 @@ use Rattle.dfdl_looks.specs.Looks.{seen_in}
 use Rattle.dfdl_looks.specs.Tallies.{Tally, nothing, saw_byte, saw_end}
 use Rattle.dfdl_looks.proofs.Resumed.{on_seen}
 use Rattle.dfdl_looks.proofs.Sequels.{ask-then}
-use Rattle.dfdl_grammar.specs.Leaves.{Find, Fails, Finds, FindsOctets, FindsText, bits_of, bytes_spanned, content_find, default_find, field, find_in, find_of, is_no_size, nil_find, nil_octets_find, nil_value_find, is_bytes, is_text, is_value, number_find, pattern_find, octets, packed_find, program, program_for, text_begins, text_behind, text_find, text_of_size, truth_find}
+use Rattle.dfdl_grammar.specs.Leaves.{Find, Fails, Finds, FindsOctets, FindsText, bits_of, bytes_spanned, content_find, default_find, field, find_in, find_of, is_no_size, nil_find, nil_octets_find, nil_value_find, is_bytes, is_text, is_value, number_find, pattern_find, octets, packed_find, program, program_for, text_begins, text_behind, text_find, text_of_size, text_sought, truth_find}
 use Rattle.dfdl_grammar.specs.Framing.{aligned}
 use Rattle.dfdl_grammar.specs.Nils.{are_nil, is_nil}
-use Rattle.dfdl_grammar.specs.Patterns.{most_sought}
 use Rattle.std.specs.List.{list_any}
 
 -- what a program over a stretch finds is what it makes of some bytes
@@ -235,8 +234,7 @@ value look (NilOctets form) bit stop content to is unread = then_nil_octets form
 value look (Default form) bit stop content to is unread = default_value form bit look content to (is_no_size form.size) is unread
 value look (NilValues form) bit stop content to is unread = absurd (cc)
 value look (Pattern form) bit stop content to is unread =
-    then_pattern form (aligned 8 bit) look content to
-    (text_at form.encoding false extent.Front (min stop (aligned 8 bit + most_sought)) (aligned 8 bit / 8)) is unread
+    then_pattern form bit look content to (text_sought form (aligned 8 bit) stop) is unread
 
 -- so is what has to be one of some values
 nil_value_read : (values : List Value) (find : Find) (content : Content) (n : ℕ) → nil_value_find values find ≡ Finds content n → content ≡ Begun → ⊥

@@ -1,5 +1,5 @@
 -- The bytes of the values of a document's elements stay there, and those of its strings stay UTF-8, whatever the rows do.
-use Rattle.std.proofs.Common.{◌≡◌, ◌⊎◌, inl, inr, ℕ, zero, suc, ◌+◌, ◌-◌, ◌*◌, ◌/◌, ◌%◌, ◌<◌, refl, List, [], ◌∷◌, ◌++◌, length, get_or, min, Bool, true, false, cond, leb, ltb, nat_eq, nat_le, nat_lt, Option, Some, None, Result, Ok, Err, All, ap, sym, subst, ◌∙◌, arith, IsUtf8, length-append}
+use Rattle.std.proofs.Common.{◌≡◌, ◌⊎◌, inl, inr, ℕ, zero, suc, ◌+◌, ◌-◌, ◌*◌, ◌/◌, ◌%◌, ◌<◌, refl, List, [], ◌∷◌, ◌++◌, length, get_or, Bool, true, false, cond, leb, ltb, nat_eq, nat_le, nat_lt, Option, Some, None, Result, Ok, Err, All, ap, sym, subst, ◌∙◌, arith, IsUtf8, length-append}
 use Rattle.std.proofs.lemmas.Bool.Decides.{nat_tests}
 use Rattle.std.proofs.lemmas.List.Elements.{All-append}
 use Rattle.std.proofs.lemmas.Str.{IsUtf8-nil}
@@ -55,12 +55,11 @@ use Rattle.dfdl_grammar.specs.declared.end.End.{End}
 use Rattle.dfdl_grammar.specs.declared.end.End.TheVariants.{Done, Failed, Stopped}
 use Rattle.dfdl_grammar.specs.States.{Input, State, anchor, anchor_at, front}
 use Rattle.dfdl_grammar.specs.Outcomes.{Outcome, ended, follow, spend, then_do}
-use Rattle.dfdl_grammar.specs.Leaves.{Find, Fails, Finds, FindsOctets, FindsText, bits_of, bytes_spanned, content_begins, content_find, default_find, field, find_in, find_of, has_room, is_no_size, land, leaf, nil_find, nil_octets_find, nil_value_find, nil_values, is_bytes, is_text, is_value, number_find, pattern_find, octets, packed_find, program, program_for, read_by, text_begins, text_behind, text_find, text_of_size, truth_find}
+use Rattle.dfdl_grammar.specs.Leaves.{Find, Fails, Finds, FindsOctets, FindsText, bits_of, bytes_spanned, content_begins, content_find, default_find, field, find_in, find_of, has_room, is_no_size, land, leaf, nil_find, nil_octets_find, nil_value_find, nil_values, is_bytes, is_text, is_value, number_find, pattern_find, octets, packed_find, program, program_for, read_by, text_begins, text_behind, text_find, text_of_size, text_sought, truth_find}
 use Rattle.dfdl_grammar.specs.Framing.{aligned, fill_to, has_byte, passed}
 use Rattle.dfdl_grammar.specs.Boxes.{boxed, bytes_up_to, pass_bytes, past_byte, rest as rest_of, unboxed}
 use Rattle.dfdl_grammar.specs.Elements.{attempted, begun, close, element, has_elements, left}
 use Rattle.dfdl_grammar.specs.Nils.{are_nil, is_nil}
-use Rattle.dfdl_grammar.specs.Patterns.{most_sought}
 use Rattle.std.specs.List.{list_any}
 use Rattle.dfdl_grammar.specs.Prefixes.{bits_of_units, leaf_of, prefixed, resized, size_of, sized_leaf}
 use Rattle.dfdl_grammar.specs.Rows.{below, group, meaning, row, row_at}
@@ -329,8 +328,7 @@ module _ (input : Input) (small : All (λ b. b < 256) input.bytes) where
       no-bits-held (seen_in input.bytes size low) form bit found (is_no_size form.size) good is
   program-held size low (NilValues form) good bit stop found is = subst IsHeld (told_one (Fails RequiredEmpty) found is) tt
   program-held size low (Pattern form) good bit stop found is =
-      sought-held (seen_in input.bytes size low) form (aligned 8 bit)
-      (text_at form.encoding false extent.Front (min stop (aligned 8 bit + most_sought)) (aligned 8 bit / 8)) found is
+      sought-held (seen_in input.bytes size low) form bit (text_sought form (aligned 8 bit) stop) found is
 
   nil-value-then-held : (look : ℕ → Seen) (values : List Value) (r : Reached Find) (t : Tally) (found : Find)
       → (go_on look (λ (find : Find). Answer (nil_value_find values find)) r t).reached ≡ Told found → IsHeld found

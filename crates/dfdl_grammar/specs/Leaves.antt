@@ -102,7 +102,7 @@ content_begins (Text form) bit = text_begins form.content form.size bit
 content_begins (NilOctets form) bit = bit
 content_begins (Default form) bit = bit
 content_begins (NilValues form) bit = bit
-content_begins (Pattern form) bit = aligned 8 bit
+content_begins (Pattern form) bit = bit
 
 -- the bit at which the box of a text ends whose box begins at a bit; where its characters are counted it is that of the box around
 abbrev pub text_ends : TextSize → ℕ → ℕ → ℕ
@@ -269,18 +269,27 @@ text_of_size form (Bits bits) bit stop = boxed_text form bit (text_begins form.c
 text_of_size form (Characters count) bit stop =
     and_then (text_at form.encoding form.replaces (extent.Characters count) stop (aligned 8 bit / 8)) (λ text. Answer (text_find form bit text))
 
--- what the characters are found as in which a pattern is sought from a bit on: the number of bytes that it matches, in a box without
--- bits there
-abbrev pub pattern_find : PatternForm → ℕ → TextRead → Find
-pattern_find form first (Reads characters end) = Finds (Unsigned (matched_width form characters)) first
-pattern_find form first HasBad = Fails BadCharacter
-pattern_find form first IsCut = Fails DataEnds
-pattern_find form first IsBoxed = Fails LengthOutOfRange
+-- the bit at which a content begins, at this bit or behind it, of which a pattern matches so many bytes: one with any begins at the next
+-- whole byte
+abbrev pub matched_from : ℕ → ℕ → ℕ
+matched_from bit zero = bit
+matched_from bit (suc width) = aligned 8 bit
 
--- a pattern that is sought from a bit on, up to the first bad unit, in a box that ends at another bit
+-- what the characters are found as in which a pattern is sought from a bit on: the number of bytes that it matches, in a box without
+-- bits where these begin
+abbrev pub pattern_find : PatternForm → ℕ → TextRead → Find
+pattern_find form bit (Reads characters end) = Finds (Unsigned (matched_width form characters)) (matched_from bit (matched_width form characters))
+pattern_find form bit HasBad = Fails BadCharacter
+pattern_find form bit IsCut = Fails DataEnds
+pattern_find form bit IsBoxed = Fails LengthOutOfRange
+
+-- the text in which a pattern is sought from a bit on, up to the first bad unit, in a box that ends at another bit
+abbrev pub text_sought : PatternForm → ℕ → ℕ → Ask TextRead
+text_sought form first stop = text_at form.encoding false extent.Front (min stop (first + most_sought)) (first / 8)
+
+-- a pattern at a bit, which is sought from the next whole byte on
 abbrev pub sought : PatternForm → ℕ → ℕ → Ask Find
-sought form first stop =
-    and_then (text_at form.encoding false extent.Front (min stop (first + most_sought)) (first / 8)) (λ text. Answer (pattern_find form first text))
+sought form bit stop = and_then (text_sought form (aligned 8 bit) stop) (λ text. Answer (pattern_find form bit text))
 
 -- what the leaf of a primitive finds whose box begins at a bit, inside of a box that ends at another bit
 abbrev pub program : Primitive → ℕ → ℕ → Ask Find
@@ -292,7 +301,7 @@ program (Text form) bit stop = text_of_size form form.size bit stop
 program (NilOctets form) bit stop = nil_octets form bit
 program (Default form) bit stop = default_of form bit
 program (NilValues form) bit stop = Answer (Fails RequiredEmpty)
-program (Pattern form) bit stop = sought form (aligned 8 bit) stop
+program (Pattern form) bit stop = sought form bit stop
 
 -- what the leaf of a primitive finds, which has to be one of some values that are nil, if there are these
 abbrev pub program_for : Option (List Value) → Primitive → ℕ → ℕ → Ask Find

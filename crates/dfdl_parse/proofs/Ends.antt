@@ -1,5 +1,5 @@
 -- Where what a leaf finds ends.
-use Rattle.std.proofs.Common.{ℕ, ◌*◌, ◌≤◌, Bool, true, false, List, Option, Some, None, Result, Ok, Err}
+use Rattle.std.proofs.Common.{ℕ, zero, suc, ◌*◌, ◌≤◌, Bool, true, false, List, Option, Some, None, Result, Ok, Err}
 use Rattle.dfdl_value.specs.declared.value.Value.{Value}
 use Rattle.dfdl_value.specs.declared.value.Value.TheVariants as value
 use Rattle.dfdl_number_text.specs.NumberReading.{reading as number_reading}
@@ -15,8 +15,10 @@ use Rattle.dfdl_texts.specs.Texts.{Text as TextRead, Reads as DoesRead, HasBad, 
 use Rattle.dfdl_terms.specs.declared.text.TextContent.{TextContent}
 use Rattle.dfdl_terms.specs.declared.text.TextContent.TheVariants.{Plain, Number, Zoned, Truth, Nil}
 use Rattle.dfdl_looks.specs.Asks.{Reached, Told, TooFar, Missing}
-use Rattle.dfdl_grammar.specs.Leaves.{Find, Fails, Finds, FindsOctets, FindsText, content_find, default_find, find_of, nil_find, nil_octets_find, nil_value_find, is_bytes, is_text, is_value, number_find, pattern_find, packed_find, truth_find}
+use Rattle.dfdl_grammar.specs.Leaves.{Find, Fails, Finds, FindsOctets, FindsText, content_find, default_find, find_of, nil_find, nil_octets_find, nil_value_find, is_bytes, is_text, is_value, matched_from, number_find, pattern_find, packed_find, truth_find}
+use Rattle.dfdl_grammar.specs.Framing.{aligned}
 use Rattle.dfdl_grammar.specs.Nils.{are_nil, is_nil}
+use Rattle.dfdl_grammar.specs.Patterns.{matched_width}
 use Rattle.std.specs.List.{list_any}
 use Rattle.dfdl_parse.specs.declared.leaf.Found.{Found}
 use Rattle.dfdl_parse.specs.declared.leaf.Found.TheVariants.{Reads, Octets as HasOctets, Utf8, Text as HasText, Fails as HasFailed, Past, NotYet}
@@ -71,12 +73,17 @@ nil_value-at P values (Finds content end) there = nil-at P end (list_any (is_val
 nil_value-at P values (FindsOctets bytes end) there = nil-at P end (list_any (is_bytes bytes) values) there
 nil_value-at P values (FindsText bytes end) there = nil-at P end (list_any (is_text bytes) values) there
 
--- the number of bytes that a pattern matches stands where it is sought
-pub pattern-at : (P : ℕ → Type 0) (form : PatternForm) (first : ℕ) (text : TextRead) → P first → AtEnd P (Told (pattern_find form first text))
-pattern-at P form first (DoesRead characters end) there = there
-pattern-at P form first HasBad there = tt
-pattern-at P form first IsCut there = tt
-pattern-at P form first IsBoxed there = tt
+-- the number of bytes that a pattern matches stands at its bit or at the next whole byte
+matched-at : (P : ℕ → Type 0) (bit width : ℕ) → P bit → P (aligned 8 bit) → P (matched_from bit width)
+matched-at P bit zero here next = here
+matched-at P bit (suc width) here next = next
+
+pub pattern-at : (P : ℕ → Type 0) (form : PatternForm) (bit : ℕ) (text : TextRead) → P bit → P (aligned 8 bit)
+    → AtEnd P (Told (pattern_find form bit text))
+pattern-at P form bit (DoesRead characters end) here next = matched-at P bit (matched_width form characters) here next
+pattern-at P form bit HasBad here next = tt
+pattern-at P form bit IsCut here next = tt
+pattern-at P form bit IsBoxed here next = tt
 
 pub default-at : (P : ℕ → Type 0) (end : ℕ) (v : Value) → P end → AtEnd P (Told (default_find end v))
 default-at P end (value.Int z) there = there

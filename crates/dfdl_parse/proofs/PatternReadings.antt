@@ -11,15 +11,15 @@ use Rattle.dfdl_grammar.specs.Framing.{aligned}
 use Rattle.dfdl_grammar.specs.Patterns.{most_sought}
 use Rattle.dfdl_texts.specs.Readings.{Answers as TextAnswers, found_shown as text_shown}
 use Rattle.dfdl_texts.specs.declared.found.Glance.{Glance as TextGlance}
-use Rattle.dfdl_grammar.specs.Leaves.{Find, pattern_find, sought}
+use Rattle.dfdl_grammar.specs.Leaves.{Find, pattern_find, sought, text_sought}
 use Rattle.dfdl_parse.specs.declared.leaf.Found.{Found}
 use Rattle.dfdl_parse.specs.declared.leaf.Scratch.{Scratch}
 use Rattle.dfdl_parse.specs.Patterned.{pattern_reached}
 use Rattle.dfdl_parse.specs.Steps.{Answers, found_shown}
 
-module _ (look : ℕ → Seen) (form : PatternForm) (first : ℕ) where
+module _ (look : ℕ → Seen) (form : PatternForm) (bit : ℕ) where
   behind-pattern : (r : Reached Text) (t : Tally)
-      → go_on look (λ text. Answer (pattern_find form first text)) r t ≡ record { reached = pattern_reached form first r; tally = t }
+      → go_on look (λ text. Answer (pattern_find form bit text)) r t ≡ record { reached = pattern_reached form bit r; tally = t }
   behind-pattern (Told text) t = refl
   behind-pattern TooFar t = refl
   behind-pattern Missing t = refl
@@ -27,26 +27,26 @@ module _ (look : ℕ → Seen) (form : PatternForm) (first : ℕ) where
   -- the answer of a pattern, by that of its text
   pub pattern-read : (text : Ask Text) (chars : List ℕ) (glance : TextGlance) (looks : ℕ) (scratch : Scratch) (found : Found)
       → TextAnswers (ask look text nothing) chars glance looks
-      → found_shown scratch found ≡ pattern_reached form first (text_shown chars glance.found)
-      → Answers (ask look (and_then text (λ text. Answer (pattern_find form first text))) nothing) scratch (record { found = found; far = glance.far }) looks
+      → found_shown scratch found ≡ pattern_reached form bit (text_shown chars glance.found)
+      → Answers (ask look (and_then text (λ text. Answer (pattern_find form bit text))) nothing) scratch (record { found = found; far = glance.far }) looks
   pattern-read text chars glance looks scratch found answers shown =
       let here : Reading Text = ask look text nothing in
-      let whole : ask look (and_then text (λ text. Answer (pattern_find form first text))) nothing
-      ≡ record { reached = pattern_reached form first here.reached; tally = here.tally } =
-      ask-then look (λ text. Answer (pattern_find form first text)) text nothing ∙ behind-pattern here.reached here.tally in
+      let whole : ask look (and_then text (λ text. Answer (pattern_find form bit text))) nothing
+      ≡ record { reached = pattern_reached form bit here.reached; tally = here.tally } =
+      ask-then look (λ text. Answer (pattern_find form bit text)) text nothing ∙ behind-pattern here.reached here.tally in
       record {
-        reached = ap (λ (r : Reading Find). r.reached) whole ∙ ap (pattern_reached form first) answers.reached ∙ sym shown;
+        reached = ap (λ (r : Reading Find). r.reached) whole ∙ ap (pattern_reached form bit) answers.reached ∙ sym shown;
         looks = ap (λ (r : Reading Find). r.tally.looks) whole ∙ answers.looks;
         far = ap (λ (r : Reading Find). r.tally.far) whole ∙ answers.far;
       }
 
--- the same from the next whole byte behind a bit on, up to the end of its box or of so many bits
+-- the same of a pattern at a bit, which is sought from the next whole byte on, up to the end of its box or of so many bits
 pub sought-read : (look : ℕ → Seen) (form : PatternForm) (bit stop first last : ℕ) → first ≡ aligned 8 bit → last ≡ min stop (first + most_sought)
     → (chars : List ℕ) (glance : TextGlance) (looks : ℕ) (scratch : Scratch) (found : Found)
     → TextAnswers (ask look (text_at form.encoding false extent.Front last (first / 8)) nothing) chars glance looks
-    → found_shown scratch found ≡ pattern_reached form first (text_shown chars glance.found)
-    → Answers (ask look (sought form (aligned 8 bit) stop) nothing) scratch (record { found = found; far = glance.far }) looks
+    → found_shown scratch found ≡ pattern_reached form bit (text_shown chars glance.found)
+    → Answers (ask look (sought form bit stop) nothing) scratch (record { found = found; far = glance.far }) looks
 sought-read look form bit stop first last at ends chars glance looks scratch found answers shown =
-    subst (λ (f : ℕ). Answers (ask look (sought form f stop) nothing) scratch (record { found = found; far = glance.far }) looks) at
-    (pattern-read look form first (text_at form.encoding false extent.Front (min stop (first + most_sought)) (first / 8)) chars glance looks scratch found
-    (subst (λ (l : ℕ). TextAnswers (ask look (text_at form.encoding false extent.Front l (first / 8)) nothing) chars glance looks) ends answers) shown)
+    pattern-read look form bit (text_sought form (aligned 8 bit) stop) chars glance looks scratch found
+    (subst (λ (f : ℕ). TextAnswers (ask look (text_sought form f stop) nothing) chars glance looks) at
+    (subst (λ (l : ℕ). TextAnswers (ask look (text_at form.encoding false extent.Front l (first / 8)) nothing) chars glance looks) ends answers)) shown

@@ -19,7 +19,7 @@ use Rattle.dfdl_texts.specs.declared.extent.Extent.TheVariants as extent
 use Rattle.dfdl_texts.proofs.Whole.{text-from}
 use Rattle.dfdl_grammar.specs.Framing.{aligned}
 use Rattle.dfdl_grammar.specs.Patterns.{most_sought}
-use Rattle.dfdl_grammar.specs.Leaves.{Find, Fails, FindsOctets, bits_of, bytes_spanned, empty_begins, field, find_in, nil_octets_find, nil_value_find, octets, pattern_find, program, program_for, text_begins, text_find, text_of_size}
+use Rattle.dfdl_grammar.specs.Leaves.{Find, Fails, FindsOctets, bits_of, bytes_spanned, empty_begins, field, find_in, nil_octets_find, nil_value_find, octets, pattern_find, program, program_for, text_begins, text_find, text_of_size, text_sought}
 
 -- looks that lie behind a byte lie behind one before it
 lower : {F : Type 0} (low k : ℕ) → low ≤ k → (a : Ask F) → AsksFrom k a → AsksFrom low a
@@ -84,8 +84,8 @@ program-from low (Default form) bit stop base = tt
 program-from low (NilValues form) bit stop base = tt
 program-from low (Pattern form) bit stop base =
     let first : ℕ = aligned 8 bit in
-    let text : Ask TextRead = text_at form.encoding false extent.Front (min stop (first + most_sought)) (first / 8) in
-    and_then-from low text (λ text. Answer (pattern_find form first text))
+    let text : Ask TextRead = text_sought form first stop in
+    and_then-from low text (λ text. Answer (pattern_find form bit text))
     (lower low (first / 8) (omega arith) text (text-from form.encoding false extent.Front (min stop (first + most_sought)) (first / 8))) (λ text. tt)
 
 pub program_for-from : (low : ℕ) (nil : Option (List Value)) (primitive : Primitive) (bit stop : ℕ) → low ≤ bit / 8

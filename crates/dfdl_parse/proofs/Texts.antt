@@ -1,5 +1,5 @@
 -- What a leaf finds ends at its first bit or behind it.
-use Rattle.std.proofs.Common.{◌≡◌, ℕ, zero, suc, ◌+◌, ◌-◌, ◌*◌, ◌/◌, ◌%◌, ◌≤◌, min, Bool, true, false, cond, nat_eq, refl, List, [], ◌∷◌, Option, Some, None, subst, sym, arith}
+use Rattle.std.proofs.Common.{◌≡◌, ℕ, zero, suc, ◌+◌, ◌-◌, ◌*◌, ◌/◌, ◌%◌, ◌≤◌, Bool, true, false, cond, nat_eq, refl, List, [], ◌∷◌, Option, Some, None, subst, sym, arith}
 use Rattle.dfdl_bits.specs.declared.window.Seen.{Seen}
 use Rattle.dfdl_bits.specs.declared.window.Seen.TheVariants.{Byte, End, NotYet, Over}
 use Rattle.dfdl_report.specs.declared.cause.ParseCause.TheVariants.{DataEnds, NotFilled, RequiredEmpty}
@@ -22,9 +22,8 @@ use Rattle.dfdl_looks.specs.Asks.{Ask, Answer, Reached, Told, TooFar, Missing, R
 use Rattle.dfdl_looks.specs.Tallies.{Tally, saw_byte, saw_end}
 use Rattle.dfdl_looks.proofs.Resumed.{on_seen}
 use Rattle.dfdl_looks.proofs.Sequels.{ask-then}
-use Rattle.dfdl_grammar.specs.Leaves.{Find, Fails, FindsOctets, bytes_spanned, default_find, field, find_in, is_no_size, nil_octets_find, nil_value_find, octets, pattern_find, program, program_for, text_behind, text_begins, text_find, text_of_size}
+use Rattle.dfdl_grammar.specs.Leaves.{Find, Fails, FindsOctets, bytes_spanned, default_find, field, find_in, is_no_size, nil_octets_find, nil_value_find, octets, pattern_find, program, program_for, text_behind, text_begins, text_find, text_of_size, text_sought}
 use Rattle.dfdl_grammar.specs.Framing.{aligned}
-use Rattle.dfdl_grammar.specs.Patterns.{most_sought}
 use Rattle.dfdl_terms.specs.declared.text.PatternForm.{PatternForm}
 use Rattle.dfdl_text_string.specs.Padding.{trimmed}
 use Rattle.dfdl_parse.proofs.Ends.{AtEnd, content-at, default-at, nil_octets-at, nil_value-at, number-at, packed-at, pattern-at, truth-at}
@@ -109,18 +108,18 @@ module _ (look : ℕ → Seen) where
   nil-ends form bit TooFar u ends = tt
   nil-ends form bit Missing u ends = tt
 
-  -- the number of bytes that a pattern matches stands where it is sought
-  found-pattern-ends : (form : PatternForm) (bit first : ℕ) → bit ≤ first → (r : Reached TextRead) (u : Tally)
-      → EndsBehind bit (go_on look (λ text. Answer (pattern_find form first text)) r u).reached
-  found-pattern-ends form bit first behind (Told text) u = pattern-at (λ e. bit ≤ e) form first text behind
-  found-pattern-ends form bit first behind TooFar u = tt
-  found-pattern-ends form bit first behind Missing u = tt
+  -- the number of bytes that a pattern matches stands at its bit or behind it
+  found-pattern-ends : (form : PatternForm) (bit : ℕ) (r : Reached TextRead) (u : Tally)
+      → EndsBehind bit (go_on look (λ text. Answer (pattern_find form bit text)) r u).reached
+  found-pattern-ends form bit (Told text) u = pattern-at (λ e. bit ≤ e) form bit text (omega arith) (omega arith)
+  found-pattern-ends form bit TooFar u = tt
+  found-pattern-ends form bit Missing u = tt
 
-  pattern-ends : (form : PatternForm) (bit first : ℕ) (text : Ask TextRead) (t : Tally) → bit ≤ first
-      → EndsBehind bit (ask look (and_then text (λ text. Answer (pattern_find form first text))) t).reached
-  pattern-ends form bit first text t behind =
-      subst (λ (r : Reading Find). EndsBehind bit r.reached) (sym (ask-then look (λ text. Answer (pattern_find form first text)) text t))
-      (found-pattern-ends form bit first behind (ask look text t).reached (ask look text t).tally)
+  pattern-ends : (form : PatternForm) (bit : ℕ) (text : Ask TextRead) (t : Tally)
+      → EndsBehind bit (ask look (and_then text (λ text. Answer (pattern_find form bit text))) t).reached
+  pattern-ends form bit text t =
+      subst (λ (r : Reading Find). EndsBehind bit r.reached) (sym (ask-then look (λ text. Answer (pattern_find form bit text)) text t))
+      (found-pattern-ends form bit (ask look text t).reached (ask look text t).tally)
 
   program-ends : (primitive : Primitive) (bit stop : ℕ) (t : Tally) → EndsBehind bit (ask look (program primitive bit stop) t).reached
   program-ends (Integer form) bit stop t =
@@ -139,9 +138,7 @@ module _ (look : ℕ → Seen) where
       subst (λ (r : Reading Find). EndsBehind bit r.reached) (sym (ask-then look (λ find. Answer (nil_octets_find form.nil find)) bytes t))
       (nil-ends form.nil bit (ask look bytes t).reached (ask look bytes t).tally (octets-end form.octets bit t))
   program-ends (NilValues form) bit stop t = tt
-  program-ends (Pattern form) bit stop t =
-      let first : ℕ = aligned 8 bit in
-      pattern-ends form bit first (text_at form.encoding false extent.Front (min stop (first + most_sought)) (first / 8)) t (omega arith)
+  program-ends (Pattern form) bit stop t = pattern-ends form bit (text_sought form (aligned 8 bit) stop) t
   program-ends (Default form) bit stop t = default-ends (is_no_size form.size)
     where
       default-ends : (none : Bool) → EndsBehind bit (Told (cond none (default_find bit form.value) (Fails RequiredEmpty)))

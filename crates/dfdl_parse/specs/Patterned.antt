@@ -5,8 +5,8 @@ use Rattle.dfdl_terms.specs.declared.text.PatternForm.{PatternForm}
 use Rattle.dfdl_texts.specs.Texts.{Text}
 use Rattle.dfdl_grammar.specs.Leaves.{Find, pattern_find}
 
--- what a pattern comes to that is sought from a bit on, by what its text comes to
+-- what a pattern at a bit comes to, by what its text comes to
 abbrev pub pattern_reached : PatternForm → ℕ → Reached Text → Reached Find
-pattern_reached form first (Told text) = Told (pattern_find form first text)
-pattern_reached form first TooFar = TooFar
-pattern_reached form first Missing = Missing
+pattern_reached form bit (Told text) = Told (pattern_find form bit text)
+pattern_reached form bit TooFar = TooFar
+pattern_reached form bit Missing = Missing

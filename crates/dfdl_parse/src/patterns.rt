@@ -1,8 +1,7 @@
 // The number of bytes that a pattern matches.
 ghost use Rattle.std.specs.Prelude.{◌≡◌, ℕ, ◌+◌, ◌-◌, ◌*◌, ◌/◌, ◌^◌, ◌≤◌, ◌&&◌, nat_le, nat_lt, IfOk, OnOk, if◌then◌else◌, option_map, string_bytes};
 ghost use Rattle.dfdl_bits.specs.Window.{end_of, seen_at};
-ghost use Rattle.dfdl_grammar.specs.Framing.{aligned as aligned_bit};
-ghost use Rattle.dfdl_grammar.specs.Leaves.{sought};
+ghost use Rattle.dfdl_grammar.specs.Leaves.{matched_from, sought};
 ghost use Rattle.dfdl_grammar.specs.Patterns.{matched_width, width_between, width_in, width_of_match};
 ghost use Rattle.dfdl_looks.specs.Asks.{ask};
 ghost use Rattle.dfdl_looks.specs.Tallies.{nothing};
@@ -10,7 +9,7 @@ ghost use Rattle.dfdl_region.specs.Bytes.{utf8_of};
 ghost use Rattle.dfdl_texts.specs.Readings.{found_shown as text_shown};
 ghost use Rattle.dfdl_parse.specs.declared.leaf.Scratch.{Scratch as AnyScratch};
 ghost use Rattle.dfdl_parse.specs.Patterned.{pattern_reached};
-ghost use Rattle.dfdl_parse.specs.Steps.{Answers, HasPiece, IsPlain, IsWithin, found_shown};
+ghost use Rattle.dfdl_parse.specs.Steps.{Answers, HasPiece, IsWithin, found_shown};
 
 use crate::framing::aligned;
 use crate::leaf::{Found, Glance, Scratch};
@@ -28,8 +27,8 @@ use std::sync::ledger::Ledger;
 // A pattern is sought in at most so many bits of the data.
 const MOST_SOUGHT: u64 = 524_288;
 
-/// Seeks a pattern from the next whole byte behind a bit on, in a box that ends at bit `stop`, up to the first bad unit. Its
-/// characters stand in the scratch then. 'Lengths' (lengthKind pattern).
+/// Seeks the pattern of a content that begins at a bit from the next whole byte on, in a box that ends at bit `stop`, up to the
+/// first bad unit. The characters stand in the scratch then. 'Lengths' (lengthKind pattern).
 pub(crate) fn read_pattern<L: Ledger>(
     form: &PatternForm,
     bit: u64,
@@ -41,7 +40,7 @@ pub(crate) fn read_pattern<L: Ledger>(
     requires base { sight.now.base ≤ bit / 8 }
     requires at { bit ≤ 8 * end_of sight.now }
     requires bound { end_of sight.now ≤ 2 ^ 60 }
-    ensures answers { IfOk result (λ g. Answers (ask (seen_at sight.now) (sought form.now (aligned_bit 8 bit) stop) nothing) scratch.new g (steps.new - steps.old)) }
+    ensures answers { IfOk result (λ g. Answers (ask (seen_at sight.now) (sought form.now bit stop) nothing) scratch.new g (steps.new - steps.old)) }
     ensures steps { steps.old ≤ steps.new }
     ensures within { IfOk result (λ g. IsWithin g.found (end_of sight.now)) }
     ensures pieces { IfOk result (λ g. HasPiece g.found scratch.new) }
@@ -58,30 +57,32 @@ pub(crate) fn read_pattern<L: Ledger>(
         &mut scratch.characters,
         steps,
     )?;
-    let found = pattern_found(form, first, text.found, scratch)?;
+    let found = pattern_found(form, bit, text.found, scratch)?;
     Ok(Glance {
         found,
         far: text.far,
     })
 }
 
-// What a pattern is found as that is sought from a bit on in a text of these characters.
+// What the pattern of a content that begins at a bit is found as, in a text of these characters.
 fn pattern_found(
     form: &PatternForm,
-    first: u64,
+    bit: u64,
     text: TextFound,
     scratch: &mut Scratch,
 ) -> Result<Found, AllocError>
+    requires { bit ≤ 2 ^ 63 }
     ensures shown { IfOk result (λ found. (after : AnyScratch) → found_shown after found
-        ≡ pattern_reached form.now first (text_shown scratch.old.characters.items text)) }
-    ensures plain { IfOk result (λ found. IsPlain found first) }
+        ≡ pattern_reached form.now bit (text_shown scratch.old.characters.items text)) }
+    ensures within { IfOk result (λ found. (last : ℕ) → bit ≤ 8 * last → IsWithin found last) }
+    ensures piece { IfOk result (λ found. (after : AnyScratch) → HasPiece found after) }
 {
     match text {
         TextFound::Reads { .. } => {
             let width = matched_width(form, scratch)?;
             Ok(Found::Reads {
                 content: Content::Unsigned(width),
-                end: first,
+                end: matched_from(bit, width),
             })
         }
         TextFound::HasBad => Ok(Found::Fails(ParseCause::BadCharacter)),
@@ -90,6 +91,15 @@ fn pattern_found(
         TextFound::TooFar => Ok(Found::Past),
         TextFound::NotYet => Ok(Found::NotYet),
     }
+}
+
+// The bit at which a content begins of which a pattern matches so many bytes.
+fn matched_from(bit: u64, width: u128) -> u64
+    requires { bit ≤ 2 ^ 63 }
+    ensures from { result ≡ matched_from bit width }
+    ensures within { (last : ℕ) → bit ≤ 8 * last → result ≤ 8 * last }
+{
+    if width == 0 { bit } else { aligned(8, bit) }
 }
 
 // How many bytes of the data the pattern matches, of which the scratch has the characters.

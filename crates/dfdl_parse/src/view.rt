@@ -123,7 +123,7 @@ pub(crate) fn content_begins(leaf: Leaf<'_>, bit: u64) -> u64
         Leaf::NilOctets { .. } => bit,
         Leaf::Default { .. } => bit,
         Leaf::NilValues(_) => bit,
-        Leaf::Pattern(_) => aligned(8, bit),
+        Leaf::Pattern(_) => bit,
     }
 }
 

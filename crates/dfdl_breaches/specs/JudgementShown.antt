@@ -1,5 +1,6 @@
 -- Mirror for the prover: what is told of a component, by what the rules see of it.
 use Rattle.dfdl_checks.specs.Boxes.{size_of_box}
+use Rattle.dfdl_checks.specs.Delimiters.{delimiters_of}
 use Rattle.dfdl_checks.specs.Framing.{framing_of}
 use Rattle.dfdl_checks.specs.Judged.{Judged}
 use Rattle.dfdl_checks.specs.Numbers.{primitive_of}
@@ -14,6 +15,7 @@ judgement_of j = record {
   breach = breach_of_component j;
   primitive = primitive_of j;
   framing = framing_of j;
+  markup = delimiters_of j;
   size = size_of_box j;
   prefix = form_before j;
   others = representations_of j;

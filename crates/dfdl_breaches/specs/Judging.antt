@@ -1,5 +1,5 @@
--- What is wrong at each component of a schema by itself, how the values of its simple elements lie in the data, which fill and
--- which box stand around its content, and which other representations it has.
+-- What is wrong at each component of a schema by itself, how the values of its simple elements lie in the data, which fill, which
+-- delimiters and which box stand around its content, and which other representations it has.
 use Rattle.std.specs.Prelude.{ℕ, List, Option, None, Some, Bool, if◌then◌else◌}
 use Rattle.dfdl_documents.specs.Documents.{SchemaDocument}
 use Rattle.dfdl_components.specs.declared.site.Site.{Site}
@@ -12,6 +12,8 @@ use Rattle.dfdl_checks.specs.Rules.{breach_of_component}
 use Rattle.dfdl_checks.specs.declared.tried.OtherRepresentations.{OtherRepresentations}
 use Rattle.dfdl_checks.specs.declared.prefixes.PrefixForm.{PrefixForm}
 use Rattle.dfdl_checks.specs.Boxes.{size_of_box}
+use Rattle.dfdl_checks.specs.Delimiters.{delimiters_of, no_delimiters}
+use Rattle.dfdl_checks.specs.declared.delimiters.Markup.{Markup}
 use Rattle.dfdl_checks.specs.Framing.{framing_of}
 use Rattle.dfdl_checks.specs.Numbers.{primitive_of}
 use Rattle.dfdl_checks.specs.declared.purpose.Purpose.{Purpose}
@@ -52,6 +54,10 @@ primitive_at purpose refused documents own = primitive_of (judged_at purpose ref
 abbrev pub framing_at : Purpose → (Site → Bool) → List SchemaDocument → Site → Framing
 framing_at purpose refused documents own = framing_of (judged_at purpose refused documents own)
 
+-- the initiator and the terminator of a component
+abbrev pub markup_at : Purpose → (Site → Bool) → List SchemaDocument → Site → Markup
+markup_at purpose refused documents own = delimiters_of (judged_at purpose refused documents own)
+
 -- how many bits the box has around the content of a component, if it has one
 abbrev pub size_at : Purpose → (Site → Bool) → List SchemaDocument → Site → Option ℕ
 size_at purpose refused documents own = size_of_box (judged_at purpose refused documents own)
@@ -79,6 +85,7 @@ no_judgement = record {
   breach = None;
   primitive = None;
   framing = no_fill;
+  markup = no_delimiters;
   size = None;
   prefix = None;
   others = no_representations;
@@ -92,6 +99,7 @@ judgement_at purpose refused documents own =
       breach = breach_at purpose refused documents own;
       primitive = primitive_at purpose refused documents own;
       framing = framing_at purpose refused documents own;
+      markup = markup_at purpose refused documents own;
       size = size_at purpose refused documents own;
       prefix = form_of_prefix purpose refused documents own;
       others = others_at purpose refused documents own;

@@ -1,5 +1,5 @@
 // What is told of a component.
-use dfdl_checks::{Breach, OtherRepresentations, PrefixForm};
+use dfdl_checks::{Breach, Markup, OtherRepresentations, PrefixForm};
 use dfdl_terms::{Framing, Primitive};
 
 /// What is told of an element of a schema's documents.
@@ -11,6 +11,8 @@ pub struct Judgement {
     pub primitive: Option<Primitive>,
     /// The fill around its content.
     pub framing: Framing,
+    /// Its initiator and its terminator.
+    pub markup: Markup,
     /// How many bits the box has around the content of a complex element with a length of its own.
     pub size: Option<u64>,
     /// How its length prefix lies in the data, if it has one.

@@ -9,8 +9,8 @@ ghost use Rattle.dfdl_breaches.specs.JudgementShown.{judgement_of};
 
 use crate::judgement::Judgement;
 use dfdl_checks::{
-    PrefixForm, Subject, breach, framing, length_pattern, other_representations, pattern_encoding,
-    prefix, primitive, size_of_box,
+    PrefixForm, Subject, breach, delimiters_at, framing, length_pattern, other_representations,
+    pattern_encoding, prefix, primitive, size_of_box,
 };
 use dfdl_edge::{PatternRefusal, Patterns};
 use dfdl_forms::Encoding;
@@ -55,12 +55,14 @@ fn told_of(
 {
     let breach = breach(alloc, subject)?;
     let primitive = primitive(alloc, subject)?;
+    let markup = delimiters_at(alloc, subject)?;
     let prefix = prefix(alloc, subject)?;
     let others = other_representations(alloc, subject)?;
     Ok(Judgement {
         breach,
         primitive,
         framing: framing(subject),
+        markup,
         size: size_of_box(subject),
         prefix: form_or(prefix, pattern),
         others,

@@ -21,7 +21,7 @@ use crate::prefixes::{lent, prefix_at};
 use crate::root::root_of;
 use crate::sites::sites_of;
 use dfdl_chains::{chain_sites, facts_at, is_component, kind_at};
-use dfdl_checks::{OtherRepresentations, Purpose, Subject, bit_order};
+use dfdl_checks::{Markup, OtherRepresentations, Purpose, Subject, bit_order};
 use dfdl_components::{Schema, Site};
 use dfdl_edge::Patterns;
 use dfdl_forms::BitOrder;
@@ -140,11 +140,16 @@ fn nothing_told() -> Judgement
         breach: None,
         primitive: None,
         framing: Framing::none(),
+        markup: Markup {
+            initiator: None,
+            terminator: None,
+        },
         size: None,
         prefix: None,
         others: OtherRepresentations {
             nil: None,
             empty: None,
+            refuses_empty: false,
             are_several: false,
         },
     }

@@ -136,6 +136,7 @@ fn fill_of(alloc: Global, framing: Framing) -> Result<String, AllocError> {
         leading_skip,
         alignment,
         trailing_skip,
+        ..
     } = framing;
     if leading_skip == 0 && alignment == 1 && trailing_skip == 0 {
         return Ok(String::new(alloc));

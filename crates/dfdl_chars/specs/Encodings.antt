@@ -1,5 +1,5 @@
 -- The bytes of a character in an encoding.
-use Rattle.std.specs.Prelude.{ℕ, ◌/◌, ◌%◌, nat_lt, if◌then◌else◌, List, [], ◌∷◌, ◌++◌, Option, Some, None, encode_utf8}
+use Rattle.std.specs.Prelude.{ℕ, ◌/◌, ◌%◌, nat_lt, if◌then◌else◌, List, [], ◌∷◌, ◌++◌, length, Option, Some, None, encode_utf8}
 use Rattle.std.specs.Char.Escape.{encode_utf16}
 use Rattle.std.specs.List.{flat_map}
 use Rattle.dfdl_forms.specs.declared.order.ByteOrder.{ByteOrder}
@@ -38,3 +38,12 @@ joined None ys = None
 abbrev pub encoded_text : Encoding → List ℕ → Option (List ℕ)
 encoded_text enc [] = Some []
 encoded_text enc (c ∷ cs) = joined (encoded_of enc c) (encoded_text enc cs)
+
+-- how many bytes there are, if there are any
+abbrev pub count_of : Option (List ℕ) → ℕ
+count_of None = 0
+count_of (Some bytes) = length bytes
+
+-- how many bytes a character has in an encoding
+abbrev pub width_in : Encoding → ℕ → ℕ
+width_in encoding c = count_of (encoded_of encoding c)

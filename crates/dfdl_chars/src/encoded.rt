@@ -2,7 +2,7 @@
 ghost use Rattle.std.specs.Prelude.{◌≡◌, ◌↔◌, ◌≤◌, [], ◌∷◌, take, Some, None, IfOk, IsErr, OnErr, encode_utf8};
 ghost use Rattle.std.specs.Char.Escape.{encode_utf16};
 ghost use Rattle.std.specs.List.{flat_map};
-ghost use Rattle.dfdl_chars.specs.Encodings.{encoded_of, unit_bytes_of};
+ghost use Rattle.dfdl_chars.specs.Encodings.{encoded_of, unit_bytes_of, width_in};
 
 use dfdl_bits::ByteOrder;
 use dfdl_forms::Encoding;
@@ -27,6 +27,15 @@ pub fn encode(enc: Encoding, c: char, into: &mut [u8; 4]) -> Result<usize, NoSuc
         Encoding::Utf16Be => Ok(put_utf16(c, ByteOrder::Big, into)),
         Encoding::Utf16Le => Ok(put_utf16(c, ByteOrder::Little, into)),
     }
+}
+
+/// How many bytes a character has: none where the encoding lacks it.
+pub fn width_in(enc: Encoding, c: char) -> usize
+    ensures width { result ≡ width_in enc c }
+    ensures few { result ≤ 4 }
+{
+    let mut bytes = [0; 4];
+    encode(enc, c, &mut bytes).unwrap_or(0)
 }
 
 fn put_utf8(c: char, into: &mut [u8; 4]) -> usize

@@ -14,7 +14,7 @@ mod utf8;
 
 pub use decode::{Chars, decode_at};
 pub use dfdl_forms::Encoding;
-pub use encoded::{NoSuchChar, encode};
+pub use encoded::{NoSuchChar, encode, width_in};
 pub use run::decode_run;
 pub use text::{TextFault, encode_run};
 

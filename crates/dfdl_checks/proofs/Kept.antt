@@ -6,8 +6,10 @@ use Rattle.dfdl_report.specs.declared.cause.SchemaCause.TheVariants as causes
 use Rattle.dfdl_report.specs.declared.place.Place.{Place}
 use Rattle.dfdl_checks.specs.Rules.{breach_of, first_breach, rules, is_unbuilt, property_twice, is_property_missing, is_value_not_carried, is_expression_not_allowed, is_literal_malformed, is_type_not_carried, is_max_length_missing, is_length_kind_not_allowed, is_length_in_characters, is_length_out_of_range, is_prefix_type_not_allowed, is_prefix_not_whole, is_pattern_refused, are_orders_apart, is_second_bit_order, is_character_not_encoded, is_alignment_not_allowed, is_pattern_malformed, are_codes_malformed, are_truths_malformed, is_pad_no_character, is_pad_malformed, is_separator_malformed, are_truth_texts_malformed, is_pad_not_encoded, is_separator_not_encoded, are_truth_texts_not_encoded, is_separator_other, are_separators_unfit, is_base_unfit, is_prefix_type_missing}
 use Rattle.dfdl_checks.specs.Defaults.{is_default_not_allowed}
+use Rattle.dfdl_checks.specs.Delimiters.{is_delimiter_empty, is_delimiter_malformed, is_delimiter_not_encoded}
 use Rattle.dfdl_checks.specs.FillBytes.{is_fill_malformed, is_fill_other}
 use Rattle.dfdl_checks.specs.Flaws.{has_flaw}
+use Rattle.dfdl_checks.specs.NewLines.{is_new_line_expression, is_new_line_other}
 use Rattle.dfdl_checks.specs.NilValues.{is_nil_not_allowed}
 use Rattle.dfdl_checks.specs.Nils.{is_nil_malformed, is_nil_not_encoded}
 use Rattle.dfdl_checks.specs.declared.flaw.Flaw.TheVariants as flaws
@@ -22,6 +24,7 @@ pub record IsKept (s : Judged) : Type 0 where
   pub carried : is_value_not_carried s ≡ false
   pub allowed : is_expression_not_allowed s ≡ false
   pub literals : is_literal_malformed s ≡ false
+  pub delimiters : is_delimiter_empty s ≡ false
   pub typed : is_type_not_carried s.kind ≡ false
   pub max_length : is_max_length_missing s ≡ false
   pub length_kind : is_length_kind_not_allowed s ≡ false
@@ -62,7 +65,8 @@ keeps-all s none =
     let carried_at = first-kept causes.PropertyNotCarried _ _ given_at.1 in
     let allowed_at = first-kept causes.ExpressionNotAllowed _ _ carried_at.1 in
     let literals_at = first-kept causes.LiteralMalformed _ _ allowed_at.1 in
-    let typed_at = first-kept causes.TypeNotCarried _ _ literals_at.1 in
+    let delimiters_at = first-kept causes.EmptyDelimiter _ _ literals_at.1 in
+    let typed_at = first-kept causes.TypeNotCarried _ _ delimiters_at.1 in
     let max_length_at = first-kept causes.MaxLengthMissing _ _ typed_at.1 in
     let length_kind_at = first-kept causes.LengthKind _ _ max_length_at.1 in
     let length_units_at = first-kept causes.LengthUnits _ _ length_kind_at.1 in
@@ -87,6 +91,7 @@ keeps-all s none =
       carried = itself-kept _ s.place carried_at.0;
       allowed = itself-kept _ s.place allowed_at.0;
       literals = itself-kept _ s.place literals_at.0;
+      delimiters = itself-kept _ s.place delimiters_at.0;
       typed = itself-kept _ s.place typed_at.0;
       max_length = itself-kept _ s.place max_length_at.0;
       length_kind = itself-kept _ s.place length_kind_at.0;
@@ -114,15 +119,18 @@ first-of-two a b none = grind (arith, none)
 -- the literals of texts are some
 pub literals-kept : (s : Judged) → IsKept s → (is_pad_malformed s || is_separator_malformed s || are_truth_texts_malformed s) ≡ false
 literals-kept s kept =
-    others (is_pad_malformed s) (is_separator_malformed s) (is_fill_malformed s) (are_truth_texts_malformed s) (is_nil_malformed s) kept.literals
+    others (is_pad_malformed s) (is_separator_malformed s) (is_fill_malformed s) (are_truth_texts_malformed s) (is_nil_malformed s) (is_delimiter_malformed s)
+    kept.literals
   where
-    others : (a b c d e : Bool) → (a || b || c || d || e) ≡ false → (a || b || d) ≡ false
-    others a b c d e none = grind (arith, none)
+    others : (a b c d e f : Bool) → (a || b || c || d || e || f) ≡ false → (a || b || d) ≡ false
+    others a b c d e f none = grind (arith, none)
 
 -- the encoding has the characters of texts
 pub encoded-kept : (s : Judged) → IsKept s → (is_pad_not_encoded s || is_separator_not_encoded s || are_truth_texts_not_encoded s) ≡ false
 encoded-kept s kept =
-    first-of-two (is_pad_not_encoded s || is_separator_not_encoded s || are_truth_texts_not_encoded s) (is_nil_not_encoded s) kept.encoded
+    first-of-two (is_pad_not_encoded s || is_separator_not_encoded s || are_truth_texts_not_encoded s) (is_nil_not_encoded s)
+    (first-of-two (is_pad_not_encoded s || is_separator_not_encoded s || are_truth_texts_not_encoded s || is_nil_not_encoded s) (is_delimiter_not_encoded s)
+    kept.encoded)
 
 -- values but those of fill bytes are carried
 abbrev pub AreValuesKept : Judged → Type 0
@@ -132,7 +140,13 @@ AreValuesKept s =
 pub values-kept : (s : Judged) → IsKept s → AreValuesKept s
 values-kept s kept =
     first-of-two (has_flaw flaws.NotCarried s || is_separator_other s || are_separators_unfit s || is_base_unfit s || is_prefix_type_missing s) (is_fill_other s)
-    kept.carried
+    (first-of-two
+    (has_flaw flaws.NotCarried s || is_separator_other s || are_separators_unfit s || is_base_unfit s || is_prefix_type_missing s || is_fill_other s)
+    (is_new_line_other s) kept.carried)
+
+-- no property that applies has an expression where none may stand
+pub expressions-kept : (s : Judged) → IsKept s → has_flaw flaws.Expression s ≡ false
+expressions-kept s kept = first-of-two (has_flaw flaws.Expression s) (is_new_line_expression s) kept.allowed
 
 -- where none of some holds, the second doesn't
 pub second-fails : (a b c d e : Bool) → (a || b || c || d || e) ≡ false → b ≡ false

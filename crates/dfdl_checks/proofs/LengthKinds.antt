@@ -123,7 +123,7 @@ unfolding applicability_table property_table
 number-length s kept binary = number-kind s.purpose _ _ kinds not-by-content
   where
     kinds : HasBuilt kind_row (built_for s.purpose number_kinds) (told_at s (codes "lengthKind"))
-    kinds = built-by s kept 9 number_kinds refl binary _ refl refl
+    kinds = built-by s kept 10 number_kinds refl binary _ refl refl
 
     first-of : (a b c d e : Bool) → a ≡ true → ((a && (b || c)) || d || e) ≡ false → b ≡ false
     first-of a b c d e x y = grind (arith, x, y)
@@ -139,7 +139,7 @@ unfolding applicability_table property_table
 boolean-length s kept binary = boolean-kind s.purpose _ _ kinds not-delimited
   where
     kinds : HasBuilt kind_row (built_for s.purpose boolean_kinds) (told_at s (codes "lengthKind"))
-    kinds = built-by s kept 10 boolean_kinds refl binary _ refl refl
+    kinds = built-by s kept 11 boolean_kinds refl binary _ refl refl
 
     second-of : (a b c d : Bool) → b ≡ true → (a || (b && c) || d) ≡ false → c ≡ false
     second-of a b c d x y = grind (arith, x, y)
@@ -155,4 +155,4 @@ unfolding applicability_table property_table
 boxed-length s kept boxed = boxed-kind s.purpose _ _ kinds
   where
     kinds : HasBuilt kind_row (built_for s.purpose boxed_kinds) (told_at s (codes "lengthKind"))
-    kinds = built-by s kept 8 boxed_kinds refl boxed _ refl refl
+    kinds = built-by s kept 9 boxed_kinds refl boxed _ refl refl

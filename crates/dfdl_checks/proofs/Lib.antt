@@ -22,6 +22,8 @@ pub mod SoundPrefixes
 pub mod SoundPatterns
 pub mod PatternBounds
 pub mod SoundNils
+pub mod DelimiterTexts
+pub mod SoundDelimiters
 pub mod Made
 pub mod Alike
 pub mod AlikeChains

@@ -46,7 +46,7 @@ constant : (s : Judged) → IsKept s → is_explicit_binary s ≡ true → is_so
 unfolding applicability_table property_table
 constant s kept explicit =
     some-length (unit_bits (told_at s (codes "lengthUnits"))) _
-    (number-told _ _ (built-at s kept 11 (codes "length") bearers.ExplicitBinaries EachNumber refl explicit _ refl refl))
+    (number-told _ _ (built-at s kept 12 (codes "length") bearers.ExplicitBinaries EachNumber refl explicit _ refl refl))
 
 -- the value that is told, or nothing
 abbrev written-in : Told → List ℕ
@@ -77,7 +77,7 @@ places s sound number = by (has_point (form_of sound.simple)) refl
     decimal : has_point (form_of sound.simple) ≡ true → is_some (places_told (told_at s (codes "binaryDecimalVirtualPoint"))) ≡ true
     decimal point =
         some-places (codes "binaryDecimalVirtualPoint") _
-        (no-flaw s sound.kept 59 (codes "binaryDecimalVirtualPoint") bearers.BinaryDecimals EveryValue refl
+        (no-flaw s sound.kept 61 (codes "binaryDecimalVirtualPoint") bearers.BinaryDecimals EveryValue refl
         (all-hold _ _ (sound.form.decimal ∙ point) number) _ refl)
         (once-at s sound.kept (codes "binaryDecimalVirtualPoint") _ refl)
 

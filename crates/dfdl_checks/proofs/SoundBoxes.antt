@@ -37,7 +37,7 @@ number-told r t has =
 own-number : (s : Judged) → IsKept s → is_explicit_box s ≡ true → is_some (number_told (told_at s (codes "length"))) ≡ true
 unfolding applicability_table property_table
 own-number s kept explicit =
-    number-told _ _ (built-at s kept 12 (codes "length") bearers.ExplicitBoxes EachNumber refl explicit _ refl refl)
+    number-told _ _ (built-at s kept 13 (codes "length") bearers.ExplicitBoxes EachNumber refl explicit _ refl refl)
 
 -- an implicit one is that of the type
 type-number : (s : Judged) → IsKept s → is_implicit_box s ≡ true → is_some s.facts.max_length ≡ true

@@ -20,6 +20,7 @@ use Rattle.dfdl_checks.proofs.Primitives.{IsOf, of-component}
 use Rattle.dfdl_checks.proofs.Sound.{has-primitive}
 use Rattle.dfdl_checks.proofs.SoundBoxes.{encoding-told, some-mapped}
 use Rattle.dfdl_checks.proofs.SoundPads.{some-single}
+use Rattle.dfdl_checks.specs.Delimiters.{is_delimiter_malformed}
 use Rattle.dfdl_checks.specs.Encodings.{encoding_told}
 use Rattle.dfdl_checks.specs.Judged.{Judged}
 use Rattle.dfdl_checks.specs.Nils.{are_literals_malformed, is_length_fixed, is_nil_by_character, is_nil_by_literals, is_nil_by_value, is_nil_unfit, literals_told, nil_character, nil_form_by, nil_form_of, nil_literals, nil_texts}
@@ -79,7 +80,7 @@ module _ (s : Judged) (kept : IsKept s) (nillable : is_nillable s ≡ true) wher
   unfolding applicability_table property_table
   one-kind =
       one-of-three (codes "literalValue") (codes "literalCharacter") (codes "logicalValue") (codes "nilKind") _
-      (built-at s kept 60 (codes "nilKind") bearers.NillableElements EveryValue refl nillable _ refl refl)
+      (built-at s kept 62 (codes "nilKind") bearers.NillableElements EveryValue refl nillable _ refl refl)
 
   by-character : is_nil_by_value s ≡ false → is_nil_by_literals s ≡ false → is_nil_by_character s ≡ true
   by-character no-value other =
@@ -92,15 +93,16 @@ module _ (s : Judged) (kept : IsKept s) (nillable : is_nillable s ≡ true) wher
   -- its texts are some
   well-formed : (((is_nil_by_literals s || is_nil_by_value s) && are_literals_malformed (told_at s (codes "nilValue")))
       || (is_nil_by_character s && is_malformed (nil_character s))) ≡ false
-  well-formed = fifth (is_pad_malformed s) (is_separator_malformed s) (is_fill_malformed s) (are_truth_texts_malformed s) _ kept.literals
+  well-formed =
+      fifth (is_pad_malformed s) (is_separator_malformed s) (is_fill_malformed s) (are_truth_texts_malformed s) _ (is_delimiter_malformed s) kept.literals
     where
-      fifth : (a b c d e : Bool) → (a || b || c || d || e) ≡ false → e ≡ false
-      fifth a b c d e none = grind (arith, none)
+      fifth : (a b c d e f : Bool) → (a || b || c || d || e || f) ≡ false → e ≡ false
+      fifth a b c d e f none = grind (arith, none)
 
   as-literals : (is_nil_by_literals s || is_nil_by_value s) ≡ true → is_some (nil_literals s) ≡ true
   unfolding applicability_table property_table
   as-literals literals =
-      some-literals (codes "nilValue") _ (built-at s kept 61 (codes "nilValue") bearers.NillableElements EveryValue refl nillable _ refl refl)
+      some-literals (codes "nilValue") _ (built-at s kept 63 (codes "nilValue") bearers.NillableElements EveryValue refl nillable _ refl refl)
       (first (is_nil_by_literals s || is_nil_by_value s) _ _ literals well-formed)
     where
       first : (a b c : Bool) → a ≡ true → ((a && b) || c) ≡ false → b ≡ false

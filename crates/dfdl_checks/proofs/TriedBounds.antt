@@ -11,13 +11,12 @@ use Rattle.dfdl_value.specs.declared.value.Value.{Value}
 use Rattle.dfdl_checks.proofs.BoxBounds.{none-some, some-is}
 use Rattle.dfdl_checks.proofs.Contents.{ArePatternsBounded}
 use Rattle.dfdl_checks.proofs.Primitives.{bounded}
-use Rattle.dfdl_checks.specs.Defaults.{empty_value}
 use Rattle.dfdl_checks.specs.Judged.{Judged}
 use Rattle.dfdl_checks.specs.Nils.{is_nil_by_value, nil_form_of}
 use Rattle.dfdl_checks.specs.NilValues.{nil_values}
 use Rattle.dfdl_checks.specs.Numbers.{primitive_of}
 use Rattle.dfdl_checks.specs.Prefixes.{size_of}
-use Rattle.dfdl_checks.specs.Representations.{can_be_empty, default_in, nil_by, nil_in, nil_octets, no_representations, representations_by, representations_for, representations_of}
+use Rattle.dfdl_checks.specs.Representations.{can_be_empty, default_in, nil_by, nil_in, nil_octets, no_representations, representations_by, representations_for, representations_of, told_of_nothing}
 use Rattle.dfdl_checks.specs.declared.purpose.Purpose.{Purpose}
 use Rattle.dfdl_checks.specs.declared.purpose.Purpose.TheVariants.{Parsing, Unparsing}
 use Rattle.dfdl_checks.specs.declared.subject.Kind.{Kind}
@@ -100,7 +99,7 @@ module _ (patterns : ArePatternsBounded) (s : Judged) (q : Primitive) (written :
 
   empty-of-kind : (kind : Kind) (o : Option Primitive) → primitive_of s ≡ o → (representations_by s kind o).empty ≡ Some q → IsPrimitive q
   empty-of-kind (SimpleElement simple) (Some p) told is =
-      empty-of-value (size_of p) (can_be_empty s (size_of p)) (empty_value s simple) (size-bounded p (bounded patterns s p told)) is
+      empty-of-value (size_of p) (can_be_empty s (size_of p)) (told_of_nothing s simple) (size-bounded p (bounded patterns s p told)) is
   empty-of-kind (SimpleElement simple) None told is = absurd (none-some _ is)
   empty-of-kind ComplexElement o told is = absurd (none-some _ is)
   empty-of-kind UncarriedElement o told is = absurd (none-some _ is)

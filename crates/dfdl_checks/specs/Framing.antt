@@ -1,5 +1,5 @@
 -- The fill around the content of a component without a breach, in bits ('Framing').
-use Rattle.std.specs.Prelude.{ℕ, List, Bool, ◌*◌, ◌&&◌, not, is_some, codes, if◌then◌else◌}
+use Rattle.std.specs.Prelude.{ℕ, List, Bool, ◌*◌, ◌&&◌, not, None, is_some, codes, if◌then◌else◌}
 use Rattle.std.specs.Option.{unwrap_or}
 use Rattle.dfdl_forms.specs.declared.simple.Simple.{Simple}
 use Rattle.dfdl_forms.specs.declared.simple.Simple.TheVariants.{Boolean, Short, Int as IntType, Long, UnsignedShort, UnsignedInt, UnsignedLong}
@@ -82,6 +82,8 @@ abbrev pub fill_of : Judged → Framing
 fill_of subject = record {
   leading_skip = skip_of subject (codes "leadingSkip");
   alignment = alignment_of subject;
+  initiator = None;
+  terminator = None;
   trailing_skip = skip_of subject (codes "trailingSkip");
 }
 

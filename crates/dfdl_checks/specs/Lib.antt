@@ -14,6 +14,8 @@ pub mod FillBytes
 pub mod Nils
 pub mod Defaults
 pub mod NilValues
+pub mod Delimiters
+pub mod NewLines
 pub mod NumberTexts
 pub mod BooleanTexts
 pub mod Applying

@@ -1,7 +1,7 @@
 -- The representations of a simple element besides its normal one, which are tried before it for parsing ('DFDL Data Syntax Grammar',
 -- on nil and empty representations).
-use Rattle.std.specs.Prelude.{ℕ, List, ◌*◌, ◌==◌, ◌||◌, Bool, false, Option, Some, None, is_some, option_and_then, option_map, if◌then◌else◌}
-use Rattle.std.specs.Option.{option_map_or}
+use Rattle.std.specs.Prelude.{ℕ, List, [], ◌*◌, ◌==◌, ◌&&◌, ◌||◌, not, Bool, false, Option, Some, None, is_some, option_and_then, option_map, if◌then◌else◌}
+use Rattle.std.specs.Option.{option_map_or, option_or}
 use Rattle.dfdl_forms.specs.declared.order.BitOrder.{BitOrder}
 use Rattle.dfdl_forms.specs.declared.simple.Simple.{Simple}
 use Rattle.dfdl_forms.specs.declared.text.PadForm.{PadForm}
@@ -15,7 +15,9 @@ use Rattle.dfdl_terms.specs.declared.text.TextForm.{TextForm}
 use Rattle.dfdl_terms.specs.declared.text.TextSize.{TextSize}
 use Rattle.dfdl_terms.specs.declared.text.TextSize.TheVariants.{Bits, Characters}
 use Rattle.dfdl_value.specs.declared.value.Value.{Value}
+use Rattle.dfdl_value.specs.declared.value.Value.TheVariants as values
 use Rattle.dfdl_checks.specs.Defaults.{empty_value}
+use Rattle.dfdl_checks.specs.Delimiters.{is_empty_delimited}
 use Rattle.dfdl_checks.specs.Judged.{Judged}
 use Rattle.dfdl_checks.specs.Nils.{is_nil_by_value, nil_form_of}
 use Rattle.dfdl_checks.specs.NilValues.{nil_values}
@@ -76,24 +78,37 @@ can_be_empty subject size = is_sized_by_data subject || is_nothing size
 abbrev pub default_in : TextSize → Value → Primitive
 default_in size value = Default (record { size = size; value = value })
 
--- The empty representation of an element with this size, where no bits stand for a value. A box that can't be empty has none: it
--- would always give way to the normal one.
+-- no text, which means nothing, where a delimiter shows that the element is empty
+abbrev pub no_text : Bool → Option Value
+no_text is_delimited = if is_delimited then Some (values.Text []) else None
+
+-- what is told of no bits at an element of the type: the value that they stand for, else no text, where a delimiter shows that it is empty
+abbrev pub told_of_nothing : Judged → Simple → Option Value
+told_of_nothing subject simple = option_or (empty_value subject simple) (no_text (is_empty_delimited subject))
+
+-- The empty representation of an element with this size, where no bits stand for a value or a delimiter shows that it is empty. A box
+-- that can't be empty has none: it would always give way to the normal one.
 abbrev pub empty_of : Judged → Simple → TextSize → Option Primitive
-empty_of subject simple size = if can_be_empty subject size then option_map (default_in size) (empty_value subject simple) else None
+empty_of subject simple size = if can_be_empty subject size then option_map (default_in size) (told_of_nothing subject simple) else None
+
+-- the element is refused where its empty representation is found: a delimiter shows it, and no bits stand for no value
+abbrev pub refuses_empty : Judged → Simple → TextSize → Bool
+refuses_empty subject simple size = can_be_empty subject size && is_empty_delimited subject && not (is_some (empty_value subject simple))
 
 -- more than one representation can be tried, though it may always give way
 abbrev pub are_several : Judged → Bool
-are_several subject = is_nillable subject || is_string_or_bytes subject.kind || is_some subject.facts.default
+are_several subject = is_nillable subject || is_string_or_bytes subject.kind || is_some subject.facts.default || is_empty_delimited subject
 
 -- no representation besides the normal one
 abbrev pub no_representations : OtherRepresentations
-no_representations = record { nil = None; empty = None; are_several = false }
+no_representations = record { nil = None; empty = None; refuses_empty = false; are_several = false }
 
 -- the representations of an element of the type with this primitive
 abbrev pub representations_with : Judged → Simple → Primitive → OtherRepresentations
 representations_with subject simple primitive = record {
   nil = nil_of subject simple primitive;
   empty = empty_of subject simple (size_of primitive);
+  refuses_empty = refuses_empty subject simple (size_of primitive);
   are_several = are_several subject;
 }
 

@@ -12,8 +12,10 @@ use Rattle.dfdl_checks.specs.Booleans.{falsity_told, truth_told}
 use Rattle.dfdl_checks.specs.BuiltTypes.{is_built_type}
 use Rattle.dfdl_checks.specs.Boxes.{is_box_too_long, is_implicit_box}
 use Rattle.dfdl_checks.specs.Defaults.{is_default_not_allowed}
+use Rattle.dfdl_checks.specs.Delimiters.{is_delimiter_empty, is_delimiter_malformed, is_delimiter_not_encoded}
 use Rattle.dfdl_checks.specs.FillBytes.{is_fill_malformed, is_fill_other}
 use Rattle.dfdl_checks.specs.Lengths.{constant_length, size_within}
+use Rattle.dfdl_checks.specs.NewLines.{is_new_line_expression, is_new_line_other}
 use Rattle.dfdl_checks.specs.NilValues.{is_nil_not_allowed}
 use Rattle.dfdl_checks.specs.Nils.{is_nil_malformed, is_nil_not_encoded}
 use Rattle.dfdl_checks.specs.Orders.{is_least_first, is_same_order, told_order}
@@ -93,11 +95,11 @@ is_prefix_type_missing subject =
 abbrev pub is_value_not_carried : Judged → Bool
 is_value_not_carried subject =
     has_flaw flaws.NotCarried subject || is_separator_other subject || are_separators_unfit subject || is_base_unfit subject
-    || is_prefix_type_missing subject || is_fill_other subject
+    || is_prefix_type_missing subject || is_fill_other subject || is_new_line_other subject
 
 -- 10: a property that applies to the component has an expression where none may stand
 abbrev pub is_expression_not_allowed : Judged → Bool
-is_expression_not_allowed subject = has_flaw flaws.Expression subject
+is_expression_not_allowed subject = has_flaw flaws.Expression subject || is_new_line_expression subject
 
 -- a text that is padded or trimmed, whose pad character's text is no string literal and no list of them
 abbrev pub is_pad_malformed : Judged → Bool
@@ -116,6 +118,7 @@ are_truth_texts_malformed subject =
 abbrev pub is_literal_malformed : Judged → Bool
 is_literal_malformed subject =
     is_pad_malformed subject || is_separator_malformed subject || is_fill_malformed subject || are_truth_texts_malformed subject || is_nil_malformed subject
+    || is_delimiter_malformed subject
 
 -- 13: an element of a simple type that is not carried
 abbrev pub is_type_not_carried : Kind → Bool
@@ -233,6 +236,7 @@ are_truth_texts_not_encoded subject = is_text_boolean subject && are_truth_texts
 abbrev pub is_character_not_encoded : Judged → Bool
 is_character_not_encoded subject =
     is_pad_not_encoded subject || is_separator_not_encoded subject || are_truth_texts_not_encoded subject || is_nil_not_encoded subject
+    || is_delimiter_not_encoded subject
 
 -- 24: an implicit alignment of what is no simple element
 abbrev pub is_alignment_not_allowed : Judged → Bool
@@ -303,6 +307,7 @@ rules =
     ∷ at_itself causes.PropertyNotCarried is_value_not_carried
     ∷ at_itself causes.ExpressionNotAllowed is_expression_not_allowed
     ∷ at_itself causes.LiteralMalformed is_literal_malformed
+    ∷ at_itself causes.EmptyDelimiter is_delimiter_empty
     ∷ at_itself causes.TypeNotCarried (λ subject. is_type_not_carried subject.kind)
     ∷ at_itself causes.MaxLengthMissing is_max_length_missing
     ∷ at_itself causes.LengthKind is_length_kind_not_allowed

@@ -1,10 +1,10 @@
 -- Which properties are asked of which components, and which of their values are built. Each property of the profile that
--- is not here applies to components of later forms alone: to the least length of strings, to delimiters, to escapes, to elements
--- that occur otherwise than once, and to choices and their branches.
+-- is not here applies to components of later forms alone: to the least length of strings, to separators, to escapes, to elements
+-- that occur otherwise than once, and to choices and their branches; but outputNewLine, which NewLines judges.
 use Rattle.std.specs.Prelude.{ℕ, List, [], ◌∷◌, Bool, true, false, codes}
 use Rattle.dfdl_checks.specs.Values.{is_among, is_number, is_within}
 use Rattle.dfdl_checks.specs.declared.applicability.Bearers.{Bearers}
-use Rattle.dfdl_checks.specs.declared.applicability.Bearers.TheVariants.{EveryComponent, FramedComponents, Elements, OtherElements, SimpleElements, NillableElements, TextNillables, RepresentedElements, BoxedElements, Strings, PaddedStrings, PaddedBooleans, PaddedNumbers, Texts, TextNumbers, TextBooleans, StandardNumbers, ZonedNumbers, PatternNumbers, LooseTexts, BinaryNumbers, BinaryBooleans, OrderedBinaries, ExplicitBinaries, ExplicitBoxes, ImplicitStrings, PrefixedElements, PackedNumbers, BinaryDecimals, PatternElements, Groups, Sequences, EmptySequences}
+use Rattle.dfdl_checks.specs.declared.applicability.Bearers.TheVariants.{EveryComponent, FramedComponents, Elements, OtherElements, SimpleElements, NillableElements, TextNillables, RepresentedElements, BoxedElements, Strings, PaddedStrings, PaddedBooleans, PaddedNumbers, Texts, TextNumbers, TextBooleans, StandardNumbers, ZonedNumbers, PatternNumbers, LooseTexts, BinaryNumbers, BinaryBooleans, OrderedBinaries, ExplicitBinaries, ExplicitBoxes, ImplicitStrings, PrefixedElements, PackedNumbers, BinaryDecimals, PatternElements, DelimitedComponents, Groups, Sequences, EmptySequences}
 use Rattle.dfdl_checks.specs.declared.purpose.Purpose.{Purpose}
 use Rattle.dfdl_checks.specs.declared.purpose.Purpose.TheVariants.{Parsing, Unparsing}
 
@@ -58,6 +58,7 @@ applicability_table =
     ∷ applies (codes "encoding") Texts EveryValue
     ∷ applies (codes "encoding") TextNillables EveryValue
     ∷ applies (codes "encoding") PatternElements EveryValue
+    ∷ applies (codes "encoding") DelimitedComponents EveryValue
     ∷ applies (codes "encodingErrorPolicy") Texts EveryValue
     ∷ applies (codes "byteOrder") OrderedBinaries EveryValue
     ∷ applies_by (codes "bitOrder") EveryComponent EveryValue (word (codes "mostSignificantBitFirst"))
@@ -84,12 +85,13 @@ applicability_table =
     ∷ applies_by (codes "leadingSkip") FramedComponents EveryValue (Number 0)
     ∷ applies_by (codes "trailingSkip") FramedComponents EveryValue (Number 0)
     ∷ applies_by (codes "fillByte") FramedComponents EveryValue (word (codes "%#r00;"))
-    ∷ applies (codes "initiator") FramedComponents (word (codes ""))
-    ∷ applies (codes "terminator") FramedComponents (word (codes ""))
+    ∷ applies_by (codes "initiator") FramedComponents EveryValue (word (codes ""))
+    ∷ applies_by (codes "terminator") FramedComponents EveryValue (word (codes ""))
     ∷ applies (codes "separator") Groups (word (codes ""))
     ∷ applies (codes "initiatedContent") Groups (word (codes "no"))
     ∷ applies (codes "ignoreCase") TextBooleans EveryValue
     ∷ applies (codes "ignoreCase") TextNillables EveryValue
+    ∷ applies (codes "ignoreCase") DelimitedComponents EveryValue
     ∷ applies (codes "sequenceKind") Sequences (word (codes "ordered"))
     ∷ applies (codes "hiddenGroupRef") EmptySequences NoValue
     ∷ applies_by (codes "textTrimKind") Texts EveryValue (word (codes "none"))

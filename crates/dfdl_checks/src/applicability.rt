@@ -56,6 +56,8 @@ pub enum Bearers {
     BinaryDecimals,
     /// Elements whose length is by a pattern.
     PatternElements,
+    /// Components with an initiator or a terminator.
+    DelimitedComponents,
     /// Sequences and choices.
     Groups,
     Sequences,

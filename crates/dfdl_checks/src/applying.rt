@@ -5,6 +5,7 @@ ghost use Rattle.dfdl_checks.specs.Applying as applying;
 
 use crate::applicability::Bearers;
 use crate::boxes::{is_explicit_box, is_implicit_string};
+use crate::delimiters::is_delimited;
 use crate::kinds::{
     is_decimal, is_element, is_group, is_prefix_number, is_represented, is_sequence, is_simple,
     is_string, value_bits,
@@ -58,6 +59,7 @@ pub(crate) fn is_bearer(bearers: Bearers, subject: &Subject<'_, '_, '_>) -> bool
         Bearers::PatternElements => {
             is_element(kind) && is_word(subject.chain, "lengthKind", "pattern")
         }
+        Bearers::DelimitedComponents => is_delimited(subject),
         Bearers::Groups => is_group(kind),
         Bearers::Sequences => is_sequence(kind),
         Bearers::EmptySequences => is_sequence(kind) && subject.facts.is_empty,

@@ -32,6 +32,8 @@ fn fill_of(subject: &Subject<'_, '_, '_>) -> Framing
     Framing {
         leading_skip: skip_of(subject, "leadingSkip"),
         alignment: alignment_of(subject),
+        initiator: None,
+        terminator: None,
         trailing_skip: skip_of(subject, "trailingSkip"),
     }
 }

@@ -1,7 +1,8 @@
 // Laws of the definitions that the contracts cite. The calls do nothing.
-ghost use Rattle.std.specs.Prelude.{◌≡◌, ◌||◌, ℕ, List, ◌≤◌, Some, None, IsTrue, IsSome, codes};
+ghost use Rattle.std.specs.Prelude.{◌≡◌, ◌||◌, ℕ, List, length, ◌<◌, ◌≤◌, Some, None, false, IsTrue, IsSome, codes};
 ghost use Rattle.dfdl_forms.specs.Types.{form_of};
 ghost use Rattle.dfdl_forms.specs.declared.encoding.Encoding.{Encoding};
+ghost use Rattle.dfdl_literals.specs.Lists.{matches_nothing};
 ghost use Rattle.dfdl_terms.specs.Rows.{IsPrimitive, IsWritten, most_length};
 ghost use Rattle.dfdl_terms.specs.declared.row.Primitive.{Primitive};
 ghost use Rattle.dfdl_terms.specs.declared.row.Primitive.TheVariants.{Default};
@@ -9,10 +10,12 @@ ghost use Rattle.dfdl_terms.specs.declared.text.DefaultForm.{DefaultForm};
 ghost use Rattle.dfdl_scope.specs.Scoping.{Element, told};
 ghost use Rattle.dfdl_checks.specs.Alike.{AreAlikeChains, IsAlike};
 ghost use Rattle.dfdl_checks.specs.Boxes.{is_explicit_complex, size_of_box};
+ghost use Rattle.dfdl_checks.specs.Delimiters.{IsDelimiterOf, delimiters_of, has_delimiter, no_delimiters};
 ghost use Rattle.dfdl_checks.specs.Encodings.{encoding_told};
 ghost use Rattle.dfdl_checks.specs.Forms.{IsWhole};
 ghost use Rattle.dfdl_checks.specs.Framing.{framing_of};
 ghost use Rattle.dfdl_checks.specs.Judged.{Judged};
+ghost use Rattle.dfdl_checks.specs.Nils.{lacks_literals};
 ghost use Rattle.dfdl_checks.specs.Numbers.{IsBinaryValue, IsTextOrBytesValue, primitive_of, type_of};
 ghost use Rattle.dfdl_checks.specs.Pads.{has_character, is_padded_text, pad_at, single};
 ghost use Rattle.dfdl_checks.specs.Patterns.{length_pattern, pattern_encoding, pattern_prefix};
@@ -20,6 +23,7 @@ ghost use Rattle.dfdl_checks.specs.Prefixes.{is_integer, prefix_of};
 ghost use Rattle.dfdl_checks.specs.Representations.{no_representations, representations_of};
 ghost use Rattle.dfdl_checks.specs.Rules.{breach_of_component, first_breach, rules};
 ghost use Rattle.dfdl_checks.specs.Subjects.{is_binary, is_by_pattern, is_element, is_hex_binary, is_nillable, is_prefixed, is_simple, is_text, simple_of, told_at};
+ghost use Rattle.dfdl_checks.specs.declared.delimiters.Delimiting.{Delimiting};
 ghost use Rattle.dfdl_checks.specs.declared.prefixes.PrefixForm.{PrefixForm};
 ghost use Rattle.dfdl_checks.specs.declared.purpose.Purpose.TheVariants.{Parsing, Unparsing};
 ghost use Rattle.dfdl_checks.specs.declared.subject.Kind.TheVariants.{ComplexElement};
@@ -95,6 +99,23 @@ pub fn sound_nillables_have_nil()
     ensures { (j : Judged) → first_breach rules j ≡ None → j.purpose ≡ Parsing → IsTrue (is_nillable j) → IsSome (representations_of j).nil }
 {}
 
+/// A component that breaks no rule tells, for parsing, each delimiter that it has, in an encoding which has the characters of its literals.
+pub fn sound_components_have_delimiters()
+    ensures initiator { (j : Judged) → first_breach rules j ≡ None → j.purpose ≡ Parsing → IsTrue (has_delimiter j (codes "initiator"))
+        → IsSome (delimiters_of j).initiator }
+    ensures terminator { (j : Judged) → first_breach rules j ≡ None → j.purpose ≡ Parsing → IsTrue (has_delimiter j (codes "terminator"))
+        → IsSome (delimiters_of j).terminator }
+    ensures encoded { (j : Judged) (d : Delimiting) → first_breach rules j ≡ None → IsDelimiterOf j d
+        → lacks_literals (Some d.list.encoding) d.list.literals ≡ false }
+{}
+
+/// A delimiter of a component, whether it breaks rules or not, has literals, and none of them can match nothing. For unparsing there is none.
+pub fn delimiters_have_literals()
+    ensures some { (j : Judged) (d : Delimiting) → IsDelimiterOf j d → 0 < length d.list.literals }
+    ensures matching { (j : Judged) (d : Delimiting) → IsDelimiterOf j d → matches_nothing d.list.literals ≡ false }
+    ensures parsing { (j : Judged) → j.purpose ≡ Unparsing → delimiters_of j ≡ no_delimiters }
+{}
+
 /// The primitives that are built for unparsing are whole unsigned integers.
 pub fn primitives_for_unparsing_are_whole()
     ensures { (j : Judged) (p : Primitive) → j.purpose ≡ Unparsing → primitive_of j ≡ Some p → IsWhole p }
@@ -111,12 +132,14 @@ pub fn boxes_are_bounded()
 {}
 
 /// Components whose chains give the same, name by name, and those of the types of their prefixes, have the same breach, the same
-/// primitive, the same other representations, the same fill, the same box, the same prefix, and the same pattern of their length.
+/// primitive, the same other representations, the same fill, the same delimiters, the same box, the same prefix, and the same pattern of
+/// their length.
 pub fn alike_components_are_judged_alike()
     ensures breach { (a b : Judged) → IsAlike a b → breach_of_component a ≡ breach_of_component b }
     ensures primitive { (a b : Judged) → IsAlike a b → primitive_of a ≡ primitive_of b }
     ensures representations { (a b : Judged) → IsAlike a b → representations_of a ≡ representations_of b }
     ensures framing { (a b : Judged) → IsAlike a b → framing_of a ≡ framing_of b }
+    ensures delimiters { (a b : Judged) → IsAlike a b → delimiters_of a ≡ delimiters_of b }
     ensures size { (a b : Judged) → IsAlike a b → size_of_box a ≡ size_of_box b }
     ensures prefix { (a b : Judged) → IsAlike a b → prefix_of a ≡ prefix_of b }
     ensures text { (a b : Judged) → IsAlike a b → length_pattern a ≡ length_pattern b }

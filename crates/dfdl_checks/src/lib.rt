@@ -9,7 +9,8 @@
 //! `specs/BooleanTexts.antt`, and the characters by which texts are padded and trimmed are those of `specs/Pads.antt`.
 //! `prefix` says how the length prefix of an element lies in the data, by `specs/Prefixes.antt`, and `length_pattern` which
 //! pattern tells its length, by `specs/Patterns.antt`. `framing` says which fill stands around a component, by
-//! `specs/Framing.antt`, and `size_of_box` how long a complex element's box is, by `specs/Boxes.antt`.
+//! `specs/Framing.antt`, `delimiters_at` which initiator and terminator it has, by `specs/Delimiters.antt`, and `size_of_box` how long
+//! a complex element's box is, by `specs/Boxes.antt`.
 //! `other_representations` says which representations of a simple element are tried before its normal one, by
 //! `specs/Representations.antt`, which stands on `specs/Nils.antt`, `specs/NilValues.antt` and `specs/Defaults.antt`. The chapters are
 //! 'Property Scoping and DFDL Schema Checking', 'DFDL Data Syntax Grammar', 'Framing', 'Lengths' and 'Simple Types'.
@@ -21,6 +22,7 @@ mod boolean_texts;
 mod booleans;
 mod boxes;
 mod defaults;
+mod delimiters;
 mod encodings;
 mod fill;
 mod fill_bytes;
@@ -30,6 +32,7 @@ mod kinds;
 pub mod laws;
 mod length_rules;
 mod lengths;
+mod new_lines;
 mod nil_values;
 mod nils;
 mod number;
@@ -51,6 +54,7 @@ mod values;
 mod zoned_texts;
 
 pub use boxes::size_of_box;
+pub use delimiters::{Delimiting, Markup, delimiters_at};
 pub use fill::framing;
 pub use number::primitive;
 pub use orders::bit_order;

@@ -149,7 +149,7 @@ fn lacks_pieces(encoding: Option<Encoding>, pieces: &[Piece]) -> bool
 }
 
 /// Whether an encoding lacks a character of some literals.
-fn lacks_literals(encoding: Option<Encoding>, literals: &Literals) -> bool
+pub(crate) fn lacks_literals(encoding: Option<Encoding>, literals: &Literals) -> bool
     ensures { result ≡ nils.lacks_literals encoding literals.now }
 {
     for at in 0..literals.len() {

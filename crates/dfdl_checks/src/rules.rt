@@ -6,6 +6,7 @@ ghost use Rattle.dfdl_checks.specs.Rules as spec;
 
 use crate::booleans::{falsity_told, truth_told};
 use crate::defaults::is_default_not_allowed;
+use crate::delimiters::is_delimiter_empty;
 use crate::fill_bytes::is_fill_other;
 use crate::flaw::Flaw;
 use crate::flaws::has_flaw;
@@ -14,6 +15,7 @@ use crate::length_rules::{
     is_length_in_characters, is_length_kind_not_allowed, is_length_out_of_range,
     is_max_length_missing, is_prefix_not_whole, is_prefix_type_missing, is_prefix_type_not_allowed,
 };
+use crate::new_lines::{is_new_line_expression, is_new_line_other};
 use crate::nil_values::is_nil_not_allowed;
 use crate::orders::{bit_order, is_least_first, is_same_order};
 use crate::packed::codes_told;
@@ -71,11 +73,14 @@ fn own_breach(alloc: Global, subject: &Subject<'_, '_, '_>) -> Result<Option<Bre
     if is_value_not_carried(alloc, subject)? {
         return told_here(SchemaCause::PropertyNotCarried, subject);
     }
-    if has_flaw(Flaw::Expression, subject) {
+    if is_expression_not_allowed(alloc, subject)? {
         return told_here(SchemaCause::ExpressionNotAllowed, subject);
     }
     if is_literal_malformed(alloc, subject)? {
         return told_here(SchemaCause::LiteralMalformed, subject);
+    }
+    if is_delimiter_empty(alloc, subject)? {
+        return told_here(SchemaCause::EmptyDelimiter, subject);
     }
     if is_type_not_carried(subject.kind) {
         return told_here(SchemaCause::TypeNotCarried, subject);
@@ -86,7 +91,7 @@ fn own_breach(alloc: Global, subject: &Subject<'_, '_, '_>) -> Result<Option<Bre
 /// The first rule on lengths, or of a greater number, that a component breaks.
 #[tactic(auto, unfolding(crate::specs::Rules::rules))]
 fn length_breach(alloc: Global, subject: &Subject<'_, '_, '_>) -> Result<Option<Breach>, AllocError>
-    ensures { IfOk result (λ breach. breach ≡ spec.first_breach (drop 7 spec.rules) (judged_of subject.now)) }
+    ensures { IfOk result (λ breach. breach ≡ spec.first_breach (drop 8 spec.rules) (judged_of subject.now)) }
 {
     if is_max_length_missing(subject) {
         return told_here(SchemaCause::MaxLengthMissing, subject);
@@ -118,7 +123,7 @@ fn content_breach(
     alloc: Global,
     subject: &Subject<'_, '_, '_>,
 ) -> Result<Option<Breach>, AllocError>
-    ensures { IfOk result (λ breach. breach ≡ spec.first_breach (drop 14 spec.rules) (judged_of subject.now)) }
+    ensures { IfOk result (λ breach. breach ≡ spec.first_breach (drop 15 spec.rules) (judged_of subject.now)) }
 {
     if are_orders_apart(subject) {
         return told_here(SchemaCause::OrdersApart, subject);
@@ -153,7 +158,7 @@ fn representation_breach(
     alloc: Global,
     subject: &Subject<'_, '_, '_>,
 ) -> Result<Option<Breach>, AllocError>
-    ensures { IfOk result (λ breach. breach ≡ spec.first_breach (drop 22 spec.rules) (judged_of subject.now)) }
+    ensures { IfOk result (λ breach. breach ≡ spec.first_breach (drop 23 spec.rules) (judged_of subject.now)) }
 {
     if is_nil_not_allowed(alloc, subject)? {
         return told_here(SchemaCause::NilNotAllowed, subject);
@@ -327,5 +332,21 @@ fn is_value_not_carried(alloc: Global, subject: &Subject<'_, '_, '_>) -> Result<
     if are_separators_unfit(alloc, subject)? {
         return Ok(true);
     }
-    Ok(is_base_unfit(subject) || is_prefix_type_missing(subject) || is_fill_other(subject))
+    if is_base_unfit(subject) || is_prefix_type_missing(subject) || is_fill_other(subject) {
+        return Ok(true);
+    }
+    is_new_line_other(alloc, subject)
+}
+
+/// Whether a property has an expression where none may stand.
+fn is_expression_not_allowed(
+    alloc: Global,
+    subject: &Subject<'_, '_, '_>,
+) -> Result<bool, AllocError>
+    ensures { IfOk result (λ refused. refused ≡ spec.is_expression_not_allowed (judged_of subject.now)) }
+{
+    if has_flaw(Flaw::Expression, subject) {
+        return Ok(true);
+    }
+    is_new_line_expression(alloc, subject)
 }

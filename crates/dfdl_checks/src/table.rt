@@ -13,7 +13,7 @@ pub(crate) fn applicabilities() -> &'static [Applicability]
     &APPLICABILITIES
 }
 
-static APPLICABILITIES: [Applicability; 66] = [
+static APPLICABILITIES: [Applicability; 68] = [
     Applicability {
         name: "representation",
         bearers: Bearers::RepresentedElements,
@@ -35,6 +35,12 @@ static APPLICABILITIES: [Applicability; 66] = [
     Applicability {
         name: "encoding",
         bearers: Bearers::PatternElements,
+        parsing: Built::EveryValue,
+        unparsing: Built::EveryValue,
+    },
+    Applicability {
+        name: "encoding",
+        bearers: Bearers::DelimitedComponents,
         parsing: Built::EveryValue,
         unparsing: Built::EveryValue,
     },
@@ -167,13 +173,13 @@ static APPLICABILITIES: [Applicability; 66] = [
     Applicability {
         name: "initiator",
         bearers: Bearers::FramedComponents,
-        parsing: Built::Words(&[""]),
+        parsing: Built::EveryValue,
         unparsing: Built::Words(&[""]),
     },
     Applicability {
         name: "terminator",
         bearers: Bearers::FramedComponents,
-        parsing: Built::Words(&[""]),
+        parsing: Built::EveryValue,
         unparsing: Built::Words(&[""]),
     },
     Applicability {
@@ -197,6 +203,12 @@ static APPLICABILITIES: [Applicability; 66] = [
     Applicability {
         name: "ignoreCase",
         bearers: Bearers::TextNillables,
+        parsing: Built::EveryValue,
+        unparsing: Built::EveryValue,
+    },
+    Applicability {
+        name: "ignoreCase",
+        bearers: Bearers::DelimitedComponents,
         parsing: Built::EveryValue,
         unparsing: Built::EveryValue,
     },

@@ -9,6 +9,7 @@ ghost use Rattle.dfdl_scope.specs.Told.{told_by};
 use crate::boolean_texts::{
     are_truth_texts_outside, false_texts, is_list_malformed, is_list_other, true_texts,
 };
+use crate::delimiters::{is_delimiter_malformed, is_delimiter_not_encoded};
 use crate::fill_bytes::is_fill_malformed;
 use crate::kinds::is_decimal;
 use crate::nils::{is_nil_malformed, is_nil_not_encoded};
@@ -122,7 +123,10 @@ pub(crate) fn is_literal_malformed(
     if are_truth_texts_malformed(alloc, subject)? {
         return Ok(true);
     }
-    is_nil_malformed(alloc, subject)
+    if is_nil_malformed(alloc, subject)? {
+        return Ok(true);
+    }
+    is_delimiter_malformed(alloc, subject)
 }
 
 /// Whether it is a text that is padded or trimmed, whose encoding lacks its pad character.
@@ -166,7 +170,10 @@ pub(crate) fn is_character_not_encoded(
     if are_truth_texts_not_encoded(alloc, subject)? {
         return Ok(true);
     }
-    is_nil_not_encoded(alloc, subject)
+    if is_nil_not_encoded(alloc, subject)? {
+        return Ok(true);
+    }
+    is_delimiter_not_encoded(alloc, subject)
 }
 
 /// Whether it is a text number in base ten whose pattern, where it is told, is none.

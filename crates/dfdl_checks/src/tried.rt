@@ -9,6 +9,7 @@ ghost use Rattle.dfdl_checks.specs.Representations as tried;
 ghost use Rattle.dfdl_terms.specs.Rows.{IsPrimitive};
 
 use crate::defaults::empty_value;
+use crate::delimiters::is_empty_delimited;
 use crate::kinds::is_string_or_bytes;
 use crate::nil_values::nil_values;
 use crate::nils::{is_nil_by_value, nil_form_of};
@@ -21,7 +22,7 @@ use dfdl_terms::{
     DefaultForm, NilForm, NilOctets, NilTexts, NilValues, OctetForm, Primitive, TextContent,
     TextForm, TextSize, ValueList,
 };
-use dfdl_value::Value;
+use dfdl_value::{TextValue, Value};
 use std::alloc::{AllocError, Global};
 
 /// The representations of an element besides its normal one ('DFDL Data Syntax Grammar').
@@ -29,8 +30,10 @@ use std::alloc::{AllocError, Global};
 pub struct OtherRepresentations {
     /// How its content is read as nil, where it may be nil.
     pub nil: Option<Primitive>,
-    /// How its content is read as empty, where no bits stand for a value.
+    /// How its content is read as empty, where no bits stand for a value or a delimiter shows that it is empty.
     pub empty: Option<Primitive>,
+    /// The element is refused where its empty representation is found: no bits stand for no value.
+    pub refuses_empty: bool,
     /// More than one representation can be tried.
     pub are_several: bool,
 }
@@ -56,6 +59,7 @@ fn no_representations() -> OtherRepresentations
     OtherRepresentations {
         nil: None,
         empty: None,
+        refuses_empty: false,
         are_several: false,
     }
 }
@@ -102,9 +106,11 @@ fn of_primitive(
 {
     let nil = nil_of(alloc, simple, subject, primitive)?;
     let empty = empty_of(alloc, simple, subject, size_of(primitive))?;
+    let refuses_empty = refuses_empty(alloc, simple, subject, size_of(primitive))?;
     Ok(OtherRepresentations {
         nil,
         empty,
+        refuses_empty,
         are_several: are_several(subject),
     })
 }
@@ -113,7 +119,10 @@ fn of_primitive(
 fn are_several(subject: &Subject<'_, '_, '_>) -> bool
     ensures { result ≡ tried.are_several (judged_of subject.now) }
 {
-    is_nillable(subject) || is_string_or_bytes(subject.kind) || subject.facts.default.is_some()
+    is_nillable(subject)
+        || is_string_or_bytes(subject.kind)
+        || subject.facts.default.is_some()
+        || is_empty_delimited(subject)
 }
 
 /// The nil representation of an element of a type with this primitive, where it may be nil.
@@ -230,7 +239,48 @@ fn can_be_empty(subject: &Subject<'_, '_, '_>, size: TextSize) -> bool
     is_sized_by_data(subject) || is_nothing(size)
 }
 
-/// The empty representation of an element with this size, where no bits stand for a value.
+/// No text, which means nothing, where a delimiter shows that the element is empty.
+fn no_text(alloc: Global, is_delimited: bool) -> Result<Option<Value>, AllocError>
+    ensures { IfOk result (λ value. value ≡ tried.no_text is_delimited) }
+{
+    if !is_delimited {
+        return Ok(None);
+    }
+    let text = TextValue::from_str(alloc, "")?;
+    Ok(Some(Value::Text(text)))
+}
+
+/// What is told of no bits at an element of a type, if anything is.
+fn told_of_nothing(
+    alloc: Global,
+    simple: Simple,
+    subject: &Subject<'_, '_, '_>,
+) -> Result<Option<Value>, AllocError>
+    ensures { IfOk result (λ value. value ≡ tried.told_of_nothing (judged_of subject.now) simple) }
+{
+    match empty_value(alloc, simple, subject)? {
+        Some(value) => Ok(Some(value)),
+        None => no_text(alloc, is_empty_delimited(subject)),
+    }
+}
+
+/// Whether an element with this size is refused where its empty representation is found.
+fn refuses_empty(
+    alloc: Global,
+    simple: Simple,
+    subject: &Subject<'_, '_, '_>,
+    size: TextSize,
+) -> Result<bool, AllocError>
+    ensures { IfOk result (λ refuses. refuses ≡ tried.refuses_empty (judged_of subject.now) simple size) }
+{
+    if !can_be_empty(subject, size) || !is_empty_delimited(subject) {
+        return Ok(false);
+    }
+    let value = empty_value(alloc, simple, subject)?;
+    Ok(value.is_none())
+}
+
+/// The empty representation of an element with this size, where anything is told of no bits.
 fn empty_of(
     alloc: Global,
     simple: Simple,
@@ -242,7 +292,7 @@ fn empty_of(
     if !can_be_empty(subject, size) {
         return Ok(None);
     }
-    let value = empty_value(alloc, simple, subject)?;
+    let value = told_of_nothing(alloc, simple, subject)?;
     Ok(default_in(size, value))
 }
 

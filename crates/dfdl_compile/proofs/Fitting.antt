@@ -32,7 +32,7 @@ use Rattle.dfdl_rows.specs.declared.component.Component.TheVariants.{Sequence}
 use Rattle.dfdl_rows.specs.declared.refusal.Refusal.{Refusal}
 use Rattle.dfdl_report.specs.declared.place.Place.{Place}
 use Rattle.dfdl_breaches.specs.Elements.{place_of}
-use Rattle.dfdl_compile.specs.Components.{refusal_at, component_by, reference_by, component_of, component_at, element_name, empty_number, nil_number, part_numbers, prefix_by, prefix_number, tried_by, components_of}
+use Rattle.dfdl_compile.specs.Components.{refusal_at, component_by, reference_by, component_of, component_at, element_name, empty_number, framing_of, nil_number, part_numbers, prefix_by, prefix_number, tried_by, components_of}
 
 -- a list that is made from one that is made
 pub twice : {X Y Z : Type 0} (g : Y → Z) (f : X → Y) (xs : List X) → map g (map f xs) ≡ map (λ x. g (f x)) xs
@@ -93,12 +93,12 @@ module _ (purpose : Purpose) (refused : Site → Bool) (documents : List SchemaD
   -- the element or group of this kind that an element of the documents is
   abbrev pub of_kind : Kind → Component
   of_kind kind = component_by (element_name documents own) (primitive_by (judgement_at purpose refused documents own)) (number_of documents own)
-      (judgement_at purpose refused documents own).framing (judgement_at purpose refused documents own).size
+      (framing_of documents own (judgement_at purpose refused documents own)) (judgement_at purpose refused documents own).size
       (option_map (prefix_by (prefix_number documents own)) (judgement_at purpose refused documents own).prefix)
       (tried_by (nil_number documents own) (empty_number documents own) (judgement_at purpose refused documents own).others) kind
 
   abbrev pub made : Role → Component
-  made role.GroupReference = reference_by (judgement_at purpose refused documents own).framing (referred documents own names.Group)
+  made role.GroupReference = reference_by (framing_of documents own (judgement_at purpose refused documents own)) (referred documents own names.Group)
   made r = of_kind (kind_by documents own r)
 
   pub made_is : (r : Role) → r ≡ role_of documents own → component_of documents own (judgement_at purpose refused documents own) r ≡ made r
@@ -111,7 +111,7 @@ module _ (purpose : Purpose) (refused : Site → Bool) (documents : List SchemaD
   typed_fits NotCarried = refl
   typed_fits (Defined type) = refl
 
-  reference_fits : (o : Option Site) → CanHave (reference_by (judgement_at purpose refused documents own).framing o) (map (number_of documents) (listed o))
+  reference_fits : (o : Option Site) → CanHave (reference_by (framing_of documents own (judgement_at purpose refused documents own)) o) (map (number_of documents) (listed o))
   reference_fits None = tt
   reference_fits (Some group) = refl
 

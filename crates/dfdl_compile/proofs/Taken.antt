@@ -17,6 +17,7 @@ use Rattle.dfdl_checks.specs.Numbers.{type_of}
 use Rattle.dfdl_checks.specs.Representations.{no_representations}
 use Rattle.dfdl_checks.specs.declared.prefixes.PrefixForm.{PrefixForm}
 use Rattle.dfdl_checks.specs.declared.tried.OtherRepresentations.{OtherRepresentations}
+use Rattle.dfdl_checks.specs.declared.delimiters.Delimiting.{Delimiting}
 use Rattle.dfdl_checks.specs.declared.purpose.Purpose.{Purpose}
 use Rattle.dfdl_checks.specs.declared.purpose.Purpose.TheVariants.{Unparsing}
 use Rattle.dfdl_checks.specs.declared.subject.Kind.{Kind}
@@ -29,27 +30,30 @@ use Rattle.dfdl_chains.specs.Everywhere.{all_sites, for_each}
 use Rattle.dfdl_chains.specs.Kinds.{kind_at, kind_of_type}
 use Rattle.dfdl_chains.specs.Parts.{is_component}
 use Rattle.dfdl_chains.proofs.Numbering.{number_below, length_all}
-use Rattle.dfdl_breaches.specs.Judging.{breach_at, primitive_at as judged, form_of_prefix, framing_at, judgement_at, no_judgement, others_at, size_at}
+use Rattle.dfdl_breaches.specs.Judging.{breach_at, primitive_at as judged, form_of_prefix, framing_at, judgement_at, markup_at, no_judgement, others_at, size_at}
 use Rattle.dfdl_breaches.specs.declared.judgement.Judgement.{Judgement}
 use Rattle.dfdl_breaches.proofs.Numbering.{value-at}
-use Rattle.dfdl_terms.specs.Leaves.{ReadsBy, leaf, prefixed, grouped}
+use Rattle.dfdl_terms.specs.Leaves.{ReadsBy, leaf, prefixed, grouped, scoped}
 use Rattle.dfdl_terms.specs.Framing.{no_fill}
+use Rattle.dfdl_terms.specs.Tables.{Named}
+use Rattle.dfdl_terms.specs.declared.delimiters.Delimiters.{Delimiters}
 use Rattle.dfdl_terms.specs.declared.framing.Framing.{Framing}
 use Rattle.dfdl_terms.specs.declared.prefix.Prefix.{Prefix}
 use Rattle.dfdl_terms.specs.declared.representations.Representations.{Representations}
 use Rattle.dfdl_terms.specs.Rows.{AreWithin, HasElementLast, IsElementRow, IsPrimitive, IsWithin, Table}
 use Rattle.dfdl_terms.specs.declared.row.Primitive.{Primitive}
 use Rattle.dfdl_terms.specs.declared.row.Row.{Row}
-use Rattle.dfdl_terms.specs.declared.row.Row.TheVariants.{Leaf, Elem, Group, Skip, Align, Boxed, PrefixedLeaf, PrefixedBox}
+use Rattle.dfdl_terms.specs.declared.row.Row.TheVariants.{Leaf, Elem, Group, Skip, Align, Initiator, Terminator, Scope, Boxed, PrefixedLeaf, PrefixedBox}
 use Rattle.dfdl_rows.specs.Answers.{EndsWith}
-use Rattle.dfdl_rows.specs.Components.{Schema, HasPrimitive, HasBoxPrimitive, HasPrefixPrimitive, IsBareComponent, component_at as part_at}
-use Rattle.dfdl_rows.specs.Fill.{has_fill}
+use Rattle.dfdl_rows.specs.Components.{Schema, HasDelimiters, HasList, HasPrimitive, HasBoxPrimitive, HasPrefixPrimitive, IsBareComponent, component_at as part_at}
+use Rattle.dfdl_rows.specs.Framing.{has_framing}
 use Rattle.dfdl_rows.specs.Leaves.{HaveLeaves, HaveBareLeaves, IsAmong, IsLeafOf}
 use Rattle.dfdl_rows.specs.declared.component.ContentBox.TheVariants.{Unbounded}
 use Rattle.dfdl_rows.specs.declared.component.Component.{Component}
 use Rattle.dfdl_rows.specs.declared.component.Component.TheVariants.{Sequence, SimpleElement}
 use Rattle.dfdl_breaches.specs.Roots.{is_global_element}
-use Rattle.dfdl_compile.specs.Components.{box_by, reference_by, component_of, component_at, components_of, empty_number, empty_primitive_at, nil_number, nil_primitive_at, number_if, prefix_by, prefix_number, prefix_primitive_at, primitive_at, primitives_of, tried_by}
+use Rattle.dfdl_compile.specs.Components.{box_by, reference_by, component_of, component_at, components_of, delimiters_of, empty_number, empty_primitive_at, framing_of, initiator_list_at, named_of, nil_number, nil_primitive_at, number_if, prefix_by, prefix_number, prefix_primitive_at, primitive_at, primitives_of, terminator_list_at, terminator_number, tried_by}
+use Rattle.dfdl_compile.specs.Delimiters.{delimiter_by, initiator_list_by, terminator_list_by}
 use Rattle.dfdl_compile.specs.Primitives.{HasTypedLeaves, HasBareTypedLeaves, HasWrittenText, IsLeafOfType, IsOfType, a_byte, empty_primitive_by, nil_primitive_by, prefix_primitive_by, primitive_by, primitive_if}
 use Rattle.dfdl_compile.proofs.Fitting.{all_within, each, made, made_is, of_kind, twice}
 
@@ -60,6 +64,7 @@ judgement_if purpose refused documents own b =
       breach = breach_at purpose refused documents own;
       primitive = judged purpose refused documents own;
       framing = framing_at purpose refused documents own;
+      markup = markup_at purpose refused documents own;
       size = size_at purpose refused documents own;
       prefix = form_of_prefix purpose refused documents own;
       others = others_at purpose refused documents own;
@@ -163,6 +168,29 @@ tables_are purpose refused documents judgements tables told are =
     empties : map empty_primitive_by judgements ≡ for_each documents (empty_primitive_at purpose refused documents)
     empties = at_each empty_primitive_by
 
+-- so are the lists of delimiters
+lists_are : (purpose : Purpose) (refused : Site → Bool) (documents : List SchemaDocument) (judgements : List Judgement) (lists : List Delimiters)
+    → judgements ≡ for_each documents (judgement_at purpose refused documents)
+    → lists ≡ map initiator_list_by judgements ++ map terminator_list_by judgements
+    → lists ≡ delimiters_of purpose refused documents
+unfolding delimiters_of
+lists_are purpose refused documents judgements lists told are = are ∙ (λ i. at_each initiator_list_by i ++ at_each terminator_list_by i)
+  where
+    at_each : (f : Judgement → Delimiters) → map f judgements ≡ for_each documents (λ (s : Site). f (judgement_at purpose refused documents s))
+    at_each f = ap (map f) told ∙ twice f (judgement_at purpose refused documents) (all_sites documents)
+
+-- what rows name is what those of the documents do
+pub named_are : (purpose : Purpose) (refused : Site → Bool) (documents : List SchemaDocument) (judgements : List Judgement) (tables : Named)
+    → judgements ≡ for_each documents (judgement_at purpose refused documents)
+    → tables.primitives ≡ map primitive_by judgements
+    ++ (map prefix_primitive_by judgements ++ (map nil_primitive_by judgements ++ map empty_primitive_by judgements))
+    → tables.delimiters ≡ map initiator_list_by judgements ++ map terminator_list_by judgements
+    → tables ≡ named_of purpose refused documents
+named_are purpose refused documents judgements tables told primitives lists =
+    let prims = tables_are purpose refused documents judgements tables.primitives told primitives in
+    let delimiters = lists_are purpose refused documents judgements tables.delimiters told lists in
+    λ i. record { primitives = prims i; delimiters = delimiters i }
+
 -- it keeps the bounds of its type, if its text is one of characters
 abbrev IsBoundedIf : Primitive → Type 0
 IsBoundedIf p = HasWrittenText p → IsPrimitive p
@@ -202,6 +230,10 @@ wholes purpose refused documents unparsing law none normal tables are =
 -- there are as many primitives of one kind as elements
 length_each : (documents : List SchemaDocument) (f : Site → Primitive) → length (for_each documents f) ≡ count_of documents
 length_each documents f = length-map (all_sites documents) f ∙ length_all documents
+
+-- the same of lists of delimiters
+length_lists : (documents : List SchemaDocument) (f : Site → Delimiters) → length (for_each documents f) ≡ count_of documents
+length_lists documents f = length-map (all_sites documents) f ∙ length_all documents
 
 -- how many primitives there are
 abbrev count_primitives : List SchemaDocument → ℕ
@@ -258,7 +290,7 @@ module _ (purpose : Purpose) (refused : Site → Bool) (documents : List SchemaD
       by_box None None = tt
       by_box None (Some form) = prefix_below
 
-      by_group : (o : Option Site) → HasPrimitive count (reference_by (judgement_at purpose refused documents own).framing o)
+      by_group : (o : Option Site) → HasPrimitive count (reference_by (framing_of documents own (judgement_at purpose refused documents own)) o)
       by_group None = tt
       by_group (Some group) = tt
 
@@ -284,13 +316,67 @@ module _ (purpose : Purpose) (refused : Site → Bool) (documents : List SchemaD
       (subst (λ (s : Schema). All (HasPrimitive count) s.components) (sym schema_is)
       (each (IsSite documents) (HasPrimitive count) (component_at purpose refused documents) has_number (all_sites documents) (all_within documents)))
 
+  -- the lists of its delimiters are some of two for each element
+  has_lists : (own : Site) → IsSite documents own → HasDelimiters (count_of documents + count_of documents) (component_at purpose refused documents own)
+  has_lists own within = by_role (role_of documents own)
+    where
+      by_list : (number : ℕ) → number < count_of documents + count_of documents → (o : Option Delimiting)
+          → HasList (count_of documents + count_of documents) (option_map (delimiter_by number) o)
+      by_list number below None = tt
+      by_list number below (Some delimiter) = below
+
+      framed : HasList (count_of documents + count_of documents) (framing_of documents own (judgement_at purpose refused documents own)).initiator
+          × HasList (count_of documents + count_of documents) (framing_of documents own (judgement_at purpose refused documents own)).terminator
+      framed =
+          let below = number_below documents own within in (
+            by_list (number_of documents own) (omega (arith, below)) (judgement_at purpose refused documents own).markup.initiator,
+            by_list (terminator_number documents own) (omega (arith, below)) (judgement_at purpose refused documents own).markup.terminator,
+          )
+
+      by_group : (o : Option Site) → HasDelimiters (count_of documents + count_of documents)
+          (reference_by (framing_of documents own (judgement_at purpose refused documents own)) o)
+      by_group None = framed
+      by_group (Some group) = framed
+
+      by_kind : (k : Kind) → HasDelimiters (count_of documents + count_of documents) (of_kind purpose refused documents own k)
+      by_kind kind.ComplexElement = framed
+      by_kind (kind.SimpleElement simple) = framed
+      by_kind kind.UncarriedElement = framed
+      by_kind kind.Sequence = framed
+      by_kind kind.Choice = framed
+      by_kind (kind.PrefixNumber simple) = framed
+
+      by_role : (r : Role) → HasDelimiters (count_of documents + count_of documents) (component_of documents own (judgement_at purpose refused documents own) r)
+      by_role role.GroupReference = by_group (referred documents own names.Group)
+      by_role _ = by_kind (kind_at documents own)
+
+  -- there are two lists of delimiters for each element
+  length_delimiters : length (delimiters_of purpose refused documents) ≡ count_of documents + count_of documents
+  unfolding delimiters_of
+  length_delimiters =
+      let initiators = length_lists documents (initiator_list_at purpose refused documents) in
+      let terminators = length_lists documents (terminator_list_at purpose refused documents) in
+      let all = length-append (for_each documents (initiator_list_at purpose refused documents)) (for_each documents (terminator_list_at purpose refused documents)) in
+      omega (arith, all, initiators, terminators)
+
+  -- the lists of each component are in the table
+  pub have_lists : (schema : Schema) (lists : List Delimiters) → schema ≡ components_of purpose refused documents
+      → lists ≡ delimiters_of purpose refused documents → All (HasDelimiters (length lists)) schema.components
+  unfolding components_of
+  have_lists schema lists schema_is lists_are =
+      subst (λ (n : ℕ). All (HasDelimiters n) schema.components)
+      (sym (ap (λ (ds : List Delimiters). length ds) lists_are ∙ length_delimiters))
+      (subst (λ (s : Schema). All (HasDelimiters (count_of documents + count_of documents)) s.components) (sym schema_is)
+      (each (IsSite documents) (HasDelimiters (count_of documents + count_of documents)) (component_at purpose refused documents) has_lists
+      (all_sites documents) (all_within documents)))
+
   -- a component that is a simple element has the type of its primitive, and the primitive's number
   typed_component : (own : Site) (name : List ℕ) (simple : Simple) (prim : ℕ) (framing : Framing) (prefix : Option Prefix) (tried : Representations)
       → component_at purpose refused documents own ≡ SimpleElement name simple prim framing prefix tried
       → (type_of (primitive_at purpose refused documents own) ≡ simple) × (number_of documents own ≡ prim)
   typed_component own name simple prim framing prefix tried = by_role (role_of documents own)
     where
-      by_group : (o : Option Site) → reference_by (judgement_at purpose refused documents own).framing o ≡ SimpleElement name simple prim framing prefix tried
+      by_group : (o : Option Site) → reference_by (framing_of documents own (judgement_at purpose refused documents own)) o ≡ SimpleElement name simple prim framing prefix tried
           → (type_of (primitive_at purpose refused documents own) ≡ simple) × (number_of documents own ≡ prim)
       by_group None is = absurd (cc)
       by_group (Some group) is = absurd (cc)
@@ -350,6 +436,9 @@ module _ (purpose : Purpose) (refused : Site → Bool) (documents : List SchemaD
   leaf_typed simple (Some (Group children)) one = absurd one
   leaf_typed simple (Some (Skip bits)) one = absurd one
   leaf_typed simple (Some (Align bits)) one = absurd one
+  leaf_typed simple (Some (Initiator delimiter)) one = absurd one
+  leaf_typed simple (Some (Terminator delimiter)) one = absurd one
+  leaf_typed simple (Some (Scope list inside)) one = absurd one
   leaf_typed simple (Some (Boxed bits inside)) one = absurd one
   leaf_typed simple (Some (PrefixedLeaf prefix prim)) one = absurd one
   leaf_typed simple (Some (PrefixedBox prefix inside)) one = absurd one
@@ -361,6 +450,7 @@ module _ (purpose : Purpose) (refused : Site → Bool) (documents : List SchemaD
   reads_typed rows simple id (leaf _ prim is among) = leaf id prim is (among_typed simple prim among)
   reads_typed rows simple id (prefixed _ prim prefix is among) = prefixed id prim prefix is (among_typed simple prim among)
   reads_typed rows simple id (grouped _ at child children is there reads) = grouped id at child children is there (reads_typed rows simple child reads)
+  reads_typed rows simple id (scoped _ list body is reads) = scoped id list body is (reads_typed rows simple body reads)
 
   -- each simple element is read by a primitive of its type
   pub leaves_typed : (schema : Schema) (t : Table) → schema ≡ components_of purpose refused documents → t.primitives ≡ primitives_of purpose refused documents
@@ -380,29 +470,29 @@ module _ (purpose : Purpose) (refused : Site → Bool) (documents : List SchemaD
       (leaf_typed simple (slice_get t.rows body)
       (subst (λ (s : Schema). IsLeafOf s.components simple (slice_get t.rows body)) schema_is (leaves row name simple tried body is)))
 
--- neither fill nor a box nor a length prefix is told
-record IsBare (told : Judgement) : Type 0 where
-  unfilled : has_fill told.framing ≡ false
+-- neither fill nor a delimiter nor a box nor a length prefix is told of an element
+record IsBare (documents : List SchemaDocument) (own : Site) (told : Judgement) : Type 0 where
+  unframed : has_framing (framing_of documents own told) ≡ false
   unboxed : told.size ≡ None
   unprefixed : told.prefix ≡ None
 
 -- no component has any of them for unparsing
 module _ (refused : Site → Bool) (documents : List SchemaDocument)
     (none : (refused : Site → Bool) (documents : List SchemaDocument) (own : Site) → form_of_prefix Unparsing refused documents own ≡ None) where
-  bare_by : (own : Site) (b : Bool) → IsBare (judgement_if Unparsing refused documents own b)
+  bare_by : (own : Site) (b : Bool) → IsBare documents own (judgement_if Unparsing refused documents own b)
   unfolding judgement_if
-  bare_by own true = record { unfilled = refl; unboxed = refl; unprefixed = none refused documents own }
-  bare_by own false = record { unfilled = refl; unboxed = refl; unprefixed = refl }
+  bare_by own true = record { unframed = refl; unboxed = refl; unprefixed = none refused documents own }
+  bare_by own false = record { unframed = refl; unboxed = refl; unprefixed = refl }
 
-  bare_judgement : (own : Site) → IsBare (judgement_at Unparsing refused documents own)
+  bare_judgement : (own : Site) → IsBare documents own (judgement_at Unparsing refused documents own)
   unfolding judgement_at judgement_if
   bare_judgement own = bare_by own (is_component (role_of documents own))
 
-  -- without fill, and with a box or a prefix only where the judgement has one
+  -- without fill and delimiters, and with a box or a prefix only where the judgement has one
   bare_component : (own : Site) → IsBareComponent (component_at Unparsing refused documents own)
   bare_component own = by_role (role_of documents own)
     where
-      told : IsBare (judgement_at Unparsing refused documents own)
+      told : IsBare documents own (judgement_at Unparsing refused documents own)
       told = bare_judgement own
 
       by_prefix : (o : Option PrefixForm) → o ≡ None → option_map (prefix_by (prefix_number documents own)) o ≡ None
@@ -421,17 +511,17 @@ module _ (refused : Site → Bool) (documents : List SchemaDocument)
       unboxed = by_box (judgement_at Unparsing refused documents own).size (option_map (prefix_by (prefix_number documents own)) (judgement_at Unparsing refused documents own).prefix)
           told.unboxed unprefixed
 
-      by_group : (o : Option Site) → IsBareComponent (reference_by (judgement_at Unparsing refused documents own).framing o)
-      by_group None = record { unfilled = told.unfilled; unboxed = refl; unprefixed = refl }
-      by_group (Some group) = record { unfilled = told.unfilled; unboxed = refl; unprefixed = refl }
+      by_group : (o : Option Site) → IsBareComponent (reference_by (framing_of documents own (judgement_at Unparsing refused documents own)) o)
+      by_group None = record { unframed = told.unframed; unboxed = refl; unprefixed = refl }
+      by_group (Some group) = record { unframed = told.unframed; unboxed = refl; unprefixed = refl }
 
       by_kind : (k : Kind) → IsBareComponent (of_kind Unparsing refused documents own k)
-      by_kind kind.ComplexElement = record { unfilled = told.unfilled; unboxed = unboxed; unprefixed = refl }
-      by_kind (kind.SimpleElement simple) = record { unfilled = told.unfilled; unboxed = refl; unprefixed = unprefixed }
-      by_kind kind.UncarriedElement = record { unfilled = told.unfilled; unboxed = refl; unprefixed = unprefixed }
-      by_kind kind.Sequence = record { unfilled = told.unfilled; unboxed = refl; unprefixed = refl }
-      by_kind kind.Choice = record { unfilled = told.unfilled; unboxed = refl; unprefixed = refl }
-      by_kind (kind.PrefixNumber simple) = record { unfilled = told.unfilled; unboxed = refl; unprefixed = refl }
+      by_kind kind.ComplexElement = record { unframed = told.unframed; unboxed = unboxed; unprefixed = refl }
+      by_kind (kind.SimpleElement simple) = record { unframed = told.unframed; unboxed = refl; unprefixed = unprefixed }
+      by_kind kind.UncarriedElement = record { unframed = told.unframed; unboxed = refl; unprefixed = unprefixed }
+      by_kind kind.Sequence = record { unframed = told.unframed; unboxed = refl; unprefixed = refl }
+      by_kind kind.Choice = record { unframed = told.unframed; unboxed = refl; unprefixed = refl }
+      by_kind (kind.PrefixNumber simple) = record { unframed = told.unframed; unboxed = refl; unprefixed = refl }
 
       by_role : (r : Role) → IsBareComponent (component_of documents own (judgement_at Unparsing refused documents own) r)
       by_role role.GroupReference = by_group (referred documents own names.Group)

@@ -34,6 +34,9 @@ use Rattle.dfdl_rows.specs.declared.component.ContentBox.TheVariants.{Unbounded,
 use Rattle.dfdl_rows.specs.declared.component.Component.{Component}
 use Rattle.dfdl_rows.specs.declared.component.Component.TheVariants.{Sequence, Reference, ComplexElement, SimpleElement}
 use Rattle.dfdl_rows.specs.declared.refusal.Refusal.{Refusal}
+use Rattle.dfdl_terms.specs.declared.delimiters.Delimiters.{Delimiters}
+use Rattle.dfdl_terms.specs.Tables.{Named}
+use Rattle.dfdl_compile.specs.Delimiters.{framing_by, initiator_list_by, terminator_list_by}
 use Rattle.dfdl_compile.specs.Primitives.{empty_primitive_by, nil_primitive_by, prefix_primitive_by, primitive_by}
 
 -- the local name of an element
@@ -55,6 +58,15 @@ nil_number documents own = count_of documents + prefix_number documents own
 abbrev pub empty_number : List SchemaDocument → Site → ℕ
 empty_number documents own = count_of documents + nil_number documents own
 
+-- The number of the literals of an element's terminator: those of terminators stand behind those of all initiators, which stand in the
+-- order of the elements, in the same order.
+abbrev pub terminator_number : List SchemaDocument → Site → ℕ
+terminator_number documents own = count_of documents + number_of documents own
+
+-- what frames the content of an element of which this is told
+abbrev pub framing_of : List SchemaDocument → Site → Judgement → Framing
+framing_of documents own judgement = framing_by (number_of documents own) (terminator_number documents own) judgement
+
 -- the number of a primitive, where there is one
 abbrev pub number_if : ℕ → Option Primitive → Option ℕ
 number_if number None = None
@@ -66,6 +78,7 @@ abbrev pub tried_by : ℕ → ℕ → OtherRepresentations → Representations
 tried_by nil empty others = record {
   nil = number_if nil others.nil;
   empty = number_if empty others.empty;
+  refuses_empty = others.refuses_empty;
   are_several = others.are_several;
 }
 
@@ -79,8 +92,8 @@ box_by (Some bits) prefix = Sized bits
 box_by None (Some prefix) = Prefixed prefix
 box_by None None = Unbounded
 
--- an element or a group, of which this is its name, how its values lie in the data, its number, the fill and the box around its
--- content, its length prefix, and the representations that are tried before its normal one
+-- an element or a group, of which this is its name, how its values lie in the data, its number, what frames its content and the box
+-- around it, its length prefix, and the representations that are tried before its normal one
 abbrev pub component_by : List ℕ → Primitive → ℕ → Framing → Option ℕ → Option Prefix → Representations → Kind → Component
 component_by name primitive number framing size prefix tried kind.ComplexElement = ComplexElement name framing (box_by size prefix)
 component_by name primitive number framing size prefix tried (kind.SimpleElement simple) =
@@ -91,16 +104,16 @@ component_by name primitive number framing size prefix tried kind.Sequence = Seq
 component_by name primitive number framing size prefix tried kind.Choice = Sequence framing
 component_by name primitive number framing size prefix tried (kind.PrefixNumber simple) = Sequence framing
 
--- a group reference with this fill stands for the group that it names
+-- a group reference that is framed so stands for the group that it names
 abbrev pub reference_by : Framing → Option Site → Component
 reference_by framing None = Sequence framing
 reference_by framing (Some own) = Reference framing
 
 -- what an element of the documents is, by its role and what is told of it
 abbrev pub component_of : List SchemaDocument → Site → Judgement → Role → Component
-component_of documents own judgement role.GroupReference = reference_by judgement.framing (referred documents own names.Group)
+component_of documents own judgement role.GroupReference = reference_by (framing_of documents own judgement) (referred documents own names.Group)
 component_of documents own judgement _ =
-    component_by (element_name documents own) (primitive_by judgement) (number_of documents own) judgement.framing judgement.size
+    component_by (element_name documents own) (primitive_by judgement) (number_of documents own) (framing_of documents own judgement) judgement.size
     (option_map (prefix_by (prefix_number documents own)) judgement.prefix)
     (tried_by (nil_number documents own) (empty_number documents own) judgement.others) (kind_at documents own)
 
@@ -156,3 +169,24 @@ primitives_of purpose refused documents =
     for_each documents (primitive_at purpose refused documents)
     ++ (for_each documents (prefix_primitive_at purpose refused documents)
     ++ (for_each documents (nil_primitive_at purpose refused documents) ++ for_each documents (empty_primitive_at purpose refused documents)))
+
+-- the literals of the initiator of an element of the documents
+abbrev pub initiator_list_at : Purpose → (Site → Bool) → List SchemaDocument → Site → Delimiters
+initiator_list_at purpose refused documents own = initiator_list_by (judgement_at purpose refused documents own)
+
+-- the literals of the terminator of an element of the documents
+abbrev pub terminator_list_at : Purpose → (Site → Bool) → List SchemaDocument → Site → Delimiters
+terminator_list_at purpose refused documents own = terminator_list_by (judgement_at purpose refused documents own)
+
+-- the literals of the delimiters of the documents: those of the initiators of their elements by the elements' numbers, and behind them,
+-- in the same order, those of their terminators
+unfoldable pub delimiters_of : Purpose → (Site → Bool) → List SchemaDocument → List Delimiters
+delimiters_of purpose refused documents =
+    for_each documents (initiator_list_at purpose refused documents) ++ for_each documents (terminator_list_at purpose refused documents)
+
+-- what the rows of the documents name
+abbrev pub named_of : Purpose → (Site → Bool) → List SchemaDocument → Named
+named_of purpose refused documents = record {
+  primitives = primitives_of purpose refused documents;
+  delimiters = delimiters_of purpose refused documents;
+}

@@ -1,4 +1,5 @@
 pub mod Primitives
+pub mod Delimiters
 pub mod Components
 pub mod Compiled
 pub mod Builds

@@ -11,7 +11,7 @@ use Rattle.dfdl_terms.specs.declared.representations.Representations.{Representa
 use Rattle.dfdl_terms.specs.declared.row.Primitive.{Primitive}
 use Rattle.dfdl_terms.specs.declared.row.Primitive.TheVariants.{Default, Integer}
 use Rattle.dfdl_terms.specs.declared.row.Row.{Row}
-use Rattle.dfdl_terms.specs.declared.row.Row.TheVariants.{Leaf, Elem, Group, Skip, Align, Boxed, PrefixedLeaf, PrefixedBox}
+use Rattle.dfdl_terms.specs.declared.row.Row.TheVariants.{Leaf, Elem, Group, Skip, Align, Initiator, Terminator, Scope, Boxed, PrefixedLeaf, PrefixedBox}
 use Rattle.dfdl_terms.specs.declared.text.DefaultForm.{DefaultForm}
 use Rattle.dfdl_checks.specs.Numbers.{type_of}
 use Rattle.dfdl_checks.specs.declared.prefixes.PrefixForm.{PrefixForm}
@@ -64,6 +64,9 @@ IsLeafOfType primitives simple (Some (Elem name other tried body)) = ⊥
 IsLeafOfType primitives simple (Some (Group children)) = ⊥
 IsLeafOfType primitives simple (Some (Skip bits)) = ⊥
 IsLeafOfType primitives simple (Some (Align bits)) = ⊥
+IsLeafOfType primitives simple (Some (Initiator delimiter)) = ⊥
+IsLeafOfType primitives simple (Some (Terminator delimiter)) = ⊥
+IsLeafOfType primitives simple (Some (Scope list inside)) = ⊥
 IsLeafOfType primitives simple (Some (Boxed bits inside)) = ⊥
 IsLeafOfType primitives simple (Some (PrefixedLeaf prefix prim)) = ⊥
 IsLeafOfType primitives simple (Some (PrefixedBox prefix inside)) = ⊥

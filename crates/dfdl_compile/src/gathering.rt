@@ -10,18 +10,19 @@ ghost use Rattle.dfdl_breaches.specs.Judging.{judgement_at};
 ghost use Rattle.dfdl_checks.specs.declared.purpose.Purpose as declared_purpose;
 ghost use Rattle.dfdl_components.specs.declared.site.Site as declared_site;
 ghost use Rattle.dfdl_compile.specs.Components as spec;
+ghost use Rattle.dfdl_compile.specs.Delimiters as delimiters;
 ghost use Rattle.dfdl_compile.specs.Primitives.{primitive_by};
 
 use crate::primitives::type_by;
 use dfdl_breaches::Judgement;
 use dfdl_chains::{Numbers, declaration, kind_at, parts_at, referred};
-use dfdl_checks::{Breach, Kind, OtherRepresentations};
+use dfdl_checks::{Breach, Delimiting, Kind, OtherRepresentations};
 use dfdl_components::{ComponentKind, Schema, Site};
 use dfdl_constructs::{Role, plain};
 use dfdl_order::{OrderFault, Uses};
 use dfdl_report::Place;
 use dfdl_rows::{Component, ContentBox, Refusal};
-use dfdl_terms::{Framing, Prefix, Primitive, Representations};
+use dfdl_terms::{Delimiter, Framing, Prefix, Primitive, Representations};
 use dfdl_value::TextValue;
 use std::alloc::{AllocError, Global};
 
@@ -67,7 +68,33 @@ fn tried_by(nil: u32, empty: u32, others: &OtherRepresentations) -> Representati
     Representations {
         nil: number_if(nil, &others.nil),
         empty: number_if(empty, &others.empty),
+        refuses_empty: others.refuses_empty,
         are_several: others.are_several,
+    }
+}
+
+// A delimiter, where there is one, whose literals have this number.
+fn delimiter_by(number: u32, delimiter: &Option<Delimiting>) -> Option<Delimiter>
+    ensures { result ≡ option_map (delimiters.delimiter_by number) delimiter.now }
+{
+    match delimiter {
+        Some(delimiter) => Some(Delimiter {
+            list: number,
+            in_nil: delimiter.in_nil,
+            in_empty: delimiter.in_empty,
+        }),
+        None => None,
+    }
+}
+
+// What frames the content of an element of which this is told, where the literals of its initiator and its terminator have these numbers.
+fn framing_by(initiator: u32, terminator: u32, judgement: &Judgement) -> Framing
+    ensures { result ≡ delimiters.framing_by initiator terminator judgement.now }
+{
+    Framing {
+        initiator: delimiter_by(initiator, &judgement.markup.initiator),
+        terminator: delimiter_by(terminator, &judgement.markup.terminator),
+        ..judgement.framing
     }
 }
 
@@ -84,20 +111,27 @@ fn box_by(size: Option<u64>, prefix: Option<Prefix>) -> ContentBox
     }
 }
 
-// An element or a group of this name, of which this is told, with the number of its primitive, its length prefix and the
-// representations that are tried before its normal one.
-fn component_by(
-    name: TextValue,
-    judgement: &Judgement,
+// What an element has that names things in the tables by their numbers.
+#[derive(Clone, Copy)]
+struct Numbered {
+    // The number of its primitive.
     prim: u32,
+    framing: Framing,
     prefix: Option<Prefix>,
     tried: Representations,
-    kind: Kind,
-) -> Component
-    ensures { result ≡ spec.component_by name (primitive_by judgement.now) prim judgement.now.framing judgement.now.size prefix tried kind }
+}
+
+// An element or a group of this name, of which this is told, with what names things in the tables.
+fn component_by(name: TextValue, judgement: &Judgement, numbered: Numbered, kind: Kind) -> Component
+    ensures { result ≡ spec.component_by name (primitive_by judgement.now) numbered.prim numbered.framing judgement.now.size numbered.prefix numbered.tried kind }
 {
     let simple = type_by(judgement);
-    let framing = judgement.framing;
+    let Numbered {
+        prim,
+        framing,
+        prefix,
+        tried,
+    } = numbered;
     match kind {
         Kind::ComplexElement => Component::ComplexElement {
             name,
@@ -126,7 +160,7 @@ fn component_by(
     }
 }
 
-// A group reference with this fill stands for the group that it names.
+// A group reference that is framed so stands for the group that it names.
 fn reference_by(framing: Framing, group: Option<Site>) -> Component
     ensures { result ≡ spec.reference_by framing group }
 {
@@ -136,8 +170,7 @@ fn reference_by(framing: Framing, group: Option<Site>) -> Component
     }
 }
 
-// The number of the primitive that stands so many behind this one as there are elements. There is no memory for 2^32
-// primitives.
+// The number of what stands so many behind this one as there are elements. There is no memory for 2^32 primitives or lists.
 fn one_list_behind(schema: &Schema, numbers: &Numbers, number: u32) -> Result<u32, AllocError>
     requires { AreNumbers schema.now numbers.now }
     ensures { IfOk result (λ behind. behind ≡ count_of schema.now + number) }
@@ -149,38 +182,47 @@ fn one_list_behind(schema: &Schema, numbers: &Numbers, number: u32) -> Result<u3
     }
 }
 
-// The numbers of an element's primitives: of its own, of that of its length prefix, and of those of its nil and its empty
-// representation.
-#[derive(Clone, Copy)]
-struct PrimitiveNumbers {
-    own: u32,
-    prefix: u32,
-    nil: u32,
-    empty: u32,
-}
-
-// Those of an element of the documents.
-fn primitive_numbers(
+// What frames the content of an element of the documents of which this is told.
+fn framing_of(
     schema: &Schema,
     numbers: &Numbers,
     site: Site,
-) -> Result<PrimitiveNumbers, AllocError>
+    judgement: &Judgement,
+) -> Result<Framing, AllocError>
     requires site { IsSite schema.now site }
     requires numbers { AreNumbers schema.now numbers.now }
-    ensures own { IfOk result (λ found. found.own ≡ number_of schema.now site) }
-    ensures prefix { IfOk result (λ found. found.prefix ≡ spec.prefix_number schema.now site) }
-    ensures nil { IfOk result (λ found. found.nil ≡ spec.nil_number schema.now site) }
-    ensures empty { IfOk result (λ found. found.empty ≡ spec.empty_number schema.now site) }
+    ensures { IfOk result (λ framing. framing ≡ spec.framing_of schema.now site judgement.now) }
 {
-    let own = numbers.number(schema, site);
-    let prefix = one_list_behind(schema, numbers, own)?;
+    let initiator = numbers.number(schema, site);
+    let terminator = one_list_behind(schema, numbers, initiator)?;
+    Ok(framing_by(initiator, terminator, judgement))
+}
+
+// What an element of the documents of which this is told has by numbers.
+fn by_numbers(
+    schema: &Schema,
+    numbers: &Numbers,
+    site: Site,
+    judgement: &Judgement,
+) -> Result<Numbered, AllocError>
+    requires site { IsSite schema.now site }
+    requires numbers { AreNumbers schema.now numbers.now }
+    ensures prim { IfOk result (λ found. found.prim ≡ number_of schema.now site) }
+    ensures framing { IfOk result (λ found. found.framing ≡ spec.framing_of schema.now site judgement.now) }
+    ensures prefix { IfOk result (λ found. found.prefix ≡ option_map (spec.prefix_by (spec.prefix_number schema.now site)) judgement.now.prefix) }
+    ensures tried { IfOk result (λ found. found.tried
+        ≡ spec.tried_by (spec.nil_number schema.now site) (spec.empty_number schema.now site) judgement.now.others) }
+{
+    let prim = numbers.number(schema, site);
+    let prefix = one_list_behind(schema, numbers, prim)?;
     let nil = one_list_behind(schema, numbers, prefix)?;
     let empty = one_list_behind(schema, numbers, nil)?;
-    Ok(PrimitiveNumbers {
-        own,
-        prefix,
-        nil,
-        empty,
+    let framing = framing_of(schema, numbers, site, judgement)?;
+    Ok(Numbered {
+        prim,
+        framing,
+        prefix: prefix_by(prefix, judgement),
+        tried: tried_by(nil, empty, &judgement.others),
     })
 }
 
@@ -199,16 +241,15 @@ fn component_of(
 {
     match role {
         Role::GroupReference => {
+            let framing = framing_of(schema, numbers, site, judgement)?;
             let group = referred(schema, site, ComponentKind::Group);
-            Ok(reference_by(judgement.framing, group))
+            Ok(reference_by(framing, group))
         }
         _ => {
             let name = element_name(alloc, schema, site)?;
-            let found = primitive_numbers(schema, numbers, site)?;
-            let prefix = prefix_by(found.prefix, judgement);
-            let tried = tried_by(found.nil, found.empty, &judgement.others);
+            let numbered = by_numbers(schema, numbers, site, judgement)?;
             let kind = kind_at(schema, numbers, site);
-            Ok(component_by(name, judgement, found.own, prefix, tried, kind))
+            Ok(component_by(name, judgement, numbered, kind))
         }
     }
 }

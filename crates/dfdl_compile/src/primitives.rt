@@ -1,13 +1,15 @@
-// The primitives that the leaves of a schema, their length prefixes and their other representations are read by.
-ghost use Rattle.std.specs.Prelude.{◌≡◌, ◌++◌, All, IfOk, map, unwrap_or};
+// What the rows of a schema name: the primitives that its leaves, their length prefixes and their other representations are read by,
+// and the literals of its delimiters.
+ghost use Rattle.std.specs.Prelude.{◌≡◌, [], ◌++◌, All, IfOk, map, unwrap_or};
 ghost use Rattle.dfdl_checks.specs.Numbers as numbers;
+ghost use Rattle.dfdl_compile.specs.Delimiters as delimiters;
 ghost use Rattle.dfdl_compile.specs.Primitives as spec;
 
 use dfdl_breaches::Judgement;
-use dfdl_checks::PrefixForm;
-use dfdl_forms::{BitOrder, ByteOrder, IntForm, Simple};
+use dfdl_checks::{Delimiting, PrefixForm};
+use dfdl_forms::{BitOrder, ByteOrder, Encoding, IntForm, Literals, Simple};
 use dfdl_terms::row::default_is_written;
-use dfdl_terms::{Primitive, Tables, TextContent};
+use dfdl_terms::{Delimiters, Primitive, Tables, TextContent};
 use std::alloc::{AllocError, Global};
 
 // The primitive that stands for an element without one of its own.
@@ -92,63 +94,102 @@ fn texts_are_written(primitives: &[Primitive])
     }
 }
 
-// The primitives of some elements: those of their values, and of their prefixes and other representations.
+// The literals of a delimiter, or the list that stands for none.
+fn list_if(alloc: Global, delimiter: Option<Delimiting>) -> Delimiters
+    ensures { result ≡ delimiters.list_if delimiter }
+{
+    match delimiter {
+        Some(delimiter) => delimiter.list,
+        None => Delimiters {
+            literals: Literals::new(Vec::new(alloc)),
+            encoding: Encoding::Utf8,
+            fold: false,
+        },
+    }
+}
+
+// What some elements name: the primitives of their values, and of their prefixes and other representations, and the literals of
+// their delimiters.
 #[derive(Drop)]
-struct PrimitiveLists {
+struct Lists {
     own: Vec<Primitive>,
     prefixes: Vec<Primitive>,
     nils: Vec<Primitive>,
     empties: Vec<Primitive>,
+    initiators: Vec<Delimiters>,
+    terminators: Vec<Delimiters>,
+}
+
+impl Lists {
+    fn new(alloc: Global) -> Lists
+        ensures own { result.own.items ≡ [] }
+        ensures prefixes { result.prefixes.items ≡ [] }
+        ensures nils { result.nils.items ≡ [] }
+        ensures empties { result.empties.items ≡ [] }
+        ensures initiators { result.initiators.items ≡ [] }
+        ensures terminators { result.terminators.items ≡ [] }
+    {
+        Lists {
+            own: Vec::new(alloc),
+            prefixes: Vec::new(alloc),
+            nils: Vec::new(alloc),
+            empties: Vec::new(alloc),
+            initiators: Vec::new(alloc),
+            terminators: Vec::new(alloc),
+        }
+    }
 }
 
 // Those of elements of which this is told.
-fn lists_of(alloc: Global, judgements: Vec<Judgement>) -> Result<PrimitiveLists, AllocError>
+fn lists_of(alloc: Global, judgements: Vec<Judgement>) -> Result<Lists, AllocError>
     ensures own { IfOk result (λ lists. lists.own.items ≡ map spec.primitive_by judgements.items) }
     ensures prefixes { IfOk result (λ lists. lists.prefixes.items ≡ map spec.prefix_primitive_by judgements.items) }
     ensures nils { IfOk result (λ lists. lists.nils.items ≡ map spec.nil_primitive_by judgements.items) }
     ensures empties { IfOk result (λ lists. lists.empties.items ≡ map spec.empty_primitive_by judgements.items) }
+    ensures initiators { IfOk result (λ lists. lists.initiators.items ≡ map delimiters.initiator_list_by judgements.items) }
+    ensures terminators { IfOk result (λ lists. lists.terminators.items ≡ map delimiters.terminator_list_by judgements.items) }
 {
-    let mut own = Vec::new(alloc);
-    let mut prefixes = Vec::new(alloc);
-    let mut nils = Vec::new(alloc);
-    let mut empties = Vec::new(alloc);
+    let mut lists = Lists::new(alloc);
     for judgement in judgements {
         let Judgement {
             primitive,
+            markup,
             prefix,
             others,
             ..
         } = judgement;
-        own.push(primitive_or_byte(primitive))?;
-        prefixes.push(primitive_if(prefix))?;
-        nils.push(primitive_or_byte(others.nil))?;
-        empties.push(primitive_or_byte(others.empty))?;
+        lists.own.push(primitive_or_byte(primitive))?;
+        lists.prefixes.push(primitive_if(prefix))?;
+        lists.nils.push(primitive_or_byte(others.nil))?;
+        lists.empties.push(primitive_or_byte(others.empty))?;
+        lists.initiators.push(list_if(alloc, markup.initiator))?;
+        lists.terminators.push(list_if(alloc, markup.terminator))?;
     }
-    Ok(PrimitiveLists {
-        own,
-        prefixes,
-        nils,
-        empties,
-    })
+    Ok(lists)
 }
 
-/// The primitives of elements of which this is told, and behind them those of their length prefixes, of their nil
-/// representations and of their empty ones.
+/// What the rows of elements name of which this is told: their primitives, and behind them those of their length prefixes, of their nil
+/// representations and of their empty ones; the literals of their initiators, and behind them those of their terminators.
 pub(crate) fn tables(alloc: Global, judgements: Vec<Judgement>) -> Result<Tables, AllocError>
-    ensures tables { IfOk result (λ tables. tables ≡ map spec.primitive_by judgements.items
+    ensures primitives { IfOk result (λ tables. tables.primitives ≡ map spec.primitive_by judgements.items
         ++ (map spec.prefix_primitive_by judgements.items
         ++ (map spec.nil_primitive_by judgements.items ++ map spec.empty_primitive_by judgements.items))) }
-    ensures written { IfOk result (All spec.HasWrittenText) }
+    ensures delimiters { IfOk result (λ tables. tables.delimiters ≡ map delimiters.initiator_list_by judgements.items
+        ++ map delimiters.terminator_list_by judgements.items) }
+    ensures written { IfOk result (λ tables. All spec.HasWrittenText tables.primitives) }
 {
-    let PrimitiveLists {
+    let Lists {
         mut own,
         mut prefixes,
         mut nils,
         mut empties,
+        mut initiators,
+        mut terminators,
     } = lists_of(alloc, judgements)?;
     nils.append(&mut empties)?;
     prefixes.append(&mut nils)?;
     own.append(&mut prefixes)?;
+    initiators.append(&mut terminators)?;
     texts_are_written(own.as_slice());
-    Ok(Tables::new(own))
+    Ok(Tables::new(own, initiators))
 }

@@ -52,6 +52,7 @@ fn tried(nil: Option<u32>, empty: Option<u32>, are_several: bool) -> Representat
     Representations {
         nil,
         empty,
+        refuses_empty: false,
         are_several,
     }
 }

@@ -1,21 +1,20 @@
 -- What may follow the bytes that were seen: that a text is whole, and that one is longer.
-use Rattle.std.proofs.Common.{◌≡◌, ℕ, zero, suc, ◌+◌, ◌-◌, ◌<◌, ◌≤◌, List, [], ◌∷◌, ◌++◌, length, Option, Some, None, Bool, true, false, ◌&&◌, ◌||◌, ◌==◌, not, if◌then◌else◌, refl, sym, ap, subst, ◌∙◌, arith}
+use Rattle.std.proofs.Common.{◌≡◌, ℕ, zero, suc, List, [], ◌∷◌, ◌++◌, length, Option, Some, None, Bool, true, false, ◌&&◌, ◌||◌, ◌==◌, not, refl, sym, ap, subst, ◌∙◌, arith}
 use Rattle.std.proofs.lemmas.Bool.{and_parts}
 use Rattle.std.proofs.lemmas.Bool.Decides.{nat_tests}
-use Rattle.std.proofs.lemmas.List.Folds.{list_any-append}
-use Rattle.std.specs.List.{list_all, list_any}
+use Rattle.std.specs.List.{list_all}
 use Rattle.dfdl_forms.specs.declared.encoding.Encoding.{Encoding}
 use Rattle.dfdl_forms.specs.declared.encoding.Encoding.TheVariants.{Utf8, UsAscii, Iso88591, Utf16Be, Utf16Le}
 use Rattle.dfdl_forms.specs.declared.literals.Piece.{Piece}
 use Rattle.dfdl_forms.specs.declared.literals.Piece.TheVariants.{Char, Byte, NewLine, Space, Spaces, MaybeSpaces, Nothing}
-use Rattle.dfdl_chars.specs.Encodings.{encoded_of, encoded_text, joined}
+use Rattle.dfdl_chars.specs.Encodings.{encoded_of, encoded_text}
 use Rattle.dfdl_literal_texts.specs.Texts.{after_any, after_bytes, after_encoded, after_most, after_one, after_piece, cases_of, is_text, line_breaks, one_each, spaces, white_space}
 use Rattle.dfdl_delims.specs.declared.left.Left.{Left}
 use Rattle.dfdl_delims.specs.declared.left.Left.TheVariants.{Done, One, Two, Three}
 use Rattle.dfdl_delims.specs.declared.candidate.Candidate.{Candidate}
-use Rattle.dfdl_delims.specs.Candidates.{begun, begun_each, begun_from, begun_line_break, begun_loop, begun_piece, cases, completes, further, has_more, has_one, has_text, have_texts, is_dead, is_done, is_nothing, is_tail, is_tail_of, is_there, is_whole, left_behind, left_bytes, left_then, line_ends, passes, pieces_from, some_dead, step, stepped}
+use Rattle.dfdl_delims.specs.Candidates.{cases, completes, has_more, has_one, has_text, have_texts, is_dead, is_done, is_nothing, is_tail, is_tail_of, is_there, is_whole, left_bytes, line_ends, passes, pieces_from}
 use Rattle.dfdl_delims.proofs.Encoded.{HasBytes, any_first, char_bytes, has_bytes, no_one, no_pair, one_text, pair_bytes}
-use Rattle.dfdl_delims.proofs.Completing.{next_pieces, same_cases, some_bytes}
+use Rattle.dfdl_delims.proofs.Completing.{same_cases, some_bytes}
 
 or_first : (a b : Bool) → a ≡ true → (a || b) ≡ true
 or_first true b is = refl

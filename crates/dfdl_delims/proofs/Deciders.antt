@@ -1,10 +1,9 @@
 -- Of which bytes a text is longer, and where the looks at a text lie.
-use Rattle.std.proofs.Common.{◌≡◌, ℕ, zero, suc, ◌+◌, ◌-◌, ◌*◌, ◌/◌, ◌≤◌, List, [], ◌∷◌, ◌++◌, length, Option, Some, None, Bool, true, false, if◌then◌else◌, refl, sym, ap, ◌∙◌, arith}
-use Rattle.std.specs.List.{list_any}
+use Rattle.std.proofs.Common.{◌≡◌, ℕ, zero, suc, ◌+◌, ◌-◌, ◌/◌, ◌≤◌, List, [], ◌∷◌, ◌++◌, length, Option, Some, None, Bool, true, false, if◌then◌else◌, refl, sym, ap, ◌∙◌, arith}
 use Rattle.dfdl_forms.specs.declared.literals.Piece.{Piece}
 use Rattle.dfdl_looks.specs.Asks.{Ask, Answer, AsksFrom, Look}
 use Rattle.dfdl_delims.specs.declared.candidate.Candidate.{Candidate}
-use Rattle.dfdl_delims.specs.Candidates.{complete, has_more, some_dead, step}
+use Rattle.dfdl_delims.specs.Candidates.{complete, some_dead, step}
 use Rattle.dfdl_delims.specs.Deciding.{behind, goes_on, goes_on_in}
 use Rattle.dfdl_delims.specs.Lists.{Decides, GoesOn, Opened, innermost, is_text_at}
 use Rattle.dfdl_delims.specs.Longest.{Longest, NoText, better, longest_at, longest_from}
@@ -32,11 +31,11 @@ decided_in flat lists stands bytes = (there, back)
   where
     text_is : (place : ℕ) (rest : List ℕ)
         → complete flat.pieces place (behind flat.pieces bytes flat.starts) rest ≡ is_text_at lists place (bytes ++ rest)
-    text_is place rest = behind_completes flat.pieces bytes flat.starts place rest ∙ stands.is place (bytes ++ rest)
+    text_is place rest = behind_completes flat.pieces bytes flat.starts place rest ∙ stands.texts.is place (bytes ++ rest)
 
     there : goes_on_in flat bytes ≡ true → GoesOn lists bytes
     there goes =
-        let more = some_goes flat.pieces (behind flat.pieces bytes flat.starts) (behind_live flat.pieces bytes flat.starts stands.live) goes in
+        let more = some_goes flat.pieces (behind flat.pieces bytes flat.starts) (behind_live flat.pieces bytes flat.starts stands.texts.live) goes in
         record { place = more.place; next = more.next; more = more.more; is = sym (text_is more.place (more.next ∷ more.more)) ∙ more.is }
 
     back : GoesOn lists bytes → goes_on_in flat bytes ≡ true
@@ -71,3 +70,25 @@ from_here test lists low (suc more) seen found k least =
 
 pub begins_here : (test : List ℕ → Bool) (lists : List Opened) (stop k : ℕ) → AsksFrom k (longest_at test lists stop k)
 begins_here test lists stop k = from_here test lists k (stop / 8 - k) [] NoText k (omega arith)
+
+-- where no list is open
+
+none_goes_on : (test : List ℕ → Bool) → Decides [] test → test [] ≡ false
+unfolding is_text_at
+none_goes_on test decides = by (test []) refl
+  where
+    by : (t : Bool) → test [] ≡ t → t ≡ false
+    by false is = refl
+    by true is = let goes = (decides []).0 is in let no_it : ⊥ = cc in absurd no_it
+
+nothing_from : (test : List ℕ → Bool) (more k : ℕ) → test [] ≡ false → longest_from test [] more [] NoText k ≡ Answer NoText
+nothing_from test zero k is = refl
+nothing_from test (suc more) k is =
+    ap (λ (t : Bool). if t then Look k (λ o. elim o [
+      | None ↦ Answer NoText
+      | Some byte ↦ longest_from test [] more (byte ∷ []) NoText (k + 1)
+    ])
+    else Answer NoText) is
+
+pub nothing_there : (test : List ℕ → Bool) (stop k : ℕ) → Decides [] test → longest_at test [] stop k ≡ Answer NoText
+nothing_there test stop k decides = nothing_from test (stop / 8 - k) k (none_goes_on test decides)

@@ -1,5 +1,5 @@
 -- A list is put into a register, and taken out of it.
-use Rattle.std.proofs.Common.{◌≡◌, ℕ, zero, suc, ◌+◌, ◌<◌, ◌≤◌, List, [], ◌∷◌, ◌++◌, length, take, drop, get_or, Bool, refl, sym, ap, subst, ◌∙◌, arith, append_assoc, length-append}
+use Rattle.std.proofs.Common.{◌≡◌, ℕ, ◌+◌, ◌<◌, ◌≤◌, List, [], ◌∷◌, ◌++◌, length, take, drop, get_or, Bool, refl, sym, ap, ◌∙◌, arith, append_assoc, length-append}
 use Rattle.std.proofs.Math.Seq.{take-append_seam}
 use Rattle.std.proofs.lemmas.List.{append-nil, drop_more, drop_all}
 use Rattle.dfdl_forms.specs.declared.encoding.Encoding.{Encoding}
@@ -7,7 +7,7 @@ use Rattle.dfdl_forms.specs.declared.literals.Piece.{Piece}
 use Rattle.dfdl_delims.specs.declared.candidate.Candidate.{Candidate}
 use Rattle.dfdl_delims.specs.declared.mark.Mark.{Mark}
 use Rattle.dfdl_delims.specs.Lists.{Opened}
-use Rattle.dfdl_delims.specs.Registers.{Flat, filled, no_lists, pieces_of, start_of, starts_of, with_list, with_lists}
+use Rattle.dfdl_delims.specs.Registers.{BeginsWith, Flat, Holds, Register, filled, no_lists, pieces_of, start_of, starts_of, units_in, units_of, with_list, with_lists}
 
 -- the literals one after the other
 
@@ -123,3 +123,40 @@ pub untaken : (flat : Flat) (marks : List Mark) → flat ≡ with_lists no_lists
     → flat_with marks flat.starts flat.pieces ≡ with_lists no_lists []
 untaken flat marks is none same =
     same_flat marks flat.marks flat.starts flat.starts flat.pieces flat.pieces (sym (same ∙ append-nil marks)) refl refl ∙ is
+
+-- what begins with some items
+
+pub begins_then : {X : Type 0} (first some all : List X) → BeginsWith first some → BeginsWith some all → BeginsWith first all
+begins_then {X} [] some all begins more = refl
+begins_then {X} (x ∷ first) [] all begins more = let no_it : ⊥ = cc in absurd no_it
+begins_then {X} (x ∷ first) (y ∷ some) [] begins more = let no_it : ⊥ = cc in absurd no_it
+begins_then {X} (x ∷ first) (y ∷ some) (z ∷ all) begins more =
+    let head : z ≡ x = cc in
+    let tail : take (length first) some ≡ first = cc in
+    let rest : take (length some) all ≡ some = cc in
+    (λ i. head i ∷ begins_then first some all tail rest i)
+
+-- how many pieces there are
+
+units_are : (literals : List (List Piece)) → length (pieces_of literals) ≡ units_of literals
+units_are [] = refl
+units_are (literal ∷ literals) =
+    length-append (filled literal) (pieces_of literals) ∙ ap (λ n. length (filled literal) + n) (units_are literals)
+
+units_more : (flat : Flat) (lists : List Opened) → length (with_lists flat lists).pieces ≡ length flat.pieces + units_in lists
+unfolding with_lists
+units_more flat [] = none (length flat.pieces)
+  where
+    none : (n : ℕ) → n ≡ n + 0
+    none n = omega arith
+units_more flat (list ∷ lists) =
+    let rest = units_more (with_list flat list) lists in
+    let sum = length-append flat.pieces (pieces_of list.literals) in
+    let own = units_are list.literals in
+    omega (arith, rest, sum, own)
+
+pub units_held : (register : Register) (lists : List Opened) → Holds register lists → length register.flat.pieces ≡ units_in lists
+units_held register lists holds = ap (λ (f : Flat). length f.pieces) holds ∙ (units_more no_lists lists ∙ from_none (units_in lists))
+  where
+    from_none : (n : ℕ) → 0 + n ≡ n
+    from_none n = omega arith

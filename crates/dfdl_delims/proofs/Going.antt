@@ -1,5 +1,5 @@
 -- The search for the longest text, byte by byte.
-use Rattle.std.proofs.Common.{◌≡◌, ℕ, zero, suc, ◌+◌, ◌-◌, ◌*◌, ◌<◌, ◌≤◌, List, [], ◌∷◌, ◌++◌, length, take, get_or, Option, Some, None, Bool, true, false, ◌&&◌, ◌||◌, ◌==◌, not, if◌then◌else◌, ◌⊎◌, inl, inr, max, refl, sym, ap, subst, ◌∙◌, arith, append_assoc, length-append}
+use Rattle.std.proofs.Common.{◌≡◌, ℕ, zero, suc, ◌+◌, ◌-◌, ◌<◌, ◌≤◌, List, [], ◌∷◌, ◌++◌, length, take, get_or, Option, Some, None, Bool, true, false, ◌&&◌, ◌||◌, ◌==◌, if◌then◌else◌, ◌⊎◌, inl, inr, max, refl, sym, ap, subst, ◌∙◌, arith, append_assoc, length-append}
 use Rattle.std.proofs.lemmas.Bool.{cases_lt}
 use Rattle.std.proofs.lemmas.Bool.Decides.{nat_tests}
 use Rattle.std.proofs.lemmas.List.{append-nil, take_all}
@@ -7,21 +7,19 @@ use Rattle.std.proofs.lemmas.List.Folds.{list_any_more}
 use Rattle.std.specs.List.{list_any}
 use Rattle.dfdl_bits.specs.declared.window.Seen.{Seen}
 use Rattle.dfdl_bits.specs.declared.window.Seen.TheVariants.{Byte, End, NotYet as Waits, Over as Past}
-use Rattle.dfdl_looks.specs.Asks.{Ask, Answer, Look, Reached, Told, TooFar, Missing, Reading, ask}
+use Rattle.dfdl_looks.specs.Asks.{Ask, Answer, Look, Told, TooFar, Missing, Reading, ask}
 use Rattle.dfdl_looks.specs.Tallies.{Tally, nothing, saw_byte, saw_end, saw_none}
 use Rattle.dfdl_forms.specs.declared.literals.Piece.{Piece}
 use Rattle.dfdl_delims.specs.declared.candidate.Candidate.{Candidate}
-use Rattle.dfdl_delims.specs.declared.mark.Mark.{Mark}
-use Rattle.dfdl_delims.specs.Lists.{Decides, GoesOn, Opened, innermost, is_text_at, last_below}
+use Rattle.dfdl_delims.specs.Lists.{Decides, Opened, innermost, is_text_at, last_below}
 use Rattle.dfdl_delims.specs.declared.found.Found.{Found}
 use Rattle.dfdl_delims.specs.declared.found.Found.TheVariants.{NotYet as FoundWaits, Over as FoundPast}
 use Rattle.dfdl_delims.specs.declared.found.Glance.{Glance}
 use Rattle.dfdl_delims.specs.Longest.{Answers, Longest, NoText, better, found_shown, longest_from}
-use Rattle.dfdl_delims.specs.Registers.{Flat, no_lists, with_lists}
+use Rattle.dfdl_delims.specs.Standing.{StandFor}
 use Rattle.dfdl_delims.specs.Candidates.{complete, completes, completes_at, has_more, is_dead, some_dead}
 use Rattle.dfdl_delims.specs.Hits.{IsLast, counted}
-use Rattle.dfdl_delims.proofs.Held.{StandsFor, held}
-use Rattle.dfdl_delims.proofs.Ahead.{Goes, goes_on, no_more}
+use Rattle.dfdl_delims.proofs.Ahead.{goes_on, no_more}
 use Rattle.dfdl_delims.proofs.Living.{first_none}
 
 -- the greatest place that passes
@@ -184,12 +182,9 @@ none_goes pieces (c ∷ live) none place next more =
 
 -- how far the search has come
 
-abbrev pub flat_with : List Mark → List Candidate → List Piece → Flat
-flat_with marks starts pieces = record { marks = marks; starts = starts; pieces = pieces }
-
--- what is given: the lists that the begins stand for, and the test
-pub record Given (pieces : List Piece) (starts : List Candidate) (marks : List Mark) (lists : List Opened) (test : List ℕ → Bool) : Type 0 where
-  pub holds : flat_with marks starts pieces ≡ with_lists no_lists lists
+-- what is given: the begins stand for the lists, and the test
+pub record Given (pieces : List Piece) (starts : List Candidate) (lists : List Opened) (test : List ℕ → Bool) : Type 0 where
+  pub stands : StandFor pieces starts lists
   pub decides : Decides lists test
 
 abbrev pub spent : ℕ → ℕ → Tally
@@ -202,58 +197,57 @@ pub record Going (look : ℕ → Seen) (pieces : List Piece) (starts live : List
   pub reach : far ≤ place
   pub lives : some_dead pieces starts ≡ false → some_dead pieces live ≡ false
   pub left : (list : ℕ) (rest : List ℕ) → complete pieces list live rest ≡ complete pieces list starts (seen ++ rest)
-  pub same : (marks : List Mark) (lists : List Opened) (test : List ℕ → Bool) → Given pieces starts marks lists test
+  pub same : (lists : List Opened) (test : List ℕ → Bool) → Given pieces starts lists test
       → ask look (longest_from test lists (last - first) [] NoText first) nothing
       ≡ ask look (longest_from test lists (last - place) seen found place) (spent looks far)
 
 module _ (look : ℕ → Seen) (pieces : List Piece) (starts live : List Candidate) (first last place far looks : ℕ) (found : Longest)
     (going : Going look pieces starts live first last place far looks found) where
-  text_is : (marks : List Mark) (lists : List Opened) (test : List ℕ → Bool) → Given pieces starts marks lists test → (list : ℕ) (rest : List ℕ)
+  text_is : (lists : List Opened) (test : List ℕ → Bool) → Given pieces starts lists test → (list : ℕ) (rest : List ℕ)
       → complete pieces list live rest ≡ is_text_at lists list (going.seen ++ rest)
-  text_is marks lists test given list rest = going.left list rest ∙ (held (flat_with marks starts pieces) lists given.holds).is list (going.seen ++ rest)
+  text_is lists test given list rest = going.left list rest ∙ given.stands.is list (going.seen ++ rest)
 
-  innermost_is : (marks : List Mark) (lists : List Opened) (test : List ℕ → Bool) → Given pieces starts marks lists test
+  innermost_is : (lists : List Opened) (test : List ℕ → Bool) → Given pieces starts lists test
       → (best : Option ℕ) → IsLast (λ n. complete pieces n live []) best → innermost lists going.seen ≡ best
-  innermost_is marks lists test given best is =
+  innermost_is lists test given best is =
       last_is (λ n. is_text_at lists n going.seen) best (length lists) (by best is) (λ i past. none_past lists i going.seen past)
     where
       here : (n : ℕ) → is_text_at lists n going.seen ≡ complete pieces n live []
-      here n = sym (text_is marks lists test given n [] ∙ ap (λ l. is_text_at lists n l) (append-nil going.seen))
+      here n = sym (text_is lists test given n [] ∙ ap (λ l. is_text_at lists n l) (append-nil going.seen))
 
       by : (o : Option ℕ) → IsLast (λ n. complete pieces n live []) o → IsLast (λ n. is_text_at lists n going.seen) o
       by None none = λ n. here n ∙ none n
       by (Some n) some = (here n ∙ some.0, (λ m less. here m ∙ some.1 m less))
 
-  better_is : (marks : List Mark) (lists : List Opened) (test : List ℕ → Bool) → Given pieces starts marks lists test
+  better_is : (lists : List Opened) (test : List ℕ → Bool) → Given pieces starts lists test
       → (best : Option ℕ) → IsLast (λ n. complete pieces n live []) best → (now : Longest) → now ≡ better best (place - first) found
       → better (innermost lists going.seen) (length going.seen) found ≡ now
-  better_is marks lists test given best is now now_is =
-      ap (λ o. better o (length going.seen) found) (innermost_is marks lists test given best is)
+  better_is lists test given best is now now_is =
+      ap (λ o. better o (length going.seen) found) (innermost_is lists test given best is)
       ∙ ap (λ n. better best n found) (counts going.count) ∙ sym now_is
     where
       counts : place ≡ first + length going.seen → length going.seen ≡ place - first
       counts is = omega (arith, is)
 
   -- the test's answer
-  told : (marks : List Mark) (lists : List Opened) (test : List ℕ → Bool) → Given pieces starts marks lists test → (t : Bool)
+  told : (lists : List Opened) (test : List ℕ → Bool) → Given pieces starts lists test → (t : Bool)
       → t ≡ list_any (has_more pieces) live → test going.seen ≡ t
-  told marks lists test given true is =
-      let stands = held (flat_with marks starts pieces) lists given.holds in
-      let more = some_goes pieces live (going.lives stands.live) (sym is) in
+  told lists test given true is =
+      let more = some_goes pieces live (going.lives given.stands.live) (sym is) in
       (given.decides going.seen).1 (record {
         place = more.place;
         next = more.next;
         more = more.more;
-        is = sym (text_is marks lists test given more.place (more.next ∷ more.more)) ∙ more.is;
+        is = sym (text_is lists test given more.place (more.next ∷ more.more)) ∙ more.is;
       })
-  told marks lists test given false is = by (test going.seen) refl
+  told lists test given false is = by (test going.seen) refl
     where
       by : (t : Bool) → test going.seen ≡ t → t ≡ false
       by false there = refl
       by true there =
           let goes = (given.decides going.seen).0 there in
           absurd (no_both (is_text_at lists goes.place (going.seen ++ goes.next ∷ goes.more)) goes.is
-          (sym (text_is marks lists test given goes.place (goes.next ∷ goes.more)) ∙ none_goes pieces live (sym is) goes.place goes.next goes.more))
+          (sym (text_is lists test given goes.place (goes.next ∷ goes.more)) ∙ none_goes pieces live (sym is) goes.place goes.next goes.more))
 
   -- what is to be read from here on, where the byte is looked at
   abbrev goes_by : (List ℕ → Bool) → List Opened → ℕ → Longest → Option ℕ → Ask Longest
@@ -269,13 +263,13 @@ module _ (look : ℕ → Seen) (pieces : List Piece) (starts live : List Candida
   abbrev told_now : Longest → Tally → Reading Longest
   told_now now t = record { reached = Told now; tally = t }
 
-  pub at_box : (marks : List Mark) (lists : List Opened) (test : List ℕ → Bool) → Given pieces starts marks lists test
+  pub at_box : (lists : List Opened) (test : List ℕ → Bool) → Given pieces starts lists test
       → (best : Option ℕ) → IsLast (λ n. complete pieces n live []) best → (now : Longest) → now ≡ better best (place - first) found
       → last ≤ place → whole lists test ≡ told_now now (spent looks far)
-  at_box marks lists test given best is now now_is past =
-      going.same marks lists test given
+  at_box lists test given best is now now_is past =
+      going.same lists test given
       ∙ ap (λ n. ask look (longest_from test lists n going.seen found place) (spent looks far)) (none past)
-      ∙ ap (λ x. told_now x (spent looks far)) (better_is marks lists test given best is now now_is)
+      ∙ ap (λ x. told_now x (spent looks far)) (better_is lists test given best is now now_is)
     where
       none : last ≤ place → last - place ≡ 0
       none past = omega (arith, past)
@@ -283,22 +277,22 @@ module _ (look : ℕ → Seen) (pieces : List Piece) (starts live : List Candida
   abbrev either_way : (List ℕ → Bool) → List Opened → ℕ → Longest → Bool → Reading Longest
   either_way test lists more now t = ask look (if t then Look place (goes_by test lists more now) else Answer now) (spent looks far)
 
-  inside : (marks : List Mark) (lists : List Opened) (test : List ℕ → Bool) → Given pieces starts marks lists test
+  inside : (lists : List Opened) (test : List ℕ → Bool) → Given pieces starts lists test
       → (best : Option ℕ) → IsLast (λ n. complete pieces n live []) best → (now : Longest) → now ≡ better best (place - first) found
       → place < last → (t : Bool) → t ≡ list_any (has_more pieces) live → whole lists test ≡ either_way test lists (last - (place + 1)) now t
-  inside marks lists test given best is now now_is before t t_is =
-      going.same marks lists test given
+  inside lists test given best is now now_is before t t_is =
+      going.same lists test given
       ∙ ap (λ n. ask look (longest_from test lists n going.seen found place) (spent looks far)) (counts before)
-      ∙ ap (λ x. either_way test lists (last - (place + 1)) x (test going.seen)) (better_is marks lists test given best is now now_is)
-      ∙ ap (either_way test lists (last - (place + 1)) now) (told marks lists test given t t_is)
+      ∙ ap (λ x. either_way test lists (last - (place + 1)) x (test going.seen)) (better_is lists test given best is now now_is)
+      ∙ ap (either_way test lists (last - (place + 1)) now) (told lists test given t t_is)
     where
       counts : place < last → last - place ≡ suc (last - (place + 1))
       counts before = omega (arith, before)
 
-  pub at_texts_end : (marks : List Mark) (lists : List Opened) (test : List ℕ → Bool) → Given pieces starts marks lists test
+  pub at_texts_end : (lists : List Opened) (test : List ℕ → Bool) → Given pieces starts lists test
       → (best : Option ℕ) → IsLast (λ n. complete pieces n live []) best → (now : Longest) → now ≡ better best (place - first) found
       → place < last → false ≡ list_any (has_more pieces) live → whole lists test ≡ told_now now (spent looks far)
-  at_texts_end marks lists test given best is now now_is before none = inside marks lists test given best is now now_is before false none
+  at_texts_end lists test given best is now now_is before none = inside lists test given best is now now_is before false none
 
   abbrev on_seen : (Option ℕ → Ask Longest) → Seen → Reading Longest
   on_seen go (Byte b) = ask look (go (Some b)) (saw_byte place (spent looks far))
@@ -306,12 +300,12 @@ module _ (look : ℕ → Seen) (pieces : List Piece) (starts live : List Candida
   on_seen go Waits = record { reached = Missing; tally = saw_none (spent looks far) }
   on_seen go Past = record { reached = TooFar; tally = saw_none (spent looks far) }
 
-  pub at_look : (marks : List Mark) (lists : List Opened) (test : List ℕ → Bool) → Given pieces starts marks lists test
+  pub at_look : (lists : List Opened) (test : List ℕ → Bool) → Given pieces starts lists test
       → (best : Option ℕ) → IsLast (λ n. complete pieces n live []) best → (now : Longest) → now ≡ better best (place - first) found
       → place < last → true ≡ list_any (has_more pieces) live → (s : Seen) → look place ≡ s
       → whole lists test ≡ on_seen (goes_by test lists (last - (place + 1)) now) s
-  at_look marks lists test given best is now now_is before more s seen_is =
-      inside marks lists test given best is now now_is before true more ∙ ap (on_seen (goes_by test lists (last - (place + 1)) now)) seen_is
+  at_look lists test given best is now now_is before more s seen_is =
+      inside lists test given best is now now_is before true more ∙ ap (on_seen (goes_by test lists (last - (place + 1)) now)) seen_is
 
   -- a byte more
   pub goes_further : (best : Option ℕ) → IsLast (λ n. complete pieces n live []) best → (now : Longest) → now ≡ better best (place - first) found
@@ -328,8 +322,8 @@ module _ (look : ℕ → Seen) (pieces : List Piece) (starts live : List Candida
     lives = λ begins. dead (going.lives begins);
     left = λ list rest. completes_new list rest ∙ going.left list (byte ∷ rest)
         ∙ ap (complete pieces list starts) (sym (append_assoc going.seen (byte ∷ []) rest));
-    same = λ marks lists test given.
-        (at_look marks lists test given best is now now_is before more (Byte byte) seen_is
+    same = λ lists test given.
+        (at_look lists test given best is now now_is before more (Byte byte) seen_is
         ∙ ap (λ n. ask look (longest_from test lists (last - (place + 1)) (going.seen ++ byte ∷ []) now (place + 1)) (spent (looks + 1) n)) (further going.reach)
         ∙ ap (λ n. ask look (longest_from test lists (last - (place + 1)) (going.seen ++ byte ∷ []) now (place + 1)) (spent n (place + 1))) (sym looks_is));
   }
@@ -347,7 +341,7 @@ begins look pieces starts first last looks none = record {
   reach = omega arith;
   lives = λ begins. begins;
   left = λ list rest. refl;
-  same = λ marks lists test given. ap (λ n. ask look (longest_from test lists (last - first) [] NoText first) (spent n 0)) (sym none);
+  same = λ lists test given. ap (λ n. ask look (longest_from test lists (last - first) [] NoText first) (spent n 0)) (sym none);
 }
 
 -- the answer from the reading
@@ -370,29 +364,29 @@ module _ (look : ℕ → Seen) (pieces : List Piece) (starts live slice again : 
   more_is t told = told ∙ ap (list_any (has_more pieces)) again_is
 
   pub box_answers : last ≤ place → (shown : Found) → found_shown shown ≡ Told now
-      → (marks : List Mark) (lists : List Opened) (test : List ℕ → Bool) → flat_with marks starts pieces ≡ with_lists no_lists lists → Decides lists test
+      → (lists : List Opened) (test : List ℕ → Bool) → StandFor pieces starts lists → Decides lists test
       → Answers (ask look (longest_from test lists (last - first) [] NoText first) nothing) (record { found = shown; far = far }) looks
-  box_answers past shown shown_is marks lists test holds decides =
+  box_answers past shown shown_is lists test stands decides =
       answers _ (record { reached = Told now; tally = spent looks far }) (record { found = shown; far = far }) looks
-      (at_box look pieces starts live first last place far looks found going marks lists test (record { holds = holds; decides = decides }) best here now now_is past)
+      (at_box look pieces starts live first last place far looks found going lists test (record { stands = stands; decides = decides }) best here now now_is past)
       (sym shown_is) refl refl
 
   pub text_answers : place < last → false ≡ list_any (has_more pieces) again → (shown : Found) → found_shown shown ≡ Told now
-      → (marks : List Mark) (lists : List Opened) (test : List ℕ → Bool) → flat_with marks starts pieces ≡ with_lists no_lists lists → Decides lists test
+      → (lists : List Opened) (test : List ℕ → Bool) → StandFor pieces starts lists → Decides lists test
       → Answers (ask look (longest_from test lists (last - first) [] NoText first) nothing) (record { found = shown; far = far }) looks
-  text_answers before none shown shown_is marks lists test holds decides =
+  text_answers before none shown shown_is lists test stands decides =
       answers _ (record { reached = Told now; tally = spent looks far }) (record { found = shown; far = far }) looks
-      (at_texts_end look pieces starts live first last place far looks found going marks lists test (record { holds = holds; decides = decides }) best here now now_is
+      (at_texts_end look pieces starts live first last place far looks found going lists test (record { stands = stands; decides = decides }) best here now now_is
       before (more_is false none))
       (sym shown_is) refl refl
 
   pub end_answers : place < last → true ≡ list_any (has_more pieces) again → look place ≡ End → (shown : Found) → found_shown shown ≡ Told now
       → (looks_now : ℕ) → looks + 1 ≡ looks_now
-      → (marks : List Mark) (lists : List Opened) (test : List ℕ → Bool) → flat_with marks starts pieces ≡ with_lists no_lists lists → Decides lists test
+      → (lists : List Opened) (test : List ℕ → Bool) → StandFor pieces starts lists → Decides lists test
       → Answers (ask look (longest_from test lists (last - first) [] NoText first) nothing) (record { found = shown; far = place + 1 }) looks_now
-  end_answers before more seen_is shown shown_is looks_now looks_is marks lists test holds decides =
+  end_answers before more seen_is shown shown_is looks_now looks_is lists test stands decides =
       answers _ (record { reached = Told now; tally = saw_end place (spent looks far) }) (record { found = shown; far = place + 1 }) looks_now
-      (at_look look pieces starts live first last place far looks found going marks lists test (record { holds = holds; decides = decides }) best here now now_is
+      (at_look look pieces starts live first last place far looks found going lists test (record { stands = stands; decides = decides }) best here now now_is
       before (more_is true more) End seen_is)
       (sym shown_is) looks_is (greater going.reach)
     where
@@ -401,21 +395,21 @@ module _ (look : ℕ → Seen) (pieces : List Piece) (starts live slice again : 
 
   pub waits_answers : place < last → true ≡ list_any (has_more pieces) again → look place ≡ Waits
       → (looks_now : ℕ) → looks + 1 ≡ looks_now
-      → (marks : List Mark) (lists : List Opened) (test : List ℕ → Bool) → flat_with marks starts pieces ≡ with_lists no_lists lists → Decides lists test
+      → (lists : List Opened) (test : List ℕ → Bool) → StandFor pieces starts lists → Decides lists test
       → Answers (ask look (longest_from test lists (last - first) [] NoText first) nothing) (record { found = FoundWaits; far = far }) looks_now
-  waits_answers before more seen_is looks_now looks_is marks lists test holds decides =
+  waits_answers before more seen_is looks_now looks_is lists test stands decides =
       answers _ (record { reached = Missing; tally = saw_none (spent looks far) }) (record { found = FoundWaits; far = far }) looks_now
-      (at_look look pieces starts live first last place far looks found going marks lists test (record { holds = holds; decides = decides }) best here now now_is
+      (at_look look pieces starts live first last place far looks found going lists test (record { stands = stands; decides = decides }) best here now now_is
       before (more_is true more) Waits seen_is)
       refl looks_is refl
 
   pub past_answers : place < last → true ≡ list_any (has_more pieces) again → look place ≡ Past
       → (looks_now : ℕ) → looks + 1 ≡ looks_now
-      → (marks : List Mark) (lists : List Opened) (test : List ℕ → Bool) → flat_with marks starts pieces ≡ with_lists no_lists lists → Decides lists test
+      → (lists : List Opened) (test : List ℕ → Bool) → StandFor pieces starts lists → Decides lists test
       → Answers (ask look (longest_from test lists (last - first) [] NoText first) nothing) (record { found = FoundPast; far = far }) looks_now
-  past_answers before more seen_is looks_now looks_is marks lists test holds decides =
+  past_answers before more seen_is looks_now looks_is lists test stands decides =
       answers _ (record { reached = TooFar; tally = saw_none (spent looks far) }) (record { found = FoundPast; far = far }) looks_now
-      (at_look look pieces starts live first last place far looks found going marks lists test (record { holds = holds; decides = decides }) best here now now_is
+      (at_look look pieces starts live first last place far looks found going lists test (record { stands = stands; decides = decides }) best here now now_is
       before (more_is true more) Past seen_is)
       refl looks_is refl
 

@@ -1,19 +1,20 @@
 -- What the begins in a register stand for: the texts of the lists that it holds.
-use Rattle.std.proofs.Common.{◌≡◌, ℕ, zero, suc, ◌+◌, ◌-◌, ◌<◌, ◌≤◌, List, [], ◌∷◌, ◌++◌, length, take, drop, Bool, true, false, ◌&&◌, ◌||◌, ◌==◌, not, if◌then◌else◌, ◌⊎◌, inl, inr, refl, sym, ap, subst, ◌∙◌, arith, append_assoc, length-append}
+use Rattle.std.proofs.Common.{◌≡◌, ◌↔◌, ℕ, zero, suc, ◌+◌, ◌-◌, ◌<◌, ◌≤◌, List, [], ◌∷◌, ◌++◌, length, take, drop, Bool, true, false, ◌&&◌, ◌||◌, ◌==◌, not, if◌then◌else◌, ◌⊎◌, inl, inr, refl, sym, ap, subst, ◌∙◌, arith, append_assoc, length-append}
 use Rattle.std.proofs.Math.Seq.{take-append_seam, drop-append_seam}
 use Rattle.std.proofs.lemmas.Bool.{cases_lt}
 use Rattle.std.proofs.lemmas.Bool.Decides.{nat_tests}
 use Rattle.std.proofs.lemmas.List.{append-nil, drop-append-le, length-drop, take-append-le}
 use Rattle.std.proofs.lemmas.List.Folds.{list_any-append}
-use Rattle.std.specs.List.{list_all, list_any}
+use Rattle.std.specs.List.{list_any}
 use Rattle.dfdl_forms.specs.declared.encoding.Encoding.{Encoding}
 use Rattle.dfdl_forms.specs.declared.literals.Piece.{Piece}
-use Rattle.dfdl_forms.specs.declared.literals.Piece.TheVariants.{Nothing}
 use Rattle.dfdl_literal_texts.specs.Texts.{after_bytes, after_piece, is_text, is_text_of_some}
 use Rattle.dfdl_delims.specs.declared.candidate.Candidate.{Candidate}
 use Rattle.dfdl_delims.specs.Lists.{Opened, is_text_at, is_text_in}
-use Rattle.dfdl_delims.specs.Candidates.{complete, completes, completes_at, have_texts, is_dead, is_tail, is_tail_of, left_bytes, pieces_from, some_dead}
-use Rattle.dfdl_delims.specs.Registers.{Flat, Holds, Register, begin_of, filled, no_lists, pieces_of, start_of, starts_of, with_list, with_lists}
+use Rattle.dfdl_delims.specs.Candidates.{complete, completes_at, have_texts, is_dead, is_tail, left_bytes, pieces_from, some_dead}
+use Rattle.dfdl_delims.specs.Standing.{StandFor}
+use Rattle.dfdl_delims.specs.Registers.{Flat, Holds, IsFull, Register, begin_of, filled, no_lists, pieces_of, start_of, starts_of, units_in, units_of, with_list, with_lists}
+use Rattle.dfdl_delims.proofs.Fills.{units_held}
 use Rattle.dfdl_delims.proofs.Pieces.{no_piece}
 use Rattle.dfdl_delims.proofs.Never.{no_text_at_all}
 
@@ -50,7 +51,7 @@ both : (t a b : Bool) → ((t && a) || (t && b)) ≡ (t && (a || b))
 both true a b = refl
 both false a b = refl
 
-neither : (a b : Bool) → a ≡ false → b ≡ false → (a || b) ≡ false
+pub neither : (a b : Bool) → a ≡ false → b ≡ false → (a || b) ≡ false
 neither true b first second = first
 neither false b first second = second
 
@@ -114,7 +115,7 @@ there_first : (before first rest behind : List Piece) → pieces_from (before ++
 there_first before first rest behind =
     ap (λ l. pieces_from (before ++ l) (length before) (length before + length first)) (append_assoc first rest behind) ∙ there before first (rest ++ behind)
 
-starts_complete : (place list : ℕ) (encoding : Encoding) (fold : Bool) (literals : List (List Piece)) (before behind : List Piece) (bytes : List ℕ)
+pub starts_complete : (place list : ℕ) (encoding : Encoding) (fold : Bool) (literals : List (List Piece)) (before behind : List Piece) (bytes : List ℕ)
     → list_any (completes_at (before ++ (pieces_of literals ++ behind)) place bytes) (starts_of list encoding fold (length before) literals)
     ≡ ((list == place) && is_text_of_some encoding fold literals bytes)
 unfolding starts_of
@@ -132,7 +133,7 @@ starts_complete place list encoding fold (literal ∷ literals) before behind by
     ∙ starts_complete place list encoding fold literals (before ++ filled literal) behind bytes)
     ∙ both (list == place) (is_text encoding fold literal bytes) (is_text_of_some encoding fold literals bytes)
 
-starts_live : (list : ℕ) (encoding : Encoding) (fold : Bool) (literals : List (List Piece)) (before behind : List Piece)
+pub starts_live : (list : ℕ) (encoding : Encoding) (fold : Bool) (literals : List (List Piece)) (before behind : List Piece)
     → list_any (is_dead (before ++ (pieces_of literals ++ behind))) (starts_of list encoding fold (length before) literals) ≡ false
 unfolding starts_of
 starts_live list encoding fold [] before behind = refl
@@ -200,21 +201,18 @@ text_at_last (first ∷ lists) list zero bytes =
 text_at_last (first ∷ lists) list (suc place) bytes =
     text_at_last lists list place bytes ∙ ap (λ b. is_text_at lists place bytes || (b && is_text_in list bytes)) (sym (both_more (length lists) place))
 
--- The begins stand for the texts of the lists.
+-- The begins of a register stand for the texts of its lists.
 pub record StandsFor (flat : Flat) (lists : List Opened) : Type 0 where
   pub marks : length flat.marks ≡ length lists
-  pub is : (place : ℕ) (bytes : List ℕ) → complete flat.pieces place flat.starts bytes ≡ is_text_at lists place bytes
-  pub live : some_dead flat.pieces flat.starts ≡ false
+  pub texts : StandFor flat.pieces flat.starts lists
   pub within : EndIn (length flat.pieces) flat.starts
 
-at_first : (flat : Flat) → flat ≡ no_lists → StandsFor flat []
+pub none_stand : (pieces : List Piece) → StandFor pieces [] []
 unfolding complete some_dead is_text_at
-at_first flat is = subst (λ f. StandsFor f []) (sym is) (record {
-  marks = refl;
-  is = λ place bytes. refl;
-  live = refl;
-  within = tt;
-})
+none_stand pieces = record { is = λ place bytes. refl; live = refl }
+
+at_first : (flat : Flat) → flat ≡ no_lists → StandsFor flat []
+at_first flat is = subst (λ f. StandsFor f []) (sym is) (record { marks = refl; texts = none_stand []; within = tt })
 
 one_more : (flat : Flat) (lists : List Opened) (list : Opened) → StandsFor flat lists → StandsFor (with_list flat list) (lists ++ list ∷ [])
 unfolding complete some_dead
@@ -227,22 +225,24 @@ one_more flat lists list stands =
           let first = length-append flat.marks (record { starts = length flat.starts; pieces = length flat.pieces } ∷ []) in
           let second = length-append lists (list ∷ []) in
           omega (arith, old, first, second));
-      is = λ place bytes.
-          (list_any-append (completes_at (flat.pieces ++ pieces_of list.literals) place bytes) flat.starts added
-          ∙ ap (λ b. b || list_any (completes_at (flat.pieces ++ pieces_of list.literals) place bytes) added)
-          (same_any (completes_at (flat.pieces ++ pieces_of list.literals) place bytes) (completes_at flat.pieces place bytes) (length flat.pieces) flat.starts
-          (λ c ends. ap (λ l. (c.list == place) && after_bytes (left_bytes c.left) (is_tail c.encoding c.fold c.loops l) bytes)
-          (same_pieces flat.pieces (pieces_of list.literals) c.at c.end ends)) stands.within ∙ stands.is place bytes)
-          ∙ ap (λ b. is_text_at lists place bytes || b)
-          (ap (λ p. list_any (completes_at p place bytes) added) behind
-          ∙ starts_complete place (length flat.marks) list.encoding list.fold list.literals flat.pieces [] bytes
-          ∙ ap (λ n. (n == place) && is_text_in list bytes) stands.marks)
-          ∙ sym (text_at_last lists list place bytes));
-      live = list_any-append (is_dead (flat.pieces ++ pieces_of list.literals)) flat.starts added
-          ∙ neither _ _
-          (same_any (is_dead (flat.pieces ++ pieces_of list.literals)) (is_dead flat.pieces) (length flat.pieces) flat.starts
-          (λ c ends. ap (λ l. not (have_texts c.encoding c.fold l)) (same_pieces flat.pieces (pieces_of list.literals) c.at c.end ends)) stands.within ∙ stands.live)
-          (ap (λ p. list_any (is_dead p) added) behind ∙ starts_live (length flat.marks) list.encoding list.fold list.literals flat.pieces []);
+      texts = record {
+        is = λ place bytes.
+            (list_any-append (completes_at (flat.pieces ++ pieces_of list.literals) place bytes) flat.starts added
+            ∙ ap (λ b. b || list_any (completes_at (flat.pieces ++ pieces_of list.literals) place bytes) added)
+            (same_any (completes_at (flat.pieces ++ pieces_of list.literals) place bytes) (completes_at flat.pieces place bytes) (length flat.pieces) flat.starts
+            (λ c ends. ap (λ l. (c.list == place) && after_bytes (left_bytes c.left) (is_tail c.encoding c.fold c.loops l) bytes)
+            (same_pieces flat.pieces (pieces_of list.literals) c.at c.end ends)) stands.within ∙ stands.texts.is place bytes)
+            ∙ ap (λ b. is_text_at lists place bytes || b)
+            (ap (λ p. list_any (completes_at p place bytes) added) behind
+            ∙ starts_complete place (length flat.marks) list.encoding list.fold list.literals flat.pieces [] bytes
+            ∙ ap (λ n. (n == place) && is_text_in list bytes) stands.marks)
+            ∙ sym (text_at_last lists list place bytes));
+        live = list_any-append (is_dead (flat.pieces ++ pieces_of list.literals)) flat.starts added
+            ∙ neither _ _
+            (same_any (is_dead (flat.pieces ++ pieces_of list.literals)) (is_dead flat.pieces) (length flat.pieces) flat.starts
+            (λ c ends. ap (λ l. not (have_texts c.encoding c.fold l)) (same_pieces flat.pieces (pieces_of list.literals) c.at c.end ends)) stands.within ∙ stands.texts.live)
+            (ap (λ p. list_any (is_dead p) added) behind ∙ starts_live (length flat.marks) list.encoding list.fold list.literals flat.pieces []);
+      };
       within = both_end (length (flat.pieces ++ pieces_of list.literals)) flat.starts added
           (more_ends (length flat.pieces) (length (flat.pieces ++ pieces_of list.literals)) flat.starts (omega (arith, count)) stands.within)
           (starts_end (length flat.marks) list.encoding list.fold list.literals (length flat.pieces) (length (flat.pieces ++ pieces_of list.literals)) (omega (arith, count)));
@@ -257,3 +257,21 @@ more_lists flat lists (list ∷ more) stands =
 
 pub held : (flat : Flat) (lists : List Opened) → flat ≡ with_lists no_lists lists → StandsFor flat lists
 held flat lists is = subst (λ f. StandsFor f lists) (sym is) (more_lists no_lists [] lists (at_first no_lists refl))
+
+-- how full a register is
+pub full_by : (register : Register) (lists : List Opened) (literals : List (List Piece)) → Holds register lists
+    → IsFull register literals ↔ ((register.lists < length lists + 1) ⊎ (register.units < units_in lists + units_of literals))
+full_by register lists literals holds =
+    let count = (held register.flat lists holds).marks in
+    let units = units_held register lists holds in
+    (to count units, back count units)
+  where
+    to : length register.flat.marks ≡ length lists → length register.flat.pieces ≡ units_in lists → IsFull register literals
+        → (register.lists < length lists + 1) ⊎ (register.units < units_in lists + units_of literals)
+    to count units (inl few) = inl (omega (arith, few, count))
+    to count units (inr small) = inr (omega (arith, small, units))
+
+    back : length register.flat.marks ≡ length lists → length register.flat.pieces ≡ units_in lists
+        → (register.lists < length lists + 1) ⊎ (register.units < units_in lists + units_of literals) → IsFull register literals
+    back count units (inl few) = inl (omega (arith, few, count))
+    back count units (inr small) = inr (omega (arith, small, units))

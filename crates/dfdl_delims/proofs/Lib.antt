@@ -7,5 +7,7 @@ mod Living
 mod Fills
 mod Never
 mod Held
+mod Begins
+mod Selected
 mod Going
-mod Deciders
+pub mod Deciders

@@ -1,13 +1,12 @@
 -- A literal with a piece that has no text has none.
 use Rattle.std.proofs.Common.{◌≡◌, ℕ, zero, suc, List, [], ◌∷◌, length, Option, Some, None, Bool, true, false, ◌&&◌, ◌||◌, ◌==◌, refl, ap, ◌∙◌}
-use Rattle.std.specs.List.{list_all, list_any}
+use Rattle.std.specs.List.{list_all}
 use Rattle.dfdl_forms.specs.declared.encoding.Encoding.{Encoding}
 use Rattle.dfdl_forms.specs.declared.literals.Piece.{Piece}
 use Rattle.dfdl_forms.specs.declared.literals.Piece.TheVariants.{Char, Byte, NewLine, Space, Spaces, MaybeSpaces, Nothing}
 use Rattle.dfdl_chars.specs.Encodings.{encoded_of, encoded_text, joined}
-use Rattle.dfdl_literal_texts.specs.Texts.{after_any, after_bytes, after_encoded, after_most, after_one, after_piece, cases_of, is_text, line_breaks, one_each, spaces, white_space}
+use Rattle.dfdl_literal_texts.specs.Texts.{after_any, after_bytes, after_encoded, after_most, after_one, after_piece, cases_of, is_text, line_breaks, one_each, spaces}
 use Rattle.dfdl_delims.specs.Candidates.{cases, has_one, has_text, have_texts, is_there}
-use Rattle.dfdl_delims.proofs.Encoded.{one_text}
 use Rattle.dfdl_delims.proofs.Completing.{same_cases}
 use Rattle.dfdl_delims.proofs.Living.{first_none}
 

@@ -1,6 +1,5 @@
 -- Lists of literals that are open, and which bytes are texts of them. 'DFDL Syntax Basics' (DFDL String Literals).
 use Rattle.std.specs.Prelude.{◌≡◌, ◌↔◌, ℕ, zero, suc, List, [], ◌∷◌, ◌++◌, length, Option, Some, None, Bool, true, false, if◌then◌else◌}
-use Rattle.std.specs.List.{list_any}
 use Rattle.dfdl_forms.specs.declared.encoding.Encoding.{Encoding}
 use Rattle.dfdl_forms.specs.declared.literals.Piece.{Piece}
 use Rattle.dfdl_literal_texts.specs.Texts.{is_text_of_some}

@@ -2,7 +2,6 @@
 -- terminators): of the texts that the data begins with, the longest is taken.
 use Rattle.std.specs.Prelude.{◌≡◌, ℕ, zero, suc, ◌+◌, ◌-◌, ◌*◌, ◌/◌, Bool, if◌then◌else◌, List, [], ◌∷◌, ◌++◌, length, Option, Some, None}
 use Rattle.dfdl_looks.specs.Asks.{Ask, Answer, Look, Reached, Told, TooFar, Missing, Reading}
-use Rattle.dfdl_looks.specs.Tallies.{Tally}
 use Rattle.dfdl_delims.specs.declared.found.Found.{Found}
 use Rattle.dfdl_delims.specs.declared.found.Found.TheVariants.{Match, None as NoMatch, NotYet, Over}
 use Rattle.dfdl_delims.specs.declared.found.Glance.{Glance}

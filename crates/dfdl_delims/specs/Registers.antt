@@ -1,5 +1,5 @@
--- Registers of open lists: how their literals lie there, and which lists a register holds.
-use Rattle.std.specs.Prelude.{◌≡◌, ℕ, zero, suc, ◌+◌, ◌<◌, List, [], ◌∷◌, ◌++◌, length, Bool, false, ◌⊎◌, if◌then◌else◌}
+-- Registers of lists: how their literals lie there, and which lists a register holds.
+use Rattle.std.specs.Prelude.{◌≡◌, ℕ, ◌+◌, ◌^◌, ◌<◌, List, [], ◌∷◌, ◌++◌, length, take, nat_lt, Option, Some, None, Bool, false, ◌⊎◌, if◌then◌else◌}
 use Rattle.dfdl_forms.specs.declared.encoding.Encoding.{Encoding}
 use Rattle.dfdl_forms.specs.declared.literals.Piece.{Piece}
 use Rattle.dfdl_forms.specs.declared.literals.Piece.TheVariants.{Nothing}
@@ -33,6 +33,19 @@ pieces_of (literal ∷ literals) = filled literal ++ pieces_of literals
 abbrev pub units_of : List (List Piece) → ℕ
 units_of [] = 0
 units_of (literal ∷ literals) = length (filled literal) + units_of literals
+
+-- so many pieces and those that literals take up, if a register can have room for so many
+abbrev pub with_units : ℕ → List (List Piece) → Option ℕ
+with_units before literals = if nat_lt (before + units_of literals) (2 ^ 32) then Some (before + units_of literals) else None
+
+-- how many pieces the literals of lists take up
+abbrev pub units_in : List Opened → ℕ
+units_in [] = 0
+units_in (list ∷ lists) = units_of list.literals + units_in lists
+
+-- the items begin with these
+abbrev pub BeginsWith : {X : Type 0} → List X → List X → Type 0
+BeginsWith first all = take (length first) all ≡ first
 
 -- the begin of a literal of the list at the place, whose pieces stand from one place to another
 abbrev pub begin_of : ℕ → Encoding → Bool → ℕ → ℕ → Candidate
@@ -76,7 +89,7 @@ pub record Register : Type 0 where
   pub lists : ℕ
   pub units : ℕ
 
--- the register holds these lists, the outermost first
+-- the register holds these lists, in the order of their numbers
 abbrev pub Holds : Register → List Opened → Type 0
 Holds register lists = register.flat ≡ with_lists no_lists lists
 

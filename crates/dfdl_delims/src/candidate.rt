@@ -10,11 +10,12 @@ use crate::left::Left;
 use dfdl_forms::Encoding;
 use std::alloc::AllocError;
 
-/// A way in which the bytes that were seen begin a text of a literal: the bytes that are left of a character, white space
-/// where it loops, and the pieces from a place on to the end of the literal.
+/// A way in which the bytes that were seen begin a text of a literal: its list, by its number in a register or its place among the
+/// open ones, the bytes that are left of a character, white space where it loops, and the pieces from a place on to the end of the
+/// literal.
 #[derive(Debug, Clone, Copy, Drop)]
 pub(crate) struct Candidate {
-    pub list: u32,
+    pub list: usize,
     pub encoding: Encoding,
     pub fold: bool,
     pub left: Left,

@@ -1,8 +1,8 @@
 // The literals of a list, put into a register.
 #![tactic(auto)]
 
-ghost use Rattle.std.specs.Prelude.{◌≡◌, ◌+◌, ◌++◌, length, nat_le, OnOk};
-ghost use Rattle.dfdl_delims.specs.Registers.{filled, pieces_of, start_of, starts_of, units_of};
+ghost use Rattle.std.specs.Prelude.{◌≡◌, ◌+◌, ◌++◌, length, nat_le, OnOk, OnErr};
+ghost use Rattle.dfdl_delims.specs.Registers.{BeginsWith, filled, pieces_of, start_of, starts_of, units_of, with_units};
 
 use crate::candidate::Candidate;
 use crate::following::have_texts;
@@ -35,9 +35,25 @@ pub(crate) fn fits(literals: &Literals, room: usize) -> bool
     true
 }
 
+/// So many pieces and those that the literals take up, if they are no more than a register can have room for.
+pub(crate) fn with_units(before: u32, literals: &Literals) -> Option<u32>
+    ensures { result ≡ with_units before literals.now }
+{
+    let mut sum = before;
+    for at in 0..literals.len() {
+        let units = units(literals.pieces(at));
+        if units > (u32::MAX - sum) as usize {
+            return None;
+        }
+        sum += units as u32;
+    }
+    Some(sum)
+}
+
 // Puts the pieces of a literal behind others.
 fn put_pieces(literal: &[Piece], pieces: &mut Vec<Piece>) -> Result<(), AllocError>
-    ensures { OnOk result (pieces.new.items ≡ pieces.old.items ++ filled literal.now) }
+    ensures pieces { OnOk result (pieces.new.items ≡ pieces.old.items ++ filled literal.now) }
+    ensures kept { OnErr result (pieces.new.items ≡ pieces.old.items) }
 {
     match literal {
         [] => {
@@ -54,7 +70,7 @@ fn put_pieces(literal: &[Piece], pieces: &mut Vec<Piece>) -> Result<(), AllocErr
 // Puts a literal behind others.
 #[tactic(auto, unfolding(crate::specs::Registers::start_of))]
 fn put_literal(
-    place: u32,
+    place: usize,
     encoding: Encoding,
     fold: bool,
     literal: &[Piece],
@@ -63,6 +79,8 @@ fn put_literal(
 ) -> Result<(), AllocError>
     ensures starts { OnOk result (starts.new.items ≡ starts.old.items ++ start_of place encoding fold (length pieces.old.items) literal.now) }
     ensures pieces { OnOk result (pieces.new.items ≡ pieces.old.items ++ filled literal.now) }
+    ensures kept { BeginsWith starts.old.items starts.new.items }
+    ensures kept_pieces { BeginsWith pieces.old.items pieces.new.items }
 {
     let at = pieces.len();
     put_pieces(literal, pieces)?;
@@ -82,7 +100,7 @@ fn put_literal(
 
 /// Puts the literals of a list behind others.
 pub(crate) fn put_literals(
-    place: u32,
+    place: usize,
     encoding: Encoding,
     fold: bool,
     literals: &Literals,
@@ -91,6 +109,8 @@ pub(crate) fn put_literals(
 ) -> Result<(), AllocError>
     ensures starts { OnOk result (starts.new.items ≡ starts.old.items ++ starts_of place encoding fold (length pieces.old.items) literals.now) }
     ensures pieces { OnOk result (pieces.new.items ≡ pieces.old.items ++ pieces_of literals.now) }
+    ensures kept { BeginsWith starts.old.items starts.new.items }
+    ensures kept_pieces { BeginsWith pieces.old.items pieces.new.items }
 {
     for at in 0..literals.len() {
         put_literal(place, encoding, fold, literals.pieces(at), starts, pieces)?;

@@ -6,12 +6,11 @@ ghost use Rattle.std.specs.List.{list_any};
 ghost use Rattle.dfdl_bits.specs.Window.{seen_at};
 ghost use Rattle.dfdl_looks.specs.Asks.{ask};
 ghost use Rattle.dfdl_looks.specs.Tallies.{nothing};
-ghost use Rattle.dfdl_delims.specs.declared.mark.Mark.{Mark as AnyMark};
 ghost use Rattle.dfdl_delims.specs.Candidates.{complete, has_more};
 ghost use Rattle.dfdl_delims.specs.Hits.{IsLast};
 ghost use Rattle.dfdl_delims.specs.Lists.{Decides, Opened};
 ghost use Rattle.dfdl_delims.specs.Longest.{Answers, NoText, longest_from};
-ghost use Rattle.dfdl_delims.specs.Registers.{Holds, no_lists, with_lists};
+ghost use Rattle.dfdl_delims.specs.Standing.{StandFor};
 
 use crate::candidate::Candidate;
 use crate::following::{has_more, is_whole};
@@ -25,7 +24,7 @@ use std::mem;
 use std::sync::ledger::Ledger;
 
 // The innermost list of which the bytes that were seen are a text.
-fn innermost(pieces: &[Piece], live: &[Candidate]) -> Option<u32>
+fn innermost(pieces: &[Piece], live: &[Candidate]) -> Option<usize>
     ensures { IsLast (λ place. complete pieces.now place live.now []) result }
 {
     let mut best = None;
@@ -47,7 +46,8 @@ fn some_more(pieces: &[Piece], live: &[Candidate]) -> bool
     false
 }
 
-/// Finds the longest text from byte `first` on, in a box that ends at byte `last`; `live` are the begins of the literals.
+/// Finds the longest text from byte `first` on, in a box that ends at byte `last`; `live` are the begins of the literals, which
+/// stand for the lists.
 pub(crate) fn find<L: Ledger>(
     pieces: &[Piece],
     window: &Window,
@@ -59,8 +59,7 @@ pub(crate) fn find<L: Ledger>(
 ) -> Result<Glance, AllocError>
     requires base { window.now.base ≤ first }
     requires last { last < 2 ^ 61 }
-    ensures answers { IfOk result (λ glance. (marks : List AnyMark) (lists : List Opened) (test : List ℕ → Bool)
-        → record { marks = marks; starts = live.old.items; pieces = pieces.now } ≡ with_lists no_lists lists → Decides lists test
+    ensures answers { IfOk result (λ glance. (lists : List Opened) (test : List ℕ → Bool) → StandFor pieces.now live.old.items lists → Decides lists test
         → Answers (ask (seen_at window.now) (longest_from test lists (last - first) [] NoText first) nothing) glance (steps.new - steps.old)) }
     ensures steps { steps.old ≤ steps.new }
 {

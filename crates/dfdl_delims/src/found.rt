@@ -4,7 +4,7 @@
 #[derive(Debug, Clone, Copy, PartialEq, Eq)]
 pub enum Found {
     /// A text of the list at the place `which`, of so many bits.
-    Match { which: u32, bits: u64 },
+    Match { which: usize, bits: u64 },
     /// No text.
     None,
     /// A byte that is needed hasn't come.

@@ -11,12 +11,12 @@ use crate::found::Found;
 /// A text of a list.
 #[derive(Debug, Clone, Copy, Drop)]
 pub(crate) struct Hit {
-    pub which: u32,
+    pub which: usize,
     pub bits: u64,
 }
 
 /// The greater of two places, where the second counts.
-pub(crate) fn counted(best: Option<u32>, place: u32, counts: bool) -> Option<u32>
+pub(crate) fn counted(best: Option<usize>, place: usize, counts: bool) -> Option<usize>
     ensures { result ≡ counted best place counts }
 {
     if !counts {
@@ -29,7 +29,7 @@ pub(crate) fn counted(best: Option<u32>, place: u32, counts: bool) -> Option<u32
 }
 
 /// A text of so many bits, if there is one, and else the one before.
-pub(crate) fn better(which: Option<u32>, bits: u64, hit: Option<Hit>) -> Option<Hit>
+pub(crate) fn better(which: Option<usize>, bits: u64, hit: Option<Hit>) -> Option<Hit>
     ensures { (count : ℕ) → bits ≡ 8 * count → hit_shown result ≡ better which count (hit_shown hit) }
 {
     match which {

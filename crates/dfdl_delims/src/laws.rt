@@ -1,9 +1,11 @@
 // Laws of the definitions that the contracts cite. The calls do nothing.
-ghost use Rattle.std.specs.Prelude.{ℕ, Bool, List};
-ghost use Rattle.dfdl_looks.specs.Asks.{AsksFrom};
+ghost use Rattle.std.specs.Prelude.{◌≡◌, ◌↔◌, ℕ, ◌+◌, ◌<◌, ◌⊎◌, Bool, List, [], length};
+ghost use Rattle.dfdl_looks.specs.Asks.{Answer, AsksFrom};
 ghost use Rattle.dfdl_delims.specs.Deciding.{goes_on};
 ghost use Rattle.dfdl_delims.specs.Lists.{Decides, Opened};
-ghost use Rattle.dfdl_delims.specs.Longest.{longest_at};
+ghost use Rattle.dfdl_delims.specs.Longest.{NoText, longest_at};
+ghost use Rattle.dfdl_delims.specs.Registers.{Holds, IsFull, Register, units_in, units_of};
+ghost use Rattle.dfdl_forms.specs.declared.literals.Piece.{Piece as AnyPiece};
 
 /// Of which bytes a text of some lists is longer, a test tells.
 pub fn longer_texts_are_decided()
@@ -13,4 +15,15 @@ pub fn longer_texts_are_decided()
 /// Each look at a text is at its first byte or behind it.
 pub fn texts_begin()
     ensures { (test : List ℕ → Bool) (lists : List Opened) (stop k : ℕ) → AsksFrom k (longest_at test lists stop k) }
+{}
+
+/// Where no list is open nothing is looked at, and nothing is found.
+pub fn no_list_has_texts()
+    ensures { (test : List ℕ → Bool) (stop k : ℕ) → Decides [] test → longest_at test [] stop k ≡ Answer NoText }
+{}
+
+/// How full a register is, by the lists that it holds.
+pub fn lists_fill_registers()
+    ensures { (register : Register) (lists : List Opened) (literals : List (List AnyPiece)) → Holds register lists
+        → IsFull register literals ↔ ((register.lists < length lists + 1) ⊎ (register.units < units_in lists + units_of literals)) }
 {}

@@ -4,6 +4,7 @@
 //! chapters 'DFDL Syntax Basics' and 'Framing' of the DFDL 1.0 specification, GFD.240.
 #![tactic(auto)]
 
+mod beginning;
 mod candidate;
 mod filling;
 mod finding;
@@ -15,6 +16,7 @@ mod left;
 pub mod longest;
 mod mark;
 pub mod markup;
+pub mod open_lists;
 pub mod refusal;
 mod step;
 
@@ -22,4 +24,8 @@ pub use dfdl_forms::{Encoding, Literals, Piece};
 pub use found::{Found, Glance};
 pub use longest::Candidates;
 pub use markup::Markup;
+pub use open_lists::OpenLists;
 pub use refusal::Refusal;
+
+#[cfg(test)]
+mod tests;

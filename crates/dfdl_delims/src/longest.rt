@@ -7,12 +7,13 @@ ghost use Rattle.dfdl_looks.specs.Asks.{ask};
 ghost use Rattle.dfdl_looks.specs.Tallies.{nothing};
 ghost use Rattle.dfdl_delims.specs.Lists.{Decides, Opened};
 ghost use Rattle.dfdl_delims.specs.Longest.{Answers, longest_at};
-ghost use Rattle.dfdl_delims.specs.Registers.{Holds};
+ghost use Rattle.dfdl_delims.specs.Opening.{Opens};
 
+use crate::beginning::begin;
 use crate::candidate::Candidate;
 use crate::finding::find;
 use crate::found::Glance;
-use crate::markup::Markup;
+use crate::open_lists::OpenLists;
 use dfdl_bits::{Steps, Window};
 use std::alloc::{AllocError, Global};
 use std::sync::ledger::Ledger;
@@ -33,19 +34,11 @@ impl Candidates {
     }
 }
 
-// Takes these candidates alone.
-fn begin(starts: &[Candidate], live: &mut Vec<Candidate>) -> Result<(), AllocError>
-    ensures { OnOk result (live.new.items ≡ starts.now) }
-{
-    live.clear();
-    live.extend_from_slice(starts)?;
-    Ok(())
-}
-
 /// Finds the longest text of the open lists that the data at bit `bit` begins with, in a box that ends at bit `stop`. A text
-/// of more than one list is one of the innermost of them. Bytes are looked at one after another while a text is longer.
+/// of more than one list is one of the innermost of them; `which` is its place among the open lists, 0 the outermost. Bytes are
+/// looked at one after another while a text is longer.
 pub fn longest<L: Ledger>(
-    lists: &Markup,
+    lists: OpenLists<'_>,
     window: &Window,
     bit: u64,
     stop: u64,
@@ -53,13 +46,13 @@ pub fn longest<L: Ledger>(
     steps: &mut Steps<L>,
 ) -> Result<Glance, AllocError>
     requires base { window.now.base ≤ bit / 8 }
-    ensures answers { IfOk result (λ glance. (opened : List Opened) (test : List ℕ → Bool) → Holds lists.now opened → Decides opened test
+    ensures answers { IfOk result (λ glance. (opened : List Opened) (test : List ℕ → Bool) → Opens lists.entry opened → Decides opened test
         → Answers (ask (seen_at window.now) (longest_at test opened stop (bit / 8)) nothing) glance (steps.new - steps.old)) }
     ensures steps { steps.old ≤ steps.new }
 {
-    begin(lists.starts(), &mut candidates.live)?;
+    begin(lists, &mut candidates.live)?;
     let glance = find(
-        lists.pieces(),
+        lists.markup.pieces(),
         window,
         bit / 8,
         stop / 8,

@@ -1,20 +1,20 @@
-// A register of open lists.
+// A register of lists of literals.
 #![tactic(auto)]
 
-ghost use Rattle.std.specs.Prelude.{◌≡◌, ◌↔◌, [], ◌∷◌, ◌++◌, List, ◌<◌, length, IfOk, OnOk, IsErrOf};
+ghost use Rattle.std.specs.Prelude.{◌≡◌, ◌↔◌, [], ◌∷◌, ◌++◌, List, ◌<◌, length, IfOk, OnOk, OnErr, IsErrOf};
 ghost use Rattle.dfdl_delims.specs.Lists.{Opened};
-ghost use Rattle.dfdl_delims.specs.Registers.{Holds, IsFull};
+ghost use Rattle.dfdl_delims.specs.Registers.{Holds, IsFull, with_units};
 ghost use Rattle.dfdl_delims.specs.declared.refusal.Refusal.TheVariants.{Full};
 
 use crate::candidate::Candidate;
-use crate::filling::{fits, put_literals};
+use crate::filling::{fits, put_literals, with_units};
 use crate::mark::Mark;
 use crate::refusal::Refusal;
 use dfdl_forms::{Encoding, Literals, Piece};
 use std::alloc::{AllocError, Global};
 use std::marker::Model;
 
-/// The lists of literals that are open, the innermost pushed last. A list is named by its place, 0 the outermost.
+/// Lists of literals. A list is named by its number, 0 the one that was put first.
 #[derive(Drop)]
 pub struct Markup {
     marks: Vec<Mark>,
@@ -37,7 +37,7 @@ impl Model for Markup {
 }
 
 impl Markup {
-    /// A register with room for so many lists, and for so many units of their literals: characters, raw bytes and classes, and
+    /// A register of no lists with room for so many, and for so many units of their literals: characters, raw bytes and classes, and
     /// one for a literal of none.
     pub fn open(alloc: Global, lists: u32, units: u32) -> Result<Markup, AllocError>
         ensures holds { IfOk result (λ markup. Holds markup []) }
@@ -52,7 +52,14 @@ impl Markup {
         })
     }
 
-    /// Opens a list inside of the others: copies its literals. With `fold` an ASCII letter is its other case too.
+    /// So many units of literals and those of one list more, if a register can have room for so many.
+    pub fn with_units(before: u32, literals: &Literals) -> Option<u32>
+        ensures { result ≡ with_units before literals.now }
+    {
+        with_units(before, literals)
+    }
+
+    /// Puts a list behind the others: copies its literals. With `fold` an ASCII letter is its other case too.
     pub fn push(
         &mut self,
         literals: &Literals,
@@ -62,7 +69,7 @@ impl Markup {
         ensures pushed { OnOk result ((lists : List Opened) → Holds self.old lists
             → Holds self.new (lists ++ record { encoding = encoding; fold = fold; literals = literals.now } ∷ [])) }
         ensures full { IsErrOf result Full ↔ IsFull self.old literals.now }
-        ensures still { IsErrOf result Full → self.new ≡ self.old }
+        ensures still { OnErr result (self.new ≡ self.old) }
         ensures room { (self.new.lists ≡ self.old.lists) × (self.new.units ≡ self.old.units) }
     {
         if self.marks.len() >= self.lists as usize {
@@ -75,29 +82,41 @@ impl Markup {
         if !fits(literals, units - self.pieces.len()) {
             return Err(Refusal::Full);
         }
-        let place = self.marks.len() as u32;
-        let mark = Mark {
-            starts: self.starts.len(),
-            pieces: self.pieces.len(),
-        };
-        self.marks.push(mark)?;
-        put_literals(
+        let place = self.marks.len();
+        let starts = self.starts.len();
+        let pieces = self.pieces.len();
+        self.marks.push(Mark { starts, pieces })?;
+        match put_literals(
             place,
             encoding,
             fold,
             literals,
             &mut self.starts,
             &mut self.pieces,
-        )?;
-        Ok(())
+        ) {
+            Ok(()) => Ok(()),
+            Err(_) => {
+                self.marks.truncate(place);
+                self.starts.truncate(starts);
+                self.pieces.truncate(pieces);
+                Err(Refusal::OutOfMemory)
+            }
+        }
     }
 
-    /// How many lists are open.
+    /// How many lists there are.
     #[tactic(auto, using(crate::proofs::Held::held))]
     pub fn len(&self) -> usize
         ensures { (lists : List Opened) → Holds self.now lists → result ≡ length lists }
     {
         self.marks.len()
+    }
+
+    /// How much stands before each list.
+    pub(crate) fn marks(&self) -> &[Mark]
+        ensures { result.now ≡ self.now.flat.marks }
+    {
+        self.marks.as_slice()
     }
 
     /// The begins of the literals.
@@ -114,7 +133,7 @@ impl Markup {
         self.pieces.as_slice()
     }
 
-    /// Closes the innermost list.
+    /// Takes the last list off.
     pub fn pop(&mut self)
         ensures popped { (lists : List Opened) (list : Opened) → Holds self.old (lists ++ list ∷ []) → Holds self.new lists }
         ensures none { Holds self.old [] → Holds self.new [] }

@@ -1,11 +1,11 @@
-// Why a list isn't opened.
+// Why a list isn't put into a register.
 ghost use Rattle.std.specs.Prelude.{◌≡◌};
 ghost use Rattle.dfdl_delims.specs.declared.refusal.Refusal.TheVariants.{OutOfMemory};
 
 use std::alloc::{AllocError, AllocFailed};
 use thiserror::Error;
 
-/// Why a list isn't opened.
+/// Why a list isn't put into a register.
 #[derive(Clone, Copy, Debug, PartialEq, Eq, Error)]
 pub enum Refusal {
     /// The register has no room for the list or its literals.

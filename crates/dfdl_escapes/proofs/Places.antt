@@ -2,7 +2,7 @@
 use Rattle.std.proofs.Common.{◌≡◌, ℕ, ◌+◌, ◌-◌, ◌<◌, ◌≤◌, Bool, List, [], ◌∷◌, ◌++◌, length, drop, get_or, Option, Some, None, refl, ap, sym, ◌∙◌, arith, append_assoc, length-append}
 use Rattle.std.proofs.lemmas.List.{drop_at, drop-drop, drop_more, length-drop}
 use Rattle.dfdl_forms.specs.declared.encoding.Encoding.{Encoding}
-use Rattle.dfdl_chars.specs.Encodings.{encoded_of, encoded_text, joined}
+use Rattle.dfdl_chars.specs.Encodings.{count_of, encoded_of, encoded_text, joined, width_in}
 use Rattle.dfdl_delims.specs.Lists.{Opened}
 use Rattle.dfdl_escapes.specs.declared.placed.Placed.{Placed}
 use Rattle.dfdl_escapes.specs.Written.{begins_with_text, is_matched, placed}
@@ -39,11 +39,11 @@ module _ (enc : Encoding) (text bytes : List ℕ) (i c d from : ℕ) (within : i
       ∙ ap (λ (cs : List ℕ). now ++ placed enc opened cs) (sym (left_there text i c d within is_c))
       ∙ before
 
-  pub bytes-kept : (size : ℕ) → ((one : List ℕ) → encoded_of enc c ≡ Some one → size ≡ length one) → from ≤ length bytes
+  pub bytes-kept : (size : ℕ) → size ≡ width_in enc c → from ≤ length bytes
       → (encoded_text enc (drop (i + 1) text) ≡ Some (drop (from + size) bytes)) × (from + size ≤ length bytes)
   bytes-kept size sizes inside =
       let both = parts (encoded_of enc c) (encoded_text enc (drop (i + 1) text)) (drop from bytes) whole in
-      let size_is : size ≡ length both.first = sizes both.first both.is_first in
+      let size_is : size ≡ length both.first = sizes ∙ ap count_of both.is_first in
       let behind : drop (from + size) bytes ≡ both.second =
       sym (drop-drop size from bytes) ∙ ap (drop size) both.both ∙ drop_at both.first both.second size (sym size_is) in
       let count : length bytes - from ≡ length both.first + length both.second =

@@ -6,14 +6,14 @@ ghost use Rattle.dfdl_looks.specs.Asks.{Answer, ask, go_on};
 ghost use Rattle.dfdl_looks.specs.Tallies.{Tally};
 ghost use Rattle.dfdl_delims.specs.Lists.{Decides, Opened};
 ghost use Rattle.dfdl_delims.specs.Longest.{found_shown};
-ghost use Rattle.dfdl_delims.specs.Registers.{Holds};
+ghost use Rattle.dfdl_delims.specs.Opening.{Opens};
 ghost use Rattle.dfdl_escapes.specs.Readings.{Comes, end_shown};
 ghost use Rattle.dfdl_escapes.specs.Steps.{ended_by, markup_at};
 
 use crate::form::Form;
 use dfdl_bits::{Steps, Window};
 use dfdl_delims::longest::longest;
-use dfdl_delims::{Candidates, Found, Markup};
+use dfdl_delims::{Candidates, Found, OpenLists};
 use std::alloc::AllocError;
 use std::sync::ledger::Ledger;
 
@@ -21,7 +21,7 @@ use std::sync::ledger::Ledger;
 #[derive(Debug, Clone, Copy)]
 pub(crate) enum End {
     None,
-    At { which: u32 },
+    At { which: usize },
     NotYet,
     Over,
 }
@@ -29,7 +29,7 @@ pub(crate) enum End {
 /// What is found of terminating markup at a byte, and how far was seen.
 pub(crate) fn end_at<L: Ledger>(
     form: &Form,
-    lists: &Markup,
+    lists: OpenLists<'_>,
     window: &Window,
     byte: u64,
     candidates: &mut Candidates,
@@ -37,7 +37,7 @@ pub(crate) fn end_at<L: Ledger>(
 ) -> Result<(End, u64), AllocError>
     requires base { window.now.base ≤ byte }
     requires byte { byte ≤ 2 ^ 60 }
-    ensures end { IfOk result (λ answer. (opened : List Opened) (test : List ℕ → Bool) → Holds lists.now opened → Decides opened test → (t : Tally)
+    ensures end { IfOk result (λ answer. (opened : List Opened) (test : List ℕ → Bool) → Opens lists.entry opened → Decides opened test → (t : Tally)
         → Comes t (ask (seen_at window.now) (markup_at test opened form.now.stop byte) t) (end_shown answer.0) (steps.new - steps.old) answer.1) }
     ensures steps { steps.old ≤ steps.new }
 {

@@ -12,7 +12,7 @@ use dfdl_report::ParseCause;
 #[derive(Debug, Clone, Copy, PartialEq, Eq)]
 pub enum Ending {
     /// At terminating markup, of the list at the place `which`.
-    Ends { which: u32 },
+    Ends { which: usize },
     /// At the end of the box or of the data.
     EndOfBox,
     /// The content is broken.

@@ -2,14 +2,14 @@
 ghost use Rattle.std.specs.Prelude.{◌≡◌, List, Some, None, OnOk, IsErrOf};
 ghost use Rattle.dfdl_chars.specs.Encodings.{encoded_text};
 ghost use Rattle.dfdl_delims.specs.Lists.{Opened};
-ghost use Rattle.dfdl_delims.specs.Registers.{Holds};
+ghost use Rattle.dfdl_delims.specs.Opening.{Opens};
 ghost use Rattle.dfdl_escapes.specs.declared.refusal.Refusal.TheVariants.{Impossible, NoSuchChar};
 ghost use Rattle.dfdl_escapes.specs.Written.{written};
 
 use crate::placing::place;
 use crate::refusal::Refusal;
 use crate::writing::write;
-use dfdl_delims::Markup;
+use dfdl_delims::OpenLists;
 use dfdl_forms::{Encoding, EscapeScheme};
 use std::alloc::Global;
 use std::marker::Brand;
@@ -20,13 +20,13 @@ use std::sync::ledger::Blank;
 pub fn escape(
     scheme: &EscapeScheme,
     enc: Encoding,
-    lists: &Markup,
+    lists: OpenLists<'_>,
     text: &[char],
     alloc: Global,
     into: &mut Vec<char>,
 ) -> Result<(), Refusal>
-    ensures written { OnOk result ((opened : List Opened) → Holds lists.now opened → written scheme.now enc opened text.now ≡ Some into.new.items) }
-    ensures impossible { IsErrOf result Impossible → (opened : List Opened) → Holds lists.now opened → written scheme.now enc opened text.now ≡ None }
+    ensures written { OnOk result ((opened : List Opened) → Opens lists.entry opened → written scheme.now enc opened text.now ≡ Some into.new.items) }
+    ensures impossible { IsErrOf result Impossible → (opened : List Opened) → Opens lists.entry opened → written scheme.now enc opened text.now ≡ None }
     ensures lacks { IsErrOf result NoSuchChar → encoded_text enc text.now ≡ None }
 {
     into.clear();

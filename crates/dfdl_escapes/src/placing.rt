@@ -4,7 +4,7 @@ ghost use Rattle.dfdl_looks.specs.Asks.{Told};
 ghost use Rattle.dfdl_chars.specs.Encodings.{encoded_of, encoded_text, joined};
 ghost use Rattle.dfdl_delims.specs.Lists.{Opened};
 ghost use Rattle.dfdl_delims.specs.Longest.{Longest, found_shown};
-ghost use Rattle.dfdl_delims.specs.Registers.{Holds};
+ghost use Rattle.dfdl_delims.specs.Opening.{Opens};
 ghost use Rattle.dfdl_escapes.specs.declared.refusal.Refusal.TheVariants.{Impossible, NoSuchChar};
 ghost use Rattle.dfdl_escapes.specs.Sought.{HoldsAll};
 ghost use Rattle.dfdl_escapes.specs.Steps.{ended_by};
@@ -13,9 +13,9 @@ ghost use Rattle.dfdl_escapes.specs.Written.{begins_with_text, is_given, placed}
 use crate::placed::Placed;
 use crate::refusal::Refusal;
 use dfdl_bits::{Steps, Window};
-use dfdl_chars::encode;
+use dfdl_chars::{encode, width_in};
 use dfdl_delims::longest::longest;
-use dfdl_delims::{Candidates, Found, Markup};
+use dfdl_delims::{Candidates, Found, OpenLists};
 use dfdl_forms::Encoding;
 use std::alloc::{AllocError, Global};
 use std::sync::ledger::{Blank, Ledger};
@@ -35,18 +35,6 @@ fn encode_all(enc: Encoding, text: &[char], into: &mut Vec<u8>) -> Result<(), Re
         into.extend_from_slice(&room[..count])?;
     }
     Ok(())
-}
-
-// How many bytes a character has.
-fn size_of(enc: Encoding, c: char) -> usize
-    ensures size { (bytes : List ℕ) → encoded_of enc c ≡ Some bytes → result ≡ length bytes }
-    ensures small { result ≤ 4 }
-{
-    let mut room = [0; 4];
-    match encode(enc, c, &mut room) {
-        Ok(count) => count,
-        Err(_) => 0,
-    }
 }
 
 // A window that holds the bytes.
@@ -76,7 +64,7 @@ fn is_text(found: Found) -> bool
 
 // Whether terminating markup matches the bytes that the window holds from a place on.
 fn is_matched<L: Ledger>(
-    lists: &Markup,
+    lists: OpenLists<'_>,
     window: &Window,
     bytes: &[u8],
     from: usize,
@@ -86,7 +74,7 @@ fn is_matched<L: Ledger>(
     requires holds { HoldsAll window.now bytes.now }
     requires small { length bytes.now < 2 ^ 32 }
     requires within { from ≤ length bytes.now }
-    ensures { IfOk result (λ is. (opened : List Opened) → Holds lists.now opened → is ≡ begins_with_text opened [] (drop from bytes.now)) }
+    ensures { IfOk result (λ is. (opened : List Opened) → Opens lists.entry opened → is ≡ begins_with_text opened [] (drop from bytes.now)) }
 {
     dfdl_delims::laws::longer_texts_are_decided();
     let bit = 8 * from as u64;
@@ -98,7 +86,7 @@ fn is_matched<L: Ledger>(
 // Puts each character of a text behind others, and whether terminating markup matches the text from there on.
 fn place_each<L: Ledger>(
     enc: Encoding,
-    lists: &Markup,
+    lists: OpenLists<'_>,
     text: &[char],
     window: &Window,
     bytes: &[u8],
@@ -109,14 +97,14 @@ fn place_each<L: Ledger>(
     requires holds { HoldsAll window.now bytes.now }
     requires small { length bytes.now < 2 ^ 32 }
     requires encoded { encoded_text enc text.now ≡ Some bytes.now }
-    ensures { OnOk result ((opened : List Opened) → Holds lists.now opened → into.new.items ≡ into.old.items ++ placed enc opened text.now) }
+    ensures { OnOk result ((opened : List Opened) → Opens lists.entry opened → into.new.items ≡ into.old.items ++ placed enc opened text.now) }
 {
     let mut candidates = Candidates::new(alloc);
     let mut from = 0;
     for c in text {
         let is_markup = is_matched(lists, window, bytes, from, &mut candidates, steps)?;
         into.push(Placed { c: *c, is_markup })?;
-        from += size_of(enc, *c);
+        from += width_in(enc, *c);
     }
     Ok(())
 }
@@ -124,7 +112,7 @@ fn place_each<L: Ledger>(
 /// Puts each character of a text, and whether terminating markup matches the text from there on.
 pub(crate) fn place<L: Ledger>(
     enc: Encoding,
-    lists: &Markup,
+    lists: OpenLists<'_>,
     text: &[char],
     alloc: Global,
     blank: Blank,
@@ -133,7 +121,7 @@ pub(crate) fn place<L: Ledger>(
     requires name { blank.name ≡ L.name }
     requires parts { blank.parts ≡ L.parts }
     requires some { 0 < L.parts }
-    ensures placed { OnOk result ((opened : List Opened) → Holds lists.now opened → into.new.items ≡ into.old.items ++ placed enc opened text.now) }
+    ensures placed { OnOk result ((opened : List Opened) → Opens lists.entry opened → into.new.items ≡ into.old.items ++ placed enc opened text.now) }
     ensures lacks { IsErrOf result NoSuchChar → encoded_text enc text.now ≡ None }
     ensures possible { IsErrOf result Impossible → ⊥ }
 {

@@ -4,7 +4,7 @@ ghost use Rattle.dfdl_bits.specs.Window.{end_of, seen_at};
 ghost use Rattle.dfdl_looks.specs.Asks.{ask};
 ghost use Rattle.dfdl_looks.specs.Tallies.{nothing};
 ghost use Rattle.dfdl_delims.specs.Lists.{Decides, Opened};
-ghost use Rattle.dfdl_delims.specs.Registers.{Holds};
+ghost use Rattle.dfdl_delims.specs.Opening.{Opens};
 ghost use Rattle.dfdl_escapes.specs.declared.character.Character.{Character as AnyCharacter};
 ghost use Rattle.dfdl_escapes.specs.declared.form.Stand.{Stand as AnyStand};
 ghost use Rattle.dfdl_escapes.specs.Contents.{ArePassed, rest_of};
@@ -14,7 +14,7 @@ use crate::character::Character;
 use crate::ending::{Ending, Passed, Read, by_scanned};
 use crate::scan::Scan;
 use dfdl_bits::{Steps, Window};
-use dfdl_delims::{Candidates, Markup};
+use dfdl_delims::{Candidates, OpenLists};
 use std::alloc::AllocError;
 use std::sync::ledger::Ledger;
 
@@ -28,7 +28,7 @@ pub(crate) enum Progress {
 // Takes one step, where so far was seen.
 fn take_step<L: Ledger>(
     scan: &mut Scan,
-    lists: &Markup,
+    lists: OpenLists<'_>,
     window: &Window,
     candidates: &mut Candidates,
     steps: &mut Steps<L>,
@@ -38,10 +38,10 @@ fn take_step<L: Ledger>(
     requires base { window.now.base ≤ scan.old.at.byte }
     requires byte { scan.old.at.byte ≤ 2 ^ 60 }
     requires bound { end_of window.now ≤ 2 ^ 60 }
-    ensures turns { IfOk result (λ turn. (opened : List Opened) (test : List ℕ → Bool) (more : ℕ) → Holds lists.now opened → Decides opened test
+    ensures turns { IfOk result (λ turn. (opened : List Opened) (test : List ℕ → Bool) (more : ℕ) → Opens lists.entry opened → Decides opened test
         → TurnsTo (seen_at window.now) test opened scan.old.form (left_of (seen_at window.now) test opened scan.old.form (suc more) into.old.items scan.old.at steps.old far)
         more into.new.items scan.new.at steps.new turn) }
-    ensures passed { IfOk result (λ turn. (opened : List Opened) (test : List ℕ → Bool) (begin : AnyStand) (before : List AnyCharacter) → Holds lists.now opened
+    ensures passed { IfOk result (λ turn. (opened : List Opened) (test : List ℕ → Bool) (begin : AnyStand) (before : List AnyCharacter) → Opens lists.entry opened
         → Decides opened test → ArePassed (seen_at window.now) test opened scan.old.form begin before scan.old.at into.old.items
         → ArePassed (seen_at window.now) test opened scan.old.form begin before scan.new.at into.new.items) }
     ensures behind { IfOk result (λ turn. scan.old.at.byte ≤ scan.new.at.byte) }
@@ -65,7 +65,7 @@ fn take_step<L: Ledger>(
 /// where a byte hasn't come it goes on from there later.
 pub fn read_content<L: Ledger>(
     scan: &mut Scan,
-    lists: &Markup,
+    lists: OpenLists<'_>,
     window: &Window,
     candidates: &mut Candidates,
     steps: &mut Steps<L>,
@@ -74,9 +74,9 @@ pub fn read_content<L: Ledger>(
     requires base { window.now.base ≤ scan.old.at.byte }
     requires byte { scan.old.at.byte ≤ 2 ^ 60 }
     requires bound { end_of window.now ≤ 2 ^ 60 }
-    ensures answers { IfOk result (λ answer. (opened : List Opened) (test : List ℕ → Bool) → Holds lists.now opened → Decides opened test
+    ensures answers { IfOk result (λ answer. (opened : List Opened) (test : List ℕ → Bool) → Opens lists.entry opened → Decides opened test
         → IsRead (ask (seen_at window.now) (rest_of test opened scan.old.form into.old.items scan.old.at) nothing) into.new.items scan.new.at answer (steps.new - steps.old)) }
-    ensures passed { IfOk result (λ answer. (opened : List Opened) (test : List ℕ → Bool) → Holds lists.now opened → Decides opened test
+    ensures passed { IfOk result (λ answer. (opened : List Opened) (test : List ℕ → Bool) → Opens lists.entry opened → Decides opened test
         → ArePassed (seen_at window.now) test opened scan.old.form scan.old.at into.old.items scan.new.at into.new.items) }
     ensures behind { IfOk result (λ answer. scan.old.at.byte ≤ scan.new.at.byte) }
     ensures come { IfOk result (λ answer. scan.new.at.byte ≤ max scan.old.at.byte (end_of window.now)) }

@@ -4,7 +4,7 @@ ghost use Rattle.dfdl_bits.specs.Window.{end_of, seen_at};
 ghost use Rattle.dfdl_looks.specs.Asks.{ask};
 ghost use Rattle.dfdl_looks.specs.Tallies.{nothing};
 ghost use Rattle.dfdl_delims.specs.Lists.{Decides, Opened};
-ghost use Rattle.dfdl_delims.specs.Registers.{Holds};
+ghost use Rattle.dfdl_delims.specs.Opening.{Opens};
 ghost use Rattle.dfdl_escapes.specs.Readings.{Answers, GoesTo};
 ghost use Rattle.dfdl_escapes.specs.Steps.{first_mode, stand, step_at};
 
@@ -12,7 +12,7 @@ use crate::form::{Form, Mode, Stand};
 use crate::scanned::Glance;
 use crate::walk::{Task, walk};
 use dfdl_bits::{Steps, Window};
-use dfdl_delims::{Candidates, Markup};
+use dfdl_delims::{Candidates, OpenLists};
 use dfdl_forms::{Encoding, EscapeKind, EscapeScheme};
 use std::alloc::AllocError;
 use std::sync::ledger::Ledger;
@@ -79,7 +79,7 @@ impl Scan {
     /// ends the content is that of the lists, in one of which the longest text is found.
     pub fn step<L: Ledger>(
         &mut self,
-        lists: &Markup,
+        lists: OpenLists<'_>,
         window: &Window,
         candidates: &mut Candidates,
         steps: &mut Steps<L>,
@@ -87,7 +87,7 @@ impl Scan {
         requires base { window.now.base ≤ self.old.at.byte }
         requires byte { self.old.at.byte ≤ 2 ^ 60 }
         requires bound { end_of window.now ≤ 2 ^ 60 }
-        ensures answers { IfOk result (λ glance. (opened : List Opened) (test : List ℕ → Bool) → Holds lists.now opened → Decides opened test
+        ensures answers { IfOk result (λ glance. (opened : List Opened) (test : List ℕ → Bool) → Opens lists.entry opened → Decides opened test
             → Answers (ask (seen_at window.now) (step_at test opened self.old.form self.old.at) nothing) self.new.at glance (steps.new - steps.old)) }
         ensures goes { IfOk result (λ glance. GoesTo glance.scanned self.old.at self.new.at (end_of window.now)) }
         ensures failed { IsErr result → self.new.at ≡ self.old.at }

@@ -11,7 +11,7 @@ pub enum Scanned {
     /// A mark that gives no character.
     Skipped,
     /// Terminating markup, of the list at the place `which`.
-    Ends { which: u32 },
+    Ends { which: usize },
     /// The end of the box or of the data.
     EndOfBox,
     /// The content is broken.

@@ -3,7 +3,7 @@ ghost use Rattle.std.specs.Prelude.{◌≡◌, ◌<◌};
 
 use crate::{Character, Ending, Refusal, Scan, Scanned, escape, laws, read_content};
 use dfdl_bits::{Steps, Window};
-use dfdl_delims::{Candidates, Markup};
+use dfdl_delims::{Candidates, Markup, OpenLists};
 use dfdl_forms::{CharList, Encoding, EscapeKind, EscapeScheme, Literals, Piece};
 use dfdl_report::ParseCause;
 use std::alloc::Global;
@@ -61,15 +61,20 @@ fn list_of(alloc: Global, text: &str) -> Result<Literals, Fail> {
     Ok(Literals::new(literals))
 }
 
-/// The separator `,` outside of the terminators `;` and `||`.
+/// The lists that are open: the separator `,` outside of the terminators `;` and `||`.
+const OPEN: [u32; 3] = [3, 1, 2];
+
+/// A list that isn't open, the terminators, and the separator.
 fn markup(rt: &impl Abort, alloc: Global, enc: Encoding) -> Result<Markup, Fail> {
-    let mut lists = Markup::open(alloc, 3, 4)?;
+    let mut lists = Markup::open(alloc, 4, 5)?;
+    let closed = list_of(alloc, "a")?;
     let separator = list_of(alloc, ",")?;
     let terminator = list_of(alloc, ";")?;
     let bars = list_of(alloc, "||")?;
-    assert!(rt; lists.push(&separator, enc, false).is_ok());
+    assert!(rt; lists.push(&closed, enc, false).is_ok());
     assert!(rt; lists.push(&terminator, enc, false).is_ok());
     assert!(rt; lists.push(&bars, enc, false).is_ok());
+    assert!(rt; lists.push(&separator, enc, false).is_ok());
     Ok(lists)
 }
 
@@ -115,7 +120,11 @@ fn scanned_in<L: Ledger>(
     requires some { 0 < L.parts }
 {
     let mut scan = scan;
-    let lists = markup(rt, alloc, scan.form.enc)?;
+    let register = markup(rt, alloc, scan.form.enc)?;
+    let lists = OpenLists {
+        markup: &register,
+        numbers: &OPEN,
+    };
     let mut candidates = Candidates::new(alloc);
     let mut steps = Steps::<L>::open(blank);
     let mut window = Window::open(alloc, 12)?;
@@ -127,7 +136,7 @@ fn scanned_in<L: Ledger>(
     let mut read = String::new(alloc);
     for _ in 0..16 {
         assert!(rt; window.base() <= scan.at.byte && scan.at.byte <= 12);
-        let glance = scan.step(&lists, &window, &mut candidates, &mut steps)?;
+        let glance = scan.step(lists, &window, &mut candidates, &mut steps)?;
         if !put(glance.scanned, &mut read)? {
             return Ok(read);
         }
@@ -304,7 +313,11 @@ fn read_in_pieces<L: Ledger>(
     requires some { 0 < L.parts }
 {
     let mut scan = scan;
-    let lists = markup(rt, alloc, scan.form.enc)?;
+    let register = markup(rt, alloc, scan.form.enc)?;
+    let lists = OpenLists {
+        markup: &register,
+        numbers: &OPEN,
+    };
     let mut candidates = Candidates::new(alloc);
     let mut steps = Steps::<L>::open(blank);
     let mut window = Window::open(alloc, 12)?;
@@ -315,7 +328,7 @@ fn read_in_pieces<L: Ledger>(
     assert!(rt; window.base() <= scan.at.byte && scan.at.byte <= 12);
     let now = read_content(
         &mut scan,
-        &lists,
+        lists,
         &window,
         &mut candidates,
         &mut steps,
@@ -327,7 +340,7 @@ fn read_in_pieces<L: Ledger>(
     assert!(rt; window.base() <= scan.at.byte && scan.at.byte <= 12);
     let now = read_content(
         &mut scan,
-        &lists,
+        lists,
         &window,
         &mut candidates,
         &mut steps,
@@ -359,7 +372,11 @@ fn written(
     enc: Encoding,
     text: &str,
 ) -> Result<String, Fail> {
-    let lists = markup(rt, alloc, enc)?;
+    let register = markup(rt, alloc, enc)?;
+    let lists = OpenLists {
+        markup: &register,
+        numbers: &OPEN,
+    };
     let mut characters = Vec::new(alloc);
     for c in text.chars() {
         characters.push(c)?;
@@ -367,7 +384,7 @@ fn written(
     let mut into = Vec::new(alloc);
     into.push('x')?;
     let mut told = String::new(alloc);
-    match escape(scheme, enc, &lists, &characters, alloc, &mut into) {
+    match escape(scheme, enc, lists, &characters, alloc, &mut into) {
         Ok(()) => {
             for c in &into {
                 told.push(*c)?;

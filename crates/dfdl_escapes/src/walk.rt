@@ -4,7 +4,7 @@ ghost use Rattle.dfdl_bits.specs.Window.{end_of, seen_at};
 ghost use Rattle.dfdl_looks.specs.Asks.{ask, go_on};
 ghost use Rattle.dfdl_looks.specs.Tallies.{Tally};
 ghost use Rattle.dfdl_delims.specs.Lists.{Decides, Opened};
-ghost use Rattle.dfdl_delims.specs.Registers.{Holds};
+ghost use Rattle.dfdl_delims.specs.Opening.{Opens};
 ghost use Rattle.dfdl_escapes.specs.Readings.{Comes, FirstWithin, GoesTo, LastWithin, end_shown, first_reading, last_reading, step_shown};
 ghost use Rattle.dfdl_escapes.specs.Steps.{by_piece, is_plain, step_at, unless_closed};
 
@@ -14,7 +14,7 @@ use crate::scanned::Scanned;
 use crate::turn::{First, Last, Turn, by_block_pair, by_end, by_first, by_pair};
 use crate::unit::unit_at;
 use dfdl_bits::{Steps, Window};
-use dfdl_delims::{Candidates, Markup};
+use dfdl_delims::{Candidates, OpenLists};
 use std::alloc::AllocError;
 use std::sync::ledger::Ledger;
 
@@ -22,7 +22,7 @@ use std::sync::ledger::Ledger;
 #[derive(Clone, Copy)]
 pub(crate) struct Task<'s> {
     pub form: Form,
-    pub lists: &'s Markup,
+    pub lists: OpenLists<'s>,
     pub window: &'s Window,
 }
 
@@ -36,7 +36,7 @@ fn settle<L: Ledger>(
 ) -> Result<(Turn, u64), AllocError>
     requires base { task.now.window.now.base ≤ at.byte }
     requires byte { at.byte ≤ 2 ^ 60 }
-    ensures comes { IfOk result (λ answer. (opened : List Opened) (test : List ℕ → Bool) → Holds task.now.lists.now opened → Decides opened test → (t : Tally)
+    ensures comes { IfOk result (λ answer. (opened : List Opened) (test : List ℕ → Bool) → Opens task.now.lists opened → Decides opened test → (t : Tally)
         → Comes t (last_reading (seen_at task.now.window.now) test opened task.now.form at last t) (step_shown answer.0.at answer.0.scanned) (steps.new - steps.old) answer.1) }
     ensures within { IfOk result (λ answer. (come : ℕ) → LastWithin at last come → GoesTo answer.0.scanned at answer.0.at come) }
     ensures steps { steps.old ≤ steps.new }
@@ -69,7 +69,7 @@ fn go_on<L: Ledger>(
     requires byte { at.byte ≤ 2 ^ 60 }
     requires bound { end_of task.now.window.now ≤ 2 ^ 60 }
     requires within { FirstWithin at first (end_of task.now.window.now) }
-    ensures comes { IfOk result (λ answer. (opened : List Opened) (test : List ℕ → Bool) → Holds task.now.lists.now opened → Decides opened test → (t : Tally)
+    ensures comes { IfOk result (λ answer. (opened : List Opened) (test : List ℕ → Bool) → Opens task.now.lists opened → Decides opened test → (t : Tally)
         → Comes t (first_reading (seen_at task.now.window.now) test opened task.now.form at first t) (step_shown answer.0.at answer.0.scanned) (steps.new - steps.old) answer.1) }
     ensures within { IfOk result (λ answer. GoesTo answer.0.scanned at answer.0.at (end_of task.now.window.now)) }
     ensures steps { steps.old ≤ steps.new }
@@ -99,7 +99,7 @@ fn by_piece<L: Ledger>(
     requires base { task.now.window.now.base ≤ at.byte }
     requires byte { at.byte ≤ 2 ^ 60 }
     requires bound { end_of task.now.window.now ≤ 2 ^ 60 }
-    ensures comes { IfOk result (λ answer. (opened : List Opened) (test : List ℕ → Bool) → Holds task.now.lists.now opened → Decides opened test → (t : Tally)
+    ensures comes { IfOk result (λ answer. (opened : List Opened) (test : List ℕ → Bool) → Opens task.now.lists opened → Decides opened test → (t : Tally)
         → Comes t (ask (seen_at task.now.window.now) (by_piece test opened task.now.form at) t) (step_shown answer.0.at answer.0.scanned) (steps.new - steps.old) answer.1) }
     ensures within { IfOk result (λ answer. GoesTo answer.0.scanned at answer.0.at (end_of task.now.window.now)) }
     ensures steps { steps.old ≤ steps.new }
@@ -121,7 +121,7 @@ fn behind_end<L: Ledger>(
     requires base { task.now.window.now.base ≤ at.byte }
     requires byte { at.byte ≤ 2 ^ 60 }
     requires bound { end_of task.now.window.now ≤ 2 ^ 60 }
-    ensures comes { IfOk result (λ answer. (opened : List Opened) (test : List ℕ → Bool) → Holds task.now.lists.now opened → Decides opened test → (t : Tally)
+    ensures comes { IfOk result (λ answer. (opened : List Opened) (test : List ℕ → Bool) → Opens task.now.lists opened → Decides opened test → (t : Tally)
         → Comes t (go_on (seen_at task.now.window.now) (λ found. unless_closed (by_piece test opened task.now.form at) found) (end_shown end) t)
         (step_shown answer.0.at answer.0.scanned) (steps.new - steps.old) answer.1) }
     ensures within { IfOk result (λ answer. GoesTo answer.0.scanned at answer.0.at (end_of task.now.window.now)) }
@@ -155,7 +155,7 @@ pub(crate) fn walk<L: Ledger>(
     requires base { task.now.window.now.base ≤ at.byte }
     requires byte { at.byte ≤ 2 ^ 60 }
     requires bound { end_of task.now.window.now ≤ 2 ^ 60 }
-    ensures comes { IfOk result (λ answer. (opened : List Opened) (test : List ℕ → Bool) → Holds task.now.lists.now opened → Decides opened test → (t : Tally)
+    ensures comes { IfOk result (λ answer. (opened : List Opened) (test : List ℕ → Bool) → Opens task.now.lists opened → Decides opened test → (t : Tally)
         → Comes t (ask (seen_at task.now.window.now) (step_at test opened task.now.form at) t) (step_shown answer.0.at answer.0.scanned) (steps.new - steps.old) answer.1) }
     ensures within { IfOk result (λ answer. GoesTo answer.0.scanned at answer.0.at (end_of task.now.window.now)) }
     ensures steps { steps.old ≤ steps.new }

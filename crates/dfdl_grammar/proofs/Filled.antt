@@ -1,5 +1,5 @@
 -- Where a row is done, the elements that began in it are read.
-use Rattle.std.proofs.Common.{◌≡◌, ℕ, zero, suc, ◌+◌, ◌*◌, ◌/◌, ◌<◌, ◌≤◌, ◌⊎◌, inl, inr, refl, List, [], ◌∷◌, ◌++◌, length, Bool, true, false, cond, ◌-◌, nat_eq, nat_lt, Option, Some, None, All, nat_le, ap, sym, subst, ◌∙◌, arith}
+use Rattle.std.proofs.Common.{◌≡◌, ℕ, zero, suc, ◌+◌, ◌*◌, ◌/◌, ◌<◌, ◌≤◌, ◌⊎◌, inl, inr, refl, List, [], ◌∷◌, ◌++◌, length, take, Bool, true, false, cond, ◌-◌, nat_eq, nat_lt, Option, Some, None, All, nat_le, ap, sym, subst, ◌∙◌, arith}
 use Rattle.std.specs.Prelude.{slice_get}
 use Rattle.std.proofs.lemmas.Option.{get_or_from_slice_get, slice_get_within}
 use Rattle.dfdl_bits.specs.declared.window.Seen.{Seen}
@@ -10,9 +10,9 @@ use Rattle.dfdl_terms.specs.declared.representations.Representations.{Representa
 use Rattle.dfdl_value.specs.declared.value.Value.{Value}
 use Rattle.dfdl_terms.specs.declared.row.Primitive.{Primitive}
 use Rattle.dfdl_terms.specs.declared.row.Row.{Row}
-use Rattle.dfdl_terms.specs.declared.row.Row.TheVariants.{Leaf, Elem, Group, Skip, Align, Boxed, PrefixedLeaf, PrefixedBox}
-use Rattle.dfdl_terms.specs.Leaves.{ReadsBy, leaf as by_leaf, prefixed as by_prefix, grouped}
-use Rattle.dfdl_terms.specs.Rows.{AreWithin, IsWithin, NamesWithin, Nests, Table}
+use Rattle.dfdl_terms.specs.declared.row.Row.TheVariants.{Leaf, Elem, Group, Skip, Align, Initiator, Terminator, Scope, Boxed, PrefixedLeaf, PrefixedBox}
+use Rattle.dfdl_terms.specs.Leaves.{ReadsBy, leaf as by_leaf, prefixed as by_prefix, grouped, scoped as scoped_reads}
+use Rattle.dfdl_terms.specs.Rows.{AreWithin, IsWithin, NamesWithin, Nests, Table, named_by}
 use Rattle.dfdl_region.specs.declared.node.Content.{Content}
 use Rattle.dfdl_region.specs.declared.node.Content.TheVariants.{Begun, Complex}
 use Rattle.dfdl_region.specs.declared.node.Content.TheVariants as content
@@ -23,21 +23,27 @@ use Rattle.dfdl_looks.specs.Looks.{seen_in}
 use Rattle.dfdl_looks.specs.Tallies.{nothing, one_row}
 use Rattle.dfdl_grammar.specs.declared.end.End.{End}
 use Rattle.dfdl_grammar.specs.declared.end.End.TheVariants.{Done, Failed, Stopped}
-use Rattle.dfdl_grammar.specs.States.{Input, State, anchor, anchor_at, front}
+use Rattle.dfdl_grammar.specs.declared.instead.Instead.{Instead}
+use Rattle.dfdl_grammar.specs.declared.instead.Instead.TheVariants.{Nothing, Nil, Empty}
+use Rattle.dfdl_grammar.specs.States.{Input, State, anchor, anchor_at}
+use Rattle.dfdl_grammar.specs.Documents.{front_at}
 use Rattle.dfdl_grammar.specs.Outcomes.{Outcome, ended, follow, spend, then_do}
 use Rattle.dfdl_grammar.specs.Leaves.{Find, Fails, Finds, FindsOctets, FindsText, content_begins, has_room, land, leaf, nil_values, program_for, read_by, reading_prim, values_in}
 use Rattle.dfdl_grammar.specs.Framing.{aligned, fill_to, has_byte, passed}
-use Rattle.dfdl_grammar.specs.Boxes.{boxed, bytes_up_to, pass_bytes, past_byte, rest as rest_of, unboxed}
+use Rattle.dfdl_grammar.specs.Delimiters.{closes_to, opens, scoped, unscoped}
+use Rattle.dfdl_grammar.specs.Boxes.{boxed, boxed_at, bytes_up_to, pass_bytes, past_byte, rest as rest_of, unboxed}
 use Rattle.dfdl_grammar.specs.Elements.{attempted, begun, close, element, left}
 use Rattle.dfdl_grammar.specs.Prefixes.{bits_of_units, leaf_of, prefixed, prefixed_leaf, resized, size_of, sized_leaf}
 use Rattle.dfdl_grammar.specs.Rows.{below, group, meaning, row, row_at}
 use Rattle.dfdl_grammar.specs.Trees.{AreRead, HasLeaves, IsInTables}
-use Rattle.dfdl_grammar.proofs.Fine.{Fills, Fine, IsRead, Reads, both, closed_fine, element-ends, fine, moved, put_read, read_before, read_behind, same_or, unmarked}
+use Rattle.dfdl_grammar.proofs.Fine.{Fills, Fine, IsRead, Reads, aside, both, closed_fine, element-ends, fine, moved, put_read, read_before, read_behind, same_or, unmarked}
 use Rattle.dfdl_grammar.proofs.Towers.{below-meaning}
 use Rattle.dfdl_grammar.proofs.Found.{value-for, whole-told}
-use Rattle.dfdl_grammar.proofs.Going.{Ends, Goes, Stays, below-goes, tried-returns}
+use Rattle.dfdl_grammar.proofs.Going.{below-goes, tried-returns, tried-stays}
+use Rattle.dfdl_grammar.proofs.Grown.{Ends, Goes, Stays}
 use Rattle.dfdl_grammar.proofs.Prefixed.{prefixed-comes}
-use Rattle.dfdl_grammar.proofs.Represented.{marked_by, represented-comes}
+use Rattle.dfdl_grammar.proofs.Represented.{IsOk, marked_by, represented-comes}
+use Rattle.dfdl_grammar.proofs.Sought.{initiator-comes, terminator-comes}
 
 -- a primitive of so many
 there_is : (primitives : List Primitive) (prim : ℕ) → prim < length primitives → (primitive : Primitive) × (slice_get primitives prim ≡ Some primitive)
@@ -47,13 +53,18 @@ there_is (primitive ∷ rest) (suc prim) less = there_is rest prim (omega arith)
 
 module _ (input : Input) (table : Table) (leaves : HasLeaves table) where
   -- the primitive that is read by in place of a leaf's own is in the tables, if there is one
-  abbrev IsKnown : Option ℕ → Type 0
-  IsKnown None = Unit {0}
-  IsKnown (Some prim) = IsInTables table prim
+  abbrev IsKnown : Instead → Type 0
+  IsKnown Nothing = Unit {0}
+  IsKnown (Nil prim) = IsInTables table prim
+  IsKnown (Empty prim) = IsInTables table prim
 
-  known_within : (instead : Option ℕ) → IsWithin (length table.primitives) instead → IsKnown instead
-  known_within None within = tt
-  known_within (Some prim) within = there_is table.primitives prim within
+  nil_within : (nil : Option ℕ) → IsWithin (length table.primitives) nil → IsOk IsKnown Nil nil
+  nil_within None within = tt
+  nil_within (Some prim) within = there_is table.primitives prim within
+
+  empty_within : (empty : Option ℕ) → IsWithin (length table.primitives) empty → IsOk IsKnown Empty empty
+  empty_within None within = tt
+  empty_within (Some prim) within = there_is table.primitives prim within
 
   -- so is the one that is read by
   by_values : (values : Option (List Value)) (other prim : ℕ) → IsInTables table other → IsInTables table prim
@@ -61,9 +72,10 @@ module _ (input : Input) (table : Table) (leaves : HasLeaves table) where
   by_values None other prim known is = known
   by_values (Some values) other prim known is = is
 
-  used_is : (instead : Option ℕ) (prim : ℕ) → IsKnown instead → IsInTables table prim → IsInTables table (read_by table.primitives instead prim)
-  used_is None prim known is = is
-  used_is (Some other) prim known is = by_values (values_in (slice_get table.primitives other)) other prim known is
+  used_is : (instead : Instead) (prim : ℕ) → IsKnown instead → IsInTables table prim → IsInTables table (read_by table.primitives instead prim)
+  used_is Nothing prim known is = is
+  used_is (Nil other) prim known is = by_values (values_in (slice_get table.primitives other)) other prim known is
+  used_is (Empty other) prim known is = known
 
   known_behind : (s t : State) → Stays s t → IsKnown s.instead → IsKnown t.instead
   known_behind s t stays known = elim stays.instead [
@@ -197,7 +209,7 @@ module _ (input : Input) (table : Table) (leaves : HasLeaves table) where
   follow-done (Failed cause bit) o next is done = absurd (cc)
   follow-done (Stopped cause quantity) o next is done = absurd (cc)
 
-  room-complex : (id : ℕ) (body : State → Outcome) → Fills body → (instead : Option ℕ) (s : State) (room : Bool)
+  room-complex : (id : ℕ) (body : State → Outcome) → Fills body → (instead : Instead) (s : State) (room : Bool)
       → (cond room (let o : Outcome = body (begun id instead s) in close o.end s.inside true o) (ended (Stopped Nodes input.limits.nodes) s)).end ≡ Done
       → Fine s (cond room (let o : Outcome = body (begun id instead s) in close o.end s.inside true o) (ended (Stopped Nodes input.limits.nodes) s)).state
   room-complex id body fills instead s true done =
@@ -211,7 +223,7 @@ module _ (input : Input) (table : Table) (leaves : HasLeaves table) where
       subst (λ (t : State). Fine s t) (sym ends) (element-ends id instead s full (left s.inside true o.state) inner refl refl)
   room-complex id body fills instead s false done = absurd (cc)
 
-  room-simple : (id : ℕ) (body : State → Outcome) → ReadsKnown body → (instead : Option ℕ) → IsKnown instead → (s : State) (room : Bool)
+  room-simple : (id : ℕ) (body : State → Outcome) → ReadsKnown body → (instead : Instead) → IsKnown instead → (s : State) (room : Bool)
       → (cond room (let o : Outcome = body (begun id instead s) in close o.end s.inside false o) (ended (Stopped Nodes input.limits.nodes) s)).end ≡ Done
       → Fine s (cond room (let o : Outcome = body (begun id instead s) in close o.end s.inside false o) (ended (Stopped Nodes input.limits.nodes) s)).state
   room-simple id body reads instead known s true done =
@@ -224,15 +236,15 @@ module _ (input : Input) (table : Table) (leaves : HasLeaves table) where
 
   -- an element, where each of its representations fills what begins in it
   element-fills : (id : ℕ) (complex : Bool) (tried : Representations) (body : State → Outcome) → Goes body
-      → ((instead : Option ℕ) → IsKnown instead → Fills (attempted input id complex body instead)) → IsKnown tried.nil → IsKnown tried.empty
+      → ((instead : Instead) → IsKnown instead → Fills (attempted input id complex body instead)) → IsOk IsKnown Nil tried.nil → IsOk IsKnown Empty tried.empty
       → Fills (element input id complex tried body)
   element-fills id complex tried body goes fills nil_is empty_is s =
       represented-comes (λ (e : End) (t : State). e ≡ Done → Fine s t) (λ (e : End) (t : State). e ≡ Done → Fine s t) s
-      (attempted input id complex body) IsKnown tt (fills None tt s)
+      (attempted input id complex body) IsKnown tt (fills Nothing tt s)
       (λ instead before known done.
       unmarked s (attempted input id complex body instead (marked_by s before)).state before (fills instead known (marked_by s before) done))
       (λ e t over done. closed_fine s t (over done)) (λ cause quantity t over. over)
-      (tried-returns input id complex body goes s) tried nil_is empty_is
+      (λ t over failed. absurd (cc)) (tried-stays input id complex body goes s) (tried-returns input id complex body goes s) tried nil_is empty_is
 
   group-fills : (child : ℕ → State → Outcome) → ((id : ℕ) → Fills (child id)) → (children : List ℕ) → Fills (group child children)
   group-fills child fills [] s done = fine s
@@ -263,34 +275,70 @@ module _ (input : Input) (table : Table) (leaves : HasLeaves table) where
       (read_behind s (child first s).state (group child rest (child first s).state).state (fills first s parts.0)
       (group-reads child fills goes rest at id is reads (child first s).state (known_behind s (child first s).state stays known) parts.1))
 
-  unboxed-done : (end : End) (outer : ℕ) (o : Outcome) → end ≡ o.end → (unboxed end outer o).end ≡ Done → end ≡ Done
-  unboxed-done Done outer o is done = refl
-  unboxed-done (Failed cause bit) outer o is done = absurd (cc)
-  unboxed-done (Stopped cause quantity) outer o is done = absurd (cc)
+  unboxed-done : (end : End) (outer hidden : ℕ) (o : Outcome) → end ≡ o.end → (unboxed end outer hidden o).end ≡ Done → end ≡ Done
+  unboxed-done Done outer hidden o is done = refl
+  unboxed-done (Failed cause bit) outer hidden o is done = absurd (cc)
+  unboxed-done (Stopped cause quantity) outer hidden o is done = absurd (cc)
+
+  unscoped-done : (end : End) (count : ℕ) (o : Outcome) → end ≡ o.end → (unscoped end count o).end ≡ Done → end ≡ Done
+  unscoped-done Done count o is done = refl
+  unscoped-done (Failed cause bit) count o is done = absurd (cc)
+  unscoped-done (Stopped cause quantity) count o is done = absurd (cc)
+
+  -- a state with one list more
+  open_fine : (list : ℕ) (s : State) → Fine s (opens list s)
+  open_fine list s = aside s s.at s.stop s.hidden (s.lists ++ list ∷ [])
+
+  -- a state with so many lists
+  closes_fine : (count : ℕ) (s : State) → Fine s (closes_to count s)
+  closes_fine count s = aside s s.at s.stop s.hidden (take count s.lists)
+
+  scoped-fills : (list : ℕ) (body : State → Outcome) → Fills body → Fills (scoped list body)
+  scoped-fills list body fills s done =
+      let inside : State = opens list s in
+      let o : Outcome = body inside in
+      let over : o.end ≡ Done = unscoped-done o.end (length s.lists) o refl done in
+      let closed : (unscoped o.end (length s.lists) o).state ≡ closes_to (length s.lists) o.state =
+      ap (λ (e : End). (unscoped e (length s.lists) o).state) over in
+      subst (λ (t : State). Fine s t) (sym closed)
+      (both s inside (closes_to (length s.lists) o.state) (open_fine list s)
+      (both inside o.state (closes_to (length s.lists) o.state) (fills inside over) (closes_fine (length s.lists) o.state)))
+
+  scoped-reads : (list : ℕ) (body : State → Outcome) → ReadsKnown body → ReadsKnown (scoped list body)
+  scoped-reads list body reads s known done =
+      let inside : State = opens list s in
+      let o : Outcome = body inside in
+      let over : o.end ≡ Done = unscoped-done o.end (length s.lists) o refl done in
+      let closed : (unscoped o.end (length s.lists) o).state ≡ closes_to (length s.lists) o.state =
+      ap (λ (e : End). (unscoped e (length s.lists) o).state) over in
+      subst (λ (t : State). IsRead s t) (sym closed)
+      (read_behind s inside (closes_to (length s.lists) o.state) (open_fine list s)
+      (read_before inside o.state (closes_to (length s.lists) o.state) (reads inside known over) (closes_fine (length s.lists) o.state)))
 
   boxed-fills : (bits : ℕ) (body : State → Outcome) → Fills body → (s : State) (room : Bool)
       → (cond room
-      (let o : Outcome = then_do (body (record s { stop = s.at + bits })) (rest_of input) in unboxed o.end s.stop o)
+      (let o : Outcome = then_do (body (boxed_at (s.at + bits) s)) (rest_of input) in unboxed o.end s.stop s.hidden o)
       (ended (Failed LengthOutOfRange s.at) s)).end ≡ Done
       → Fine s (cond room
-      (let o : Outcome = then_do (body (record s { stop = s.at + bits })) (rest_of input) in unboxed o.end s.stop o)
+      (let o : Outcome = then_do (body (boxed_at (s.at + bits) s)) (rest_of input) in unboxed o.end s.stop s.hidden o)
       (ended (Failed LengthOutOfRange s.at) s)).state
   boxed-fills bits body fills s true done =
-      let inside : State = record s { stop = s.at + bits } in
+      let inside : State = boxed_at (s.at + bits) s in
       let inner : Outcome = body inside in
       let o : Outcome = then_do inner (rest_of input) in
-      let over : o.end ≡ Done = unboxed-done o.end s.stop o refl done in
+      let over : o.end ≡ Done = unboxed-done o.end s.stop s.hidden o refl done in
       let parts = follow-done inner.end inner (rest_of input) refl over in
       let after : o.state ≡ (rest_of input inner.state).state = ap (λ (e : End). (follow e inner (rest_of input)).state) parts.0 in
-      let closed : (unboxed o.end s.stop o).state ≡ record o.state { stop = s.stop } = ap (λ (e : End). (unboxed e s.stop o).state) over in
+      let last : State = record o.state { stop = s.stop; hidden = s.hidden } in
+      let closed : (unboxed o.end s.stop s.hidden o).state ≡ last = ap (λ (e : End). (unboxed e s.stop s.hidden o).state) over in
       let whole : Fine inside o.state = subst (λ (t : State). Fine inside t) (sym after)
       (both inside inner.state (rest_of input inner.state).state (fills inside parts.0) (rest-fills inner.state (nat_le inner.state.stop inner.state.at) parts.1)) in
       subst (λ (t : State). Fine s t) (sym closed)
-      (both s inside (record o.state { stop = s.stop }) (moved s s.at (s.at + bits))
-      (both inside o.state (record o.state { stop = s.stop }) whole (moved o.state o.state.at s.stop)))
+      (both s inside last (aside s s.at (s.at + bits) (length s.lists) s.lists)
+      (both inside o.state last whole (aside o.state o.state.at s.stop s.hidden o.state.lists)))
   boxed-fills bits body fills s false done = absurd (cc)
 
-  module _ (nests : Nests table.rows) (named : All (NamesWithin (length table.primitives)) table.rows) where
+  module _ (nests : Nests table.rows) (named : All (NamesWithin (named_by table)) table.rows) where
     -- the rows below each of the first so many rows
     abbrev FillBelow : ℕ → Type 0
     FillBelow most = (n : ℕ) → n ≤ most → (id : ℕ) → Fills (below input table n id)
@@ -326,13 +374,19 @@ module _ (input : Input) (table : Table) (leaves : HasLeaves table) where
         subst (λ (o : Outcome). IsRead s o.state) (sym same)
         (group-reads (below input table id) (λ i. fills id (omega arith) i) (below-goes input table id) children at child at_is
         (reads-below id few child lower inner) s known (ap (λ (o : Outcome). o.end) (sym same) ∙ done))
+    reads-below n fills _ less (scoped_reads id list body row_is inner) s known done =
+        let same : below input table n id s ≡ spend one_row (scoped list (below input table id body) s) = row-below n id (Some (Scope list body)) less row_is s in
+        let lower : body < id = nests id (Scope list body) (slice_get_within table.rows id (Scope list body) row_is) row_is in
+        let few : FillBelow id = λ m most. fills m (omega arith) in
+        subst (λ (o : Outcome). IsRead s o.state) (sym same)
+        (scoped-reads list (below input table id body) (reads-below id few body lower inner) s known (ap (λ (o : Outcome). o.end) (sym same) ∙ done))
 
     -- the representations of an element are read by primitives of the tables
     tried-within : (id : ℕ) (name : List ℕ) (simple : Option Simple) (tried : Representations) (body : ℕ)
         → slice_get table.rows id ≡ Some (Elem name simple tried body) → AreWithin (length table.primitives) tried
     tried-within id name simple tried body is =
         let this : Row = Elem name simple tried body in
-        subst (λ (r : Row). NamesWithin (length table.primitives) r) (get_or_from_slice_get table.rows id this this is)
+        subst (λ (r : Row). NamesWithin (named_by table) r) (get_or_from_slice_get table.rows id this this is)
         (named id this (slice_get_within table.rows id this is))
 
     row-fills : (id : ℕ) → FillBelow id → (r : Option Row) → slice_get table.rows id ≡ r → Fills (row input table (below input table id) id r)
@@ -344,7 +398,7 @@ module _ (input : Input) (table : Table) (leaves : HasLeaves table) where
         element-fills id true tried (below input table id body) (below-goes input table id body)
         (λ instead known t over. room-complex id (below input table id body) (fills id (omega arith) body) instead t
         (nat_lt (length t.nodes) input.limits.nodes) over)
-        (known_within tried.nil within.0) (known_within tried.empty within.1) s done
+        (nil_within tried.nil within.0) (empty_within tried.empty within.1) s done
     row-fills id fills (Some (Elem name (Some simple) tried body)) is s done =
         let this : Row = Elem name (Some simple) tried body in
         let less : body < id = nests id this (slice_get_within table.rows id this is) is in
@@ -352,10 +406,17 @@ module _ (input : Input) (table : Table) (leaves : HasLeaves table) where
         element-fills id false tried (below input table id body) (below-goes input table id body)
         (λ instead known t over. room-simple id (below input table id body) (reads-below id fills body less (leaves id name simple tried body is))
         instead known t (nat_lt (length t.nodes) input.limits.nodes) over)
-        (known_within tried.nil within.0) (known_within tried.empty within.1) s done
+        (nil_within tried.nil within.0) (empty_within tried.empty within.1) s done
     row-fills id fills (Some (Group children)) is s done = group-fills (below input table id) (λ i. fills id (omega arith) i) children s done
     row-fills id fills (Some (Skip bits)) is s done = pass-fills (s.at + bits) s (nat_le (s.at + bits) s.at) (nat_le (s.at + bits) s.stop) done
     row-fills id fills (Some (Align bits)) is s done = pass-fills (aligned bits s.at) s (nat_le (aligned bits s.at) s.at) (nat_le (aligned bits s.at) s.stop) done
+    row-fills id fills (Some (Initiator delimiter)) is s done =
+        initiator-comes (λ (e : End) (t : State). e ≡ Done → Fine s t) s (λ over. fine s) (λ at over. moved s at s.stop) (λ cause over. absurd (cc))
+        (λ cause quantity over. absurd (cc)) input table.delimiters delimiter done
+    row-fills id fills (Some (Terminator delimiter)) is s done =
+        terminator-comes (λ (e : End) (t : State). e ≡ Done → Fine s t) s (λ over. fine s) (λ at over. moved s at s.stop) (λ cause over. absurd (cc))
+        (λ cause quantity over. absurd (cc)) input table.delimiters delimiter done
+    row-fills id fills (Some (Scope list body)) is s done = scoped-fills list (below input table id body) (fills id (omega arith) body) s done
     row-fills id fills (Some (Boxed bits body)) is s done =
         boxed-fills bits (below input table id body) (fills id (omega arith) body) s (nat_le (s.at + bits) s.stop) done
     row-fills id fills (Some (PrefixedLeaf prefix prim)) is s done =
@@ -391,7 +452,7 @@ module _ (input : Input) (table : Table) (leaves : HasLeaves table) where
     all-fill zero (suc n) few id s done = absurd (omega arith)
     all-fill (suc most) n few id s done = more-fill most n id few (all-fill most) (same_or n (suc most)) s done
 
-    pub all-read : (id : ℕ) → (meaning input table id front).end ≡ Done → AreRead (meaning input table id front).state.nodes
+    pub all-read : (id start : ℕ) → (meaning input table id (front_at start)).end ≡ Done → AreRead (meaning input table id (front_at start)).state.nodes
     unfolding meaning
-    all-read id done at node is =
-        (row-fills id (all-fill id) (slice_get table.rows id) refl front done).fresh at node (omega arith) is
+    all-read id start done at node is =
+        (row-fills id (all-fill id) (slice_get table.rows id) refl (front_at start) done).fresh at node (omega arith) is

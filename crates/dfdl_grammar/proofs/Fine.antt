@@ -1,5 +1,5 @@
 -- A state that follows another, whose elements that began meanwhile are read.
-use Rattle.std.proofs.Common.{◌≡◌, ℕ, zero, suc, ◌+◌, ◌<◌, ◌≤◌, ◌⊎◌, inl, inr, refl, List, [], ◌∷◌, ◌++◌, length, Option, Some, ap, sym, subst, ◌∙◌, arith, length-append}
+use Rattle.std.proofs.Common.{◌≡◌, ℕ, zero, suc, ◌+◌, ◌<◌, ◌≤◌, ◌⊎◌, inl, inr, refl, List, [], ◌∷◌, ◌++◌, length, Some, ap, sym, subst, ◌∙◌, arith, length-append}
 use Rattle.std.specs.Prelude.{slice_get}
 use Rattle.std.proofs.lemmas.Option.{slice_get_within}
 use Rattle.dfdl_region.specs.declared.node.Node.{Node}
@@ -7,11 +7,12 @@ use Rattle.dfdl_region.specs.declared.node.Content.{Content}
 use Rattle.dfdl_region.specs.declared.node.Content.TheVariants.{Begun}
 use Rattle.dfdl_region.specs.Nodes.{with_content}
 use Rattle.dfdl_grammar.specs.declared.end.End.TheVariants.{Done}
+use Rattle.dfdl_grammar.specs.declared.instead.Instead.{Instead}
 use Rattle.dfdl_grammar.specs.States.{State}
 use Rattle.dfdl_grammar.specs.Outcomes.{Outcome}
 use Rattle.dfdl_grammar.specs.Elements.{begun}
 use Rattle.dfdl_grammar.specs.Marks.{closed}
-use Rattle.dfdl_grammar.proofs.Going.{content-length}
+use Rattle.dfdl_grammar.proofs.Grown.{content-length}
 use Rattle.dfdl_grammar.proofs.Represented.{marked_by}
 
 same_at : (nodes : List Node) (number : ℕ) (content : Content) (node : Node) → slice_get (with_content nodes number content) number ≡ Some node → node.content ≡ content
@@ -128,12 +129,15 @@ read_behind s t u one two = record {
   read = λ node is unread. two.read node (subst (λ (i : ℕ). slice_get u.nodes i ≡ Some node) (sym one.inside) is) unread;
 }
 
--- fill that is passed over, and a box that begins or ends, change no element
+-- fill that is passed over, a box that begins or ends, and lists that are opened or closed, change no element
+pub aside : (s : State) (to stop hidden : ℕ) (lists : List ℕ) → Fine s (record s { at = to; stop = stop; hidden = hidden; lists = lists })
+aside s to stop hidden lists = let same = fine s in record { inside = refl; longer = same.longer; fresh = same.fresh; kept = same.kept }
+
 pub moved : (s : State) (to stop : ℕ) → Fine s (record s { at = to; stop = stop })
-moved s to stop = let same = fine s in record { inside = refl; longer = same.longer; fresh = same.fresh; kept = same.kept }
+moved s to stop = aside s to stop s.hidden s.lists
 
 -- the same before a mark, and where it is closed
-pub unmarked : (s t : State) (before : Option ℕ) → Fine (marked_by s before) t → Fine s t
+pub unmarked : (s t : State) (before : Instead) → Fine (marked_by s before) t → Fine s t
 unmarked s t before same = record { inside = same.inside; longer = same.longer; fresh = same.fresh; kept = same.kept }
 
 pub closed_fine : (s t : State) → Fine s t → Fine s (closed t)
@@ -145,7 +149,7 @@ front_at (first ∷ rest) last zero node few is = is
 front_at (first ∷ rest) last (suc at) node few is = front_at rest last at node (omega arith) is
 
 -- an element that has begun, and what is in it, which reads it, and then the outer one is open
-pub element-ends : (id : ℕ) (instead : Option ℕ) (s t u : State) → IsRead (begun id instead s) t → u.nodes ≡ t.nodes → u.inside ≡ s.inside → Fine s u
+pub element-ends : (id : ℕ) (instead : Instead) (s t u : State) → IsRead (begun id instead s) t → u.nodes ≡ t.nodes → u.inside ≡ s.inside → Fine s u
 element-ends id instead s t u inner nodes_are inside_is =
     let last : Node = record { element = id; parent = s.inside; content = Begun } in
     let one_more : length (s.nodes ++ last ∷ []) ≡ length s.nodes + 1 = length-append s.nodes (last ∷ []) in

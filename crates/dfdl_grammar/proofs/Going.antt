@@ -1,15 +1,15 @@
 -- What rows do is added to what was there, but for the content of the open element. So going back to a mark gives what was there.
-use Rattle.std.proofs.Common.{◌≡◌, ◌⊎◌, inl, inr, ℕ, zero, suc, ◌+◌, ◌-◌, ◌*◌, ◌/◌, ◌<◌, ◌≤◌, refl, List, [], ◌∷◌, ◌++◌, length, take, Bool, true, false, cond, nat_eq, nat_le, nat_lt, Option, Some, None, ap, sym, subst, ◌∙◌, arith, append-nil, append_assoc, length-append}
+use Rattle.std.proofs.Common.{◌≡◌, inl, inr, ℕ, zero, suc, ◌+◌, ◌-◌, ◌*◌, ◌/◌, refl, List, [], ◌∷◌, ◌++◌, length, take, Bool, true, false, cond, nat_eq, nat_le, nat_lt, Option, Some, None, ap, sym, subst, ◌∙◌, arith, append-nil}
 use Rattle.std.proofs.Math.Seq.{take-append_seam}
 use Rattle.std.specs.Prelude.{slice_get}
 use Rattle.dfdl_report.specs.declared.cause.LimitCause.TheVariants.{Nodes, Text as TextLimit}
 use Rattle.dfdl_report.specs.declared.cause.ParseCause.{ParseCause}
-use Rattle.dfdl_report.specs.declared.cause.ParseCause.TheVariants.{LengthOutOfRange}
+use Rattle.dfdl_report.specs.declared.cause.ParseCause.TheVariants.{LengthOutOfRange, RequiredEmpty}
 use Rattle.dfdl_terms.specs.declared.representations.Representations.{Representations}
 use Rattle.dfdl_value.specs.declared.value.Value.{Value}
 use Rattle.dfdl_terms.specs.declared.row.Primitive.{Primitive}
 use Rattle.dfdl_terms.specs.declared.row.Row.{Row}
-use Rattle.dfdl_terms.specs.declared.row.Row.TheVariants.{Leaf, Elem, Group, Skip, Align, Boxed, PrefixedLeaf, PrefixedBox}
+use Rattle.dfdl_terms.specs.declared.row.Row.TheVariants.{Leaf, Elem, Group, Skip, Align, Initiator, Terminator, Scope, Boxed, PrefixedLeaf, PrefixedBox}
 use Rattle.dfdl_terms.specs.declared.text.TextSize.{TextSize}
 use Rattle.dfdl_terms.specs.Rows.{Table}
 use Rattle.dfdl_region.specs.declared.node.Node.{Node}
@@ -21,157 +21,23 @@ use Rattle.dfdl_looks.specs.Looks.{seen_in}
 use Rattle.dfdl_looks.specs.Tallies.{nothing}
 use Rattle.dfdl_grammar.specs.declared.end.End.{End}
 use Rattle.dfdl_grammar.specs.declared.end.End.TheVariants.{Done, Failed, Stopped}
+use Rattle.dfdl_grammar.specs.declared.instead.Instead.{Instead}
+use Rattle.dfdl_grammar.specs.declared.instead.Instead.TheVariants.{Nothing, Nil, Empty}
 use Rattle.dfdl_grammar.specs.declared.mark.Mark.{Mark}
 use Rattle.dfdl_grammar.specs.States.{Input, State, anchor, anchor_at}
 use Rattle.dfdl_grammar.specs.Outcomes.{Outcome, ended, follow, spend, then_do}
-use Rattle.dfdl_grammar.specs.Marks.{back, back_among, closed, marked, outer_marks}
+use Rattle.dfdl_grammar.specs.Marks.{back, closed, marked, outer_marks}
 use Rattle.dfdl_grammar.specs.Leaves.{Find, Fails, Finds, FindsOctets, FindsText, content_begins, has_room, land, leaf, nil_values, program_for, read_by}
 use Rattle.dfdl_grammar.specs.Framing.{aligned, fill_to, has_byte, passed}
-use Rattle.dfdl_grammar.specs.Boxes.{boxed, bytes_up_to, pass_bytes, past_byte, rest as rest_of, unboxed}
+use Rattle.dfdl_grammar.specs.Delimiters.{closes_to, opens, scoped, unscoped}
+use Rattle.dfdl_grammar.specs.Boxes.{boxed, boxed_at, bytes_up_to, pass_bytes, past_byte, rest as rest_of, unboxed}
 use Rattle.dfdl_grammar.specs.Elements.{attempted, begun, close, element, has_elements, left}
 use Rattle.dfdl_grammar.specs.Prefixes.{bits_of_units, leaf_of, prefixed, resized, size_of, sized_leaf}
 use Rattle.dfdl_grammar.specs.Rows.{below, group, meaning, row, row_at}
 use Rattle.dfdl_grammar.proofs.Prefixed.{prefixed-comes}
-use Rattle.dfdl_grammar.proofs.Represented.{marked_by, represented-comes}
-
-pub content-length : (nodes : List Node) (number : ℕ) (content : Content) → length (with_content nodes number content) ≡ length nodes
-content-length [] number content = refl
-content-length (node ∷ rest) zero content = refl
-content-length (node ∷ rest) (suc number) content = ap suc (content-length rest number content)
-
--- another content of one element leaves the others as they are
-other_same : (nodes : List Node) (number at : ℕ) (content : Content) → (at ≡ number → ⊥) → slice_get (with_content nodes number content) at ≡ slice_get nodes at
-other_same [] number at content apart = refl
-other_same (first ∷ rest) zero zero content apart = absurd (apart refl)
-other_same (first ∷ rest) zero (suc at) content apart = refl
-other_same (first ∷ rest) (suc number) zero content apart = refl
-other_same (first ∷ rest) (suc number) (suc at) content apart = other_same rest number at content (λ same. apart (ap suc same))
-
--- and so does one more behind them
-front_same : (nodes : List Node) (last : Node) (at : ℕ) → at < length nodes → slice_get (nodes ++ last ∷ []) at ≡ slice_get nodes at
-front_same [] last at few = absurd (omega arith)
-front_same (first ∷ rest) last zero few = refl
-front_same (first ∷ rest) last (suc at) few = front_same rest last at (omega arith)
-
--- nodes that begin with others
-begins_with : (nodes others : List Node) → ((at : ℕ) → at < length nodes → slice_get others at ≡ slice_get nodes at) → take (length nodes) others ≡ nodes
-begins_with [] others same = refl
-begins_with (node ∷ rest) [] same = let none = same zero (omega arith) in absurd (cc)
-begins_with (node ∷ rest) (other ∷ others) same =
-    let first = same zero (omega arith) in
-    let one : other ≡ node = cc in
-    ap (λ (n : Node). n ∷ take (length rest) others) one ∙ ap (λ (ns : List Node). node ∷ ns) (begins_with rest others (λ at few. same (suc at) (omega arith)))
-
-pub begun-longer : (id : ℕ) (instead : Option ℕ) (s : State) → length (begun id instead s).nodes ≡ length s.nodes + 1
-begun-longer id instead s = length-append s.nodes (record { element = id; parent = s.inside; content = Begun } ∷ [])
-
--- a state that follows another, of whose elements at most one has another content
-pub record Grown (one : ℕ) (s t : State) : Type 0 where
-  pub longer : length s.nodes ≤ length t.nodes
-  pub kept : (at : ℕ) → at < length s.nodes → (at ≡ one → ⊥) → slice_get t.nodes at ≡ slice_get s.nodes at
-  pub more : List ℕ
-  pub text : t.text ≡ s.text ++ more
-
--- a state behind what is done: the same element is open, and its content is read by what it was read by, or by its own primitive
-pub record Stays (s t : State) : Type 0 where
-  pub marks : t.marks ≡ s.marks
-  pub inside : t.inside ≡ s.inside
-  pub instead : (t.instead ≡ s.instead) ⊎ (t.instead ≡ None)
-
--- the marks are those from before, where no limit was reached
-abbrev pub Ends : End → State → State → Type 0
-Ends Done s t = Stays s t
-Ends (Failed cause bit) s t = t.marks ≡ s.marks
-Ends (Stopped cause quantity) s t = Unit {0}
-
--- where what is done comes to
-pub record Went (one : ℕ) (s : State) (e : End) (t : State) : Type 0 where
-  pub grown : Grown one s t
-  pub ends : Ends e s t
-
--- what is done changes no element but the one that is open
-abbrev pub Goes : (State → Outcome) → Type 0
-Goes f = (s : State) → Went s.inside s (f s).end (f s).state
-
-grown : (one : ℕ) (s : State) → Grown one s s
-grown one s = record { longer = omega arith; kept = λ at few apart. refl; more = []; text = sym (append-nil s.text) }
-
-ends_here : (e : End) (s : State) → Ends e s s
-ends_here Done s = record { marks = refl; inside = refl; instead = inl refl }
-ends_here (Failed cause bit) s = refl
-ends_here (Stopped cause quantity) s = tt
-
-still : (one : ℕ) (e : End) (s : State) → Went one s e s
-still one e s = record { grown = grown one s; ends = ends_here e s }
-
-moved : (one : ℕ) (s : State) (to stop : ℕ) → Went one s Done (record s { at = to; stop = stop })
-moved one s to stop =
-    let same = grown one s in
-    record {
-      grown = record { longer = same.longer; kept = same.kept; more = same.more; text = same.text };
-      ends = record { marks = refl; inside = refl; instead = inl refl };
-    }
-
-grown_twice : (one : ℕ) (s t u : State) → Grown one s t → Grown one t u → Grown one s u
-grown_twice one s t u first second =
-    let a = first.longer in
-    let b = second.longer in
-    record {
-      longer = omega arith;
-      kept = λ at few apart. second.kept at (omega arith) apart ∙ first.kept at few apart;
-      more = first.more ++ second.more;
-      text = second.text ∙ ap (λ (bytes : List ℕ). bytes ++ second.more) first.text ∙ append_assoc s.text first.more second.more;
-    }
-
-instead_twice : (a b c : Option ℕ) → (b ≡ a) ⊎ (b ≡ None) → (c ≡ b) ⊎ (c ≡ None) → (c ≡ a) ⊎ (c ≡ None)
-instead_twice a b c first (inr none) = inr none
-instead_twice a b c (inl same) (inl again) = inl (again ∙ same)
-instead_twice a b c (inr none) (inl again) = inr (again ∙ none)
-
-ends_behind : (s t u : State) (e : End) → Stays s t → Ends e t u → Ends e s u
-ends_behind s t u Done first second = record {
-  marks = second.marks ∙ first.marks;
-  inside = second.inside ∙ first.inside;
-  instead = instead_twice s.instead t.instead u.instead first.instead second.instead;
-}
-ends_behind s t u (Failed cause bit) first second = second ∙ first.marks
-ends_behind s t u (Stopped cause quantity) first second = tt
-
-twice : (one : ℕ) (s t u : State) (e : End) → Went one s Done t → Went one t e u → Went one s e u
-twice one s t u e first second =
-    record { grown = grown_twice one s t u first.grown second.grown; ends = ends_behind s t u e first.ends second.ends }
-
--- the same element is open in the state between
-behind : (s t u : State) (e : End) → Went s.inside s Done t → Went t.inside t e u → Went s.inside s e u
-behind s t u e first second =
-    twice s.inside s t u e first (subst (λ (one : ℕ). Went one t e u) first.ends.inside second)
-
--- nothing is changed at all of what was there
-any_one : (one : ℕ) (s t : State) (e : End) → Went (length s.nodes) s e t → Went one s e t
-any_one one s t e went = record {
-  grown = record {
-    longer = went.grown.longer;
-    kept = λ at few apart. went.grown.kept at few (λ same. omega arith);
-    more = went.grown.more;
-    text = went.grown.text;
-  };
-  ends = went.ends;
-}
-
--- what is gone back to is the state at the mark
-pub restored : (s t : State) (before : Option ℕ) (cause : ParseCause) (bit : ℕ) → Went (length s.nodes) (marked_by s before) (Failed cause bit) t
-    → back t ≡ marked_by s t.instead
-restored s t before cause bit went =
-    let nodes : take (length s.nodes) t.nodes ≡ s.nodes =
-    begins_with s.nodes t.nodes (λ at few. went.grown.kept at few (λ same. omega arith)) in
-    let text : take (length s.text) t.text ≡ s.text =
-    ap (λ (bytes : List ℕ). take (length s.text) bytes) went.grown.text ∙ take-append_seam s.text went.grown.more in
-    let there : List Node → List ℕ → List Mark → State =
-    λ ns bytes ms. record { at = s.at; stop = s.stop; nodes = ns; text = bytes; inside = s.inside; instead = t.instead; marks = ms } in
-    ap (λ (ms : List Mark). back_among ms t) went.ends
-    ∙ ap (λ (ns : List Node). there ns (take (length s.text) t.text) t.marks) nodes
-    ∙ ap (λ (bytes : List ℕ). there s.nodes bytes t.marks) text
-    ∙ ap (λ (ms : List Mark). there s.nodes s.text ms) went.ends
+use Rattle.dfdl_grammar.proofs.Represented.{any_ok, marked_by, refused, represented-comes}
+use Rattle.dfdl_grammar.proofs.Sought.{initiator-comes, terminator-comes}
+use Rattle.dfdl_grammar.proofs.Grown.{content-length, other_same, front_same, begun-longer, Grown, Ends, Went, Goes, grown, still, moved, grown_twice, twice, behind, any_one, restored}
 
 module _ (input : Input) where
   put : (s : State) (at : ℕ) (bytes : List ℕ) (content : Content)
@@ -185,7 +51,7 @@ module _ (input : Input) where
           more = bytes;
           text = refl;
         };
-        ends = record { marks = refl; inside = refl; instead = inl refl };
+        ends = record { marks = refl; inside = refl; instead = inl refl; lists = refl; hidden = refl };
       }
 
   put_alone : (s : State) (at : ℕ) (content : Content) → Went s.inside s Done (record s { at = at; nodes = with_content s.nodes s.inside content })
@@ -198,7 +64,7 @@ module _ (input : Input) where
           more = [];
           text = sym (append-nil s.text);
         };
-        ends = record { marks = refl; inside = refl; instead = inl refl };
+        ends = record { marks = refl; inside = refl; instead = inl refl; lists = refl; hidden = refl };
       }
 
   hold-goes : (made : ℕ → ℕ → Content) (bytes : List ℕ) (end : ℕ) (s : State) (room : Bool)
@@ -291,26 +157,85 @@ module _ (input : Input) where
   follow-goes s (Failed cause bit) o next same went goes = went
   follow-goes s (Stopped cause quantity) o next same went goes = went
 
-  unboxed-goes : (s : State) (e : End) (outer : ℕ) (o : Outcome) → e ≡ o.end → Went s.inside s o.end o.state
-      → Went s.inside s (unboxed e outer o).end (unboxed e outer o).state
-  unboxed-goes s Done outer o same went =
-      let out : State = record o.state { stop = outer } in
-      subst (λ (e : End). Went s.inside s e out) same
-      (twice s.inside s o.state out Done (subst (λ (e : End). Went s.inside s e o.state) (sym same) went) (moved s.inside o.state o.state.at outer))
-  unboxed-goes s (Failed cause bit) outer o same went = went
-  unboxed-goes s (Stopped cause quantity) outer o same went = went
+  -- the same elements and bytes of values, where all else is another
+  grown_alike : (one : ℕ) (s t from to : State) → Grown one from to → s.nodes ≡ from.nodes → s.text ≡ from.text → t.nodes ≡ to.nodes → t.text ≡ to.text
+      → Grown one s t
+  grown_alike one s t from to grown nodes text new_nodes new_text =
+      let sizes = ap (λ (ns : List Node). length ns) nodes in
+      let new_sizes = ap (λ (ns : List Node). length ns) new_nodes in
+      let longer = grown.longer in
+      record {
+        longer = omega arith;
+        kept = λ at few apart.
+            ap (λ (ns : List Node). slice_get ns at) new_nodes ∙ (grown.kept at (omega arith) apart ∙ ap (λ (ns : List Node). slice_get ns at) (sym nodes));
+        more = grown.more;
+        text = new_text ∙ (grown.text ∙ ap (λ (bytes : List ℕ). bytes ++ grown.more) (sym text));
+      }
+
+  -- behind a box that ends at another bit
+  unboxed-goes : (s : State) (stop : ℕ) (e : End) (o : Outcome) → e ≡ o.end → Went s.inside (boxed_at stop s) o.end o.state
+      → Went s.inside s (unboxed e s.stop s.hidden o).end (unboxed e s.stop s.hidden o).state
+  unboxed-goes s stop Done o same went =
+      let out : State = record o.state { stop = s.stop; hidden = s.hidden } in
+      let over : Ends Done (boxed_at stop s) o.state = subst (λ (e : End). Ends e (boxed_at stop s) o.state) (sym same) went.ends in
+      subst (λ (e : End). Went s.inside s e out) same (record {
+        grown = grown_alike s.inside s out (boxed_at stop s) o.state went.grown refl refl refl refl;
+        ends = record { marks = over.marks; inside = over.inside; instead = over.instead; lists = over.lists; hidden = refl };
+      })
+  unboxed-goes s stop (Failed cause bit) o same went =
+      let out : State = record o.state { hidden = s.hidden } in
+      let over : Ends (Failed cause bit) (boxed_at stop s) o.state = subst (λ (e : End). Ends e (boxed_at stop s) o.state) (sym same) went.ends in
+      subst (λ (e : End). Went s.inside s e out) same (record {
+        grown = grown_alike s.inside s out (boxed_at stop s) o.state went.grown refl refl refl refl;
+        ends = record { marks = over.marks; lists = over.lists; hidden = refl };
+      })
+  unboxed-goes s stop (Stopped cause quantity) o same went =
+      subst (λ (e : End). Went s.inside s e o.state) same
+      (record { grown = grown_alike s.inside s o.state (boxed_at stop s) o.state went.grown refl refl refl refl; ends = tt })
+
+  -- the lists that are open behind what was done where one more was
+  closed_lists : (list : ℕ) (s t : State) → t.lists ≡ (opens list s).lists → take (length s.lists) t.lists ≡ s.lists
+  closed_lists list s t lists = ap (λ (ls : List ℕ). take (length s.lists) ls) lists ∙ take-append_seam s.lists (list ∷ [])
+
+  unscoped-goes : (list : ℕ) (s : State) (e : End) (o : Outcome) → e ≡ o.end → Went s.inside (opens list s) o.end o.state
+      → Went s.inside s (unscoped e (length s.lists) o).end (unscoped e (length s.lists) o).state
+  unscoped-goes list s Done o same went =
+      let out : State = closes_to (length s.lists) o.state in
+      let over : Ends Done (opens list s) o.state = subst (λ (e : End). Ends e (opens list s) o.state) (sym same) went.ends in
+      subst (λ (e : End). Went s.inside s e out) same (record {
+        grown = grown_alike s.inside s out (opens list s) o.state went.grown refl refl refl refl;
+        ends = record {
+          marks = over.marks;
+          inside = over.inside;
+          instead = over.instead;
+          lists = closed_lists list s o.state over.lists;
+          hidden = over.hidden;
+        };
+      })
+  unscoped-goes list s (Failed cause bit) o same went =
+      let out : State = closes_to (length s.lists) o.state in
+      let over : Ends (Failed cause bit) (opens list s) o.state = subst (λ (e : End). Ends e (opens list s) o.state) (sym same) went.ends in
+      subst (λ (e : End). Went s.inside s e out) same (record {
+        grown = grown_alike s.inside s out (opens list s) o.state went.grown refl refl refl refl;
+        ends = record { marks = over.marks; lists = closed_lists list s o.state over.lists; hidden = over.hidden };
+      })
+  unscoped-goes list s (Stopped cause quantity) o same went =
+      subst (λ (e : End). Went s.inside s e o.state) same
+      (record { grown = grown_alike s.inside s o.state (opens list s) o.state went.grown refl refl refl refl; ends = tt })
+
+  scoped-goes : (list : ℕ) (body : State → Outcome) → Goes body → Goes (scoped list body)
+  scoped-goes list body goes s =
+      let o : Outcome = body (opens list s) in unscoped-goes list s o.end o refl (goes (opens list s))
 
   boxed-goes : (bits : ℕ) (body : State → Outcome) → Goes body → (s : State) (room : Bool)
       → (let out : Outcome = cond room
-      (let o : Outcome = then_do (body (record s { stop = s.at + bits })) (rest_of input) in unboxed o.end s.stop o)
+      (let o : Outcome = then_do (body (boxed_at (s.at + bits) s)) (rest_of input) in unboxed o.end s.stop s.hidden o)
       (ended (Failed LengthOutOfRange s.at) s) in Went s.inside s out.end out.state)
   boxed-goes bits body goes s true =
-      let inside : State = record s { stop = s.at + bits } in
+      let inside : State = boxed_at (s.at + bits) s in
       let inner : Outcome = body inside in
       let o : Outcome = then_do inner (rest_of input) in
-      let whole : Went s.inside s inner.end inner.state =
-      twice s.inside s inside inner.state inner.end (moved s.inside s s.at (s.at + bits)) (goes inside) in
-      unboxed-goes s o.end s.stop o refl (follow-goes s inner.end inner (rest_of input) refl whole rest-goes)
+      unboxed-goes s (s.at + bits) o.end o refl (follow-goes inside inner.end inner (rest_of input) refl (goes inside) rest-goes)
   boxed-goes bits body goes s false = still s.inside (Failed LengthOutOfRange s.at) s
 
   group-goes : (child : ℕ → State → Outcome) → ((id : ℕ) → Goes (child id)) → (children : List ℕ) → Goes (group child children)
@@ -319,7 +244,7 @@ module _ (input : Input) where
       follow-goes s (child id s).end (child id s) (group child rest) refl (goes id s) (group-goes child goes rest)
 
   -- what is in an element is behind all that had begun
-  begun-goes : (id : ℕ) (instead : Option ℕ) (s t : State) → Grown (length s.nodes) (begun id instead s) t → Grown (length s.nodes) s t
+  begun-goes : (id : ℕ) (instead : Instead) (s t : State) → Grown (length s.nodes) (begun id instead s) t → Grown (length s.nodes) s t
   begun-goes id instead s t grown =
       let last : Node = record { element = id; parent = s.inside; content = Begun } in
       let size = begun-longer id instead s in
@@ -344,7 +269,7 @@ module _ (input : Input) where
       let here = grown one t in record { longer = here.longer; kept = here.kept; more = here.more; text = here.text }
 
   -- whatever the content was read by before
-  close-goes : (id : ℕ) (instead before : Option ℕ) (complex : Bool) (s : State) (e : End) (o : Outcome) → e ≡ o.end
+  close-goes : (id : ℕ) (instead before : Instead) (complex : Bool) (s : State) (e : End) (o : Outcome) → e ≡ o.end
       → Went (length s.nodes) (begun id instead s) o.end o.state
       → Went (length s.nodes) (record s { instead = before }) (close e s.inside complex o).end (close e s.inside complex o).state
   close-goes id instead before complex s Done o same went =
@@ -355,7 +280,7 @@ module _ (input : Input) where
       let done : Went (length s.nodes) from Done out = record {
         grown = grown_twice (length s.nodes) from o.state out (begun-goes id instead from o.state over.grown)
             (left-grows (length s.nodes) s.inside complex o.state over.ends.inside);
-        ends = record { marks = over.ends.marks; inside = refl; instead = inr refl };
+        ends = record { marks = over.ends.marks; inside = refl; instead = inr refl; lists = over.ends.lists; hidden = over.ends.hidden };
       } in
       subst (λ (e : End). Went (length s.nodes) from e out) same done
   close-goes id instead before complex s (Failed cause bit) o same went =
@@ -363,7 +288,10 @@ module _ (input : Input) where
       let over : Went (length s.nodes) (begun id instead s) (Failed cause bit) o.state =
       subst (λ (e : End). Went (length s.nodes) (begun id instead s) e o.state) (sym same) went in
       let failed : Went (length s.nodes) from (Failed cause bit) o.state =
-      record { grown = begun-goes id instead from o.state over.grown; ends = over.ends } in
+      record {
+        grown = begun-goes id instead from o.state over.grown;
+        ends = record { marks = over.ends.marks; lists = over.ends.lists; hidden = over.ends.hidden };
+      } in
       subst (λ (e : End). Went (length s.nodes) from e o.state) same failed
   close-goes id instead before complex s (Stopped cause quantity) o same went =
       let from : State = record s { instead = before } in
@@ -371,7 +299,7 @@ module _ (input : Input) where
       record { grown = begun-goes id instead from o.state went.grown; ends = tt } in
       subst (λ (e : End). Went (length s.nodes) from e o.state) same stopped
 
-  room-tried : (id : ℕ) (complex : Bool) (body : State → Outcome) → Goes body → (instead before : Option ℕ) (s : State) (room : Bool)
+  room-tried : (id : ℕ) (complex : Bool) (body : State → Outcome) → Goes body → (instead before : Instead) (s : State) (room : Bool)
       → (let out : Outcome = cond room (let o : Outcome = body (begun id instead s) in close o.end s.inside complex o)
       (ended (Stopped Nodes input.limits.nodes) s) in Went (length s.nodes) (record s { instead = before }) out.end out.state)
   room-tried id complex body goes instead before s true =
@@ -381,13 +309,13 @@ module _ (input : Input) where
       record { grown = record { longer = here.longer; kept = here.kept; more = here.more; text = here.text }; ends = tt }
 
   -- one representation of an element
-  tried-goes : (id : ℕ) (complex : Bool) (body : State → Outcome) → Goes body → (instead before : Option ℕ) (s : State)
+  tried-goes : (id : ℕ) (complex : Bool) (body : State → Outcome) → Goes body → (instead before : Instead) (s : State)
       → (let o : Outcome = attempted input id complex body instead s in Went (length s.nodes) (record s { instead = before }) o.end o.state)
   tried-goes id complex body goes instead before s =
       room-tried id complex body goes instead before s (nat_lt (length s.nodes) input.limits.nodes)
 
   -- where it fails, what is gone back to is the state at the mark
-  pub tried-returns : (id : ℕ) (complex : Bool) (body : State → Outcome) → Goes body → (s : State) (instead before : Option ℕ) (cause : ParseCause) (bit : ℕ)
+  pub tried-returns : (id : ℕ) (complex : Bool) (body : State → Outcome) → Goes body → (s : State) (instead before : Instead) (cause : ParseCause) (bit : ℕ)
       → (attempted input id complex body instead (marked_by s before)).end ≡ Failed cause bit
       → back (attempted input id complex body instead (marked_by s before)).state
       ≡ marked_by s (attempted input id complex body instead (marked_by s before)).state.instead
@@ -399,8 +327,15 @@ module _ (input : Input) where
 
   ends_closed : (s t : State) (e : End) → Ends e (marked s) t → Ends e s (closed t)
   ends_closed s t Done ends =
-      record { marks = ap (λ (ms : List Mark). outer_marks ms) ends.marks; inside = ends.inside; instead = ends.instead }
-  ends_closed s t (Failed cause bit) ends = ap (λ (ms : List Mark). outer_marks ms) ends
+      record {
+        marks = ap (λ (ms : List Mark). outer_marks ms) ends.marks;
+        inside = ends.inside;
+        instead = ends.instead;
+        lists = ends.lists;
+        hidden = ends.hidden;
+      }
+  ends_closed s t (Failed cause bit) ends =
+      record { marks = ap (λ (ms : List Mark). outer_marks ms) ends.marks; lists = ends.lists; hidden = ends.hidden }
   ends_closed s t (Stopped cause quantity) ends = tt
 
   closed_went : (s : State) (e : End) (t : State) → Went s.inside (marked s) e t → Went s.inside s e (closed t)
@@ -409,12 +344,29 @@ module _ (input : Input) where
     ends = ends_closed s t e went.ends;
   }
 
+  -- where one is done, the marks are those from before
+  pub tried-stays : (id : ℕ) (complex : Bool) (body : State → Outcome) → Goes body → (s : State) (instead before : Instead)
+      → (attempted input id complex body instead (marked_by s before)).end ≡ Done
+      → (attempted input id complex body instead (marked_by s before)).state.marks ≡ (marked s).marks
+  tried-stays id complex body goes s instead before is =
+      let from : State = marked_by s before in
+      let o : Outcome = attempted input id complex body instead from in
+      let went : Went (length s.nodes) from Done o.state =
+      subst (λ (e : End). Went (length s.nodes) from e o.state) is (tried-goes id complex body goes instead before from) in
+      went.ends.marks
+
+  refused_went : (s t : State) (cause : ParseCause) (bit : ℕ) → Went s.inside (marked s) Done t → Went s.inside s (Failed cause bit) (refused s t)
+  refused_went s t cause bit went = record {
+    grown = grown_alike s.inside s (refused s t) (marked s) t went.grown refl refl refl refl;
+    ends = record { marks = ap (λ (ms : List Mark). outer_marks ms) went.ends.marks; lists = went.ends.lists; hidden = went.ends.hidden };
+  }
+
   element-goes : (id : ℕ) (complex : Bool) (tried : Representations) (body : State → Outcome) → Goes body → Goes (element input id complex tried body)
   element-goes id complex tried body goes s =
       represented-comes (λ (e : End) (t : State). Went s.inside s e t) (λ (e : End) (t : State). Went s.inside (marked s) e t) s
-      (attempted input id complex body) (λ (instead : Option ℕ). Unit {0}) tt
-      (any_one s.inside s (attempted input id complex body None s).state (attempted input id complex body None s).end
-      (tried-goes id complex body goes None s.instead s))
+      (attempted input id complex body) (λ (instead : Instead). Unit {0}) tt
+      (any_one s.inside s (attempted input id complex body Nothing s).state (attempted input id complex body Nothing s).end
+      (tried-goes id complex body goes Nothing s.instead s))
       (λ instead before one.
       let o : Outcome = attempted input id complex body instead (marked_by s before) in
       any_one s.inside (marked s) o.state o.end (tried-goes id complex body goes instead s.instead (marked_by s before)))
@@ -423,7 +375,8 @@ module _ (input : Input) where
         grown = record { longer = went.grown.longer; kept = went.grown.kept; more = went.grown.more; text = went.grown.text };
         ends = tt;
       })
-      (tried-returns id complex body goes s) tried tt tt
+      (λ t went. refused_went s t RequiredEmpty s.at went) (tried-stays id complex body goes s) (tried-returns id complex body goes s)
+      tried (any_ok Nil tried.nil) (any_ok Empty tried.empty)
 
   module _ (table : Table) where
     row-goes : (child : ℕ → State → Outcome) → ((id : ℕ) → Goes (child id)) → (id : ℕ) (r : Option Row) → Goes (row input table child id r)
@@ -434,6 +387,13 @@ module _ (input : Input) where
     row-goes child goes id (Some (Group children)) s = group-goes child goes children s
     row-goes child goes id (Some (Skip bits)) s = pass-goes (s.at + bits) s (nat_le (s.at + bits) s.at) (nat_le (s.at + bits) s.stop)
     row-goes child goes id (Some (Align bits)) s = pass-goes (aligned bits s.at) s (nat_le (aligned bits s.at) s.at) (nat_le (aligned bits s.at) s.stop)
+    row-goes child goes id (Some (Initiator delimiter)) s =
+        initiator-comes (λ (e : End) (t : State). Went s.inside s e t) s (still s.inside Done s) (λ at. moved s.inside s at s.stop)
+        (λ cause. still s.inside (Failed cause s.at) s) (λ cause quantity. still s.inside (Stopped cause quantity) s) input table.delimiters delimiter
+    row-goes child goes id (Some (Terminator delimiter)) s =
+        terminator-comes (λ (e : End) (t : State). Went s.inside s e t) s (still s.inside Done s) (λ at. moved s.inside s at s.stop)
+        (λ cause. still s.inside (Failed cause s.at) s) (λ cause quantity. still s.inside (Stopped cause quantity) s) input table.delimiters delimiter
+    row-goes child goes id (Some (Scope list body)) s = scoped-goes list (child body) (goes body) s
     row-goes child goes id (Some (Boxed bits body)) s = boxed-goes bits (child body) (goes body) s (nat_le (s.at + bits) s.stop)
     row-goes child goes id (Some (PrefixedLeaf prefix prim)) s =
         let nil : Option (List Value) = nil_values table.primitives s.instead in

@@ -23,7 +23,7 @@ use Rattle.dfdl_terms.specs.declared.representations.Representations.{Representa
 use Rattle.dfdl_terms.specs.declared.row.Primitive.{Primitive}
 use Rattle.dfdl_terms.specs.declared.row.Primitive.TheVariants.{Integer, Packed, Truth, Octets, Text as Characters, NilOctets, Default, NilValues, Pattern}
 use Rattle.dfdl_terms.specs.declared.row.Row.{Row}
-use Rattle.dfdl_terms.specs.declared.row.Row.TheVariants.{Leaf, Elem, Group, Skip, Align, Boxed, PrefixedLeaf, PrefixedBox}
+use Rattle.dfdl_terms.specs.declared.row.Row.TheVariants.{Leaf, Elem, Group, Skip, Align, Initiator, Terminator, Scope, Boxed, PrefixedLeaf, PrefixedBox}
 use Rattle.dfdl_terms.specs.declared.text.DefaultForm.{DefaultForm}
 use Rattle.dfdl_terms.specs.declared.text.NilForm.{NilForm}
 use Rattle.dfdl_terms.specs.declared.text.OctetForm.{OctetForm}
@@ -53,21 +53,27 @@ use Rattle.dfdl_looks.specs.Tallies.{Tally, nothing}
 use Rattle.dfdl_looks.proofs.Sequels.{ask-then}
 use Rattle.dfdl_grammar.specs.declared.end.End.{End}
 use Rattle.dfdl_grammar.specs.declared.end.End.TheVariants.{Done, Failed, Stopped}
-use Rattle.dfdl_grammar.specs.States.{Input, State, anchor, anchor_at, front}
+use Rattle.dfdl_grammar.specs.declared.instead.Instead.{Instead}
+use Rattle.dfdl_grammar.specs.declared.instead.Instead.TheVariants.{Nothing, Nil as InsteadNil, Empty}
+use Rattle.dfdl_grammar.specs.States.{Input, State, anchor, anchor_at}
+use Rattle.dfdl_grammar.specs.Documents.{front_at}
 use Rattle.dfdl_grammar.specs.Outcomes.{Outcome, ended, follow, spend, then_do}
 use Rattle.dfdl_grammar.specs.Leaves.{Find, Fails, Finds, FindsOctets, FindsText, bits_of, bytes_spanned, content_begins, content_find, default_find, field, find_in, find_of, has_room, is_no_size, land, leaf, nil_find, nil_octets_find, nil_value_find, nil_values, is_bytes, is_text, is_value, number_find, pattern_find, octets, packed_find, program, program_for, read_by, text_begins, text_behind, text_find, text_of_size, text_sought, truth_find}
 use Rattle.dfdl_grammar.specs.Framing.{aligned, fill_to, has_byte, passed}
-use Rattle.dfdl_grammar.specs.Boxes.{boxed, bytes_up_to, pass_bytes, past_byte, rest as rest_of, unboxed}
+use Rattle.dfdl_grammar.specs.Delimiters.{opens, scoped, unscoped}
+use Rattle.dfdl_grammar.specs.Boxes.{boxed, boxed_at, bytes_up_to, pass_bytes, past_byte, rest as rest_of, unboxed}
 use Rattle.dfdl_grammar.specs.Elements.{attempted, begun, close, element, has_elements, left}
 use Rattle.dfdl_grammar.specs.Nils.{are_nil, is_nil}
 use Rattle.std.specs.List.{list_any}
 use Rattle.dfdl_grammar.specs.Prefixes.{bits_of_units, leaf_of, prefixed, resized, size_of, sized_leaf}
 use Rattle.dfdl_grammar.specs.Rows.{below, group, meaning, row, row_at}
 use Rattle.dfdl_grammar.proofs.Found.{made, told_one}
-use Rattle.dfdl_grammar.proofs.Going.{Goes, below-goes, tried-returns}
+use Rattle.dfdl_grammar.proofs.Going.{below-goes, tried-returns, tried-stays}
+use Rattle.dfdl_grammar.proofs.Grown.{Goes}
 use Rattle.dfdl_grammar.proofs.Holding.{both_have, content-has, first_has, last-bytes, rest_has, text-more, trimmed-scalars, utf8}
 use Rattle.dfdl_grammar.proofs.Prefixed.{prefixed-comes}
-use Rattle.dfdl_grammar.proofs.Represented.{marked_by, represented-comes}
+use Rattle.dfdl_grammar.proofs.Represented.{any_ok, marked_by, represented-comes}
+use Rattle.dfdl_grammar.proofs.Sought.{initiator-comes, terminator-comes}
 
 -- what a leaf finds has bytes that can be held as a string's, if it is one
 abbrev IsHeld : Find → Type 0
@@ -440,10 +446,18 @@ module _ (input : Input) (small : All (λ b. b < 256) input.bytes) where
   rest-keeps s has true = has
   rest-keeps s has false = bytes-keep (bytes_up_to s.stop (s.at / 8)) (s.at / 8) s has
 
-  unboxed-keeps : (end : End) (outer : ℕ) (o : Outcome) → Has o.state → Has (unboxed end outer o).state
-  unboxed-keeps Done outer o has = has
-  unboxed-keeps (Failed cause bit) outer o has = has
-  unboxed-keeps (Stopped cause quantity) outer o has = has
+  unboxed-keeps : (end : End) (outer hidden : ℕ) (o : Outcome) → Has o.state → Has (unboxed end outer hidden o).state
+  unboxed-keeps Done outer hidden o has = has
+  unboxed-keeps (Failed cause bit) outer hidden o has = has
+  unboxed-keeps (Stopped cause quantity) outer hidden o has = has
+
+  unscoped-keeps : (end : End) (count : ℕ) (o : Outcome) → Has o.state → Has (unscoped end count o).state
+  unscoped-keeps Done count o has = has
+  unscoped-keeps (Failed cause bit) count o has = has
+  unscoped-keeps (Stopped cause quantity) count o has = has
+
+  scoped-keeps : (list : ℕ) (body : State → Outcome) → Keeps body → Keeps (scoped list body)
+  scoped-keeps list body keeps s has = let o : Outcome = body (opens list s) in unscoped-keeps o.end (length s.lists) o (keeps (opens list s) has)
 
   follow-keeps : (end : End) (o : Outcome) (next : State → Outcome) → Keeps next → Has o.state → Has (follow end o next).state
   follow-keeps Done o next keeps has = keeps o.state has
@@ -452,16 +466,16 @@ module _ (input : Input) (small : All (λ b. b < 256) input.bytes) where
 
   boxed-keeps : (bits : ℕ) (body : State → Outcome) → Keeps body → (s : State) → Has s → (room : Bool)
       → Has (cond room
-      (let o : Outcome = then_do (body (record s { stop = s.at + bits })) (rest_of input) in unboxed o.end s.stop o)
+      (let o : Outcome = then_do (body (boxed_at (s.at + bits) s)) (rest_of input) in unboxed o.end s.stop s.hidden o)
       (ended (Failed LengthOutOfRange s.at) s)).state
   boxed-keeps bits body keeps s has true =
-      let inside : State = record s { stop = s.at + bits } in
+      let inside : State = boxed_at (s.at + bits) s in
       let o : Outcome = then_do (body inside) (rest_of input) in
-      unboxed-keeps o.end s.stop o
+      unboxed-keeps o.end s.stop s.hidden o
       (follow-keeps (body inside).end (body inside) (rest_of input) (λ t kept. rest-keeps t kept (nat_le t.stop t.at)) (keeps inside has))
   boxed-keeps bits body keeps s has false = has
 
-  begun-has : (id : ℕ) (instead : Option ℕ) (s : State) → Has s → Has (begun id instead s)
+  begun-has : (id : ℕ) (instead : Instead) (s : State) → Has s → Has (begun id instead s)
   begun-has id instead s has =
       let last : Node = record { element = id; parent = s.inside; content = Begun } in
       All-append (λ (n : Node). HasText s.text n.content) s.nodes (last ∷ []) has
@@ -476,7 +490,7 @@ module _ (input : Input) (small : All (λ b. b < 256) input.bytes) where
   close-has (Failed cause bit) outer complex o has = has
   close-has (Stopped cause quantity) outer complex o has = has
 
-  room-tried : (id : ℕ) (complex : Bool) (body : State → Outcome) → Keeps body → (instead : Option ℕ) (s : State) → Has s → (room : Bool)
+  room-tried : (id : ℕ) (complex : Bool) (body : State → Outcome) → Keeps body → (instead : Instead) (s : State) → Has s → (room : Bool)
       → Has (cond room (let o : Outcome = body (begun id instead s) in close o.end s.inside complex o) (ended (Stopped Nodes input.limits.nodes) s)).state
   room-tried id complex body keeps instead s has true =
       let first : State = begun id instead s in
@@ -486,13 +500,14 @@ module _ (input : Input) (small : All (λ b. b < 256) input.bytes) where
   element-keeps : (id : ℕ) (complex : Bool) (tried : Representations) (body : State → Outcome) → Keeps body → Goes body
       → Keeps (element input id complex tried body)
   element-keeps id complex tried body keeps goes s has =
-      let attempt-keeps : (instead : Option ℕ) (t : State) → Has t → Has (attempted input id complex body instead t).state =
+      let attempt-keeps : (instead : Instead) (t : State) → Has t → Has (attempted input id complex body instead t).state =
       λ instead t held. room-tried id complex body keeps instead t held (nat_lt (length t.nodes) input.limits.nodes) in
       represented-comes (λ (e : End) (t : State). Has t) (λ (e : End) (t : State). Has t) s
-      (attempted input id complex body) (λ (instead : Option ℕ). Unit {0}) tt
-      (attempt-keeps None s has) (λ instead before one. attempt-keeps instead (marked_by s before) has)
+      (attempted input id complex body) (λ (instead : Instead). Unit {0}) tt
+      (attempt-keeps Nothing s has) (λ instead before one. attempt-keeps instead (marked_by s before) has)
       (λ e t held. held) (λ cause quantity t held. held)
-      (tried-returns input id complex body goes s) tried tt tt
+      (λ t held. held) (tried-stays input id complex body goes s) (tried-returns input id complex body goes s)
+      tried (any_ok InsteadNil tried.nil) (any_ok Empty tried.empty)
 
   group-keeps : (child : ℕ → State → Outcome) → ((id : ℕ) → Keeps (child id)) → (children : List ℕ) → Keeps (group child children)
   group-keeps child keeps [] s has = has
@@ -512,6 +527,11 @@ module _ (input : Input) (small : All (λ b. b < 256) input.bytes) where
     row-keeps child keeps goes id (Some (Skip bits)) s has = pass-keeps (s.at + bits) s has (nat_le (s.at + bits) s.at) (nat_le (s.at + bits) s.stop)
     row-keeps child keeps goes id (Some (Align bits)) s has =
         pass-keeps (aligned bits s.at) s has (nat_le (aligned bits s.at) s.at) (nat_le (aligned bits s.at) s.stop)
+    row-keeps child keeps goes id (Some (Initiator delimiter)) s has =
+        initiator-comes (λ (e : End) (t : State). Has t) s has (λ at. has) (λ cause. has) (λ cause quantity. has) input table.delimiters delimiter
+    row-keeps child keeps goes id (Some (Terminator delimiter)) s has =
+        terminator-comes (λ (e : End) (t : State). Has t) s has (λ at. has) (λ cause. has) (λ cause quantity. has) input table.delimiters delimiter
+    row-keeps child keeps goes id (Some (Scope list body)) s has = scoped-keeps list (child body) (keeps body) s has
     row-keeps child keeps goes id (Some (Boxed bits body)) s has = boxed-keeps bits (child body) (keeps body) s has (nat_le (s.at + bits) s.stop)
     row-keeps child keeps goes id (Some (PrefixedLeaf prefix prim)) s has =
         let used : ℕ = read_by table.primitives s.instead prim in
@@ -534,7 +554,7 @@ module _ (input : Input) (small : All (λ b. b < 256) input.bytes) where
     below-keeps zero id s has = has
     below-keeps (suc n) id s has = below-choice n id (below-keeps n) s has (nat_eq id n)
 
-    pub meaning-has : (id : ℕ) → HaveTexts (meaning input table id front).state.nodes (meaning input table id front).state.text
+    pub meaning-has : (id start : ℕ) → HaveTexts (meaning input table id (front_at start)).state.nodes (meaning input table id (front_at start)).state.text
     unfolding meaning
-    meaning-has id =
-        row-keeps (below input table id) (below-keeps id) (below-goes input table id) id (slice_get table.rows id) front (λ i d less. absurd (omega arith))
+    meaning-has id start =
+        row-keeps (below input table id) (below-keeps id) (below-goes input table id) id (slice_get table.rows id) (front_at start) (λ i d less. absurd (omega arith))

@@ -2,7 +2,9 @@ pub mod Spending
 pub mod Towers
 pub mod Found
 pub mod Prefixed
+pub mod Sought
 pub mod Represented
+pub mod Grown
 pub mod Going
 pub mod Trees
 pub mod Fine

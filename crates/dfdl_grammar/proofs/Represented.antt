@@ -1,26 +1,47 @@
 -- An element comes to what its representations come to, each of which begins in the state at the mark.
-use Rattle.std.proofs.Common.{◌≡◌, ℕ, Bool, true, false, cond, Option, Some, None, refl, sym, subst}
+use Rattle.std.proofs.Common.{◌≡◌, ℕ, Bool, true, false, cond, List, Option, Some, None, length, refl, sym, subst}
 use Rattle.dfdl_report.specs.declared.cause.LimitCause.{LimitCause}
 use Rattle.dfdl_report.specs.declared.cause.ParseCause.{ParseCause}
+use Rattle.dfdl_report.specs.declared.cause.ParseCause.TheVariants.{RequiredEmpty}
 use Rattle.dfdl_terms.specs.declared.representations.Representations.{Representations}
 use Rattle.dfdl_grammar.specs.declared.end.End.{End}
 use Rattle.dfdl_grammar.specs.declared.end.End.TheVariants.{Done, Failed, Stopped}
+use Rattle.dfdl_grammar.specs.declared.instead.Instead.{Instead}
+use Rattle.dfdl_grammar.specs.declared.instead.Instead.TheVariants.{Nothing, Nil, Empty}
+use Rattle.dfdl_grammar.specs.declared.mark.Mark.{Mark}
 use Rattle.dfdl_grammar.specs.States.{State}
 use Rattle.dfdl_grammar.specs.Outcomes.{Outcome}
 use Rattle.dfdl_grammar.specs.Marks.{back, closed, marked}
-use Rattle.dfdl_grammar.specs.Representations.{Attempt, or_else, represented, the_last, then_empty, then_nil, then_normal}
+use Rattle.dfdl_grammar.specs.Representations.{Attempt, after_empty, or_else, refuse, refused_among, represented, the_last, then_empty, then_nil, then_normal}
 
--- the state at the mark, where content is read by this primitive in place of its own
-abbrev pub marked_by : State → Option ℕ → State
+-- the state at the mark, where content is read by this in place of its own primitive
+abbrev pub marked_by : State → Instead → State
 marked_by s instead = record (marked s) { instead = instead }
 
+-- the state where an element fails whose empty representation is found
+abbrev pub refused : State → State → State
+refused s t = closed (record t { inside = length s.nodes })
+
+-- a condition on the primitive that is there in place of an element's own
+abbrev pub IsOk : (Instead → Type 0) → (ℕ → Instead) → Option ℕ → Type 0
+IsOk ok made None = Unit {0}
+IsOk ok made (Some prim) = ok (made prim)
+
+-- one that each has
+pub any_ok : (made : ℕ → Instead) (prim : Option ℕ) → IsOk (λ (instead : Instead). Unit {0}) made prim
+any_ok made None = tt
+any_ok made (Some prim) = tt
+
 -- What holds of an outcome while the mark is open (Q) and behind it (P), where what fails goes back to the state at the mark.
-module _ (P Q : End → State → Type 0) (s : State) (attempt : Attempt) (ok : Option ℕ → Type 0) (none_ok : ok None)
-    (alone : P (attempt None s).end (attempt None s).state)
-    (attempts : (instead before : Option ℕ) → ok instead → Q (attempt instead (marked_by s before)).end (attempt instead (marked_by s before)).state)
+module _ (P Q : End → State → Type 0) (s : State) (attempt : Attempt) (ok : Instead → Type 0) (none_ok : ok Nothing)
+    (alone : P (attempt Nothing s).end (attempt Nothing s).state)
+    (attempts : (instead before : Instead) → ok instead → Q (attempt instead (marked_by s before)).end (attempt instead (marked_by s before)).state)
     (closes : (e : End) (t : State) → Q e t → P e (closed t))
     (stays : (cause : LimitCause) (quantity : ℕ) (t : State) → Q (Stopped cause quantity) t → P (Stopped cause quantity) t)
-    (returns : (instead before : Option ℕ) (cause : ParseCause) (bit : ℕ) → (attempt instead (marked_by s before)).end ≡ Failed cause bit
+    (refuses : (t : State) → Q Done t → P (Failed RequiredEmpty s.at) (refused s t))
+    (marks_stay : (instead before : Instead) → (attempt instead (marked_by s before)).end ≡ Done
+    → (attempt instead (marked_by s before)).state.marks ≡ (marked s).marks)
+    (returns : (instead before : Instead) (cause : ParseCause) (bit : ℕ) → (attempt instead (marked_by s before)).end ≡ Failed cause bit
     → back (attempt instead (marked_by s before)).state ≡ marked_by s (attempt instead (marked_by s before)).state.instead) where
   stopped : (cause : LimitCause) (quantity : ℕ) (o : Outcome) → Stopped cause quantity ≡ o.end → Q o.end o.state → P o.end o.state
   stopped cause quantity o same holds =
@@ -33,35 +54,58 @@ module _ (P Q : End → State → Type 0) (s : State) (attempt : Attempt) (ok : 
 
   else-comes : (e : End) (o : Outcome) (next : State → Outcome) → e ≡ o.end → Q o.end o.state
       → ((cause : ParseCause) (bit : ℕ) → o.end ≡ Failed cause bit → back o.state ≡ marked_by s o.state.instead)
-      → ((before : Option ℕ) → P (next (marked_by s before)).end (next (marked_by s before)).state)
+      → ((before : Instead) → P (next (marked_by s before)).end (next (marked_by s before)).state)
       → P (or_else e o next).end (or_else e o next).state
   else-comes Done o next same holds goes_back others = closes o.end o.state holds
   else-comes (Failed cause bit) o next same holds goes_back others =
       subst (λ (t : State). P (next t).end (next t).state) (sym (goes_back cause bit (sym same))) (others o.state.instead)
   else-comes (Stopped cause quantity) o next same holds goes_back others = stopped cause quantity o same holds
 
-  normal-comes : (before : Option ℕ) → P (then_normal attempt (marked_by s before)).end (then_normal attempt (marked_by s before)).state
-  normal-comes before = let o : Outcome = attempt None (marked_by s before) in last-comes o.end o refl (attempts None before none_ok)
+  normal-comes : (before : Instead) → P (then_normal attempt (marked_by s before)).end (then_normal attempt (marked_by s before)).state
+  normal-comes before = let o : Outcome = attempt Nothing (marked_by s before) in last-comes o.end o refl (attempts Nothing before none_ok)
 
-  empty-comes : (empty : Option ℕ) → ok empty → (before : Option ℕ)
-      → P (then_empty empty attempt (marked_by s before)).end (then_empty empty attempt (marked_by s before)).state
-  empty-comes None is before = normal-comes before
-  empty-comes (Some prim) is before =
-      let o : Outcome = attempt (Some prim) (marked_by s before) in
-      else-comes o.end o (then_normal attempt) refl (attempts (Some prim) before is) (returns (Some prim) before) normal-comes
+  -- the empty representation of an element that has no value to take
+  refuse-comes : (e : End) (o : Outcome) (next : State → Outcome) → e ≡ o.end → Q o.end o.state
+      → (o.end ≡ Done → o.state.marks ≡ (marked s).marks)
+      → ((cause : ParseCause) (bit : ℕ) → o.end ≡ Failed cause bit → back o.state ≡ marked_by s o.state.instead)
+      → ((before : Instead) → P (next (marked_by s before)).end (next (marked_by s before)).state)
+      → P (refuse e o next).end (refuse e o next).state
+  refuse-comes Done o next same holds stay goes_back others =
+      let here : P (Failed RequiredEmpty s.at) (refused s o.state) =
+      refuses o.state (subst (λ (e : End). Q e o.state) (sym same) holds) in
+      subst (λ (ms : List Mark). P (refused_among ms o).end (refused_among ms o).state) (sym (stay (sym same))) here
+  refuse-comes (Failed cause bit) o next same holds stay goes_back others = else-comes (Failed cause bit) o next same holds goes_back others
+  refuse-comes (Stopped cause quantity) o next same holds stay goes_back others = stopped cause quantity o same holds
 
-  nil-comes : (nil empty : Option ℕ) → ok nil → ok empty → (before : Option ℕ)
-      → P (then_nil nil empty attempt (marked_by s before)).end (then_nil nil empty attempt (marked_by s before)).state
-  nil-comes None empty nil_is empty_is before = empty-comes empty empty_is before
-  nil-comes (Some prim) empty nil_is empty_is before =
-      let o : Outcome = attempt (Some prim) (marked_by s before) in
-      else-comes o.end o (then_empty empty attempt) refl (attempts (Some prim) before nil_is) (returns (Some prim) before) (empty-comes empty empty_is)
+  found-comes : (refuses_empty : Bool) (o : Outcome) (next : State → Outcome) → Q o.end o.state
+      → (o.end ≡ Done → o.state.marks ≡ (marked s).marks)
+      → ((cause : ParseCause) (bit : ℕ) → o.end ≡ Failed cause bit → back o.state ≡ marked_by s o.state.instead)
+      → ((before : Instead) → P (next (marked_by s before)).end (next (marked_by s before)).state)
+      → P (after_empty refuses_empty o next).end (after_empty refuses_empty o next).state
+  found-comes true o next holds stay goes_back others = refuse-comes o.end o next refl holds stay goes_back others
+  found-comes false o next holds stay goes_back others = else-comes o.end o next refl holds goes_back others
 
-  several-come : (tried : Representations) → ok tried.nil → ok tried.empty → (several : Bool)
-      → (let o : Outcome = cond several (then_nil tried.nil tried.empty attempt (marked s)) (attempt None s) in P o.end o.state)
-  several-come tried nil_is empty_is true = nil-comes tried.nil tried.empty nil_is empty_is s.instead
+  empty-comes : (refuses_empty : Bool) (empty : Option ℕ) → IsOk ok Empty empty → (before : Instead)
+      → P (then_empty refuses_empty empty attempt (marked_by s before)).end (then_empty refuses_empty empty attempt (marked_by s before)).state
+  empty-comes refuses_empty None is before = normal-comes before
+  empty-comes refuses_empty (Some prim) is before =
+      let o : Outcome = attempt (Empty prim) (marked_by s before) in
+      found-comes refuses_empty o (then_normal attempt) (attempts (Empty prim) before is) (marks_stay (Empty prim) before)
+      (returns (Empty prim) before) normal-comes
+
+  nil-comes : (tried : Representations) (nil : Option ℕ) → IsOk ok Nil nil → IsOk ok Empty tried.empty → (before : Instead)
+      → P (then_nil tried nil attempt (marked_by s before)).end (then_nil tried nil attempt (marked_by s before)).state
+  nil-comes tried None nil_is empty_is before = empty-comes tried.refuses_empty tried.empty empty_is before
+  nil-comes tried (Some prim) nil_is empty_is before =
+      let o : Outcome = attempt (Nil prim) (marked_by s before) in
+      else-comes o.end o (then_empty tried.refuses_empty tried.empty attempt) refl (attempts (Nil prim) before nil_is) (returns (Nil prim) before)
+      (empty-comes tried.refuses_empty tried.empty empty_is)
+
+  several-come : (tried : Representations) → IsOk ok Nil tried.nil → IsOk ok Empty tried.empty → (several : Bool)
+      → (let o : Outcome = cond several (then_nil tried tried.nil attempt (marked s)) (attempt Nothing s) in P o.end o.state)
+  several-come tried nil_is empty_is true = nil-comes tried tried.nil nil_is empty_is s.instead
   several-come tried nil_is empty_is false = alone
 
-  pub represented-comes : (tried : Representations) → ok tried.nil → ok tried.empty
+  pub represented-comes : (tried : Representations) → IsOk ok Nil tried.nil → IsOk ok Empty tried.empty
       → P (represented tried attempt s).end (represented tried attempt s).state
   represented-comes tried nil_is empty_is = several-come tried nil_is empty_is tried.are_several

@@ -7,7 +7,7 @@ use Rattle.dfdl_terms.specs.declared.representations.Representations.{Representa
 use Rattle.dfdl_value.specs.declared.value.Value.{Value}
 use Rattle.dfdl_terms.specs.declared.row.Primitive.{Primitive}
 use Rattle.dfdl_terms.specs.declared.row.Row.{Row}
-use Rattle.dfdl_terms.specs.declared.row.Row.TheVariants.{Leaf, Elem, Group, Skip, Align, Boxed, PrefixedLeaf, PrefixedBox}
+use Rattle.dfdl_terms.specs.declared.row.Row.TheVariants.{Leaf, Elem, Group, Skip, Align, Initiator, Terminator, Scope, Boxed, PrefixedLeaf, PrefixedBox}
 use Rattle.dfdl_terms.specs.declared.text.TextSize.{TextSize}
 use Rattle.dfdl_terms.specs.Rows.{IsElementRow, Table}
 use Rattle.dfdl_region.specs.declared.node.Node.{Node}
@@ -19,19 +19,25 @@ use Rattle.dfdl_looks.specs.Looks.{seen_in}
 use Rattle.dfdl_looks.specs.Tallies.{nothing}
 use Rattle.dfdl_grammar.specs.declared.end.End.{End}
 use Rattle.dfdl_grammar.specs.declared.end.End.TheVariants.{Done, Failed, Stopped}
-use Rattle.dfdl_grammar.specs.States.{Input, State, anchor, anchor_at, front}
+use Rattle.dfdl_grammar.specs.declared.instead.Instead.{Instead}
+use Rattle.dfdl_grammar.specs.declared.instead.Instead.TheVariants.{Nothing, Nil, Empty}
+use Rattle.dfdl_grammar.specs.States.{Input, State, anchor, anchor_at}
+use Rattle.dfdl_grammar.specs.Documents.{front_at}
 use Rattle.dfdl_grammar.specs.Outcomes.{Outcome, ended, follow, spend, then_do}
 use Rattle.dfdl_grammar.specs.Leaves.{Find, Fails, Finds, FindsOctets, FindsText, content_begins, has_room, land, leaf, nil_values, program_for, read_by}
 use Rattle.dfdl_grammar.specs.Framing.{aligned, fill_to, has_byte, passed}
-use Rattle.dfdl_grammar.specs.Boxes.{boxed, bytes_up_to, pass_bytes, past_byte, rest as rest_of, unboxed}
+use Rattle.dfdl_grammar.specs.Delimiters.{closes_to, opens, scoped, unscoped}
+use Rattle.dfdl_grammar.specs.Boxes.{boxed, boxed_at, bytes_up_to, pass_bytes, past_byte, rest as rest_of, unboxed}
 use Rattle.dfdl_grammar.specs.Elements.{attempted, begun, close, element, has_elements, left}
 use Rattle.dfdl_grammar.specs.Marks.{closed}
 use Rattle.dfdl_grammar.specs.Prefixes.{bits_of_units, leaf_of, prefixed, resized, size_of, sized_leaf}
 use Rattle.dfdl_grammar.specs.Rows.{below, group, meaning, row, row_at}
 use Rattle.dfdl_grammar.specs.Trees.{IsNode, IsTree}
-use Rattle.dfdl_grammar.proofs.Going.{Goes, begun-longer, below-goes, content-length, tried-returns}
+use Rattle.dfdl_grammar.proofs.Going.{below-goes, tried-returns, tried-stays}
+use Rattle.dfdl_grammar.proofs.Grown.{Goes, begun-longer, content-length}
 use Rattle.dfdl_grammar.proofs.Prefixed.{prefixed-comes}
-use Rattle.dfdl_grammar.proofs.Represented.{marked_by, represented-comes}
+use Rattle.dfdl_grammar.proofs.Represented.{any_ok, marked_by, refused, represented-comes}
+use Rattle.dfdl_grammar.proofs.Sought.{initiator-comes, terminator-comes}
 
 -- the elements are a tree, and the innermost open one is among them, where there are any
 record Grows (table : Table) (s : State) : Type 0 where
@@ -181,7 +187,7 @@ module _ (input : Input) (table : Table) where
   pass-keeps to s good false true =
       passed-keeps to (ask (seen_in input.bytes input.limits.window (anchor_at s (to - 1))) (has_byte ((to - 1) / 8)) nothing).reached s good
 
-  begun-grows : (id : ℕ) (instead : Option ℕ) (s : State) → IsElementRow (slice_get table.rows id) → Grows table s → Grows table (begun id instead s)
+  begun-grows : (id : ℕ) (instead : Instead) (s : State) → IsElementRow (slice_get table.rows id) → Grows table s → Grows table (begun id instead s)
   begun-grows id instead s elem good =
       let node : Node = record { element = id; parent = s.inside; content = Begun } in
       let size = begun-longer id instead s in
@@ -208,9 +214,14 @@ module _ (input : Input) (table : Table) where
   close-follows (Failed cause bit) outer complex o good less = (good, same_length (length o.state.nodes))
   close-follows (Stopped cause quantity) outer complex o good less = (good, same_length (length o.state.nodes))
 
+  -- what is done of an element has begun it
+  abbrev Began : State → End → State → Type 0
+  Began s e t = Follows s t × (e ≡ Done → length s.nodes < length t.nodes)
+
   room-tried : (id : ℕ) (complex : Bool) (body : State → Outcome) → IsElementRow (slice_get table.rows id) → Keeps body
-      → (instead : Option ℕ) (s : State) → Grows table s → (room : Bool)
-      → Follows s (cond room (let o : Outcome = body (begun id instead s) in close o.end s.inside complex o) (ended (Stopped Nodes input.limits.nodes) s)).state
+      → (instead : Instead) (s : State) → Grows table s → (room : Bool)
+      → (let out : Outcome = cond room (let o : Outcome = body (begun id instead s) in close o.end s.inside complex o) (ended (Stopped Nodes input.limits.nodes) s) in
+      Began s out.end out.state)
   room-tried id complex body elem keeps instead s good true =
       let first : State = begun id instead s in
       let inner = keeps first (begun-grows id instead s elem good) in
@@ -219,21 +230,30 @@ module _ (input : Input) (table : Table) where
       let longer : length first.nodes ≤ length (body first).state.nodes = inner.1 in
       let over = close-follows (body first).end s.inside complex (body first) inner.0 (omega arith) in
       let more = over.1 in
-      (over.0, omega arith)
-  room-tried id complex body elem keeps instead s good false = (good, same_length (length s.nodes))
+      ((over.0, omega arith), λ done. omega arith)
+  room-tried id complex body elem keeps instead s good false = ((good, same_length (length s.nodes)), λ done. absurd (cc))
+
+  -- where one fails whose empty representation is found, it is open again
+  refused-follows : (s t : State) → Began s Done t → Follows s (refused s t)
+  refused-follows s t began =
+      let grown = began.0.0 in
+      let more = began.1 refl in
+      (record { tree = grown.tree; few = omega arith; open_one = λ some. omega arith }, omega arith)
 
   element-keeps : (id : ℕ) (complex : Bool) (tried : Representations) (body : State → Outcome) → IsElementRow (slice_get table.rows id) → Keeps body
       → Goes body → Keeps (element input id complex tried body)
   element-keeps id complex tried body elem keeps goes s good =
-      let attempt-keeps : (instead : Option ℕ) (t : State) → Grows table t → Follows t (attempted input id complex body instead t).state =
+      let attempt-keeps : (instead : Instead) (t : State) → Grows table t
+      → Began t (attempted input id complex body instead t).end (attempted input id complex body instead t).state =
       λ instead t grows. room-tried id complex body elem keeps instead t grows (nat_lt (length t.nodes) input.limits.nodes) in
-      represented-comes (λ (e : End) (t : State). Follows s t) (λ (e : End) (t : State). Follows s t) s
-      (attempted input id complex body) (λ (instead : Option ℕ). Unit {0}) tt
-      (attempt-keeps None s good)
+      represented-comes (λ (e : End) (t : State). Follows s t) (λ (e : End) (t : State). Began s e t) s
+      (attempted input id complex body) (λ (instead : Instead). Unit {0}) tt
+      (attempt-keeps Nothing s good).0
       (λ instead before one. attempt-keeps instead (marked_by s before) (alike s (marked_by s before) good refl refl))
-      (λ e t follows. (alike t (closed t) follows.0 refl refl, follows.1))
-      (λ cause quantity t follows. follows)
-      (tried-returns input id complex body goes s) tried tt tt
+      (λ e t began. (alike t (closed t) began.0.0 refl refl, began.0.1))
+      (λ cause quantity t began. began.0)
+      (refused-follows s) (tried-stays input id complex body goes s) (tried-returns input id complex body goes s)
+      tried (any_ok Nil tried.nil) (any_ok Empty tried.empty)
 
   follow-keeps : (end : End) (o : Outcome) (next : State → Outcome) → Keeps next → Grows table o.state → Follows o.state (follow end o next).state
   follow-keeps Done o next keeps good = keeps o.state good
@@ -257,21 +277,36 @@ module _ (input : Input) (table : Table) where
   rest-keeps s good true = (good, same_length (length s.nodes))
   rest-keeps s good false = bytes-keep (bytes_up_to s.stop (s.at / 8)) (s.at / 8) s good
 
-  unboxed-keeps : (end : End) (outer : ℕ) (o : Outcome) → Grows table o.state → Follows o.state (unboxed end outer o).state
-  unboxed-keeps Done outer o good = (alike o.state (record o.state { stop = outer }) good refl refl, same_length (length o.state.nodes))
-  unboxed-keeps (Failed cause bit) outer o good = (good, same_length (length o.state.nodes))
-  unboxed-keeps (Stopped cause quantity) outer o good = (good, same_length (length o.state.nodes))
+  unboxed-keeps : (end : End) (outer hidden : ℕ) (o : Outcome) → Grows table o.state → Follows o.state (unboxed end outer hidden o).state
+  unboxed-keeps Done outer hidden o good =
+      (alike o.state (record o.state { stop = outer; hidden = hidden }) good refl refl, same_length (length o.state.nodes))
+  unboxed-keeps (Failed cause bit) outer hidden o good = (alike o.state (record o.state { hidden = hidden }) good refl refl, same_length (length o.state.nodes))
+  unboxed-keeps (Stopped cause quantity) outer hidden o good = (good, same_length (length o.state.nodes))
+
+  unscoped-keeps : (end : End) (count : ℕ) (o : Outcome) → Grows table o.state → Follows o.state (unscoped end count o).state
+  unscoped-keeps Done count o good = (alike o.state (closes_to count o.state) good refl refl, same_length (length o.state.nodes))
+  unscoped-keeps (Failed cause bit) count o good = (alike o.state (closes_to count o.state) good refl refl, same_length (length o.state.nodes))
+  unscoped-keeps (Stopped cause quantity) count o good = (good, same_length (length o.state.nodes))
+
+  scoped-keeps : (list : ℕ) (body : State → Outcome) → Keeps body → Keeps (scoped list body)
+  scoped-keeps list body keeps s good =
+      let inside : State = opens list s in
+      let first = keeps inside (alike s inside good refl refl) in
+      let last = unscoped-keeps (body inside).end (length s.lists) (body inside) first.0 in
+      let a = first.1 in
+      let b = last.1 in
+      (last.0, omega arith)
 
   boxed-keeps : (bits : ℕ) (body : State → Outcome) → Keeps body → (s : State) → Grows table s → (room : Bool)
       → Follows s (cond room
-      (let o : Outcome = then_do (body (record s { stop = s.at + bits })) (rest_of input) in unboxed o.end s.stop o)
+      (let o : Outcome = then_do (body (boxed_at (s.at + bits) s)) (rest_of input) in unboxed o.end s.stop s.hidden o)
       (ended (Failed LengthOutOfRange s.at) s)).state
   boxed-keeps bits body keeps s good true =
-      let inside : State = record s { stop = s.at + bits } in
+      let inside : State = boxed_at (s.at + bits) s in
       let first = keeps inside (alike s inside good refl refl) in
       let o : Outcome = then_do (body inside) (rest_of input) in
       let last = follow-keeps (body inside).end (body inside) (rest_of input) (λ t grown. rest-keeps t grown (nat_le t.stop t.at)) first.0 in
-      let closed = unboxed-keeps o.end s.stop o last.0 in
+      let closed = unboxed-keeps o.end s.stop s.hidden o last.0 in
       let a = first.1 in
       let b = last.1 in
       let c = closed.1 in
@@ -297,6 +332,17 @@ module _ (input : Input) (table : Table) where
   row-keeps child keeps goes id (Some (Group children)) is s good = group-keeps child keeps children s good
   row-keeps child keeps goes id (Some (Skip bits)) is s good = pass-keeps (s.at + bits) s good (nat_le (s.at + bits) s.at) (nat_le (s.at + bits) s.stop)
   row-keeps child keeps goes id (Some (Align bits)) is s good = pass-keeps (aligned bits s.at) s good (nat_le (aligned bits s.at) s.at) (nat_le (aligned bits s.at) s.stop)
+  row-keeps child keeps goes id (Some (Initiator delimiter)) is s good =
+      let same : Follows s s = (good, same_length (length s.nodes)) in
+      initiator-comes (λ (e : End) (t : State). Follows s t) s same
+      (λ at. (alike s (record s { at = at }) good refl refl, same_length (length s.nodes))) (λ cause. same) (λ cause quantity. same) input
+      table.delimiters delimiter
+  row-keeps child keeps goes id (Some (Terminator delimiter)) is s good =
+      let same : Follows s s = (good, same_length (length s.nodes)) in
+      terminator-comes (λ (e : End) (t : State). Follows s t) s same
+      (λ at. (alike s (record s { at = at }) good refl refl, same_length (length s.nodes))) (λ cause. same) (λ cause quantity. same) input
+      table.delimiters delimiter
+  row-keeps child keeps goes id (Some (Scope list body)) is s good = scoped-keeps list (child body) (keeps body) s good
   row-keeps child keeps goes id (Some (Boxed bits body)) is s good = boxed-keeps bits (child body) (keeps body) s good (nat_le (s.at + bits) s.stop)
   row-keeps child keeps goes id (Some (PrefixedLeaf prefix prim)) is s good =
       let nil : Option (List Value) = nil_values table.primitives s.instead in
@@ -318,8 +364,8 @@ module _ (input : Input) (table : Table) where
   below-keeps zero id s good = (good, same_length (length s.nodes))
   below-keeps (suc n) id s good = below-choice n id (below-keeps n) s good (nat_eq id n)
 
-  pub meaning-tree : (id : ℕ) → IsTree table (meaning input table id front).state.nodes
+  pub meaning-tree : (id start : ℕ) → IsTree table (meaning input table id (front_at start)).state.nodes
   unfolding meaning
-  meaning-tree id =
-      let first : Grows table front = record { tree = λ number node is. absurd (cc); few = omega arith; open_one = λ some. absurd (omega arith) } in
-      (row-keeps (below input table id) (below-keeps id) (below-goes input table id) id (slice_get table.rows id) refl front first).0.tree
+  meaning-tree id start =
+      let first : Grows table (front_at start) = record { tree = λ number node is. absurd (cc); few = omega arith; open_one = λ some. absurd (omega arith) } in
+      (row-keeps (below input table id) (below-keeps id) (below-goes input table id) id (slice_get table.rows id) refl (front_at start) first).0.tree

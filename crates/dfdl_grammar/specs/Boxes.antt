@@ -1,5 +1,5 @@
 -- Boxes: a range of bits that a content has to stay in. What the content leaves of its box is passed over. 'Lengths'.
-use Rattle.std.specs.Prelude.{ℕ, zero, suc, ◌+◌, ◌-◌, ◌*◌, ◌/◌, Bool, true, false, nat_le, if◌then◌else◌}
+use Rattle.std.specs.Prelude.{ℕ, zero, suc, ◌+◌, ◌-◌, ◌*◌, ◌/◌, Bool, true, false, nat_le, length, if◌then◌else◌}
 use Rattle.dfdl_report.specs.declared.cause.LimitCause.TheVariants.{Window}
 use Rattle.dfdl_report.specs.declared.cause.ParseCause.TheVariants.{DataEnds, LengthOutOfRange}
 use Rattle.dfdl_looks.specs.Asks.{Reached, Told, TooFar, Missing, Reading, ask}
@@ -33,15 +33,20 @@ bytes_up_to stop k = (stop + 7) / 8 - k
 abbrev pub rest : Input → State → Outcome
 rest input s = if nat_le s.stop s.at then ended Done s else pass_bytes input (bytes_up_to s.stop (s.at / 8)) (s.at / 8) s
 
--- after this end of an outcome: the box around ends at this bit again, where it is done
-abbrev pub unboxed : End → ℕ → Outcome → Outcome
-unboxed Done outer o = record o { state = record o.state { stop = outer } }
-unboxed (Failed cause bit) outer o = o
-unboxed (Stopped cause quantity) outer o = o
+-- a box that ends at this bit begins: no list that is open around it ends a content in it
+abbrev pub boxed_at : ℕ → State → State
+boxed_at stop s = record s { stop = stop; hidden = length s.lists }
+
+-- after this end of an outcome: the box around, which hides so many lists, ends at this bit again, where it is done; the lists are as
+-- before in either case
+abbrev pub unboxed : End → ℕ → ℕ → Outcome → Outcome
+unboxed Done outer hidden o = record o { state = record o.state { stop = outer; hidden = hidden } }
+unboxed (Failed cause bit) outer hidden o = record o { state = record o.state { hidden = hidden } }
+unboxed (Stopped cause quantity) outer hidden o = o
 
 -- a box of so many bits with what is in it; it can't pass the end of the box around it
 abbrev pub boxed : Input → ℕ → (State → Outcome) → State → Outcome
 boxed input bits body s =
     if nat_le (s.at + bits) s.stop
-    then (let o : Outcome = then_do (body (record s { stop = s.at + bits })) (rest input) in unboxed o.end s.stop o)
+    then (let o : Outcome = then_do (body (boxed_at (s.at + bits) s)) (rest input) in unboxed o.end s.stop s.hidden o)
     else ended (Failed LengthOutOfRange s.at) s

@@ -43,6 +43,8 @@ use Rattle.dfdl_looks.specs.Asks.{Ask, Answer, Reached, Told, TooFar, Missing, R
 use Rattle.dfdl_looks.specs.Looks.{seen_in}
 use Rattle.dfdl_looks.specs.Tallies.{nothing}
 use Rattle.dfdl_grammar.specs.declared.end.End.TheVariants.{Done, Failed, Stopped}
+use Rattle.dfdl_grammar.specs.declared.instead.Instead.{Instead}
+use Rattle.dfdl_grammar.specs.declared.instead.Instead.TheVariants.{Nothing, Nil as InsteadNil, Empty}
 use Rattle.dfdl_grammar.specs.declared.limits.Limits.{Limits}
 use Rattle.dfdl_grammar.specs.States.{Input, State, anchor}
 use Rattle.dfdl_grammar.specs.Outcomes.{Outcome, ended, spend}
@@ -318,15 +320,17 @@ abbrev pub reading_prim : Option (List Value) → ℕ → ℕ → ℕ
 reading_prim None instead prim = instead
 reading_prim (Some values) instead prim = prim
 
--- the values that are nil, where an element has to have one of them, by the number of the primitive that is there in place of its own
-abbrev pub nil_values : List Primitive → Option ℕ → Option (List Value)
-nil_values primitives None = None
-nil_values primitives (Some instead) = values_in (slice_get primitives instead)
+-- the values that are nil, where an element has to have one of them, by what its content is read by in place of its own primitive
+abbrev pub nil_values : List Primitive → Instead → Option (List Value)
+nil_values primitives Nothing = None
+nil_values primitives (InsteadNil prim) = values_in (slice_get primitives prim)
+nil_values primitives (Empty prim) = None
 
 -- the number of the primitive by which a leaf is read whose own has this number
-abbrev pub read_by : List Primitive → Option ℕ → ℕ → ℕ
-read_by primitives None prim = prim
-read_by primitives (Some instead) prim = reading_prim (values_in (slice_get primitives instead)) instead prim
+abbrev pub read_by : List Primitive → Instead → ℕ → ℕ
+read_by primitives Nothing prim = prim
+read_by primitives (InsteadNil instead) prim = reading_prim (values_in (slice_get primitives instead)) instead prim
+read_by primitives (Empty instead) prim = instead
 
 -- the bit at which a leaf fails: that of its box where this is longer than it can be, and else that of its content
 abbrev pub failing_bit : ParseCause → ℕ → ℕ → ℕ

@@ -1,7 +1,7 @@
 -- The path of an element: the names of the elements from the root down to it, each behind a `/`.
 use Rattle.std.specs.Prelude.{ℕ, zero, suc, List, [], ◌++◌, codes, Option, Some, None, slice_get}
 use Rattle.dfdl_terms.specs.declared.row.Row.{Row}
-use Rattle.dfdl_terms.specs.declared.row.Row.TheVariants.{Leaf, Elem, Group, Skip, Align, Boxed, PrefixedLeaf, PrefixedBox}
+use Rattle.dfdl_terms.specs.declared.row.Row.TheVariants.{Leaf, Elem, Group, Skip, Align, Initiator, Terminator, Scope, Boxed, PrefixedLeaf, PrefixedBox}
 use Rattle.dfdl_terms.specs.Rows.{Table}
 use Rattle.dfdl_region.specs.declared.node.Node.{Node}
 
@@ -13,6 +13,9 @@ name_of (Some (Elem name simple tried body)) = name
 name_of (Some (Group children)) = []
 name_of (Some (Skip bits)) = []
 name_of (Some (Align bits)) = []
+name_of (Some (Initiator delimiter)) = []
+name_of (Some (Terminator delimiter)) = []
+name_of (Some (Scope list body)) = []
 name_of (Some (Boxed bits body)) = []
 name_of (Some (PrefixedLeaf prefix prim)) = []
 name_of (Some (PrefixedBox prefix body)) = []

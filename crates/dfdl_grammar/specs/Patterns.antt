@@ -1,7 +1,7 @@
 -- How many bytes a pattern matches in the data. 'Lengths' (lengthKind pattern), 'DFDL Regular Expressions'.
 use Rattle.std.specs.Prelude.{ℕ, ◌+◌, ◌&&◌, nat_le, nat_lt, if◌then◌else◌, List, [], ◌∷◌, length, Option, Some, None, encode_utf8}
 use Rattle.dfdl_forms.specs.declared.encoding.Encoding.{Encoding}
-use Rattle.dfdl_chars.specs.Encodings.{encoded_of}
+use Rattle.dfdl_chars.specs.Encodings.{width_in}
 use Rattle.dfdl_region.specs.Bytes.{utf8_of}
 use Rattle.dfdl_length_patterns.specs.Patterns.{match_in}
 use Rattle.dfdl_terms.specs.declared.text.PatternForm.{PatternForm}
@@ -9,15 +9,6 @@ use Rattle.dfdl_terms.specs.declared.text.PatternForm.{PatternForm}
 -- a pattern is sought in at most so many bits of the data (profile)
 abbrev pub most_sought : ℕ
 most_sought = 524288
-
--- how many bytes there are, if there are any
-abbrev pub count_of : Option (List ℕ) → ℕ
-count_of None = 0
-count_of (Some bytes) = length bytes
-
--- how many bytes a character has in an encoding
-abbrev pub width_in : Encoding → ℕ → ℕ
-width_in encoding c = count_of (encoded_of encoding c)
 
 -- How many bytes those of the characters have in an encoding that begin from one byte of a text on and before another, where the
 -- first character begins at this byte. The text is UTF-8.

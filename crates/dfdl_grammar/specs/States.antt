@@ -1,6 +1,8 @@
 -- What is known while data are parsed. 'Parsing Algorithm'.
-use Rattle.std.specs.Prelude.{ℕ, ◌/◌, List, [], ◌∷◌, Option, None, if◌then◌else◌}
+use Rattle.std.specs.Prelude.{ℕ, ◌/◌, List, [], ◌∷◌, if◌then◌else◌}
 use Rattle.dfdl_region.specs.declared.node.Node.{Node}
+use Rattle.dfdl_grammar.specs.declared.instead.Instead.{Instead}
+use Rattle.dfdl_grammar.specs.declared.instead.Instead.TheVariants.{Nothing}
 use Rattle.dfdl_grammar.specs.declared.limits.Limits.{Limits}
 use Rattle.dfdl_grammar.specs.declared.mark.Mark.{Mark}
 
@@ -10,15 +12,18 @@ pub record Input : Type 0 where
   pub limits : Limits
 
 -- The bit that comes next, the bit at which the innermost box ends, the elements that have begun, the bytes of the strings and
--- hexBinary values among them, the number of the innermost element that is open, the primitive by which its content is read in
--- place of its own or that tells which of its values are nil, if there is one, and the open marks with the innermost first.
+-- hexBinary values among them, the number of the innermost element that is open, what its content is read by in place of its own
+-- primitive, the lists of the tables whose texts end a content, those of the outermost component first, how many of them stand
+-- outside of the innermost box and end nothing in it, and the open marks with the innermost first.
 pub record State : Type 0 where
   pub at : ℕ
   pub stop : ℕ
   pub nodes : List Node
   pub text : List ℕ
   pub inside : ℕ
-  pub instead : Option ℕ
+  pub instead : Instead
+  pub lists : List ℕ
+  pub hidden : ℕ
   pub marks : List Mark
 
 -- the bit at which a box would end that is around everything (profile)
@@ -27,7 +32,7 @@ no_box = 18446744073709551615
 
 -- the state at the front of the data
 abbrev pub front : State
-front = record { at = 0; stop = no_box; nodes = []; text = []; inside = 0; instead = None; marks = [] }
+front = record { at = 0; stop = no_box; nodes = []; text = []; inside = 0; instead = Nothing; lists = []; hidden = 0; marks = [] }
 
 -- the bit of the outermost mark that isn't resolved, or another bit where there is none
 abbrev pub held_from : List Mark → ℕ → ℕ

@@ -1,11 +1,13 @@
 // Laws of the definitions that the contracts cite. The calls do nothing.
-ghost use Rattle.std.specs.Prelude.{◌≡◌, ◌<◌, ℕ, Bool, List, length, All, Option};
+ghost use Rattle.std.specs.Prelude.{◌≡◌, ◌<◌, ℕ, Bool, List, All};
 ghost use Rattle.dfdl_report.specs.declared.cause.ParseCause.{ParseCause};
 ghost use Rattle.dfdl_looks.specs.Tallies.{Tally};
-ghost use Rattle.dfdl_terms.specs.Rows.{IsPrimitive, NamesWithin, Nests, Table};
+ghost use Rattle.dfdl_terms.specs.Rows.{IsPrimitive, NamesWithin, Nests, Table, named_by};
 ghost use Rattle.dfdl_region.specs.Texts.{HaveTexts};
+ghost use Rattle.dfdl_grammar.specs.declared.instead.Instead.{Instead};
 ghost use Rattle.dfdl_grammar.specs.declared.limits.Limits.{Limits};
-ghost use Rattle.dfdl_grammar.specs.Documents.{document};
+ghost use Rattle.dfdl_grammar.specs.Delimiters.{markup};
+ghost use Rattle.dfdl_grammar.specs.Documents.{document_from};
 ghost use Rattle.dfdl_grammar.specs.Trees.{AreRead, HasLeaves, IsTree};
 ghost use Rattle.dfdl_grammar.specs.declared.end.End.TheVariants.{Done, Failed};
 ghost use Rattle.dfdl_grammar.specs.Elements.{attempted};
@@ -23,10 +25,10 @@ pub fn rows_mean()
 {}
 
 /// Where a representation of an element fails, going back gives the state at the mark, whatever it did meanwhile: the bit, the
-/// box's end, the elements, the bytes of values, the element that is open, and the marks. A row that is done or fails leaves
-/// the marks as they were.
+/// box's end, the elements, the bytes of values, the element that is open, the lists that are, and the marks. A row that is done
+/// or fails leaves the marks and the lists as they were.
 pub fn going_back_restores()
-    ensures restored { (input : Input) (table : Table) (id body : ℕ) (complex : Bool) (instead : Option ℕ) (s : State)
+    ensures restored { (input : Input) (table : Table) (id body : ℕ) (complex : Bool) (instead : Instead) (s : State)
         (cause : ParseCause) (bit : ℕ)
         → (attempted input id complex (meaning input table body) instead (marked s)).end ≡ Failed cause bit
         → IsAgain (marked s) (back (attempted input id complex (meaning input table body) instead (marked s)).state) }
@@ -34,23 +36,27 @@ pub fn going_back_restores()
         → (meaning input table id s).state.marks ≡ s.marks }
     ensures failed { (input : Input) (table : Table) (id : ℕ) (s : State) (cause : ParseCause) (bit : ℕ)
         → (meaning input table id s).end ≡ Failed cause bit → (meaning input table id s).state.marks ≡ s.marks }
+    ensures closed { (input : Input) (table : Table) (id : ℕ) (s : State) → (meaning input table id s).end ≡ Done
+        → markup (meaning input table id s).state ≡ markup s }
+    ensures closed_failed { (input : Input) (table : Table) (id : ℕ) (s : State) (cause : ParseCause) (bit : ℕ)
+        → (meaning input table id s).end ≡ Failed cause bit → markup (meaning input table id s).state ≡ markup s }
 {}
 
 /// The elements of a document are a tree: each begins inside of an earlier one, but the first, and each is one of the
-/// schema's elements, whatever the data come to.
+/// schema's elements, wherever the document begins and whatever the data come to.
 pub fn documents_are_trees()
-    ensures { (limits : Limits) (table : Table) (bytes : List ℕ) → IsTree table (document limits table bytes).state.nodes }
+    ensures { (limits : Limits) (table : Table) (start : ℕ) (bytes : List ℕ) → IsTree table (document_from limits table start bytes).state.nodes }
 {}
 
 /// Where a document is done, each of its elements is read.
 pub fn documents_are_read()
-    ensures { (limits : Limits) (table : Table) (bytes : List ℕ) → Nests table.rows → All (NamesWithin (length table.primitives)) table.rows
-        → HasLeaves table → (document limits table bytes).end ≡ Done → AreRead (document limits table bytes).state.nodes }
+    ensures { (limits : Limits) (table : Table) (start : ℕ) (bytes : List ℕ) → Nests table.rows → All (NamesWithin (named_by table)) table.rows
+        → HasLeaves table → (document_from limits table start bytes).end ≡ Done → AreRead (document_from limits table start bytes).state.nodes }
 {}
 
 /// The bytes of the values of a document's elements are among the bytes of its text, and those of its strings are UTF-8,
 /// whatever the data come to, where the texts are so that stand for values in the table.
 pub fn documents_have_texts()
-    ensures { (limits : Limits) (table : Table) (bytes : List ℕ) → All (λ byte. byte < 256) bytes
-        → All IsPrimitive table.primitives → HaveTexts (document limits table bytes).state.nodes (document limits table bytes).state.text }
+    ensures { (limits : Limits) (table : Table) (start : ℕ) (bytes : List ℕ) → All (λ byte. byte < 256) bytes
+        → All IsPrimitive table.primitives → HaveTexts (document_from limits table start bytes).state.nodes (document_from limits table start bytes).state.text }
 {}

@@ -10,22 +10,25 @@
 //! - Nils: what stands for nil in the data ('DFDL Data Syntax Grammar').
 //! - Patterns: how many bytes a pattern matches in the data ('Lengths').
 //! - Framing: alignment and skips ('Framing').
+//! - Delimiters: initiators and terminators, and which are open ('Framing').
 //! - Boxes: a box around a content, and what the content leaves of it ('Lengths').
 //! - Prefixes: a number before a content that tells how long that is ('Lengths').
 //! - Elements: an element begins, and ends ('The DFDL Information Set').
 //! - Representations: nil, empty and normal, in this order from one place ('DFDL Data Syntax Grammar').
 //! - Rows: the meaning of each row, by those below it ('DFDL Data Syntax Grammar').
-//! - Documents: the meaning of the root element's row at the front of the data.
+//! - Documents: the meaning of the root element's row at the front of the data, or at the byte at which a document begins.
 //! - Trees: the elements of a document are a tree of the schema's elements, each of which is read.
 //! - Paths: the path of an element, by names.
 #![tactic(auto)]
 
 pub mod end;
+pub mod instead;
 pub mod laws;
 pub mod limits;
 pub mod mark;
 
 pub use end::End;
+pub use instead::Instead;
 pub use limits::Limits;
 pub use mark::Mark;
 

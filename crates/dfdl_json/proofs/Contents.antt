@@ -7,8 +7,9 @@ use Rattle.serde_json.specs.Find.{get_member}
 use Rattle.serde_json.specs.declared.value.Value.{Value}
 use Rattle.dfdl_forms.specs.declared.simple.Simple.{Simple}
 use Rattle.dfdl_terms.specs.declared.representations.Representations.{Representations}
+use Rattle.dfdl_terms.specs.declared.delimiters.Delimiter.{Delimiter}
 use Rattle.dfdl_terms.specs.declared.prefix.Prefix.{Prefix}
-use Rattle.dfdl_terms.specs.declared.row.Row.TheVariants.{Leaf, Elem, Group, Skip, Align, Boxed, PrefixedLeaf, PrefixedBox}
+use Rattle.dfdl_terms.specs.declared.row.Row.TheVariants.{Leaf, Elem, Group, Skip, Align, Initiator, Terminator, Scope, Boxed, PrefixedLeaf, PrefixedBox}
 use Rattle.dfdl_terms.specs.declared.event.Event.TheVariants.{Start, End}
 use Rattle.dfdl_terms.specs.Rows.{Table}
 use Rattle.dfdl_json.specs.ByRows.{below}
@@ -66,8 +67,17 @@ module _ (t : Table) (row : ℕ) (content : Data) (around : Names) where
   pub align_says : (bits : ℕ) → slice_get t.rows row ≡ Some (Align bits) → findings t row content around ≡ []
   align_says bits is = ap (λ f. f content around) (row_is (findings_by t) (λ c a. []) t.rows row (Some (Align bits)) is)
 
+  pub initiator_says : (delimiter : Delimiter) → slice_get t.rows row ≡ Some (Initiator delimiter) → findings t row content around ≡ []
+  initiator_says delimiter is = ap (λ f. f content around) (row_is (findings_by t) (λ c a. []) t.rows row (Some (Initiator delimiter)) is)
+
+  pub terminator_says : (delimiter : Delimiter) → slice_get t.rows row ≡ Some (Terminator delimiter) → findings t row content around ≡ []
+  terminator_says delimiter is = ap (λ f. f content around) (row_is (findings_by t) (λ c a. []) t.rows row (Some (Terminator delimiter)) is)
+
   pub box_says : (bits body : ℕ) → slice_get t.rows row ≡ Some (Boxed bits body) → findings t row content around ≡ []
   box_says bits body is = ap (λ f. f content around) (row_is (findings_by t) (λ c a. []) t.rows row (Some (Boxed bits body)) is)
+
+  pub scope_says : (list body : ℕ) → slice_get t.rows row ≡ Some (Scope list body) → findings t row content around ≡ []
+  scope_says list body is = ap (λ f. f content around) (row_is (findings_by t) (λ c a. []) t.rows row (Some (Scope list body)) is)
 
   pub prefixed_leaf_says : (prefix : Prefix) (prim : ℕ) → slice_get t.rows row ≡ Some (PrefixedLeaf prefix prim) → findings t row content around ≡ []
   prefixed_leaf_says prefix prim is = ap (λ f. f content around) (row_is (findings_by t) (λ c a. []) t.rows row (Some (PrefixedLeaf prefix prim)) is)

@@ -5,9 +5,10 @@ use Rattle.std.proofs.lemmas.Grind.{flat_map-append}
 use Rattle.std.proofs.lemmas.List.{append-nil}
 use Rattle.dfdl_forms.specs.declared.simple.Simple.{Simple}
 use Rattle.dfdl_terms.specs.declared.representations.Representations.{Representations}
+use Rattle.dfdl_terms.specs.declared.delimiters.Delimiter.{Delimiter}
 use Rattle.dfdl_terms.specs.declared.prefix.Prefix.{Prefix}
 use Rattle.dfdl_terms.specs.declared.row.Row.{Row}
-use Rattle.dfdl_terms.specs.declared.row.Row.TheVariants.{Leaf, Elem, Group, Skip, Align, Boxed, PrefixedLeaf, PrefixedBox}
+use Rattle.dfdl_terms.specs.declared.row.Row.TheVariants.{Leaf, Elem, Group, Skip, Align, Initiator, Terminator, Scope, Boxed, PrefixedLeaf, PrefixedBox}
 use Rattle.dfdl_terms.specs.Rows.{Table, ChildrenBelow}
 use Rattle.dfdl_json.specs.ByRows.{below}
 use Rattle.dfdl_json.specs.Children.{declared_by, elements_in}
@@ -27,9 +28,19 @@ module _ (t : Table) (row : ℕ) where
   pub align_declares : (bits : ℕ) → slice_get t.rows row ≡ Some (Align bits) → elements_in t row ≡ []
   align_declares bits is = row_is declared_by [] t.rows row (Some (Align bits)) is
 
+  pub initiator_declares : (delimiter : Delimiter) → slice_get t.rows row ≡ Some (Initiator delimiter) → elements_in t row ≡ []
+  initiator_declares delimiter is = row_is declared_by [] t.rows row (Some (Initiator delimiter)) is
+
+  pub terminator_declares : (delimiter : Delimiter) → slice_get t.rows row ≡ Some (Terminator delimiter) → elements_in t row ≡ []
+  terminator_declares delimiter is = row_is declared_by [] t.rows row (Some (Terminator delimiter)) is
+
   pub box_declares : (bits body : ℕ) → slice_get t.rows row ≡ Some (Boxed bits body) → body < row → elements_in t row ≡ elements_in t body
   box_declares bits body is less =
       row_is declared_by [] t.rows row (Some (Boxed bits body)) is ∙ below_is declared_by [] t.rows row body less
+
+  pub scope_declares : (list body : ℕ) → slice_get t.rows row ≡ Some (Scope list body) → body < row → elements_in t row ≡ elements_in t body
+  scope_declares list body is less =
+      row_is declared_by [] t.rows row (Some (Scope list body)) is ∙ below_is declared_by [] t.rows row body less
 
   pub prefixed_leaf_declares : (prefix : Prefix) (prim : ℕ) → slice_get t.rows row ≡ Some (PrefixedLeaf prefix prim) → elements_in t row ≡ []
   prefixed_leaf_declares prefix prim is = row_is declared_by [] t.rows row (Some (PrefixedLeaf prefix prim)) is
@@ -60,9 +71,19 @@ module _ (t : Table) (row : ℕ) where
   pub align_steps : (bits : ℕ) → slice_get t.rows row ≡ Some (Align bits) → steps_of t row ≡ 1
   align_steps bits is = row_is steps_by 0 t.rows row (Some (Align bits)) is
 
+  pub initiator_steps : (delimiter : Delimiter) → slice_get t.rows row ≡ Some (Initiator delimiter) → steps_of t row ≡ 1
+  initiator_steps delimiter is = row_is steps_by 0 t.rows row (Some (Initiator delimiter)) is
+
+  pub terminator_steps : (delimiter : Delimiter) → slice_get t.rows row ≡ Some (Terminator delimiter) → steps_of t row ≡ 1
+  terminator_steps delimiter is = row_is steps_by 0 t.rows row (Some (Terminator delimiter)) is
+
   pub box_steps : (bits body : ℕ) → slice_get t.rows row ≡ Some (Boxed bits body) → body < row → steps_of t row ≡ 1 + steps_of t body
   box_steps bits body is less =
       row_is steps_by 0 t.rows row (Some (Boxed bits body)) is ∙ ap (λ n. 1 + n) (below_is steps_by 0 t.rows row body less)
+
+  pub scope_steps : (list body : ℕ) → slice_get t.rows row ≡ Some (Scope list body) → body < row → steps_of t row ≡ 1 + steps_of t body
+  scope_steps list body is less =
+      row_is steps_by 0 t.rows row (Some (Scope list body)) is ∙ ap (λ n. 1 + n) (below_is steps_by 0 t.rows row body less)
 
   pub prefixed_leaf_steps : (prefix : Prefix) (prim : ℕ) → slice_get t.rows row ≡ Some (PrefixedLeaf prefix prim) → steps_of t row ≡ 1
   prefixed_leaf_steps prefix prim is = row_is steps_by 0 t.rows row (Some (PrefixedLeaf prefix prim)) is
@@ -97,6 +118,9 @@ below_elem bound r name simple tried body is below_row = subst (λ (x : Row). Ch
 
 pub below_box : (bound : ℕ) (r : Row) (bits body : ℕ) → r ≡ Boxed bits body → ChildrenBelow bound r → body < bound
 below_box bound r bits body is below_row = subst (λ (x : Row). ChildrenBelow bound x) is below_row
+
+pub below_scope : (bound : ℕ) (r : Row) (list body : ℕ) → r ≡ Scope list body → ChildrenBelow bound r → body < bound
+below_scope bound r list body is below_row = subst (λ (x : Row). ChildrenBelow bound x) is below_row
 
 pub below_prefixed_box : (bound : ℕ) (r : Row) (prefix : Prefix) (body : ℕ) → r ≡ PrefixedBox prefix body → ChildrenBelow bound r → body < bound
 below_prefixed_box bound r prefix body is below_row = subst (λ (x : Row). ChildrenBelow bound x) is below_row

@@ -34,7 +34,7 @@ fn form(bits: u32, kind: Simple) -> Primitive
 
 fn element(alloc: Global, name: &str, simple: Option<Simple>, body: u32) -> Result<Row, AllocError>
     ensures { IfOk result (λ row. row
-        ≡ Elem name.now simple (record { nil = None; empty = None; are_several = false }) body) }
+        ≡ Elem name.now simple (record { nil = None; empty = None; refuses_empty = false; are_several = false }) body) }
 {
     Ok(Row::Elem {
         name: TextValue::from_str(alloc, name)?,
@@ -42,6 +42,7 @@ fn element(alloc: Global, name: &str, simple: Option<Simple>, body: u32) -> Resu
         tried: Representations {
             nil: None,
             empty: None,
+            refuses_empty: false,
             are_several: false,
         },
         body: RowId::new(body),
@@ -93,7 +94,7 @@ fn nested(alloc: Global) -> Result<Terms, Fail>
         element(alloc, "r", None, 11)?,
     ]?;
     let forms = vec![in alloc; form(8, Simple::UnsignedByte)]?;
-    Ok(Terms::build(alloc, rows, Tables::new(forms))?)
+    Ok(Terms::build(alloc, rows, Tables::new(forms, Vec::new(alloc)))?)
 }
 
 fn event_shown(alloc: Global, terms: &Terms, event: &Event) -> Result<String, AllocError> {

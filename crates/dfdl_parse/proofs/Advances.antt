@@ -8,8 +8,11 @@ use Rattle.dfdl_report.specs.declared.cause.LimitCause.TheVariants.{Nodes}
 use Rattle.dfdl_report.specs.declared.cause.ParseCause.TheVariants.{LengthOutOfRange}
 use Rattle.dfdl_value.specs.declared.value.Value.{Value}
 use Rattle.dfdl_terms.specs.declared.row.Primitive.{Primitive}
+use Rattle.dfdl_delims.specs.Lists.{Opened}
+use Rattle.dfdl_terms.specs.declared.delimiters.Delimiter.{Delimiter}
+use Rattle.dfdl_terms.specs.declared.delimiters.Delimiters.{Delimiters}
 use Rattle.dfdl_terms.specs.declared.row.Row.{Row}
-use Rattle.dfdl_terms.specs.declared.row.Row.TheVariants.{Leaf, Elem, Group, Skip, Align, Boxed, PrefixedLeaf, PrefixedBox}
+use Rattle.dfdl_terms.specs.declared.row.Row.TheVariants.{Leaf, Elem, Group, Skip, Align, Initiator, Terminator, Scope, Boxed, PrefixedLeaf, PrefixedBox}
 use Rattle.dfdl_terms.specs.Rows.{Table}
 use Rattle.dfdl_looks.specs.Looks.{Agrees}
 use Rattle.dfdl_looks.specs.Asks.{ask}
@@ -19,28 +22,36 @@ use Rattle.dfdl_grammar.specs.declared.end.End.{End}
 use Rattle.dfdl_grammar.specs.declared.end.End.TheVariants.{Done, Failed, Stopped}
 use Rattle.dfdl_grammar.specs.declared.limits.Limits.{Limits}
 use Rattle.dfdl_grammar.specs.States.{State, anchor, anchor_at}
-use Rattle.dfdl_grammar.specs.Marks.{back, marked}
+use Rattle.dfdl_grammar.specs.Marks.{back, closed, marked}
+use Rattle.dfdl_grammar.specs.declared.mark.Mark.{Mark}
+use Rattle.dfdl_grammar.specs.declared.instead.Instead.{Instead}
+use Rattle.dfdl_grammar.specs.declared.instead.Instead.TheVariants.{Nothing, Nil, Empty}
 use Rattle.dfdl_terms.specs.declared.text.TextSize.{TextSize}
 use Rattle.dfdl_grammar.specs.Leaves.{content_begins, has_room, nil_values, program, program_for, read_by}
 use Rattle.dfdl_grammar.specs.Prefixes.{resized}
 use Rattle.dfdl_grammar.specs.Framing.{aligned}
+use Rattle.dfdl_grammar.specs.Delimiters.{sought_among, stands_in}
 use Rattle.dfdl_grammar.specs.Elements.{begun, has_elements}
 use Rattle.dfdl_parse.specs.declared.frame.Frame.{Frame}
-use Rattle.dfdl_parse.specs.declared.frame.Frame.TheVariants.{Rest, Element, Box, Trial}
+use Rattle.dfdl_parse.specs.declared.frame.Frame.TheVariants.{Rest, Element, Box, Scope as ScopeFrame, Trial}
+use Rattle.dfdl_parse.specs.declared.frame.Outside.{Outside}
 use Rattle.dfdl_parse.specs.declared.frame.Next.{Next}
 use Rattle.dfdl_parse.specs.declared.frame.Next.TheVariants as next
 use Rattle.dfdl_parse.specs.declared.frame.Parts.{Parts}
 use Rattle.dfdl_parse.specs.declared.frame.Focus.{Focus}
-use Rattle.dfdl_parse.specs.declared.frame.Focus.TheVariants.{Enter, Pass, PassRest, Sized, Leave}
+use Rattle.dfdl_parse.specs.declared.frame.Focus.TheVariants.{Enter, Pass, PassRest, Sized, Seek, Leave}
 use Rattle.dfdl_parse.specs.declared.frame.Behind.TheVariants as behind
+use Rattle.dfdl_parse.specs.Boxing.{back_outside}
+use Rattle.dfdl_parse.specs.Searches.{among, search}
 use Rattle.dfdl_parse.specs.Moves.{Machine, Move, pass, read_leaf, read_move}
 use Rattle.dfdl_parse.specs.Prefixed.{behind_units, prefix_move, read_prefix, read_resized, read_sized}
 use Rattle.dfdl_parse.specs.Machines.{children_of, enter, enter_group, fill, fill_move, go_on, leave, pass_rest, past_one, rest_move, seen_beyond, step}
-use Rattle.dfdl_parse.specs.Trials.{attempt, parts_of, retry, try_empty, try_nil, try_normal, two_rows}
+use Rattle.dfdl_parse.specs.Trials.{attempt, parts_of, refused, retry, trial_done, try_empty, try_nil, try_normal, two_rows}
 use Rattle.dfdl_parse.specs.Running.{Slid}
 use Rattle.dfdl_parse.proofs.Windows.{agrees_from, end_from}
 use Rattle.dfdl_parse.proofs.Beyond.{beyond-byte, beyond-end}
 use Rattle.dfdl_parse.proofs.Programs.{program_for-from}
+use Rattle.dfdl_parse.proofs.Seeks.{sought-from}
 use Rattle.dfdl_parse.proofs.Finishes.{Anchored, Stands}
 
 -- the window behind a step, and what the step cost while the end of the data wasn't told
@@ -117,8 +128,8 @@ module _ (held : Held) (s : State) where
   begin-keeps to k false true = pass-keeps one_row held _ _ _ refl refl
   begin-keeps to k false false = pass-keeps one_row held _ _ _ refl refl
 
-  leave-box-keeps : (outer : ℕ) (k : List Frame) (over : Bool)
-      → Keeps held (cond over (pass nothing held (Leave Done) k (record s { stop = outer })) (pass nothing held (PassRest s.at outer) k s))
+  leave-box-keeps : (outer : Outside) (k : List Frame) (over : Bool)
+      → Keeps held (cond over (pass nothing held (Leave Done) k (back_outside outer s)) (pass nothing held (PassRest s.at outer) k s))
   leave-box-keeps outer k true = pass-keeps nothing held _ _ _ refl refl
   leave-box-keeps outer k false = pass-keeps nothing held _ _ _ refl refl
 
@@ -160,29 +171,29 @@ module _ (held : Held) (s : State) where
       }
 
   -- the cost of a byte of the rest of a box
-  past-tail : (sight : Held) (byte outer : ℕ) (k : List Frame) (last : Bool)
-      → (cond last (pass (saw_byte byte nothing) sight (Leave Done) k (record s { at = s.stop; stop = outer }))
+  past-tail : (sight : Held) (byte : ℕ) (outer : Outside) (k : List Frame) (last : Bool)
+      → (cond last (pass (saw_byte byte nothing) sight (Leave Done) k (back_outside outer (record s { at = s.stop })))
       (pass (saw_byte byte nothing) sight (PassRest (8 * (byte + 1)) outer) k s)).tally ≡ saw_byte byte nothing
   past-tail sight byte outer k true = refl
   past-tail sight byte outer k false = refl
 
-  past-held : (sight : Held) (byte outer : ℕ) (k : List Frame) (last : Bool)
-      → (cond last (pass (saw_byte byte nothing) sight (Leave Done) k (record s { at = s.stop; stop = outer }))
+  past-held : (sight : Held) (byte : ℕ) (outer : Outside) (k : List Frame) (last : Bool)
+      → (cond last (pass (saw_byte byte nothing) sight (Leave Done) k (back_outside outer (record s { at = s.stop })))
       (pass (saw_byte byte nothing) sight (PassRest (8 * (byte + 1)) outer) k s)).held ≡ sight
   past-held sight byte outer k true = refl
   past-held sight byte outer k false = refl
 
-  past-cost : (sight : Held) (byte outer : ℕ) (k : List Frame) → (past_one sight byte outer k s).tally ≡ saw_byte byte nothing
+  past-cost : (sight : Held) (byte : ℕ) (outer : Outside) (k : List Frame) → (past_one sight byte outer k s).tally ≡ saw_byte byte nothing
   past-cost sight byte outer k = past-tail sight byte outer k (nat_le ((s.stop - 1) / 8) byte)
 
-  rested-tail : (window : ℕ) (sight : Held) (bit outer : ℕ) (v : Seen) (k : List Frame) → (v ≡ DataEnded → ⊥)
+  rested-tail : (window : ℕ) (sight : Held) (bit : ℕ) (outer : Outside) (v : Seen) (k : List Frame) → (v ≡ DataEnded → ⊥)
       → (rest_move window sight bit outer v k s).tally.tail ≡ 0
   rested-tail window sight bit outer (Byte b) k on = ap (λ (t : Tally). t.tail) (past-cost sight (bit / 8) outer k)
   rested-tail window sight bit outer DataEnded k on = absurd (on refl)
   rested-tail window sight bit outer NotYet k on = refl
   rested-tail window sight bit outer Over k on = refl
 
-  rested-far : (window : ℕ) (sight : Held) (bit outer : ℕ) (v : Seen) (k : List Frame) → (v ≡ DataEnded → ⊥)
+  rested-far : (window : ℕ) (sight : Held) (bit : ℕ) (outer : Outside) (v : Seen) (k : List Frame) → (v ≡ DataEnded → ⊥)
       → ((b : ℕ) → v ≡ Byte b → bit / 8 + 1 ≤ end_of held) → (rest_move window sight bit outer v k s).tally.far ≤ end_of held
   rested-far window sight bit outer (Byte b) k on within =
       let cost : (past_one sight (bit / 8) outer k s).tally.far ≡ max 0 (bit / 8 + 1) = ap (λ (t : Tally). t.far) (past-cost sight (bit / 8) outer k) in
@@ -191,13 +202,13 @@ module _ (held : Held) (s : State) where
   rested-far window sight bit outer NotYet k on within = omega arith
   rested-far window sight bit outer Over k on within = omega arith
 
-  rested-held : (window : ℕ) (sight : Held) (bit outer : ℕ) (v : Seen) (k : List Frame) → (rest_move window sight bit outer v k s).held ≡ sight
+  rested-held : (window : ℕ) (sight : Held) (bit : ℕ) (outer : Outside) (v : Seen) (k : List Frame) → (rest_move window sight bit outer v k s).held ≡ sight
   rested-held window sight bit outer (Byte b) k = past-held sight (bit / 8) outer k (nat_le ((s.stop - 1) / 8) (bit / 8))
   rested-held window sight bit outer DataEnded k = refl
   rested-held window sight bit outer NotYet k = refl
   rested-held window sight bit outer Over k = refl
 
-  rest-keeps : (limits : Limits) (bit outer : ℕ) (k : List Frame) → Stands held (PassRest bit outer) s → Keeps held (pass_rest limits held bit outer k s)
+  rest-keeps : (limits : Limits) (bit : ℕ) (outer : Outside) (k : List Frame) → Stands held (PassRest bit outer) s → Keeps held (pass_rest limits held bit outer k s)
   rest-keeps limits bit outer k stands =
       let byte : ℕ = bit / 8 in
       let low : ℕ = anchor_at s (8 * byte) in
@@ -214,7 +225,7 @@ module _ (held : Held) (s : State) where
         far = λ on. rested-far limits.window sight bit outer seen k (beyond-end held low byte base stands.1.1 on) (λ b is. beyond-byte held low byte base stands.1.1 b is);
       }
 
-  attempt-keeps : (cost : Tally) → cost.tail ≡ 0 → cost.far ≡ 0 → (most id : ℕ) (parts : Parts) (instead : Option ℕ) (k : List Frame) (t : State) (room : Bool)
+  attempt-keeps : (cost : Tally) → cost.tail ≡ 0 → cost.far ≡ 0 → (most id : ℕ) (parts : Parts) (instead : Instead) (k : List Frame) (t : State) (room : Bool)
       → Keeps held (cond room
       (pass cost held (Enter parts.body) (Element t.inside parts.complex ∷ k) (begun id instead t))
       (pass cost held (Leave (Stopped Nodes most)) k t))
@@ -223,26 +234,60 @@ module _ (held : Held) (s : State) where
 
   module _ (cost : Tally) (no_tail : cost.tail ≡ 0) (no_far : cost.far ≡ 0) (most id : ℕ) (parts : Parts) (k : List Frame) (t : State) where
     normal-keeps : Keeps held (try_normal cost most held id parts k t)
-    normal-keeps = attempt-keeps cost no_tail no_far most id parts None (Trial id next.Nothing ∷ k) t (nat_lt (length t.nodes) most)
+    normal-keeps = attempt-keeps cost no_tail no_far most id parts Nothing (Trial id next.Nothing ∷ k) t (nat_lt (length t.nodes) most)
 
     empty-keeps : (empty : Option ℕ) → Keeps held (try_empty cost most held id parts empty k t)
     empty-keeps None = normal-keeps
-    empty-keeps (Some prim) = attempt-keeps cost no_tail no_far most id parts (Some prim) (Trial id next.Normal ∷ k) t (nat_lt (length t.nodes) most)
+    empty-keeps (Some prim) = attempt-keeps cost no_tail no_far most id parts (Empty prim) (Trial id next.Normal ∷ k) t (nat_lt (length t.nodes) most)
 
     nil-keeps : (nil : Option ℕ) → Keeps held (try_nil cost most held id parts nil k t)
     nil-keeps None = empty-keeps parts.tried.empty
-    nil-keeps (Some prim) = attempt-keeps cost no_tail no_far most id parts (Some prim) (Trial id next.Empty ∷ k) t (nat_lt (length t.nodes) most)
+    nil-keeps (Some prim) = attempt-keeps cost no_tail no_far most id parts (Nil prim) (Trial id next.Empty ∷ k) t (nat_lt (length t.nodes) most)
 
   element-keeps : (most id : ℕ) (parts : Parts) (k : List Frame) (several : Bool)
-      → Keeps held (cond several (try_nil two_rows most held id parts parts.tried.nil k (marked s)) (attempt two_rows most held id parts None k s))
+      → Keeps held (cond several (try_nil two_rows most held id parts parts.tried.nil k (marked s)) (attempt two_rows most held id parts Nothing k s))
   element-keeps most id parts k true = nil-keeps two_rows refl refl most id parts k (marked s) parts.tried.nil
-  element-keeps most id parts k false = attempt-keeps two_rows refl refl most id parts None k s (nat_lt (length s.nodes) most)
+  element-keeps most id parts k false = attempt-keeps two_rows refl refl most id parts Nothing k s (nat_lt (length s.nodes) most)
 
   retry-keeps : (most id : ℕ) (parts : Option Parts) (follows : Next) (end_told : End) (k : List Frame) → Keeps held (retry most held id parts follows end_told k s)
   retry-keeps most id None follows end_told k = pass-keeps nothing held _ _ _ refl refl
   retry-keeps most id (Some parts) next.Empty end_told k = empty-keeps one_row refl refl most id parts k (back s) parts.tried.empty
   retry-keeps most id (Some parts) next.Normal end_told k = normal-keeps one_row refl refl most id parts k (back s)
   retry-keeps most id (Some parts) next.Nothing end_told k = pass-keeps nothing held _ _ _ refl refl
+
+  refused-keeps : (marks : List Mark) (k : List Frame) → Keeps held (refused marks held k s)
+  refused-keeps [] k = pass-keeps nothing held _ _ _ refl refl
+  refused-keeps (mark ∷ outer) k = pass-keeps nothing held _ _ _ refl refl
+
+  empty-found-keeps : (refuses : Bool) (k : List Frame) → Keeps held (cond refuses (refused s.marks held k s) (pass nothing held (Leave Done) k (closed s)))
+  empty-found-keeps true k = refused-keeps s.marks k
+  empty-found-keeps false k = pass-keeps nothing held _ _ _ refl refl
+
+  done-keeps : (parts : Option Parts) (follows : Next) (k : List Frame) → Keeps held (trial_done held parts follows k s)
+  done-keeps None follows k = pass-keeps nothing held _ _ _ refl refl
+  done-keeps (Some parts) next.Empty k = pass-keeps nothing held _ _ _ refl refl
+  done-keeps (Some parts) next.Normal k = empty-found-keeps parts.tried.refuses_empty k
+  done-keeps (Some parts) next.Nothing k = pass-keeps nothing held _ _ _ refl refl
+
+  delimiter-keeps : (delimiter : Delimiter) (terminates : Bool) (k : List Frame) (does_stand : Bool)
+      → Keeps held (cond does_stand (pass one_row held (Seek delimiter.list terminates) k s) (pass one_row held (Leave Done) k s))
+  delimiter-keeps delimiter terminates k true = pass-keeps one_row held _ _ _ refl refl
+  delimiter-keeps delimiter terminates k false = pass-keeps one_row held _ _ _ refl refl
+
+  seek-keeps : Anchored held (record s { at = aligned 8 s.at }) → (limits : Limits) (delimiters : List Delimiters) (list : ℕ) (terminates : Bool) (k : List Frame)
+      → Keeps held (search limits delimiters held list terminates k s)
+  seek-keeps stands limits delimiters list terminates k =
+      let low : ℕ = anchor_at s (aligned 8 s.at) in
+      let sight : Held = from_byte held low in
+      let lists : List Opened = among delimiters list terminates s in
+      let ends : end_of sight ≡ end_of held = end_from held low stands.base stands.end in
+      let from = sought-from lists low s.at s.stop stands.low in
+      record {
+        slid = record { size = refl; ended = refl; end = ends; base = stands.base };
+        agrees = λ whole agrees. agrees_from held whole low stands.base stands.end agrees;
+        tail = λ on. (kept sight on (sought_among lists s.at s.stop) from nothing).0;
+        far = λ on. let most = (kept sight on (sought_among lists s.at s.stop) from nothing).1 in omega (arith, most, ends);
+      }
 
   group-keeps : (id : ℕ) (children : List ℕ) (k : List Frame) → Keeps held (enter_group held id children k s)
   group-keeps id [] k = pass-keeps one_row held _ _ _ refl refl
@@ -259,6 +304,9 @@ module _ (held : Held) (s : State) where
   enter-keeps stands limits table id (Some (Skip bits)) k = begin-keeps (s.at + bits) k (nat_le (s.at + bits) s.at) (nat_le (s.at + bits) s.stop)
   enter-keeps stands limits table id (Some (Align bits)) k =
       begin-keeps (aligned bits s.at) k (nat_le (aligned bits s.at) s.at) (nat_le (aligned bits s.at) s.stop)
+  enter-keeps stands limits table id (Some (Initiator delimiter)) k = delimiter-keeps delimiter false k (stands_in s.instead delimiter)
+  enter-keeps stands limits table id (Some (Terminator delimiter)) k = delimiter-keeps delimiter true k (stands_in s.instead delimiter)
+  enter-keeps stands limits table id (Some (Scope list body)) k = pass-keeps one_row held _ _ _ refl refl
   enter-keeps stands limits table id (Some (Boxed bits body)) k = record {
     slid = record { size = refl; ended = refl; end = refl; base = omega arith };
     agrees = λ whole agrees. agrees;
@@ -284,7 +332,10 @@ module _ (held : Held) (s : State) where
   leave-keeps limits table (Box outer) Done k = leave-box-keeps outer k (nat_le s.stop s.at)
   leave-keeps limits table (Box outer) (Failed cause bit) k = pass-keeps nothing held _ _ _ refl refl
   leave-keeps limits table (Box outer) (Stopped cause quantity) k = pass-keeps nothing held _ _ _ refl refl
-  leave-keeps limits table (Trial id next) Done k = pass-keeps nothing held _ _ _ refl refl
+  leave-keeps limits table (ScopeFrame count) Done k = pass-keeps nothing held _ _ _ refl refl
+  leave-keeps limits table (ScopeFrame count) (Failed cause bit) k = pass-keeps nothing held _ _ _ refl refl
+  leave-keeps limits table (ScopeFrame count) (Stopped cause quantity) k = pass-keeps nothing held _ _ _ refl refl
+  leave-keeps limits table (Trial id next) Done k = done-keeps (parts_of (slice_get table.rows id)) next k
   leave-keeps limits table (Trial id next) (Failed cause bit) k = retry-keeps limits.nodes id (parts_of (slice_get table.rows id)) next (Failed cause bit) k
   leave-keeps limits table (Trial id next) (Stopped cause quantity) k = pass-keeps nothing held _ _ _ refl refl
 
@@ -293,5 +344,6 @@ module _ (held : Held) (s : State) where
   step-keeps limits table (Pass to) k stands = fill-keeps limits to k stands
   step-keeps limits table (PassRest bit outer) k stands = rest-keeps limits bit outer k stands
   step-keeps limits table (Sized prim size) k stands = sized-keeps stands limits prim size (nil_values table.primitives s.instead) (slice_get table.primitives prim) k
+  step-keeps limits table (Seek list terminates) k stands = seek-keeps stands limits table.delimiters list terminates k
   step-keeps limits table (Leave end_told) [] stands = pass-keeps nothing held _ _ _ refl refl
   step-keeps limits table (Leave end_told) (frame ∷ k) stands = leave-keeps limits table frame end_told k

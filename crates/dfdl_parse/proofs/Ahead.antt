@@ -13,7 +13,7 @@ use Rattle.dfdl_value.specs.declared.value.Value.{Value}
 use Rattle.dfdl_terms.specs.declared.row.Primitive.{Primitive}
 use Rattle.dfdl_grammar.specs.Leaves.{nil_values, read_by}
 use Rattle.dfdl_terms.specs.declared.row.Row.{Row}
-use Rattle.dfdl_terms.specs.declared.row.Row.TheVariants.{Leaf, Elem, Group, Skip, Align, Boxed, PrefixedLeaf, PrefixedBox}
+use Rattle.dfdl_terms.specs.declared.row.Row.TheVariants.{Leaf, Elem, Group, Skip, Align, Initiator, Terminator, Scope, Boxed, PrefixedLeaf, PrefixedBox}
 use Rattle.dfdl_terms.specs.Rows.{Table, Nests}
 use Rattle.dfdl_looks.specs.Looks.{seen_in}
 use Rattle.dfdl_looks.specs.Asks.{Answer, Reading}
@@ -23,9 +23,13 @@ use Rattle.dfdl_grammar.specs.declared.end.End.{End}
 use Rattle.dfdl_grammar.specs.declared.end.End.TheVariants.{Done, Failed, Stopped}
 use Rattle.dfdl_grammar.specs.States.{Input, State, anchor_at}
 use Rattle.dfdl_grammar.specs.Marks.{back, closed, marked}
-use Rattle.dfdl_grammar.specs.Representations.{then_empty, then_nil, then_normal}
+use Rattle.dfdl_grammar.specs.declared.mark.Mark.{Mark}
+use Rattle.dfdl_grammar.specs.Delimiters.{closes_to, stands_in}
+use Rattle.dfdl_grammar.specs.declared.instead.Instead.{Instead}
+use Rattle.dfdl_grammar.specs.declared.instead.Instead.TheVariants.{Nothing, Nil, Empty}
+use Rattle.dfdl_grammar.specs.Representations.{after_empty, or_else, refused_among, then_empty, then_nil, then_normal}
 use Rattle.dfdl_grammar.specs.Outcomes.{Outcome, ended, spend, then_do}
-use Rattle.dfdl_report.specs.declared.cause.ParseCause.TheVariants.{DataEnds, LengthOutOfRange}
+use Rattle.dfdl_report.specs.declared.cause.ParseCause.TheVariants.{DataEnds, LengthOutOfRange, RequiredEmpty}
 use Rattle.dfdl_grammar.specs.Prefixes.{bits_of_units, size_of, sized_leaf}
 use Rattle.dfdl_grammar.specs.Framing.{aligned, fill_to, passed}
 use Rattle.dfdl_grammar.specs.Boxes.{boxed, bytes_up_to, pass_bytes, past_byte, rest, unboxed}
@@ -34,26 +38,29 @@ use Rattle.dfdl_grammar.specs.Rows.{below, group, meaning, row}
 use Rattle.dfdl_grammar.proofs.Spending.{spend-nothing, spend-spend}
 use Rattle.dfdl_grammar.proofs.Towers.{below-meaning}
 use Rattle.dfdl_parse.specs.declared.frame.Frame.{Frame}
-use Rattle.dfdl_parse.specs.declared.frame.Frame.TheVariants.{Rest, Element, Box, Trial}
+use Rattle.dfdl_parse.specs.declared.frame.Frame.TheVariants.{Rest, Element, Box, Scope as ScopeFrame, Trial}
+use Rattle.dfdl_parse.specs.declared.frame.Outside.{Outside}
 use Rattle.dfdl_parse.specs.declared.frame.Next.{Next}
 use Rattle.dfdl_parse.specs.declared.frame.Next.TheVariants as next
 use Rattle.dfdl_parse.specs.declared.frame.Parts.{Parts}
 use Rattle.dfdl_parse.specs.declared.frame.Focus.{Focus}
-use Rattle.dfdl_parse.specs.declared.frame.Focus.TheVariants.{Enter, Pass, PassRest, Sized, Leave}
+use Rattle.dfdl_parse.specs.declared.frame.Focus.TheVariants.{Enter, Pass, PassRest, Sized, Seek, Leave}
 use Rattle.dfdl_parse.specs.declared.frame.Behind.TheVariants as behind
+use Rattle.dfdl_parse.specs.Boxing.{back_outside, hides}
 use Rattle.dfdl_parse.specs.Moves.{pass}
 use Rattle.dfdl_parse.specs.Prefixed.{behind_units}
 use Rattle.dfdl_parse.specs.Machines.{children_of, enter, enter_group, fill, fill_move, go_on, leave, pass_rest, rest_move, seen_beyond, step}
-use Rattle.dfdl_parse.specs.Trials.{attempt, parts_of, retry, try_empty, try_nil, try_normal, two_rows}
+use Rattle.dfdl_parse.specs.Trials.{attempt, parts_of, refused, retry, trial_done, try_empty, try_nil, try_normal, two_rows}
 use Rattle.dfdl_parse.specs.Ahead.{finish, focused, retried, trial_of}
 use Rattle.dfdl_parse.proofs.Lists.{drop_some, drop_none, all_at}
 use Rattle.dfdl_parse.proofs.Beyond.{beyond-same}
 use Rattle.dfdl_parse.proofs.Finishes.{Anchored, Does, Fits, after_nothing, finish-spend, from_here, retried-spend, unboxed-spend}
+use Rattle.dfdl_parse.proofs.SeekSteps.{delimiter-ahead, scope-ahead, seek-ahead}
 use Rattle.dfdl_parse.proofs.LeafSteps.{Sees, box-ahead, leaf-of, prefix-of, sized-begin, sized-of}
 
 module _ (input : Input) (table : Table) where
   -- one representation of an element, where the costs before it are given
-  attempt-ahead : (cost : Tally) (held : Held) (id : ℕ) (parts : Parts) (instead : Option ℕ) (k : List Frame) (s : State) → parts.body < id → (room : Bool)
+  attempt-ahead : (cost : Tally) (held : Held) (id : ℕ) (parts : Parts) (instead : Instead) (k : List Frame) (s : State) → parts.body < id → (room : Bool)
       → Does input table
       (finish input table k (spend cost (spend one_row (cond room
       (let o : Outcome = below input table id parts.body (begun id instead s) in close o.end s.inside parts.complex o)
@@ -88,30 +95,30 @@ module _ (input : Input) (table : Table) where
     normal-ahead : Does input table (finish input table k (spend cost (then_normal (trial_of input table id parts) s)))
         (try_normal (plus cost one_row) input.limits.nodes held id parts k s)
     normal-ahead =
-        tried-ahead cost id parts next.Nothing (trial_of input table id parts None s) k is
-        ∙ attempt-ahead cost held id parts None (Trial id next.Nothing ∷ k) s less room
+        tried-ahead cost id parts next.Nothing (trial_of input table id parts Nothing s) k is
+        ∙ attempt-ahead cost held id parts Nothing (Trial id next.Nothing ∷ k) s less room
 
-    empty-ahead : (empty : Option ℕ) → Does input table (finish input table k (spend cost (then_empty empty (trial_of input table id parts) s)))
+    empty-ahead : (empty : Option ℕ) → Does input table (finish input table k (spend cost (then_empty parts.tried.refuses_empty empty (trial_of input table id parts) s)))
         (try_empty (plus cost one_row) input.limits.nodes held id parts empty k s)
     empty-ahead None = normal-ahead
     empty-ahead (Some prim) =
-        tried-ahead cost id parts next.Normal (trial_of input table id parts (Some prim) s) k is
-        ∙ attempt-ahead cost held id parts (Some prim) (Trial id next.Normal ∷ k) s less room
+        tried-ahead cost id parts next.Normal (trial_of input table id parts (Empty prim) s) k is
+        ∙ attempt-ahead cost held id parts (Empty prim) (Trial id next.Normal ∷ k) s less room
 
-    nil-ahead : (nil : Option ℕ) → Does input table (finish input table k (spend cost (then_nil nil parts.tried.empty (trial_of input table id parts) s)))
+    nil-ahead : (nil : Option ℕ) → Does input table (finish input table k (spend cost (then_nil parts.tried nil (trial_of input table id parts) s)))
         (try_nil (plus cost one_row) input.limits.nodes held id parts nil k s)
     nil-ahead None = empty-ahead parts.tried.empty
     nil-ahead (Some prim) =
-        tried-ahead cost id parts next.Empty (trial_of input table id parts (Some prim) s) k is
-        ∙ attempt-ahead cost held id parts (Some prim) (Trial id next.Empty ∷ k) s less room
+        tried-ahead cost id parts next.Empty (trial_of input table id parts (Nil prim) s) k is
+        ∙ attempt-ahead cost held id parts (Nil prim) (Trial id next.Empty ∷ k) s less room
 
   element-ahead : (held : Held) (id : ℕ) (parts : Parts) (k : List Frame) (s : State) → parts_of (slice_get table.rows id) ≡ Some parts → parts.body < id → (several : Bool)
       → Does input table
       (finish input table k (spend one_row (cond several
-      (then_nil parts.tried.nil parts.tried.empty (trial_of input table id parts) (marked s)) (trial_of input table id parts None s))))
-      (cond several (try_nil two_rows input.limits.nodes held id parts parts.tried.nil k (marked s)) (attempt two_rows input.limits.nodes held id parts None k s))
+      (then_nil parts.tried parts.tried.nil (trial_of input table id parts) (marked s)) (trial_of input table id parts Nothing s))))
+      (cond several (try_nil two_rows input.limits.nodes held id parts parts.tried.nil k (marked s)) (attempt two_rows input.limits.nodes held id parts Nothing k s))
   element-ahead held id parts k s is less true = nil-ahead one_row held id parts k (marked s) is less parts.tried.nil
-  element-ahead held id parts k s is less false = attempt-ahead one_row held id parts None k s less (nat_lt (length s.nodes) input.limits.nodes)
+  element-ahead held id parts k s is less false = attempt-ahead one_row held id parts Nothing k s less (nat_lt (length s.nodes) input.limits.nodes)
 
   -- the body of an element stands below it
   body-below : Nests table.rows → (id : ℕ) (parts : Parts) (r : Option Row) → slice_get table.rows id ≡ r → parts_of r ≡ Some parts → parts.body < id
@@ -123,26 +130,53 @@ module _ (input : Input) (table : Table) where
   body-below nests id parts (Some (Group children)) is told = absurd (cc)
   body-below nests id parts (Some (Skip bits)) is told = absurd (cc)
   body-below nests id parts (Some (Align bits)) is told = absurd (cc)
+  body-below nests id parts (Some (Initiator delimiter)) is told = absurd (cc)
+  body-below nests id parts (Some (Terminator delimiter)) is told = absurd (cc)
+  body-below nests id parts (Some (Scope list body)) is told = absurd (cc)
   body-below nests id parts (Some (Boxed bits body)) is told = absurd (cc)
   body-below nests id parts (Some (PrefixedLeaf prefix prim)) is told = absurd (cc)
   body-below nests id parts (Some (PrefixedBox prefix body)) is told = absurd (cc)
 
   -- a representation that is done
-  done-trial : (id : ℕ) (parts : Option Parts) (follows : Next) (s : State) → retried input table id parts follows (ended Done s) ≡ ended Done (closed s)
-  done-trial id None follows s = refl
-  done-trial id (Some parts) next.Empty s = refl
-  done-trial id (Some parts) next.Normal s = refl
-  done-trial id (Some parts) next.Nothing s = refl
+  refused-trial : (held : Held) (marks : List Mark) (k : List Frame) (s : State)
+      → Does input table (finish input table k (refused_among marks (ended Done s))) (refused marks held k s)
+  refused-trial held [] k s = after_nothing input table k (ended Done s)
+  refused-trial held (mark ∷ outer) k s =
+      after_nothing input table k (ended (Failed RequiredEmpty mark.at) (closed (record s { inside = mark.nodes })))
+
+  empty-trial : (held : Held) (next : State → Outcome) (refuses : Bool) (k : List Frame) (s : State)
+      → Does input table (finish input table k (after_empty refuses (ended Done s) next))
+      (cond refuses (refused s.marks held k s) (pass nothing held (Leave Done) k (closed s)))
+  empty-trial held next true k s = refused-trial held s.marks k s
+  empty-trial held next false k s = after_nothing input table k (ended Done (closed s))
+
+  done-trial : (held : Held) (id : ℕ) (parts : Option Parts) (follows : Next) (k : List Frame) (s : State)
+      → Does input table (finish input table k (retried input table id parts follows (ended Done s))) (trial_done held parts follows k s)
+  done-trial held id None follows k s = after_nothing input table k (ended Done (closed s))
+  done-trial held id (Some parts) next.Empty k s = after_nothing input table k (ended Done (closed s))
+  done-trial held id (Some parts) next.Normal k s =
+      empty-trial held (then_normal (trial_of input table id parts)) parts.tried.refuses_empty k s
+  done-trial held id (Some parts) next.Nothing k s = after_nothing input table k (ended Done (closed s))
 
   -- and one that has come to a limit
+  stopped-empty : (next : State → Outcome) (refuses : Bool) (cause : LimitCause) (quantity : ℕ) (s : State)
+      → after_empty refuses (ended (Stopped cause quantity) s) next ≡ ended (Stopped cause quantity) s
+  stopped-empty next true cause quantity s = refl
+  stopped-empty next false cause quantity s = refl
+
   stopped-trial : (id : ℕ) (parts : Option Parts) (follows : Next) (cause : LimitCause) (quantity : ℕ) (s : State)
       → retried input table id parts follows (ended (Stopped cause quantity) s) ≡ ended (Stopped cause quantity) s
   stopped-trial id None follows cause quantity s = refl
   stopped-trial id (Some parts) next.Empty cause quantity s = refl
-  stopped-trial id (Some parts) next.Normal cause quantity s = refl
+  stopped-trial id (Some parts) next.Normal cause quantity s = stopped-empty (then_normal (trial_of input table id parts)) parts.tried.refuses_empty cause quantity s
   stopped-trial id (Some parts) next.Nothing cause quantity s = refl
 
   -- and one that has failed
+  failed-empty : (next : State → Outcome) (refuses : Bool) (cause : ParseCause) (bit : ℕ) (s : State)
+      → after_empty refuses (ended (Failed cause bit) s) next ≡ or_else (Failed cause bit) (ended (Failed cause bit) s) next
+  failed-empty next true cause bit s = refl
+  failed-empty next false cause bit s = refl
+
   retry-ahead : Nests table.rows → (held : Held) (id : ℕ) (parts : Option Parts) (follows : Next) (cause : ParseCause) (bit : ℕ) (k : List Frame) (s : State)
       → parts_of (slice_get table.rows id) ≡ parts
       → Does input table (finish input table k (retried input table id parts follows (ended (Failed cause bit) s)))
@@ -151,7 +185,8 @@ module _ (input : Input) (table : Table) where
   retry-ahead nests held id (Some parts) next.Empty cause bit k s is =
       empty-ahead nothing held id parts k (back s) is (body-below nests id parts (slice_get table.rows id) refl is) parts.tried.empty
   retry-ahead nests held id (Some parts) next.Normal cause bit k s is =
-      normal-ahead nothing held id parts k (back s) is (body-below nests id parts (slice_get table.rows id) refl is)
+      ap (finish input table k) (failed-empty (then_normal (trial_of input table id parts)) parts.tried.refuses_empty cause bit s)
+      ∙ normal-ahead nothing held id parts k (back s) is (body-below nests id parts (slice_get table.rows id) refl is)
   retry-ahead nests held id (Some parts) next.Nothing cause bit k s is = after_nothing input table k (ended (Failed cause bit) (closed s))
 
   -- fill begins
@@ -198,45 +233,45 @@ module _ (input : Input) (table : Table) where
       ∙ filled-ahead sight to seen k s going
 
   -- what follows a byte of the rest of a box
-  abbrev pub after_one : ℕ → ℕ → State → Outcome
-  after_one byte outer s = let o : Outcome = pass_bytes input (bytes_up_to s.stop (byte + 1)) (byte + 1) s in unboxed o.end outer o
+  abbrev pub after_one : ℕ → Outside → State → Outcome
+  after_one byte outer s = let o : Outcome = pass_bytes input (bytes_up_to s.stop (byte + 1)) (byte + 1) s in unboxed o.end outer.stop outer.hidden o
 
-  past-ahead : (sight : Held) (byte outer : ℕ) (k : List Frame) (s : State) (last : Bool) → nat_le ((s.stop - 1) / 8) byte ≡ last
+  past-ahead : (sight : Held) (byte : ℕ) (outer : Outside) (k : List Frame) (s : State) (last : Bool) → nat_le ((s.stop - 1) / 8) byte ≡ last
       → Does input table (finish input table k (spend (saw_byte byte nothing) (after_one byte outer s)))
-      (cond last (pass (saw_byte byte nothing) sight (Leave Done) k (record s { at = s.stop; stop = outer }))
+      (cond last (pass (saw_byte byte nothing) sight (Leave Done) k (back_outside outer (record s { at = s.stop })))
       (pass (saw_byte byte nothing) sight (PassRest (8 * (byte + 1)) outer) k s))
   past-ahead sight byte outer k s true is =
       let none : bytes_up_to s.stop (byte + 1) ≡ 0 = grind (arith, nat_tests) in
       finish-spend input table k (saw_byte byte nothing) (after_one byte outer s)
       ∙ ap (λ (n : ℕ). spend (saw_byte byte nothing) (finish input table k
-      (unboxed (pass_bytes input n (byte + 1) s).end outer (pass_bytes input n (byte + 1) s)))) none
+      (unboxed (pass_bytes input n (byte + 1) s).end outer.stop outer.hidden (pass_bytes input n (byte + 1) s)))) none
   past-ahead sight byte outer k s false is =
       let at : byte + 1 ≡ 8 * (byte + 1) / 8 = omega arith in
       finish-spend input table k (saw_byte byte nothing) (after_one byte outer s)
       ∙ ap (λ (b : ℕ). spend (saw_byte byte nothing) (finish input table k
-      (unboxed (pass_bytes input (bytes_up_to s.stop b) b s).end outer (pass_bytes input (bytes_up_to s.stop b) b s)))) at
+      (unboxed (pass_bytes input (bytes_up_to s.stop b) b s).end outer.stop outer.hidden (pass_bytes input (bytes_up_to s.stop b) b s)))) at
 
   -- the outcome of the rest of a box from a byte on that is seen as this
-  abbrev pub rested : ℕ → ℕ → Seen → State → Outcome
+  abbrev pub rested : ℕ → Outside → Seen → State → Outcome
   rested byte outer v s =
       let reading : Reading Bool = on_seen (seen_in input.bytes input.limits.window (anchor_at s (8 * byte))) (λ b. Answer (is_some b)) byte nothing v in
       let o : Outcome = spend reading.tally (past_byte input.limits.window reading.reached (pass_bytes input (bytes_up_to s.stop (byte + 1)) (byte + 1)) s) in
-      unboxed o.end outer o
+      unboxed o.end outer.stop outer.hidden o
 
-  rested-ahead : (sight : Held) (bit outer : ℕ) (v : Seen) (k : List Frame) (s : State)
+  rested-ahead : (sight : Held) (bit : ℕ) (outer : Outside) (v : Seen) (k : List Frame) (s : State)
       → (rest_move input.limits.window sight bit outer v k s).waits ≡ false
       → Does input table (finish input table k (rested (bit / 8) outer v s)) (rest_move input.limits.window sight bit outer v k s)
   rested-ahead sight bit outer (Byte b) k s going =
       let byte : ℕ = bit / 8 in
       let o : Outcome = pass_bytes input (bytes_up_to s.stop (byte + 1)) (byte + 1) s in
-      ap (finish input table k) (unboxed-spend o.end (saw_byte byte nothing) outer o)
+      ap (finish input table k) (unboxed-spend o.end (saw_byte byte nothing) outer.stop outer.hidden o)
       ∙ past-ahead sight byte outer k s (nat_le ((s.stop - 1) / 8) byte) refl
-  rested-ahead sight bit outer DataEnded k s going = finish-spend input table k (saw_end (bit / 8) nothing) (ended (Failed DataEnds s.at) s)
+  rested-ahead sight bit outer DataEnded k s going = finish-spend input table k (saw_end (bit / 8) nothing) (ended (Failed DataEnds s.at) (hides outer.hidden s))
   rested-ahead sight bit outer NotYet k s going = absurd (cc)
   rested-ahead sight bit outer Over k s going = finish-spend input table k (saw_none nothing) (ended (Stopped Window input.limits.window) s)
 
   -- a look at the rest that isn't in vain
-  rest-came : (window : ℕ) (sight : Held) (bit outer : ℕ) (v : Seen) (k : List Frame) (s : State)
+  rest-came : (window : ℕ) (sight : Held) (bit : ℕ) (outer : Outside) (v : Seen) (k : List Frame) (s : State)
       → (rest_move window sight bit outer v k s).waits ≡ false → v ≡ NotYet → ⊥
   rest-came window sight bit outer (Byte b) k s going is = absurd (cc)
   rest-came window sight bit outer DataEnded k s going is = absurd (cc)
@@ -244,15 +279,15 @@ module _ (input : Input) (table : Table) where
   rest-came window sight bit outer Over k s going is = absurd (cc)
 
   -- the rest of a box has a byte
-  pub rest-seen : (bit outer : ℕ) (k : List Frame) (s : State) → bit < s.stop
+  pub rest-seen : (bit : ℕ) (outer : Outside) (k : List Frame) (s : State) → bit < s.stop
       → from_here input table (PassRest bit outer) k s
       ≡ finish input table k (rested (bit / 8) outer (seen_in input.bytes input.limits.window (anchor_at s (8 * (bit / 8))) (bit / 8)) s)
   rest-seen bit outer k s inside =
       let byte : ℕ = bit / 8 in
       let some : bytes_up_to s.stop byte ≡ suc (bytes_up_to s.stop (byte + 1)) = omega arith in
-      ap (λ (n : ℕ). finish input table k (unboxed (pass_bytes input n byte s).end outer (pass_bytes input n byte s))) some
+      ap (λ (n : ℕ). finish input table k (unboxed (pass_bytes input n byte s).end outer.stop outer.hidden (pass_bytes input n byte s))) some
 
-  rest-of : (held : Held) (bit outer : ℕ) (k : List Frame) (s : State) → Fits held input (PassRest bit outer) s
+  rest-of : (held : Held) (bit : ℕ) (outer : Outside) (k : List Frame) (s : State) → Fits held input (PassRest bit outer) s
       → (pass_rest input.limits held bit outer k s).waits ≡ false
       → Does input table (from_here input table (PassRest bit outer) k s) (pass_rest input.limits held bit outer k s)
   rest-of held bit outer k s fits going =
@@ -268,11 +303,11 @@ module _ (input : Input) (table : Table) where
       ∙ rested-ahead sight bit outer seen k s going
 
   -- a box ends, or its rest begins
-  leave-box : (held : Held) (outer : ℕ) (k : List Frame) (s : State) (over : Bool) → nat_le s.stop s.at ≡ over
+  leave-box : (held : Held) (outer : Outside) (k : List Frame) (s : State) (over : Bool) → nat_le s.stop s.at ≡ over
       → Does input table
-      (finish input table k (let o : Outcome = cond over (ended Done s) (pass_bytes input (bytes_up_to s.stop (s.at / 8)) (s.at / 8) s) in unboxed o.end outer o))
-      (cond over (pass nothing held (Leave Done) k (record s { stop = outer })) (pass nothing held (PassRest s.at outer) k s))
-  leave-box held outer k s true is = after_nothing input table k (ended Done (record s { stop = outer }))
+      (finish input table k (let o : Outcome = cond over (ended Done s) (pass_bytes input (bytes_up_to s.stop (s.at / 8)) (s.at / 8) s) in unboxed o.end outer.stop outer.hidden o))
+      (cond over (pass nothing held (Leave Done) k (back_outside outer s)) (pass nothing held (PassRest s.at outer) k s))
+  leave-box held outer k s true is = after_nothing input table k (ended Done (back_outside outer s))
   leave-box held outer k s false is = after_nothing input table k (focused input table (PassRest s.at outer) s)
 
   group-ahead : (held : Held) (id : ℕ) (children : List ℕ) (k : List Frame) (s : State) → slice_get table.rows id ≡ Some (Group children)
@@ -305,6 +340,11 @@ module _ (input : Input) (table : Table) where
   enter-ahead nests held id (Some (Skip bits)) k s is fits going = enter-fill held (s.at + bits) k s (nat_le (s.at + bits) s.at) (nat_le (s.at + bits) s.stop)
   enter-ahead nests held id (Some (Align bits)) k s is fits going =
       enter-fill held (aligned bits s.at) k s (nat_le (aligned bits s.at) s.at) (nat_le (aligned bits s.at) s.stop)
+  enter-ahead nests held id (Some (Initiator delimiter)) k s is fits going = delimiter-ahead input table held delimiter false k s (stands_in s.instead delimiter)
+  enter-ahead nests held id (Some (Terminator delimiter)) k s is fits going = delimiter-ahead input table held delimiter true k s (stands_in s.instead delimiter)
+  enter-ahead nests held id (Some (Scope list body)) k s is fits going =
+      let less : body < id = nests id (Scope list body) (slice_get_within table.rows id (Scope list body) is) is in
+      scope-ahead input table held id list body k s less
   enter-ahead nests held id (Some (Boxed bits body)) k s is fits going =
       let less : body < id = nests id (Boxed bits body) (slice_get_within table.rows id (Boxed bits body) is) is in
       finish-spend input table k one_row (boxed input bits (below input table id body) s)
@@ -333,6 +373,9 @@ module _ (input : Input) (table : Table) where
   children-below nests id (Some (Group children)) is = nests id (Group children) (slice_get_within table.rows id (Group children) is) is
   children-below nests id (Some (Skip bits)) is = λ i row less. absurd (omega arith)
   children-below nests id (Some (Align bits)) is = λ i row less. absurd (omega arith)
+  children-below nests id (Some (Initiator delimiter)) is = λ i row less. absurd (omega arith)
+  children-below nests id (Some (Terminator delimiter)) is = λ i row less. absurd (omega arith)
+  children-below nests id (Some (Scope list body)) is = λ i row less. absurd (omega arith)
   children-below nests id (Some (Boxed bits body)) is = λ i row less. absurd (omega arith)
   children-below nests id (Some (PrefixedLeaf prefix prim)) is = λ i row less. absurd (omega arith)
   children-below nests id (Some (PrefixedBox prefix body)) is = λ i row less. absurd (omega arith)
@@ -363,12 +406,14 @@ module _ (input : Input) (table : Table) where
   leave-ahead nests held (Element outer complex) (Failed cause bit) k s = after_nothing input table k (ended (Failed cause bit) s)
   leave-ahead nests held (Element outer complex) (Stopped cause quantity) k s = after_nothing input table k (ended (Stopped cause quantity) s)
   leave-ahead nests held (Box outer) Done k s =
-      ap (λ (o : Outcome). finish input table k (unboxed o.end outer o)) (spend-nothing (rest input s))
+      ap (λ (o : Outcome). finish input table k (unboxed o.end outer.stop outer.hidden o)) (spend-nothing (rest input s))
       ∙ leave-box held outer k s (nat_le s.stop s.at) refl
-  leave-ahead nests held (Box outer) (Failed cause bit) k s = after_nothing input table k (ended (Failed cause bit) s)
+  leave-ahead nests held (Box outer) (Failed cause bit) k s = after_nothing input table k (ended (Failed cause bit) (hides outer.hidden s))
   leave-ahead nests held (Box outer) (Stopped cause quantity) k s = after_nothing input table k (ended (Stopped cause quantity) s)
-  leave-ahead nests held (Trial id next) Done k s =
-      ap (finish input table k) (done-trial id (parts_of (slice_get table.rows id)) next s) ∙ after_nothing input table k (ended Done (closed s))
+  leave-ahead nests held (ScopeFrame count) Done k s = after_nothing input table k (ended Done (closes_to count s))
+  leave-ahead nests held (ScopeFrame count) (Failed cause bit) k s = after_nothing input table k (ended (Failed cause bit) (closes_to count s))
+  leave-ahead nests held (ScopeFrame count) (Stopped cause quantity) k s = after_nothing input table k (ended (Stopped cause quantity) s)
+  leave-ahead nests held (Trial id next) Done k s = done-trial held id (parts_of (slice_get table.rows id)) next k s
   leave-ahead nests held (Trial id next) (Failed cause bit) k s = retry-ahead nests held id (parts_of (slice_get table.rows id)) next cause bit k s refl
   leave-ahead nests held (Trial id next) (Stopped cause quantity) k s =
       ap (finish input table k) (stopped-trial id (parts_of (slice_get table.rows id)) next cause quantity s)
@@ -383,5 +428,7 @@ module _ (input : Input) (table : Table) where
   step-ahead nests held (PassRest bit outer) k s fits going = rest-of held bit outer k s fits going
   step-ahead nests held (Sized prim size) k s fits going =
       sized-of input table held prim size (nil_values table.primitives s.instead) (slice_get table.primitives prim) k s (sees held s fits.stands fits) going
+  step-ahead nests held (Seek list terminates) k s fits going =
+      seek-ahead input table held list terminates k s fits.agrees fits.size fits.stands going
   step-ahead nests held (Leave end) [] s fits going = after_nothing input table [] (ended end s)
   step-ahead nests held (Leave end) (frame ∷ k) s fits going = leave-ahead nests held frame end k s

@@ -8,8 +8,11 @@ use Rattle.dfdl_report.specs.declared.cause.LimitCause.TheVariants.{Nodes}
 use Rattle.dfdl_report.specs.declared.cause.ParseCause.TheVariants.{LengthOutOfRange}
 use Rattle.dfdl_value.specs.declared.value.Value.{Value}
 use Rattle.dfdl_terms.specs.declared.row.Primitive.{Primitive}
+use Rattle.dfdl_report.specs.declared.cause.ParseCause.{ParseCause}
+use Rattle.dfdl_delims.specs.Longest.{Longest}
+use Rattle.dfdl_terms.specs.declared.delimiters.Delimiter.{Delimiter}
 use Rattle.dfdl_terms.specs.declared.row.Row.{Row}
-use Rattle.dfdl_terms.specs.declared.row.Row.TheVariants.{Leaf, Elem, Group, Skip, Align, Boxed, PrefixedLeaf, PrefixedBox}
+use Rattle.dfdl_terms.specs.declared.row.Row.TheVariants.{Leaf, Elem, Group, Skip, Align, Initiator, Terminator, Scope, Boxed, PrefixedLeaf, PrefixedBox}
 use Rattle.dfdl_terms.specs.Rows.{Table, Nests}
 use Rattle.dfdl_looks.specs.Asks.{Reached, Told, TooFar, Missing, Reading, ask}
 use Rattle.dfdl_looks.specs.Tallies.{Tally, nothing, one_row, saw_byte}
@@ -17,25 +20,33 @@ use Rattle.dfdl_grammar.specs.declared.end.End.{End}
 use Rattle.dfdl_grammar.specs.declared.end.End.TheVariants.{Done, Failed, Stopped}
 use Rattle.dfdl_grammar.specs.declared.limits.Limits.{Limits}
 use Rattle.dfdl_grammar.specs.States.{Input, State, anchor, anchor_at}
-use Rattle.dfdl_grammar.specs.Marks.{back, marked}
+use Rattle.dfdl_grammar.specs.Marks.{back, closed, marked}
+use Rattle.dfdl_grammar.specs.declared.mark.Mark.{Mark}
+use Rattle.dfdl_grammar.specs.declared.instead.Instead.{Instead}
+use Rattle.dfdl_grammar.specs.declared.instead.Instead.TheVariants.{Nothing, Nil, Empty}
 use Rattle.dfdl_grammar.specs.Outcomes.{Outcome}
 use Rattle.dfdl_terms.specs.declared.text.TextSize.{TextSize}
 use Rattle.dfdl_grammar.specs.Leaves.{Find, Fails, Finds, FindsOctets, FindsText, content_begins, has_room, nil_values, program, program_for, read_by}
 use Rattle.dfdl_grammar.specs.Prefixes.{bits_of_units, resized, size_of, units_told}
 use Rattle.dfdl_grammar.specs.Framing.{aligned}
+use Rattle.dfdl_grammar.specs.Boxes.{boxed_at}
+use Rattle.dfdl_grammar.specs.Delimiters.{sought_among, stands_in}
 use Rattle.dfdl_grammar.specs.Elements.{begun, has_elements}
 use Rattle.dfdl_parse.specs.declared.frame.Frame.{Frame}
-use Rattle.dfdl_parse.specs.declared.frame.Frame.TheVariants.{Rest, Element, Box, Trial}
+use Rattle.dfdl_parse.specs.declared.frame.Frame.TheVariants.{Rest, Element, Box, Scope as ScopeFrame, Trial}
+use Rattle.dfdl_parse.specs.declared.frame.Outside.{Outside}
 use Rattle.dfdl_parse.specs.declared.frame.Next.{Next}
 use Rattle.dfdl_parse.specs.declared.frame.Next.TheVariants as next
 use Rattle.dfdl_parse.specs.declared.frame.Parts.{Parts}
 use Rattle.dfdl_parse.specs.declared.frame.Focus.{Focus}
-use Rattle.dfdl_parse.specs.declared.frame.Focus.TheVariants.{Enter, Pass, PassRest, Sized, Leave}
+use Rattle.dfdl_parse.specs.declared.frame.Focus.TheVariants.{Enter, Pass, PassRest, Sized, Seek, Leave}
 use Rattle.dfdl_parse.specs.declared.frame.Behind.TheVariants as behind
+use Rattle.dfdl_parse.specs.Boxing.{back_outside, outside}
+use Rattle.dfdl_parse.specs.Searches.{among, cause_of, found_text, is_cut, place_of}
 use Rattle.dfdl_parse.specs.Moves.{Machine, Move, is_missing, landed, pass, read_leaf, read_move}
 use Rattle.dfdl_parse.specs.Prefixed.{at_end, behind_units, can_fit, landed_prefix, prefix_move, read_prefix, read_resized, read_sized, sized_begins, units_begin}
 use Rattle.dfdl_parse.specs.Machines.{HasEnded, children_of, enter, enter_group, fill_move, go_on, leave, rest_move, seen_beyond, step}
-use Rattle.dfdl_parse.specs.Trials.{attempt, parts_of, retry, try_empty, try_nil, try_normal, two_rows}
+use Rattle.dfdl_parse.specs.Trials.{attempt, parts_of, refused, retry, trial_done, try_empty, try_nil, try_normal, two_rows}
 use Rattle.dfdl_parse.specs.Ahead.{ahead}
 use Rattle.dfdl_parse.proofs.Finishes.{Fits}
 use Rattle.dfdl_parse.proofs.Ahead.{step-ahead}
@@ -46,6 +57,7 @@ mode (Enter id) = 0
 mode (Pass to) = 2
 mode (PassRest bit outer) = 2
 mode (Sized prim size) = 2
+mode (Seek list terminates) = 2
 mode (Leave end) = 1
 
 -- what is left to be done over some data
@@ -104,7 +116,7 @@ begun-falls prim size (Some primitive) k s = by (can_fit size s.at s.stop)
     by false = omega arith
 
 box-begun-falls : (bits body : ℕ) (k : List Frame) (s : State) (inside : Bool)
-    → left_of (cond inside (record { focus = Enter body; stack = Box s.stop ∷ k; state = record s { stop = s.at + bits } }) (at_end (Failed LengthOutOfRange s.at) k s)) ≤ 2 * length k + 2
+    → left_of (cond inside (record { focus = Enter body; stack = Box (outside s) ∷ k; state = boxed_at (s.at + bits) s }) (at_end (Failed LengthOutOfRange s.at) k s)) ≤ 2 * length k + 2
 box-begun-falls bits body k s true = omega arith
 box-begun-falls bits body k s false = omega arith
 
@@ -138,7 +150,7 @@ module _ (limits : Limits) (id own : ℕ) (next : ℕ → List Frame → State �
   prefix-falls held (Some primitive) s = prefix-in-falls held primitive s (has_room primitive s.at s.stop)
 
 -- one representation of an element, where its cost is enough for what it puts on the stack
-attempt-falls : (cost : Tally) (most : ℕ) (held : Held) (id : ℕ) (parts : Parts) (instead : Option ℕ) (k : List Frame) (s : State) (bound : ℕ)
+attempt-falls : (cost : Tally) (most : ℕ) (held : Held) (id : ℕ) (parts : Parts) (instead : Instead) (k : List Frame) (s : State) (bound : ℕ)
     → 2 * length k + 2 < 4 * (cost.rows + cost.looks) + bound → (room : Bool)
     → let move : Move = cond room
     (pass cost held (Enter parts.body) (Element s.inside parts.complex ∷ k) (begun id instead s))
@@ -153,21 +165,21 @@ module _ (cost : Tally) (most : ℕ) (held : Held) (id : ℕ) (parts : Parts) (k
   HasLess move = left_of move.machine < 4 * (move.tally.rows + move.tally.looks) + bound
 
   normal-falls : HasLess (try_normal cost most held id parts k s)
-  normal-falls = attempt-falls cost most held id parts None (Trial id next.Nothing ∷ k) s bound (omega arith) (nat_lt (length s.nodes) most)
+  normal-falls = attempt-falls cost most held id parts Nothing (Trial id next.Nothing ∷ k) s bound (omega arith) (nat_lt (length s.nodes) most)
 
   empty-falls : (empty : Option ℕ) → HasLess (try_empty cost most held id parts empty k s)
   empty-falls None = normal-falls
-  empty-falls (Some prim) = attempt-falls cost most held id parts (Some prim) (Trial id next.Normal ∷ k) s bound (omega arith) (nat_lt (length s.nodes) most)
+  empty-falls (Some prim) = attempt-falls cost most held id parts (Empty prim) (Trial id next.Normal ∷ k) s bound (omega arith) (nat_lt (length s.nodes) most)
 
   nil-falls : (nil : Option ℕ) → HasLess (try_nil cost most held id parts nil k s)
   nil-falls None = empty-falls parts.tried.empty
-  nil-falls (Some prim) = attempt-falls cost most held id parts (Some prim) (Trial id next.Empty ∷ k) s bound (omega arith) (nat_lt (length s.nodes) most)
+  nil-falls (Some prim) = attempt-falls cost most held id parts (Nil prim) (Trial id next.Empty ∷ k) s bound (omega arith) (nat_lt (length s.nodes) most)
 
 element-falls : (most : ℕ) (held : Held) (id : ℕ) (parts : Parts) (k : List Frame) (s : State) (several : Bool)
     → Falls (Enter id) k (cond several
-    (try_nil two_rows most held id parts parts.tried.nil k (marked s)) (attempt two_rows most held id parts None k s))
+    (try_nil two_rows most held id parts parts.tried.nil k (marked s)) (attempt two_rows most held id parts Nothing k s))
 element-falls most held id parts k s true = nil-falls two_rows most held id parts k (marked s) (2 * length k + mode (Enter id)) (omega arith) parts.tried.nil
-element-falls most held id parts k s false = attempt-falls two_rows most held id parts None k s (2 * length k + mode (Enter id)) (omega arith) (nat_lt (length s.nodes) most)
+element-falls most held id parts k s false = attempt-falls two_rows most held id parts Nothing k s (2 * length k + mode (Enter id)) (omega arith) (nat_lt (length s.nodes) most)
 
 retry-falls : (most : ℕ) (held : Held) (id : ℕ) (parts : Option Parts) (follows : Next) (end : End) (k : List Frame) (s : State)
     → Falls (Leave end) (Trial id follows ∷ k) (retry most held id parts follows end k s)
@@ -176,6 +188,35 @@ retry-falls most held id (Some parts) next.Empty end k s =
     empty-falls one_row most held id parts k (back s) (2 * length (Trial id next.Empty ∷ k) + mode (Leave end)) (omega arith) parts.tried.empty
 retry-falls most held id (Some parts) next.Normal end k s = normal-falls one_row most held id parts k (back s) (2 * length (Trial id next.Normal ∷ k) + mode (Leave end)) (omega arith)
 retry-falls most held id (Some parts) next.Nothing end k s = omega arith
+
+-- a representation that is done
+refused-falls : (held : Held) (id : ℕ) (follows : Next) (marks : List Mark) (k : List Frame) (s : State) → Falls (Leave Done) (Trial id follows ∷ k) (refused marks held k s)
+refused-falls held id follows [] k s = omega arith
+refused-falls held id follows (mark ∷ outer) k s = omega arith
+
+empty-found-falls : (held : Held) (id : ℕ) (follows : Next) (refuses : Bool) (k : List Frame) (s : State)
+    → Falls (Leave Done) (Trial id follows ∷ k) (cond refuses (refused s.marks held k s) (pass nothing held (Leave Done) k (closed s)))
+empty-found-falls held id follows true k s = refused-falls held id follows s.marks k s
+empty-found-falls held id follows false k s = omega arith
+
+done-falls : (held : Held) (id : ℕ) (parts : Option Parts) (follows : Next) (k : List Frame) (s : State)
+    → Falls (Leave Done) (Trial id follows ∷ k) (trial_done held parts follows k s)
+done-falls held id None follows k s = omega arith
+done-falls held id (Some parts) next.Empty k s = omega arith
+done-falls held id (Some parts) next.Normal k s = empty-found-falls held id next.Normal parts.tried.refuses_empty k s
+done-falls held id (Some parts) next.Nothing k s = omega arith
+
+-- a delimiter falls by its row, and then from the focus in which it waits
+delimiter-falls : (held : Held) (id : ℕ) (delimiter : Delimiter) (terminates : Bool) (k : List Frame) (s : State) (does_stand : Bool)
+    → Falls (Enter id) k (cond does_stand (pass one_row held (Seek delimiter.list terminates) k s) (pass one_row held (Leave Done) k s))
+delimiter-falls held id delimiter terminates k s true = omega arith
+delimiter-falls held id delimiter terminates k s false = omega arith
+
+text-falls : (window : ℕ) (focus : Focus) (cause : ParseCause) (place : ℕ) (reached : Reached Longest) (k : List Frame) (s : State) → is_cut reached ≡ false
+    → 2 * length (found_text window focus cause place reached k s).stack + mode (found_text window focus cause place reached k s).focus ≡ 2 * length k + 1
+text-falls window focus cause place (Told found) k s going = refl
+text-falls window focus cause place TooFar k s going = refl
+text-falls window focus cause place Missing k s going = absurd (cc)
 
 group-falls : (held : Held) (id : ℕ) (children : List ℕ) (k : List Frame) (s : State) → Falls (Enter id) k (enter_group held id children k s)
 group-falls held id [] k s = omega arith
@@ -188,19 +229,19 @@ begin-falls held id to k s true inside = omega arith
 begin-falls held id to k s false true = omega arith
 begin-falls held id to k s false false = omega arith
 
-leave-box-falls : (held : Held) (outer : ℕ) (k : List Frame) (s : State) (over : Bool)
+leave-box-falls : (held : Held) (outer : Outside) (k : List Frame) (s : State) (over : Bool)
     → Falls (Leave Done) (Box outer ∷ k)
-    (cond over (pass nothing held (Leave Done) k (record s { stop = outer })) (pass nothing held (PassRest s.at outer) k s))
+    (cond over (pass nothing held (Leave Done) k (back_outside outer s)) (pass nothing held (PassRest s.at outer) k s))
 leave-box-falls held outer k s true = omega arith
 leave-box-falls held outer k s false = omega arith
 
-past-falls : (sight : Held) (bit byte outer : ℕ) (k : List Frame) (s : State) (last : Bool)
-    → Falls (PassRest bit outer) k (cond last (pass (saw_byte byte nothing) sight (Leave Done) k (record s { at = s.stop; stop = outer }))
+past-falls : (sight : Held) (bit byte : ℕ) (outer : Outside) (k : List Frame) (s : State) (last : Bool)
+    → Falls (PassRest bit outer) k (cond last (pass (saw_byte byte nothing) sight (Leave Done) k (back_outside outer (record s { at = s.stop })))
     (pass (saw_byte byte nothing) sight (PassRest (8 * (byte + 1)) outer) k s))
 past-falls sight bit byte outer k s true = omega arith
 past-falls sight bit byte outer k s false = omega arith
 
-rested-falls : (window : ℕ) (sight : Held) (bit outer : ℕ) (v : Seen) (k : List Frame) (s : State)
+rested-falls : (window : ℕ) (sight : Held) (bit : ℕ) (outer : Outside) (v : Seen) (k : List Frame) (s : State)
     → (rest_move window sight bit outer v k s).waits ≡ false → Falls (PassRest bit outer) k (rest_move window sight bit outer v k s)
 rested-falls window sight bit outer (Byte b) k s going = past-falls sight bit (bit / 8) outer k s (nat_le ((s.stop - 1) / 8) (bit / 8))
 rested-falls window sight bit outer DataEnded k s going = omega arith
@@ -227,6 +268,9 @@ enter-falls limits table held id (Some (Skip bits)) k s going =
     begin-falls held id (s.at + bits) k s (nat_le (s.at + bits) s.at) (nat_le (s.at + bits) s.stop)
 enter-falls limits table held id (Some (Align bits)) k s going =
     begin-falls held id (aligned bits s.at) k s (nat_le (aligned bits s.at) s.at) (nat_le (aligned bits s.at) s.stop)
+enter-falls limits table held id (Some (Initiator delimiter)) k s going = delimiter-falls held id delimiter false k s (stands_in s.instead delimiter)
+enter-falls limits table held id (Some (Terminator delimiter)) k s going = delimiter-falls held id delimiter true k s (stands_in s.instead delimiter)
+enter-falls limits table held id (Some (Scope list body)) k s going = omega arith
 enter-falls limits table held id (Some (Boxed bits body)) k s going =
     let falls = box-begun-falls bits body k s (nat_le (s.at + bits) s.stop) in omega arith
 enter-falls limits table held id (Some (PrefixedLeaf prefix prim)) k s going =
@@ -252,7 +296,10 @@ leave-falls limits table held (Element outer complex) (Stopped cause quantity) k
 leave-falls limits table held (Box outer) Done k s = leave-box-falls held outer k s (nat_le s.stop s.at)
 leave-falls limits table held (Box outer) (Failed cause bit) k s = omega arith
 leave-falls limits table held (Box outer) (Stopped cause quantity) k s = omega arith
-leave-falls limits table held (Trial id next) Done k s = omega arith
+leave-falls limits table held (ScopeFrame count) Done k s = omega arith
+leave-falls limits table held (ScopeFrame count) (Failed cause bit) k s = omega arith
+leave-falls limits table held (ScopeFrame count) (Stopped cause quantity) k s = omega arith
+leave-falls limits table held (Trial id next) Done k s = done-falls held id (parts_of (slice_get table.rows id)) next k s
 leave-falls limits table held (Trial id next) (Failed cause bit) k s =
     retry-falls limits.nodes held id (parts_of (slice_get table.rows id)) next (Failed cause bit) k s
 leave-falls limits table held (Trial id next) (Stopped cause quantity) k s = omega arith
@@ -267,6 +314,10 @@ step-falls limits table held (Pass to) k s on going =
     let low : ℕ = anchor_at s (to - 1) in
     filled-falls limits.window (from_byte held (min low (end_of held))) to (seen_beyond held low ((to - 1) / 8)) k s going
 step-falls limits table held (Sized prim size) k s on going = sized-falls limits held prim size (nil_values table.primitives s.instead) (slice_get table.primitives prim) k s going
+step-falls limits table held (Seek list terminates) k s on going =
+    let here : Reading Longest = ask (seen_at (from_byte held (anchor_at s (aligned 8 s.at)))) (sought_among (among table.delimiters list terminates s) s.at s.stop) nothing in
+    let falls = text-falls limits.window (Seek list terminates) (cause_of terminates) (place_of terminates s) here.reached k s going in
+    omega arith
 step-falls limits table held (Leave end) [] s on going = absurd (on refl)
 step-falls limits table held (Leave end) (frame ∷ k) s on going = leave-falls limits table held frame end k s
 

@@ -1,5 +1,5 @@
 -- A session takes a piece, or the end of the data.
-use Rattle.std.proofs.Common.{◌≡◌, ℕ, zero, suc, ◌+◌, ◌-◌, ◌<◌, ◌≤◌, ◌⊎◌, inl, inr, refl, List, [], ◌++◌, length, get_or, Option, None, true, false, ap, sym, subst, ◌∙◌, arith, append_assoc, length-append}
+use Rattle.std.proofs.Common.{◌≡◌, ℕ, zero, suc, ◌+◌, ◌-◌, ◌<◌, ◌≤◌, ◌⊎◌, inl, inr, refl, List, [], ◌++◌, length, get_or, true, false, ap, sym, subst, ◌∙◌, arith, append_assoc, length-append}
 use Rattle.std.proofs.lemmas.List.{append-nil, get_or_append_left, get_or-append_right}
 use Rattle.dfdl_bits.specs.Window.{Held, end_of, with_more}
 use Rattle.dfdl_terms.specs.Rows.{Table}
@@ -7,14 +7,13 @@ use Rattle.dfdl_looks.specs.Looks.{Agrees}
 use Rattle.dfdl_looks.specs.Tallies.{Tally, nothing}
 use Rattle.dfdl_looks.proofs.Costs.{plus-nothing}
 use Rattle.dfdl_grammar.specs.declared.limits.Limits.{Limits}
-use Rattle.dfdl_grammar.specs.declared.mark.Mark.{Mark}
-use Rattle.dfdl_grammar.specs.States.{Input, State, front, no_box}
+use Rattle.dfdl_grammar.specs.States.{Input, State}
 use Rattle.dfdl_grammar.specs.Outcomes.{Outcome, ended, spend}
-use Rattle.dfdl_grammar.specs.Documents.{document}
+use Rattle.dfdl_grammar.specs.Documents.{document_from, front_at}
 use Rattle.dfdl_grammar.proofs.Spending.{spend-nothing}
 use Rattle.dfdl_parse.specs.declared.frame.Frame.{Frame}
 use Rattle.dfdl_parse.specs.declared.frame.Focus.{Focus}
-use Rattle.dfdl_parse.specs.declared.frame.Focus.TheVariants.{Enter, Pass, PassRest, Sized, Leave}
+use Rattle.dfdl_parse.specs.declared.frame.Focus.TheVariants.{Enter, Pass, PassRest, Sized, Seek, Leave}
 use Rattle.dfdl_parse.specs.declared.parser.Parser.{Parser}
 use Rattle.dfdl_parse.specs.Moves.{Machine}
 use Rattle.dfdl_parse.specs.Machines.{HasEnded}
@@ -54,17 +53,17 @@ agrees_more held stream piece more on all agrees =
         ∙ ap (λ (j : ℕ). get_or (piece ++ more) j 0) (sym place)
         ∙ sym (get_or-append_right stream (piece ++ more) (length stream) (held.base + i) 0 refl past)
 
-module _ (limits : Limits) (table : Table) (p : Parser) (held : Held) (stream : List ℕ) (on : held.ended ≡ false)
+module _ (limits : Limits) (table : Table) (p : Parser) (held : Held) (start : ℕ) (stream : List ℕ)
     (all : length stream ≡ end_of held) (looks : ℕ) where
   abbrev input : List ℕ → Input
   input bytes = record { bytes = bytes; limits = limits }
 
   abbrev RunsOver : Held → List ℕ → Type 0
-  RunsOver sight bytes = Runs (input bytes) table (document limits table bytes) (shown p) sight looks p.far
+  RunsOver sight bytes = Runs (input bytes) table (document_from limits table start bytes) (shown p) sight looks p.far
 
   -- the machine stands in the work as before, with a piece more in the window
-  pub fed : (piece more : List ℕ) → RunsOver held (stream ++ (piece ++ more)) → RunsOver (with_more held piece) ((stream ++ piece) ++ more)
-  fed piece more runs =
+  pub fed : held.ended ≡ false → (piece more : List ℕ) → RunsOver held (stream ++ (piece ++ more)) → RunsOver (with_more held piece) ((stream ++ piece) ++ more)
+  fed on piece more runs =
       let size = length-append held.bytes piece in
       let there : RunsOver (with_more held piece) (stream ++ (piece ++ more)) = record {
         spent = runs.spent;
@@ -107,6 +106,7 @@ over_at input table root (Enter id) k s spent ended_here same = absurd ended_her
 over_at input table root (Pass to) k s spent ended_here same = absurd ended_here
 over_at input table root (PassRest bit outer) k s spent ended_here same = absurd ended_here
 over_at input table root (Sized prim size) k s spent ended_here same = absurd ended_here
+over_at input table root (Seek list terminates) k s spent ended_here same = absurd ended_here
 over_at input table root (Leave end) k s spent ended_here same =
     let is : root ≡ spend spent (ended end s) =
     same ∙ ap (λ (k : List Frame). spend spent (ahead input table (record { focus = Leave end; stack = k; state = s }))) ended_here in (
@@ -128,32 +128,29 @@ over input table root p held looks_made ended_here runs =
       looks = sym runs.looks ∙ ap (λ (t : Tally). t.looks) (sym parts.3);
     }
 
--- a session over no data
-pub stands_first : (limits : Limits) (table : Table) (p : Parser) (held : Held) (bytes : List ℕ) → p.focus ≡ Enter (length table.rows - 1) → p.stack ≡ []
-    → p.at ≡ 0 → p.inside ≡ 0 → p.far ≡ 0 → p.stop ≡ no_box → p.region.nodes ≡ [] → p.text.bytes ≡ [] → p.instead ≡ None → p.marks ≡ [] → held.bytes ≡ [] → held.base ≡ 0 → held.ended ≡ false → held.size ≡ limits.window
-    → Runs (record { bytes = bytes; limits = limits }) table (document limits table bytes) (shown p) held 0 p.far
+-- a machine that begins at a byte stands in the work on the document from there on
+pub stands_first : (limits : Limits) (table : Table) (p : Parser) (held : Held) (start : ℕ) (bytes : List ℕ) → p.focus ≡ Enter (length table.rows - 1)
+    → p.stack ≡ [] → state_of p ≡ front_at start → p.far ≡ 0 → Agrees held bytes → held.size ≡ limits.window
+    → Runs (record { bytes = bytes; limits = limits }) table (document_from limits table start bytes) (shown p) held 0 p.far
 unfolding finish
-stands_first limits table p held bytes focus stack at inside far stop nodes text instead marks none base on size =
-    let front_is : state_of p ≡ front =
-    ap (λ (n : ℕ). record { at = n; stop = p.stop; nodes = p.region.nodes; text = p.text.bytes; inside = p.inside; instead = p.instead; marks = p.marks }) at
-    ∙ ap (λ (n : ℕ). record { at = 0; stop = n; nodes = p.region.nodes; text = p.text.bytes; inside = p.inside; instead = p.instead; marks = p.marks }) stop
-    ∙ ap (λ (n : ℕ). record { at = 0; stop = no_box; nodes = p.region.nodes; text = p.text.bytes; inside = n; instead = p.instead; marks = p.marks }) inside
-    ∙ ap (λ ns. record { at = 0; stop = no_box; nodes = ns; text = p.text.bytes; inside = 0; instead = p.instead; marks = p.marks }) nodes
-    ∙ ap (λ bs. record { at = 0; stop = no_box; nodes = []; text = bs; inside = 0; instead = p.instead; marks = p.marks }) text
-    ∙ ap (λ (o : Option ℕ). record { at = 0; stop = no_box; nodes = []; text = []; inside = 0; instead = o; marks = p.marks }) instead
-    ∙ ap (λ (ms : List Mark). record { at = 0; stop = no_box; nodes = []; text = []; inside = 0; instead = None; marks = ms }) marks in
+stands_first limits table p held start bytes focus stack front_is far agrees size =
     let input : Input = record { bytes = bytes; limits = limits } in
-    let machine : shown p ≡ record { focus = Enter (length table.rows - 1); stack = []; state = front } =
+    let machine : shown p ≡ record { focus = Enter (length table.rows - 1); stack = []; state = front_at start } =
     ap (λ (f : Focus). record { focus = f; stack = p.stack; state = state_of p }) focus
     ∙ ap (λ (k : List Frame). record { focus = Enter (length table.rows - 1); stack = k; state = state_of p }) stack
     ∙ ap (λ (s : State). record { focus = Enter (length table.rows - 1); stack = []; state = s }) front_is in
-    let length_none : length held.bytes ≡ 0 = ap length none in
     record {
       spent = nothing;
-      same = sym (spend-nothing (document limits table bytes)) ∙ ap (λ (m : Machine). spend nothing (ahead input table m)) (sym machine);
+      same = sym (spend-nothing (document_from limits table start bytes)) ∙ ap (λ (m : Machine). spend nothing (ahead input table m)) (sym machine);
       looks = refl;
       far = sym far;
       found = λ still. (refl, omega arith);
-      agrees = record { bytes = λ i less. absurd (omega arith); within = omega arith; all = λ ended. absurd (cc) };
+      agrees = agrees;
       size = size;
     }
+
+-- a window over no data
+pub agrees_none : (held : Held) (bytes : List ℕ) → held.bytes ≡ [] → held.base ≡ 0 → held.ended ≡ false → Agrees held bytes
+agrees_none held bytes none base on =
+    let length_none : length held.bytes ≡ 0 = ap length none in
+    record { bytes = λ i less. absurd (omega arith); within = omega arith; all = λ ended. absurd (cc) }

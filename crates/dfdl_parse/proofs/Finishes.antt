@@ -10,21 +10,24 @@ use Rattle.dfdl_looks.specs.Tallies.{Tally, nothing}
 use Rattle.dfdl_grammar.specs.declared.end.End.{End}
 use Rattle.dfdl_grammar.specs.declared.end.End.TheVariants.{Done, Failed, Stopped}
 use Rattle.dfdl_grammar.specs.declared.limits.Limits.{Limits}
+use Rattle.dfdl_grammar.specs.declared.mark.Mark.{Mark}
+use Rattle.dfdl_grammar.specs.Delimiters.{unscoped}
+use Rattle.dfdl_grammar.specs.Framing.{aligned}
 use Rattle.dfdl_grammar.specs.States.{Input, State, anchor, anchor_at}
 use Rattle.dfdl_grammar.specs.Outcomes.{Outcome, ended, spend, then_do}
 use Rattle.dfdl_grammar.specs.Leaves.{Find, Fails, Finds, FindsOctets, FindsText, land}
 use Rattle.dfdl_grammar.specs.Boxes.{rest, unboxed}
 use Rattle.dfdl_grammar.specs.Marks.{back}
-use Rattle.dfdl_grammar.specs.Representations.{or_else, the_last, then_empty, then_normal}
+use Rattle.dfdl_grammar.specs.Representations.{after_empty, or_else, refuse, refused_among, the_last, then_empty, then_normal}
 use Rattle.dfdl_grammar.specs.Rows.{below, group}
 use Rattle.dfdl_grammar.proofs.Spending.{spend-nothing, spend-spend, follow-spend, close-spend}
 use Rattle.dfdl_parse.specs.declared.frame.Frame.{Frame}
-use Rattle.dfdl_parse.specs.declared.frame.Frame.TheVariants.{Rest, Element, Box, Trial}
+use Rattle.dfdl_parse.specs.declared.frame.Frame.TheVariants.{Rest, Element, Box, Scope as ScopeFrame, Trial}
 use Rattle.dfdl_parse.specs.declared.frame.Next.{Next}
 use Rattle.dfdl_parse.specs.declared.frame.Next.TheVariants as next
 use Rattle.dfdl_parse.specs.declared.frame.Parts.{Parts}
 use Rattle.dfdl_parse.specs.declared.frame.Focus.{Focus}
-use Rattle.dfdl_parse.specs.declared.frame.Focus.TheVariants.{Enter, Pass, PassRest, Sized, Leave}
+use Rattle.dfdl_parse.specs.declared.frame.Focus.TheVariants.{Enter, Pass, PassRest, Sized, Seek, Leave}
 use Rattle.dfdl_parse.specs.Moves.{Move, is_missing}
 use Rattle.dfdl_parse.specs.Machines.{children_of}
 use Rattle.dfdl_parse.specs.Trials.{parts_of}
@@ -42,6 +45,7 @@ Stands held (Enter id) s = Anchored held s
 Stands held (Pass to) s = (held.base ≤ anchor_at s (to - 1)) × (anchor_at s (to - 1) ≤ (to - 1) / 8)
 Stands held (PassRest bit outer) s = (held.base ≤ anchor_at s (8 * (bit / 8))) × ((bit < s.stop) × (anchor_at s (8 * (bit / 8)) ≤ bit / 8))
 Stands held (Sized prim size) s = Anchored held s
+Stands held (Seek list terminates) s = Anchored held (record s { at = aligned 8 s.at })
 Stands held (Leave end) s = Unit {0}
 
 -- the window shows the data at this state: it agrees with them, has the size of the limit, and holds the bytes that are needed
@@ -77,10 +81,16 @@ land-nothing limits first TooFar s = refl
 land-nothing limits first Missing s = refl
 
 -- what was spent in a box was spent before what follows it
-pub unboxed-spend : (end : End) (t : Tally) (outer : ℕ) (o : Outcome) → unboxed end outer (spend t o) ≡ spend t (unboxed end outer o)
-unboxed-spend Done t outer o = refl
-unboxed-spend (Failed cause bit) t outer o = refl
-unboxed-spend (Stopped cause quantity) t outer o = refl
+pub unboxed-spend : (end : End) (t : Tally) (outer hidden : ℕ) (o : Outcome) → unboxed end outer hidden (spend t o) ≡ spend t (unboxed end outer hidden o)
+unboxed-spend Done t outer hidden o = refl
+unboxed-spend (Failed cause bit) t outer hidden o = refl
+unboxed-spend (Stopped cause quantity) t outer hidden o = refl
+
+-- and what was spent in a scope
+unscoped-spend : (end : End) (t : Tally) (count : ℕ) (o : Outcome) → unscoped end count (spend t o) ≡ spend t (unscoped end count o)
+unscoped-spend Done t count o = refl
+unscoped-spend (Failed cause bit) t count o = refl
+unscoped-spend (Stopped cause quantity) t count o = refl
 
 -- what was spent in a representation was spent before what follows it
 last-spend : (end : End) (t : Tally) (o : Outcome) → the_last end (spend t o) ≡ spend t (the_last end o)
@@ -93,20 +103,35 @@ else-spend Done t o next = refl
 else-spend (Failed cause bit) t o next = sym (spend-spend t o.tally (next (back o.state)))
 else-spend (Stopped cause quantity) t o next = refl
 
+-- and in an empty representation that is refused
+refused-spend : (marks : List Mark) (t : Tally) (o : Outcome) → refused_among marks (spend t o) ≡ spend t (refused_among marks o)
+refused-spend [] t o = refl
+refused-spend (mark ∷ outer) t o = refl
+
+refuse-spend : (end : End) (t : Tally) (o : Outcome) (next : State → Outcome) → refuse end (spend t o) next ≡ spend t (refuse end o next)
+refuse-spend Done t o next = refused-spend o.state.marks t o
+refuse-spend (Failed cause bit) t o next = else-spend (Failed cause bit) t o next
+refuse-spend (Stopped cause quantity) t o next = refl
+
+empty-spend : (refuses : Bool) (t : Tally) (o : Outcome) (next : State → Outcome) → after_empty refuses (spend t o) next ≡ spend t (after_empty refuses o next)
+empty-spend true t o next = refuse-spend o.end t o next
+empty-spend false t o next = else-spend o.end t o next
+
 module _ (input : Input) (table : Table) where
   pub retried-spend : (id : ℕ) (parts : Option Parts) (follows : Next) (t : Tally) (o : Outcome)
       → retried input table id parts follows (spend t o) ≡ spend t (retried input table id parts follows o)
   retried-spend id None follows t o = last-spend o.end t o
-  retried-spend id (Some parts) next.Empty t o = else-spend o.end t o (then_empty parts.tried.empty (trial_of input table id parts))
-  retried-spend id (Some parts) next.Normal t o = else-spend o.end t o (then_normal (trial_of input table id parts))
+  retried-spend id (Some parts) next.Empty t o = else-spend o.end t o (then_empty parts.tried.refuses_empty parts.tried.empty (trial_of input table id parts))
+  retried-spend id (Some parts) next.Normal t o = empty-spend parts.tried.refuses_empty t o (then_normal (trial_of input table id parts))
   retried-spend id (Some parts) next.Nothing t o = last-spend o.end t o
 
   resume-spend : (frame : Frame) (t : Tally) (o : Outcome) → resume input table frame (spend t o) ≡ spend t (resume input table frame o)
   resume-spend (Rest id next) t o = follow-spend o.end t o (group (below input table id) (drop next (children_of (slice_get table.rows id))))
   resume-spend (Element outer complex) t o = close-spend o.end t outer complex o
   resume-spend (Box outer) t o =
-      ap (λ (p : Outcome). unboxed p.end outer p) (follow-spend o.end t o (rest input))
-      ∙ unboxed-spend (then_do o (rest input)).end t outer (then_do o (rest input))
+      ap (λ (p : Outcome). unboxed p.end outer.stop outer.hidden p) (follow-spend o.end t o (rest input))
+      ∙ unboxed-spend (then_do o (rest input)).end t outer.stop outer.hidden (then_do o (rest input))
+  resume-spend (ScopeFrame count) t o = unscoped-spend o.end t count o
   resume-spend (Trial id next) t o = retried-spend id (parts_of (slice_get table.rows id)) next t o
 
   pub finish-spend : (k : List Frame) (t : Tally) (o : Outcome) → finish input table k (spend t o) ≡ spend t (finish input table k o)

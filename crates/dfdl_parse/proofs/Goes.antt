@@ -12,7 +12,7 @@ use Rattle.dfdl_grammar.specs.Outcomes.{Outcome, spend}
 use Rattle.dfdl_grammar.proofs.Spending.{spend-spend}
 use Rattle.dfdl_parse.specs.declared.parser.Parser.{Parser}
 use Rattle.dfdl_parse.specs.declared.frame.Focus.{Focus}
-use Rattle.dfdl_parse.specs.declared.frame.Focus.TheVariants.{Enter, Pass, PassRest, Sized, Leave}
+use Rattle.dfdl_parse.specs.declared.frame.Focus.TheVariants.{Enter, Pass, PassRest, Sized, Seek, Leave}
 use Rattle.dfdl_parse.specs.Moves.{Machine, Move}
 use Rattle.dfdl_parse.specs.Machines.{HasEnded, step}
 use Rattle.dfdl_parse.specs.Opens.{IsHeld, NeedsFrom}
@@ -20,13 +20,14 @@ use Rattle.dfdl_parse.specs.Ahead.{ahead}
 use Rattle.dfdl_parse.specs.Shown.{HasSameLimits, KeepsTo, limits_of, shown, state_of}
 use Rattle.dfdl_parse.specs.Steps.{Moved}
 use Rattle.dfdl_parse.specs.Runs.{Runs}
-use Rattle.dfdl_parse.specs.Running.{Advanced, Slid, Waited}
+use Rattle.dfdl_parse.specs.Running.{Advanced, Reaches, Slid, Waited}
 use Rattle.dfdl_parse.proofs.Finishes.{Anchored, Does, Fits, Stands}
 use Rattle.dfdl_parse.proofs.Opens.{holds}
 use Rattle.dfdl_parse.proofs.Ahead.{step-ahead}
 use Rattle.dfdl_parse.proofs.Advances.{Keeps, step-keeps}
 use Rattle.dfdl_parse.proofs.Waits.{step-waits}
 use Rattle.dfdl_parse.proofs.Lows.{step-low}
+use Rattle.dfdl_parse.proofs.Reaches.{further, step-reaches, waiting-reaches}
 use Rattle.dfdl_parse.proofs.Falls.{measure, smaller}
 
 tail_none : (a b : ℕ) → a ≡ 0 → b ≡ 0 → first_of a b ≡ 0
@@ -49,13 +50,13 @@ limits_are p held limits keeps size =
     ∙ ap (λ (n : ℕ). record { window = held.size; nodes = p.region.most; text = n }) keeps.1
 
 still_keeps : (a b : Parser) (limits : Limits) → HasSameLimits a b → KeepsTo a limits → KeepsTo b limits
-still_keeps a b limits same keeps = (keeps.0 ∙ sym same.0, keeps.1 ∙ sym same.1)
+still_keeps a b limits same keeps = (keeps.0 ∙ sym same.0, keeps.1 ∙ sym same.1.0)
 
 pub keeps_first : (a b : Parser) (held : Held) → HasSameLimits a b → KeepsTo b (limits_of a held)
-keeps_first a b held same = (sym same.0, sym same.1)
+keeps_first a b held same = (sym same.0, sym same.1.0)
 
 pub same_twice : (a b c : Parser) → HasSameLimits a b → HasSameLimits b c → HasSameLimits a c
-same_twice a b c one two = (two.0 ∙ one.0, two.1 ∙ one.1)
+same_twice a b c one two = (two.0 ∙ one.0, (two.1.0 ∙ one.1.0, two.1.1 ∙ one.1.1))
 
 -- the window holds the bytes that are needed next
 anchored_at : (held : Held) (s : State) → IsHeld held.base s.at s → s.at ≤ 8 * end_of held → Anchored held s
@@ -69,6 +70,11 @@ stands_at held p (PassRest bit outer) low at =
     let few = here.1 in
     (here.0, (low.1.0, omega arith))
 stands_at held p (Sized prim size) low at = anchored_at held (state_of p) (holds held.base (Sized prim size) p.stack (state_of p) low) at
+stands_at held p (Seek list terminates) low at =
+    let s : State = state_of p in
+    let here = holds held.base (Seek list terminates) p.stack s low in
+    let few = here.1 in
+    record { base = here.0; end = omega arith; low = few }
 stands_at held p (Leave end) low at = tt
 
 module _ (table : Table) (nests : Nests table.rows) (old new : Parser) (before after : Held) (looks_made : ℕ)
@@ -130,6 +136,44 @@ module _ (table : Table) (nests : Nests table.rows) (old new : Parser) (before a
       (subst (λ (m : Machine). NeedsFrom move.held.base m.focus m.stack m.state) (sym moved.machine)
       (step-low before (state_of old) (limits_of old before) table old.focus old.stack stands low))
 
+  -- while the end of the data wasn't told, no byte was looked at that hasn't come
+  pub still_seen : (waited : Bool) → Moved move waited old.far new after looks_made → (before.ended ≡ false → old.far ≤ end_of before)
+      → after.ended ≡ false → new.far ≤ end_of after
+  still_seen waited moved seen on = by waited refl
+    where
+      slid : Slid before after
+      slid = subst (λ (h : Held). Slid before h) (sym moved.held) keeps.slid
+
+      on_before : before.ended ≡ false
+      on_before = sym slid.ended ∙ on
+
+      by : (w : Bool) → waited ≡ w → new.far ≤ end_of after
+      by true is = let stays : new.far ≡ old.far = moved.stays is in let few = seen on_before in let ends = slid.end in omega arith
+      by false is =
+          let grows : new.far ≡ max old.far move.tally.far = moved.far is in
+          let few = seen on_before in
+          let most = keeps.far on_before in
+          let ends = slid.end in
+          omega arith
+
+  -- it comes no further than the bytes that were looked at
+  pub still_reaches : (waited : Bool) → Moved move waited old.far new after looks_made → 0 < before.size
+      → (last : ℕ) → Reaches (max last old.far) before old.focus (state_of old) → Reaches (max last new.far) after new.focus (state_of new)
+  still_reaches true moved some last reaches =
+      let waits = step-waits table before (state_of old) (limits_of old before) old.focus old.stack (sym moved.waits) in
+      let same_machine : shown new ≡ shown old = moved.machine ∙ waits.machine in
+      let stays : new.far ≡ old.far = moved.stays refl in
+      subst (λ (n : ℕ). Reaches (max last n) after new.focus (state_of new)) (sym stays)
+      (subst (λ (m : Machine). Reaches (max last old.far) after m.focus m.state) (sym same_machine)
+      (waiting-reaches table (max last old.far) before after (state_of old) (limits_of old before) old.focus old.stack (sym moved.waits) reaches))
+  still_reaches false moved some last reaches =
+      let grows : new.far ≡ max old.far move.tally.far = moved.far refl in
+      let all : ℕ = max (max last old.far) move.tally.far in
+      further all (max last new.far) after new.focus (state_of new) (omega arith)
+      (subst (λ (h : Held). Reaches all h new.focus (state_of new)) (sym moved.held)
+      (subst (λ (m : Machine). Reaches all move.held m.focus m.state) (sym moved.machine)
+      (step-reaches (max last old.far) before (state_of old) some (limits_of old before) table old.focus old.stack stands low reaches)))
+
   pub still_agrees : (waited : Bool) → Moved move waited old.far new after looks_made → (whole : List ℕ) → Agrees before whole → Agrees after whole
   still_agrees waited moved whole agrees = subst (λ (h : Held). Agrees h whole) (sym moved.held) (keeps.agrees whole agrees)
 
@@ -172,6 +216,10 @@ module _ (table : Table) (nests : Nests table.rows) (old new : Parser) (before a
                   ∙ tail_last runs.spent.tail (ahead input table (shown old)).tally.tail move.tally.looks found.0 lost.0 ∙ sym moved.looks,
             );
       }
+
+-- no step yet
+pub reaches_first : (last far : ℕ) (held : Held) (focus : Focus) (s : State) → Reaches last held focus s → Reaches (max last far) held focus s
+reaches_first last far held focus s reaches = further last (max last far) held focus s (omega arith) reaches
 
 pub stay : (table : Table) (p : Parser) (held : Held) (n : ℕ) → Advanced table p p held held (n - n)
 stay table p held n = record {

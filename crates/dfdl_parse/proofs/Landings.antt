@@ -1,33 +1,40 @@
 -- What the code made of a leaf or a prefix, said of the parser before it.
-use Rattle.std.proofs.Common.{◌≡◌, ℕ, ◌<◌, List, [], length, get_or, ltb, Bool, true, false, Option, Some, refl, ap, sym, subst, ◌∙◌, arith}
+use Rattle.std.proofs.Common.{◌≡◌, ℕ, ◌<◌, List, [], ◌∷◌, length, get_or, ltb, Bool, true, false, Option, Some, refl, ap, sym, subst, ◌∙◌, arith}
 use Rattle.std.specs.Prelude.{slice_get}
 use Rattle.std.proofs.lemmas.Option.{slice_get-get_or}
 use Rattle.std.proofs.lemmas.Bool.Decides.{nat_tests}
-use Rattle.dfdl_bits.specs.Window.{Held}
+use Rattle.dfdl_bits.specs.Window.{Held, from_byte, seen_at}
 use Rattle.dfdl_bits.specs.declared.window.Seen.{Seen}
 use Rattle.dfdl_terms.specs.declared.prefix.LengthUnit.{LengthUnit}
 use Rattle.dfdl_value.specs.declared.value.Value.{Value}
 use Rattle.dfdl_terms.specs.declared.row.Primitive.{Primitive}
 use Rattle.dfdl_terms.specs.declared.row.Row.{Row}
-use Rattle.dfdl_terms.specs.declared.row.Row.TheVariants.{Leaf, Boxed}
+use Rattle.dfdl_terms.specs.declared.row.Row.TheVariants.{Leaf, Boxed, Scope}
 use Rattle.dfdl_terms.specs.declared.text.TextSize.{TextSize}
 use Rattle.dfdl_terms.specs.Rows.{Table}
+use Rattle.dfdl_looks.specs.Asks.{Ask, ask}
 use Rattle.dfdl_looks.specs.Tallies.{nothing, one_row}
+use Rattle.dfdl_delims.specs.Longest.{Longest}
+use Rattle.dfdl_terms.specs.declared.delimiters.Delimiters.{Delimiters}
+use Rattle.dfdl_grammar.specs.Delimiters.{opens, sought_among}
+use Rattle.dfdl_grammar.specs.Framing.{aligned}
 use Rattle.dfdl_grammar.specs.declared.limits.Limits.{Limits}
-use Rattle.dfdl_grammar.specs.States.{State}
+use Rattle.dfdl_grammar.specs.States.{State, anchor_at}
 use Rattle.dfdl_grammar.specs.Leaves.{nil_values, read_by}
 use Rattle.dfdl_grammar.specs.Prefixes.{bits_of_units, resized, size_of}
 use Rattle.dfdl_parse.specs.declared.frame.Frame.{Frame}
 use Rattle.dfdl_parse.specs.declared.frame.Focus.{Focus}
-use Rattle.dfdl_parse.specs.declared.frame.Focus.TheVariants.{Enter, Sized}
+use Rattle.dfdl_parse.specs.declared.frame.Frame.TheVariants.{Scope as ScopeFrame}
+use Rattle.dfdl_parse.specs.declared.frame.Focus.TheVariants.{Enter, Seek, Sized}
 use Rattle.dfdl_parse.specs.declared.frame.Behind.{Behind}
 use Rattle.dfdl_parse.specs.declared.frame.Behind.TheVariants as behind
 use Rattle.dfdl_parse.specs.declared.parser.Parser.{Parser}
-use Rattle.dfdl_parse.specs.Moves.{Move, read_leaf}
+use Rattle.dfdl_parse.specs.Moves.{Move, pass, read_leaf}
+use Rattle.dfdl_parse.specs.Searches.{among, cause_of, place_of, search, search_move}
 use Rattle.dfdl_parse.specs.Machines.{enter, enter_box}
 use Rattle.dfdl_parse.specs.Prefixed.{behind_units, box_begins, read_resized, read_sized, sized_begins}
 use Rattle.dfdl_parse.specs.Steps.{Moved}
-use Rattle.dfdl_parse.specs.Shown.{Becomes, HasSameLimits, shown, state_of}
+use Rattle.dfdl_parse.specs.Shown.{Becomes, HasSameLimits, limits_of, shown, state_of}
 
 -- a step of the parser that differs in what it has read, at the place and the window that the clause speaks of
 pub moved-at : (old mid new : Parser) (begins first : ℕ) (held there : Held) (waited : Bool) (looks : ℕ) (move : Parser → ℕ → Held → Move)
@@ -117,3 +124,28 @@ module _ (limits : Limits) (table : Table) (held : Held) (id : ℕ) (r : Row) (k
       let row_is : slice_get table.rows id ≡ Some (Boxed bits body) = at ∙ ap (λ (x : Row). Some x) is in
       subst (λ (o : Option Row). Moved (enter limits table held id o k s) false far new held looks) (sym row_is)
       (subst (λ (n : ℕ). Moved (enter_box held bits body k s) false far new held n) (sym none) moved)
+
+  -- a scope is entered
+  pub scope-entered : (list body looks : ℕ) → r ≡ Scope list body → looks ≡ 0
+      → Moved (pass one_row held (Enter body) (ScopeFrame (length s.lists) ∷ k) (opens list s)) false far new held 0
+      → Moved (enter limits table held id (slice_get table.rows id) k s) false far new held looks
+  scope-entered list body looks is none moved =
+      let row_is : slice_get table.rows id ≡ Some (Scope list body) = at ∙ ap (λ (x : Row). Some x) is in
+      subst (λ (o : Option Row). Moved (enter limits table held id o k s) false far new held looks) (sym row_is)
+      (subst (λ (n : ℕ). Moved (pass one_row held (Enter body) (ScopeFrame (length s.lists) ∷ k) (opens list s)) false far new held n) (sym none) moved)
+
+-- a text is sought, over the window and at the state that the clause speaks of
+pub sought-moved : (old mid new : Parser) (delimiters : List Delimiters) (held there : Held) (list : ℕ) (terminates waited : Bool) (looks : ℕ)
+    → mid ≡ record old { candidates = mid.candidates } → there ≡ from_byte held (anchor_at (state_of old) (aligned 8 old.at)) → old.focus ≡ Seek list terminates
+    → Moved (search_move there.size mid.focus (cause_of terminates) (place_of terminates (state_of mid)) there
+    (ask (seen_at there) (sought_among (among delimiters list terminates (state_of old)) old.at old.stop) nothing) mid.stack (state_of mid)) waited mid.far new there looks
+    → Moved (search (limits_of old held) delimiters held list terminates old.stack (state_of old)) waited old.far new there looks
+sought-moved old mid new delimiters held there list terminates waited looks same is seeks moved =
+    let s : State = state_of old in
+    let asks : Ask Longest = sought_among (among delimiters list terminates s) old.at old.stop in
+    let one : Moved (search_move there.size old.focus (cause_of terminates) (place_of terminates s) there (ask (seen_at there) asks nothing) old.stack s) waited old.far new there looks =
+    subst (λ (p : Parser). Moved (search_move there.size p.focus (cause_of terminates) (place_of terminates (state_of p)) there
+    (ask (seen_at there) asks nothing) p.stack (state_of p)) waited p.far new there looks) same moved in
+    let two : Moved (search_move there.size (Seek list terminates) (cause_of terminates) (place_of terminates s) there (ask (seen_at there) asks nothing) old.stack s) waited old.far new there looks =
+    subst (λ (f : Focus). Moved (search_move there.size f (cause_of terminates) (place_of terminates s) there (ask (seen_at there) asks nothing) old.stack s) waited old.far new there looks) seeks one in
+    subst (λ (h : Held). Moved (search_move h.size (Seek list terminates) (cause_of terminates) (place_of terminates s) h (ask (seen_at h) asks nothing) old.stack s) waited old.far new there looks) is two

@@ -22,7 +22,7 @@ use Rattle.dfdl_grammar.specs.States.{Input, State, anchor}
 use Rattle.dfdl_grammar.specs.Outcomes.{Outcome, ended, spend, then_do}
 use Rattle.dfdl_grammar.specs.Leaves.{Find, Fails, Finds, FindsOctets, FindsText, content_begins, content_ends, has_room, land, leaf, nil_values, program, program_for}
 use Rattle.dfdl_grammar.specs.Prefixes.{behind_prefix, is_size, land_prefix, leaf_of, prefixed, resized, sized_leaf, units_told}
-use Rattle.dfdl_grammar.specs.Boxes.{rest, unboxed}
+use Rattle.dfdl_grammar.specs.Boxes.{boxed_at, rest, unboxed}
 use Rattle.dfdl_grammar.specs.Rows.{below}
 use Rattle.dfdl_grammar.proofs.Spending.{spend-spend, spend-nothing}
 use Rattle.dfdl_grammar.proofs.Towers.{below-meaning}
@@ -30,6 +30,7 @@ use Rattle.dfdl_parse.specs.declared.frame.Frame.{Frame}
 use Rattle.dfdl_parse.specs.declared.frame.Frame.TheVariants.{Box}
 use Rattle.dfdl_parse.specs.declared.frame.Focus.{Focus}
 use Rattle.dfdl_parse.specs.declared.frame.Focus.TheVariants.{Enter, Sized, Leave}
+use Rattle.dfdl_parse.specs.Boxing.{outside}
 use Rattle.dfdl_parse.specs.Moves.{Machine, Move, is_missing, landed, pass, read_leaf, read_move}
 use Rattle.dfdl_parse.specs.Prefixed.{at_end, can_fit, landed_prefix, prefix_move, read_prefix, read_resized, read_sized, sized_begins, units_begin}
 use Rattle.dfdl_parse.specs.Ahead.{finish, ahead}
@@ -157,15 +158,15 @@ module _ (input : Input) (table : Table) where
   -- a box begins
   pub box-ahead : (id bits body : ℕ) (k : List Frame) (s : State) → body < id → (inside : Bool)
       → finish input table k (cond inside
-      (let o : Outcome = then_do (below input table id body (record s { stop = s.at + bits })) (rest input) in unboxed o.end s.stop o)
+      (let o : Outcome = then_do (below input table id body (boxed_at (s.at + bits) s)) (rest input) in unboxed o.end s.stop s.hidden o)
       (ended (Failed LengthOutOfRange s.at) s))
       ≡ ahead input table (cond inside
-      (record { focus = Enter body; stack = Box s.stop ∷ k; state = record s { stop = s.at + bits } })
+      (record { focus = Enter body; stack = Box (outside s) ∷ k; state = boxed_at (s.at + bits) s })
       (at_end (Failed LengthOutOfRange s.at) k s))
   unfolding finish
   box-ahead id bits body k s less true =
-      ap (λ (o : Outcome). finish input table k (unboxed (then_do o (rest input)).end s.stop (then_do o (rest input))))
-      (below-meaning input table id body (record s { stop = s.at + bits }) less)
+      ap (λ (o : Outcome). finish input table k (unboxed (then_do o (rest input)).end s.stop s.hidden (then_do o (rest input))))
+      (below-meaning input table id body (boxed_at (s.at + bits) s) less)
   box-ahead id bits body k s less false = refl
 
   -- a prefix, where what follows it does its part

@@ -1,5 +1,5 @@
 -- A step leaves the bytes that are needed behind it.
-use Rattle.std.proofs.Common.{◌≡◌, ℕ, ◌+◌, ◌-◌, ◌*◌, ◌/◌, ◌<◌, ◌≤◌, min, nat_le, nat_lt, refl, List, [], ◌∷◌, length, Bool, true, false, cond, Option, Some, None, arith}
+use Rattle.std.proofs.Common.{◌≡◌, ℕ, ◌+◌, ◌-◌, ◌*◌, ◌/◌, ◌<◌, ◌≤◌, min, nat_eq, nat_le, nat_lt, ◌&&◌, refl, subst, List, [], ◌∷◌, length, Bool, true, false, cond, Option, Some, None, arith}
 use Rattle.std.specs.Prelude.{slice_get}
 use Rattle.std.proofs.lemmas.Bool.Decides.{nat_tests}
 use Rattle.dfdl_bits.specs.Window.{Held, end_of, from_byte, seen_at}
@@ -10,35 +10,45 @@ use Rattle.dfdl_report.specs.declared.cause.ParseCause.TheVariants.{LengthOutOfR
 use Rattle.dfdl_report.specs.declared.cause.LimitCause.TheVariants.{Nodes, Text as TextLimit}
 use Rattle.dfdl_value.specs.declared.value.Value.{Value}
 use Rattle.dfdl_terms.specs.declared.row.Primitive.{Primitive}
+use Rattle.dfdl_delims.specs.Longest.{Longest, Text, NoText}
+use Rattle.dfdl_terms.specs.declared.delimiters.Delimiter.{Delimiter}
 use Rattle.dfdl_terms.specs.declared.row.Row.{Row}
-use Rattle.dfdl_terms.specs.declared.row.Row.TheVariants.{Leaf, Elem, Group, Skip, Align, Boxed, PrefixedLeaf, PrefixedBox}
+use Rattle.dfdl_terms.specs.declared.row.Row.TheVariants.{Leaf, Elem, Group, Skip, Align, Initiator, Terminator, Scope, Boxed, PrefixedLeaf, PrefixedBox}
 use Rattle.dfdl_terms.specs.Rows.{Table}
 use Rattle.dfdl_looks.specs.Asks.{Reached, Told, TooFar, Missing, ask}
 use Rattle.dfdl_looks.specs.Tallies.{Tally, nothing, one_row, saw_byte}
 use Rattle.dfdl_grammar.specs.declared.end.End.{End}
 use Rattle.dfdl_grammar.specs.declared.end.End.TheVariants.{Done, Failed, Stopped}
 use Rattle.dfdl_grammar.specs.declared.limits.Limits.{Limits}
-use Rattle.dfdl_grammar.specs.Outcomes.{ended}
+use Rattle.dfdl_grammar.specs.Outcomes.{Outcome, ended}
 use Rattle.dfdl_grammar.specs.States.{State, anchor, anchor_at}
-use Rattle.dfdl_grammar.specs.Marks.{back, marked}
+use Rattle.dfdl_grammar.specs.Marks.{back, closed, marked}
+use Rattle.dfdl_grammar.specs.declared.mark.Mark.{Mark}
+use Rattle.dfdl_grammar.specs.declared.instead.Instead.{Instead}
+use Rattle.dfdl_grammar.specs.declared.instead.Instead.TheVariants.{Nothing, Nil, Empty}
 use Rattle.dfdl_terms.specs.declared.text.TextSize.{TextSize}
 use Rattle.dfdl_grammar.specs.Prefixes.{bits_of_units, resized, size_of, units_told}
 use Rattle.dfdl_grammar.specs.Leaves.{Find, Fails, Finds, FindsOctets, FindsText, content_begins, has_room, nil_values, program, program_for, read_by}
 use Rattle.dfdl_grammar.specs.Framing.{aligned}
+use Rattle.dfdl_grammar.specs.Boxes.{boxed_at}
+use Rattle.dfdl_grammar.specs.Delimiters.{opens, sought_among, stands_in}
 use Rattle.dfdl_grammar.specs.Elements.{begun, has_elements}
 use Rattle.dfdl_parse.specs.declared.frame.Frame.{Frame}
-use Rattle.dfdl_parse.specs.declared.frame.Frame.TheVariants.{Rest, Element, Box, Trial}
+use Rattle.dfdl_parse.specs.declared.frame.Frame.TheVariants.{Rest, Element, Box, Scope as ScopeFrame, Trial}
+use Rattle.dfdl_parse.specs.declared.frame.Outside.{Outside}
 use Rattle.dfdl_parse.specs.declared.frame.Next.{Next}
 use Rattle.dfdl_parse.specs.declared.frame.Next.TheVariants as next
 use Rattle.dfdl_parse.specs.declared.frame.Parts.{Parts}
 use Rattle.dfdl_parse.specs.declared.frame.Focus.{Focus}
-use Rattle.dfdl_parse.specs.declared.frame.Focus.TheVariants.{Enter, Pass, PassRest, Sized, Leave}
+use Rattle.dfdl_parse.specs.declared.frame.Focus.TheVariants.{Enter, Pass, PassRest, Sized, Seek, Leave}
 use Rattle.dfdl_parse.specs.declared.frame.Behind.TheVariants as behind
+use Rattle.dfdl_parse.specs.Boxing.{back_outside, outside}
+use Rattle.dfdl_parse.specs.Searches.{among, cause_of, found_text, place_of}
 use Rattle.dfdl_parse.specs.Moves.{Machine, Move, landed, pass, read_leaf, read_move}
 use Rattle.dfdl_parse.specs.Prefixed.{at_end, behind_units, can_fit, landed_prefix, prefix_move, read_prefix, read_resized, read_sized, sized_begins, units_begin}
 use Rattle.dfdl_parse.specs.Machines.{children_of, enter, enter_group, fill, fill_move, go_on, leave, pass_rest, rest_move, seen_beyond, step}
 use Rattle.dfdl_parse.specs.Opens.{AreOpen, IsHeld, NeedsBehind, NeedsFrom}
-use Rattle.dfdl_parse.specs.Trials.{attempt, parts_of, retry, try_empty, try_nil, try_normal, two_rows}
+use Rattle.dfdl_parse.specs.Trials.{attempt, parts_of, refused, retry, trial_done, try_empty, try_nil, try_normal, two_rows}
 use Rattle.dfdl_parse.proofs.Beyond.{beyond-byte}
 use Rattle.dfdl_parse.proofs.Opens.{back-open, closed-open, later, lower, risen}
 use Rattle.dfdl_parse.proofs.Texts.{EndsBehind, program_for-ends}
@@ -79,7 +89,7 @@ sized-low low prim size (Some primitive) k s is opens = by (can_fit size s.at s.
     by false = opens
 
 box-begun-low : (low bits body : ℕ) (k : List Frame) (s : State) → low ≤ s.at / 8 → AreOpen low s.at k s.marks → (inside : Bool)
-    → IsLowFrom low (cond inside (record { focus = Enter body; stack = Box s.stop ∷ k; state = record s { stop = s.at + bits } }) (at_end (Failed LengthOutOfRange s.at) k s))
+    → IsLowFrom low (cond inside (record { focus = Enter body; stack = Box (outside s) ∷ k; state = boxed_at (s.at + bits) s }) (at_end (Failed LengthOutOfRange s.at) k s))
 box-begun-low low bits body k s is opens true = (is, opens)
 box-begun-low low bits body k s is opens false = opens
 
@@ -107,9 +117,9 @@ filled-low window sight to NotYet k s is less opens = (is, (less, opens))
 filled-low window sight to Over k s is less opens = tt
 
 -- a byte of the rest of a box
-past-low : (sight : Held) (byte outer : ℕ) (k : List Frame) (s : State) → sight.base ≤ byte → 8 * byte < s.stop → s.at ≤ 8 * (byte + 1) → s.at ≤ s.stop
+past-low : (sight : Held) (byte : ℕ) (outer : Outside) (k : List Frame) (s : State) → sight.base ≤ byte → 8 * byte < s.stop → s.at ≤ 8 * (byte + 1) → s.at ≤ s.stop
     → AreOpen sight.base s.at k s.marks → (last : Bool) → nat_le ((s.stop - 1) / 8) byte ≡ last
-    → IsLow (cond last (pass (saw_byte byte nothing) sight (Leave Done) k (record s { at = s.stop; stop = outer }))
+    → IsLow (cond last (pass (saw_byte byte nothing) sight (Leave Done) k (back_outside outer (record s { at = s.stop })))
     (pass (saw_byte byte nothing) sight (PassRest (8 * (byte + 1)) outer) k s))
 past-low sight byte outer k s base inside behind before_stop opens true is =
     (omega arith, later sight.base s.at s.stop k s.marks before_stop opens)
@@ -117,7 +127,7 @@ past-low sight byte outer k s base inside behind before_stop opens false is =
     let less : byte < (s.stop - 1) / 8 = grind (arith, nat_tests) in
     (omega arith, (omega arith, (behind, opens)))
 
-rested-low : (window : ℕ) (sight : Held) (bit outer : ℕ) (v : Seen) (k : List Frame) (s : State) → sight.base ≤ bit / 8 → bit < s.stop → s.at ≤ bit
+rested-low : (window : ℕ) (sight : Held) (bit : ℕ) (outer : Outside) (v : Seen) (k : List Frame) (s : State) → sight.base ≤ bit / 8 → bit < s.stop → s.at ≤ bit
     → AreOpen sight.base s.at k s.marks → IsLow (rest_move window sight bit outer v k s)
 rested-low window sight bit outer (Byte b) k s base inside behind opens =
     past-low sight (bit / 8) outer k s base (omega arith) (omega arith) (omega arith) opens (nat_le ((s.stop - 1) / 8) (bit / 8)) refl
@@ -125,8 +135,23 @@ rested-low window sight bit outer DataEnded k s base inside behind opens = opens
 rested-low window sight bit outer NotYet k s base inside behind opens = (base, (inside, (behind, opens)))
 rested-low window sight bit outer Over k s base inside behind opens = tt
 
+-- a delimiter that is sought
+one-text-low : (cause : ParseCause) (bits low : ℕ) (k : List Frame) (s : State) → low ≤ aligned 8 s.at / 8 → AreOpen low s.at k s.marks → (is : Bool)
+    → (let o : Outcome = cond is (ended Done (record s { at = aligned 8 s.at + bits })) (ended (Failed cause s.at) s) in
+    NeedsFrom low (Leave o.end) k o.state)
+one-text-low cause bits low k s base opens true = (omega arith, later low s.at (aligned 8 s.at + bits) k s.marks (omega arith) opens)
+one-text-low cause bits low k s base opens false = opens
+
+text-low : (window list : ℕ) (terminates : Bool) (low : ℕ) (reached : Reached Longest) (k : List Frame) (s : State) → low ≤ aligned 8 s.at / 8 → AreOpen low s.at k s.marks
+    → IsLowFrom low (found_text window (Seek list terminates) (cause_of terminates) (place_of terminates s) reached k s)
+text-low window list terminates low (Told (Text which bits)) k s base opens =
+    one-text-low (cause_of terminates) bits low k s base opens (nat_eq which (place_of terminates s) && nat_lt 0 bits)
+text-low window list terminates low (Told NoText) k s base opens = opens
+text-low window list terminates low TooFar k s base opens = tt
+text-low window list terminates low Missing k s base opens = (base, opens)
+
 -- one representation of an element
-attempt-low : (cost : Tally) (most : ℕ) (held : Held) (id : ℕ) (parts : Parts) (instead : Option ℕ) (k : List Frame) (s : State)
+attempt-low : (cost : Tally) (most : ℕ) (held : Held) (id : ℕ) (parts : Parts) (instead : Instead) (k : List Frame) (s : State)
     → held.base ≤ s.at / 8 → AreOpen held.base s.at k s.marks → (room : Bool)
     → IsLow (cond room
     (pass cost held (Enter parts.body) (Element s.inside parts.complex ∷ k) (begun id instead s))
@@ -140,15 +165,15 @@ IsMarked base id k s = (base ≤ s.at / 8) × ((follows : Next) → AreOpen base
 
 module _ (cost : Tally) (most : ℕ) (held : Held) (id : ℕ) (parts : Parts) (k : List Frame) (s : State) (opens : IsMarked held.base id k s) where
   normal-low : IsLow (try_normal cost most held id parts k s)
-  normal-low = attempt-low cost most held id parts None (Trial id next.Nothing ∷ k) s opens.0 (opens.1 next.Nothing) (nat_lt (length s.nodes) most)
+  normal-low = attempt-low cost most held id parts Nothing (Trial id next.Nothing ∷ k) s opens.0 (opens.1 next.Nothing) (nat_lt (length s.nodes) most)
 
   empty-low : (empty : Option ℕ) → IsLow (try_empty cost most held id parts empty k s)
   empty-low None = normal-low
-  empty-low (Some prim) = attempt-low cost most held id parts (Some prim) (Trial id next.Normal ∷ k) s opens.0 (opens.1 next.Normal) (nat_lt (length s.nodes) most)
+  empty-low (Some prim) = attempt-low cost most held id parts (Empty prim) (Trial id next.Normal ∷ k) s opens.0 (opens.1 next.Normal) (nat_lt (length s.nodes) most)
 
   nil-low : (nil : Option ℕ) → IsLow (try_nil cost most held id parts nil k s)
   nil-low None = empty-low parts.tried.empty
-  nil-low (Some prim) = attempt-low cost most held id parts (Some prim) (Trial id next.Empty ∷ k) s opens.0 (opens.1 next.Empty) (nat_lt (length s.nodes) most)
+  nil-low (Some prim) = attempt-low cost most held id parts (Nil prim) (Trial id next.Empty ∷ k) s opens.0 (opens.1 next.Empty) (nat_lt (length s.nodes) most)
 
 -- a mark that is opened here
 opened : (base id : ℕ) (k : List Frame) (s : State) → base ≤ s.at / 8 → AreOpen base s.at k s.marks → IsMarked base id k (marked s)
@@ -222,13 +247,38 @@ module _ (held : Held) (s : State) where
   begin-low to k low opens false false is = opens
 
   element-low : (most id : ℕ) (parts : Parts) (k : List Frame) → held.base ≤ s.at / 8 → AreOpen held.base s.at k s.marks → (several : Bool)
-      → IsLow (cond several (try_nil two_rows most held id parts parts.tried.nil k (marked s)) (attempt two_rows most held id parts None k s))
+      → IsLow (cond several (try_nil two_rows most held id parts parts.tried.nil k (marked s)) (attempt two_rows most held id parts Nothing k s))
   element-low most id parts k low opens true = nil-low two_rows most held id parts k (marked s) (opened held.base id k s low opens) parts.tried.nil
-  element-low most id parts k low opens false = attempt-low two_rows most held id parts None k s low opens (nat_lt (length s.nodes) most)
+  element-low most id parts k low opens false = attempt-low two_rows most held id parts Nothing k s low opens (nat_lt (length s.nodes) most)
 
   group-low : (id : ℕ) (children : List ℕ) (k : List Frame) → held.base ≤ s.at / 8 → AreOpen held.base s.at k s.marks → IsLow (enter_group held id children k s)
   group-low id [] k low opens = (low, opens)
   group-low id (child ∷ rest) k low opens = (low, opens)
+
+  -- a representation that is done
+  refused-low : (id : ℕ) (follows : Next) (marks : List Mark) (k : List Frame) → s.marks ≡ marks → AreOpen held.base s.at (Trial id follows ∷ k) s.marks
+      → IsLow (refused marks held k s)
+  refused-low id follows [] k is opens =
+      absurd (subst (λ (ms : List Mark). AreOpen held.base s.at (Trial id follows ∷ k) ms) is opens)
+  refused-low id follows (mark ∷ outer) k is opens = closed-open held.base s.at id follows k s.marks opens
+
+  empty-found-low : (id : ℕ) (follows : Next) (refuses : Bool) (k : List Frame) → held.base ≤ s.at / 8 → AreOpen held.base s.at (Trial id follows ∷ k) s.marks
+      → IsLow (cond refuses (refused s.marks held k s) (pass nothing held (Leave Done) k (closed s)))
+  empty-found-low id follows true k low opens = refused-low id follows s.marks k refl opens
+  empty-found-low id follows false k low opens = (low, closed-open held.base s.at id follows k s.marks opens)
+
+  done-low : (id : ℕ) (parts : Option Parts) (follows : Next) (k : List Frame) → held.base ≤ s.at / 8 → AreOpen held.base s.at (Trial id follows ∷ k) s.marks
+      → IsLow (trial_done held parts follows k s)
+  done-low id None follows k low opens = (low, closed-open held.base s.at id follows k s.marks opens)
+  done-low id (Some parts) next.Empty k low opens = (low, closed-open held.base s.at id next.Empty k s.marks opens)
+  done-low id (Some parts) next.Normal k low opens = empty-found-low id next.Normal parts.tried.refuses_empty k low opens
+  done-low id (Some parts) next.Nothing k low opens = (low, closed-open held.base s.at id next.Nothing k s.marks opens)
+
+  -- a delimiter begins
+  delimiter-low : (delimiter : Delimiter) (terminates : Bool) (k : List Frame) → held.base ≤ s.at / 8 → AreOpen held.base s.at k s.marks → (does_stand : Bool)
+      → IsLow (cond does_stand (pass one_row held (Seek delimiter.list terminates) k s) (pass one_row held (Leave Done) k s))
+  delimiter-low delimiter terminates k low opens true = (omega arith, opens)
+  delimiter-low delimiter terminates k low opens false = (low, opens)
 
   enter-low : (limits : Limits) (table : Table) (id : ℕ) (r : Option Row) (k : List Frame) → Anchored held s → held.base ≤ s.at / 8
       → AreOpen held.base s.at k s.marks → IsLow (enter limits table held id r k s)
@@ -243,6 +293,9 @@ module _ (held : Held) (s : State) where
       begin-low (s.at + bits) k low opens (nat_le (s.at + bits) s.at) (nat_le (s.at + bits) s.stop) refl
   enter-low limits table id (Some (Align bits)) k stands low opens =
       begin-low (aligned bits s.at) k low opens (nat_le (aligned bits s.at) s.at) (nat_le (aligned bits s.at) s.stop) refl
+  enter-low limits table id (Some (Initiator delimiter)) k stands low opens = delimiter-low delimiter false k low opens (stands_in s.instead delimiter)
+  enter-low limits table id (Some (Terminator delimiter)) k stands low opens = delimiter-low delimiter true k low opens (stands_in s.instead delimiter)
+  enter-low limits table id (Some (Scope list body)) k stands low opens = (low, opens)
   enter-low limits table id (Some (Boxed bits body)) k stands low opens = box-begun-low held.base bits body k s low opens (nat_le (s.at + bits) s.stop)
   enter-low limits table id (Some (PrefixedLeaf prefix prim)) k stands low opens =
       let by : ℕ = read_by table.primitives s.instead prim in
@@ -256,8 +309,8 @@ module _ (held : Held) (s : State) where
   go-low id next None k low opens = (low, opens)
   go-low id next (Some child) k low opens = (low, opens)
 
-  leave-box-low : (outer : ℕ) (k : List Frame) → held.base ≤ s.at / 8 → AreOpen held.base s.at k s.marks → (over : Bool) → nat_le s.stop s.at ≡ over
-      → IsLow (cond over (pass nothing held (Leave Done) k (record s { stop = outer })) (pass nothing held (PassRest s.at outer) k s))
+  leave-box-low : (outer : Outside) (k : List Frame) → held.base ≤ s.at / 8 → AreOpen held.base s.at k s.marks → (over : Bool) → nat_le s.stop s.at ≡ over
+      → IsLow (cond over (pass nothing held (Leave Done) k (back_outside outer s)) (pass nothing held (PassRest s.at outer) k s))
   leave-box-low outer k low opens true is = (low, opens)
   leave-box-low outer k low opens false is = (low, (grind (arith, nat_tests), (omega arith, opens)))
 
@@ -272,7 +325,10 @@ module _ (held : Held) (s : State) where
   leave-low limits table (Box outer) Done k needs = leave-box-low outer k needs.0 needs.1 (nat_le s.stop s.at) refl
   leave-low limits table (Box outer) (Failed cause bit) k needs = needs
   leave-low limits table (Box outer) (Stopped cause quantity) k needs = tt
-  leave-low limits table (Trial id next) Done k needs = (needs.0, closed-open held.base s.at id next k s.marks needs.1)
+  leave-low limits table (ScopeFrame count) Done k needs = needs
+  leave-low limits table (ScopeFrame count) (Failed cause bit) k needs = needs
+  leave-low limits table (ScopeFrame count) (Stopped cause quantity) k needs = tt
+  leave-low limits table (Trial id next) Done k needs = done-low id (parts_of (slice_get table.rows id)) next k needs.0 needs.1
   leave-low limits table (Trial id next) (Failed cause bit) k needs =
       retry-low limits.nodes held id (parts_of (slice_get table.rows id)) next cause bit k s needs
   leave-low limits table (Trial id next) (Stopped cause quantity) k needs = tt
@@ -295,6 +351,11 @@ module _ (held : Held) (s : State) where
       filled-low limits.window (from_byte held (min low (end_of held))) to (seen_beyond held low ((to - 1) / 8)) k s (omega arith) needs.1.0
       (given-up (to - 1) k needs.1.1)
   step-low limits table (Sized prim size) k stands needs = told-low limits prim size (nil_values table.primitives s.instead) (slice_get table.primitives prim) k stands needs.0 needs.1
+  step-low limits table (Seek list terminates) k stands needs =
+      let low : ℕ = anchor_at s (aligned 8 s.at) in
+      text-low limits.window list terminates low
+      (ask (seen_at (from_byte held low)) (sought_among (among table.delimiters list terminates s) s.at s.stop) nothing).reached k s stands.low
+      (risen held.base s.at (aligned 8 s.at) k s.marks needs.1)
   step-low limits table (Leave told) [] stands needs = needs
   step-low limits table (Leave told) (frame ∷ k) stands needs = leave-low limits table frame told k needs
 
@@ -314,16 +375,16 @@ fill-within limits held to k s base at =
     (λ b is. beyond-byte held low ((to - 1) / 8) base.0 base.1 b is)
 
 -- so does the rest of a box
-past-within : (sight : Held) (byte outer : ℕ) (k : List Frame) (s : State) (end : ℕ) → s.at ≤ 8 * end → byte + 1 ≤ end
+past-within : (sight : Held) (byte : ℕ) (outer : Outside) (k : List Frame) (s : State) (end : ℕ) → s.at ≤ 8 * end → byte + 1 ≤ end
     → (last : Bool) → nat_le ((s.stop - 1) / 8) byte ≡ last
-    → (cond last (pass (saw_byte byte nothing) sight (Leave Done) k (record s { at = s.stop; stop = outer }))
+    → (cond last (pass (saw_byte byte nothing) sight (Leave Done) k (back_outside outer (record s { at = s.stop })))
     (pass (saw_byte byte nothing) sight (PassRest (8 * (byte + 1)) outer) k s)).machine.state.at ≤ 8 * end
 past-within sight byte outer k s end at there true is =
     let most : (s.stop - 1) / 8 ≤ byte = grind (arith, nat_tests) in
     omega arith
 past-within sight byte outer k s end at there false is = at
 
-rested-within : (window : ℕ) (sight : Held) (bit outer : ℕ) (v : Seen) (k : List Frame) (s : State) (end : ℕ) → s.at ≤ 8 * end
+rested-within : (window : ℕ) (sight : Held) (bit : ℕ) (outer : Outside) (v : Seen) (k : List Frame) (s : State) (end : ℕ) → s.at ≤ 8 * end
     → ((b : ℕ) → v ≡ Byte b → bit / 8 + 1 ≤ end) → (rest_move window sight bit outer v k s).machine.state.at ≤ 8 * end
 rested-within window sight bit outer (Byte b) k s end at within =
     past-within sight (bit / 8) outer k s end at (within b refl) (nat_le ((s.stop - 1) / 8) (bit / 8)) refl
@@ -331,7 +392,7 @@ rested-within window sight bit outer DataEnded k s end at within = at
 rested-within window sight bit outer NotYet k s end at within = at
 rested-within window sight bit outer Over k s end at within = at
 
-pub rest-within : (limits : Limits) (held : Held) (bit outer : ℕ) (k : List Frame) (s : State) → IsHeld held.base (8 * (bit / 8)) s → s.at ≤ 8 * end_of held
+pub rest-within : (limits : Limits) (held : Held) (bit : ℕ) (outer : Outside) (k : List Frame) (s : State) → IsHeld held.base (8 * (bit / 8)) s → s.at ≤ 8 * end_of held
     → (pass_rest limits held bit outer k s).machine.state.at ≤ 8 * end_of held
 rest-within limits held bit outer k s base at =
     let low : ℕ = anchor_at s (8 * (bit / 8)) in

@@ -6,12 +6,13 @@ use Rattle.dfdl_grammar.specs.declared.end.End.{End}
 use Rattle.dfdl_grammar.specs.declared.end.End.TheVariants.{Done, Failed, Stopped}
 use Rattle.dfdl_grammar.specs.declared.mark.Mark.{Mark}
 use Rattle.dfdl_grammar.specs.Marks.{back_among, outer_marks}
+use Rattle.dfdl_grammar.specs.Framing.{aligned}
 use Rattle.dfdl_grammar.specs.States.{State, held_from}
 use Rattle.dfdl_parse.specs.declared.frame.Frame.{Frame}
-use Rattle.dfdl_parse.specs.declared.frame.Frame.TheVariants.{Rest, Element, Box, Trial}
+use Rattle.dfdl_parse.specs.declared.frame.Frame.TheVariants.{Rest, Element, Box, Scope as ScopeFrame, Trial}
 use Rattle.dfdl_parse.specs.declared.frame.Next.{Next}
 use Rattle.dfdl_parse.specs.declared.frame.Focus.{Focus}
-use Rattle.dfdl_parse.specs.declared.frame.Focus.TheVariants.{Enter, Pass, PassRest, Sized, Leave}
+use Rattle.dfdl_parse.specs.declared.frame.Focus.TheVariants.{Enter, Pass, PassRest, Sized, Seek, Leave}
 use Rattle.dfdl_parse.specs.Opens.{AreOpen, GoesBack, Holds, IsBefore, NeedsBehind, NeedsFrom}
 
 -- the outermost of some marks
@@ -46,6 +47,7 @@ held-before base at bit [] (mark ∷ outer) opens less = absurd opens
 held-before base at bit (Rest id next ∷ k) marks opens less = held-before base at bit k marks opens less
 held-before base at bit (Element outer complex ∷ k) marks opens less = held-before base at bit k marks opens less
 held-before base at bit (Box outer ∷ k) marks opens less = held-before base at bit k marks opens less
+held-before base at bit (ScopeFrame count ∷ k) marks opens less = held-before base at bit k marks opens less
 held-before base at bit (Trial id next ∷ k) [] opens less = absurd opens
 held-before base at bit (Trial id next ∷ k) (mark ∷ outer) opens less =
     let is : held_from (mark ∷ outer) bit ≡ held_from outer mark.at = held-open mark outer bit opens.0 in
@@ -60,6 +62,7 @@ held-high base at bit [] (mark ∷ outer) opens low = absurd opens
 held-high base at bit (Rest id next ∷ k) marks opens low = held-high base at bit k marks opens low
 held-high base at bit (Element outer complex ∷ k) marks opens low = held-high base at bit k marks opens low
 held-high base at bit (Box outer ∷ k) marks opens low = held-high base at bit k marks opens low
+held-high base at bit (ScopeFrame count ∷ k) marks opens low = held-high base at bit k marks opens low
 held-high base at bit (Trial id next ∷ k) [] opens low = absurd opens
 held-high base at bit (Trial id next ∷ k) (mark ∷ outer) opens low =
     subst (λ (n : ℕ). base ≤ n / 8) (sym (held-open mark outer bit opens.0)) (held-high base mark.at mark.at k outer opens.1.1.1 opens.1.1.0)
@@ -71,6 +74,7 @@ lower low base at [] (mark ∷ outer) less opens = absurd opens
 lower low base at (Rest id next ∷ k) marks less opens = lower low base at k marks less opens
 lower low base at (Element outer complex ∷ k) marks less opens = lower low base at k marks less opens
 lower low base at (Box outer ∷ k) marks less opens = lower low base at k marks less opens
+lower low base at (ScopeFrame count ∷ k) marks less opens = lower low base at k marks less opens
 lower low base at (Trial id next ∷ k) [] less opens = absurd opens
 lower low base at (Trial id next ∷ k) (mark ∷ outer) less opens =
     let there : base ≤ mark.at / 8 = opens.1.1.0 in
@@ -83,6 +87,7 @@ later base at bit [] (mark ∷ outer) less opens = absurd opens
 later base at bit (Rest id next ∷ k) marks less opens = later base at bit k marks less opens
 later base at bit (Element outer complex ∷ k) marks less opens = later base at bit k marks less opens
 later base at bit (Box outer ∷ k) marks less opens = later base at bit k marks less opens
+later base at bit (ScopeFrame count ∷ k) marks less opens = later base at bit k marks less opens
 later base at bit (Trial id next ∷ k) [] less opens = absurd opens
 later base at bit (Trial id next ∷ k) (mark ∷ outer) less opens =
     let behind : mark.at ≤ at = opens.1.0 in
@@ -95,6 +100,7 @@ risen base at bit [] (mark ∷ outer) opens = absurd opens
 risen base at bit (Rest id next ∷ k) marks opens = risen base at bit k marks opens
 risen base at bit (Element outer complex ∷ k) marks opens = risen base at bit k marks opens
 risen base at bit (Box outer ∷ k) marks opens = risen base at bit k marks opens
+risen base at bit (ScopeFrame count ∷ k) marks opens = risen base at bit k marks opens
 risen base at bit (Trial id next ∷ k) [] opens = absurd opens
 risen base at bit (Trial id next ∷ k) (mark ∷ outer) opens =
     subst (λ (n : ℕ). AreOpen (n / 8) at (Trial id next ∷ k) (mark ∷ outer)) (sym (held-open mark outer bit opens.0))
@@ -107,6 +113,7 @@ before base at [] (mark ∷ outer) opens = absurd opens
 before base at (Rest id next ∷ k) marks opens = before base at k marks opens
 before base at (Element outer complex ∷ k) marks opens = before base at k marks opens
 before base at (Box outer ∷ k) marks opens = before base at k marks opens
+before base at (ScopeFrame count ∷ k) marks opens = before base at k marks opens
 before base at (Trial id next ∷ k) [] opens = absurd opens
 before base at (Trial id next ∷ k) (mark ∷ outer) opens = opens.1.0
 
@@ -140,4 +147,6 @@ holds base (PassRest bit outer) k s needs =
     let less = needs.1.1.0 in
     (held-high base s.at (8 * (bit / 8)) k s.marks needs.1.1.1 (omega arith), held-before base s.at (8 * (bit / 8)) k s.marks needs.1.1.1 (omega arith))
 holds base (Sized prim size) k s needs = (held-high base s.at s.at k s.marks needs.1 needs.0, held-before base s.at s.at k s.marks needs.1 (omega arith))
+holds base (Seek list terminates) k s needs =
+    (held-high base s.at (aligned 8 s.at) k s.marks needs.1 needs.0, held-before base s.at (aligned 8 s.at) k s.marks needs.1 (omega arith))
 holds base (Leave end) k s needs = behind_holds base end k s needs

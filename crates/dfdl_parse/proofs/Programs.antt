@@ -22,7 +22,7 @@ use Rattle.dfdl_grammar.specs.Patterns.{most_sought}
 use Rattle.dfdl_grammar.specs.Leaves.{Find, Fails, FindsOctets, bits_of, bytes_spanned, empty_begins, field, find_in, nil_octets_find, nil_value_find, octets, pattern_find, program, program_for, text_begins, text_find, text_of_size, text_sought}
 
 -- looks that lie behind a byte lie behind one before it
-lower : {F : Type 0} (low k : ℕ) → low ≤ k → (a : Ask F) → AsksFrom k a → AsksFrom low a
+pub lower : {F : Type 0} (low k : ℕ) → low ≤ k → (a : Ask F) → AsksFrom k a → AsksFrom low a
 lower low k before (Answer f) from = tt
 lower low k before (Look j next) from = (omega (arith, from.0), λ o. lower low k before (next o) (from.1 o))
 

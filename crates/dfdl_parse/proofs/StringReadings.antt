@@ -3,6 +3,7 @@ use Rattle.std.proofs.Common.{◌≡◌, ℕ, zero, suc, ◌+◌, ◌-◌, ◌*�
 use Rattle.std.proofs.lemmas.Bool.Decides.{nat_tests}
 use Rattle.dfdl_bits.specs.Window.{Held, end_of, seen_at}
 use Rattle.dfdl_bits.specs.declared.window.Seen.{Seen}
+use Rattle.dfdl_bits.specs.declared.window.Seen.TheVariants.{Byte}
 use Rattle.dfdl_report.specs.declared.cause.ParseCause.TheVariants.{NotFilled}
 use Rattle.dfdl_looks.specs.Asks.{Ask, Answer, Reached, Told, TooFar, Missing, Reading, and_then, ask, go_on}
 use Rattle.dfdl_looks.specs.Tallies.{Tally, nothing}
@@ -106,20 +107,15 @@ module _ (look : ℕ → Seen) (form : TextForm) (bit stop : ℕ) where
       (subst (λ s. Answers (ask look (string_of (sized form s) bit (text_at form.encoding form.replaces (extent.Characters count) stop (first / 8))) nothing) scratch glance looks)
       (sym is) answers)
 
-module _ (held : Held) (form : TextForm) (bit : ℕ) (come : bit ≤ 8 * end_of held) (base : held.base ≤ bit / 8) where
-  abbrev look : ℕ → Seen
-  look = seen_at held
-
-  abbrev last : ℕ
-  last = end_of held
-
+module _ (look : ℕ → Seen) (last : ℕ) (form : TextForm) (bit : ℕ) (come : bit ≤ 8 * last)
+    (lies : (j byte : ℕ) → bit / 8 ≤ j → look j ≡ Byte byte → j + 1 ≤ last) where
   -- the text's own end, and that of the string's box
   ends-text : (of : Extent) (stop k : ℕ) → bit / 8 ≤ k → ((chars : List ℕ) (end : ℕ) → TextEnds of stop last k chars end → text_behind form.size bit end ≤ 8 * last)
       → (r : Reached Text) → (ask look (text_at form.encoding form.replaces of stop k) nothing).reached ≡ r → AtEnd (λ e. e ≤ 8 * last) (text_reached form bit r)
   ends-text of stop k from near (Told (Reads chars end)) is =
       content-at (λ e. e ≤ 8 * last) form.content (trimmed form.pad chars) (text_behind form.size bit end)
       (near chars end (text-lies form.encoding form.replaces of stop look last k nothing chars end
-      (λ j byte after seen. seen_within held j byte (omega arith) seen) is))
+      (λ j byte after seen. lies j byte (omega arith) seen) is))
   ends-text of stop k from near (Told HasBad) is = tt
   ends-text of stop k from near (Told IsCut) is = tt
   ends-text of stop k from near (Told IsBoxed) is = tt
@@ -158,10 +154,18 @@ module _ (held : Held) (form : TextForm) (bit : ℕ) (come : bit ≤ 8 * end_of 
       (λ chars end ends. let there = ends.come in
       subst (λ s. text_behind s bit end ≤ 8 * last) (sym is) (omega arith))
 
-  -- a text that is read has its box in the bytes that have come
-  pub string-within : (stop : ℕ) → has_room (PlacedText form) bit stop ≡ true → (looks : ℕ) (scratch : Scratch) (glance : Glance)
-      → Answers (ask look (text_of_size form form.size bit stop) nothing) scratch glance looks → IsWithin glance.found last
-  string-within stop room looks scratch glance answers =
+  -- a text that is read has its box before the byte before which all looks see their bytes
+  pub string-lies : (stop : ℕ) → has_room (PlacedText form) bit stop ≡ true
+      → AtEnd (λ e. e ≤ 8 * last) (ask look (text_of_size form form.size bit stop) nothing).reached
+  string-lies stop room =
       let begins : nat_le (text_begins form.content form.size bit) (text_ends form.size bit stop) ≡ true = grind (arith, nat_tests) in
-      ends-found last scratch glance.found
-      (subst (λ (r : Reached Find). AtEnd (λ e. e ≤ 8 * last) r) answers.reached (ends-size stop form.size refl begins))
+      ends-size stop form.size refl begins
+
+-- a text that is read has its box in the bytes that have come
+pub string-within : (held : Held) (form : TextForm) (bit : ℕ) → bit ≤ 8 * end_of held → held.base ≤ bit / 8 → (stop : ℕ) → has_room (PlacedText form) bit stop ≡ true
+    → (looks : ℕ) (scratch : Scratch) (glance : Glance)
+    → Answers (ask (seen_at held) (text_of_size form form.size bit stop) nothing) scratch glance looks → IsWithin glance.found (end_of held)
+string-within held form bit come base stop room looks scratch glance answers =
+    ends-found (end_of held) scratch glance.found
+    (subst (λ (r : Reached Find). AtEnd (λ e. e ≤ 8 * end_of held) r) answers.reached
+    (string-lies (seen_at held) (end_of held) form bit come (λ j byte after seen. seen_within held j byte (omega arith) seen) stop room))

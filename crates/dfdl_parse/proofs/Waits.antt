@@ -8,8 +8,10 @@ use Rattle.dfdl_report.specs.declared.cause.LimitCause.TheVariants.{Nodes}
 use Rattle.dfdl_report.specs.declared.cause.ParseCause.TheVariants.{DataEnds, LengthOutOfRange}
 use Rattle.dfdl_value.specs.declared.value.Value.{Value}
 use Rattle.dfdl_terms.specs.declared.row.Primitive.{Primitive}
+use Rattle.dfdl_delims.specs.Longest.{Longest}
+use Rattle.dfdl_terms.specs.declared.delimiters.Delimiter.{Delimiter}
 use Rattle.dfdl_terms.specs.declared.row.Row.{Row}
-use Rattle.dfdl_terms.specs.declared.row.Row.TheVariants.{Leaf, Elem, Group, Skip, Align, Boxed, PrefixedLeaf, PrefixedBox}
+use Rattle.dfdl_terms.specs.declared.row.Row.TheVariants.{Leaf, Elem, Group, Skip, Align, Initiator, Terminator, Scope, Boxed, PrefixedLeaf, PrefixedBox}
 use Rattle.dfdl_terms.specs.Rows.{Table}
 use Rattle.dfdl_looks.specs.Looks.{seen_in}
 use Rattle.dfdl_looks.specs.Asks.{Reached, Told, TooFar, Missing, Reading, ask}
@@ -19,33 +21,41 @@ use Rattle.dfdl_grammar.specs.declared.end.End.{End}
 use Rattle.dfdl_grammar.specs.declared.end.End.TheVariants.{Done, Failed, Stopped}
 use Rattle.dfdl_grammar.specs.declared.limits.Limits.{Limits}
 use Rattle.dfdl_grammar.specs.States.{Input, State, anchor, anchor_at}
-use Rattle.dfdl_grammar.specs.Marks.{back, marked}
+use Rattle.dfdl_grammar.specs.Marks.{back, closed, marked}
+use Rattle.dfdl_grammar.specs.declared.mark.Mark.{Mark}
+use Rattle.dfdl_grammar.specs.declared.instead.Instead.{Instead}
+use Rattle.dfdl_grammar.specs.declared.instead.Instead.TheVariants.{Nothing, Nil, Empty}
 use Rattle.dfdl_grammar.specs.Outcomes.{Outcome, ended, spend}
 use Rattle.dfdl_terms.specs.declared.text.TextSize.{TextSize}
 use Rattle.dfdl_grammar.specs.Leaves.{Find, content_begins, has_room, land, leaf, nil_values, program, program_for, read_by}
 use Rattle.dfdl_grammar.specs.Prefixes.{bits_of_units, land_prefix, leaf_of, prefixed, resized, size_of, sized_leaf}
 use Rattle.dfdl_grammar.specs.Boxes.{boxed}
 use Rattle.dfdl_grammar.specs.Framing.{aligned, fill_to}
+use Rattle.dfdl_grammar.specs.Delimiters.{sought_among, stands_in}
 use Rattle.dfdl_grammar.specs.Elements.{begun, has_elements}
 use Rattle.dfdl_grammar.specs.Rows.{below, meaning, row}
 use Rattle.dfdl_grammar.proofs.Spending.{spend-spend, spend-nothing}
 use Rattle.dfdl_parse.specs.declared.frame.Frame.{Frame}
-use Rattle.dfdl_parse.specs.declared.frame.Frame.TheVariants.{Rest, Element, Box, Trial}
+use Rattle.dfdl_parse.specs.declared.frame.Frame.TheVariants.{Rest, Element, Box, Scope as ScopeFrame, Trial}
+use Rattle.dfdl_parse.specs.declared.frame.Outside.{Outside}
 use Rattle.dfdl_parse.specs.declared.frame.Next.{Next}
 use Rattle.dfdl_parse.specs.declared.frame.Next.TheVariants as next
 use Rattle.dfdl_parse.specs.declared.frame.Parts.{Parts}
 use Rattle.dfdl_parse.specs.declared.frame.Focus.{Focus}
-use Rattle.dfdl_parse.specs.declared.frame.Focus.TheVariants.{Enter, Pass, PassRest, Sized, Leave}
+use Rattle.dfdl_parse.specs.declared.frame.Focus.TheVariants.{Enter, Pass, PassRest, Sized, Seek, Leave}
 use Rattle.dfdl_parse.specs.declared.frame.Behind.TheVariants as behind
+use Rattle.dfdl_parse.specs.Boxing.{back_outside, hides}
+use Rattle.dfdl_parse.specs.Searches.{among, cause_of, found_text, place_of, search}
 use Rattle.dfdl_parse.specs.Moves.{Machine, Move, is_missing, landed, pass, read_leaf, read_move}
 use Rattle.dfdl_parse.specs.Prefixed.{behind_units, landed_prefix, prefix_move, read_prefix, read_resized, read_sized}
 use Rattle.dfdl_parse.specs.Machines.{children_of, enter, enter_group, fill, fill_move, go_on, leave, pass_rest, rest_move, seen_beyond, step}
-use Rattle.dfdl_parse.specs.Trials.{attempt, parts_of, retry, try_empty, try_nil, try_normal, two_rows}
+use Rattle.dfdl_parse.specs.Trials.{attempt, parts_of, refused, retry, trial_done, try_empty, try_nil, try_normal, two_rows}
 use Rattle.dfdl_parse.specs.Ahead.{finish}
 use Rattle.dfdl_parse.proofs.Windows.{agrees_from, end_from}
 use Rattle.dfdl_parse.proofs.Beyond.{beyond-missed, beyond-waits}
 use Rattle.dfdl_parse.proofs.Programs.{program_for-from}
 use Rattle.dfdl_parse.proofs.Finishes.{Fits, finish-spend, from_here}
+use Rattle.dfdl_parse.proofs.SeekSteps.{is_lost as text_lost, seek-lost, seek-room}
 use Rattle.dfdl_parse.proofs.LeafSteps.{Sees}
 use Rattle.dfdl_parse.proofs.Ahead.{filled, rest-seen, rested}
 
@@ -240,8 +250,8 @@ module _ (table : Table) (held : Held) (s : State) where
   begin-on to k false true waits = absurd (cc)
   begin-on to k false false waits = absurd (cc)
 
-  leave-box-on : (outer : ℕ) (k : List Frame) (over : Bool)
-      → (cond over (pass nothing held (Leave Done) k (record s { stop = outer })) (pass nothing held (PassRest s.at outer) k s)).waits ≡ true → ⊥
+  leave-box-on : (outer : Outside) (k : List Frame) (over : Bool)
+      → (cond over (pass nothing held (Leave Done) k (back_outside outer s)) (pass nothing held (PassRest s.at outer) k s)).waits ≡ true → ⊥
   leave-box-on outer k true waits = absurd (cc)
   leave-box-on outer k false waits = absurd (cc)
 
@@ -280,19 +290,19 @@ module _ (table : Table) (held : Held) (s : State) where
       }
 
   -- a byte of the rest of a box that is looked at in vain
-  past-on : (sight : Held) (byte outer : ℕ) (k : List Frame) (last : Bool)
-      → (cond last (pass (saw_byte byte nothing) sight (Leave Done) k (record s { at = s.stop; stop = outer }))
+  past-on : (sight : Held) (byte : ℕ) (outer : Outside) (k : List Frame) (last : Bool)
+      → (cond last (pass (saw_byte byte nothing) sight (Leave Done) k (back_outside outer (record s { at = s.stop })))
       (pass (saw_byte byte nothing) sight (PassRest (8 * (byte + 1)) outer) k s)).waits ≡ true → ⊥
   past-on sight byte outer k true waits = absurd (cc)
   past-on sight byte outer k false waits = absurd (cc)
 
-  rest-in_vain : (window : ℕ) (sight : Held) (bit outer : ℕ) (v : Seen) (k : List Frame) → (rest_move window sight bit outer v k s).waits ≡ true → v ≡ NotYet
+  rest-in_vain : (window : ℕ) (sight : Held) (bit : ℕ) (outer : Outside) (v : Seen) (k : List Frame) → (rest_move window sight bit outer v k s).waits ≡ true → v ≡ NotYet
   rest-in_vain window sight bit outer (Byte b) k waits = absurd (past-on sight (bit / 8) outer k (nat_le ((s.stop - 1) / 8) (bit / 8)) waits)
   rest-in_vain window sight bit outer DataEnded k waits = absurd (cc)
   rest-in_vain window sight bit outer NotYet k waits = refl
   rest-in_vain window sight bit outer Over k waits = absurd (cc)
 
-  rest-waits : (limits : Limits) (bit outer : ℕ) (k : List Frame) → (pass_rest limits held bit outer k s).waits ≡ true
+  rest-waits : (limits : Limits) (bit : ℕ) (outer : Outside) (k : List Frame) → (pass_rest limits held bit outer k s).waits ≡ true
       → Waits table held (PassRest bit outer) k s (pass_rest limits held bit outer k s)
   rest-waits limits bit outer k waits =
       let byte : ℕ = bit / 8 in
@@ -311,18 +321,18 @@ module _ (table : Table) (held : Held) (s : State) where
             let past : end_of held ≤ byte = lost.1 in
             let seen : seen_in input.bytes input.limits.window low byte ≡ DataEnded =
             ap (λ (size : ℕ). seen_in input.bytes size low byte) (sym fits.size) ∙ lost.0 in
-            let rest : Outcome = finish input table k (ended (Failed DataEnds s.at) s) in
+            let rest : Outcome = finish input table k (ended (Failed DataEnds s.at) (hides outer.hidden s)) in
             let is : from_here input table (PassRest bit outer) k s ≡ spend (saw_end byte nothing) rest =
             rest-seen input table bit outer k s fits.stands.1.0
             ∙ ap (λ (v : Seen). finish input table k (rested input table byte outer v s)) seen
-            ∙ finish-spend input table k (saw_end byte nothing) (ended (Failed DataEnds s.at) s) in
+            ∙ finish-spend input table k (saw_end byte nothing) (ended (Failed DataEnds s.at) (hides outer.hidden s)) in
             let looks : (pass_rest limits held bit outer k s).tally.looks ≡ 1 = ap (λ (m : Move). m.tally.looks) move_is in
             let is_tail : (from_here input table (PassRest bit outer) k s).tally.tail ≡ 1 = ap (λ (o : Outcome). o.tally.tail) is in
             let is_far : (from_here input table (PassRest bit outer) k s).tally.far ≡ max (max 0 (byte + 1)) rest.tally.far = ap (λ (o : Outcome). o.tally.far) is in
             (is_tail ∙ sym looks, omega arith);
       }
 
-  attempt-on : (cost : Tally) (most id : ℕ) (parts : Parts) (instead : Option ℕ) (k : List Frame) (t : State) (room : Bool)
+  attempt-on : (cost : Tally) (most id : ℕ) (parts : Parts) (instead : Instead) (k : List Frame) (t : State) (room : Bool)
       → (cond room
       (pass cost held (Enter parts.body) (Element t.inside parts.complex ∷ k) (begun id instead t))
       (pass cost held (Leave (Stopped Nodes most)) k t)).waits ≡ true → ⊥
@@ -331,26 +341,61 @@ module _ (table : Table) (held : Held) (s : State) where
 
   module _ (cost : Tally) (most id : ℕ) (parts : Parts) (k : List Frame) (t : State) where
     normal-on : (try_normal cost most held id parts k t).waits ≡ true → ⊥
-    normal-on waits = attempt-on cost most id parts None (Trial id next.Nothing ∷ k) t (nat_lt (length t.nodes) most) waits
+    normal-on waits = attempt-on cost most id parts Nothing (Trial id next.Nothing ∷ k) t (nat_lt (length t.nodes) most) waits
 
     empty-on : (empty : Option ℕ) → (try_empty cost most held id parts empty k t).waits ≡ true → ⊥
     empty-on None waits = normal-on waits
-    empty-on (Some prim) waits = attempt-on cost most id parts (Some prim) (Trial id next.Normal ∷ k) t (nat_lt (length t.nodes) most) waits
+    empty-on (Some prim) waits = attempt-on cost most id parts (Empty prim) (Trial id next.Normal ∷ k) t (nat_lt (length t.nodes) most) waits
 
     nil-on : (nil : Option ℕ) → (try_nil cost most held id parts nil k t).waits ≡ true → ⊥
     nil-on None waits = empty-on parts.tried.empty waits
-    nil-on (Some prim) waits = attempt-on cost most id parts (Some prim) (Trial id next.Empty ∷ k) t (nat_lt (length t.nodes) most) waits
+    nil-on (Some prim) waits = attempt-on cost most id parts (Nil prim) (Trial id next.Empty ∷ k) t (nat_lt (length t.nodes) most) waits
 
   element-on : (most id : ℕ) (parts : Parts) (k : List Frame) (several : Bool)
-      → (cond several (try_nil two_rows most held id parts parts.tried.nil k (marked s)) (attempt two_rows most held id parts None k s)).waits ≡ true → ⊥
+      → (cond several (try_nil two_rows most held id parts parts.tried.nil k (marked s)) (attempt two_rows most held id parts Nothing k s)).waits ≡ true → ⊥
   element-on most id parts k true waits = nil-on two_rows most id parts k (marked s) parts.tried.nil waits
-  element-on most id parts k false waits = attempt-on two_rows most id parts None k s (nat_lt (length s.nodes) most) waits
+  element-on most id parts k false waits = attempt-on two_rows most id parts Nothing k s (nat_lt (length s.nodes) most) waits
 
   retry-on : (most id : ℕ) (parts : Option Parts) (follows : Next) (told : End) (k : List Frame) → (retry most held id parts follows told k s).waits ≡ true → ⊥
   retry-on most id None follows told k waits = absurd (cc)
   retry-on most id (Some parts) next.Empty told k waits = empty-on one_row most id parts k (back s) parts.tried.empty waits
   retry-on most id (Some parts) next.Normal told k waits = normal-on one_row most id parts k (back s) waits
   retry-on most id (Some parts) next.Nothing told k waits = absurd (cc)
+
+  refused-on : (marks : List Mark) (k : List Frame) → (refused marks held k s).waits ≡ true → ⊥
+  refused-on [] k waits = absurd (cc)
+  refused-on (mark ∷ outer) k waits = absurd (cc)
+
+  empty-found-on : (refuses : Bool) (k : List Frame)
+      → (cond refuses (refused s.marks held k s) (pass nothing held (Leave Done) k (closed s))).waits ≡ true → ⊥
+  empty-found-on true k waits = refused-on s.marks k waits
+  empty-found-on false k waits = absurd (cc)
+
+  done-on : (parts : Option Parts) (follows : Next) (k : List Frame) → (trial_done held parts follows k s).waits ≡ true → ⊥
+  done-on None follows k waits = absurd (cc)
+  done-on (Some parts) next.Empty k waits = absurd (cc)
+  done-on (Some parts) next.Normal k waits = empty-found-on parts.tried.refuses_empty k waits
+  done-on (Some parts) next.Nothing k waits = absurd (cc)
+
+  delimiter-on : (delimiter : Delimiter) (terminates : Bool) (k : List Frame) (does_stand : Bool)
+      → (cond does_stand (pass one_row held (Seek delimiter.list terminates) k s) (pass one_row held (Leave Done) k s)).waits ≡ true → ⊥
+  delimiter-on delimiter terminates k true waits = absurd (cc)
+  delimiter-on delimiter terminates k false waits = absurd (cc)
+
+  -- a search that waits
+  seek-waits : (limits : Limits) (list : ℕ) (terminates : Bool) (k : List Frame) → (search limits table.delimiters held list terminates k s).waits ≡ true
+      → Waits table held (Seek list terminates) k s (search limits table.delimiters held list terminates k s)
+  seek-waits limits list terminates k waits =
+      let here : Reading Longest =
+      ask (seen_at (from_byte held (anchor_at s (aligned 8 s.at)))) (sought_among (among table.delimiters list terminates s) s.at s.stop) nothing in
+      let missing : here.reached ≡ Missing = text_lost here.reached waits in
+      let stands = seek-room table.delimiters held list terminates s missing in
+      record {
+        machine = ap (λ (r : Reached Longest). found_text limits.window (Seek list terminates) (cause_of terminates) (place_of terminates s) r k s) missing;
+        on = stands.0;
+        room = stands.1;
+        missed = λ input fits all. seek-lost input table held list terminates k s fits.agrees fits.size fits.stands all stands.0 missing;
+      }
 
   group-on : (id : ℕ) (children : List ℕ) (k : List Frame) → (enter_group held id children k s).waits ≡ true → ⊥
   group-on id [] k waits = absurd (cc)
@@ -368,6 +413,9 @@ module _ (table : Table) (held : Held) (s : State) where
   enter-waits limits id (Some (Align bits)) k at waits =
       absurd (begin-on (aligned bits s.at) k (nat_le (aligned bits s.at) s.at) (nat_le (aligned bits s.at) s.stop) waits)
   enter-waits limits id (Some (Group children)) k at waits = absurd (group-on id children k waits)
+  enter-waits limits id (Some (Initiator delimiter)) k at waits = absurd (delimiter-on delimiter false k (stands_in s.instead delimiter) waits)
+  enter-waits limits id (Some (Terminator delimiter)) k at waits = absurd (delimiter-on delimiter true k (stands_in s.instead delimiter) waits)
+  enter-waits limits id (Some (Scope list body)) k at waits = absurd (cc)
   enter-waits limits id (Some (Boxed bits body)) k at waits = absurd (cc)
   enter-waits limits id (Some (PrefixedLeaf prefix prim)) k at waits =
       let by : Option Primitive = slice_get table.primitives prefix.prim in
@@ -386,7 +434,7 @@ module _ (table : Table) (held : Held) (s : State) where
   go-on id next None k waits = absurd (cc)
   go-on id next (Some child) k waits = absurd (cc)
 
-  leave-on : (limits : Limits) (frame : Frame) (told : End) (k : List Frame) → (leave limits table held frame told k s).waits ≡ true → ⊥
+  pub leave-on : (limits : Limits) (frame : Frame) (told : End) (k : List Frame) → (leave limits table held frame told k s).waits ≡ true → ⊥
   leave-on limits (Rest id next) Done k waits = go-on id next (slice_get (children_of (slice_get table.rows id)) next) k waits
   leave-on limits (Rest id next) (Failed cause bit) k waits = absurd (cc)
   leave-on limits (Rest id next) (Stopped cause quantity) k waits = absurd (cc)
@@ -396,7 +444,10 @@ module _ (table : Table) (held : Held) (s : State) where
   leave-on limits (Box outer) Done k waits = leave-box-on outer k (nat_le s.stop s.at) waits
   leave-on limits (Box outer) (Failed cause bit) k waits = absurd (cc)
   leave-on limits (Box outer) (Stopped cause quantity) k waits = absurd (cc)
-  leave-on limits (Trial id next) Done k waits = absurd (cc)
+  leave-on limits (ScopeFrame count) Done k waits = absurd (cc)
+  leave-on limits (ScopeFrame count) (Failed cause bit) k waits = absurd (cc)
+  leave-on limits (ScopeFrame count) (Stopped cause quantity) k waits = absurd (cc)
+  leave-on limits (Trial id next) Done k waits = done-on (parts_of (slice_get table.rows id)) next k waits
   leave-on limits (Trial id next) (Failed cause bit) k waits = retry-on limits.nodes id (parts_of (slice_get table.rows id)) next (Failed cause bit) k waits
   leave-on limits (Trial id next) (Stopped cause quantity) k waits = absurd (cc)
 
@@ -406,5 +457,6 @@ module _ (table : Table) (held : Held) (s : State) where
   step-waits limits (Pass to) k waits = fill-waits limits to k waits
   step-waits limits (PassRest bit outer) k waits = rest-waits limits bit outer k waits
   step-waits limits (Sized prim size) k waits = sized-waits limits prim size (slice_get table.primitives prim) k refl waits
+  step-waits limits (Seek list terminates) k waits = seek-waits limits list terminates k waits
   step-waits limits (Leave told) [] waits = absurd (cc)
   step-waits limits (Leave told) (frame ∷ k) waits = absurd (leave-on limits frame told k waits)

@@ -1,42 +1,46 @@
 -- What is still ahead of the machine over whole data.
 use Rattle.std.specs.Prelude.{ℕ, ◌/◌, List, [], ◌∷◌, drop, Option, Some, None, slice_get}
 use Rattle.dfdl_terms.specs.Rows.{Table}
+use Rattle.dfdl_grammar.specs.declared.instead.Instead.{Instead}
 use Rattle.dfdl_grammar.specs.States.{Input, State}
 use Rattle.dfdl_grammar.specs.Outcomes.{Outcome, ended, then_do}
 use Rattle.dfdl_grammar.specs.Framing.{fill_to}
 use Rattle.dfdl_grammar.specs.Boxes.{bytes_up_to, pass_bytes, rest, unboxed}
+use Rattle.dfdl_grammar.specs.Delimiters.{unscoped}
 use Rattle.dfdl_grammar.specs.Elements.{attempted, close}
-use Rattle.dfdl_grammar.specs.Representations.{or_else, the_last, then_empty, then_normal}
+use Rattle.dfdl_grammar.specs.Representations.{after_empty, or_else, the_last, then_empty, then_normal}
 use Rattle.dfdl_grammar.specs.Leaves.{nil_values}
 use Rattle.dfdl_grammar.specs.Prefixes.{sized_leaf}
 use Rattle.dfdl_grammar.specs.Rows.{below, group, meaning}
 use Rattle.dfdl_parse.specs.declared.frame.Frame.{Frame}
-use Rattle.dfdl_parse.specs.declared.frame.Frame.TheVariants.{Rest, Element, Box, Trial}
+use Rattle.dfdl_parse.specs.declared.frame.Frame.TheVariants.{Rest, Element, Box, Scope as ScopeFrame, Trial}
 use Rattle.dfdl_parse.specs.declared.frame.Next.{Next}
 use Rattle.dfdl_parse.specs.declared.frame.Next.TheVariants as next
 use Rattle.dfdl_parse.specs.declared.frame.Parts.{Parts}
 use Rattle.dfdl_parse.specs.declared.frame.Focus.{Focus}
-use Rattle.dfdl_parse.specs.declared.frame.Focus.TheVariants.{Enter, Pass, PassRest, Sized, Leave}
+use Rattle.dfdl_parse.specs.declared.frame.Focus.TheVariants.{Enter, Pass, PassRest, Sized, Seek, Leave}
 use Rattle.dfdl_parse.specs.Moves.{Machine}
 use Rattle.dfdl_parse.specs.Machines.{children_of}
+use Rattle.dfdl_parse.specs.Searches.{sought}
 use Rattle.dfdl_parse.specs.Trials.{parts_of}
 
 -- one representation of an element by its row
-abbrev pub trial_of : Input → Table → ℕ → Parts → Option ℕ → State → Outcome
+abbrev pub trial_of : Input → Table → ℕ → Parts → Instead → State → Outcome
 trial_of input table id parts = attempted input id parts.complex (below input table id parts.body)
 
 -- what follows a representation of an element
 abbrev pub retried : Input → Table → ℕ → Option Parts → Next → Outcome → Outcome
 retried input table id None follows o = the_last o.end o
-retried input table id (Some parts) next.Empty o = or_else o.end o (then_empty parts.tried.empty (trial_of input table id parts))
-retried input table id (Some parts) next.Normal o = or_else o.end o (then_normal (trial_of input table id parts))
+retried input table id (Some parts) next.Empty o = or_else o.end o (then_empty parts.tried.refuses_empty parts.tried.empty (trial_of input table id parts))
+retried input table id (Some parts) next.Normal o = after_empty parts.tried.refuses_empty o (then_normal (trial_of input table id parts))
 retried input table id (Some parts) next.Nothing o = the_last o.end o
 
 -- what a frame makes of the outcome of the row before it
 abbrev pub resume : Input → Table → Frame → Outcome → Outcome
 resume input table (Rest id next) o = then_do o (group (below input table id) (drop next (children_of (slice_get table.rows id))))
 resume input table (Element outer complex) o = close o.end outer complex o
-resume input table (Box outer) o = let whole : Outcome = then_do o (rest input) in unboxed whole.end outer whole
+resume input table (Box outer) o = let whole : Outcome = then_do o (rest input) in unboxed whole.end outer.stop outer.hidden whole
+resume input table (ScopeFrame count) o = unscoped o.end count o
 resume input table (Trial id next) o = retried input table id (parts_of (slice_get table.rows id)) next o
 
 -- what a stack makes of the outcome of the row before it
@@ -49,8 +53,9 @@ abbrev pub focused : Input → Table → Focus → State → Outcome
 focused input table (Enter id) s = meaning input table id s
 focused input table (Pass to) s = fill_to input to s
 focused input table (PassRest bit outer) s =
-    let passed : Outcome = pass_bytes input (bytes_up_to s.stop (bit / 8)) (bit / 8) s in unboxed passed.end outer passed
+    let passed : Outcome = pass_bytes input (bytes_up_to s.stop (bit / 8)) (bit / 8) s in unboxed passed.end outer.stop outer.hidden passed
 focused input table (Sized prim size) s = sized_leaf input (nil_values table.primitives s.instead) (slice_get table.primitives prim) size s
+focused input table (Seek list terminates) s = sought input table.delimiters list terminates s
 focused input table (Leave end) s = ended end s
 
 -- the outcome of the whole

@@ -1,11 +1,14 @@
 pub mod Views
 pub mod Moves
+pub mod Boxing
+pub mod Searches
 pub mod Prefixed
 pub mod Trials
 pub mod Machines
 pub mod Opens
 pub mod Answers
 pub mod Shown
+pub mod Registered
 pub mod Steps
 pub mod Strings
 pub mod Nils

@@ -1,12 +1,12 @@
 -- One step of the machine.
-use Rattle.std.specs.Prelude.{◌≡◌, ℕ, ◌+◌, ◌-◌, ◌*◌, ◌/◌, min, nat_le, Bool, true, false, List, [], ◌∷◌, Option, Some, None, slice_get, if◌then◌else◌}
+use Rattle.std.specs.Prelude.{◌≡◌, ℕ, ◌+◌, ◌-◌, ◌*◌, ◌/◌, min, nat_le, Bool, true, false, List, [], ◌∷◌, length, Option, Some, None, slice_get, if◌then◌else◌}
 use Rattle.dfdl_bits.specs.Window.{Held, end_of, from_byte, seen_at}
 use Rattle.dfdl_bits.specs.declared.window.Seen.{Seen}
 use Rattle.dfdl_bits.specs.declared.window.Seen.TheVariants.{Byte, End as DataEnded, NotYet, Over}
 use Rattle.dfdl_report.specs.declared.cause.LimitCause.TheVariants.{Window}
 use Rattle.dfdl_report.specs.declared.cause.ParseCause.TheVariants.{DataEnds, LengthOutOfRange}
 use Rattle.dfdl_terms.specs.declared.row.Row.{Row}
-use Rattle.dfdl_terms.specs.declared.row.Row.TheVariants.{Leaf, Elem, Group, Skip, Align, Boxed, PrefixedLeaf, PrefixedBox}
+use Rattle.dfdl_terms.specs.declared.row.Row.TheVariants.{Leaf, Elem, Group, Skip, Align, Initiator, Terminator, Scope, Boxed, PrefixedLeaf, PrefixedBox}
 use Rattle.dfdl_terms.specs.Rows.{Table}
 use Rattle.dfdl_looks.specs.Tallies.{nothing, one_row, saw_byte, saw_end, saw_none}
 use Rattle.dfdl_grammar.specs.declared.end.End.{End}
@@ -15,15 +15,18 @@ use Rattle.dfdl_grammar.specs.declared.limits.Limits.{Limits}
 use Rattle.dfdl_grammar.specs.States.{State, anchor_at}
 use Rattle.dfdl_grammar.specs.Leaves.{nil_values, read_by}
 use Rattle.dfdl_grammar.specs.Framing.{aligned}
-use Rattle.dfdl_grammar.specs.Marks.{closed}
+use Rattle.dfdl_grammar.specs.Delimiters.{closes_to, opens}
 use Rattle.dfdl_grammar.specs.Elements.{has_elements, left}
 use Rattle.dfdl_parse.specs.declared.frame.Frame.{Frame}
-use Rattle.dfdl_parse.specs.declared.frame.Frame.TheVariants.{Rest, Element, Box, Trial}
+use Rattle.dfdl_parse.specs.declared.frame.Frame.TheVariants.{Rest, Element, Box, Scope as ScopeFrame, Trial}
+use Rattle.dfdl_parse.specs.declared.frame.Outside.{Outside}
 use Rattle.dfdl_parse.specs.declared.frame.Focus.{Focus}
-use Rattle.dfdl_parse.specs.declared.frame.Focus.TheVariants.{Enter, Pass, PassRest, Sized, Leave}
+use Rattle.dfdl_parse.specs.declared.frame.Focus.TheVariants.{Enter, Pass, PassRest, Sized, Seek, Leave}
 use Rattle.dfdl_parse.specs.declared.frame.Behind.TheVariants as behind
 use Rattle.dfdl_parse.specs.Moves.{Move, pass, read_leaf}
-use Rattle.dfdl_parse.specs.Trials.{enter_element, parts_of, retry}
+use Rattle.dfdl_parse.specs.Trials.{enter_element, parts_of, retry, trial_done}
+use Rattle.dfdl_parse.specs.Boxing.{back_outside, hides}
+use Rattle.dfdl_parse.specs.Searches.{enter_delimiter, search}
 use Rattle.dfdl_parse.specs.Prefixed.{behind_units, box_begins, read_prefix, read_sized}
 
 -- the rows of a group
@@ -34,6 +37,9 @@ children_of (Some (Elem name simple tried body)) = []
 children_of (Some (Group children)) = children
 children_of (Some (Skip bits)) = []
 children_of (Some (Align bits)) = []
+children_of (Some (Initiator delimiter)) = []
+children_of (Some (Terminator delimiter)) = []
+children_of (Some (Scope list body)) = []
 children_of (Some (Boxed bits body)) = []
 children_of (Some (PrefixedLeaf prefix prim)) = []
 children_of (Some (PrefixedBox prefix body)) = []
@@ -73,23 +79,23 @@ abbrev pub enter_box : Held → ℕ → ℕ → List Frame → State → Move
 enter_box held bits body k s = record { tally = one_row; machine = box_begins bits body k s; held = held; waits = false }
 
 -- The content of the innermost box is done, and the box around ends at this bit: so does the inner one here, or its rest begins.
-abbrev pub leave_box : Held → ℕ → List Frame → State → Move
+abbrev pub leave_box : Held → Outside → List Frame → State → Move
 leave_box held outer k s =
     if nat_le s.stop s.at
-    then pass nothing held (Leave Done) k (record s { stop = outer })
+    then pass nothing held (Leave Done) k (back_outside outer s)
     else pass nothing held (PassRest s.at outer) k s
 
 -- a byte of the rest of a box was seen: it is the last one, or the next one follows
-abbrev pub past_one : Held → ℕ → ℕ → List Frame → State → Move
+abbrev pub past_one : Held → ℕ → Outside → List Frame → State → Move
 past_one sight byte outer k s =
     if nat_le ((s.stop - 1) / 8) byte
-    then pass (saw_byte byte nothing) sight (Leave Done) k (record s { at = s.stop; stop = outer })
+    then pass (saw_byte byte nothing) sight (Leave Done) k (back_outside outer (record s { at = s.stop }))
     else pass (saw_byte byte nothing) sight (PassRest (8 * (byte + 1)) outer) k s
 
 -- the step over the byte of a bit in the rest of a box, by what the look at it sees, with these bytes held behind it
-abbrev pub rest_move : ℕ → Held → ℕ → ℕ → Seen → List Frame → State → Move
+abbrev pub rest_move : ℕ → Held → ℕ → Outside → Seen → List Frame → State → Move
 rest_move window sight bit outer (Byte b) k s = past_one sight (bit / 8) outer k s
-rest_move window sight bit outer DataEnded k s = pass (saw_end (bit / 8) nothing) sight (Leave (Failed DataEnds s.at)) k s
+rest_move window sight bit outer DataEnded k s = pass (saw_end (bit / 8) nothing) sight (Leave (Failed DataEnds s.at)) k (hides outer.hidden s)
 rest_move window sight bit outer Over k s = pass (saw_none nothing) sight (Leave (Stopped Window window)) k s
 rest_move window sight bit outer NotYet k s = record {
   tally = saw_none nothing;
@@ -99,7 +105,7 @@ rest_move window sight bit outer NotYet k s = record {
 }
 
 -- the byte of a bit in the rest of a box, which gives up the bytes that are no longer needed there
-abbrev pub pass_rest : Limits → Held → ℕ → ℕ → List Frame → State → Move
+abbrev pub pass_rest : Limits → Held → ℕ → Outside → List Frame → State → Move
 pass_rest limits held bit outer k s =
     let low : ℕ = anchor_at s (8 * (bit / 8)) in
     rest_move limits.window (from_byte held (min low (end_of held))) bit outer (seen_beyond held low (bit / 8)) k s
@@ -119,6 +125,9 @@ enter limits table held id (Some (Elem name simple tried body)) k s =
 enter limits table held id (Some (Group children)) k s = enter_group held id children k s
 enter limits table held id (Some (Skip bits)) k s = enter_fill held (s.at + bits) k s
 enter limits table held id (Some (Align bits)) k s = enter_fill held (aligned bits s.at) k s
+enter limits table held id (Some (Initiator delimiter)) k s = enter_delimiter held delimiter false k s
+enter limits table held id (Some (Terminator delimiter)) k s = enter_delimiter held delimiter true k s
+enter limits table held id (Some (Scope list body)) k s = pass one_row held (Enter body) (ScopeFrame (length s.lists) ∷ k) (opens list s)
 enter limits table held id (Some (Boxed bits body)) k s = enter_box held bits body k s
 enter limits table held id (Some (PrefixedLeaf prefix prim)) k s =
     read_prefix limits id held prefix.own (behind_units table.primitives prefix.unit (behind.Leaf (read_by table.primitives s.instead prim)))
@@ -136,13 +145,15 @@ abbrev pub leave_done : Table → Held → Frame → List Frame → State → Mo
 leave_done table held (Rest id next) k s = go_on held id next (slice_get (children_of (slice_get table.rows id)) next) k s
 leave_done table held (Element outer complex) k s = pass nothing held (Leave Done) k (left outer complex s)
 leave_done table held (Box outer) k s = leave_box held outer k s
-leave_done table held (Trial id next) k s = pass nothing held (Leave Done) k (closed s)
+leave_done table held (ScopeFrame count) k s = pass nothing held (Leave Done) k (closes_to count s)
+leave_done table held (Trial id next) k s = trial_done held (parts_of (slice_get table.rows id)) next k s
 
 -- a row that failed, at this end, before what stands on the stack
 abbrev pub leave_failed : ℕ → Table → Held → Frame → End → List Frame → State → Move
 leave_failed most table held (Rest id next) end k s = pass nothing held (Leave end) k s
 leave_failed most table held (Element outer complex) end k s = pass nothing held (Leave end) k s
-leave_failed most table held (Box outer) end k s = pass nothing held (Leave end) k s
+leave_failed most table held (Box outer) end k s = pass nothing held (Leave end) k (hides outer.hidden s)
+leave_failed most table held (ScopeFrame count) end k s = pass nothing held (Leave end) k (closes_to count s)
 leave_failed most table held (Trial id next) end k s = retry most held id (parts_of (slice_get table.rows id)) next end k s
 
 -- what stands on the stack takes the end of the row before it
@@ -158,6 +169,7 @@ step limits table held (Pass to) k s = fill limits held to k s
 step limits table held (PassRest bit outer) k s = pass_rest limits held bit outer k s
 step limits table held (Sized prim size) k s =
     read_sized limits held prim size (nil_values table.primitives s.instead) (slice_get table.primitives prim) k s
+step limits table held (Seek list terminates) k s = search limits table.delimiters held list terminates k s
 step limits table held (Leave end) [] s = pass nothing held (Leave end) [] s
 step limits table held (Leave end) (frame ∷ k) s = leave limits table held frame end k s
 
@@ -167,6 +179,7 @@ HasEnded (Enter id) k = ⊥
 HasEnded (Pass to) k = ⊥
 HasEnded (PassRest bit outer) k = ⊥
 HasEnded (Sized prim size) k = ⊥
+HasEnded (Seek list terminates) k = ⊥
 HasEnded (Leave end) k = k ≡ []
 
 -- whether there are no frames

@@ -3,11 +3,12 @@ use Rattle.std.specs.Prelude.{◌≡◌, ◌<◌, ◌≤◌, ℕ, ◌-◌, ◌*�
 use Rattle.dfdl_grammar.specs.declared.end.End.{End}
 use Rattle.dfdl_grammar.specs.declared.end.End.TheVariants.{Done, Failed, Stopped}
 use Rattle.dfdl_grammar.specs.declared.mark.Mark.{Mark}
+use Rattle.dfdl_grammar.specs.Framing.{aligned}
 use Rattle.dfdl_grammar.specs.States.{State, anchor_at}
 use Rattle.dfdl_parse.specs.declared.frame.Frame.{Frame}
-use Rattle.dfdl_parse.specs.declared.frame.Frame.TheVariants.{Rest, Element, Box, Trial}
+use Rattle.dfdl_parse.specs.declared.frame.Frame.TheVariants.{Rest, Element, Box, Scope as ScopeFrame, Trial}
 use Rattle.dfdl_parse.specs.declared.frame.Focus.{Focus}
-use Rattle.dfdl_parse.specs.declared.frame.Focus.TheVariants.{Enter, Pass, PassRest, Sized, Leave}
+use Rattle.dfdl_parse.specs.declared.frame.Focus.TheVariants.{Enter, Pass, PassRest, Sized, Seek, Leave}
 
 -- Each open mark is that of a trial on the stack, with the innermost first. None is resolved, none is behind this bit or behind one
 -- inside of it, and the bytes from each on are needed, which are none before this one.
@@ -17,6 +18,7 @@ AreOpen base at [] (mark ∷ outer) = ⊥
 AreOpen base at (Rest id next ∷ k) marks = AreOpen base at k marks
 AreOpen base at (Element outer complex ∷ k) marks = AreOpen base at k marks
 AreOpen base at (Box outer ∷ k) marks = AreOpen base at k marks
+AreOpen base at (ScopeFrame count ∷ k) marks = AreOpen base at k marks
 AreOpen base at (Trial id next ∷ k) [] = ⊥
 AreOpen base at (Trial id next ∷ k) (mark ∷ outer) =
     (mark.is_resolved ≡ false) × ((mark.at ≤ at) × ((base ≤ mark.at / 8) × AreOpen base mark.at k outer))
@@ -33,6 +35,7 @@ NeedsFrom base (Enter id) k s = (base ≤ s.at / 8) × AreOpen base s.at k s.mar
 NeedsFrom base (Pass to) k s = (base ≤ (to - 1) / 8) × ((s.at < to) × AreOpen base s.at k s.marks)
 NeedsFrom base (PassRest bit outer) k s = (base ≤ bit / 8) × ((bit < s.stop) × ((s.at ≤ bit) × AreOpen base s.at k s.marks))
 NeedsFrom base (Sized prim size) k s = (base ≤ s.at / 8) × AreOpen base s.at k s.marks
+NeedsFrom base (Seek list terminates) k s = (base ≤ aligned 8 s.at / 8) × AreOpen base s.at k s.marks
 NeedsFrom base (Leave end) k s = NeedsBehind base end k s
 
 -- the innermost mark is at this bit or before it
@@ -56,4 +59,5 @@ Holds base (Enter id) s = IsHeld base s.at s
 Holds base (Pass to) s = IsHeld base (to - 1) s
 Holds base (PassRest bit outer) s = IsHeld base (8 * (bit / 8)) s
 Holds base (Sized prim size) s = IsHeld base s.at s
+Holds base (Seek list terminates) s = IsHeld base (aligned 8 s.at) s
 Holds base (Leave end) s = GoesBack end s

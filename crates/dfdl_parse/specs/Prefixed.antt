@@ -15,6 +15,7 @@ use Rattle.dfdl_grammar.specs.declared.end.End.TheVariants.{Done, Failed, Stoppe
 use Rattle.dfdl_grammar.specs.declared.limits.Limits.{Limits}
 use Rattle.dfdl_grammar.specs.States.{State, anchor}
 use Rattle.dfdl_grammar.specs.Leaves.{Find, Fails, Finds, FindsOctets, FindsText, content_begins, failing_bit, has_room, program}
+use Rattle.dfdl_grammar.specs.Boxes.{boxed_at}
 use Rattle.dfdl_grammar.specs.Prefixes.{bits_of_units, resized, size_of, units_told}
 use Rattle.dfdl_parse.specs.declared.frame.Frame.{Frame}
 use Rattle.dfdl_parse.specs.declared.frame.Frame.TheVariants.{Box}
@@ -22,6 +23,7 @@ use Rattle.dfdl_parse.specs.declared.frame.Focus.{Focus}
 use Rattle.dfdl_parse.specs.declared.frame.Focus.TheVariants.{Enter, Leave, Sized}
 use Rattle.dfdl_parse.specs.declared.frame.Behind.{Behind}
 use Rattle.dfdl_parse.specs.declared.frame.Behind.TheVariants as behind
+use Rattle.dfdl_parse.specs.Boxing.{outside}
 use Rattle.dfdl_parse.specs.Moves.{Machine, Move, is_missing, pass, read_leaf}
 
 -- the machine at an end
@@ -43,7 +45,7 @@ sized_begins (Some primitive) prim size k s =
 abbrev pub box_begins : ℕ → ℕ → List Frame → State → Machine
 box_begins bits body k s =
     if nat_le (s.at + bits) s.stop
-    then record { focus = Enter body; stack = Box s.stop ∷ k; state = record s { stop = s.at + bits } }
+    then record { focus = Enter body; stack = Box (outside s) ∷ k; state = boxed_at (s.at + bits) s }
     else at_end (Failed LengthOutOfRange s.at) k s
 
 -- what stands behind a prefix begins, by the number of units that the prefix tells

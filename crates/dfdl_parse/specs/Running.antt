@@ -1,9 +1,11 @@
 -- What a run of the machine comes to, over all data with which the window agrees.
-use Rattle.std.specs.Prelude.{◌≡◌, ◌<◌, ◌≤◌, ℕ, ◌+◌, ◌-◌, false, length}
+use Rattle.std.specs.Prelude.{◌≡◌, ◌<◌, ◌≤◌, ℕ, ◌+◌, ◌-◌, ◌*◌, false, length}
 use Rattle.dfdl_bits.specs.Window.{Held, end_of, room_of}
 use Rattle.dfdl_terms.specs.Rows.{Table}
-use Rattle.dfdl_grammar.specs.States.{Input}
+use Rattle.dfdl_grammar.specs.States.{Input, State}
 use Rattle.dfdl_grammar.specs.Outcomes.{Outcome}
+use Rattle.dfdl_parse.specs.declared.frame.Focus.{Focus}
+use Rattle.dfdl_parse.specs.declared.frame.Focus.TheVariants.{Enter, Pass, PassRest, Sized, Seek, Leave}
 use Rattle.dfdl_parse.specs.declared.parser.Parser.{Parser}
 use Rattle.dfdl_parse.specs.Shown.{KeepsTo, shown}
 use Rattle.dfdl_parse.specs.Runs.{Runs}
@@ -14,6 +16,15 @@ pub record Slid (old new : Held) : Type 0 where
   pub ended : new.ended ≡ old.ended
   pub end : end_of new ≡ end_of old
   pub base : old.base ≤ new.base
+
+-- No bit behind this byte comes next, and where an end was come to, no byte behind it was given up.
+abbrev pub Reaches : ℕ → Held → Focus → State → Type 0
+Reaches last held (Enter id) s = s.at ≤ 8 * last
+Reaches last held (Pass to) s = s.at ≤ 8 * last
+Reaches last held (PassRest bit outer) s = s.at ≤ 8 * last
+Reaches last held (Sized prim size) s = s.at ≤ 8 * last
+Reaches last held (Seek list terminates) s = s.at ≤ 8 * last
+Reaches last held (Leave end) s = (held.base ≤ last) × (s.at ≤ 8 * last)
 
 -- The machine has gone on in so many looks, and stands in the work on any data as before.
 pub record Advanced (table : Table) (old new : Parser) (before after : Held) (looks_made : ℕ) : Type 0 where

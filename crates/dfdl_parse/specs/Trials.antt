@@ -1,12 +1,16 @@
 -- The steps of an element, by its representations.
-use Rattle.std.specs.Prelude.{ℕ, nat_lt, List, ◌∷◌, length, Option, Some, None, if◌then◌else◌}
+use Rattle.std.specs.Prelude.{ℕ, nat_lt, Bool, false, List, [], ◌∷◌, length, Option, Some, None, if◌then◌else◌}
 use Rattle.dfdl_bits.specs.Window.{Held}
 use Rattle.dfdl_report.specs.declared.cause.LimitCause.TheVariants.{Nodes}
+use Rattle.dfdl_report.specs.declared.cause.ParseCause.TheVariants.{RequiredEmpty}
 use Rattle.dfdl_terms.specs.declared.row.Row.{Row}
-use Rattle.dfdl_terms.specs.declared.row.Row.TheVariants.{Leaf, Elem, Group, Skip, Align, Boxed, PrefixedLeaf, PrefixedBox}
+use Rattle.dfdl_terms.specs.declared.row.Row.TheVariants.{Leaf, Elem, Group, Skip, Align, Initiator, Terminator, Scope, Boxed, PrefixedLeaf, PrefixedBox}
 use Rattle.dfdl_looks.specs.Tallies.{Tally, nothing, one_row, plus}
 use Rattle.dfdl_grammar.specs.declared.end.End.{End}
-use Rattle.dfdl_grammar.specs.declared.end.End.TheVariants.{Stopped}
+use Rattle.dfdl_grammar.specs.declared.end.End.TheVariants.{Done, Failed, Stopped}
+use Rattle.dfdl_grammar.specs.declared.instead.Instead.{Instead}
+use Rattle.dfdl_grammar.specs.declared.instead.Instead.TheVariants.{Nothing, Nil, Empty}
+use Rattle.dfdl_grammar.specs.declared.mark.Mark.{Mark}
 use Rattle.dfdl_grammar.specs.States.{State}
 use Rattle.dfdl_grammar.specs.Marks.{back, closed, marked}
 use Rattle.dfdl_grammar.specs.Elements.{begun, has_elements}
@@ -26,6 +30,9 @@ parts_of (Some (Elem name simple tried body)) = Some (record { complex = has_ele
 parts_of (Some (Group children)) = None
 parts_of (Some (Skip bits)) = None
 parts_of (Some (Align bits)) = None
+parts_of (Some (Initiator delimiter)) = None
+parts_of (Some (Terminator delimiter)) = None
+parts_of (Some (Scope list body)) = None
 parts_of (Some (Boxed bits body)) = None
 parts_of (Some (PrefixedLeaf prefix prim)) = None
 parts_of (Some (PrefixedBox prefix body)) = None
@@ -35,7 +42,7 @@ abbrev pub two_rows : Tally
 two_rows = plus one_row one_row
 
 -- one representation of an element begins, where there are fewer elements than most
-abbrev pub attempt : Tally → ℕ → Held → ℕ → Parts → Option ℕ → List Frame → State → Move
+abbrev pub attempt : Tally → ℕ → Held → ℕ → Parts → Instead → List Frame → State → Move
 attempt cost most held id parts instead k s =
     if nat_lt (length s.nodes) most
     then pass cost held (Enter parts.body) (Element s.inside parts.complex ∷ k) (begun id instead s)
@@ -43,24 +50,40 @@ attempt cost most held id parts instead k s =
 
 -- the normal representation begins, as the last one
 abbrev pub try_normal : Tally → ℕ → Held → ℕ → Parts → List Frame → State → Move
-try_normal cost most held id parts k s = attempt cost most held id parts None (Trial id next.Nothing ∷ k) s
+try_normal cost most held id parts k s = attempt cost most held id parts Nothing (Trial id next.Nothing ∷ k) s
 
 -- the empty representation begins, where there is one, and else the normal one
 abbrev pub try_empty : Tally → ℕ → Held → ℕ → Parts → Option ℕ → List Frame → State → Move
 try_empty cost most held id parts None k s = try_normal cost most held id parts k s
-try_empty cost most held id parts (Some prim) k s = attempt cost most held id parts (Some prim) (Trial id next.Normal ∷ k) s
+try_empty cost most held id parts (Some prim) k s = attempt cost most held id parts (Empty prim) (Trial id next.Normal ∷ k) s
 
 -- the nil representation begins, where there is one, and else another one
 abbrev pub try_nil : Tally → ℕ → Held → ℕ → Parts → Option ℕ → List Frame → State → Move
 try_nil cost most held id parts None k s = try_empty cost most held id parts parts.tried.empty k s
-try_nil cost most held id parts (Some prim) k s = attempt cost most held id parts (Some prim) (Trial id next.Empty ∷ k) s
+try_nil cost most held id parts (Some prim) k s = attempt cost most held id parts (Nil prim) (Trial id next.Empty ∷ k) s
 
 -- an element begins: with a mark, where it has several representations
 abbrev pub enter_element : ℕ → Held → ℕ → Parts → List Frame → State → Move
 enter_element most held id parts k s =
     if parts.tried.are_several
     then try_nil two_rows most held id parts parts.tried.nil k (marked s)
-    else attempt two_rows most held id parts None k s
+    else attempt two_rows most held id parts Nothing k s
+
+-- an element that has no value to take fails at the first of these marks, where it began, and is open again
+abbrev pub refused : List Mark → Held → List Frame → State → Move
+refused [] held k s = pass nothing held (Leave Done) k s
+refused (mark ∷ outer) held k s = pass nothing held (Leave (Failed RequiredEmpty mark.at)) k (closed (record s { inside = mark.nodes }))
+
+-- this is the empty representation of an element that has no value to take
+abbrev pub is_refused : Option Parts → Next → Bool
+is_refused None follows = false
+is_refused (Some parts) next.Empty = false
+is_refused (Some parts) next.Normal = parts.tried.refuses_empty
+is_refused (Some parts) next.Nothing = false
+
+-- a representation is done: the mark is closed, or the element fails
+abbrev pub trial_done : Held → Option Parts → Next → List Frame → State → Move
+trial_done held parts follows k s = if is_refused parts follows then refused s.marks held k s else pass nothing held (Leave Done) k (closed s)
 
 -- a representation has failed at this end: the next one begins at the mark, or the mark is closed
 abbrev pub retry : ℕ → Held → ℕ → Option Parts → Next → End → List Frame → State → Move

@@ -66,7 +66,7 @@ fn record(alloc: Global, a: Primitive, around: Boxes, b: Primitive) -> Result<Te
     };
     push(&mut rows, group)?;
     push(&mut rows, element(alloc, "r", None, 8)?)?;
-    Ok(Terms::build(alloc, rows, Tables::new(forms))?)
+    Ok(Terms::build(alloc, rows, Tables::new(forms, Vec::new(alloc)))?)
 }
 
 const LIMITS: Limits = Limits {

@@ -6,7 +6,7 @@ ghost use Rattle.dfdl_parse.specs.Machines.{enter_box, leave_box, pass_rest, pas
 ghost use Rattle.dfdl_parse.specs.Steps.{Moved};
 ghost use Rattle.dfdl_parse.specs.Shown.{HasSameLimits, limits_of, state_of};
 
-use crate::frame::{Focus, Frame};
+use crate::frame::{Focus, Frame, Outside};
 use crate::framing::{last_byte, look_beyond};
 use crate::parser::Parser;
 use dfdl_bits::{Seen, Steps, Window};
@@ -26,8 +26,14 @@ impl Parser {
     {
         match inner_end(self.at, bits, self.stop) {
             Some(end) => {
-                self.stack.push(Frame::Box { outer: self.stop })?;
+                self.stack.push(Frame::Box {
+                    outer: Outside {
+                        stop: self.stop,
+                        hidden: self.hidden,
+                    },
+                })?;
                 self.stop = end;
+                self.hidden = self.lists.len();
                 self.focus = Focus::Enter(body);
             }
             None => self.fail(ParseCause::LengthOutOfRange),
@@ -35,15 +41,15 @@ impl Parser {
         Ok(())
     }
 
-    // The content of the innermost box is done, and the box around it ends at this bit.
-    pub(crate) fn leave_box(&mut self, outer: u64)
+    // The content of the innermost box is done, and this is around the box.
+    pub(crate) fn leave_box(&mut self, outer: Outside)
         ensures moved { (held : Held) → Moved
             (leave_box held outer self.old.stack (state_of self.old)) false self.old.far self.new held 0 }
         ensures most { HasSameLimits self.old self.new }
         ensures at { self.new.at ≡ self.old.at }
     {
         if self.stop <= self.at {
-            self.stop = outer;
+            self.go_outside(outer);
             self.focus = Focus::Leave(End::Done);
         } else {
             self.focus = Focus::PassRest {
@@ -53,11 +59,19 @@ impl Parser {
         }
     }
 
+    // What was around the innermost box is around what follows.
+    fn go_outside(&mut self, outer: Outside)
+        ensures { self.new ≡ record self.old { stop = outer.stop; hidden = outer.hidden } }
+    {
+        self.stop = outer.stop;
+        self.hidden = outer.hidden;
+    }
+
     // The byte of a bit in the rest of the innermost box is passed over.
     pub(crate) fn pass_rest<L: Ledger>(
         &mut self,
         bit: u64,
-        outer: u64,
+        outer: Outside,
         sight: &mut Window,
         steps: &mut Steps<L>,
     ) -> bool
@@ -78,7 +92,7 @@ impl Parser {
     }
 
     // The byte of a bit in the rest of the innermost box is seen.
-    fn past_byte(&mut self, seen: Seen, bit: u64, outer: u64, window: u64) -> bool
+    fn past_byte(&mut self, seen: Seen, bit: u64, outer: Outside, window: u64) -> bool
         requires focus { self.old.focus ≡ Focus.PassRest bit outer }
         ensures moved { (sight : Held) → Moved
             (rest_move window sight bit outer seen self.old.stack (state_of self.old)) result self.old.far self.new sight 1 }
@@ -93,6 +107,7 @@ impl Parser {
             }
             Seen::End => {
                 self.fail(ParseCause::DataEnds);
+                self.hidden = outer.hidden;
                 self.far = far;
             }
             Seen::Over => self.stop_at(LimitCause::Window, window),
@@ -101,7 +116,7 @@ impl Parser {
     }
 
     // A byte of the rest of the innermost box was seen: the box ends there, or the next byte follows.
-    fn past_one(&mut self, byte: u64, outer: u64, far: u64)
+    fn past_one(&mut self, byte: u64, outer: Outside, far: u64)
         requires far { far ≡ max self.old.far (byte + 1) }
         ensures moved { (sight : Held) → Moved
             (past_one sight byte outer self.old.stack (state_of self.old)) false self.old.far self.new sight 1 }
@@ -109,7 +124,7 @@ impl Parser {
     {
         if last_byte(self.stop) <= byte {
             self.at = self.stop;
-            self.stop = outer;
+            self.go_outside(outer);
             self.focus = Focus::Leave(End::Done);
         } else {
             self.focus = Focus::PassRest {

@@ -8,10 +8,21 @@ pub enum Frame {
     Rest { group: RowId, next: usize },
     /// An element ends, and the one of this number is the innermost open one again.
     Element { outer: u32, complex: bool },
-    /// A box ends, and the one around it ends at this bit.
-    Box { outer: u64 },
+    /// A box ends, and this is around it.
+    Box { outer: Outside },
+    /// A component with a terminator ends, and so many lists are open again.
+    Scope { count: usize },
     /// A representation of the element of this row ends, for which a mark is open.
     Trial { element: RowId, next: Next },
+}
+
+/// What is around a box.
+#[derive(Debug, Clone, Copy, PartialEq, Eq)]
+pub struct Outside {
+    /// the bit at which the box around it ends
+    pub stop: u64,
+    /// how many of the open lists end no content in that box
+    pub hidden: usize,
 }
 
 /// Which representation of an element follows where one fails ('DFDL Data Syntax Grammar').
@@ -50,10 +61,12 @@ pub enum Focus {
     Enter(RowId),
     /// Fill up to this bit is passed over.
     Pass(u64),
-    /// The rest of the innermost box from the byte of a bit on is passed over. Then the box around it ends at `outer`.
-    PassRest { bit: u64, outer: u64 },
+    /// The rest of the innermost box from the byte of a bit on is passed over. This is around it.
+    PassRest { bit: u64, outer: Outside },
     /// The leaf of the primitive of this number in the tables is read, with this size.
     Sized { prim: u32, size: TextSize },
+    /// A text of this list of the tables is sought, as a terminator or as an initiator.
+    Seek { list: u32, terminates: bool },
     /// A row has ended.
     Leave(End),
 }

@@ -4,9 +4,10 @@ ghost use Rattle.dfdl_forms.specs.Types.{form_of};
 ghost use Rattle.dfdl_forms.specs.Binary.{most_bits, most_places};
 ghost use Rattle.dfdl_forms.specs.Packed.{most_nibbles};
 ghost use Rattle.dfdl_terms.specs.Rows.{IsPrimitive, NamesWithin};
+ghost use Rattle.dfdl_terms.specs.Tables.{Named};
 ghost use Rattle.dfdl_parse.specs.Sessions.{IsReady};
 
-use crate::{Content, Limits, Outcome, Session};
+use crate::{Content, Fed, Limits, Outcome, Session};
 use dfdl_bits::Steps;
 use dfdl_decimal::Fixed;
 use dfdl_forms::{BitOrder, BitTruthForm, ByteOrder, IntForm, PackedForm, PackedRep, Simple};
@@ -78,6 +79,8 @@ fn fill(leading_skip: u32, alignment: u32, trailing_skip: u32) -> Framing {
     Framing {
         leading_skip,
         alignment,
+        initiator: None,
+        terminator: None,
         trailing_skip,
     }
 }
@@ -88,7 +91,7 @@ pub(crate) fn element(
     simple: Option<Simple>,
     body: u32,
 ) -> Result<Row, AllocError>
-    ensures { IfOk result (λ row. row ≡ Row.Elem name.now simple (record { nil = None; empty = None; are_several = false }) body) }
+    ensures { IfOk result (λ row. row ≡ Row.Elem name.now simple (record { nil = None; empty = None; refuses_empty = false; are_several = false }) body) }
 {
     Ok(Row::Elem {
         name: TextValue::from_str(alloc, name)?,
@@ -96,6 +99,7 @@ pub(crate) fn element(
         tried: Representations {
             nil: None,
             empty: None,
+            refuses_empty: false,
             are_several: false,
         },
         body: RowId::new(body),
@@ -119,7 +123,7 @@ pub(crate) fn primitives(
 // The rows of a content in its fill.
 fn group(alloc: Global, first: u32) -> Result<Row, AllocError>
     requires { first < 1000 }
-    ensures { (rows : ℕ) → IfOk result (λ row. NamesWithin rows row) }
+    ensures { (named : Named) → IfOk result (λ row. NamesWithin named row) }
 {
     let children = vec![in alloc;
         RowId::new(first),
@@ -134,9 +138,9 @@ fn group(alloc: Global, first: u32) -> Result<Row, AllocError>
 
 // Puts a row behind rows that name two primitives.
 pub(crate) fn push(rows: &mut Vec<Row>, row: Row) -> Result<(), AllocError>
-    requires row { NamesWithin 2 row }
-    requires rows { All (NamesWithin 2) rows.old.items }
-    ensures rows { OnOk result (All (NamesWithin 2) rows.new.items) }
+    requires row { (named : Named) → length named.primitives ≡ 2 → NamesWithin named row }
+    requires rows { (named : Named) → length named.primitives ≡ 2 → All (NamesWithin named) rows.old.items }
+    ensures rows { OnOk result ((named : Named) → length named.primitives ≡ 2 → All (NamesWithin named) rows.new.items) }
     ensures some { OnOk result (0 < vec_len rows.new) }
 {
     rows.push(row)?;
@@ -152,8 +156,8 @@ fn push_element(
     fill: Framing,
 ) -> Result<(), AllocError>
     requires prim { prim < 2 }
-    requires rows { All (NamesWithin 2) rows.old.items }
-    ensures rows { OnOk result (All (NamesWithin 2) rows.new.items) }
+    requires rows { (named : Named) → length named.primitives ≡ 2 → All (NamesWithin named) rows.old.items }
+    ensures rows { OnOk result ((named : Named) → length named.primitives ≡ 2 → All (NamesWithin named) rows.new.items) }
 {
     let first = 6 * prim;
     push(
@@ -198,7 +202,7 @@ fn record(alloc: Global, a: (Primitive, Framing), b: (Primitive, Framing)) -> Re
     };
     push(&mut rows, group)?;
     push(&mut rows, element(alloc, "r", None, 12)?)?;
-    Ok(Terms::build(alloc, rows, Tables::new(forms))?)
+    Ok(Terms::build(alloc, rows, Tables::new(forms, Vec::new(alloc)))?)
 }
 
 pub(crate) fn feed<L: Ledger>(
@@ -212,8 +216,11 @@ pub(crate) fn feed<L: Ledger>(
 {
     assert!(rt; session.taken() < 1000 && piece.len() < 1000);
     assert!(rt; piece.len() <= session.room());
-    let more = session.feed(piece, steps)?;
-    Ok(more)
+    let fed = session.feed(piece, steps)?;
+    match fed {
+        Fed::More => Ok(true),
+        Fed::Done { .. } => Ok(false),
+    }
 }
 
 // What the data are where they come in pieces of this size.

@@ -22,7 +22,7 @@ use crate::leaf::{Found, Glance, read_wanted};
 use crate::parser::Parser;
 use crate::view::{Leaf, Wanted, content_begins, has_room};
 use dfdl_bits::{Steps, Window};
-use dfdl_grammar::End;
+use dfdl_grammar::{End, Instead};
 use dfdl_region::Content;
 use dfdl_report::{LimitCause, ParseCause};
 use dfdl_terms::{Primitive, Terms};
@@ -67,11 +67,12 @@ impl Parser {
         ensures { result ≡ read_by terms.now.primitives self.now.instead prim }
     {
         match self.instead {
-            None => prim,
-            Some(instead) => match values_at(terms, instead) {
+            Instead::Nothing => prim,
+            Instead::Nil(instead) => match values_at(terms, instead) {
                 Wanted::Any => instead,
                 Wanted::OneOf(_) => prim,
             },
+            Instead::Empty(instead) => instead,
         }
     }
 
@@ -80,8 +81,9 @@ impl Parser {
         ensures { wanted_of result ≡ nil_values terms.now.primitives self.now.instead }
     {
         match self.instead {
-            None => Wanted::Any,
-            Some(instead) => values_at(terms, instead),
+            Instead::Nothing => Wanted::Any,
+            Instead::Nil(instead) => values_at(terms, instead),
+            Instead::Empty(_) => Wanted::Any,
         }
     }
 

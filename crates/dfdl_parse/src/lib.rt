@@ -1,6 +1,6 @@
 //! The parser: a machine with a stack of its own, which reads the data while they come in pieces.
 //!
-//! The contracts of `Session` cite `document` of dfdl_grammar, what the rows of a schema mean over whole data: `feed`
+//! The contracts of `Session` cite `document_from` of dfdl_grammar, what the rows of a schema mean over whole data: `feed`
 //! answers that it needs more exactly where the meaning of the bytes so far looks past their end, and comes to the meaning
 //! else. `StandsFor`, `Ends` and `Finished` (`specs/Sessions.antt`) say so. Serves 'Parsing Algorithm'.
 #![tactic(auto)]
@@ -18,7 +18,10 @@ mod landing;
 mod leaf;
 #[cfg(test)]
 mod leaf_tests;
+mod leaving;
 pub mod marks;
+#[cfg(test)]
+mod markup_tests;
 #[cfg(test)]
 mod nil_tests;
 mod nil_values;
@@ -31,11 +34,17 @@ mod patterns;
 #[cfg(test)]
 mod prefix_tests;
 mod prefixes;
+mod register;
 #[cfg(test)]
 mod representation_tests;
 mod run;
+pub mod scopes;
+mod scoping;
+mod searches;
 pub mod session;
 pub mod stack;
+#[cfg(test)]
+mod stream_tests;
 mod strings;
 #[cfg(test)]
 mod tests;
@@ -44,5 +53,5 @@ mod view;
 
 pub use dfdl_grammar::Limits;
 pub use dfdl_region::{Content, Node};
-pub use outcome::Outcome;
+pub use outcome::{Fed, Outcome};
 pub use session::Session;

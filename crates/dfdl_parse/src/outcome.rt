@@ -13,3 +13,12 @@ pub enum Outcome {
     /// There was not enough memory.
     OutOfMemory,
 }
+
+/// What a session makes of a piece.
+#[derive(Debug, Clone, Copy, PartialEq, Eq)]
+pub enum Fed {
+    /// More is needed, and the piece was taken whole.
+    More,
+    /// The document has come to its outcome, for which so many bytes of the piece were taken. The others aren't held.
+    Done { taken: usize },
+}

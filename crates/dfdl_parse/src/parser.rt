@@ -1,16 +1,16 @@
 // The machine: what is done next, the stack, and the state.
-ghost use Rattle.std.specs.Prelude.{◌≡◌, None, length, ◌+◌, ◌-◌, ◌*◌, ◌/◌, ◌^◌, ◌<◌, ◌≤◌, ◌↔◌, ◌∷◌, [], ℕ, List, true, false, IfOk, IfSome, OnOk, IsTrue, Some, slice_get};
+ghost use Rattle.std.specs.Prelude.{◌≡◌, length, ◌+◌, ◌-◌, ◌*◌, ◌/◌, ◌^◌, ◌<◌, ◌≤◌, ◌↔◌, ◌∷◌, [], ℕ, List, true, false, IfOk, IfSome, OnOk, IsTrue, Some, slice_get};
 ghost use Rattle.dfdl_bits.specs.Window.{Held, end_of};
 ghost use Rattle.dfdl_grammar.specs.declared.end.End.{End as AnyEnd};
 ghost use Rattle.dfdl_grammar.specs.declared.end.End.TheVariants.{Done};
-ghost use Rattle.dfdl_grammar.specs.Elements.{left};
+ghost use Rattle.dfdl_grammar.specs.declared.instead.Instead.{Instead as AnyInstead};
 ghost use Rattle.dfdl_grammar.specs.States.{anchor_at, no_box};
-ghost use Rattle.dfdl_looks.specs.Tallies.{nothing};
-ghost use Rattle.dfdl_parse.specs.Machines.{HasEnded, children_of, step, enter, enter_fill, enter_group, fill, fill_move, leave, leave_done, leave_failed, go_on};
-ghost use Rattle.dfdl_parse.specs.Opens.{GoesBack, Holds, IsBefore, IsHeld};
-ghost use Rattle.dfdl_parse.specs.Moves.{pass};
+ghost use Rattle.dfdl_grammar.specs.Documents.{front_at};
+ghost use Rattle.dfdl_parse.specs.Machines.{HasEnded, step, enter, enter_fill, enter_group, fill, fill_move};
+ghost use Rattle.dfdl_parse.specs.Opens.{Holds, IsHeld};
 ghost use Rattle.dfdl_parse.specs.Answers.{answer_at, answer_of};
 ghost use Rattle.dfdl_parse.specs.Steps.{Moved};
+ghost use Rattle.dfdl_parse.specs.Registered.{IsRegistered};
 ghost use Rattle.dfdl_parse.specs.Shown.{HasSameLimits, limits_of, state_of};
 
 use crate::frame::{Behind, Focus, Frame, Parts};
@@ -18,11 +18,13 @@ use crate::framing::{aligned, last_bit, last_byte, look_beyond};
 use crate::leaf::Scratch;
 use crate::marks::Marks;
 use crate::outcome::Outcome;
+use crate::register::register_of;
+use crate::scopes::Scopes;
 use crate::stack::Stack;
-use crate::trials::parts_of;
 use dfdl_bits::{Seen, Steps, Window};
-use dfdl_grammar::{End, Limits};
-use dfdl_region::{Content, NodeRegion, TextRegion};
+use dfdl_delims::{Candidates, Markup};
+use dfdl_grammar::{End, Instead, Limits};
+use dfdl_region::{NodeRegion, TextRegion};
 use dfdl_report::{LimitCause, ParseCause};
 use dfdl_terms::{Row, RowId, Terms};
 use std::alloc::{AllocError, Global};
@@ -37,6 +39,9 @@ const FRAMES: usize = 64;
 // How many open marks there is room for at first.
 const MARKS: usize = 16;
 
+// How many open lists of delimiters there is room for at first.
+const LISTS: usize = 16;
+
 /// The machine over one document.
 #[derive(Drop)]
 pub struct Parser {
@@ -45,11 +50,15 @@ pub struct Parser {
     pub(crate) at: u64,
     pub(crate) stop: u64,
     pub(crate) inside: u32,
-    pub(crate) instead: Option<u32>,
+    pub(crate) instead: Instead,
+    pub(crate) lists: Scopes,
+    pub(crate) hidden: usize,
     pub(crate) marks: Marks,
     pub(crate) region: NodeRegion,
     pub(crate) text: TextRegion,
     pub(crate) scratch: Scratch,
+    pub(crate) markup: Markup,
+    pub(crate) candidates: Candidates,
     pub(crate) far: u64,
 }
 
@@ -58,9 +67,9 @@ impl Parser {
     pub(crate) fn open(alloc: Global, terms: &Terms, limits: Limits) -> Result<Parser, AllocError>
         ensures focus { IfOk result (λ p. p.focus ≡ Focus.Enter (length terms.now.rows - 1)) }
         ensures stack { IfOk result (λ p. p.stack ≡ []) }
-        ensures front { IfOk result (λ p. (p.at ≡ 0) × (p.inside ≡ 0) × (p.far ≡ 0)) }
-        ensures marks { IfOk result (λ p. (p.instead ≡ None) × (p.marks ≡ [])) }
-        ensures stop { IfOk result (λ p. p.stop ≡ no_box) }
+        ensures front { IfOk result (λ p. state_of p ≡ front_at 0) }
+        ensures far { IfOk result (λ p. p.far ≡ 0) }
+        ensures registered { IfOk result (λ p. IsRegistered terms.now p) }
         ensures region { IfOk result (λ p. p.region ≡ record { nodes = []; most = limits.nodes }) }
         ensures text { IfOk result (λ p. p.text ≡ record { bytes = []; most = limits.text }) }
     {
@@ -70,13 +79,41 @@ impl Parser {
             at: 0,
             stop: NO_BOX,
             inside: 0,
-            instead: None,
+            instead: Instead::Nothing,
+            lists: Scopes::open(alloc, LISTS)?,
+            hidden: 0,
             marks: Marks::open(alloc, MARKS)?,
             region: NodeRegion::open(alloc, limits.nodes)?,
             text: TextRegion::open(alloc, limits.text)?,
             scratch: Scratch::open(alloc),
+            markup: register_of(alloc, terms.tables().delimiters())?,
+            candidates: Candidates::new(alloc),
             far: 0,
         })
+    }
+
+    /// The machine before the root element's row at a byte, where nothing is open.
+    pub(crate) fn begin(&mut self, terms: &Terms, start: u64)
+        requires bound { start ≤ 2 ^ 60 }
+        requires none { (self.old.stack ≡ []) × (self.old.marks ≡ []) }
+        requires registered { IsRegistered terms.now self.old }
+        ensures focus { self.new.focus ≡ Focus.Enter (length terms.now.rows - 1) }
+        ensures stack { self.new.stack ≡ [] }
+        ensures front { state_of self.new ≡ front_at start }
+        ensures far { self.new.far ≡ 0 }
+        ensures most { HasSameLimits self.old self.new }
+        ensures registered { IsRegistered terms.now self.new }
+    {
+        self.focus = Focus::Enter(RowId::new(terms.rows() - 1));
+        self.at = 8 * start;
+        self.stop = NO_BOX;
+        self.inside = 0;
+        self.instead = Instead::Nothing;
+        self.lists.close_to(0);
+        self.hidden = 0;
+        self.region.clear();
+        self.text.clear();
+        self.far = 0;
     }
 
     /// What the machine has come to.
@@ -89,6 +126,7 @@ impl Parser {
             Focus::Pass(_) => Outcome::Open,
             Focus::PassRest { .. } => Outcome::Open,
             Focus::Sized { .. } => Outcome::Open,
+            Focus::Seek { .. } => Outcome::Open,
             Focus::Leave(end) => {
                 if self.stack.is_empty() {
                     answer_of(end)
@@ -108,6 +146,7 @@ impl Parser {
             Focus::Pass(_) => false,
             Focus::PassRest { .. } => false,
             Focus::Sized { .. } => false,
+            Focus::Seek { .. } => false,
             Focus::Leave(_) => self.stack.is_empty(),
         }
     }
@@ -121,6 +160,7 @@ impl Parser {
     ) -> Result<bool, AllocError>
         requires base { Holds sight.old.base self.old.focus (state_of self.old) }
         requires at { self.old.at ≤ 8 * end_of sight.old }
+        requires registered { IsRegistered terms.now self.old }
         ensures moved { IfOk result (λ waits. Moved
             (step (limits_of self.old sight.old) terms.now sight.old self.old.focus self.old.stack (state_of self.old))
             waits self.old.far self.new sight.new (steps.new - steps.old)) }
@@ -138,6 +178,10 @@ impl Parser {
             Focus::PassRest { bit, outer } => Ok(self.pass_rest(bit, outer, sight, steps)),
             Focus::Sized { prim, size } => {
                 let waits = self.read_sized(terms, prim, size, sight, steps)?;
+                Ok(waits)
+            }
+            Focus::Seek { list, terminates } => {
+                let waits = self.seek(terms, list, terminates, sight, steps)?;
                 Ok(waits)
             }
             Focus::Leave(end) => {
@@ -200,6 +244,18 @@ impl Parser {
             Row::Align { bits } => {
                 let _end = sight.end();
                 self.begin_fill(aligned(*bits, self.at));
+                Ok(false)
+            }
+            Row::Initiator { delimiter } => {
+                self.begin_delimiter(*delimiter, false);
+                Ok(false)
+            }
+            Row::Terminator { delimiter } => {
+                self.begin_delimiter(*delimiter, true);
+                Ok(false)
+            }
+            Row::Scope { list, body } => {
+                self.begin_scope(*list, *body)?;
                 Ok(false)
             }
             Row::Boxed { bits, body } => {
@@ -306,127 +362,6 @@ impl Parser {
         Ok(())
     }
 
-    // What stands on the stack takes the end of the row before it.
-    fn leave(&mut self, terms: &Terms, end: End) -> Result<(), AllocError>
-        requires focus { self.old.focus ≡ Focus.Leave end }
-        ensures moved { (held : Held) → OnOk result (Moved
-            (step (limits_of self.old held) terms.now held (Focus.Leave end) self.old.stack (state_of self.old))
-            false self.old.far self.new held 0) }
-        ensures most { OnOk result (HasSameLimits self.old self.new) }
-        ensures at { OnOk result (GoesBack end (state_of self.old) → self.new.at ≤ self.old.at) }
-    {
-        match self.stack.pop() {
-            None => Ok(()),
-            Some(frame) => self.resume(terms, frame, end),
-        }
-    }
-
-    // A frame takes the end of the row before it.
-    fn resume(&mut self, terms: &Terms, frame: Frame, end: End) -> Result<(), AllocError>
-        ensures moved { (held : Held) → OnOk result (Moved
-            (leave (limits_of self.old held) terms.now held frame end self.old.stack (state_of self.old)) false self.old.far self.new held 0) }
-        ensures most { OnOk result (HasSameLimits self.old self.new) }
-        ensures at { OnOk result (GoesBack end (state_of self.old) → self.new.at ≤ self.old.at) }
-    {
-        match end {
-            End::Done => self.go_on(terms, frame),
-            End::Failed { .. } => self.give_up(terms, frame, end),
-            End::Stopped { .. } => {
-                self.focus = Focus::Leave(end);
-                Ok(())
-            }
-        }
-    }
-
-    // What stands on the stack takes a row that failed, at this end.
-    fn give_up(&mut self, terms: &Terms, frame: Frame, end: End) -> Result<(), AllocError>
-        ensures moved { (held : Held) → OnOk result (Moved
-            (leave_failed self.old.region.most terms.now held frame end self.old.stack (state_of self.old)) false self.old.far self.new held 0) }
-        ensures most { OnOk result (HasSameLimits self.old self.new) }
-        ensures at { OnOk result (IsBefore self.old.marks self.old.at → self.new.at ≤ self.old.at) }
-    {
-        match frame {
-            Frame::Trial { element, next } => {
-                let parts = parts_of(terms, element);
-                self.retry(parts, element, next, end)
-            }
-            Frame::Rest { .. } => {
-                self.focus = Focus::Leave(end);
-                Ok(())
-            }
-            Frame::Element { .. } => {
-                self.focus = Focus::Leave(end);
-                Ok(())
-            }
-            Frame::Box { .. } => {
-                self.focus = Focus::Leave(end);
-                Ok(())
-            }
-        }
-    }
-
-    // What stands on the stack goes on behind a row that is done.
-    fn go_on(&mut self, terms: &Terms, frame: Frame) -> Result<(), AllocError>
-        ensures moved { (held : Held) → OnOk result (Moved
-            (leave_done terms.now held frame self.old.stack (state_of self.old)) false self.old.far self.new held 0) }
-        ensures most { OnOk result (HasSameLimits self.old self.new) }
-        ensures at { OnOk result (self.new.at ≡ self.old.at) }
-    {
-        match frame {
-            Frame::Rest { group, next } => self.next_child(terms, group, next),
-            Frame::Element { outer, complex } => {
-                self.close(outer, complex);
-                Ok(())
-            }
-            Frame::Box { outer } => {
-                self.leave_box(outer);
-                Ok(())
-            }
-            Frame::Trial { .. } => {
-                self.end_trial(End::Done);
-                Ok(())
-            }
-        }
-    }
-
-    // The next child of a group is done next, if there is one.
-    fn next_child(&mut self, terms: &Terms, group: RowId, next: usize) -> Result<(), AllocError>
-        ensures moved { (held : Held) → OnOk result (Moved
-            (go_on held group next (slice_get (children_of (slice_get terms.now.rows group)) next) self.old.stack (state_of self.old))
-            false self.old.far self.new held 0) }
-        ensures most { OnOk result (HasSameLimits self.old self.new) }
-        ensures at { OnOk result (self.new.at ≡ self.old.at) }
-    {
-        match child_of(terms, group, next) {
-            None => {
-                self.focus = Focus::Leave(End::Done);
-            }
-            Some(child) => {
-                self.stack.push(Frame::Rest {
-                    group,
-                    next: next + 1,
-                })?;
-                self.focus = Focus::Enter(child);
-            }
-        }
-        Ok(())
-    }
-
-    // The innermost open element ends.
-    fn close(&mut self, outer: u32, complex: bool)
-        ensures moved { (held : Held) → Moved
-            (pass nothing held (Focus.Leave Done) self.old.stack (left outer complex (state_of self.old))) false self.old.far self.new held 0 }
-        ensures most { HasSameLimits self.old self.new }
-        ensures at { self.new.at ≡ self.old.at }
-    {
-        if complex {
-            self.region.set_content(self.inside, Content::Complex);
-        }
-        self.inside = outer;
-        self.instead = None;
-        self.focus = Focus::Leave(End::Done);
-    }
-
     // The work ends for a cause, at the bit that comes next.
     pub(crate) fn fail(&mut self, cause: ParseCause)
         ensures { self.new ≡ record self.old { focus = Focus.Leave (AnyEnd.Failed cause self.old.at) } }
@@ -446,26 +381,6 @@ impl Parser {
         ensures { self.new ≡ record self.old { focus = Focus.Leave (AnyEnd.Stopped cause quantity) } }
     {
         self.focus = Focus::Leave(End::Stopped { cause, quantity });
-    }
-}
-
-// The child of this place in a group.
-fn child_of(terms: &Terms, group: RowId, place: usize) -> Option<RowId>
-    ensures child { result ≡ slice_get (children_of (slice_get terms.now.rows group)) place }
-    ensures few { IfSome result (λ _. place < 2 ^ 63) }
-{
-    if group.number() >= terms.rows() {
-        return None;
-    }
-    match terms.row(group) {
-        Row::Group { children } => children.as_slice().get(place).copied(),
-        Row::Leaf { .. } => None,
-        Row::Elem { .. } => None,
-        Row::Skip { .. } => None,
-        Row::Align { .. } => None,
-        Row::Boxed { .. } => None,
-        Row::PrefixedLeaf { .. } => None,
-        Row::PrefixedBox { .. } => None,
     }
 }
 

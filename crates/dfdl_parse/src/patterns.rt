@@ -1,8 +1,9 @@
 // The number of bytes that a pattern matches.
 ghost use Rattle.std.specs.Prelude.{◌≡◌, ℕ, ◌+◌, ◌-◌, ◌*◌, ◌/◌, ◌^◌, ◌≤◌, ◌&&◌, nat_le, nat_lt, IfOk, OnOk, if◌then◌else◌, option_map, string_bytes};
 ghost use Rattle.dfdl_bits.specs.Window.{end_of, seen_at};
+ghost use Rattle.dfdl_chars.specs.Encodings.{width_in};
 ghost use Rattle.dfdl_grammar.specs.Leaves.{matched_from, sought};
-ghost use Rattle.dfdl_grammar.specs.Patterns.{matched_width, width_between, width_in, width_of_match};
+ghost use Rattle.dfdl_grammar.specs.Patterns.{matched_width, width_between, width_of_match};
 ghost use Rattle.dfdl_looks.specs.Asks.{ask};
 ghost use Rattle.dfdl_looks.specs.Tallies.{nothing};
 ghost use Rattle.dfdl_region.specs.Bytes.{utf8_of};
@@ -14,7 +15,7 @@ ghost use Rattle.dfdl_parse.specs.Steps.{Answers, HasPiece, IsWithin, found_show
 use crate::framing::aligned;
 use crate::leaf::{Found, Glance, Scratch};
 use dfdl_bits::{Steps, Window};
-use dfdl_chars::encode;
+use dfdl_chars::width_in;
 use dfdl_forms::Encoding;
 use dfdl_length_patterns::PatternMatch;
 use dfdl_region::Content;
@@ -151,20 +152,8 @@ fn width_counted(encoding: Encoding, c: char, at: u128, from: usize, to: usize) 
     ensures few { result ≤ 4 }
 {
     if from as u128 <= at && at < to as u128 {
-        width_in(encoding, c)
+        width_in(encoding, c) as u128
     } else {
         0
-    }
-}
-
-// How many bytes a character has.
-fn width_in(encoding: Encoding, c: char) -> u128
-    ensures width { result ≡ width_in encoding c }
-    ensures few { result ≤ 4 }
-{
-    let mut bytes = [0; 4];
-    match encode(encoding, c, &mut bytes) {
-        Ok(count) => count as u128,
-        Err(_) => 0,
     }
 }

@@ -60,7 +60,7 @@ fn prefixed(alloc: Global, by: Primitive, unit: LengthUnit, own: u64) -> Result<
     };
     push(&mut rows, leaf)?;
     push(&mut rows, element(alloc, "a", Some(Simple::String), 0)?)?;
-    Ok(Terms::build(alloc, rows, Tables::new(forms))?)
+    Ok(Terms::build(alloc, rows, Tables::new(forms, Vec::new(alloc)))?)
 }
 
 // A number in a box behind a prefix.
@@ -77,7 +77,7 @@ fn boxed(alloc: Global, unit: LengthUnit, own: u64) -> Result<Terms, Fail> {
     };
     push(&mut rows, around)?;
     push(&mut rows, element(alloc, "r", None, 2)?)?;
-    Ok(Terms::build(alloc, rows, Tables::new(forms))?)
+    Ok(Terms::build(alloc, rows, Tables::new(forms, Vec::new(alloc)))?)
 }
 
 // A text of three bytes.
@@ -89,7 +89,7 @@ fn three(alloc: Global, content: TextContent) -> Result<Terms, Fail>
     let mut rows = Vec::new(alloc);
     push(&mut rows, Row::Leaf { prim: 0 })?;
     push(&mut rows, element(alloc, "a", Some(Simple::Int), 0)?)?;
-    Ok(Terms::build(alloc, rows, Tables::new(forms))?)
+    Ok(Terms::build(alloc, rows, Tables::new(forms, Vec::new(alloc)))?)
 }
 
 const LIMITS: Limits = Limits {

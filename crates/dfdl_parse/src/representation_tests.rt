@@ -1,6 +1,7 @@
 // Nil, empty and normal: a string behind a prefix, in fill, that can be nil and has a default. By hand, whole and in pieces.
 ghost use Rattle.std.specs.Prelude.{◌≡◌, ◌<◌, All, IfOk, length};
 ghost use Rattle.dfdl_terms.specs.Rows.{AreWithin, IsPrimitive, NamesWithin};
+ghost use Rattle.dfdl_terms.specs.Tables.{Named};
 
 use crate::framing_tests::{element, number, outcome};
 use crate::{Content, Limits, Outcome, Session};
@@ -22,12 +23,14 @@ use std::test::Fail;
 const BOTH: Representations = Representations {
     nil: Some(2),
     empty: Some(3),
+    refuses_empty: false,
     are_several: true,
 };
 
 const ONLY_NORMAL: Representations = Representations {
     nil: None,
     empty: None,
+    refuses_empty: false,
     are_several: false,
 };
 
@@ -99,7 +102,7 @@ fn primitives(alloc: Global, literal: &[Piece]) -> Result<Vec<Primitive>, AllocE
 
 fn tried_element(alloc: Global, tried: Representations, body: u32) -> Result<Row, AllocError>
     requires { AreWithin 4 tried }
-    ensures { IfOk result (λ row. NamesWithin 4 row) }
+    ensures { (named : Named) → length named.primitives ≡ 4 → IfOk result (λ row. NamesWithin named row) }
 {
     Ok(Row::Elem {
         name: TextValue::from_str(alloc, "x")?,
@@ -110,7 +113,7 @@ fn tried_element(alloc: Global, tried: Representations, body: u32) -> Result<Row
 }
 
 fn group(alloc: Global, children: &[RowId]) -> Result<Row, AllocError>
-    ensures { IfOk result (λ row. NamesWithin 4 row) }
+    ensures { (named : Named) → length named.primitives ≡ 4 → IfOk result (λ row. NamesWithin named row) }
 {
     Ok(Row::Group {
         children: RowList::new(Vec::from_slice(alloc, children)?),
@@ -143,7 +146,7 @@ fn document(
         group(alloc, &[RowId::new(4), RowId::new(6)])?,
         element(alloc, "r", None, 7)?,
     ]?;
-    Ok(Terms::build(alloc, rows, Tables::new(forms))?)
+    Ok(Terms::build(alloc, rows, Tables::new(forms, Vec::new(alloc)))?)
 }
 
 // What the data come to in pieces of each size: the end, the bit that comes next, the content of the string and the text.

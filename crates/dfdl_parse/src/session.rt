@@ -1,16 +1,18 @@
-// A document that is parsed while its data come.
-ghost use Rattle.std.specs.Prelude.{◌≡◌, ◌+◌, ◌-◌, ◌*◌, ◌^◌, ◌<◌, ◌≤◌, ℕ, List, [], ◌++◌, true, false, IfOk, OnErr, OnOk, if◌then◌else◌, length, string_bytes};
-ghost use Rattle.dfdl_bits.specs.Window.{end_of, room_of};
+// The documents of a stream, each parsed while its data come.
+ghost use Rattle.std.specs.Prelude.{◌≡◌, ◌+◌, ◌-◌, ◌*◌, ◌/◌, ◌^◌, ◌<◌, ◌≤◌, ℕ, List, [], ◌++◌, true, false, IfOk, OnErr, OnOk, if◌then◌else◌, length, max, min, take, string_bytes};
+ghost use Rattle.dfdl_bits.specs.Window.{end_of, from_byte, room_of, up_to_byte};
+ghost use Rattle.dfdl_grammar.specs.Documents.{front_at};
 ghost use Rattle.dfdl_grammar.specs.Paths.{path_of};
 ghost use Rattle.dfdl_parse.specs.Machines.{HasEnded};
 ghost use Rattle.dfdl_parse.specs.Opens.{NeedsFrom};
-ghost use Rattle.dfdl_parse.specs.Running.{Advanced, Waited};
+ghost use Rattle.dfdl_parse.specs.Registered.{IsRegistered};
+ghost use Rattle.dfdl_parse.specs.Running.{Advanced, Reaches, Waited};
 ghost use Rattle.dfdl_parse.specs.Shown.{HasSameLimits, state_of};
-ghost use Rattle.dfdl_parse.specs.Sessions.{StandsFor, IsReady, Ends, Finished, document_of};
+ghost use Rattle.dfdl_parse.specs.Sessions.{HasTaken, StandsFor, IsReady, IsSound, Ends, ComesTo, Finished, byte_behind, document_of};
 ghost use Rattle.dfdl_parse.specs.Answers.{answer_at, answer_of};
 ghost use Rattle.dfdl_grammar.specs.Outcomes.{Outcome as Meaning};
 
-use crate::outcome::Outcome;
+use crate::outcome::{Fed, Outcome};
 use crate::parser::Parser;
 use crate::path::path_of;
 use crate::run::run;
@@ -21,13 +23,22 @@ use dfdl_terms::Terms;
 use std::alloc::{AllocError, Global};
 use std::sync::ledger::Ledger;
 
-/// The parsing of one document by the rows of a schema.
+// So many bytes of a piece were taken, and the machine waits for a byte or has ended.
+#[derive(Debug, Clone, Copy, PartialEq, Eq)]
+struct Part {
+    taken: usize,
+    waits: bool,
+}
+
+/// The parsing of a stream of documents by the rows of a schema, one after another. Bits and bytes count from the front of
+/// the stream.
 #[derive(Drop)]
 pub struct Session<'t> {
     pub(crate) terms: &'t Terms,
     pub(crate) limits: Limits,
     pub(crate) sight: Window,
     pub(crate) parser: Parser,
+    pub(crate) start: u64,
     pub(crate) lost: bool,
 }
 
@@ -37,7 +48,8 @@ impl<'t> Session<'t> {
         requires window { 1 ≤ limits.window }
         requires nodes { 1 ≤ limits.nodes }
         ensures ready { IfOk result (λ s. IsReady s) }
-        ensures stands { IfOk result (λ s. StandsFor s [] 0 0) }
+        ensures room { IfOk result (λ s. 0 < room_of s.sight) }
+        ensures stands { IfOk result (λ s. StandsFor s [] 0 0 0) }
         ensures terms { IfOk result (λ s. s.terms.now ≡ terms.now) }
         ensures limits { IfOk result (λ s. s.limits ≡ limits) }
         ensures open { IfOk result (λ s. s.lost ≡ false) }
@@ -47,48 +59,101 @@ impl<'t> Session<'t> {
             limits,
             sight: Window::open(alloc, limits.window)?,
             parser: Parser::open(alloc, terms, limits)?,
+            start: 0,
             lost: false,
         })
     }
 
     /// Takes the next bytes of the data, and answers whether more are needed.
-    pub fn feed<L: Ledger>(
-        &mut self,
-        piece: &[u8],
-        steps: &mut Steps<L>,
-    ) -> Result<bool, AllocError>
+    pub fn feed<L: Ledger>(&mut self, piece: &[u8], steps: &mut Steps<L>) -> Result<Fed, AllocError>
         requires ready { IsReady self.old }
         requires bound { end_of self.old.sight + length piece.now ≤ 2 ^ 60 }
         requires room { length piece.now ≤ room_of self.old.sight }
-        ensures ready { IfOk result (λ more. more ≡ true → IsReady self.new) }
-        ensures same { (self.new.terms ≡ self.old.terms) × (self.new.limits ≡ self.old.limits) }
-        ensures far { IfOk result (λ more. more ≡ true → (stream : List ℕ) (spent allowed : ℕ) → StandsFor self.old stream spent allowed
+        ensures ready { OnOk result (IsReady self.new) }
+        ensures room { IfOk result (λ fed. fed ≡ Fed.More → 0 < room_of self.new.sight) }
+        ensures same { (self.new.terms ≡ self.old.terms) × (self.new.limits ≡ self.old.limits) × (self.new.start ≡ self.old.start) }
+        ensures far { IfOk result (λ fed. fed ≡ Fed.More → (stream : List ℕ) (start spent allowed : ℕ) → StandsFor self.old stream start spent allowed
             → length (stream ++ piece.now) < (document_of self.old (stream ++ piece.now)).tally.far) }
-        ensures more { IfOk result (λ more. more ≡ true → (stream : List ℕ) (spent allowed : ℕ) → StandsFor self.old stream spent allowed
-            → StandsFor self.new (stream ++ piece.now) (spent + (steps.new - steps.old)) (allowed + (document_of self.old (stream ++ piece.now)).tally.tail)) }
-        ensures done { IfOk result (λ more. more ≡ false → (stream : List ℕ) (spent allowed : ℕ) → StandsFor self.old stream spent allowed
-            → Finished self.old self.new (stream ++ piece.now) (spent + (steps.new - steps.old)) allowed) }
+        ensures more { IfOk result (λ fed. fed ≡ Fed.More → (stream : List ℕ) (start spent allowed : ℕ) → StandsFor self.old stream start spent allowed
+            → StandsFor self.new (stream ++ piece.now) start (spent + (steps.new - steps.old)) (allowed + (document_of self.old (stream ++ piece.now)).tally.tail)) }
+        ensures done { IfOk result (λ fed. (taken : ℕ) → fed ≡ Fed.Done taken → (stream : List ℕ) (start spent allowed : ℕ) → StandsFor self.old stream start spent allowed
+            → Finished self.old self.new stream piece.now taken (spent + (steps.new - steps.old)) allowed) }
         ensures lost { OnErr result (self.new.lost ≡ true) }
     {
-        self.sight.append(piece);
+        let before = self.sight.end();
+        let part = self.feed_part(piece, steps)?;
+        if part.waits {
+            return Ok(Fed::More);
+        }
+        let taken = self.give_back(before);
+        Ok(Fed::Done { taken })
+    }
+
+    // Takes as many of the next bytes of the data as there is room for, and runs.
+    fn feed_part<L: Ledger>(
+        &mut self,
+        piece: &[u8],
+        steps: &mut Steps<L>,
+    ) -> Result<Part, AllocError>
+        requires ready { IsReady self.old }
+        requires bound { end_of self.old.sight + length piece.now ≤ 2 ^ 60 }
+        ensures taken { IfOk result (λ part. part.taken ≡ min (length piece.now) (room_of self.old.sight)) }
+        ensures room { IfOk result (λ part. part.waits ≡ true → 0 < room_of self.new.sight) }
+        ensures ready { OnOk result (IsReady self.new) }
+        ensures end { IfOk result (λ part. end_of self.new.sight ≡ end_of self.old.sight + part.taken) }
+        ensures same { (self.new.terms ≡ self.old.terms) × (self.new.limits ≡ self.old.limits) × (self.new.start ≡ self.old.start) }
+        ensures reaches { OnOk result ((last : ℕ) → Reaches last self.old.sight self.old.parser.focus (state_of self.old.parser)
+            → Reaches (max last self.new.parser.far) self.new.sight self.new.parser.focus (state_of self.new.parser)) }
+        ensures far { IfOk result (λ part. part.waits ≡ true → (stream : List ℕ) (start spent allowed : ℕ) → StandsFor self.old stream start spent allowed
+            → length (stream ++ take part.taken piece.now) < (document_of self.old (stream ++ take part.taken piece.now)).tally.far) }
+        ensures more { IfOk result (λ part. part.waits ≡ true → (stream : List ℕ) (start spent allowed : ℕ) → StandsFor self.old stream start spent allowed
+            → StandsFor self.new (stream ++ take part.taken piece.now) start (spent + (steps.new - steps.old))
+            (allowed + (document_of self.old (stream ++ take part.taken piece.now)).tally.tail)) }
+        ensures done { IfOk result (λ part. part.waits ≡ false → (stream : List ℕ) (start spent allowed : ℕ) → StandsFor self.old stream start spent allowed
+            → ComesTo self.old self.new (stream ++ take part.taken piece.now) (spent + (steps.new - steps.old)) allowed) }
+        ensures over { IfOk result (λ part. part.waits ≡ false → HasEnded self.new.parser.focus self.new.parser.stack) }
+        ensures lost { OnErr result (self.new.lost ≡ true) }
+    {
+        let taken = self.sight.append(piece);
         let waits = self.run(steps)?;
-        Ok(waits)
+        Ok(Part { taken, waits })
+    }
+
+    // Gives up those of the bytes from one on that weren't looked at, and answers how many of these are left.
+    fn give_back(&mut self, before: u64) -> usize
+        requires going_on { self.old.sight.ended ≡ false }
+        requires base { self.old.sight.base ≤ max self.old.parser.far before }
+        requires end { max self.old.parser.far before ≤ end_of self.old.sight }
+        ensures held { self.new.sight ≡ up_to_byte self.old.sight (max self.old.parser.far before) }
+        ensures taken { before + result ≡ max self.old.parser.far before }
+        ensures same { self.new ≡ record self.old { sight = self.new.sight } }
+    {
+        let end = self.parser.far.max(before);
+        self.sight.drop_after(end);
+        (end - before) as usize
     }
 
     // Runs the machine, and keeps in mind where memory was wanting.
     fn run<L: Ledger>(&mut self, steps: &mut Steps<L>) -> Result<bool, AllocError>
         requires base { NeedsFrom self.old.sight.base self.old.parser.focus self.old.parser.stack (state_of self.old.parser) }
         requires at { self.old.parser.at ≤ 8 * end_of self.old.sight }
+        requires some { 0 < self.old.sight.size }
+        requires seen { self.old.sight.ended ≡ false → self.old.parser.far ≤ end_of self.old.sight }
+        requires registered { IsRegistered self.old.terms.now self.old.parser }
         ensures waits { IfOk result (λ waits. waits ≡ true
             → Waited self.old.terms.now self.old.parser self.new.parser self.old.sight self.new.sight (steps.new - steps.old)) }
         ensures ended { IfOk result (λ waits. waits ≡ false
             → Advanced self.old.terms.now self.old.parser self.new.parser self.old.sight self.new.sight (steps.new - steps.old)) }
         ensures over { IfOk result (λ waits. waits ≡ false → HasEnded self.new.parser.focus self.new.parser.stack) }
+        ensures reaches { OnOk result ((last : ℕ) → Reaches last self.old.sight self.old.parser.focus (state_of self.old.parser)
+            → Reaches (max last self.new.parser.far) self.new.sight self.new.parser.focus (state_of self.new.parser)) }
+        ensures seen { OnOk result (self.new.sight.ended ≡ false → self.new.parser.far ≤ end_of self.new.sight) }
         ensures steps { steps.old ≤ steps.new }
         ensures most { OnOk result (HasSameLimits self.old.parser self.new.parser) }
         ensures low { OnOk result (NeedsFrom self.new.sight.base self.new.parser.focus self.new.parser.stack (state_of self.new.parser)) }
         ensures at { OnOk result (self.new.parser.at ≤ 8 * end_of self.new.sight) }
-        ensures same { (self.new.terms ≡ self.old.terms) × (self.new.limits ≡ self.old.limits) }
+        ensures registered { OnOk result (IsRegistered self.new.terms.now self.new.parser) }
+        ensures same { (self.new.terms ≡ self.old.terms) × (self.new.limits ≡ self.old.limits) × (self.new.start ≡ self.old.start) }
         ensures kept { OnOk result (self.new.lost ≡ self.old.lost) }
         ensures lost { OnErr result (self.new.lost ≡ true) }
     {
@@ -103,15 +168,38 @@ impl<'t> Session<'t> {
 
     /// Says that the data end behind the bytes that were taken.
     pub fn finish<L: Ledger>(&mut self, steps: &mut Steps<L>) -> Result<(), AllocError>
-        requires ready { IsReady self.old }
-        ensures done { IfOk result (λ _. (stream : List ℕ) (spent allowed : ℕ) → StandsFor self.old stream spent allowed
+        requires sound { IsSound self.old }
+        ensures sound { OnOk result (IsSound self.new) }
+        ensures done { IfOk result (λ _. (stream : List ℕ) (start spent allowed : ℕ) → StandsFor self.old stream start spent allowed
             → Ends self.new (document_of self.old stream) (spent + (steps.new - steps.old)) allowed) }
-        ensures same { (self.new.terms ≡ self.old.terms) × (self.new.limits ≡ self.old.limits) }
+        ensures taken { IfOk result (λ _. (stream : List ℕ) (start spent allowed : ℕ) → StandsFor self.old stream start spent allowed
+            → HasTaken self.new stream) }
+        ensures same { (self.new.terms ≡ self.old.terms) × (self.new.limits ≡ self.old.limits) × (self.new.start ≡ self.old.start) }
         ensures lost { OnErr result (self.new.lost ≡ true) }
     {
         self.sight.tell_end();
         self.run(steps)?;
         Ok(())
+    }
+
+    /// Begins with the next document of the stream, at the first whole byte behind the one that is done, with no elements, no
+    /// texts and no steps. The bytes before it are given up; those behind it that have come are kept.
+    pub fn next_document(&mut self)
+        requires sound { IsSound self.old }
+        requires done { answer_at self.old.parser.focus self.old.parser.stack ≡ Outcome.Done }
+        ensures sound { IsSound self.new }
+        ensures begins { self.new.start ≡ byte_behind self.old.parser.at }
+        ensures front { state_of self.new.parser ≡ front_at self.new.start }
+        ensures stands { (stream : List ℕ) → HasTaken self.old stream → StandsFor self.new stream (byte_behind self.old.parser.at) 0 0 }
+        ensures held { self.new.sight ≡ from_byte self.old.sight self.new.start }
+        ensures going_on { self.new.sight.ended ≡ self.old.sight.ended }
+        ensures same { (self.new.terms ≡ self.old.terms) × (self.new.limits ≡ self.old.limits) }
+    {
+        let _end = self.sight.end();
+        let start = (self.parser.at + 7) / 8;
+        self.sight.drop_before(start);
+        self.parser.begin(self.terms, start);
+        self.start = start;
     }
 
     /// What the session has come to.
@@ -123,6 +211,13 @@ impl<'t> Session<'t> {
             return Outcome::OutOfMemory;
         }
         self.parser.outcome()
+    }
+
+    /// The byte at which the document begins.
+    pub fn start(&self) -> u64
+        ensures { result ≡ self.now.start }
+    {
+        self.start
     }
 
     /// The bit behind the last one that was read.

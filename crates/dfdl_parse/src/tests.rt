@@ -6,7 +6,7 @@ ghost use Rattle.dfdl_forms.specs.BinaryNumbers.{IsIntForm};
 ghost use Rattle.dfdl_terms.specs.Rows.{IsPrimitive};
 ghost use Rattle.dfdl_parse.specs.Sessions.{IsReady};
 
-use crate::{Content, Limits, Outcome, Session};
+use crate::{Content, Fed, Limits, Outcome, Session};
 use dfdl_bits::Steps;
 use dfdl_decimal::Fixed;
 use dfdl_forms::{BitOrder, ByteOrder, IntForm, Simple};
@@ -36,7 +36,7 @@ fn form(bits: u32, kind: Simple, point: u8) -> IntForm
 }
 
 fn element(alloc: Global, name: &str, simple: Option<Simple>, body: u32) -> Result<Row, AllocError>
-    ensures { IfOk result (λ row. row ≡ Row.Elem name.now simple (record { nil = None; empty = None; are_several = false }) body) }
+    ensures { IfOk result (λ row. row ≡ Row.Elem name.now simple (record { nil = None; empty = None; refuses_empty = false; are_several = false }) body) }
 {
     Ok(Row::Elem {
         name: TextValue::from_str(alloc, name)?,
@@ -44,6 +44,7 @@ fn element(alloc: Global, name: &str, simple: Option<Simple>, body: u32) -> Resu
         tried: Representations {
             nil: None,
             empty: None,
+            refuses_empty: false,
             are_several: false,
         },
         body: RowId::new(body),
@@ -76,11 +77,11 @@ fn record(alloc: Global, a: IntForm, b: IntForm) -> Result<Terms, Fail>
         },
         element(alloc, "r", None, 4)?,
     ]?;
-    Ok(Terms::build(alloc, rows, Tables::new(forms))?)
+    Ok(Terms::build(alloc, rows, Tables::new(forms, Vec::new(alloc)))?)
 }
 
 // An unsigned byte and an unsigned short.
-fn unsigned_record(alloc: Global) -> Result<Terms, Fail> {
+pub(crate) fn unsigned_record(alloc: Global) -> Result<Terms, Fail> {
     let byte = form(8, Simple::UnsignedByte, 0);
     let short = form(16, Simple::UnsignedShort, 0);
     Ok(record(alloc, byte, short)?)
@@ -97,8 +98,11 @@ fn feed<L: Ledger>(
 {
     assert!(rt; session.taken() < 1000 && piece.len() < 1000);
     assert!(rt; piece.len() <= session.room());
-    let more = session.feed(piece, steps)?;
-    Ok(more)
+    let fed = session.feed(piece, steps)?;
+    match fed {
+        Fed::More => Ok(true),
+        Fed::Done { .. } => Ok(false),
+    }
 }
 
 // What the data are by the record where they come in two pieces.
@@ -116,7 +120,7 @@ fn outcome<L: Ledger>(
     Ok(session.outcome())
 }
 
-const LIMITS: Limits = Limits {
+pub(crate) const LIMITS: Limits = Limits {
     window: 16,
     nodes: 10,
     text: 10,

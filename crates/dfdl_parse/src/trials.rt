@@ -5,15 +5,15 @@ ghost use Rattle.dfdl_grammar.specs.Marks.{back, back_to, closed, mark_at};
 ghost use Rattle.dfdl_looks.specs.Tallies.{Tally, nothing};
 ghost use Rattle.dfdl_parse.specs.Moves.{pass};
 ghost use Rattle.dfdl_parse.specs.Opens.{IsBefore};
-ghost use Rattle.dfdl_parse.specs.Trials.{attempt, enter_element, parts_of, retry, try_empty, try_nil, try_normal};
+ghost use Rattle.dfdl_parse.specs.Trials.{attempt, enter_element, is_refused, parts_of, refused, retry, trial_done, try_empty, try_nil, try_normal};
 ghost use Rattle.dfdl_parse.specs.Steps.{IsFree, Moved};
 ghost use Rattle.dfdl_parse.specs.Shown.{Becomes, HasSameLimits, state_of};
 
 use crate::frame::{Focus, Frame, Next, Parts};
 use crate::parser::Parser;
-use dfdl_grammar::{End, Mark};
+use dfdl_grammar::{End, Instead, Mark};
 use dfdl_region::{Content, Node};
-use dfdl_report::LimitCause;
+use dfdl_report::{LimitCause, ParseCause};
 use dfdl_terms::{Row, RowId, Terms};
 use std::alloc::AllocError;
 
@@ -29,7 +29,7 @@ impl Parser {
             self.mark()?;
             self.try_nil(id, parts, parts.tried.nil)
         } else {
-            self.attempt(id, parts, None)
+            self.attempt(id, parts, Instead::Nothing)
         }
     }
 
@@ -58,7 +58,7 @@ impl Parser {
     {
         match nil {
             None => self.try_empty(id, parts, parts.tried.empty),
-            Some(prim) => self.attempt_before(id, parts, Some(prim), Next::Empty),
+            Some(prim) => self.attempt_before(id, parts, Instead::Nil(prim), Next::Empty),
         }
     }
 
@@ -71,7 +71,7 @@ impl Parser {
     {
         match empty {
             None => self.try_normal(id, parts),
-            Some(prim) => self.attempt_before(id, parts, Some(prim), Next::Normal),
+            Some(prim) => self.attempt_before(id, parts, Instead::Empty(prim), Next::Normal),
         }
     }
 
@@ -82,7 +82,7 @@ impl Parser {
         ensures most { OnOk result (HasSameLimits self.old self.new) }
         ensures at { OnOk result (self.new.at ≡ self.old.at) }
     {
-        self.attempt_before(id, parts, None, Next::Nothing)
+        self.attempt_before(id, parts, Instead::Nothing, Next::Nothing)
     }
 
     // One of several representations begins, behind which this follows where it fails.
@@ -90,7 +90,7 @@ impl Parser {
         &mut self,
         id: RowId,
         parts: Parts,
-        instead: Option<u32>,
+        instead: Instead,
         next: Next,
     ) -> Result<(), AllocError>
         ensures moved { (held : Held) (cost : Tally) → IsFree cost → OnOk result (Moved
@@ -104,7 +104,7 @@ impl Parser {
     }
 
     // One representation of an element begins, and its content is done next.
-    fn attempt(&mut self, id: RowId, parts: Parts, instead: Option<u32>) -> Result<(), AllocError>
+    fn attempt(&mut self, id: RowId, parts: Parts, instead: Instead) -> Result<(), AllocError>
         ensures moved { (held : Held) (cost : Tally) → IsFree cost → OnOk result (Moved
             (attempt cost self.old.region.most held id parts instead self.old.stack (state_of self.old)) false self.old.far self.new held 0) }
         ensures most { OnOk result (HasSameLimits self.old self.new) }
@@ -177,6 +177,42 @@ impl Parser {
         }
     }
 
+    // A representation is done: the mark is closed, or the element fails, where this is the empty one and is refused.
+    pub(crate) fn finish_trial(&mut self, parts: Option<Parts>, next: Next)
+        ensures moved { (held : Held) → Moved
+            (trial_done held parts next self.old.stack (state_of self.old)) false self.old.far self.new held 0 }
+        ensures most { HasSameLimits self.old self.new }
+        ensures at { self.new.at ≡ self.old.at }
+    {
+        let refuses = is_refused(parts, next);
+        if refuses {
+            self.refuse();
+        } else {
+            self.end_trial(End::Done);
+        }
+    }
+
+    // An element that has no value to take fails at the innermost mark, where it began, and is open again.
+    fn refuse(&mut self)
+        ensures moved { (held : Held) → Moved
+            (refused self.old.marks held self.old.stack (state_of self.old)) false self.old.far self.new held 0 }
+        ensures most { HasSameLimits self.old self.new }
+        ensures at { self.new.at ≡ self.old.at }
+    {
+        match self.marks.innermost() {
+            None => {
+                self.focus = Focus::Leave(End::Done);
+            }
+            Some(mark) => {
+                self.inside = mark.nodes;
+                self.end_trial(End::Failed {
+                    cause: ParseCause::RequiredEmpty,
+                    bit: mark.at,
+                });
+            }
+        }
+    }
+
     // The last representation has come to an end, and the mark is closed.
     pub(crate) fn end_trial(&mut self, end: End)
         ensures moved { (held : Held) → Moved
@@ -211,6 +247,20 @@ impl Parser {
     }
 }
 
+// Whether this is the empty representation of an element that has no value to take.
+fn is_refused(parts: Option<Parts>, next: Next) -> bool
+    ensures { result ≡ is_refused parts next }
+{
+    match parts {
+        None => false,
+        Some(parts) => match next {
+            Next::Empty => false,
+            Next::Normal => parts.tried.refuses_empty,
+            Next::Nothing => false,
+        },
+    }
+}
+
 /// What the row of an element says of it, if a row is one.
 pub(crate) fn parts_of(terms: &Terms, id: RowId) -> Option<Parts>
     ensures { result ≡ parts_of (slice_get terms.now.rows id) }
@@ -233,6 +283,9 @@ pub(crate) fn parts_of(terms: &Terms, id: RowId) -> Option<Parts>
         Row::Group { .. } => None,
         Row::Skip { .. } => None,
         Row::Align { .. } => None,
+        Row::Initiator { .. } => None,
+        Row::Terminator { .. } => None,
+        Row::Scope { .. } => None,
         Row::Boxed { .. } => None,
         Row::PrefixedLeaf { .. } => None,
         Row::PrefixedBox { .. } => None,

@@ -4,8 +4,9 @@ use Rattle.std.proofs.lemmas.List.Elements.{All-head, All-tail}
 use Rattle.dfdl_forms.specs.declared.simple.Simple.{Simple as SimpleType}
 use Rattle.dfdl_terms.specs.declared.representations.Representations.{Representations}
 use Rattle.dfdl_terms.specs.Rows.{Table}
+use Rattle.dfdl_terms.specs.declared.delimiters.Delimiter.{Delimiter}
 use Rattle.dfdl_terms.specs.declared.prefix.Prefix.{Prefix}
-use Rattle.dfdl_terms.specs.declared.row.Row.TheVariants.{Leaf, Elem, Group, Skip, Align, Boxed, PrefixedLeaf, PrefixedBox}
+use Rattle.dfdl_terms.specs.declared.row.Row.TheVariants.{Leaf, Elem, Group, Skip, Align, Initiator, Terminator, Scope, Boxed, PrefixedLeaf, PrefixedBox}
 use Rattle.dfdl_json.specs.ByRows.{below}
 use Rattle.dfdl_json.specs.Paths.{Names}
 use Rattle.dfdl_json.specs.Steps.{steps_of, total}
@@ -51,8 +52,17 @@ module _ (t : Table) (row : ℕ) (around : Names) (more : Laying) where
   pub laid_align : (bits : ℕ) → slice_get t.rows row ≡ Some (Align bits) → laying t row around more ≡ more
   laid_align bits is = ap (λ (h : Names → Laying → Laying). h around more) (row_is (laying_by t) (λ a m. m) t.rows row (Some (Align bits)) is)
 
+  pub laid_initiator : (delimiter : Delimiter) → slice_get t.rows row ≡ Some (Initiator delimiter) → laying t row around more ≡ more
+  laid_initiator delimiter is = ap (λ (h : Names → Laying → Laying). h around more) (row_is (laying_by t) (λ a m. m) t.rows row (Some (Initiator delimiter)) is)
+
+  pub laid_terminator : (delimiter : Delimiter) → slice_get t.rows row ≡ Some (Terminator delimiter) → laying t row around more ≡ more
+  laid_terminator delimiter is = ap (λ (h : Names → Laying → Laying). h around more) (row_is (laying_by t) (λ a m. m) t.rows row (Some (Terminator delimiter)) is)
+
   pub laid_boxed : (bits body : ℕ) → slice_get t.rows row ≡ Some (Boxed bits body) → laying t row around more ≡ more
   laid_boxed bits body is = ap (λ (h : Names → Laying → Laying). h around more) (row_is (laying_by t) (λ a m. m) t.rows row (Some (Boxed bits body)) is)
+
+  pub laid_scope : (list body : ℕ) → slice_get t.rows row ≡ Some (Scope list body) → laying t row around more ≡ more
+  laid_scope list body is = ap (λ (h : Names → Laying → Laying). h around more) (row_is (laying_by t) (λ a m. m) t.rows row (Some (Scope list body)) is)
 
   pub laid_prefixed_leaf : (prefix : Prefix) (prim : ℕ) → slice_get t.rows row ≡ Some (PrefixedLeaf prefix prim) → laying t row around more ≡ more
   laid_prefixed_leaf prefix prim is =

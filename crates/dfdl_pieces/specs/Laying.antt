@@ -8,7 +8,7 @@ use Rattle.dfdl_terms.specs.declared.event.Event.TheVariants.{Start, Simple, Nil
 use Rattle.dfdl_terms.specs.declared.row.Primitive.{Primitive}
 use Rattle.dfdl_terms.specs.declared.row.Primitive.TheVariants.{Integer, Packed, Truth, Octets, Text, NilOctets, Default, NilValues, Pattern}
 use Rattle.dfdl_terms.specs.declared.row.Row.{Row}
-use Rattle.dfdl_terms.specs.declared.row.Row.TheVariants.{Leaf, Elem, Group, Skip, Align, Boxed, PrefixedLeaf, PrefixedBox}
+use Rattle.dfdl_terms.specs.declared.row.Row.TheVariants.{Leaf, Elem, Group, Skip, Align, Initiator, Terminator, Scope, Boxed, PrefixedLeaf, PrefixedBox}
 use Rattle.dfdl_terms.specs.Rows.{Table}
 use Rattle.dfdl_json.specs.ByRows.{by_rows}
 use Rattle.dfdl_json.specs.Children.{root_row}
@@ -46,6 +46,9 @@ form_in t (Some (Elem name simple tried body)) = None
 form_in t (Some (Group children)) = None
 form_in t (Some (Skip bits)) = None
 form_in t (Some (Align bits)) = None
+form_in t (Some (Initiator delimiter)) = None
+form_in t (Some (Terminator delimiter)) = None
+form_in t (Some (Scope list body)) = None
 form_in t (Some (Boxed bits body)) = None
 form_in t (Some (PrefixedLeaf prefix prim)) = None
 form_in t (Some (PrefixedBox prefix body)) = None
@@ -101,6 +104,9 @@ laying_by t inside row (Some (Group children)) around more = in_turn inside chil
 laying_by t inside row (Some (Leaf prim)) around more = more
 laying_by t inside row (Some (Skip bits)) around more = more
 laying_by t inside row (Some (Align bits)) around more = more
+laying_by t inside row (Some (Initiator delimiter)) around more = more
+laying_by t inside row (Some (Terminator delimiter)) around more = more
+laying_by t inside row (Some (Scope list body)) around more = more
 laying_by t inside row (Some (Boxed bits body)) around more = more
 laying_by t inside row (Some (PrefixedLeaf prefix prim)) around more = more
 laying_by t inside row (Some (PrefixedBox prefix body)) around more = more

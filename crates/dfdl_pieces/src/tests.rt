@@ -26,7 +26,7 @@ fn form(bytes_by: ByteOrder) -> IntForm
 
 fn element(alloc: Global, name: &str, simple: Option<Simple>, body: u32) -> Result<Row, AllocError>
     ensures { IfOk result (λ row. row
-        ≡ Elem name.now simple (record { nil = None; empty = None; are_several = false }) body) }
+        ≡ Elem name.now simple (record { nil = None; empty = None; refuses_empty = false; are_several = false }) body) }
 {
     Ok(Row::Elem {
         name: TextValue::from_str(alloc, name)?,
@@ -34,6 +34,7 @@ fn element(alloc: Global, name: &str, simple: Option<Simple>, body: u32) -> Resu
         tried: Representations {
             nil: None,
             empty: None,
+            refuses_empty: false,
             are_several: false,
         },
         body: RowId::new(body),
@@ -61,7 +62,7 @@ fn one_field(alloc: Global, bytes_by: ByteOrder) -> Result<Terms, Fail>
         element(alloc, "r", None, 2)?,
     ]?;
     let forms = vec![in alloc; Primitive::Integer(form(bytes_by))]?;
-    Ok(Terms::build(alloc, rows, Tables::new(forms))?)
+    Ok(Terms::build(alloc, rows, Tables::new(forms, Vec::new(alloc)))?)
 }
 
 // The bytes of each piece, and the missing element.

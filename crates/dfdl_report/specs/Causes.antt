@@ -1,16 +1,16 @@
 -- The numbers and texts of causes and limits, as the program prints them.
 use Rattle.std.specs.Prelude.{ℕ, List, codes}
 use Rattle.dfdl_report.specs.declared.cause.ParseCause.{ParseCause}
-use Rattle.dfdl_report.specs.declared.cause.ParseCause.TheVariants.{DataEnds, BadCharacter, NotANumber, BadNibble, LengthOutOfRange, PastType, UnknownBoolean}
-use Rattle.dfdl_report.specs.declared.cause.ParseCause.TheVariants.{RequiredEmpty, NotFilled}
+use Rattle.dfdl_report.specs.declared.cause.ParseCause.TheVariants.{InitiatorMissing, TerminatorMissing, SeparatorMissing, DataEnds, BadCharacter, NotANumber, BadNibble}
+use Rattle.dfdl_report.specs.declared.cause.ParseCause.TheVariants.{LengthOutOfRange, PastType, EmptyTrailingSlot, UnknownBoolean, RequiredEmpty, NotFilled}
 use Rattle.dfdl_report.specs.declared.cause.UnparseCause.{UnparseCause}
 use Rattle.dfdl_report.specs.declared.cause.UnparseCause.TheVariants.{WrongOccurrences}
 use Rattle.dfdl_report.specs.declared.cause.SchemaCause.{SchemaCause}
 use Rattle.dfdl_report.specs.declared.cause.SchemaCause.TheVariants.{NameNotFound, GlobalTwice, OutsideSubset, ValueNotAllowed, Recursive, PropertyTwice, PropertyMissing}
-use Rattle.dfdl_report.specs.declared.cause.SchemaCause.TheVariants.{UnknownAnnotation, PropertyNotCarried, ExpressionNotAllowed, LiteralMalformed, TypeNotCarried, MaxLengthMissing, LengthKind}
+use Rattle.dfdl_report.specs.declared.cause.SchemaCause.TheVariants.{UnknownAnnotation, PropertyNotCarried, ExpressionNotAllowed, LiteralMalformed, EmptyDelimiter, TypeNotCarried, MaxLengthMissing, LengthKind}
 use Rattle.dfdl_report.specs.declared.cause.SchemaCause.TheVariants.{LengthUnits, ConstantLength, PrefixType, PrefixLength, PatternRefused, OrdersApart, SecondBitOrder}
 use Rattle.dfdl_report.specs.declared.cause.SchemaCause.TheVariants.{EncodingNotAllowed, Alignment, NumberPattern, SignCodes, BooleanRepresentations, PadCharacter, NilNotAllowed}
-use Rattle.dfdl_report.specs.declared.cause.SchemaCause.TheVariants.{DefaultNotAValue, ElementTwice}
+use Rattle.dfdl_report.specs.declared.cause.SchemaCause.TheVariants.{DefaultNotAValue, OccurrenceBounds, ElementTwice, EscapeScheme}
 use Rattle.dfdl_report.specs.declared.cause.DocCause.{DocCause}
 use Rattle.dfdl_report.specs.declared.cause.DocCause.TheVariants.{NotUtf8, CharacterNotAllowed, Malformed, EndTagMismatch, AttributeTwice}
 use Rattle.dfdl_report.specs.declared.cause.DocCause.TheVariants.{UnknownReference, PrefixNotDeclared, DocumentType, EncodingRefused, OneRoot, TooDeep, DocumentEnds}
@@ -21,24 +21,32 @@ use Rattle.dfdl_report.specs.declared.cause.LimitCause.TheVariants.{Input, Windo
 
 -- processing errors, P
 abbrev pub parse_number : ParseCause → ℕ
+parse_number InitiatorMissing = 1
+parse_number TerminatorMissing = 2
+parse_number SeparatorMissing = 3
 parse_number DataEnds = 4
 parse_number BadCharacter = 5
 parse_number NotANumber = 6
 parse_number BadNibble = 7
 parse_number LengthOutOfRange = 8
 parse_number PastType = 9
+parse_number EmptyTrailingSlot = 16
 parse_number UnknownBoolean = 17
 parse_number RequiredEmpty = 18
 parse_number NotFilled = 19
 
 -- what a processing error is told as
 abbrev pub parse_text : ParseCause → List ℕ
+parse_text InitiatorMissing = codes "initiator missing"
+parse_text TerminatorMissing = codes "terminator missing"
+parse_text SeparatorMissing = codes "separator missing"
 parse_text DataEnds = codes "data ends"
 parse_text BadCharacter = codes "bad character"
 parse_text NotANumber = codes "not a number of the pattern"
 parse_text BadNibble = codes "bad nibble or zone"
 parse_text LengthOutOfRange = codes "length out of range"
 parse_text PastType = codes "value past its type"
+parse_text EmptyTrailingSlot = codes "empty trailing slot"
 parse_text UnknownBoolean = codes "unknown boolean"
 parse_text RequiredEmpty = codes "required element empty"
 parse_text NotFilled = codes "content does not fill its box"
@@ -64,6 +72,7 @@ schema_number UnknownAnnotation = 8
 schema_number PropertyNotCarried = 9
 schema_number ExpressionNotAllowed = 10
 schema_number LiteralMalformed = 11
+schema_number EmptyDelimiter = 12
 schema_number TypeNotCarried = 13
 schema_number MaxLengthMissing = 14
 schema_number LengthKind = 15
@@ -82,7 +91,9 @@ schema_number BooleanRepresentations = 27
 schema_number PadCharacter = 28
 schema_number NilNotAllowed = 29
 schema_number DefaultNotAValue = 30
+schema_number OccurrenceBounds = 32
 schema_number ElementTwice = 40
+schema_number EscapeScheme = 42
 
 -- what a refusal of a schema is told as
 abbrev pub schema_text : SchemaCause → List ℕ
@@ -97,6 +108,7 @@ schema_text UnknownAnnotation = codes "unknown annotation"
 schema_text PropertyNotCarried = codes "property value not carried"
 schema_text ExpressionNotAllowed = codes "expression not allowed here"
 schema_text LiteralMalformed = codes "literal malformed"
+schema_text EmptyDelimiter = codes "delimiter can match nothing"
 schema_text TypeNotCarried = codes "simple type not carried"
 schema_text MaxLengthMissing = codes "maxLength missing"
 schema_text LengthKind = codes "length kind not allowed"
@@ -115,7 +127,9 @@ schema_text BooleanRepresentations = codes "boolean representations malformed"
 schema_text PadCharacter = codes "pad character malformed"
 schema_text NilNotAllowed = codes "nil not allowed"
 schema_text DefaultNotAValue = codes "default is not a value"
+schema_text OccurrenceBounds = codes "occurrence bounds not allowed"
 schema_text ElementTwice = codes "element name twice"
+schema_text EscapeScheme = codes "escape scheme malformed"
 
 -- refusals of documents, X
 abbrev pub document_number : DocCause → ℕ

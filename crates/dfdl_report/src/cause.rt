@@ -8,6 +8,12 @@ ghost use Rattle.dfdl_report.specs.Causes.{unparse_number, unparse_text};
 /// Why parsing failed: the numbers P of processing errors ('Parsing Algorithm').
 #[derive(Debug, Clone, Copy, PartialEq, Eq)]
 pub enum ParseCause {
+    /// None of the texts of an initiator stands where it has to.
+    InitiatorMissing,
+    /// None of the texts of a terminator stands where it has to, or one of a component further in does.
+    TerminatorMissing,
+    /// None of the texts of a separator stands where it has to, or one of a component further in does.
+    SeparatorMissing,
     /// A leaf's bits pass the end of the data.
     DataEnds,
     /// A place of a text at which no character can be decoded, and which isn't replaced.
@@ -20,6 +26,8 @@ pub enum ParseCause {
     LengthOutOfRange,
     /// A number that is no value of its type.
     PastType,
+    /// A slot at the end of a separated group that is empty, where none may be.
+    EmptyTrailingSlot,
     /// A binary boolean whose number is neither that of true nor that of false.
     UnknownBoolean,
     /// A required element whose representation is empty, and that has no default.
@@ -60,6 +68,8 @@ pub enum SchemaCause {
     ExpressionNotAllowed,
     /// A string literal that is none.
     LiteralMalformed,
+    /// A literal of a delimiter that stands for a text of no characters.
+    EmptyDelimiter,
     /// A simple type of XML Schema's that is not carried.
     TypeNotCarried,
     /// A string or hexBinary whose length is that of its type, which has no greatest length.
@@ -96,8 +106,12 @@ pub enum SchemaCause {
     NilNotAllowed,
     /// A default that is no value of the element's type.
     DefaultNotAValue,
+    /// Bounds on occurrences that the kind of their count does not have.
+    OccurrenceBounds,
     /// An element has the name of an earlier one of its group.
     ElementTwice,
+    /// An escape scheme that lacks a character of its kind, or has something else than one where one stands.
+    EscapeScheme,
 }
 
 /// Why a document is refused: the numbers X ('Extensible Markup Language (XML) 1.0' and 'Namespaces
@@ -178,12 +192,16 @@ impl ParseCause {
         ensures { result ≡ parse_number self.now }
     {
         match self {
+            ParseCause::InitiatorMissing => 1,
+            ParseCause::TerminatorMissing => 2,
+            ParseCause::SeparatorMissing => 3,
             ParseCause::DataEnds => 4,
             ParseCause::BadCharacter => 5,
             ParseCause::NotANumber => 6,
             ParseCause::BadNibble => 7,
             ParseCause::LengthOutOfRange => 8,
             ParseCause::PastType => 9,
+            ParseCause::EmptyTrailingSlot => 16,
             ParseCause::UnknownBoolean => 17,
             ParseCause::RequiredEmpty => 18,
             ParseCause::NotFilled => 19,
@@ -194,12 +212,16 @@ impl ParseCause {
         ensures { result.now ≡ parse_text self.now }
     {
         match self {
+            ParseCause::InitiatorMissing => "initiator missing",
+            ParseCause::TerminatorMissing => "terminator missing",
+            ParseCause::SeparatorMissing => "separator missing",
             ParseCause::DataEnds => "data ends",
             ParseCause::BadCharacter => "bad character",
             ParseCause::NotANumber => "not a number of the pattern",
             ParseCause::BadNibble => "bad nibble or zone",
             ParseCause::LengthOutOfRange => "length out of range",
             ParseCause::PastType => "value past its type",
+            ParseCause::EmptyTrailingSlot => "empty trailing slot",
             ParseCause::UnknownBoolean => "unknown boolean",
             ParseCause::RequiredEmpty => "required element empty",
             ParseCause::NotFilled => "content does not fill its box",
@@ -243,6 +265,7 @@ impl SchemaCause {
             SchemaCause::PropertyNotCarried => 9,
             SchemaCause::ExpressionNotAllowed => 10,
             SchemaCause::LiteralMalformed => 11,
+            SchemaCause::EmptyDelimiter => 12,
             SchemaCause::TypeNotCarried => 13,
             SchemaCause::MaxLengthMissing => 14,
             SchemaCause::LengthKind => 15,
@@ -261,7 +284,9 @@ impl SchemaCause {
             SchemaCause::PadCharacter => 28,
             SchemaCause::NilNotAllowed => 29,
             SchemaCause::DefaultNotAValue => 30,
+            SchemaCause::OccurrenceBounds => 32,
             SchemaCause::ElementTwice => 40,
+            SchemaCause::EscapeScheme => 42,
         }
     }
 
@@ -280,6 +305,7 @@ impl SchemaCause {
             SchemaCause::PropertyNotCarried => "property value not carried",
             SchemaCause::ExpressionNotAllowed => "expression not allowed here",
             SchemaCause::LiteralMalformed => "literal malformed",
+            SchemaCause::EmptyDelimiter => "delimiter can match nothing",
             SchemaCause::TypeNotCarried => "simple type not carried",
             SchemaCause::MaxLengthMissing => "maxLength missing",
             SchemaCause::LengthKind => "length kind not allowed",
@@ -298,7 +324,9 @@ impl SchemaCause {
             SchemaCause::PadCharacter => "pad character malformed",
             SchemaCause::NilNotAllowed => "nil not allowed",
             SchemaCause::DefaultNotAValue => "default is not a value",
+            SchemaCause::OccurrenceBounds => "occurrence bounds not allowed",
             SchemaCause::ElementTwice => "element name twice",
+            SchemaCause::EscapeScheme => "escape scheme malformed",
         }
     }
 }

@@ -10,8 +10,9 @@ use Rattle.dfdl_terms.specs.declared.row.Row.TheVariants.{Leaf, Elem, Boxed, Pre
 use Rattle.dfdl_rows.specs.declared.component.ContentBox.{ContentBox}
 use Rattle.dfdl_rows.specs.declared.component.ContentBox.TheVariants.{Unbounded, Sized, Prefixed}
 use Rattle.dfdl_rows.specs.Boxes.{box_rows, boxed_row, box_size}
-use Rattle.dfdl_rows.specs.Fill.{framed, framed_row, framing_size}
-use Rattle.dfdl_rows.specs.RowLists.{leaf_row, element_rows}
+use Rattle.dfdl_rows.specs.Framing.{framed, framed_row, framing_size}
+use Rattle.dfdl_rows.specs.Components.{no_trials}
+use Rattle.dfdl_rows.specs.RowLists.{leaf_row, element_rows, boxed_rows}
 use Rattle.dfdl_rows.proofs.Framed.{length_framed}
 
 pub length_box : (box : ContentBox) (content : ℕ) → length (box_rows box content) ≡ box_size box
@@ -49,9 +50,30 @@ length_element name simple tried f content first =
     let row : Row = Elem name simple tried (framed_row f content first) in
     omega (arith, length-append (framed f content first) (row ∷ []), length_framed f content first)
 
--- what holds of fill and of the element itself
+-- what holds of the rows that frame a content and of the element itself
 pub element_all : (P : Row → Type 0) (name : List ℕ) (simple : Option Simple) (tried : Representations) (f : Framing) (content first : ℕ) → All P (framed f content first)
     → P (Elem name simple tried (framed_row f content first)) → All P (element_rows name simple tried f content first)
-element_all P name simple tried f content first fill own =
-    All-append P (framed f content first) (Elem name simple tried (framed_row f content first) ∷ []) fill
+element_all P name simple tried f content first frame own =
+    All-append P (framed f content first) (Elem name simple tried (framed_row f content first) ∷ []) frame
     (All-cons P (Elem name simple tried (framed_row f content first)) [] own (All-nil P))
+
+pub length_boxed : (name : List ℕ) (f : Framing) (box : ContentBox) (content first : ℕ)
+    → length (boxed_rows name f box content first) ≡ 1 + box_size box + framing_size f
+length_boxed name f box content first =
+    let element : List Row = element_rows name None no_trials f (boxed_row box content first) (first + box_size box) in
+    omega (
+      arith,
+      length-append (box_rows box content) element,
+      length_box box content,
+      length_element name None no_trials f (boxed_row box content first) (first + box_size box),
+    )
+
+-- what holds of boxes, of the rows that frame a content and of the element itself
+pub boxed_all : (P : Row → Type 0) (name : List ℕ) (f : Framing) (box : ContentBox) → ((bits body : ℕ) → P (Boxed bits body))
+    → ((prefix : Prefix) (body : ℕ) → box ≡ Prefixed prefix → P (PrefixedBox prefix body)) → ((content first : ℕ) → All P (framed f content first))
+    → ((body : ℕ) → P (Elem name None no_trials body)) → (content first : ℕ) → All P (boxed_rows name f box content first)
+boxed_all P name f box boxes prefixed frame own content first =
+    All-append P (box_rows box content) (element_rows name None no_trials f (boxed_row box content first) (first + box_size box))
+    (box_all P boxes box content (λ prefix is. prefixed prefix content is))
+    (element_all P name None no_trials f (boxed_row box content first) (first + box_size box) (frame (boxed_row box content first) (first + box_size box))
+    (own (framed_row f (boxed_row box content first) (first + box_size box))))

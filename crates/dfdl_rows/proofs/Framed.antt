@@ -1,33 +1,34 @@
--- The rows of fill around a content: how many they are, and what holds of each.
-use Rattle.std.proofs.Common.{◌≡◌, ℕ, ◌+◌, ◌<◌, Bool, true, false, nat_lt, if◌then◌else◌, List, [], ◌∷◌, ◌++◌, length, All, ap, refl, arith, length-append}
+-- The rows that frame a content: how many they are, and what holds of each.
+use Rattle.std.proofs.Common.{◌≡◌, ℕ, ◌+◌, ◌<◌, Bool, true, false, nat_lt, if◌then◌else◌, List, [], ◌∷◌, ◌++◌, length, All, Option, None, Some, ap, refl, arith, length-append}
 use Rattle.std.proofs.lemmas.List.Elements.{All-nil, All-cons, All-append}
+use Rattle.dfdl_terms.specs.declared.delimiters.Delimiter.{Delimiter}
 use Rattle.dfdl_terms.specs.declared.framing.Framing.{Framing}
 use Rattle.dfdl_terms.specs.declared.row.Row.{Row}
-use Rattle.dfdl_terms.specs.declared.row.Row.TheVariants.{Group, Skip, Align}
-use Rattle.dfdl_rows.specs.Fill.{has_fill, skip_rows, align_rows, rows_before, rows_behind, in_group, framed, framed_row, framing_size}
+use Rattle.dfdl_terms.specs.declared.row.Row.TheVariants.{Group, Skip, Align, Initiator, Terminator}
+use Rattle.dfdl_rows.specs.Framing.{has_framing, skip_rows, align_rows, initiator_rows, terminator_rows, rows_before, rows_behind, in_group, framed, framed_row, framing_size}
 
--- the rows where there is fill
+-- the rows where something frames a content
 abbrev pub filled : Framing → ℕ → ℕ → List Row
 filled f content first = rows_before f ++ (rows_behind f ++ Group (in_group f content first) ∷ [])
 
--- with fill and without
+-- with something that frames it and without
 pub framed_cases : (f : Framing) (content first : ℕ) (P : List Row → ℕ → ℕ → Type 0)
-    → (has_fill f ≡ false → P [] content 0)
-    → (has_fill f ≡ true → P (filled f content first) (first + length (rows_before f) + length (rows_behind f)) (length (rows_before f) + length (rows_behind f) + 1))
+    → (has_framing f ≡ false → P [] content 0)
+    → (has_framing f ≡ true → P (filled f content first) (first + length (rows_before f) + length (rows_behind f)) (length (rows_before f) + length (rows_behind f) + 1))
     → P (framed f content first) (framed_row f content first) (framing_size f)
 unfolding framed framed_row framing_size
 framed_cases f content first P none some =
-    (elim (has_fill f) as (λ (b : Bool). has_fill f ≡ b → P (if b then filled f content first else [])
+    (elim (has_framing f) as (λ (b : Bool). has_framing f ≡ b → P (if b then filled f content first else [])
     (if b then first + length (rows_before f) + length (rows_behind f) else content) (if b then length (rows_before f) + length (rows_behind f) + 1 else 0)) [
       | true ↦ some
       | false ↦ none
     ]) refl
 
-pub unframed : (f : Framing) (content first : ℕ) → has_fill f ≡ false → framed f content first ≡ []
+pub unframed : (f : Framing) (content first : ℕ) → has_framing f ≡ false → framed f content first ≡ []
 unfolding framed
 unframed f content first none = ap (λ (b : Bool). if b then filled f content first else []) none
 
-pub unframed_row : (f : Framing) (content first : ℕ) → has_fill f ≡ false → framed_row f content first ≡ content
+pub unframed_row : (f : Framing) (content first : ℕ) → has_framing f ≡ false → framed_row f content first ≡ content
 unfolding framed_row
 unframed_row f content first none = ap (λ (b : Bool). if b then first + length (rows_before f) + length (rows_behind f) else content) none
 
@@ -43,7 +44,7 @@ length_filled f content first =
 pub length_framed : (f : Framing) (content first : ℕ) → length (framed f content first) ≡ framing_size f
 length_framed f content first = framed_cases f content first (λ rows whole size. length rows ≡ size) (λ none. refl) (λ some. length_filled f content first)
 
--- the row of the whole is the last one, that of the content where there is no fill
+-- the row of the whole is the last one, that of the content where nothing frames it
 pub framed_end : (f : Framing) (content first : ℕ) → content + 1 ≡ first → framed_row f content first + 1 ≡ first + framing_size f
 framed_end f content first is = framed_cases f content first (λ rows whole size. whole + 1 ≡ first + size)
     (λ none. omega (arith, is)) (λ some. omega arith)
@@ -52,7 +53,7 @@ pub framed_below : (f : Framing) (content first : ℕ) → content < first → f
 framed_below f content first less = framed_cases f content first (λ rows whole size. whole < first + size)
     (λ none. omega (arith, less)) (λ some. omega arith)
 
--- what holds of fill and of groups
+-- what holds of fill and of groups, and of the delimiters that there are
 module _ (P : Row → Type 0) (skips : (bits : ℕ) → P (Skip bits)) (aligns : (bits : ℕ) → P (Align bits)) where
   skip_all : (bits : ℕ) → All P (skip_rows bits)
   skip_all bits = elim (nat_lt 0 bits) as (λ (b : Bool). All P (if b then Skip bits ∷ [] else [])) [
@@ -66,14 +67,26 @@ module _ (P : Row → Type 0) (skips : (bits : ℕ) → P (Skip bits)) (aligns :
     | false ↦ All-nil P
   ]
 
-  pub before_all : (f : Framing) → All P (rows_before f)
-  before_all f = All-append P (skip_rows f.leading_skip) (align_rows f.alignment) (skip_all f.leading_skip) (align_all f.alignment)
+  initiator_all : (d : Option Delimiter) → ((own : Delimiter) → d ≡ Some own → P (Initiator own)) → All P (initiator_rows d)
+  initiator_all None holds = All-nil P
+  initiator_all (Some own) holds = All-cons P (Initiator own) [] (holds own refl) (All-nil P)
 
-  pub behind_all : (f : Framing) → All P (rows_behind f)
-  behind_all f = skip_all f.trailing_skip
+  terminator_all : (d : Option Delimiter) → ((own : Delimiter) → d ≡ Some own → P (Terminator own)) → All P (terminator_rows d)
+  terminator_all None holds = All-nil P
+  terminator_all (Some own) holds = All-cons P (Terminator own) [] (holds own refl) (All-nil P)
 
-  pub framed_all : ((children : List ℕ) → P (Group children)) → (f : Framing) (content first : ℕ) → All P (framed f content first)
-  framed_all groups f content first = framed_cases f content first (λ rows whole size. All P rows) (λ none. All-nil P)
-      (λ some. All-append P (rows_before f) (rows_behind f ++ Group (in_group f content first) ∷ []) (before_all f)
-      (All-append P (rows_behind f) (Group (in_group f content first) ∷ []) (behind_all f)
-      (All-cons P (Group (in_group f content first)) [] (groups (in_group f content first)) (All-nil P))))
+  module _ (f : Framing) (initiators : (own : Delimiter) → f.initiator ≡ Some own → P (Initiator own))
+      (terminators : (own : Delimiter) → f.terminator ≡ Some own → P (Terminator own)) where
+    pub before_all : All P (rows_before f)
+    before_all =
+        All-append P (skip_rows f.leading_skip) (align_rows f.alignment ++ initiator_rows f.initiator) (skip_all f.leading_skip)
+        (All-append P (align_rows f.alignment) (initiator_rows f.initiator) (align_all f.alignment) (initiator_all f.initiator initiators))
+
+    pub behind_all : All P (rows_behind f)
+    behind_all = All-append P (terminator_rows f.terminator) (skip_rows f.trailing_skip) (terminator_all f.terminator terminators) (skip_all f.trailing_skip)
+
+    pub framed_all : ((children : List ℕ) → P (Group children)) → (content first : ℕ) → All P (framed f content first)
+    framed_all groups content first = framed_cases f content first (λ rows whole size. All P rows) (λ none. All-nil P)
+        (λ some. All-append P (rows_before f) (rows_behind f ++ Group (in_group f content first) ∷ []) before_all
+        (All-append P (rows_behind f) (Group (in_group f content first) ∷ []) behind_all
+        (All-cons P (Group (in_group f content first)) [] (groups (in_group f content first)) (All-nil P))))

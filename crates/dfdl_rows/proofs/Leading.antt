@@ -1,4 +1,4 @@
--- A reference without fill has the rows of the component that it leads to.
+-- A reference that nothing frames has the rows of the component that it leads to.
 use Rattle.std.proofs.Common.{◌≡◌, ℕ, ◌+◌, ◌<◌, Bool, true, false, if◌then◌else◌, List, [], ◌∷◌, ◌++◌, length, map, get_or, All, sym, ap, subst, ◌∙◌, refl, arith}
 use Rattle.std.proofs.lemmas.List.{append-nil}
 use Rattle.dfdl_order.specs.Parts.{uses_of}
@@ -13,8 +13,8 @@ use Rattle.dfdl_rows.specs.RowLists.{Numbered, own_rows, in_turn, last_rows, row
 use Rattle.dfdl_rows.specs.Ends.{end_by, end_from, end_of, IsLed, AreEnds}
 use Rattle.dfdl_rows.specs.Walk.{steps_from, steps_of}
 use Rattle.dfdl_rows.specs.declared.walk.Task.TheVariants.{Enter}
-use Rattle.dfdl_rows.specs.Fill.{has_fill}
-use Rattle.dfdl_rows.proofs.Framed.{unframed}
+use Rattle.dfdl_rows.specs.Framing.{has_framing}
+use Rattle.dfdl_rows.proofs.Scoped.{unscoped}
 use Rattle.dfdl_rows.proofs.Parts.{by_parts, parts_within}
 use Rattle.dfdl_rows.proofs.RowsOf.{rows_step}
 
@@ -27,7 +27,7 @@ module _ (s : Schema) (c : ℕ) (within : c < length s.uses) where
   led_itself : IsLed s c c
   led_itself = record { within = within; rows = λ first. refl; steps = omega arith }
 
-  led_by_one : (f : Framing) → has_fill f ≡ false → (ps : List ℕ) → length ps ≡ 1 → RowsAre (Reference f) ps → steps_of s (Enter c) ≡ 2 + total (map (λ p. steps_of s (Enter p)) ps)
+  led_by_one : (f : Framing) → has_framing f ≡ false → (ps : List ℕ) → length ps ≡ 1 → RowsAre (Reference f) ps → steps_of s (Enter c) ≡ 2 + total (map (λ p. steps_of s (Enter p)) ps)
       → All (λ p. IsLed s p (end_of s p)) ps → IsLed s c (get_or (map (end_of s) ps) 0 c)
   led_by_one f none [] one rows steps all = absurd (omega (arith, one))
   led_by_one f none (p ∷ []) one rows steps all =
@@ -36,7 +36,7 @@ module _ (s : Schema) (c : ℕ) (within : c < length s.uses) where
         within = part.within;
         rows = λ first.
             part.rows first ∙ (sym (append-nil (rows_at s p first)) ∙ (sym (append-nil (rows_at s p first ++ []))
-            ∙ (ap (λ (own : List Row). (rows_at s p first ++ []) ++ own) (sym (unframed f (get_or (last_rows (rows_at s p ∷ []) first) 0 0) (first + length (rows_at s p first ++ [])) none))
+            ∙ (ap (λ (own : List Row). (rows_at s p first ++ []) ++ own) (sym (unscoped f none (get_or (last_rows (rows_at s p ∷ []) first) 0 0) (first + length (rows_at s p first ++ []))))
             ∙ sym (rows first))));
         steps = omega (arith, part.steps, steps);
       }
@@ -46,7 +46,7 @@ module _ (s : Schema) (c : ℕ) (within : c < length s.uses) where
       → All (λ p. IsLed s p (end_of s p)) ps → IsLed s c (end_by component c (map (end_of s) ps))
   led_by (Sequence framing) ps can rows steps all = led_itself
   led_by (Reference framing) ps can rows steps all =
-      (elim (has_fill framing) as (λ (b : Bool). has_fill framing ≡ b → IsLed s c (if b then c else get_or (map (end_of s) ps) 0 c)) [
+      (elim (has_framing framing) as (λ (b : Bool). has_framing framing ≡ b → IsLed s c (if b then c else get_or (map (end_of s) ps) 0 c)) [
         | true ↦ λ some. led_itself
         | false ↦ λ none. led_by_one framing none ps can rows steps all
       ]) refl

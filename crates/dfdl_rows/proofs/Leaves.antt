@@ -1,7 +1,7 @@
 -- What holds of the body of each simple element among the rows of components, wherever the rows begin.
 use Rattle.std.proofs.Common.{◌≡◌, ℕ, zero, suc, ◌+◌, ◌-◌, ◌<◌, List, [], ◌∷◌, ◌++◌, length, map, slice_get, get_or, All, Option, None, Some, sym, ap, subst, ◌∙◌, arith, inl, inr}
 use Rattle.std.proofs.lemmas.Bool.{cases_lt}
-use Rattle.std.proofs.lemmas.List.Elements.{All-tail, All-cons, All-nil, All-append}
+use Rattle.std.proofs.lemmas.List.Elements.{All-tail, All-cons, All-nil}
 use Rattle.std.proofs.lemmas.Option.{slice_get_within, slice_get-get_or, get_or_from_slice_get}
 use Rattle.dfdl_forms.specs.declared.simple.Simple.{Simple}
 use Rattle.dfdl_order.specs.Parts.{uses_of}
@@ -12,15 +12,15 @@ use Rattle.dfdl_terms.specs.declared.prefix.Prefix.{Prefix}
 use Rattle.dfdl_terms.specs.declared.row.Row.{Row}
 use Rattle.dfdl_terms.specs.declared.row.Row.TheVariants.{Elem, Group}
 use Rattle.dfdl_terms.specs.Framing.{no_fill}
-use Rattle.dfdl_rows.specs.Components.{Schema, component_at, AreOfOne, HasOrder, IsBareComponent, no_trials}
+use Rattle.dfdl_rows.specs.Components.{Schema, component_at, AreOfOne, HasOrder, IsBareComponent}
 use Rattle.dfdl_rows.specs.declared.component.Component.{Component}
 use Rattle.dfdl_rows.specs.declared.component.Component.TheVariants.{Sequence, Reference, ComplexElement, SimpleElement}
-use Rattle.dfdl_rows.specs.Fill.{framed, framed_row}
-use Rattle.dfdl_rows.specs.Boxes.{box_rows, boxed_row, box_size}
-use Rattle.dfdl_rows.specs.RowLists.{Numbered, leaf_row, element_rows, own_rows, in_turn, last_rows, rows_at, rows_of}
+use Rattle.dfdl_rows.specs.Framing.{framed, framed_row}
+use Rattle.dfdl_rows.specs.RowLists.{Numbered, leaf_row, boxed_rows, scoped, own_rows, in_turn, last_rows, rows_at, rows_of}
 use Rattle.dfdl_rows.specs.Leaves.{IsAmong, IsLeafOf, HaveLeaves, HaveBareLeaves}
 use Rattle.dfdl_rows.proofs.Framed.{unframed_row, framed_all}
-use Rattle.dfdl_rows.proofs.Boxed.{box_all, leaf_holds, element_all}
+use Rattle.dfdl_rows.proofs.Boxed.{leaf_holds, boxed_all}
+use Rattle.dfdl_rows.proofs.Scoped.{scoped_all}
 use Rattle.dfdl_rows.proofs.Placed.{left, right, nothing_there, Sits, sits_left, sits_right, sits_first, sits_tail, framed_reads}
 use Rattle.dfdl_rows.proofs.Parts.{by_parts}
 use Rattle.dfdl_rows.proofs.RowsOf.{rows_step}
@@ -49,7 +49,12 @@ only_last (row ∷ rows) last (suc i) name simple tried body all is = only_last 
 
 framed_not_simple : (f : Framing) (content first : ℕ) → All IsNotSimple (framed f content first)
 framed_not_simple f content first = framed_all IsNotSimple (λ bits name simple tried body is. absurd (cc)) (λ bits name simple tried body is. absurd (cc))
-    (λ children name simple tried body is. absurd (cc)) f content first
+    f (λ own there name simple tried body is. absurd (cc)) (λ own there name simple tried body is. absurd (cc))
+    (λ children name simple tried body is. absurd (cc)) content first
+
+scoped_not_simple : (f : Framing) (around : ℕ → ℕ → List Row) → ((content first : ℕ) → All IsNotSimple (around content first))
+    → (content first : ℕ) → All IsNotSimple (scoped f.terminator around content first)
+scoped_not_simple f around = scoped_all IsNotSimple f.terminator around (λ own row there name simple tried body is. absurd (cc))
 
 leaf_not_simple : (prefix : Option Prefix) (prim : ℕ) → IsNotSimple (leaf_row prefix prim)
 leaf_not_simple prefix prim = leaf_holds IsNotSimple prefix prim (λ name simple tried body is. absurd (cc)) (λ own has name simple tried body is. absurd (cc))
@@ -93,17 +98,17 @@ module _ (components : List Component) (all : List Row) (Q : Simple → ℕ → 
 
   own_bodies : (component : Component) (lasts : List ℕ) (first number : ℕ) → slice_get components number ≡ Some component
       → BodiesFrom first (own_rows component lasts first)
-  own_bodies (Sequence f) lasts first number there = bodies_none first (Group lasts ∷ framed f first (first + 1))
-      (All-cons IsNotSimple (Group lasts) (framed f first (first + 1)) (λ name simple tried body is. absurd (cc)) (framed_not_simple f first (first + 1)))
-  own_bodies (Reference f) lasts first number there = bodies_none first (framed f (get_or lasts 0 0) first) (framed_not_simple f (get_or lasts 0 0) first)
+  own_bodies (Sequence f) lasts first number there = bodies_none first (Group lasts ∷ scoped f.terminator (framed f) first (first + 1))
+      (All-cons IsNotSimple (Group lasts) (scoped f.terminator (framed f) first (first + 1)) (λ name simple tried body is. absurd (cc))
+      (scoped_not_simple f (framed f) (framed_not_simple f) first (first + 1)))
+  own_bodies (Reference f) lasts first number there = bodies_none first (scoped f.terminator (framed f) (get_or lasts 0 0) first)
+      (scoped_not_simple f (framed f) (framed_not_simple f) (get_or lasts 0 0) first)
   own_bodies (ComplexElement own f box) lasts first number there =
-      let content : ℕ = boxed_row box (get_or lasts 0 0) first in
-      let element : List Row = element_rows own None no_trials f (boxed_row box (get_or lasts 0 0) first) (first + box_size box) in
-      bodies_none first (box_rows box (get_or lasts 0 0) ++ element)
-      (All-append IsNotSimple (box_rows box (get_or lasts 0 0)) element
-      (box_all IsNotSimple (λ bits body name simple tried other is. absurd (cc)) box (get_or lasts 0 0) (λ prefix boxed name simple tried other is. absurd (cc)))
-      (element_all IsNotSimple own None no_trials f content (first + box_size box) (framed_not_simple f content (first + box_size box))
-      (λ name simple tried body is. absurd (cc))))
+      bodies_none first (scoped f.terminator (boxed_rows own f box) (get_or lasts 0 0) first)
+      (scoped_not_simple f (boxed_rows own f box)
+      (boxed_all IsNotSimple own f box (λ bits row name simple tried body is. absurd (cc)) (λ prefix row there name simple tried body is. absurd (cc))
+      (framed_not_simple f) (λ row name simple tried body is. absurd (cc)))
+      (get_or lasts 0 0) first)
   own_bodies (SimpleElement own kind prim f prefix trials) lasts first number there = λ sits i name simple tried body is.
       let same : Elem own (Some kind) trials (framed_row f first (first + 1)) ≡ Elem name (Some simple) tried body
       = only_last (leaf_row prefix prim ∷ framed f first (first + 1)) (Elem own (Some kind) trials (framed_row f first (first + 1))) i name simple tried body
@@ -151,7 +156,7 @@ module _ (s : Schema) (ordered : HasOrder s.uses) (one : AreOfOne s.uses s.compo
       (leaf_reads (rows_of s root) (IsAmong s.components simple) content prim prefix is (number, name, f, prefix, tried, component)))
       root within 0 (root_sits (rows_of s root))
 
-  -- where there is neither fill nor a box nor a prefix, the component of a number has none
+  -- where there is neither fill nor a delimiter nor a box nor a prefix, the component of a number has none
   bare_at : All IsBareComponent s.components → (number : ℕ) (component : Component) → slice_get s.components number ≡ Some component → IsBareComponent component
   bare_at bare number component is =
       subst IsBareComponent (get_or_from_slice_get s.components number component component is)
@@ -162,7 +167,7 @@ module _ (s : Schema) (ordered : HasOrder s.uses) (one : AreOfOne s.uses s.compo
       bodies_at (rows_of s root) (λ simple body. IsLeafOf s.components simple (slice_get (rows_of s root) body))
       (λ number content prim name simple f prefix tried component is sits.
       let content_is : framed_row f content (content + 1) ≡ content
-      = unframed_row f content (content + 1) (bare_at bare number (SimpleElement name simple prim f prefix tried) component).unfilled in
+      = unframed_row f content (content + 1) (bare_at bare number (SimpleElement name simple prim f prefix tried) component).unframed in
       let leaf_is : leaf_row prefix prim ≡ leaf_row None prim
       = ap (λ (own : Option Prefix). leaf_row own prim) (bare_at bare number (SimpleElement name simple prim f prefix tried) component).unprefixed in
       subst (λ (n : ℕ). IsLeafOf s.components simple (slice_get (rows_of s root) n)) (sym content_is)

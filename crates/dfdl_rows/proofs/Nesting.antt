@@ -1,27 +1,31 @@
--- The rows of a component nest, name primitives that are there, are plain where there is neither fill nor a box nor a prefix, and end with the
--- component's own.
+-- The rows of a component nest, name what is there, are plain where there is neither fill nor a delimiter nor a box nor a prefix, and end
+-- with the component's own.
 use Rattle.std.proofs.Common.{◌≡◌, ℕ, zero, suc, ◌+◌, ◌-◌, ◌<◌, ◌≤◌, false, List, [], ◌∷◌, ◌++◌, length, map, get_or, slice_get, All, Option, None, Some, sym, ap, subst, ◌∙◌, refl, arith, append_assoc, length-append}
 use Rattle.std.proofs.lemmas.List.Elements.{All-nil, All-tail, All-cons, All-append, All-get_or}
 use Rattle.std.proofs.lemmas.Option.{slice_get_within}
 use Rattle.dfdl_forms.specs.declared.simple.Simple.{Simple}
 use Rattle.dfdl_order.specs.Parts.{uses_of}
 use Rattle.dfdl_terms.specs.declared.representations.Representations.{Representations}
+use Rattle.dfdl_terms.specs.Tables.{Named}
+use Rattle.dfdl_terms.specs.declared.delimiters.Delimiter.{Delimiter}
 use Rattle.dfdl_terms.specs.declared.framing.Framing.{Framing}
 use Rattle.dfdl_terms.specs.declared.row.Row.{Row}
-use Rattle.dfdl_terms.specs.declared.row.Row.TheVariants.{Elem, Group, Boxed, PrefixedBox}
+use Rattle.dfdl_terms.specs.declared.row.Row.TheVariants.{Elem, Group, Scope, Boxed, PrefixedBox}
 use Rattle.dfdl_terms.specs.Rows.{ChildrenBelow, Nests, NamesWithin, IsPlainRow, HasPlainRows}
 use Rattle.dfdl_terms.specs.Framing.{no_fill}
-use Rattle.dfdl_rows.specs.Components.{Schema, component_at, CanHave, AreOfOne, HasOrder, HasPrimitive, HasBoxPrimitive, HasPrefixPrimitive, IsBareComponent, no_trials}
+use Rattle.dfdl_rows.specs.Components.{Schema, component_at, CanHave, AreOfOne, HasOrder, HasPrimitive, HasBoxPrimitive, HasPrefixPrimitive, HasList, HasDelimiters, IsBareComponent, no_trials}
 use Rattle.dfdl_rows.specs.declared.component.Component.{Component}
 use Rattle.dfdl_rows.specs.declared.component.Component.TheVariants.{Sequence, Reference, ComplexElement, SimpleElement}
 use Rattle.dfdl_rows.specs.declared.component.ContentBox.{ContentBox}
 use Rattle.dfdl_rows.specs.declared.component.ContentBox.TheVariants.{Unbounded, Sized, Prefixed}
 use Rattle.dfdl_rows.specs.Boxes.{box_rows, boxed_row, box_size}
-use Rattle.dfdl_rows.specs.RowLists.{Numbered, leaf_row, element_rows, own_rows, in_turn, last_rows, rows_at, rows_of}
+use Rattle.dfdl_rows.specs.RowLists.{Numbered, leaf_row, element_rows, boxed_rows, scoped, own_rows, in_turn, last_rows, rows_at, rows_of}
 use Rattle.dfdl_rows.specs.Answers.{EndsWith}
-use Rattle.dfdl_rows.specs.Fill.{has_fill, rows_before, rows_behind, numbers, in_group, framed, framed_row}
+use Rattle.dfdl_rows.specs.Scopes.{scope_rows, scoped_row, scope_size}
+use Rattle.dfdl_rows.specs.Framing.{has_framing, rows_before, rows_behind, numbers, in_group, framed, framed_row}
 use Rattle.dfdl_rows.proofs.Framed.{framed_cases, unframed, length_framed, framed_end, framed_below, before_all, behind_all, framed_all}
-use Rattle.dfdl_rows.proofs.Boxed.{length_box, box_end, box_below, box_all, leaf_holds, element_all}
+use Rattle.dfdl_rows.proofs.Boxed.{length_box, box_end, box_below, leaf_holds, element_all, boxed_all}
+use Rattle.dfdl_rows.proofs.Scoped.{length_scope, scope_end, scope_below, scoped_all, no_terminator}
 use Rattle.dfdl_rows.proofs.Parts.{by_parts, parts_within}
 use Rattle.dfdl_rows.proofs.RowsOf.{rows_step, length_rows, length_lasts, some_rows}
 
@@ -87,7 +91,7 @@ numbers_below [] first bound few = λ i d less. absurd (omega arith)
 numbers_below (row ∷ rows) first bound few = All-cons (λ n. n < bound) first (numbers rows (first + 1)) (omega (arith, few))
     (numbers_below rows (first + 1) bound (omega (arith, few)))
 
--- a content with its fill
+-- a content with what frames it
 module _ (f : Framing) (content first : ℕ) (low : content < first) where
   group_below : All (λ n. n < first + length (rows_before f) + length (rows_behind f)) (in_group f content first)
   group_below = All-append (λ n. n < first + length (rows_before f) + length (rows_behind f)) (numbers (rows_before f) first)
@@ -101,9 +105,9 @@ module _ (f : Framing) (content first : ℕ) (low : content < first) where
   nests_framed = framed_cases f content first (λ rows whole size. NestsFrom first rows) (λ none. nests_none first)
       (λ some.
       nests_append (rows_before f) (rows_behind f ++ Group (in_group f content first) ∷ []) first
-      (nests_flat (rows_before f) first (before_all (λ row. (n : ℕ) → ChildrenBelow n row) (λ bits n. tt) (λ bits n. tt) f))
+      (nests_flat (rows_before f) first (before_all (λ row. (n : ℕ) → ChildrenBelow n row) (λ bits n. tt) (λ bits n. tt) f (λ own is n. tt) (λ own is n. tt)))
       (nests_append (rows_behind f) (Group (in_group f content first) ∷ []) (first + length (rows_before f))
-      (nests_flat (rows_behind f) (first + length (rows_before f)) (behind_all (λ row. (n : ℕ) → ChildrenBelow n row) (λ bits n. tt) (λ bits n. tt) f))
+      (nests_flat (rows_behind f) (first + length (rows_before f)) (behind_all (λ row. (n : ℕ) → ChildrenBelow n row) (λ bits n. tt) (λ bits n. tt) f (λ own is n. tt) (λ own is n. tt)))
       (nests_cons (first + length (rows_before f) + length (rows_behind f)) (Group (in_group f content first)) [] group_below
       (nests_none (first + length (rows_before f) + length (rows_behind f) + 1)))))
 
@@ -121,18 +125,35 @@ nests_box Unbounded content first low = nests_none first
 nests_box (Sized bits) content first low = nests_cons first (Boxed bits content) [] low (nests_none (first + 1))
 nests_box (Prefixed prefix) content first low = nests_cons first (PrefixedBox prefix content) [] low (nests_none (first + 1))
 
+nests_boxed : (name : List ℕ) (f : Framing) (box : ContentBox) (content first : ℕ) → content < first → NestsFrom first (boxed_rows name f box content first)
+nests_boxed name f box content first low =
+    let element : List Row = element_rows name None no_trials f (boxed_row box content first) (first + box_size box) in
+    nests_append (box_rows box content) element first (nests_box box content first low)
+    (subst (λ (n : ℕ). NestsFrom (first + n) element) (sym (length_box box content))
+    (nests_element f (boxed_row box content first) (first + box_size box) (box_below box content first low) name None no_trials))
+
+-- a content in its scope, and what is around both
+nests_scope : (t : Option Delimiter) (content first : ℕ) → content < first → NestsFrom first (scope_rows t content)
+nests_scope None content first low = nests_none first
+nests_scope (Some own) content first low = nests_cons first (Scope own.list content) [] low (nests_none (first + 1))
+
+nests_scoped : (t : Option Delimiter) (around : ℕ → ℕ → List Row) → ((content first : ℕ) → content < first → NestsFrom first (around content first))
+    → (content first : ℕ) → content < first → NestsFrom first (scoped t around content first)
+nests_scoped t around nests content first low =
+    let others : List Row = around (scoped_row t content first) (first + scope_size t) in
+    nests_append (scope_rows t content) others first (nests_scope t content first low)
+    (subst (λ (n : ℕ). NestsFrom (first + n) others) (sym (length_scope t content))
+    (nests (scoped_row t content first) (first + scope_size t) (scope_below t content first low)))
+
 own_nest : (component : Component) (ps lasts : List ℕ) (first : ℕ) → CanHave component ps → length lasts ≡ length ps → All (λ n. n < first) lasts
     → NestsFrom first (own_rows component lasts first)
 own_nest (Sequence f) ps lasts first can long below =
-    nests_cons first (Group lasts) (framed f first (first + 1)) below (nests_framed f first (first + 1) (omega arith))
-own_nest (Reference f) ps lasts first can long below = nests_framed f (get_or lasts 0 0) first (below 0 0 (omega (arith, can, long)))
+    nests_cons first (Group lasts) (scoped f.terminator (framed f) first (first + 1)) below
+    (nests_scoped f.terminator (framed f) (nests_framed f) first (first + 1) (omega arith))
+own_nest (Reference f) ps lasts first can long below =
+    nests_scoped f.terminator (framed f) (nests_framed f) (get_or lasts 0 0) first (below 0 0 (omega (arith, can, long)))
 own_nest (ComplexElement name f box) ps lasts first can long below =
-    let content : ℕ = boxed_row box (get_or lasts 0 0) first in
-    let element : List Row = element_rows name None no_trials f (boxed_row box (get_or lasts 0 0) first) (first + box_size box) in
-    let low : get_or lasts 0 0 < first = below 0 0 (omega (arith, can, long)) in
-    nests_append (box_rows box (get_or lasts 0 0)) element first (nests_box box (get_or lasts 0 0) first low)
-    (subst (λ (n : ℕ). NestsFrom (first + n) element) (sym (length_box box (get_or lasts 0 0)))
-    (nests_element f content (first + box_size box) (box_below box (get_or lasts 0 0) first low) name None no_trials))
+    nests_scoped f.terminator (boxed_rows name f box) (nests_boxed name f box) (get_or lasts 0 0) first (below 0 0 (omega (arith, can, long)))
 own_nest (SimpleElement name simple prim f prefix tried) ps lasts first can long below =
     nests_cons first (leaf_row prefix prim) (element_rows name (Some simple) tried f first (first + 1))
     (leaf_holds (ChildrenBelow first) prefix prim tt (λ own is. tt))
@@ -182,49 +203,70 @@ rows_all s ordered P own = by_parts s.uses ordered.0 ordered.1 (λ c. IsAll P (r
     (All-append P turn (own_rows (component_at s.components c) lasts (first + length turn)) (turn_all P (rows_at s) (uses_of s.uses c) all first)
     (own c within lasts (first + length turn))))
 
--- the primitives that rows name are there
-framed_named : (count : ℕ) (f : Framing) (content first : ℕ) → All (NamesWithin count) (framed f content first)
-framed_named count = framed_all (NamesWithin count) (λ bits. tt) (λ bits. tt) (λ children. tt)
+-- what rows name is there
+module _ (named : Named) (f : Framing) (has : HasList (length named.delimiters) f.initiator × HasList (length named.delimiters) f.terminator) where
+  framed_named : (content first : ℕ) → All (NamesWithin named) (framed f content first)
+  framed_named = framed_all (NamesWithin named) (λ bits. tt) (λ bits. tt) f (λ own is. subst (HasList (length named.delimiters)) is has.0)
+      (λ own is. subst (HasList (length named.delimiters)) is has.1) (λ children. tt)
 
-own_named : (count : ℕ) (component : Component) (lasts : List ℕ) (first : ℕ) → HasPrimitive count component → All (NamesWithin count) (own_rows component lasts first)
-own_named count (Sequence f) lasts first has = All-cons (NamesWithin count) (Group lasts) (framed f first (first + 1)) tt (framed_named count f first (first + 1))
-own_named count (Reference f) lasts first has = framed_named count f (get_or lasts 0 0) first
-own_named count (ComplexElement name f box) lasts first has =
-    let content : ℕ = boxed_row box (get_or lasts 0 0) first in
-    let element : List Row = element_rows name None no_trials f (boxed_row box (get_or lasts 0 0) first) (first + box_size box) in
-    All-append (NamesWithin count) (box_rows box (get_or lasts 0 0)) element (box_all (NamesWithin count) (λ bits body. tt) box (get_or lasts 0 0)
-    (λ own is. subst (HasBoxPrimitive count) is has))
-    (element_all (NamesWithin count) name None no_trials f content (first + box_size box) (framed_named count f content (first + box_size box)) (tt, tt))
-own_named count (SimpleElement name simple prim f prefix tried) lasts first has =
-    All-cons (NamesWithin count) (leaf_row prefix prim) (element_rows name (Some simple) tried f first (first + 1))
-    (leaf_holds (NamesWithin count) prefix prim has.0 (λ own is. (subst (HasPrefixPrimitive count) is has.1, has.0)))
-    (element_all (NamesWithin count) name (Some simple) tried f first (first + 1) (framed_named count f first (first + 1)) has.2)
+  scoped_named : (around : ℕ → ℕ → List Row) → ((content first : ℕ) → All (NamesWithin named) (around content first))
+      → (content first : ℕ) → All (NamesWithin named) (scoped f.terminator around content first)
+  scoped_named around = scoped_all (NamesWithin named) f.terminator around (λ own body is. subst (HasList (length named.delimiters)) is has.1)
 
--- each row is plain where there is neither fill nor a box nor a prefix
-unframed_plain : (f : Framing) (content first : ℕ) → has_fill f ≡ false → All IsPlainRow (framed f content first)
-unframed_plain f content first none = subst (All IsPlainRow) (sym (unframed f content first none)) (All-nil IsPlainRow)
+own_named : (named : Named) (component : Component) (lasts : List ℕ) (first : ℕ) → HasPrimitive (length named.primitives) component
+    → HasDelimiters (length named.delimiters) component → All (NamesWithin named) (own_rows component lasts first)
+own_named named (Sequence f) lasts first has lists =
+    All-cons (NamesWithin named) (Group lasts) (scoped f.terminator (framed f) first (first + 1)) tt
+    (scoped_named named f lists (framed f) (framed_named named f lists) first (first + 1))
+own_named named (Reference f) lasts first has lists = scoped_named named f lists (framed f) (framed_named named f lists) (get_or lasts 0 0) first
+own_named named (ComplexElement name f box) lasts first has lists =
+    scoped_named named f lists (boxed_rows name f box)
+    (boxed_all (NamesWithin named) name f box (λ bits body. tt) (λ own body is. subst (HasBoxPrimitive (length named.primitives)) is has)
+    (framed_named named f lists) (λ body. (tt, tt)))
+    (get_or lasts 0 0) first
+own_named named (SimpleElement name simple prim f prefix tried) lasts first has lists =
+    All-cons (NamesWithin named) (leaf_row prefix prim) (element_rows name (Some simple) tried f first (first + 1))
+    (leaf_holds (NamesWithin named) prefix prim has.0 (λ own is. (subst (HasPrefixPrimitive (length named.primitives)) is has.1, has.0)))
+    (element_all (NamesWithin named) name (Some simple) tried f first (first + 1) (framed_named named f lists first (first + 1)) has.2)
 
-element_plain : (name : List ℕ) (simple : Option Simple) (tried : Representations) (f : Framing) (content first : ℕ) → has_fill f ≡ false
-    → All IsPlainRow (element_rows name simple tried f content first)
-element_plain name simple tried f content first none = element_all IsPlainRow name simple tried f content first (unframed_plain f content first none) tt
+-- each row is plain where there is neither fill nor a delimiter nor a box nor a prefix
+module _ (f : Framing) (none : has_framing f ≡ false) where
+  unframed_plain : (content first : ℕ) → All IsPlainRow (framed f content first)
+  unframed_plain content first = subst (All IsPlainRow) (sym (unframed f content first none)) (All-nil IsPlainRow)
+
+  no_scope : (own : Delimiter) → f.terminator ≡ Some own → ⊥
+  no_scope own is = absurd (let there = no_terminator f none in cc)
+
+  unscoped_plain : (around : ℕ → ℕ → List Row) → ((content first : ℕ) → All IsPlainRow (around content first))
+      → (content first : ℕ) → All IsPlainRow (scoped f.terminator around content first)
+  unscoped_plain around = scoped_all IsPlainRow f.terminator around (λ own body is. no_scope own is)
+
+  element_plain : (name : List ℕ) (simple : Option Simple) (tried : Representations) (content first : ℕ)
+      → All IsPlainRow (element_rows name simple tried f content first)
+  element_plain name simple tried content first = element_all IsPlainRow name simple tried f content first (unframed_plain content first) tt
 
 own_bare : (component : Component) (lasts : List ℕ) (first : ℕ) → IsBareComponent component → All IsPlainRow (own_rows component lasts first)
 own_bare (Sequence f) lasts first bare =
-    All-cons IsPlainRow (Group lasts) (framed f first (first + 1)) tt (unframed_plain f first (first + 1) bare.unfilled)
-own_bare (Reference f) lasts first bare = unframed_plain f (get_or lasts 0 0) first bare.unfilled
-own_bare (ComplexElement name f Unbounded) lasts first bare = element_plain name None no_trials f (get_or lasts 0 0) (first + 0) bare.unfilled
+    All-cons IsPlainRow (Group lasts) (scoped f.terminator (framed f) first (first + 1)) tt
+    (unscoped_plain f bare.unframed (framed f) (unframed_plain f bare.unframed) first (first + 1))
+own_bare (Reference f) lasts first bare = unscoped_plain f bare.unframed (framed f) (unframed_plain f bare.unframed) (get_or lasts 0 0) first
+own_bare (ComplexElement name f Unbounded) lasts first bare =
+    unscoped_plain f bare.unframed (boxed_rows name f Unbounded) (λ content n. element_plain f bare.unframed name None no_trials content (n + 0))
+    (get_or lasts 0 0) first
 own_bare (ComplexElement name f (Sized bits)) lasts first bare = absurd (let none = bare.unboxed in cc)
 own_bare (ComplexElement name f (Prefixed prefix)) lasts first bare = absurd (let none = bare.unboxed in cc)
 own_bare (SimpleElement name simple prim f prefix tried) lasts first bare =
     All-cons IsPlainRow (leaf_row prefix prim) (element_rows name (Some simple) tried f first (first + 1))
     (leaf_holds IsPlainRow prefix prim tt (λ own is. absurd (let none = bare.unprefixed in cc)))
-    (element_plain name (Some simple) tried f first (first + 1) bare.unfilled)
+    (element_plain f bare.unframed name (Some simple) tried first (first + 1))
 
 module _ (s : Schema) (ordered : HasOrder s.uses) (one : AreOfOne s.uses s.components s.refusals s.places) where
-  pub rows_named : (count : ℕ) → All (HasPrimitive count) s.components → (c : ℕ) → c < length s.uses → IsAll (NamesWithin count) (rows_at s c)
-  rows_named count has = rows_all s ordered (NamesWithin count)
-      (λ c within lasts first. own_named count (component_at s.components c) lasts first
-      (All-get_or (HasPrimitive count) s.components c (Sequence no_fill) (omega (arith, within, one.counted)) has))
+  pub rows_named : (named : Named) → All (HasPrimitive (length named.primitives)) s.components → All (HasDelimiters (length named.delimiters)) s.components
+      → (c : ℕ) → c < length s.uses → IsAll (NamesWithin named) (rows_at s c)
+  rows_named named has lists = rows_all s ordered (NamesWithin named)
+      (λ c within lasts first. own_named named (component_at s.components c) lasts first
+      (All-get_or (HasPrimitive (length named.primitives)) s.components c (Sequence no_fill) (omega (arith, within, one.counted)) has)
+      (All-get_or (HasDelimiters (length named.delimiters)) s.components c (Sequence no_fill) (omega (arith, within, one.counted)) lists))
 
   pub rows_bare : All IsBareComponent s.components → (root : ℕ) → root < length s.uses → HasPlainRows (rows_of s root)
   rows_bare bare root within = rows_all s ordered IsPlainRow
@@ -245,10 +287,13 @@ last_of (b ∷ (d ∷ before)) x =
     let same : length (b ∷ (d ∷ (before ++ x ∷ []))) - 1 ≡ suc (length (d ∷ (before ++ x ∷ [])) - 1) = omega arith in
     ap (λ (n : ℕ). slice_get (b ∷ (d ∷ (before ++ x ∷ []))) n) same ∙ last_of (d ∷ before) x
 
--- an element behind its content and fill
+-- the last of the rows is that of an element, whose body is the one before it
+abbrev pub IsLast : List ℕ → Option Simple → Representations → List Row → Type 0
+IsLast name simple tried rows = slice_get rows (length rows - 1) ≡ Some (Elem name simple tried (length rows - 2))
+
+-- an element behind its content and what frames it
 element_last : (before : List Row) (f : Framing) (content first : ℕ) (name : List ℕ) (simple : Option Simple) (tried : Representations) → first ≡ length before → content + 1 ≡ first
-    → slice_get (before ++ element_rows name simple tried f content first) (length (before ++ element_rows name simple tried f content first) - 1)
-    ≡ Some (Elem name simple tried (length (before ++ element_rows name simple tried f content first) - 2))
+    → IsLast name simple tried (before ++ element_rows name simple tried f content first)
 element_last before f content first name simple tried begins is =
     let row : Row = Elem name simple tried (framed_row f content first) in
     let regrouped : before ++ (framed f content first ++ row ∷ []) ≡ (before ++ framed f content first) ++ row ∷ [] = sym (append_assoc before (framed f content first) (row ∷ [])) in
@@ -259,6 +304,23 @@ element_last before f content first name simple tried begins is =
     = omega (arith, begins, count, rest, framed_end f content first is, length_framed f content first) in
     ap (λ (rows : List Row). slice_get rows (length rows - 1)) regrouped
     ∙ (last_of (before ++ framed f content first) row ∙ ap (λ (n : ℕ). Some (Elem name simple tried n)) same)
+
+module _ (name : List ℕ) (f : Framing) (box : ContentBox) (before : List Row) (content first : ℕ) (begins : first ≡ length before) (is : content + 1 ≡ first) where
+  boxed_last : IsLast name None no_trials (before ++ boxed_rows name f box content first)
+  boxed_last =
+      let element : List Row = element_rows name None no_trials f (boxed_row box content first) (first + box_size box) in
+      subst (IsLast name None no_trials) (append_assoc before (box_rows box content) element)
+      (element_last (before ++ box_rows box content) f (boxed_row box content first) (first + box_size box) name None no_trials
+      (omega (arith, begins, length-append before (box_rows box content), length_box box content)) (box_end box content first is))
+
+complex_last : (name : List ℕ) (f : Framing) (box : ContentBox) (before : List Row) (content first : ℕ) → first ≡ length before → content + 1 ≡ first
+    → IsLast name None no_trials (before ++ scoped f.terminator (boxed_rows name f box) content first)
+complex_last name f box before content first begins is =
+    let others : List Row = boxed_rows name f box (scoped_row f.terminator content first) (first + scope_size f.terminator) in
+    subst (IsLast name None no_trials) (append_assoc before (scope_rows f.terminator content) others)
+    (boxed_last name f box (before ++ scope_rows f.terminator content) (scoped_row f.terminator content first) (first + scope_size f.terminator)
+    (omega (arith, begins, length-append before (scope_rows f.terminator content), length_scope f.terminator content))
+    (scope_end f.terminator content first is))
 
 turn_some : (f : ℕ → Numbered) (ps : List ℕ) → length ps ≡ 1 → All (λ p. 0 < length (f p 0)) ps → 0 < length (in_turn (map f ps) 0)
 turn_some f [] one all = absurd (omega (arith, one))
@@ -271,23 +333,14 @@ own_last : (component : Component) (f : ℕ → Numbered) (ps : List ℕ) → Ca
 own_last (Sequence framing) f ps can some = tt
 own_last (Reference framing) f ps can some = tt
 own_last (ComplexElement name framing box) f ps can some =
-    let turn : List Row = in_turn (map f ps) 0 in
-    let first : ℕ = 0 + length (in_turn (map f ps) 0) in
-    let last : ℕ = get_or (last_rows (map f ps) 0) 0 0 in
-    let boxes : List Row = box_rows box (get_or (last_rows (map f ps) 0) 0 0) in
-    let content : ℕ = boxed_row box (get_or (last_rows (map f ps) 0) 0 0) (0 + length (in_turn (map f ps) 0)) in
-    let begin : ℕ = 0 + length (in_turn (map f ps) 0) + box_size box in
-    let regrouped : turn ++ (boxes ++ element_rows name None no_trials framing content begin) ≡ (turn ++ boxes) ++ element_rows name None no_trials framing content begin
-    = sym (append_assoc turn boxes (element_rows name None no_trials framing content begin)) in
-    let behind : last + 1 ≡ first = omega (arith, one_part f ps can, turn_some f ps can some) in
-    subst (λ (rows : List Row). slice_get rows (length rows - 1) ≡ Some (Elem name None no_trials (length rows - 2))) (sym regrouped)
-    (element_last (turn ++ boxes) framing content begin name None no_trials (omega (arith, length-append turn boxes, length_box box last)) (box_end box last first behind))
+    complex_last name framing box (in_turn (map f ps) 0) (get_or (last_rows (map f ps) 0) 0 0) (0 + length (in_turn (map f ps) 0)) (omega arith)
+    (omega (arith, one_part f ps can, turn_some f ps can some))
 own_last (SimpleElement name simple prim framing prefix tried) f ps can some =
     let turn : List Row = in_turn (map f ps) 0 in
     let first : ℕ = 0 + length (in_turn (map f ps) 0) in
     let own : List Row = element_rows name (Some simple) tried framing first (first + 1) in
     let regrouped : turn ++ (leaf_row prefix prim ∷ own) ≡ (turn ++ leaf_row prefix prim ∷ []) ++ own = sym (append_assoc turn (leaf_row prefix prim ∷ []) own) in
-    subst (λ (rows : List Row). slice_get rows (length rows - 1) ≡ Some (Elem name (Some simple) tried (length rows - 2))) (sym regrouped)
+    subst (IsLast name (Some simple) tried) (sym regrouped)
     (element_last (turn ++ leaf_row prefix prim ∷ []) framing first (first + 1) name (Some simple) tried (omega (arith, length-append turn (leaf_row prefix prim ∷ []))) refl)
 
 pub rows_end : (s : Schema) → HasOrder s.uses → AreOfOne s.uses s.components s.refusals s.places → (root : ℕ) → root < length s.uses

@@ -1,11 +1,11 @@
--- Rows that stand in a longer list from a number on, and what a content with its fill reads there.
+-- Rows that stand in a longer list from a number on, and what a content reads there with what frames it.
 use Rattle.std.proofs.Common.{◌≡◌, ℕ, zero, suc, ◌+◌, ◌<◌, List, [], ◌∷◌, ◌++◌, length, slice_get, Some, ap, subst, ◌∙◌, refl, arith}
 use Rattle.std.proofs.lemmas.Option.{slice_get_within}
 use Rattle.dfdl_terms.specs.Leaves.{ReadsBy, grouped}
 use Rattle.dfdl_terms.specs.declared.framing.Framing.{Framing}
 use Rattle.dfdl_terms.specs.declared.row.Row.{Row}
 use Rattle.dfdl_terms.specs.declared.row.Row.TheVariants.{Group}
-use Rattle.dfdl_rows.specs.Fill.{rows_before, rows_behind, numbers, in_group, framed, framed_row}
+use Rattle.dfdl_rows.specs.Framing.{rows_before, rows_behind, numbers, in_group, framed, framed_row}
 use Rattle.dfdl_rows.proofs.Framed.{filled, framed_cases}
 
 pub left : {A : Type 0} (xs ys : List A) (i : ℕ) → i < length xs → slice_get (xs ++ ys) i ≡ slice_get xs i
@@ -48,7 +48,7 @@ sits_tail all first row rows sits i other is =
     let same : first + suc i ≡ first + 1 + i = omega arith in
     subst (λ (n : ℕ). slice_get all n ≡ Some other) same (sits (suc i) other is)
 
--- what the content reads, the group with its fill does too
+-- what the content reads, the group of it and what frames it does too
 module _ (all : List Row) (IsOne : ℕ → Type 0) (f : Framing) (content first : ℕ) where
   group_there : Sits all first (filled f content first)
       → slice_get all (first + length (rows_before f) + length (rows_behind f)) ≡ Some (Group (in_group f content first))

@@ -1,17 +1,19 @@
 -- The rows of a component by those of its parts: how many they are, and that there is one.
-use Rattle.std.proofs.Common.{◌≡◌, ℕ, ◌+◌, ◌<◌, List, [], ◌∷◌, ◌++◌, length, map, get_or, None, Some, All, sym, ap, subst, refl, arith, length-append}
+use Rattle.std.proofs.Common.{◌≡◌, ℕ, ◌+◌, ◌<◌, List, [], ◌∷◌, ◌++◌, length, map, get_or, Some, All, sym, ap, subst, refl, arith, length-append}
 use Rattle.std.proofs.lemmas.List.Elements.{All-tail}
 use Rattle.dfdl_order.specs.Parts.{uses_of}
 use Rattle.dfdl_order.proofs.Over.{value_step}
 use Rattle.dfdl_terms.specs.declared.row.Row.{Row}
-use Rattle.dfdl_rows.specs.Components.{Schema, component_at, CanHave, AreOfOne, HasOrder, no_trials}
+use Rattle.dfdl_rows.specs.Components.{Schema, component_at, CanHave, AreOfOne, HasOrder}
 use Rattle.dfdl_rows.specs.declared.component.Component.{Component}
 use Rattle.dfdl_rows.specs.declared.component.Component.TheVariants.{Sequence, Reference, ComplexElement, SimpleElement}
 use Rattle.dfdl_rows.specs.Sizes.{total, own_size, size_from, size_of}
-use Rattle.dfdl_rows.specs.Boxes.{box_rows, boxed_row, box_size}
-use Rattle.dfdl_rows.specs.RowLists.{Numbered, element_rows, own_rows, in_turn, last_rows, rows_from, no_rows, rows_at}
+use Rattle.dfdl_rows.specs.Boxes.{box_size}
+use Rattle.dfdl_rows.specs.Framing.{framed, framing_size}
+use Rattle.dfdl_rows.specs.RowLists.{Numbered, boxed_rows, own_rows, in_turn, last_rows, rows_from, no_rows, rows_at}
 use Rattle.dfdl_rows.proofs.Framed.{length_framed}
-use Rattle.dfdl_rows.proofs.Boxed.{length_box, length_element}
+use Rattle.dfdl_rows.proofs.Boxed.{length_boxed, length_element}
+use Rattle.dfdl_rows.proofs.Scoped.{length_scoped}
 use Rattle.dfdl_rows.proofs.Parts.{by_parts}
 
 pub rows_step : (s : Schema) → HasOrder s.uses → (c : ℕ) → c < length s.uses → rows_at s c ≡ rows_from s.components c (map (rows_at s) (uses_of s.uses c))
@@ -26,16 +28,15 @@ length_lasts f [] first = refl
 length_lasts f (p ∷ ps) first = omega (arith, length_lasts f ps (first + length (f p first)))
 
 pub length_own : (component : Component) (parts : List ℕ) (first : ℕ) → length (own_rows component parts first) ≡ own_size component
-length_own (Sequence framing) parts first = omega (arith, length_framed framing first (first + 1))
-length_own (Reference framing) parts first = length_framed framing (get_or parts 0 0) first
+length_own (Sequence framing) parts first =
+    omega (arith, length_scoped framing.terminator (framed framing) (framing_size framing) (length_framed framing) first (first + 1))
+length_own (Reference framing) parts first =
+    length_scoped framing.terminator (framed framing) (framing_size framing) (length_framed framing) (get_or parts 0 0) first
 length_own (ComplexElement name framing box) parts first =
-    let content : ℕ = boxed_row box (get_or parts 0 0) first in
-    let element : List Row = element_rows name None no_trials framing (boxed_row box (get_or parts 0 0) first) (first + box_size box) in
     omega (
       arith,
-      length-append (box_rows box (get_or parts 0 0)) element,
-      length_box box (get_or parts 0 0),
-      length_element name None no_trials framing content (first + box_size box),
+      length_scoped framing.terminator (boxed_rows name framing box) (1 + box_size box + framing_size framing) (length_boxed name framing box)
+          (get_or parts 0 0) first,
     )
 length_own (SimpleElement name simple prim framing prefix tried) parts first =
     omega (arith, length_element name (Some simple) tried framing first (first + 1))

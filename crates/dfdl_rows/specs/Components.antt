@@ -1,6 +1,7 @@
 -- The components of a schema: what each one is, and which components it has as its parts ('DFDL Schema Component Model').
 use Rattle.std.specs.Prelude.{◌≡◌, ℕ, ◌<◌, List, [], length, get_or, Option, None, Some, false}
 use Rattle.dfdl_report.specs.declared.place.Place.{Place}
+use Rattle.dfdl_terms.specs.declared.delimiters.Delimiter.{Delimiter}
 use Rattle.dfdl_terms.specs.declared.framing.Framing.{Framing}
 use Rattle.dfdl_terms.specs.declared.prefix.Prefix.{Prefix}
 use Rattle.dfdl_terms.specs.declared.representations.Representations.{Representations}
@@ -11,12 +12,12 @@ use Rattle.dfdl_rows.specs.declared.component.Component.{Component}
 use Rattle.dfdl_rows.specs.declared.component.Component.TheVariants.{Sequence, Reference, ComplexElement, SimpleElement}
 use Rattle.dfdl_rows.specs.declared.component.ContentBox.{ContentBox}
 use Rattle.dfdl_rows.specs.declared.component.ContentBox.TheVariants.{Unbounded, Sized, Prefixed}
-use Rattle.dfdl_rows.specs.Fill.{has_fill}
+use Rattle.dfdl_rows.specs.Framing.{has_framing}
 use Rattle.dfdl_rows.specs.declared.refusal.Refusal.{Refusal}
 
 -- no representation is tried before the normal one
 abbrev pub no_trials : Representations
-no_trials = record { nil = None; empty = None; are_several = false }
+no_trials = record { nil = None; empty = None; refuses_empty = false; are_several = false }
 
 -- by a component's number: its parts in schema order, what it is, the refusal of its own, if it has one, and where it begins
 pub record Schema : Type 0 where
@@ -71,12 +72,21 @@ HasPrimitive count (Reference framing) = Unit {0}
 HasPrimitive count (ComplexElement name framing box) = HasBoxPrimitive count box
 HasPrimitive count (SimpleElement name simple prim framing prefix tried) = (prim < count) × HasPrefixPrimitive count prefix × AreWithin count tried
 
--- the fill around the content of a component
+-- what frames the content of a component
 abbrev pub framing_in : Component → Framing
 framing_in (Sequence framing) = framing
 framing_in (Reference framing) = framing
 framing_in (ComplexElement name framing box) = framing
 framing_in (SimpleElement name simple prim framing prefix tried) = framing
+
+-- the list of a delimiter, where there is one, is one of so many
+abbrev pub HasList : ℕ → Option Delimiter → Type 0
+HasList count None = Unit {0}
+HasList count (Some delimiter) = delimiter.list < count
+
+-- the lists of a component's initiator and terminator are some of so many
+abbrev pub HasDelimiters : ℕ → Component → Type 0
+HasDelimiters count component = HasList count (framing_in component).initiator × HasList count (framing_in component).terminator
 
 -- the box around the content of a component
 abbrev pub box_in : Component → ContentBox
@@ -92,8 +102,8 @@ prefix_in (Reference framing) = None
 prefix_in (ComplexElement name framing box) = None
 prefix_in (SimpleElement name simple prim framing prefix tried) = prefix
 
--- there is neither fill nor a box around the content of a component, and no length prefix before it
+-- there is neither fill nor a delimiter nor a box around the content of a component, and no length prefix before it
 pub record IsBareComponent (component : Component) : Type 0 where
-  pub unfilled : has_fill (framing_in component) ≡ false
+  pub unframed : has_framing (framing_in component) ≡ false
   pub unboxed : box_in component ≡ Unbounded
   pub unprefixed : prefix_in component ≡ None

@@ -1,18 +1,18 @@
--- Mirror for the prover: the component that a reference leads to, over any number of references without fill.
+-- Mirror for the prover: the component that a reference leads to, over any number of references that nothing frames.
 use Rattle.std.specs.Prelude.{◌≡◌, ℕ, ◌<◌, ◌≤◌, List, length, get_or, if◌then◌else◌}
 use Rattle.dfdl_order.specs.Folds.{value_by}
 use Rattle.dfdl_rows.specs.Components.{Schema, component_at}
-use Rattle.dfdl_rows.specs.Fill.{has_fill}
+use Rattle.dfdl_rows.specs.Framing.{has_framing}
 use Rattle.dfdl_rows.specs.RowLists.{rows_at}
 use Rattle.dfdl_rows.specs.Walk.{steps_of}
 use Rattle.dfdl_rows.specs.declared.walk.Task.TheVariants.{Enter}
 use Rattle.dfdl_rows.specs.declared.component.Component.{Component}
 use Rattle.dfdl_rows.specs.declared.component.Component.TheVariants.{Sequence, Reference, ComplexElement, SimpleElement}
 
--- that of its part for a reference without fill, else the component itself
+-- that of its part for a reference that nothing frames, else the component itself
 abbrev pub end_by : Component → ℕ → List ℕ → ℕ
 end_by (Sequence framing) c of_parts = c
-end_by (Reference framing) c of_parts = if has_fill framing then c else get_or of_parts 0 c
+end_by (Reference framing) c of_parts = if has_framing framing then c else get_or of_parts 0 c
 end_by (ComplexElement name framing box) c of_parts = c
 end_by (SimpleElement name simple prim framing prefix tried) c of_parts = c
 

@@ -6,7 +6,7 @@ use Rattle.dfdl_terms.specs.Leaves.{ReadsBy}
 use Rattle.dfdl_terms.specs.declared.framing.Framing.{Framing}
 use Rattle.dfdl_terms.specs.declared.prefix.Prefix.{Prefix}
 use Rattle.dfdl_terms.specs.declared.row.Row.{Row}
-use Rattle.dfdl_terms.specs.declared.row.Row.TheVariants.{Leaf, Elem, Group, Skip, Align, Boxed, PrefixedLeaf, PrefixedBox}
+use Rattle.dfdl_terms.specs.declared.row.Row.TheVariants.{Leaf, Elem, Group, Skip, Align, Initiator, Terminator, Scope, Boxed, PrefixedLeaf, PrefixedBox}
 use Rattle.dfdl_rows.specs.declared.component.Component.{Component}
 use Rattle.dfdl_rows.specs.declared.component.Component.TheVariants.{SimpleElement}
 
@@ -28,6 +28,9 @@ IsLeafOf components simple (Some (Elem name other tried body)) = ⊥
 IsLeafOf components simple (Some (Group children)) = ⊥
 IsLeafOf components simple (Some (Skip bits)) = ⊥
 IsLeafOf components simple (Some (Align bits)) = ⊥
+IsLeafOf components simple (Some (Initiator delimiter)) = ⊥
+IsLeafOf components simple (Some (Terminator delimiter)) = ⊥
+IsLeafOf components simple (Some (Scope list body)) = ⊥
 IsLeafOf components simple (Some (Boxed bits body)) = ⊥
 IsLeafOf components simple (Some (PrefixedLeaf prefix prim)) = ⊥
 IsLeafOf components simple (Some (PrefixedBox prefix body)) = ⊥

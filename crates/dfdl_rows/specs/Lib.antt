@@ -1,4 +1,5 @@
-pub mod Fill
+pub mod Framing
+pub mod Scopes
 pub mod Boxes
 pub mod Components
 pub mod Refusals

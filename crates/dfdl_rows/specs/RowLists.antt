@@ -3,6 +3,7 @@
 use Rattle.std.specs.Prelude.{ℕ, ◌+◌, ◌-◌, List, [], ◌∷◌, ◌++◌, length, get_or, Option, None, Some}
 use Rattle.dfdl_forms.specs.declared.simple.Simple.{Simple}
 use Rattle.dfdl_order.specs.Folds.{value_by}
+use Rattle.dfdl_terms.specs.declared.delimiters.Delimiter.{Delimiter}
 use Rattle.dfdl_terms.specs.declared.framing.Framing.{Framing}
 use Rattle.dfdl_terms.specs.declared.prefix.Prefix.{Prefix}
 use Rattle.dfdl_terms.specs.declared.representations.Representations.{Representations}
@@ -10,7 +11,9 @@ use Rattle.dfdl_terms.specs.declared.row.Row.{Row}
 use Rattle.dfdl_terms.specs.declared.row.Row.TheVariants.{Leaf, Elem, Group, PrefixedLeaf}
 use Rattle.dfdl_rows.specs.Components.{Schema, component_at, no_trials}
 use Rattle.dfdl_rows.specs.Boxes.{box_rows, boxed_row, box_size}
-use Rattle.dfdl_rows.specs.Fill.{framed, framed_row}
+use Rattle.dfdl_rows.specs.Framing.{framed, framed_row}
+use Rattle.dfdl_rows.specs.Scopes.{scope_rows, scoped_row, scope_size}
+use Rattle.dfdl_rows.specs.declared.component.ContentBox.{ContentBox}
 use Rattle.dfdl_rows.specs.declared.component.Component.{Component}
 use Rattle.dfdl_rows.specs.declared.component.Component.TheVariants.{Sequence, Reference, ComplexElement, SimpleElement}
 
@@ -24,19 +27,30 @@ abbrev pub leaf_row : Option Prefix → ℕ → Row
 leaf_row None prim = Leaf prim
 leaf_row (Some prefix) prim = PrefixedLeaf prefix prim
 
--- the rows of an element around the row of its content, from a number on: those of fill around it, and its own
+-- the rows of an element around the row of its content, from a number on: those that frame it, and its own
 abbrev pub element_rows : List ℕ → Option Simple → Representations → Framing → ℕ → ℕ → List Row
 element_rows name simple tried framing content first =
     framed framing content first ++ Elem name simple tried (framed_row framing content first) ∷ []
 
+-- the rows of a complex element around the row of its content, from a number on: that of a box, then those of an element
+abbrev pub boxed_rows : List ℕ → Framing → ContentBox → ℕ → ℕ → List Row
+boxed_rows name framing box content first =
+    box_rows box content ++ element_rows name None no_trials framing (boxed_row box content first) (first + box_size box)
+
+-- rows around the row of a content, from a number on: that of the scope of a terminator, and others, which are around both
+abbrev pub scoped : Option Delimiter → (ℕ → ℕ → List Row) → ℕ → ℕ → List Row
+scoped terminator around content first =
+    scope_rows terminator content ++ around (scoped_row terminator content first) (first + scope_size terminator)
+
 -- the rows of a component's own, from a number on, where these are the last rows of its parts: that of its content, which is a
--- part's for a reference and a complex element, that of a box around it, then those of fill, and for an element its own
+-- part's for a reference and a complex element, that of the scope of its terminator around it, for a complex element that of a box
+-- around this, then those that frame it, and for an element its own; there is no scope around the content of a simple element, since
+-- none of today's ends at a delimiter
 abbrev pub own_rows : Component → List ℕ → ℕ → List Row
-own_rows (Sequence framing) parts first = Group parts ∷ framed framing first (first + 1)
-own_rows (Reference framing) parts first = framed framing (get_or parts 0 0) first
+own_rows (Sequence framing) parts first = Group parts ∷ scoped framing.terminator (framed framing) first (first + 1)
+own_rows (Reference framing) parts first = scoped framing.terminator (framed framing) (get_or parts 0 0) first
 own_rows (ComplexElement name framing box) parts first =
-    box_rows box (get_or parts 0 0)
-    ++ element_rows name None no_trials framing (boxed_row box (get_or parts 0 0) first) (first + box_size box)
+    scoped framing.terminator (boxed_rows name framing box) (get_or parts 0 0) first
 own_rows (SimpleElement name simple prim framing prefix tried) parts first =
     leaf_row prefix prim ∷ element_rows name (Some simple) tried framing first (first + 1)
 

@@ -3,15 +3,16 @@ use Rattle.std.specs.Prelude.{ℕ, ◌+◌, List, [], ◌∷◌}
 use Rattle.dfdl_order.specs.Folds.{value_by}
 use Rattle.dfdl_rows.specs.Components.{Schema, component_at}
 use Rattle.dfdl_rows.specs.Boxes.{box_size}
-use Rattle.dfdl_rows.specs.Fill.{framing_size}
+use Rattle.dfdl_rows.specs.Framing.{framing_size}
+use Rattle.dfdl_rows.specs.Scopes.{scope_size}
 use Rattle.dfdl_rows.specs.declared.component.Component.{Component}
 use Rattle.dfdl_rows.specs.declared.component.Component.TheVariants.{Sequence, Reference, ComplexElement, SimpleElement}
 
--- the rows of a component that are not its parts', those of a box and of fill among them
+-- the rows of a component that are not its parts', those of a scope, of a box and of what frames its content among them
 abbrev pub own_size : Component → ℕ
-own_size (Sequence framing) = 1 + framing_size framing
-own_size (Reference framing) = framing_size framing
-own_size (ComplexElement name framing box) = 1 + box_size box + framing_size framing
+own_size (Sequence framing) = 1 + scope_size framing.terminator + framing_size framing
+own_size (Reference framing) = scope_size framing.terminator + framing_size framing
+own_size (ComplexElement name framing box) = 1 + scope_size framing.terminator + box_size box + framing_size framing
 own_size (SimpleElement name simple prim framing prefix tried) = 2 + framing_size framing
 
 -- numbers added up

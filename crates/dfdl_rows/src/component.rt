@@ -18,20 +18,20 @@ pub enum ContentBox {
 pub enum Component {
     /// A sequence of its parts.
     Sequence {
-        /// The fill around its group.
+        /// What frames its group.
         framing: Framing,
     },
     /// A component that stands for its one part: an element reference for its element, a group reference for its
     /// group, a global group for its sequence.
     Reference {
-        /// The fill around the rows of its part.
+        /// What frames the row of its part.
         framing: Framing,
     },
     /// An element whose one part is its content.
     ComplexElement {
         /// The local name.
         name: TextValue,
-        /// The fill around its content, outside of the box.
+        /// What frames its content, outside of the box.
         framing: Framing,
         /// The box around its content.
         content_box: ContentBox,
@@ -43,7 +43,7 @@ pub enum Component {
         simple: Simple,
         /// The number in the tables of the primitive that its content is read by.
         prim: u32,
-        /// The fill around its content, outside of the prefix.
+        /// What frames its content, outside of the prefix.
         framing: Framing,
         /// The length prefix before its content, if it has one ('Lengths').
         prefix: Option<Prefix>,

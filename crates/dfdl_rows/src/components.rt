@@ -2,14 +2,14 @@
 ghost use Rattle.std.specs.Prelude.{◌≡◌, ◌<◌, ◌↔◌, length, All, IsTrue, false};
 ghost use Rattle.dfdl_order.specs.Parts.{uses_of, IsOrder};
 ghost use Rattle.dfdl_terms.specs.Rows.{AreWithin, IsWithin};
-ghost use Rattle.dfdl_rows.specs.Components.{AreOfOne, CanHave, HasOrder, component_at, place_at};
+ghost use Rattle.dfdl_rows.specs.Components.{AreOfOne, CanHave, HasOrder, component_at, framing_in, place_at};
 ghost use Rattle.dfdl_rows.specs.Refusals.{own_refusal};
-ghost use Rattle.dfdl_rows.specs.Components.{HasPrimitive, HasBoxPrimitive, HasPrefixPrimitive};
+ghost use Rattle.dfdl_rows.specs.Components.{HasPrimitive, HasBoxPrimitive, HasPrefixPrimitive, HasDelimiters, HasList};
 
 use crate::{Component, ContentBox, Refusal};
 use dfdl_order::{Order, Uses};
 use dfdl_report::Place;
-use dfdl_terms::{Prefix, Representations};
+use dfdl_terms::{Delimiter, Framing, Prefix, Representations};
 use std::marker::Model;
 
 /// The components of a schema by number: the parts of each one in schema order, what it is, the refusal
@@ -216,6 +216,46 @@ fn has_prefix_primitive(prefix: Option<Prefix>, count: u32) -> bool
 {
     match prefix {
         Some(prefix) => prefix.prim < count,
+        None => true,
+    }
+}
+
+/// Whether the lists of each component's initiator and terminator are some of so many.
+pub fn have_delimiters(components: &[Component], count: u32) -> bool
+    ensures have { IsTrue result → All (HasDelimiters count) components.now }
+    ensures other { result ≡ false → All (HasDelimiters count) components.now → ⊥ }
+{
+    components
+        .iter()
+        .all(|component| has_delimiters(component, count))
+}
+
+// Whether the lists of a component's initiator and terminator are some of so many.
+fn has_delimiters(component: &Component, count: u32) -> bool
+    ensures { IsTrue result ↔ HasDelimiters count component.now }
+{
+    let framing = framing_in(component);
+    has_list(framing.initiator, count) && has_list(framing.terminator, count)
+}
+
+// What frames the content of a component.
+fn framing_in(component: &Component) -> Framing
+    ensures { result ≡ framing_in component.now }
+{
+    match component {
+        Component::Sequence { framing } => *framing,
+        Component::Reference { framing } => *framing,
+        Component::ComplexElement { framing, .. } => *framing,
+        Component::SimpleElement { framing, .. } => *framing,
+    }
+}
+
+// Whether the list of a delimiter, where there is one, is one of so many.
+fn has_list(delimiter: Option<Delimiter>, count: u32) -> bool
+    ensures { IsTrue result ↔ HasList count delimiter }
+{
+    match delimiter {
+        Some(delimiter) => delimiter.list < count,
         None => true,
     }
 }

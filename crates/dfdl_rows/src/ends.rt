@@ -1,9 +1,9 @@
-// Where references without fill lead, so that a walk takes one step for any number of them.
+// Where references that nothing frames lead, so that a walk takes one step for any number of them.
 ghost use Rattle.std.specs.Prelude.{◌≡◌, ◌<◌, length, map, All, get_or, IfOk, if◌then◌else◌};
 ghost use Rattle.dfdl_rows.specs.Ends.{end_by, AreEnds};
-ghost use Rattle.dfdl_rows.specs.Fill.{has_fill};
+ghost use Rattle.dfdl_rows.specs.Framing as spec;
 
-use crate::fill::has_fill;
+use crate::framing::has_framing;
 use crate::{Component, Components};
 use dfdl_terms::Framing;
 use std::alloc::{AllocError, Global};
@@ -21,12 +21,12 @@ fn end_at(component: &Component, number: u32, parts: &[u32], known: &[u32]) -> u
     }
 }
 
-// Where a reference leads: with fill it has a row of its own.
+// Where a reference leads: one that something frames has rows of its own.
 fn reference_end(framing: Framing, number: u32, parts: &[u32], known: &[u32]) -> u32
     requires { All (λ p. p < length known.now) parts.now }
-    ensures { result ≡ (if has_fill framing then number else get_or (map (λ p. get_or known.now p 0) parts.now) 0 number) }
+    ensures { result ≡ (if spec.has_framing framing then number else get_or (map (λ p. get_or known.now p 0) parts.now) 0 number) }
 {
-    if has_fill(framing) {
+    if has_framing(framing) {
         return number;
     }
     first_end(number, parts, known)
@@ -43,7 +43,7 @@ fn first_end(number: u32, parts: &[u32], known: &[u32]) -> u32
     }
 }
 
-/// For each reference without fill the component that it leads to, over any number of such references; each other
+/// For each reference that nothing frames the component that it leads to, over any number of such references; each other
 /// component itself.
 pub(crate) fn ends(alloc: Global, components: &Components) -> Result<Vec<u32>, AllocError>
     ensures { IfOk result (λ made. AreEnds components.now made.items) }

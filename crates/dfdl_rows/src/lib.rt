@@ -12,21 +12,24 @@ mod components;
 mod depths;
 mod ends;
 mod fault;
-mod fill;
+mod framing;
 mod idle;
 mod looking;
 mod refusal;
 mod refusals;
 mod rows;
+mod scopes;
 mod sizes;
 mod walk;
 
 pub use component::{Component, ContentBox};
-pub use components::{Components, are_of_one, have_primitives};
+pub use components::{Components, are_of_one, have_delimiters, have_primitives};
 pub use fault::RowsFault;
 pub use refusal::Refusal;
 pub use rows::{rows_of, terms_of};
 
+#[cfg(test)]
+mod framing_tests;
 #[cfg(test)]
 mod prefix_tests;
 #[cfg(test)]

@@ -38,7 +38,7 @@ fn has_rows(
     gathered: Gathered,
     expected: &[(&str, &[u64])],
 ) -> Result<bool, RowsFault> {
-    match gathered.whole(alloc) {
+    match gathered.whole(alloc, 0) {
         Some(components) if components.count() > 0 => {
             let rows = rows_of(alloc, &components, 0, 2, 7)?;
             Ok(are_shown(alloc, &rows, expected)?)

@@ -1,7 +1,8 @@
 // The rows of a root, or why there are none.
 ghost use Rattle.std.specs.Prelude.{◌≡◌, ◌<◌, ◌≤◌, ℕ, length, All, IfOk, IfErr, vec_len};
-ghost use Rattle.dfdl_terms.specs.Rows.{most_rows as table_rows, Nests, NamesWithin, IsPrimitive, HasPlainRows};
-ghost use Rattle.dfdl_rows.specs.Components.{component_at, HasPrimitive, IsBareComponent};
+ghost use Rattle.dfdl_terms.specs.Rows.{most_rows as table_rows, Nests, NamesWithin, IsPrimitive, HasPlainRows, named_by, table_of};
+ghost use Rattle.dfdl_terms.specs.Tables.{Named};
+ghost use Rattle.dfdl_rows.specs.Components.{component_at, HasPrimitive, HasDelimiters, IsBareComponent};
 ghost use Rattle.dfdl_rows.specs.Leaves.{HaveLeaves, HaveBareLeaves};
 ghost use Rattle.dfdl_rows.specs.Answers.{asked, AreRowsOf, IsFaultOf, EndsWith};
 
@@ -30,8 +31,9 @@ pub fn rows_of(
     ensures few { IfOk result (λ made. vec_len made ≤ most_rows) }
     ensures nests { IfOk result (λ made. Nests made.items) }
     ensures root { IfOk result (λ made. EndsWith (component_at components.now.components root) made.items) }
-    ensures named { (count : ℕ) → All (HasPrimitive count) components.now.components
-        → IfOk result (λ made. All (NamesWithin count) made.items) }
+    ensures named { (named : Named) → All (HasPrimitive (length named.primitives)) components.now.components
+        → All (HasDelimiters (length named.delimiters)) components.now.components
+        → IfOk result (λ made. All (NamesWithin named) made.items) }
     ensures leaves { IfOk result (λ made. HaveLeaves components.now.components made.items) }
     ensures bare { All IsBareComponent components.now.components
         → IfOk result (λ made. HaveBareLeaves components.now.components made.items) }
@@ -67,10 +69,11 @@ pub fn terms_of(
 ) -> Result<Terms, RowsFault>
     requires within { root < length components.now.uses }
     requires few { most_rows ≤ table_rows }
-    requires named { All (HasPrimitive (length tables)) components.now.components }
-    requires bounded { All IsPrimitive tables }
+    requires primitives { All (HasPrimitive (length tables.primitives)) components.now.components }
+    requires delimiters { All (HasDelimiters (length tables.delimiters)) components.now.components }
+    requires bounded { All IsPrimitive tables.primitives }
     ensures rows { IfOk result (λ made. AreRowsOf (asked components.now root most_depth most_rows) made.rows) }
-    ensures tables { IfOk result (λ made. made.primitives ≡ tables) }
+    ensures tables { IfOk result (λ made. named_by made ≡ tables) }
     ensures fault { IfErr result (IsFaultOf (asked components.now root most_depth most_rows)) }
     ensures root { IfOk result (λ made. EndsWith (component_at components.now.components root) made.rows) }
     ensures leaves { IfOk result (λ made. HaveLeaves components.now.components made.rows) }
@@ -89,9 +92,9 @@ fn built(alloc: Global, rows: Vec<Row>, tables: Tables) -> Terms
     requires some { 0 < vec_len rows }
     requires few { vec_len rows ≤ table_rows }
     requires nests { Nests rows.items }
-    requires named { All (NamesWithin (length tables)) rows.items }
-    requires bounded { All IsPrimitive tables }
-    ensures { result ≡ record { rows = rows.items; primitives = tables } }
+    requires named { All (NamesWithin tables) rows.items }
+    requires bounded { All IsPrimitive tables.primitives }
+    ensures { result ≡ table_of rows.items tables }
 {
     match Terms::build(alloc, rows, tables) {
         Ok(terms) => terms,

@@ -4,22 +4,25 @@ ghost use Rattle.dfdl_rows.specs.Sizes as sizes;
 ghost use Rattle.dfdl_rows.specs.Saturated.{saturated};
 
 use crate::boxes::box_size;
-use crate::fill::framing_size;
+use crate::framing::framing_size;
+use crate::scopes::scope_size;
 use crate::{Component, Components};
 use std::alloc::{AllocError, Global};
 
-// The rows of a component that are not its parts', those of a box and of fill among them.
+// The rows of a component that are not its parts', those of a scope, of a box and of what frames its content among them.
 fn own_size(component: &Component) -> u64
     ensures { result ≡ sizes.own_size component.now }
 {
     match component {
-        Component::Sequence { framing } => 1 + framing_size(*framing),
-        Component::Reference { framing } => framing_size(*framing),
+        Component::Sequence { framing } => 1
+            + scope_size(framing.terminator)
+            + framing_size(*framing),
+        Component::Reference { framing } => scope_size(framing.terminator) + framing_size(*framing),
         Component::ComplexElement {
             framing,
             content_box,
             ..
-        } => 1 + box_size(*content_box) + framing_size(*framing),
+        } => 1 + scope_size(framing.terminator) + box_size(*content_box) + framing_size(*framing),
         Component::SimpleElement { framing, .. } => 2 + framing_size(*framing),
     }
 }

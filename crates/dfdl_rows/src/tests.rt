@@ -1,5 +1,5 @@
 ghost use Rattle.std.specs.Prelude.{All, IfSome, IfOk, ◌≡◌, ◌<◌, length};
-ghost use Rattle.dfdl_rows.specs.Components.{HasPrimitive};
+ghost use Rattle.dfdl_rows.specs.Components.{HasPrimitive, HasDelimiters};
 ghost use Rattle.dfdl_terms.specs.Rows.{IsPrimitive};
 
 use super::*;
@@ -49,8 +49,10 @@ impl Gathered {
         }
     }
 
-    pub(super) fn whole(self, alloc: Global) -> Option<Components>
-        ensures { IfSome result (λ c. All (HasPrimitive 1) c.components) }
+    // The components, where they name no other primitive than the first one, and the first so many lists of delimiters.
+    pub(super) fn whole(self, alloc: Global, lists: u32) -> Option<Components>
+        ensures primitives { IfSome result (λ c. All (HasPrimitive 1) c.components) }
+        ensures delimiters { IfSome result (λ c. All (HasDelimiters lists) c.components) }
     {
         let Gathered {
             uses,
@@ -61,7 +63,7 @@ impl Gathered {
         if !uses.is_closed() || !are_of_one(&uses, &components, &refusals, &places) {
             return None;
         }
-        if !have_primitives(&components, 1) {
+        if !have_primitives(&components, 1) || !have_delimiters(&components, lists) {
             return None;
         }
         let Ok(order) = order_of(alloc, &uses) else {
@@ -82,6 +84,8 @@ pub(super) fn fill(leading_skip: u32, alignment: u32, trailing_skip: u32) -> Fra
     Framing {
         leading_skip,
         alignment,
+        initiator: None,
+        terminator: None,
         trailing_skip,
     }
 }
@@ -92,7 +96,7 @@ pub(super) fn bare_sequence() -> Component {
     }
 }
 
-fn simple(alloc: Global) -> Result<Component, AllocError> {
+pub(super) fn simple(alloc: Global) -> Result<Component, AllocError> {
     named(alloc, "a")
 }
 
@@ -100,6 +104,7 @@ fn simple(alloc: Global) -> Result<Component, AllocError> {
 pub(super) const NORMAL_ALONE: Representations = Representations {
     nil: None,
     empty: None,
+    refuses_empty: false,
     are_several: false,
 };
 
@@ -161,8 +166,13 @@ fn doubled(alloc: Global, levels: u32) -> Result<Gathered, RowsFault>
 }
 
 // How many rows the first component has, or why it has none.
-fn count_of(alloc: Global, gathered: Gathered, depth: u32, rows: u32) -> Result<usize, RowsFault> {
-    let Some(components) = gathered.whole(alloc) else {
+pub(super) fn count_of(
+    alloc: Global,
+    gathered: Gathered,
+    depth: u32,
+    rows: u32,
+) -> Result<usize, RowsFault> {
+    let Some(components) = gathered.whole(alloc, 4) else {
         return Err(RowsFault::OutOfMemory);
     };
     if components.count() == 0 {
@@ -171,13 +181,14 @@ fn count_of(alloc: Global, gathered: Gathered, depth: u32, rows: u32) -> Result<
     Ok(rows_of(alloc, &components, 0, depth, rows)?.len())
 }
 
-fn limit(cause: LimitCause, quantity: u32) -> Result<usize, RowsFault> {
+pub(super) fn limit(cause: LimitCause, quantity: u32) -> Result<usize, RowsFault> {
     Err(RowsFault::Limit { cause, quantity })
 }
 
-// One primitive, for all elements.
+// One primitive, for all elements, and no list of delimiters.
 fn tables(alloc: Global) -> Result<Tables, AllocError>
-    ensures { IfOk result (λ made. length made ≡ 1 × All IsPrimitive made) }
+    ensures primitives { IfOk result (λ made. length made.primitives ≡ 1 × All IsPrimitive made.primitives) }
+    ensures delimiters { IfOk result (λ made. length made.delimiters ≡ 0) }
 {
     let mut primitives = Vec::new(alloc);
     primitives.push(Primitive::Integer(IntForm {
@@ -187,13 +198,13 @@ fn tables(alloc: Global) -> Result<Tables, AllocError>
         point: 0,
         kind: Simple::Int,
     }))?;
-    Ok(Tables::new(primitives))
+    Ok(Tables::new(primitives, Vec::new(alloc)))
 }
 
 // The terms of the first component.
 fn terms(alloc: Global, gathered: Gathered) -> Result<Option<Terms>, RowsFault> {
     let tables = tables(alloc)?;
-    match gathered.whole(alloc) {
+    match gathered.whole(alloc, 0) {
         Some(components) if components.count() > 0 => {
             Ok(Some(terms_of(alloc, &components, 0, 2, 6, tables)?))
         }
@@ -282,31 +293,6 @@ fn tells_depth_first_then_the_first_refusal_then_rows(rt: HostRuntime) -> Result
     Ok(())
 }
 
-// A root with fill over a group reference, a sequence and an element with fill.
-fn filled(alloc: Global) -> Result<Gathered, RowsFault> {
-    let mut gathered = Gathered::new(alloc);
-    let root = Component::ComplexElement {
-        name: TextValue::from_str(alloc, "r")?,
-        framing: fill(8, 16, 0),
-        content_box: ContentBox::Unbounded,
-    };
-    gathered.push(root, &[1])?;
-    let framing = fill(0, 32, 4);
-    gathered.push(Component::Reference { framing }, &[2])?;
-    let framing = fill(3, 1, 0);
-    gathered.push(Component::Sequence { framing }, &[3])?;
-    let element = Component::SimpleElement {
-        name: TextValue::from_str(alloc, "a")?,
-        simple: Simple::Int,
-        prim: 0,
-        framing: fill(1, 8, 2),
-        prefix: None,
-        tried: NORMAL_ALONE,
-    };
-    gathered.push(element, &[])?;
-    Ok(gathered)
-}
-
 // The numbers of a prefix: its primitive, how many bits its unit has, where that is told, and what of it is its own.
 fn push_prefix(numbers: &mut Vec<u64>, prefix: Prefix) -> Result<(), AllocError> {
     let unit = match prefix.unit {
@@ -346,6 +332,19 @@ fn shown(alloc: Global, row: &Row) -> Result<(&'static str, Vec<u64>), AllocErro
             numbers.push(u64::from(*bits))?;
             "align"
         }
+        Row::Initiator { delimiter } => {
+            numbers.push(u64::from(delimiter.list))?;
+            "initiator"
+        }
+        Row::Terminator { delimiter } => {
+            numbers.push(u64::from(delimiter.list))?;
+            "terminator"
+        }
+        Row::Scope { list, body } => {
+            numbers.push(u64::from(*list))?;
+            numbers.push(u64::from(body.number()))?;
+            "scope"
+        }
         Row::Boxed { bits, body } => {
             numbers.push(*bits)?;
             numbers.push(u64::from(body.number()))?;
@@ -381,104 +380,4 @@ pub(super) fn are_shown(
         }
     }
     Ok(true)
-}
-
-#[test]
-fn puts_fill_around_each_kind_of_content(rt: HostRuntime) -> Result<(), Fail> {
-    let alloc = rt.alloc();
-    let components = filled(alloc)?.whole(alloc).expect(&rt, "components");
-    assert_eq!(rt; components.count(), 4);
-    if components.count() == 0 {
-        return Err(Fail::new("no components"));
-    }
-    let rows = rows_of(alloc, &components, 0, 2, 16)?;
-    let expected: [(&str, &[u64]); 16] = [
-        ("leaf", &[0]),
-        ("skip", &[1]),
-        ("align", &[8]),
-        ("skip", &[2]),
-        ("group", &[1, 2, 0, 3]),
-        ("element", &[4]),
-        ("group", &[5]),
-        ("skip", &[3]),
-        ("group", &[7, 6]),
-        ("align", &[32]),
-        ("skip", &[4]),
-        ("group", &[9, 8, 10]),
-        ("skip", &[8]),
-        ("align", &[16]),
-        ("group", &[12, 13, 11]),
-        ("element", &[14]),
-    ];
-    assert_eq!(rt; are_shown(alloc, &rows, &expected)?, true);
-    Ok(())
-}
-
-#[test]
-fn counts_the_rows_of_fill(rt: HostRuntime) -> Result<(), Fail> {
-    let alloc = rt.alloc();
-    assert_eq!(rt; count_of(alloc, filled(alloc)?, 2, 16), Ok(16));
-    assert_eq!(rt;
-        count_of(alloc, filled(alloc)?, 2, 15),
-        limit(LimitCause::Rows, 15)
-    );
-    Ok(())
-}
-
-// A root in a box, over an element with a box and fill, over a simple element; both over sequences.
-fn boxed(alloc: Global) -> Result<Gathered, RowsFault> {
-    let mut gathered = Gathered::new(alloc);
-    let root = Component::ComplexElement {
-        name: TextValue::from_str(alloc, "r")?,
-        framing: Framing::none(),
-        content_box: ContentBox::Sized(8589934592),
-    };
-    gathered.push(root, &[1])?;
-    gathered.push(bare_sequence(), &[2])?;
-    let inner = Component::ComplexElement {
-        name: TextValue::from_str(alloc, "c")?,
-        framing: fill(8, 1, 4),
-        content_box: ContentBox::Sized(64),
-    };
-    gathered.push(inner, &[3])?;
-    gathered.push(bare_sequence(), &[4])?;
-    gathered.push(simple(alloc)?, &[])?;
-    Ok(gathered)
-}
-
-#[test]
-fn puts_a_box_around_a_content_and_fill_around_the_box(rt: HostRuntime) -> Result<(), Fail> {
-    let alloc = rt.alloc();
-    let components = boxed(alloc)?.whole(alloc).expect(&rt, "components");
-    assert_eq!(rt; components.count(), 5);
-    if components.count() == 0 {
-        return Err(Fail::new("no components"));
-    }
-    let rows = rows_of(alloc, &components, 0, 3, 11)?;
-    let expected: [(&str, &[u64]); 11] = [
-        ("leaf", &[0]),
-        ("element", &[0]),
-        ("group", &[1]),
-        ("box", &[64, 2]),
-        ("skip", &[8]),
-        ("skip", &[4]),
-        ("group", &[4, 3, 5]),
-        ("element", &[6]),
-        ("group", &[7]),
-        ("box", &[8589934592, 8]),
-        ("element", &[9]),
-    ];
-    assert_eq!(rt; are_shown(alloc, &rows, &expected)?, true);
-    Ok(())
-}
-
-#[test]
-fn counts_the_rows_of_boxes(rt: HostRuntime) -> Result<(), Fail> {
-    let alloc = rt.alloc();
-    assert_eq!(rt; count_of(alloc, boxed(alloc)?, 3, 11), Ok(11));
-    assert_eq!(rt;
-        count_of(alloc, boxed(alloc)?, 3, 10),
-        limit(LimitCause::Rows, 10)
-    );
-    Ok(())
 }

@@ -24,6 +24,7 @@ fn nil_by(prim: u32) -> Representations {
     Representations {
         nil: Some(prim),
         empty: None,
+        refuses_empty: false,
         are_several: true,
     }
 }
@@ -33,6 +34,7 @@ fn empty_by(prim: u32) -> Representations {
     Representations {
         nil: None,
         empty: Some(prim),
+        refuses_empty: false,
         are_several: true,
     }
 }
@@ -56,7 +58,7 @@ fn gives_each_element_its_own_representations(rt: HostRuntime) -> Result<(), Fai
     gathered.push(bare_sequence(), &[2, 3])?;
     gathered.push(simple_with(alloc, "a", nil_by(0))?, &[])?;
     gathered.push(simple_with(alloc, "b", empty_by(0))?, &[])?;
-    let components = gathered.whole(alloc).expect(&rt, "components");
+    let components = gathered.whole(alloc, 0).expect(&rt, "components");
     assert_eq!(rt; components.count(), 4);
     if components.count() == 0 {
         return Err(Fail::new("no components"));

@@ -3,7 +3,9 @@ ghost use Rattle.std.specs.Prelude.{◌≡◌, ◌<◌, ◌≤◌, ◌+◌, ◌^
 ghost use Rattle.dfdl_order.specs.Parts.{uses_of};
 ghost use Rattle.dfdl_rows.specs.Components.{HasOrder};
 ghost use Rattle.dfdl_rows.specs.Ends.{AreEnds};
+ghost use Rattle.dfdl_rows.specs.Framing.{framed, framing_size};
 ghost use Rattle.dfdl_rows.specs.RowLists as lists;
+ghost use Rattle.dfdl_rows.specs.Scopes.{scope_size};
 ghost use Rattle.dfdl_rows.specs.Sizes.{own_size, size_of};
 ghost use Rattle.dfdl_rows.specs.Walk.{made, closed, all_done, component_of, steps_left};
 ghost use Rattle.dfdl_terms.specs.declared.row.Row.TheVariants.{Elem, Group};
@@ -11,10 +13,11 @@ ghost use Rattle.dfdl_rows.specs.declared.walk.Task.TheVariants.{Enter, Close};
 
 use crate::boxes::push_boxed;
 use crate::ends::ends;
-use crate::fill::push_framed;
+use crate::framing::push_framed;
+use crate::scopes::push_scoped;
 use crate::{Component, Components};
 use dfdl_forms::Simple;
-use dfdl_terms::{Prefix, Representations, Row, RowId, RowList};
+use dfdl_terms::{Framing, Prefix, Representations, Row, RowId, RowList};
 use dfdl_value::TextValue;
 use std::alloc::{AllocError, Global};
 use std::collections::VecDeque;
@@ -23,6 +26,7 @@ use std::collections::VecDeque;
 const NO_TRIALS: Representations = Representations {
     nil: None,
     empty: None,
+    refuses_empty: false,
     are_several: false,
 };
 
@@ -183,19 +187,16 @@ fn push_own(
         Component::Sequence { framing } => {
             let content = RowId::new(rows.len() as u32);
             push_group(alloc, rows, parts)?;
-            push_framed(alloc, rows, *framing, content)?;
-            Ok(())
+            push_around(alloc, rows, *framing, content)
         }
-        Component::Reference { framing } => {
-            push_framed(alloc, rows, *framing, first_of(parts))?;
-            Ok(())
-        }
+        Component::Reference { framing } => push_around(alloc, rows, *framing, first_of(parts)),
         Component::ComplexElement {
             name,
             framing,
             content_box,
         } => {
-            let boxed = push_boxed(rows, *content_box, first_of(parts))?;
+            let scoped = push_scoped(rows, framing.terminator, first_of(parts))?;
+            let boxed = push_boxed(rows, *content_box, scoped)?;
             let body = push_framed(alloc, rows, *framing, boxed)?;
             push_element(alloc, rows, name, None, NO_TRIALS, body)
         }
@@ -213,6 +214,22 @@ fn push_own(
             push_element(alloc, rows, name, Some(*simple), *tried, body)
         }
     }
+}
+
+// Adds the rows around the row of the content of a sequence or a reference: its scope, and what frames it.
+fn push_around(
+    alloc: Global,
+    rows: &mut Vec<Row>,
+    framing: Framing,
+    content: RowId,
+) -> Result<(), AllocError>
+    requires { length rows.old.items + scope_size framing.terminator + framing_size framing < 2 ^ 32 }
+    ensures { OnOk result (rows.new.items
+        ≡ rows.old.items ++ lists.scoped framing.terminator (framed framing) content (length rows.old.items)) }
+{
+    let scoped = push_scoped(rows, framing.terminator, content)?;
+    push_framed(alloc, rows, framing, scoped)?;
+    Ok(())
 }
 
 // The row of the content of a simple element, with the length prefix before it, where there is one.

@@ -2,7 +2,7 @@
 use Rattle.std.proofs.Common.{◌≡◌, ℕ, ◌+◌, ◌^◌, ◌<◌, ◌≤◌, List, [], ◌++◌, All, length, take, drop, true, false, refl, sym, ap, subst, ◌∙◌, arith, append-nil, append_assoc, length-append}
 use Rattle.std.proofs.lemmas.List.{length-take, length-take-le, take_all}
 use Rattle.std.proofs.lemmas.List.Elements.{All-append}
-use Rattle.dfdl_bits.specs.Window.{end_of}
+use Rattle.dfdl_bits.specs.Window.{end_of, room_of}
 use Rattle.dfdl_terms.specs.Rows.{Table}
 use Rattle.dfdl_grammar.specs.Documents.{document}
 use Rattle.dfdl_parse.specs.Sessions.{Ends, Finished, IsReady, StandsFor, document_of}
@@ -31,24 +31,25 @@ all_behind stream bytes piece more at count is =
 
 -- a session that needs more behind a piece
 pub needs_behind : (t : Table) (old new : Session) (stream bytes piece : List ℕ) (at count spent allowed : ℕ) → piece ≡ take count (drop at bytes)
-    → NeedsMore t old (stream ++ take at bytes) → IsReady new → new.terms.now ≡ old.terms.now → new.limits ≡ old.limits
-    → StandsFor new ((stream ++ take at bytes) ++ piece) spent allowed → NeedsMore t new (stream ++ take (at + count) bytes)
-needs_behind t old new stream bytes piece at count spent allowed is needs ready terms_are limits_are stands = record {
+    → NeedsMore t old (stream ++ take at bytes) → IsReady new → 0 < room_of new.sight → new.terms.now ≡ old.terms.now → new.limits ≡ old.limits
+    → StandsFor new ((stream ++ take at bytes) ++ piece) 0 spent allowed → NeedsMore t new (stream ++ take (at + count) bytes)
+needs_behind t old new stream bytes piece at count spent allowed is needs ready room terms_are limits_are stands = record {
   ready = ready;
+  room = room;
   terms = terms_are ∙ needs.terms;
   limits_are = limits_are ∙ needs.limits_are;
   spent = spent;
   allowed = allowed;
-  stands = subst (λ (xs : List ℕ). StandsFor new xs spent allowed) (more_behind stream bytes piece at count is) stands;
+  stands = subst (λ (xs : List ℕ). StandsFor new xs 0 spent allowed) (more_behind stream bytes piece at count is) stands;
 }
 
 -- a session that has come to an outcome with a piece, whatever comes behind it
-pub over_behind : (t : Table) (old new : Session) (stream bytes piece : List ℕ) (at count steps allowed : ℕ) → piece ≡ take count (drop at bytes)
+pub over_behind : (t : Table) (old new : Session) (stream bytes piece : List ℕ) (at count taken steps allowed : ℕ) → piece ≡ take count (drop at bytes)
     → NeedsMore t old (stream ++ take at bytes) → new.terms.now ≡ old.terms.now
-    → Finished old new ((stream ++ take at bytes) ++ piece) steps allowed → IsOver t new (stream ++ bytes)
-over_behind t old new stream bytes piece at count steps allowed is needs terms_are finished = record {
+    → Finished old new (stream ++ take at bytes) piece taken steps allowed → IsOver t new (stream ++ bytes)
+over_behind t old new stream bytes piece at count taken steps allowed is needs terms_are finished = record {
   terms = terms_are ∙ needs.terms;
-  parsed = λ more. parsed_end old new t _ _ steps allowed needs.terms needs.limits_are (all_behind stream bytes piece more at count is)
+  parsed = λ more. parsed_end old new t _ _ steps allowed needs.terms needs.limits_are needs.stands.begins (all_behind stream bytes piece more at count is)
       (finished.outcome (drop (at + count) bytes ++ more));
 }
 
@@ -70,8 +71,8 @@ pub bound_behind : (t : Table) (old now : Session) (stream bytes piece : List �
     → at + count ≤ length bytes → NeedsMore t old stream → NeedsMore t now (stream ++ take at bytes)
     → end_of old.sight + length bytes ≤ 2 ^ 60 → end_of now.sight + length piece ≤ 2 ^ 60
 bound_behind t old now stream bytes piece at count is fits before after few =
-    let first = before.stands.all in
-    let then = after.stands.all in
+    let first = before.stands.taken.all in
+    let then = after.stands.taken.all in
     let size = length-append stream (take at bytes) in
     let front : length (take at bytes) ≡ at = length-take-le at bytes (omega arith) in
     let part : length piece ≤ count = rw is (grind (arith, length-take)) in
@@ -109,14 +110,14 @@ ended_told t old new bytes steps taken needs count terms_are ends = record {
   count = count ∙ taken.count;
   are_bytes = taken.are_bytes;
   terms = terms_are ∙ needs.terms;
-  parsed = parsed_end old.session new.session t bytes bytes steps needs.allowed needs.terms needs.limits_are refl ends;
+  parsed = parsed_end old.session new.session t bytes bytes steps needs.allowed needs.terms needs.limits_are needs.stands.begins refl ends;
 }
 
 -- what is held doesn't pass the bound that the count keeps
 pub few_held : (f : Feeding) (t : Table) (bytes piece : List ℕ) → HasTaken t f bytes → f.needs_more ≡ true → f.count + length piece ≤ 2 ^ 60
     → end_of f.session.sight + length piece ≤ 2 ^ 60
 few_held f t bytes piece taken more few =
-    let all = (taken.needed more).stands.all in
+    let all = (taken.needed more).stands.taken.all in
     let count = taken.count in
     omega arith
 

@@ -1,32 +1,41 @@
 -- A document stops by a limit on data alone.
-use Rattle.std.proofs.Common.{ℕ, zero, suc, ◌+◌, ◌-◌, ◌*◌, ◌/◌, nat_eq, nat_le, nat_lt, true, false, Bool, if◌then◌else◌, List, [], ◌∷◌, ◌++◌, length, Option, None, Some, slice_get}
+use Rattle.std.proofs.Common.{ℕ, zero, suc, ◌+◌, ◌-◌, ◌*◌, ◌/◌, nat_eq, nat_le, nat_lt, ◌&&◌, true, false, Bool, if◌then◌else◌, List, [], ◌∷◌, ◌++◌, length, Option, None, Some, slice_get}
 use Rattle.dfdl_report.specs.declared.cause.LimitCause.{LimitCause}
 use Rattle.dfdl_report.specs.declared.cause.LimitCause.TheVariants.{Window, Nodes, Text}
-use Rattle.dfdl_report.specs.declared.cause.ParseCause.TheVariants.{LengthOutOfRange}
+use Rattle.dfdl_report.specs.declared.cause.ParseCause.{ParseCause}
+use Rattle.dfdl_report.specs.declared.cause.ParseCause.TheVariants.{LengthOutOfRange, InitiatorMissing, TerminatorMissing}
 use Rattle.dfdl_looks.specs.Asks.{Reached, Told, TooFar, Missing, ask}
 use Rattle.dfdl_looks.specs.Looks.{seen_in}
 use Rattle.dfdl_looks.specs.Tallies.{nothing}
+use Rattle.dfdl_delims.specs.Lists.{Opened}
+use Rattle.dfdl_delims.specs.Longest.{Longest, Text as FoundText, NoText}
+use Rattle.dfdl_terms.specs.declared.delimiters.Delimiter.{Delimiter}
+use Rattle.dfdl_terms.specs.declared.delimiters.Delimiters.{Delimiters}
 use Rattle.dfdl_terms.specs.Rows.{Table}
 use Rattle.dfdl_value.specs.declared.value.Value.{Value}
 use Rattle.dfdl_terms.specs.declared.row.Primitive.{Primitive}
 use Rattle.dfdl_terms.specs.declared.representations.Representations.{Representations}
 use Rattle.dfdl_terms.specs.declared.row.Row.{Row}
 use Rattle.dfdl_terms.specs.declared.text.TextSize.{TextSize}
-use Rattle.dfdl_terms.specs.declared.row.Row.TheVariants.{Leaf, Elem, Group, Skip, Align, Boxed, PrefixedLeaf, PrefixedBox}
+use Rattle.dfdl_terms.specs.declared.row.Row.TheVariants.{Leaf, Elem, Group, Skip, Align, Initiator, Terminator, Scope, Boxed, PrefixedLeaf, PrefixedBox}
 use Rattle.dfdl_region.specs.declared.node.Content.{Content}
 use Rattle.dfdl_region.specs.declared.node.Content.TheVariants as content
 use Rattle.dfdl_region.specs.Nodes.{with_content}
 use Rattle.dfdl_grammar.specs.declared.end.End.{End}
 use Rattle.dfdl_grammar.specs.declared.end.End.TheVariants.{Done, Failed, Stopped}
+use Rattle.dfdl_grammar.specs.declared.instead.Instead.{Instead}
+use Rattle.dfdl_grammar.specs.declared.instead.Instead.TheVariants.{Nothing, Nil, Empty}
 use Rattle.dfdl_grammar.specs.declared.limits.Limits.{Limits}
+use Rattle.dfdl_grammar.specs.declared.mark.Mark.{Mark}
 use Rattle.dfdl_grammar.specs.States.{Input, State, anchor, anchor_at}
 use Rattle.dfdl_grammar.specs.Outcomes.{Outcome, ended, follow, spend, then_do}
 use Rattle.dfdl_grammar.specs.Leaves.{Find, Fails, Finds, FindsOctets, FindsText, content_begins, has_room, land, leaf, nil_values, program, program_for, read_by}
 use Rattle.dfdl_grammar.specs.Framing.{aligned, fill_to, has_byte, pass_to, passed}
-use Rattle.dfdl_grammar.specs.Boxes.{bytes_up_to, pass_bytes, past_byte, rest as rest_of, unboxed}
+use Rattle.dfdl_grammar.specs.Delimiters.{initiator, lists_of, markup, opens, passed_text, scoped, seek, sought_among, stands_in, terminator, unscoped}
+use Rattle.dfdl_grammar.specs.Boxes.{boxed_at, bytes_up_to, pass_bytes, past_byte, rest as rest_of, unboxed}
 use Rattle.dfdl_grammar.specs.Elements.{attempted, begun, close, has_elements}
 use Rattle.dfdl_grammar.specs.Marks.{back, marked}
-use Rattle.dfdl_grammar.specs.Representations.{Attempt, or_else, represented, the_last, then_empty, then_nil, then_normal}
+use Rattle.dfdl_grammar.specs.Representations.{Attempt, after_empty, or_else, refuse, refused_among, represented, the_last, then_empty, then_nil, then_normal}
 use Rattle.dfdl_grammar.specs.Prefixes.{behind_prefix, bits_of_units, land_prefix, leaf_of, prefixed, resized, size_of, sized_leaf, units_told}
 use Rattle.dfdl_grammar.specs.Rows.{below, group, meaning, row, row_at}
 use Rattle.dfdl_grammar.specs.Documents.{document}
@@ -132,7 +141,7 @@ close-stops (Failed cause bit) outer complex o own = own
 close-stops (Stopped cause quantity) outer complex o own = own
 
 attempted-stops : (input : Input) (id : ℕ) (complex : Bool) (body : State → Outcome)
-    → ((s : State) → StopsByData (body s).end) → (instead : Option ℕ) (s : State) → StopsByData (attempted input id complex body instead s).end
+    → ((s : State) → StopsByData (body s).end) → (instead : Instead) (s : State) → StopsByData (attempted input id complex body instead s).end
 attempted-stops input id complex body each instead s = elim (nat_lt (length s.nodes) input.limits.nodes) as (λ (b : Bool).
     StopsByData (let whole : Outcome = (if b then (let o : Outcome = body (begun id instead s) in close o.end s.inside complex o)
     else ended (Stopped Nodes input.limits.nodes) s) in whole.end)) [
@@ -153,41 +162,96 @@ else-stops (Stopped cause quantity) o next own after = own
 
 -- each representation stops by data
 abbrev AllStop : Attempt → Type 0
-AllStop attempt = (instead : Option ℕ) (s : State) → StopsByData (attempt instead s).end
+AllStop attempt = (instead : Instead) (s : State) → StopsByData (attempt instead s).end
 
 normal-stops : (attempt : Attempt) → AllStop attempt → (s : State) → StopsByData (then_normal attempt s).end
-normal-stops attempt each s = last-stops (attempt None s).end (attempt None s) (each None s)
+normal-stops attempt each s = last-stops (attempt Nothing s).end (attempt Nothing s) (each Nothing s)
 
-empty-stops : (empty : Option ℕ) (attempt : Attempt) → AllStop attempt → (s : State) → StopsByData (then_empty empty attempt s).end
-empty-stops None attempt each s = normal-stops attempt each s
-empty-stops (Some prim) attempt each s =
-    else-stops (attempt (Some prim) s).end (attempt (Some prim) s) (then_normal attempt) (each (Some prim) s) (normal-stops attempt each)
+refused-stops : (marks : List Mark) (o : Outcome) → StopsByData o.end → StopsByData (refused_among marks o).end
+refused-stops [] o own = own
+refused-stops (mark ∷ outer) o own = tt
 
-nil-stops : (nil empty : Option ℕ) (attempt : Attempt) → AllStop attempt → (s : State) → StopsByData (then_nil nil empty attempt s).end
-nil-stops None empty attempt each s = empty-stops empty attempt each s
-nil-stops (Some prim) empty attempt each s =
-    else-stops (attempt (Some prim) s).end (attempt (Some prim) s) (then_empty empty attempt) (each (Some prim) s) (empty-stops empty attempt each)
+refuse-stops : (end : End) (o : Outcome) (next : State → Outcome) → StopsByData o.end → ((s : State) → StopsByData (next s).end)
+    → StopsByData (refuse end o next).end
+refuse-stops Done o next own after = refused-stops o.state.marks o own
+refuse-stops (Failed cause bit) o next own after = else-stops (Failed cause bit) o next own after
+refuse-stops (Stopped cause quantity) o next own after = own
+
+behind-empty-stops : (refuses : Bool) (o : Outcome) (next : State → Outcome) → StopsByData o.end → ((s : State) → StopsByData (next s).end)
+    → StopsByData (after_empty refuses o next).end
+behind-empty-stops true o next own after = refuse-stops o.end o next own after
+behind-empty-stops false o next own after = else-stops o.end o next own after
+
+empty-stops : (refuses : Bool) (empty : Option ℕ) (attempt : Attempt) → AllStop attempt → (s : State) → StopsByData (then_empty refuses empty attempt s).end
+empty-stops refuses None attempt each s = normal-stops attempt each s
+empty-stops refuses (Some prim) attempt each s =
+    behind-empty-stops refuses (attempt (Empty prim) s) (then_normal attempt) (each (Empty prim) s) (normal-stops attempt each)
+
+nil-stops : (tried : Representations) (nil : Option ℕ) (attempt : Attempt) → AllStop attempt → (s : State) → StopsByData (then_nil tried nil attempt s).end
+nil-stops tried None attempt each s = empty-stops tried.refuses_empty tried.empty attempt each s
+nil-stops tried (Some prim) attempt each s =
+    else-stops (attempt (Nil prim) s).end (attempt (Nil prim) s) (then_empty tried.refuses_empty tried.empty attempt) (each (Nil prim) s)
+    (empty-stops tried.refuses_empty tried.empty attempt each)
 
 represented-stops : (tried : Representations) (attempt : Attempt) → AllStop attempt → (s : State) → StopsByData (represented tried attempt s).end
 represented-stops tried attempt each s = elim tried.are_several as (λ (b : Bool).
-    StopsByData (let whole : Outcome = (if b then then_nil tried.nil tried.empty attempt (marked s) else attempt None s) in whole.end)) [
-      | true ↦ nil-stops tried.nil tried.empty attempt each (marked s)
-      | false ↦ each None s
+    StopsByData (let whole : Outcome = (if b then then_nil tried tried.nil attempt (marked s) else attempt Nothing s) in whole.end)) [
+      | true ↦ nil-stops tried tried.nil attempt each (marked s)
+      | false ↦ each Nothing s
     ]
 
-unboxed-stops : (end : End) (outer : ℕ) (o : Outcome) → StopsByData o.end → StopsByData (unboxed end outer o).end
-unboxed-stops Done outer o own = own
-unboxed-stops (Failed cause bit) outer o own = own
-unboxed-stops (Stopped cause quantity) outer o own = own
+text-stops : (cause : ParseCause) (window bits : ℕ) (s : State) (is : Bool)
+    → StopsByData (let whole : Outcome = (if is then ended Done (record s { at = aligned 8 s.at + bits }) else ended (Failed cause s.at) s) in whole.end)
+text-stops cause window bits s true = tt
+text-stops cause window bits s false = tt
+
+search-stops : (cause : ParseCause) (place window : ℕ) (reached : Reached Longest) (s : State) → StopsByData (passed_text cause place window reached s).end
+search-stops cause place window (Told (FoundText which bits)) s = text-stops cause window bits s (nat_eq which place && nat_lt 0 bits)
+search-stops cause place window (Told NoText) s = tt
+search-stops cause place window TooFar s = tt
+search-stops cause place window Missing s = tt
+
+seek-stops : (input : Input) (cause : ParseCause) (lists : List Opened) (place : ℕ) (s : State) → StopsByData (seek input cause lists place s).end
+seek-stops input cause lists place s =
+    search-stops cause place input.limits.window
+    (ask (seen_in input.bytes input.limits.window (anchor_at s (aligned 8 s.at))) (sought_among lists s.at s.stop) nothing).reached s
+
+standing-stops : (input : Input) (cause : ParseCause) (lists : List Opened) (place : ℕ) (s : State) (stands : Bool)
+    → StopsByData (let whole : Outcome = (if stands then seek input cause lists place s else ended Done s) in whole.end)
+standing-stops input cause lists place s true = seek-stops input cause lists place s
+standing-stops input cause lists place s false = tt
+
+initiator-stops : (input : Input) (delimiters : List Delimiters) (delimiter : Delimiter) (s : State)
+    → StopsByData (initiator input delimiters delimiter s).end
+initiator-stops input delimiters delimiter s =
+    standing-stops input InitiatorMissing (lists_of delimiters (delimiter.list ∷ [])) 0 s (stands_in s.instead delimiter)
+
+terminator-stops : (input : Input) (delimiters : List Delimiters) (delimiter : Delimiter) (s : State)
+    → StopsByData (terminator input delimiters delimiter s).end
+terminator-stops input delimiters delimiter s =
+    standing-stops input TerminatorMissing (lists_of delimiters (markup s ++ delimiter.list ∷ [])) (length (markup s)) s (stands_in s.instead delimiter)
+
+unscoped-stops : (end : End) (count : ℕ) (o : Outcome) → StopsByData o.end → StopsByData (unscoped end count o).end
+unscoped-stops Done count o own = own
+unscoped-stops (Failed cause bit) count o own = own
+unscoped-stops (Stopped cause quantity) count o own = own
+
+scoped-stops : (list : ℕ) (body : State → Outcome) → ((s : State) → StopsByData (body s).end) → (s : State) → StopsByData (scoped list body s).end
+scoped-stops list body each s = unscoped-stops (body (opens list s)).end (length s.lists) (body (opens list s)) (each (opens list s))
+
+unboxed-stops : (end : End) (outer hidden : ℕ) (o : Outcome) → StopsByData o.end → StopsByData (unboxed end outer hidden o).end
+unboxed-stops Done outer hidden o own = own
+unboxed-stops (Failed cause bit) outer hidden o own = own
+unboxed-stops (Stopped cause quantity) outer hidden o own = own
 
 boxed-stops : (input : Input) (bits : ℕ) (body : State → Outcome) → ((s : State) → StopsByData (body s).end) → (s : State) (room : Bool)
     → StopsByData (let whole : Outcome = (if room then
-    (let o : Outcome = then_do (body (record s { stop = s.at + bits })) (rest_of input) in unboxed o.end s.stop o)
+    (let o : Outcome = then_do (body (boxed_at (s.at + bits) s)) (rest_of input) in unboxed o.end s.stop s.hidden o)
     else ended (Failed LengthOutOfRange s.at) s) in whole.end)
 boxed-stops input bits body each s true =
-    let inside : State = record s { stop = s.at + bits } in
+    let inside : State = boxed_at (s.at + bits) s in
     let o : Outcome = then_do (body inside) (rest_of input) in
-    unboxed-stops o.end s.stop o
+    unboxed-stops o.end s.stop s.hidden o
     (follow-stops (body inside).end (body inside) (rest_of input) (each inside) (λ t. rest-stops input t (nat_le t.stop t.at)))
 boxed-stops input bits body each s false = tt
 
@@ -240,6 +304,9 @@ row-stops input table child each id (Some (Elem name simple tried body)) s =
 row-stops input table child each id (Some (Group children)) s = group-stops child each children s
 row-stops input table child each id (Some (Skip bits)) s = pass-stops input (s.at + bits) s
 row-stops input table child each id (Some (Align bits)) s = pass-stops input (aligned bits s.at) s
+row-stops input table child each id (Some (Initiator delimiter)) s = initiator-stops input table.delimiters delimiter s
+row-stops input table child each id (Some (Terminator delimiter)) s = terminator-stops input table.delimiters delimiter s
+row-stops input table child each id (Some (Scope list body)) s = scoped-stops list (child body) (each body) s
 row-stops input table child each id (Some (Boxed bits body)) s =
     boxed-stops input bits (child body) (each body) s (nat_le (s.at + bits) s.stop)
 row-stops input table child each id (Some (PrefixedLeaf prefix prim)) s =

@@ -6,7 +6,7 @@ ghost use Rattle.dfdl_run.specs.Meaning.{limits};
 ghost use Rattle.dfdl_run.specs.Fed.{HasBegun, HasEnded, HasTaken, IsOver, NeedsMore};
 
 use dfdl_bits::Steps;
-use dfdl_parse::{Limits, Session};
+use dfdl_parse::{Fed, Limits, Session};
 use dfdl_terms::Terms;
 use std::alloc::{AllocError, Global};
 use std::sync::ledger::Ledger;
@@ -94,6 +94,17 @@ fn piece_of(bytes: &[u8], at: usize, count: usize) -> &[u8]
     &bytes[at..at + count]
 }
 
+// Whether a session needs more.
+fn is_more(fed: Fed) -> bool
+    ensures more { result ≡ true → fed ≡ Fed.More }
+    ensures done { result ≡ false → (taken : ℕ) × (fed ≡ Fed.Done taken) }
+{
+    match fed {
+        Fed::More => true,
+        Fed::Done { .. } => false,
+    }
+}
+
 // Gives the session these bytes, in parts for which it has room, while it needs more, and answers whether it still does.
 fn feed_all<L: Ledger>(
     session: &mut Session<'_>,
@@ -110,7 +121,8 @@ fn feed_all<L: Ledger>(
     let mut at = 0usize;
     while at < bytes.len() {
         let count = session.room().min(bytes.len() - at);
-        let more = session.feed(piece_of(bytes, at, count), steps)?;
+        let fed = session.feed(piece_of(bytes, at, count), steps)?;
+        let more = is_more(fed);
         if !more {
             return Ok(false);
         }

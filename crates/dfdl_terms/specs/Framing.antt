@@ -1,6 +1,7 @@
--- The fill around the content of a component.
+-- What stands around the content of a component.
+use Rattle.std.specs.Prelude.{None}
 use Rattle.dfdl_terms.specs.declared.framing.Framing.{Framing}
 
--- no fill
+-- neither fill nor a delimiter
 abbrev pub no_fill : Framing
-no_fill = record { leading_skip = 0; alignment = 1; trailing_skip = 0 }
+no_fill = record { leading_skip = 0; alignment = 1; initiator = None; terminator = None; trailing_skip = 0 }

@@ -1,13 +1,14 @@
 -- Where the content of a simple element is read.
 use Rattle.std.specs.Prelude.{◌≡◌, ℕ, List, Some, slice_get}
 use Rattle.dfdl_terms.specs.declared.row.Row.{Row}
-use Rattle.dfdl_terms.specs.declared.row.Row.TheVariants.{Leaf, Group, PrefixedLeaf}
+use Rattle.dfdl_terms.specs.declared.row.Row.TheVariants.{Leaf, Group, PrefixedLeaf, Scope}
 use Rattle.dfdl_terms.specs.declared.prefix.Prefix.{Prefix}
 
 -- The row of a number reads a value by a primitive whose number is one of these: it is a leaf, with or without a prefix, or a
--- group with such a row.
+-- group with such a row, or a scope around one.
 pub data ReadsBy (rows : List Row) (IsOne : ℕ → Type 0) : ℕ → Type 0 where
   leaf : (id prim : ℕ) → slice_get rows id ≡ Some (Leaf prim) → IsOne prim → ReadsBy rows IsOne id
   prefixed : (id prim : ℕ) (prefix : Prefix) → slice_get rows id ≡ Some (PrefixedLeaf prefix prim) → IsOne prim → ReadsBy rows IsOne id
   grouped : (id at child : ℕ) (children : List ℕ) → slice_get rows id ≡ Some (Group children) → slice_get children at ≡ Some child
       → ReadsBy rows IsOne child → ReadsBy rows IsOne id
+  scoped : (id list body : ℕ) → slice_get rows id ≡ Some (Scope list body) → ReadsBy rows IsOne body → ReadsBy rows IsOne id

@@ -15,12 +15,23 @@ use Rattle.dfdl_terms.specs.declared.text.TextSize.TheVariants.{Bits, Characters
 use Rattle.dfdl_terms.specs.declared.row.Primitive.{Primitive}
 use Rattle.dfdl_terms.specs.declared.row.Primitive.TheVariants.{Integer, Packed, Truth, Octets, Text, NilOctets, Default, NilValues, Pattern}
 use Rattle.dfdl_terms.specs.declared.row.Row.{Row}
-use Rattle.dfdl_terms.specs.declared.row.Row.TheVariants.{Leaf, Elem, Group, Skip, Align, Boxed, PrefixedLeaf, PrefixedBox}
+use Rattle.dfdl_terms.specs.declared.row.Row.TheVariants.{Leaf, Elem, Group, Skip, Align, Initiator, Terminator, Scope, Boxed, PrefixedLeaf, PrefixedBox}
+use Rattle.dfdl_terms.specs.declared.delimiters.Delimiters.{Delimiters}
+use Rattle.dfdl_terms.specs.Tables.{Named}
 
 -- the rows of a schema, and what they name by numbers
 pub record Table : Type 0 where
   pub rows : List Row
   pub primitives : List Primitive
+  pub delimiters : List Delimiters
+
+-- rows, and what they name
+abbrev pub table_of : List Row → Named → Table
+table_of rows named = record { rows = rows; primitives = named.primitives; delimiters = named.delimiters }
+
+-- what the rows of a table name
+abbrev pub named_by : Table → Named
+named_by t = record { primitives = t.primitives; delimiters = t.delimiters }
 
 -- the most rows of one schema
 abbrev pub most_rows : ℕ
@@ -33,6 +44,9 @@ ChildrenBelow bound (Elem name simple tried body) = body < bound
 ChildrenBelow bound (Group children) = All (λ c. c < bound) children
 ChildrenBelow bound (Skip bits) = Unit {0}
 ChildrenBelow bound (Align bits) = Unit {0}
+ChildrenBelow bound (Initiator delimiter) = Unit {0}
+ChildrenBelow bound (Terminator delimiter) = Unit {0}
+ChildrenBelow bound (Scope list body) = body < bound
 ChildrenBelow bound (Boxed bits body) = body < bound
 ChildrenBelow bound (PrefixedLeaf prefix prim) = Unit {0}
 ChildrenBelow bound (PrefixedBox prefix body) = body < bound
@@ -62,15 +76,18 @@ abbrev pub AreWithin : ℕ → Representations → Type 0
 AreWithin primitives tried = IsWithin primitives tried.nil × IsWithin primitives tried.empty
 
 -- the row's numbers are in the tables
-abbrev pub NamesWithin : ℕ → Row → Type 0
-NamesWithin primitives (Leaf prim) = prim < primitives
-NamesWithin primitives (Elem name simple tried body) = AreWithin primitives tried
-NamesWithin primitives (Group children) = Unit {0}
-NamesWithin primitives (Skip bits) = Unit {0}
-NamesWithin primitives (Align bits) = Unit {0}
-NamesWithin primitives (Boxed bits body) = Unit {0}
-NamesWithin primitives (PrefixedLeaf prefix prim) = (prefix.prim < primitives) × (prim < primitives)
-NamesWithin primitives (PrefixedBox prefix body) = prefix.prim < primitives
+abbrev pub NamesWithin : Named → Row → Type 0
+NamesWithin named (Leaf prim) = prim < length named.primitives
+NamesWithin named (Elem name simple tried body) = AreWithin (length named.primitives) tried
+NamesWithin named (Group children) = Unit {0}
+NamesWithin named (Skip bits) = Unit {0}
+NamesWithin named (Align bits) = Unit {0}
+NamesWithin named (Initiator delimiter) = delimiter.list < length named.delimiters
+NamesWithin named (Terminator delimiter) = delimiter.list < length named.delimiters
+NamesWithin named (Scope list body) = list < length named.delimiters
+NamesWithin named (Boxed bits body) = Unit {0}
+NamesWithin named (PrefixedLeaf prefix prim) = (prefix.prim < length named.primitives) × (prim < length named.primitives)
+NamesWithin named (PrefixedBox prefix body) = prefix.prim < length named.primitives
 
 -- the greatest constant length, in bits (profile)
 abbrev pub most_length : ℕ
@@ -127,6 +144,9 @@ IsElementRow (Some (Leaf prim)) = ⊥
 IsElementRow (Some (Group children)) = ⊥
 IsElementRow (Some (Skip bits)) = ⊥
 IsElementRow (Some (Align bits)) = ⊥
+IsElementRow (Some (Initiator delimiter)) = ⊥
+IsElementRow (Some (Terminator delimiter)) = ⊥
+IsElementRow (Some (Scope list body)) = ⊥
 IsElementRow (Some (Boxed bits body)) = ⊥
 IsElementRow (Some (PrefixedLeaf prefix prim)) = ⊥
 IsElementRow (Some (PrefixedBox prefix body)) = ⊥
@@ -141,16 +161,19 @@ pub record IsTable (t : Table) : Type 0 where
   pub some : 0 < length t.rows
   pub few : length t.rows ≤ most_rows
   pub nests : Nests t.rows
-  pub named : All (NamesWithin (length t.primitives)) t.rows
+  pub named : All (NamesWithin (named_by t)) t.rows
   pub bounded : All IsPrimitive t.primitives
 
--- a row of the content alone: neither fill nor a prefix nor a box around a content
+-- a row of the content alone: neither fill nor a delimiter nor a prefix nor a box around a content
 abbrev pub IsPlainRow : Row → Type 0
 IsPlainRow (Leaf prim) = Unit {0}
 IsPlainRow (Elem name simple tried body) = Unit {0}
 IsPlainRow (Group children) = Unit {0}
 IsPlainRow (Skip bits) = ⊥
 IsPlainRow (Align bits) = ⊥
+IsPlainRow (Initiator delimiter) = ⊥
+IsPlainRow (Terminator delimiter) = ⊥
+IsPlainRow (Scope list body) = ⊥
 IsPlainRow (Boxed bits body) = ⊥
 IsPlainRow (PrefixedLeaf prefix prim) = ⊥
 IsPlainRow (PrefixedBox prefix body) = ⊥

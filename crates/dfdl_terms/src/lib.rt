@@ -4,6 +4,7 @@
 // numbers, each below its own; the last row is the root element's. `specs/Rows.antt` says which rows can be a schema's.
 #![tactic(auto)]
 
+pub mod delimiters;
 pub mod event;
 pub mod framing;
 pub mod prefix;
@@ -13,6 +14,7 @@ pub mod terms;
 pub mod text;
 pub mod value_list;
 
+pub use delimiters::{Delimiter, Delimiters};
 pub use event::Event;
 pub use framing::Framing;
 pub use prefix::{LengthUnit, Prefix};

@@ -6,6 +6,8 @@ pub struct Representations {
     pub nil: Option<u32>,
     /// The primitive of the empty representation, where that is tried.
     pub empty: Option<u32>,
+    /// The element fails where its empty representation is found: it has no value to take there.
+    pub refuses_empty: bool,
     /// More than one representation can be tried, so the data are needed from the bit on at which the element begins.
     pub are_several: bool,
 }

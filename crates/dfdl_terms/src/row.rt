@@ -1,6 +1,7 @@
 ghost use Rattle.std.specs.Prelude.{◌≡◌, ◌<◌, List};
 ghost use Rattle.dfdl_terms.specs.Rows.{IsWritten};
 
+use crate::delimiters::{Delimiter, Delimiters};
 use crate::prefix::Prefix;
 use crate::representations::Representations;
 use crate::text::{
@@ -128,6 +129,19 @@ pub enum Row {
     Align {
         bits: u32,
     },
+    /// Passes over a text of an initiator ('Framing').
+    Initiator {
+        delimiter: Delimiter,
+    },
+    /// Passes over a text of a terminator ('Framing').
+    Terminator {
+        delimiter: Delimiter,
+    },
+    /// A row inside of which a text of this list of the tables ends a content ('Framing').
+    Scope {
+        list: u32,
+        body: RowId,
+    },
     /// A box of so many bits, with a row in it; what the row leaves of the box is passed over ('Lengths').
     Boxed {
         bits: u64,
@@ -151,27 +165,37 @@ pub enum Row {
 #[derive(Debug, Drop)]
 pub struct Tables {
     primitives: Vec<Primitive>,
+    delimiters: Vec<Delimiters>,
 }
 
 impl Model for Tables {
-    ghost use Rattle.std.specs.Prelude.{List};
-    ghost use Rattle.dfdl_terms.specs.declared.row.Primitive.{Primitive};
+    ghost use Rattle.dfdl_terms.specs.Tables.{Named};
 
-    ghost Value = { List Primitive };
+    ghost Value = { Named };
 
-    ghost view = { λ t. t.primitives.items };
+    ghost view = { λ t. record { primitives = t.primitives.items; delimiters = t.delimiters.items } };
 }
 
 impl Tables {
-    pub fn new(primitives: Vec<Primitive>) -> Tables
-        ensures { result ≡ primitives.items }
+    pub fn new(primitives: Vec<Primitive>, delimiters: Vec<Delimiters>) -> Tables
+        ensures { result ≡ record { primitives = primitives.items; delimiters = delimiters.items } }
     {
-        Tables { primitives }
+        Tables {
+            primitives,
+            delimiters,
+        }
     }
 
     pub fn primitives(&self) -> &[Primitive]
-        ensures { result.now ≡ self.now }
+        ensures { result.now ≡ self.now.primitives }
     {
         self.primitives.as_slice()
+    }
+
+    /// The lists of literals of initiators and terminators.
+    pub fn delimiters(&self) -> &[Delimiters]
+        ensures { result.now ≡ self.now.delimiters }
+    {
+        self.delimiters.as_slice()
     }
 }

@@ -14,13 +14,13 @@ pub struct Terms {
 }
 
 impl Model for Terms {
-    ghost use Rattle.dfdl_terms.specs.Rows.{Table, IsTable};
+    ghost use Rattle.dfdl_terms.specs.Rows.{Table, IsTable, table_of};
 
     ghost Value = { Table };
 
-    ghost view = { λ t. record { rows = t.rows.items; primitives = t.tables } };
+    ghost view = { λ t. table_of t.rows.items t.tables };
 
-    ghost invariant = { λ t. IsTable (record { rows = t.rows.items; primitives = t.tables }) };
+    ghost invariant = { λ t. IsTable (table_of t.rows.items t.tables) };
 }
 
 /// Why rows are no terms.
@@ -68,6 +68,9 @@ fn has_children_below(row: &Row, bound: RowId) -> bool
             .all(|child| child.number() < bound.number()),
         Row::Skip { .. } => true,
         Row::Align { .. } => true,
+        Row::Initiator { .. } => true,
+        Row::Terminator { .. } => true,
+        Row::Scope { body, .. } => body.number() < bound.number(),
         Row::Boxed { body, .. } => body.number() < bound.number(),
         Row::PrefixedLeaf { .. } => true,
         Row::PrefixedBox { body, .. } => body.number() < bound.number(),
@@ -75,13 +78,13 @@ fn has_children_below(row: &Row, bound: RowId) -> bool
 }
 
 impl Terms {
-    ghost use Rattle.dfdl_terms.specs.Rows.{most_rows, Nests, ChildrenBelow, NamesWithin, IsPrimitive, IsFirstBad, IsTable};
+    ghost use Rattle.dfdl_terms.specs.Rows.{most_rows, Nests, ChildrenBelow, NamesWithin, IsPrimitive, IsFirstBad, IsTable, named_by, table_of};
 
     pub fn build(_alloc: Global, rows: Vec<Row>, tables: Tables) -> Result<Terms, TermFault>
         requires some { 0 < vec_len rows }
-        requires named { All (NamesWithin (length tables)) rows.items }
-        requires bounded { All IsPrimitive tables }
-        ensures ok { IfOk result (λ t. t ≡ record { rows = rows.items; primitives = tables }) }
+        requires named { All (NamesWithin tables) rows.items }
+        requires bounded { All IsPrimitive tables.primitives }
+        ensures ok { IfOk result (λ t. t ≡ table_of rows.items tables) }
         ensures too_many { IsErrOf result TermFault.TooMany ↔ most_rows < vec_len rows }
         ensures bad_child { (row : ℕ) → result ≡ Err (TermFault.BadChild row) → IsFirstBad rows.items row }
         ensures nests { IsOk result ↔ ((vec_len rows ≤ most_rows) × Nests rows.items) }
@@ -107,14 +110,14 @@ impl Terms {
         requires { id < length self.now.rows }
         ensures row { slice_get self.now.rows id ≡ Some result.now }
         ensures nests { ChildrenBelow id result.now }
-        ensures named { NamesWithin (length self.now.primitives) result.now }
+        ensures named { NamesWithin (named_by self.now) result.now }
     {
         &self.rows[id.number() as usize]
     }
 
     pub fn tables(&self) -> &Tables
-        ensures tables { result.now ≡ self.now.primitives }
-        ensures bounded { All IsPrimitive result.now }
+        ensures tables { result.now ≡ named_by self.now }
+        ensures bounded { All IsPrimitive result.now.primitives }
     {
         &self.tables
     }

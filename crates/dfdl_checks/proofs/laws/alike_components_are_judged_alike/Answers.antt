@@ -1,6 +1,7 @@
 use Rattle.std.proofs.Common.{ap}
 use Rattle.dfdl_checks.proofs.Alike.{same-component}
 use Rattle.dfdl_checks.specs.Boxes.{size_of_box}
+use Rattle.dfdl_checks.specs.Delimiters.{delimiters_of}
 use Rattle.dfdl_checks.specs.Framing.{framing_of}
 use Rattle.dfdl_checks.specs.Numbers.{primitive_of}
 use Rattle.dfdl_checks.specs.Patterns.{length_pattern, pattern_encoding, pattern_prefix}
@@ -20,6 +21,9 @@ returns-clause-representations c = λ a b alike. ap representations_of (same-com
 
 pub returns-clause-framing : goal.returns-clause-framing
 returns-clause-framing c = λ a b alike. ap framing_of (same-component a b alike)
+
+pub returns-clause-delimiters : goal.returns-clause-delimiters
+returns-clause-delimiters c = λ a b alike. ap delimiters_of (same-component a b alike)
 
 pub returns-clause-size : goal.returns-clause-size
 returns-clause-size c = λ a b alike. ap size_of_box (same-component a b alike)

@@ -1,5 +1,5 @@
-use Rattle.std.proofs.Common.{◌∙◌, ◌<◌, length, arith}
-use Rattle.dfdl_delims.proofs.Fills.{pieces_kept, starts_end, starts_kept}
+use Rattle.std.proofs.Common.{◌<◌, length, arith}
+use Rattle.dfdl_delims.proofs.Fills.{begins_then, pieces_kept, starts_end, starts_kept}
 use Rattle.dfdl_delims.proofs.filling.put_literals.Goals as goal
 
 pub loop-at-preserved : goal.loop-at-preserved
@@ -11,6 +11,9 @@ loop-at-preserved c =
           c.in_ok-put_literal.ensures.starts c.in_ok-put_literal.ensures.pieces c.loop-at.invariant.starts;
       pieces = pieces_kept c.args.literals.now c.loop-at.at c.pieces.result.now c.loop-at.pieces.items c.put_literal.new.pieces.items _ within
           c.pieces.ensures c.in_ok-put_literal.ensures.pieces c.loop-at.invariant.pieces;
+      kept = begins_then c.args.starts.now.items c.loop-at.starts.items c.put_literal.new.starts.items c.loop-at.invariant.kept c.in_ok-put_literal.ensures.kept;
+      kept_pieces = begins_then c.args.pieces.now.items c.loop-at.pieces.items c.put_literal.new.pieces.items c.loop-at.invariant.kept_pieces
+          c.in_ok-put_literal.ensures.kept_pieces;
     }
 
 pub returns-clause-starts : goal.returns-clause-starts

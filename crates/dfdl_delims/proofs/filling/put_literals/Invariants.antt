@@ -1,5 +1,5 @@
 use Rattle.std.proofs.Common.{◌≡◌, ◌++◌, drop, length}
-use Rattle.dfdl_delims.specs.Registers.{pieces_of, starts_of}
+use Rattle.dfdl_delims.specs.Registers.{BeginsWith, pieces_of, starts_of}
 use Rattle.dfdl_delims.proofs.filling.put_literals.Given as goal
 
 -- the literals that are left are still to be put
@@ -8,4 +8,6 @@ invariant-loop-at l = record {
   starts : l.starts.items ++ starts_of l.place l.encoding l.fold (length l.pieces.items) (drop l.at l.literals)
       ≡ l.fn.starts.items ++ starts_of l.place l.encoding l.fold (length l.fn.pieces.items) l.literals;
   pieces : l.pieces.items ++ pieces_of (drop l.at l.literals) ≡ l.fn.pieces.items ++ pieces_of l.literals;
+  kept : BeginsWith l.fn.starts.items l.starts.items;
+  kept_pieces : BeginsWith l.fn.pieces.items l.pieces.items;
 }

@@ -1,4 +1,4 @@
-use Rattle.std.proofs.Common.{◌≡◌, ◌+◌, ◌-◌, ◌<◌, false, true, refl, sym, ap, ◌∙◌, arith}
+use Rattle.std.proofs.Common.{◌-◌, ◌<◌, refl, sym, ◌∙◌, arith}
 use Rattle.dfdl_bits.specs.Window.{seen_at}
 use Rattle.dfdl_delims.specs.Hits.{hit_shown}
 use Rattle.dfdl_delims.proofs.Going.{begins, box_answers, byte_goes, end_answers, past_answers, text_answers, waits_answers}

@@ -4,7 +4,7 @@ use Rattle.dfdl_escapes.proofs.placing.place_each.Goals as goal
 pub loop-c-preserved : goal.loop-c-preserved
 loop-c-preserved g c =
     let kept = bytes-kept c.args.enc c.args.text.now c.args.bytes.now c.loop-c.c-index _ _ c.loop-c.from c.loop-c-test.true c.c-item.is
-    c.loop-c.invariant.encoded c.size_of-from.result c.size_of-from.ensures.size c.loop-c.invariant.within in
+    c.loop-c.invariant.encoded c.width_in-from.result c.width_in-from.ensures.width c.loop-c.invariant.within in
     record {
       placed = λ opened holds.
           place-kept c.args.enc c.args.text.now c.args.bytes.now c.loop-c.c-index _ _ c.loop-c.from c.loop-c-test.true c.c-item.is

@@ -1,8 +1,9 @@
-use Rattle.std.proofs.Common.{ap, subst}
+use Rattle.std.proofs.Common.{◌∙◌, ℕ, List, ap, drop, subst}
 use Rattle.dfdl_grammar.specs.declared.end.End.{End}
 use Rattle.dfdl_grammar.specs.States.{State}
 use Rattle.dfdl_grammar.specs.Rows.{meaning}
-use Rattle.dfdl_grammar.proofs.Going.{Ends, meaning-goes, tried-returns}
+use Rattle.dfdl_grammar.proofs.Going.{meaning-goes, tried-returns}
+use Rattle.dfdl_grammar.proofs.Grown.{Ends}
 use Rattle.dfdl_grammar.proofs.laws.going_back_restores.Goals as goal
 
 pub returns-clause-restored : goal.returns-clause-restored
@@ -16,4 +17,16 @@ returns-clause-done c input table id s done =
 
 pub returns-clause-failed : goal.returns-clause-failed
 returns-clause-failed c input table id s cause bit failed =
-    subst (λ (e : End). Ends e s (meaning input table id s).state) failed (meaning-goes input table id s).ends
+    (subst (λ (e : End). Ends e s (meaning input table id s).state) failed (meaning-goes input table id s).ends).marks
+
+pub returns-clause-closed : goal.returns-clause-closed
+returns-clause-closed c input table id s done =
+    let t : State = (meaning input table id s).state in
+    let ends = subst (λ (e : End). Ends e s t) done (meaning-goes input table id s).ends in
+    ap (λ (h : ℕ). drop h t.lists) ends.hidden ∙ ap (λ (ls : List ℕ). drop s.hidden ls) ends.lists
+
+pub returns-clause-closed_failed : goal.returns-clause-closed_failed
+returns-clause-closed_failed c input table id s cause bit failed =
+    let t : State = (meaning input table id s).state in
+    let ends = subst (λ (e : End). Ends e s t) failed (meaning-goes input table id s).ends in
+    ap (λ (h : ℕ). drop h t.lists) ends.hidden ∙ ap (λ (ls : List ℕ). drop s.hidden ls) ends.lists

@@ -2,28 +2,28 @@ use Rattle.std.proofs.Common.{◌≡◌, ℕ, false, List, [], ◌∷◌, Option
 use Rattle.std.proofs.lemmas.List.Elements.{All-cons, All-nil}
 use Rattle.dfdl_forms.specs.declared.simple.Simple.{Simple}
 use Rattle.dfdl_terms.specs.declared.representations.Representations.{Representations}
-use Rattle.dfdl_terms.specs.declared.row.Primitive.{Primitive}
 use Rattle.dfdl_terms.specs.declared.row.Row.{Row}
 use Rattle.dfdl_terms.specs.declared.row.Row.TheVariants.{Elem, Group}
-use Rattle.dfdl_terms.specs.Rows.{HasElementLast, IsPrimitive, NamesWithin, Table}
+use Rattle.dfdl_terms.specs.Rows.{HasElementLast, IsPrimitive, NamesWithin, Table, table_of}
+use Rattle.dfdl_terms.specs.Tables.{Named}
 use Rattle.dfdl_json.proofs.tests.nested.Goals as goal
 
 abbrev no_trials : Representations
-no_trials = record { nil = None; empty = None; are_several = false }
+no_trials = record { nil = None; empty = None; refuses_empty = false; are_several = false }
 
-element_named : (n : ℕ) (row : Row) (x : List ℕ) (s : Option Simple) (i : ℕ) → row ≡ Elem x s no_trials i → NamesWithin n row
+element_named : (n : Named) (row : Row) (x : List ℕ) (s : Option Simple) (i : ℕ) → row ≡ Elem x s no_trials i → NamesWithin n row
 element_named n row x s i is = rw is (tt, tt)
 
-group_named : (n : ℕ) (row : Row) (children : List ℕ) → row ≡ Group children → NamesWithin n row
+group_named : (n : Named) (row : Row) (children : List ℕ) → row ≡ Group children → NamesWithin n row
 group_named n row children is = rw is tt
 
 -- what is said of a list is said of an equal one
 all_at : {A : Type 0} (P : A → Type 0) (xs ys : List A) → xs ≡ ys → All P ys → All P xs
 all_at P xs ys same all = rw same all
 
-last_there : (t : Table) (rows : List Row) (forms : List Primitive) (q0 q1 q2 q3 q4 q5 q6 q7 q8 q9 q10 q11 r : Row) (x : List ℕ) (s : Option Simple) (i : ℕ)
-    → t ≡ record { rows = rows; primitives = forms } → rows ≡ q0 ∷ q1 ∷ q2 ∷ q3 ∷ q4 ∷ q5 ∷ q6 ∷ q7 ∷ q8 ∷ q9 ∷ q10 ∷ q11 ∷ r ∷ [] → r ≡ Elem x s no_trials i → HasElementLast t
-last_there t rows forms q0 q1 q2 q3 q4 q5 q6 q7 q8 q9 q10 q11 r x s i t_is rows_are r_is = rw (t_is, rows_are, r_is) tt
+last_there : (t : Table) (rows : List Row) (named : Named) (q0 q1 q2 q3 q4 q5 q6 q7 q8 q9 q10 q11 r : Row) (x : List ℕ) (s : Option Simple) (i : ℕ)
+    → t ≡ table_of rows named → rows ≡ q0 ∷ q1 ∷ q2 ∷ q3 ∷ q4 ∷ q5 ∷ q6 ∷ q7 ∷ q8 ∷ q9 ∷ q10 ∷ q11 ∷ r ∷ [] → r ≡ Elem x s no_trials i → HasElementLast t
+last_there t rows named q0 q1 q2 q3 q4 q5 q6 q7 q8 q9 q10 q11 r x s i t_is rows_are r_is = rw (t_is, rows_are, r_is) tt
 
 all_thirteen : (P : Row → Type 0) (a b c d e f g h i j k l m : Row) → P a → P b → P c → P d → P e → P f → P g → P h → P i → P j → P k → P l → P m
     → All P (a ∷ b ∷ c ∷ d ∷ e ∷ f ∷ g ∷ h ∷ i ∷ j ∷ k ∷ l ∷ m ∷ [])
@@ -38,8 +38,8 @@ all_thirteen P a b c d e f g h i j k l m at_a at_b at_c at_d at_e at_f at_g at_h
 
 pub build-requires-clause-named : goal.build-requires-clause-named
 build-requires-clause-named c =
-    let P : Row → Type 0 = NamesWithin (length c.new-9.result) in
-    let one : length c.new-9.result ≡ 1 = ap length (c.new-9.ensures ∙ c.in_ok-forms.ensures.items) in
+    let P : Row → Type 0 = NamesWithin c.new-10.result in
+    let one : length c.new-10.result.primitives ≡ 1 = ap (λ (n : Named). length n.primitives) c.new-10.ensures ∙ ap length c.in_ok-forms.ensures.items in
     all_at P c.in_ok-rows.rows.items _ c.in_ok-rows.ensures.items
     (all_thirteen P _ _ _ _ _ _ _ _ _ _ _ _ _ (rw one (lit< tt)) (element_named _ _ _ _ _ c.in_ok-element.ensures) (element_named _ _ _ _ _ c.in_ok-element-2.ensures)
     (group_named _ _ _ c.in_ok-group.ensures) (group_named _ _ _ c.in_ok-group-2.ensures) tt (element_named _ _ _ _ _ c.in_ok-element-3.ensures)
@@ -47,7 +47,7 @@ build-requires-clause-named c =
 
 pub build-requires-clause-bounded : goal.build-requires-clause-bounded
 build-requires-clause-bounded c =
-    all_at IsPrimitive c.new-9.result (c.form.result ∷ []) (c.new-9.ensures ∙ c.in_ok-forms.ensures.items)
+    all_at IsPrimitive c.new-10.result.primitives (c.form.result ∷ []) (ap (λ (n : Named). n.primitives) c.new-10.ensures ∙ c.in_ok-forms.ensures.items)
     (All-cons IsPrimitive c.form.result [] c.form.ensures (All-nil IsPrimitive))
 
 pub returns : goal.returns

@@ -41,9 +41,9 @@ returns-clause-root c =
     (rows_end c.args.components.now c.facts.ensures.ordered c.facts.ensures.of_one c.args.root c.requires)
 
 pub returns-clause-named : goal.returns-clause-named
-returns-clause-named c = λ count has.
-    subst (λ (rows : List Row). All (NamesWithin count) rows) (sym c.in_ok-all_rows.ensures)
-    (rows_named c.args.components.now c.facts.ensures.ordered c.facts.ensures.of_one count has c.args.root c.requires 0)
+returns-clause-named c = λ named has lists.
+    subst (λ (rows : List Row). All (NamesWithin named) rows) (sym c.in_ok-all_rows.ensures)
+    (rows_named c.args.components.now c.facts.ensures.ordered c.facts.ensures.of_one named has lists c.args.root c.requires 0)
 
 pub returns-clause-leaves : goal.returns-clause-leaves
 returns-clause-leaves c =

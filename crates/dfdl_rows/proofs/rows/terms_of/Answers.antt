@@ -1,10 +1,10 @@
-use Rattle.std.proofs.Common.{length, sym, subst}
+use Rattle.std.proofs.Common.{sym, subst}
 use Rattle.dfdl_terms.specs.Rows.{HasPlainRows, Table}
 use Rattle.dfdl_rows.specs.Leaves.{HaveLeaves, HaveBareLeaves}
 use Rattle.dfdl_rows.proofs.rows.terms_of.Goals as goal
 
 pub built-requires-clause-named : goal.built-requires-clause-named
-built-requires-clause-named c = c.in-Ok.ensures.named (length c.args.tables) c.requires.named
+built-requires-clause-named c = c.in-Ok.ensures.named c.args.tables c.requires.primitives c.requires.delimiters
 
 pub returns-in-Ok-clause-leaves : goal.returns-in-Ok-clause-leaves
 returns-in-Ok-clause-leaves c =

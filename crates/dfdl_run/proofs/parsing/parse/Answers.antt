@@ -13,7 +13,7 @@ line_of-requires c =
     let o : Outcome = document limits c.args.terms.now come.bytes in
     let parsed = come.ended.parsed in
     let have : HaveTexts o.state.nodes o.state.text =
-    c.documents_have_texts.ensures limits c.args.terms.now come.bytes come.ended.are_bytes c.rows-rows.ensures.table.bounded in
+    c.documents_have_texts.ensures limits c.args.terms.now 0 come.bytes come.ended.are_bytes c.rows-rows.ensures.table.bounded in
     record {
       texts = subst (λ (nodes : List Node). HaveTexts nodes c.text.result.now) (sym (c.nodes.ensures.ended o parsed.steps parsed.allowed parsed.ends))
           (subst (λ (text : List ℕ). HaveTexts o.state.nodes text) (sym (c.text.ensures.ended o parsed.steps parsed.allowed parsed.ends)) have);

@@ -1,4 +1,4 @@
-use Rattle.std.proofs.Common.{sym, ap, ◌∙◌}
+use Rattle.std.proofs.Common.{ap, ◌∙◌}
 use Rattle.dfdl_delims.specs.Registers.{Register}
 use Rattle.dfdl_delims.proofs.Held.{held}
 use Rattle.dfdl_delims.proofs.markup.Markup.len.Goals as goal

@@ -1,12 +1,12 @@
-use Rattle.std.proofs.Common.{sym, ap, ◌∙◌}
+use Rattle.std.proofs.Common.{ap, ◌∙◌}
 use Rattle.dfdl_delims.specs.Registers.{Register}
 use Rattle.dfdl_delims.proofs.Fills.{pushed}
 use Rattle.dfdl_delims.proofs.markup.Markup.push.Goals as goal
 
-pub returns-clause-pushed : goal.returns-clause-pushed
-returns-clause-pushed c = λ lists holds.
+pub returns-in-Ok-clause-pushed : goal.returns-in-Ok-clause-pushed
+returns-in-Ok-clause-pushed c = λ lists holds.
     pushed (record { marks = c.self.inside.marks.items; starts = c.self.inside.starts.items; pieces = c.self.inside.pieces.items })
     (record { marks = c.push.new.self.items; starts = c.put_literals.new.starts.items; pieces = c.put_literals.new.pieces.items }) lists
-    (record { encoding = c.args.encoding; fold = c.args.fold; literals = c.args.literals.now }) c.len-place.result c.len-4.result c.len-5.result
-    (ap (λ (r : Register). r.flat) c.self.view_is ∙ holds) (c.len-place.ensures ∙ c.self.inside.marks.ok.0) (c.len-4.ensures ∙ c.self.inside.starts.ok.0) (c.len-5.ensures ∙ c.self.inside.pieces.ok.0) c.in_ok-push.ensures.items
-    c.in_ok-put_literals.ensures.starts c.in_ok-put_literals.ensures.pieces
+    (record { encoding = c.args.encoding; fold = c.args.fold; literals = c.args.literals.now }) c.len-place.result c.len-starts.result c.len-pieces.result
+    (ap (λ (r : Register). r.flat) c.self.view_is ∙ holds) (c.len-place.ensures ∙ c.self.inside.marks.ok.0) (c.len-starts.ensures ∙ c.self.inside.starts.ok.0)
+    (c.len-pieces.ensures ∙ c.self.inside.pieces.ok.0) c.in_ok-push.ensures.items c.in-Ok.ensures.starts c.in-Ok.ensures.pieces

@@ -6,7 +6,7 @@ use Rattle.dfdl_json.specs.Found.{noted}
 use Rattle.dfdl_json.specs.Infosets.{simple_findings, complex_findings, findings, value_in}
 use Rattle.dfdl_json.specs.Reading.{coming, data_at}
 use Rattle.dfdl_json.proofs.Declares.{there, on_ok, on_ok_four, below_elem}
-use Rattle.dfdl_json.proofs.Contents.{left_same, simple_less, complex_less, simple_comes, complex_comes, bare_comes, leaf_says, group_says, skip_says, align_says, box_says, prefixed_leaf_says, prefixed_box_says, no_row_says, less_left}
+use Rattle.dfdl_json.proofs.Contents.{left_same, simple_less, complex_less, simple_comes, complex_comes, bare_comes, leaf_says, group_says, skip_says, align_says, initiator_says, terminator_says, scope_says, box_says, prefixed_leaf_says, prefixed_box_says, no_row_says, less_left}
 use Rattle.dfdl_json.proofs.reading.Reading.read_content.Goals as goal
 
 pub returns-in-Some-clause-same : goal.returns-in-Some-clause-same
@@ -76,6 +76,24 @@ returns-in-Some-Align-clause-same c =
 pub returns-in-Some-Align-clause-less : goal.returns-in-Some-Align-clause-less
 returns-in-Some-Align-clause-less c = less_left c.args.terms.now c.args.row c.args.self.now.tasks.items
 
+pub returns-in-Some-Initiator-clause-same : goal.returns-in-Some-Initiator-clause-same
+returns-in-Some-Initiator-clause-same c =
+    bare_comes c.args.terms.now c.args.row (view c.args.content.now) c.args.self.now.around c.args.self.now.found c.args.self.now.tasks.items
+    (data_at c.args.self.now.contents.items)
+    (initiator_says c.args.terms.now c.args.row (view c.args.content.now) c.args.self.now.around _ (there _ _ _ c.in-Some-Initiator.ensures.row c.in-Some-Initiator.field-0-is))
+
+pub returns-in-Some-Initiator-clause-less : goal.returns-in-Some-Initiator-clause-less
+returns-in-Some-Initiator-clause-less c = less_left c.args.terms.now c.args.row c.args.self.now.tasks.items
+
+pub returns-in-Some-Terminator-clause-same : goal.returns-in-Some-Terminator-clause-same
+returns-in-Some-Terminator-clause-same c =
+    bare_comes c.args.terms.now c.args.row (view c.args.content.now) c.args.self.now.around c.args.self.now.found c.args.self.now.tasks.items
+    (data_at c.args.self.now.contents.items)
+    (terminator_says c.args.terms.now c.args.row (view c.args.content.now) c.args.self.now.around _ (there _ _ _ c.in-Some-Terminator.ensures.row c.in-Some-Terminator.field-0-is))
+
+pub returns-in-Some-Terminator-clause-less : goal.returns-in-Some-Terminator-clause-less
+returns-in-Some-Terminator-clause-less c = less_left c.args.terms.now c.args.row c.args.self.now.tasks.items
+
 pub returns-in-Some-Boxed-clause-same : goal.returns-in-Some-Boxed-clause-same
 returns-in-Some-Boxed-clause-same c =
     bare_comes c.args.terms.now c.args.row (view c.args.content.now) c.args.self.now.around c.args.self.now.found c.args.self.now.tasks.items
@@ -84,6 +102,15 @@ returns-in-Some-Boxed-clause-same c =
 
 pub returns-in-Some-Boxed-clause-less : goal.returns-in-Some-Boxed-clause-less
 returns-in-Some-Boxed-clause-less c = less_left c.args.terms.now c.args.row c.args.self.now.tasks.items
+
+pub returns-in-Some-Scope-clause-same : goal.returns-in-Some-Scope-clause-same
+returns-in-Some-Scope-clause-same c =
+    bare_comes c.args.terms.now c.args.row (view c.args.content.now) c.args.self.now.around c.args.self.now.found c.args.self.now.tasks.items
+    (data_at c.args.self.now.contents.items)
+    (scope_says c.args.terms.now c.args.row (view c.args.content.now) c.args.self.now.around _ _ (there _ _ _ c.in-Some-Scope.ensures.row c.in-Some-Scope.field-0-is))
+
+pub returns-in-Some-Scope-clause-less : goal.returns-in-Some-Scope-clause-less
+returns-in-Some-Scope-clause-less c = less_left c.args.terms.now c.args.row c.args.self.now.tasks.items
 
 pub returns-in-Some-PrefixedLeaf-clause-same : goal.returns-in-Some-PrefixedLeaf-clause-same
 returns-in-Some-PrefixedLeaf-clause-same c =

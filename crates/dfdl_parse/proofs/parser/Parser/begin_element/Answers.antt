@@ -1,4 +1,5 @@
-use Rattle.std.proofs.Common.{Bool, cond, false, None, OnOk, refl, subst, sym}
+use Rattle.std.proofs.Common.{Bool, cond, false, OnOk, refl, subst, sym}
+use Rattle.dfdl_grammar.specs.declared.instead.Instead.TheVariants.{Nothing}
 use Rattle.dfdl_grammar.specs.Marks.{marked}
 use Rattle.dfdl_parse.specs.declared.parser.Parser.{Parser}
 use Rattle.dfdl_parse.specs.Trials.{attempt, try_nil, two_rows}
@@ -11,7 +12,7 @@ returns-in_ok-mark-clause-moved c held =
     let old = c.args.self.now in
     subst (λ (several : Bool). OnOk c.try_nil.result (Moved (cond several
     (try_nil two_rows old.region.most held c.args.id c.args.parts c.args.parts.tried.nil old.stack (marked (state_of old)))
-    (attempt two_rows old.region.most held c.args.id c.args.parts None old.stack (state_of old))) false old.far c.try_nil.new.self held 0)) (sym c.if-parts.true)
+    (attempt two_rows old.region.most held c.args.id c.args.parts Nothing old.stack (state_of old))) false old.far c.try_nil.new.self held 0)) (sym c.if-parts.true)
     (subst (λ (p : Parser). OnOk c.try_nil.result (Moved
     (try_nil two_rows p.region.most held c.args.id c.args.parts c.args.parts.tried.nil p.stack (state_of p)) false p.far c.try_nil.new.self held 0))
     c.in_ok-mark.ensures (c.try_nil.ensures.moved held two_rows (refl, refl)))

@@ -1,5 +1,6 @@
-use Rattle.std.proofs.Common.{◌-◌, List, Option, Some, subst, refl, ◌∙◌, arith}
+use Rattle.std.proofs.Common.{◌-◌, List, ap, Option, Some, subst, refl, ◌∙◌, arith}
 use Rattle.dfdl_value.specs.declared.value.Value.{Value}
+use Rattle.dfdl_terms.specs.Tables.{Named}
 use Rattle.dfdl_grammar.specs.Leaves.{nil_values}
 use Rattle.dfdl_parse.specs.Moves.{read_leaf}
 use Rattle.dfdl_parse.specs.Steps.{Moved}
@@ -17,7 +18,7 @@ returns-in_ok-waits-in-Some-clause-moved g c =
     (primitive_of c.in-Some.leaf) old.stack (state_of old) c.in_ok-waits-in-Some.waits old.far c.read.new.self c.read.new.sight
     (c.read.new.steps - c.args.steps.now) c.requires.focus
     (indexed c.primitives-primitives.result.now c.args.terms.now.primitives c.args.prim primitive
-    (c.primitives-primitives.ensures ∙ c.tables.ensures.tables) (omega (arith, c.if-prim-primitives.false)) c.index-primitives-prim.is)
+    (c.primitives-primitives.ensures ∙ ap (λ (n : Named). n.primitives) c.tables.ensures.tables) (omega (arith, c.if-prim-primitives.false)) c.index-primitives-prim.is)
     c.in-Some.ensures.some
     (subst (λ (nil : Option (List Value)). Moved (read_leaf nothing (limits_of old c.args.sight.now) old.focus c.args.sight.now nil
     (Some (primitive_of c.in-Some.leaf)) old.stack (state_of old)) c.in_ok-waits-in-Some.waits old.far c.read.new.self c.read.new.sight

@@ -5,7 +5,7 @@ use Rattle.dfdl_pieces.specs.declared.unparsing.Task.TheVariants.{Lay}
 use Rattle.dfdl_pieces.specs.Laying.{Takes, begins, begun_laying, form_at, laying, value_for, value_laying}
 use Rattle.dfdl_pieces.specs.Unparsing.{left, outcome, steps_left}
 use Rattle.dfdl_json.specs.Steps.{steps_of}
-use Rattle.dfdl_pieces.proofs.Layings.{laid_simple, laid_complex, laid_group, laid_leaf, laid_skip, laid_align, laid_boxed, laid_prefixed_leaf, laid_prefixed_box, laid_no_row, same_less, group_less, complex_less}
+use Rattle.dfdl_pieces.proofs.Layings.{laid_simple, laid_complex, laid_group, laid_leaf, laid_skip, laid_align, laid_initiator, laid_terminator, laid_scope, laid_boxed, laid_prefixed_leaf, laid_prefixed_box, laid_no_row, same_less, group_less, complex_less}
 use Rattle.dfdl_pieces.proofs.Moving.{if_ok, if_ok_both, if_ok_any, is_less, less_too, moves_too, moves_same, moves_group}
 use Rattle.dfdl_pieces.proofs.unparsing.Unparser.lay.Goals as goal
 
@@ -106,6 +106,24 @@ returns-in-Some-Align-clause-moves c =
 pub returns-in-Some-Align-clause-less : goal.returns-in-Some-Align-clause-less
 returns-in-Some-Align-clause-less c = same_less c.args.terms.now c.args.row c.args.self.now.tasks.items c.args.self.now.tasks.items refl
 
+pub returns-in-Some-Initiator-clause-moves : goal.returns-in-Some-Initiator-clause-moves
+returns-in-Some-Initiator-clause-moves c =
+    let old = c.args.self.now in
+    let t = c.args.terms.now in
+    ap (outcome old c.args.events.now) (sym (laid_initiator t c.args.row old.around (left t old.tasks.items old.around) _ (there _ _ _ c.in-Some-Initiator.ensures.row c.in-Some-Initiator.field-0-is)))
+
+pub returns-in-Some-Initiator-clause-less : goal.returns-in-Some-Initiator-clause-less
+returns-in-Some-Initiator-clause-less c = same_less c.args.terms.now c.args.row c.args.self.now.tasks.items c.args.self.now.tasks.items refl
+
+pub returns-in-Some-Terminator-clause-moves : goal.returns-in-Some-Terminator-clause-moves
+returns-in-Some-Terminator-clause-moves c =
+    let old = c.args.self.now in
+    let t = c.args.terms.now in
+    ap (outcome old c.args.events.now) (sym (laid_terminator t c.args.row old.around (left t old.tasks.items old.around) _ (there _ _ _ c.in-Some-Terminator.ensures.row c.in-Some-Terminator.field-0-is)))
+
+pub returns-in-Some-Terminator-clause-less : goal.returns-in-Some-Terminator-clause-less
+returns-in-Some-Terminator-clause-less c = same_less c.args.terms.now c.args.row c.args.self.now.tasks.items c.args.self.now.tasks.items refl
+
 pub returns-in-Some-Boxed-clause-moves : goal.returns-in-Some-Boxed-clause-moves
 returns-in-Some-Boxed-clause-moves c =
     let old = c.args.self.now in
@@ -114,6 +132,15 @@ returns-in-Some-Boxed-clause-moves c =
 
 pub returns-in-Some-Boxed-clause-less : goal.returns-in-Some-Boxed-clause-less
 returns-in-Some-Boxed-clause-less c = same_less c.args.terms.now c.args.row c.args.self.now.tasks.items c.args.self.now.tasks.items refl
+
+pub returns-in-Some-Scope-clause-moves : goal.returns-in-Some-Scope-clause-moves
+returns-in-Some-Scope-clause-moves c =
+    let old = c.args.self.now in
+    let t = c.args.terms.now in
+    ap (outcome old c.args.events.now) (sym (laid_scope t c.args.row old.around (left t old.tasks.items old.around) _ _ (there _ _ _ c.in-Some-Scope.ensures.row c.in-Some-Scope.field-0-is)))
+
+pub returns-in-Some-Scope-clause-less : goal.returns-in-Some-Scope-clause-less
+returns-in-Some-Scope-clause-less c = same_less c.args.terms.now c.args.row c.args.self.now.tasks.items c.args.self.now.tasks.items refl
 
 pub returns-in-Some-PrefixedLeaf-clause-moves : goal.returns-in-Some-PrefixedLeaf-clause-moves
 returns-in-Some-PrefixedLeaf-clause-moves c =

@@ -1,0 +1,37 @@
+-- The initiators and terminators of the components of a schema: their literals in the tables, one list of each for each element of its
+-- documents, and the framing that names these by their numbers ('Framing').
+use Rattle.std.specs.Prelude.{ℕ, [], false, Option, None, Some, option_map}
+use Rattle.dfdl_forms.specs.declared.encoding.Encoding.TheVariants.{Utf8}
+use Rattle.dfdl_checks.specs.declared.delimiters.Delimiting.{Delimiting}
+use Rattle.dfdl_terms.specs.declared.delimiters.Delimiter.{Delimiter}
+use Rattle.dfdl_terms.specs.declared.delimiters.Delimiters.{Delimiters}
+use Rattle.dfdl_terms.specs.declared.framing.Framing.{Framing}
+use Rattle.dfdl_breaches.specs.declared.judgement.Judgement.{Judgement}
+
+-- the list that stands for no delimiter
+abbrev pub no_list : Delimiters
+no_list = record { literals = []; encoding = Utf8; fold = false }
+
+-- the literals of a delimiter, or the list that stands for none
+abbrev pub list_if : Option Delimiting → Delimiters
+list_if None = no_list
+list_if (Some delimiter) = delimiter.list
+
+-- the literals of the initiator of an element of which this is told
+abbrev pub initiator_list_by : Judgement → Delimiters
+initiator_list_by judgement = list_if judgement.markup.initiator
+
+-- the literals of the terminator of an element of which this is told
+abbrev pub terminator_list_by : Judgement → Delimiters
+terminator_list_by judgement = list_if judgement.markup.terminator
+
+-- a delimiter whose literals have this number
+abbrev pub delimiter_by : ℕ → Delimiting → Delimiter
+delimiter_by number delimiter = record { list = number; in_nil = delimiter.in_nil; in_empty = delimiter.in_empty }
+
+-- what frames the content of an element of which this is told, where the literals of its initiator and its terminator have these numbers
+abbrev pub framing_by : ℕ → ℕ → Judgement → Framing
+framing_by initiator terminator judgement = record judgement.framing {
+  initiator = option_map (delimiter_by initiator) judgement.markup.initiator;
+  terminator = option_map (delimiter_by terminator) judgement.markup.terminator;
+}

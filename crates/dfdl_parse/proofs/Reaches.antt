@@ -1,0 +1,447 @@
+-- A step gives up no byte behind those that it has looked at, and comes to no bit behind them.
+use Rattle.std.proofs.Common.{◌≡◌, ℕ, ◌+◌, ◌-◌, ◌*◌, ◌/◌, ◌<◌, ◌≤◌, ◌⊎◌, inl, inr, max, min, nat_eq, nat_le, nat_lt, ◌&&◌, refl, List, [], ◌∷◌, length, Bool, true, false, cond, leb, Option, Some, None, ap, sym, subst, ◌∙◌, arith}
+use Rattle.std.specs.Prelude.{slice_get}
+use Rattle.std.proofs.lemmas.Bool.Decides.{nat_tests}
+use Rattle.dfdl_bits.specs.Window.{Held, end_of, from_byte, seen_at}
+use Rattle.dfdl_bits.specs.declared.window.Seen.{Seen}
+use Rattle.dfdl_bits.specs.declared.window.Seen.TheVariants.{Byte, End as DataEnded, NotYet, Over}
+use Rattle.dfdl_report.specs.declared.cause.ParseCause.{ParseCause}
+use Rattle.dfdl_report.specs.declared.cause.ParseCause.TheVariants.{LengthOutOfRange}
+use Rattle.dfdl_report.specs.declared.cause.LimitCause.TheVariants.{Nodes, Text as TextLimit}
+use Rattle.dfdl_value.specs.declared.value.Value.{Value}
+use Rattle.dfdl_delims.specs.Lists.{Opened}
+use Rattle.dfdl_delims.specs.Longest.{Longest, Text, NoText}
+use Rattle.dfdl_terms.specs.declared.delimiters.Delimiter.{Delimiter}
+use Rattle.dfdl_terms.specs.declared.delimiters.Delimiters.{Delimiters}
+use Rattle.dfdl_terms.specs.declared.row.Primitive.{Primitive}
+use Rattle.dfdl_terms.specs.declared.row.Row.{Row}
+use Rattle.dfdl_terms.specs.declared.row.Row.TheVariants.{Leaf, Elem, Group, Skip, Align, Initiator, Terminator, Scope, Boxed, PrefixedLeaf, PrefixedBox}
+use Rattle.dfdl_terms.specs.Rows.{Table}
+use Rattle.dfdl_terms.specs.declared.prefix.LengthUnit.{LengthUnit}
+use Rattle.dfdl_terms.specs.declared.text.TextSize.{TextSize}
+use Rattle.dfdl_looks.specs.Asks.{Reached, Told, TooFar, Missing, Reading, ask}
+use Rattle.dfdl_looks.specs.Tallies.{Tally, nothing, one_row, plus, saw_byte}
+use Rattle.dfdl_looks.proofs.Seeing.{shown}
+use Rattle.dfdl_grammar.specs.declared.end.End.{End}
+use Rattle.dfdl_grammar.specs.declared.end.End.TheVariants.{Done, Failed, Stopped}
+use Rattle.dfdl_grammar.specs.declared.instead.Instead.{Instead}
+use Rattle.dfdl_grammar.specs.declared.instead.Instead.TheVariants.{Nothing, Nil, Empty}
+use Rattle.dfdl_grammar.specs.declared.limits.Limits.{Limits}
+use Rattle.dfdl_grammar.specs.declared.mark.Mark.{Mark}
+use Rattle.dfdl_grammar.specs.Outcomes.{Outcome, ended}
+use Rattle.dfdl_grammar.specs.States.{State, anchor, anchor_at, held_from}
+use Rattle.dfdl_grammar.specs.Marks.{back, back_among, closed, marked}
+use Rattle.dfdl_grammar.specs.Prefixes.{bits_of_units, resized, size_of, units_told}
+use Rattle.dfdl_grammar.specs.Leaves.{Find, Fails, Finds, FindsOctets, FindsText, content_begins, has_room, nil_values, program, program_for, read_by}
+use Rattle.dfdl_grammar.specs.Framing.{aligned}
+use Rattle.dfdl_grammar.specs.Delimiters.{opens, sought_among, stands_in}
+use Rattle.dfdl_grammar.specs.Boxes.{boxed_at}
+use Rattle.dfdl_grammar.specs.Elements.{begun, has_elements}
+use Rattle.dfdl_parse.specs.declared.frame.Frame.{Frame}
+use Rattle.dfdl_parse.specs.declared.frame.Frame.TheVariants.{Rest, Element, Box, Scope as ScopeFrame, Trial}
+use Rattle.dfdl_parse.specs.declared.frame.Next.{Next}
+use Rattle.dfdl_parse.specs.declared.frame.Next.TheVariants as next
+use Rattle.dfdl_parse.specs.declared.frame.Parts.{Parts}
+use Rattle.dfdl_parse.specs.declared.frame.Outside.{Outside}
+use Rattle.dfdl_parse.specs.declared.frame.Focus.{Focus}
+use Rattle.dfdl_parse.specs.declared.frame.Focus.TheVariants.{Enter, Pass, PassRest, Sized, Seek, Leave}
+use Rattle.dfdl_parse.specs.declared.frame.Behind.{Behind}
+use Rattle.dfdl_parse.specs.declared.frame.Behind.TheVariants as behind
+use Rattle.dfdl_parse.specs.Boxing.{back_outside, outside}
+use Rattle.dfdl_parse.specs.Searches.{among, cause_of, found_text, is_cut, place_of, search}
+use Rattle.dfdl_parse.specs.Moves.{Machine, Move, landed, pass, read_leaf, read_move}
+use Rattle.dfdl_parse.specs.Prefixed.{at_end, behind_units, box_begins, can_fit, landed_prefix, prefix_move, read_prefix, read_resized, read_sized, sized_begins, units_begin}
+use Rattle.dfdl_parse.specs.Machines.{children_of, enter, enter_group, fill, fill_move, go_on, leave, pass_rest, rest_move, seen_beyond, step}
+use Rattle.dfdl_parse.specs.Opens.{AreOpen, GoesBack, IsBefore, NeedsFrom}
+use Rattle.dfdl_parse.specs.Running.{Reaches}
+use Rattle.dfdl_parse.specs.Trials.{attempt, is_refused, parts_of, refused, retry, try_empty, try_nil, try_normal, two_rows}
+use Rattle.dfdl_parse.proofs.Ends.{AtEnd}
+use Rattle.dfdl_parse.proofs.Finishes.{Anchored, Stands}
+use Rattle.dfdl_parse.proofs.Lies.{found-lies}
+use Rattle.dfdl_parse.proofs.SeekLies.{AtText, sought-lies}
+use Rattle.dfdl_parse.proofs.Opens.{held-before, holds}
+use Rattle.dfdl_parse.proofs.Waits.{leave-on}
+
+-- the first byte that is needed is none behind the one that comes next where a mark is open, and else that of a bit
+held-near : (base at bit : ℕ) (k : List Frame) (marks : List Mark) → AreOpen base at k marks
+    → (held_from marks bit ≡ bit) ⊎ (held_from marks bit / 8 ≤ at / 8)
+held-near base at bit [] [] opens = inl refl
+held-near base at bit [] (mark ∷ outer) opens = absurd opens
+held-near base at bit (Rest id next ∷ k) marks opens = held-near base at bit k marks opens
+held-near base at bit (Element outer complex ∷ k) marks opens = held-near base at bit k marks opens
+held-near base at bit (Box outer ∷ k) marks opens = held-near base at bit k marks opens
+held-near base at bit (ScopeFrame count ∷ k) marks opens = held-near base at bit k marks opens
+held-near base at bit (Trial id next ∷ k) [] opens = absurd opens
+held-near base at bit (Trial id next ∷ k) (mark ∷ outer) opens =
+    let before_at : mark.at ≤ at = opens.1.0 in
+    let low : held_from outer mark.at / 8 ≤ mark.at / 8 = held-before base mark.at mark.at k outer opens.1.1.1 (omega arith) in
+    inr (subst (λ (b : Bool). held_from outer (cond b bit mark.at) / 8 ≤ at / 8) (sym opens.0) (omega arith))
+
+-- the bit behind what is found in a leaf
+held-at : (room : Bool) (m : ℕ) (s t : State) (most : ℕ) → s.at ≤ m → t.at ≤ m
+    → (cond room (ended Done s) (ended (Stopped TextLimit most) t)).state.at ≤ m
+held-at true m s t most first second = first
+held-at false m s t most first second = second
+
+landed-at : (limits : Limits) (focus : Focus) (first last : ℕ) (k : List Frame) (s : State) (r : Reached Find) → s.at ≤ 8 * last
+    → AtEnd (λ end. end ≤ 8 * last) r → (landed limits focus first r k s).state.at ≤ 8 * last
+landed-at limits focus first last k s (Told (Fails cause)) at there = at
+landed-at limits focus first last k s (Told (Finds content end)) at there = there
+landed-at limits focus first last k s (Told (FindsOctets bytes end)) at there =
+    held-at (nat_le (length s.text + length bytes) limits.text) (8 * last) _ s limits.text there at
+landed-at limits focus first last k s (Told (FindsText bytes end)) at there =
+    held-at (nat_le (length s.text + length bytes) limits.text) (8 * last) _ s limits.text there at
+landed-at limits focus first last k s TooFar at there = at
+landed-at limits focus first last k s Missing at there = at
+
+-- the bit that comes next is none behind this one
+abbrev IsUpTo : ℕ → Machine → Type 0
+IsUpTo last m = m.state.at ≤ last
+
+-- what follows a prefix begins behind it
+sized-at : (last prim : ℕ) (size : TextSize) (primitive : Option Primitive) (k : List Frame) (s : State) → s.at ≤ last
+    → (sized_begins primitive prim size k s).state.at ≤ last
+sized-at last prim size None k s at = at
+sized-at last prim size (Some primitive) k s at = by (can_fit size s.at s.stop)
+  where
+    by : (fits : Bool) → IsUpTo last (cond fits (record { focus = Sized prim size; stack = k; state = s }) (at_end (Failed LengthOutOfRange s.at) k s))
+    by true = at
+    by false = at
+
+box-at : (last bits body : ℕ) (k : List Frame) (s : State) → s.at ≤ last → (box_begins bits body k s).state.at ≤ last
+box-at last bits body k s at = by (nat_le (s.at + bits) s.stop)
+  where
+    by : (fits : Bool) → IsUpTo last
+        (cond fits (record { focus = Enter body; stack = Box (outside s) ∷ k; state = boxed_at (s.at + bits) s }) (at_end (Failed LengthOutOfRange s.at) k s))
+    by true = at
+    by false = at
+
+behind-at : (last : ℕ) (table : Table) (unit : LengthUnit) (what : Behind) (units : ℕ) (k : List Frame) (s : State) → s.at ≤ last
+    → (behind_units table.primitives unit what units k s).state.at ≤ last
+behind-at last table unit (behind.Leaf prim) units k s at = sized-at last prim (size_of unit units) (slice_get table.primitives prim) k s at
+behind-at last table unit (behind.Box body) units k s at = box-at last (bits_of_units unit units) body k s at
+
+module _ (limits : Limits) (id own : ℕ) (next : ℕ → List Frame → State → Machine) (k : List Frame) (last : ℕ)
+    (follows : (units : ℕ) (s : State) → s.at ≤ last → (next units k s).state.at ≤ last) where
+  units-at : (end : ℕ) (units : Option ℕ) (s : State) → s.at ≤ last → end ≤ last → (units_begin end next units k s).state.at ≤ last
+  units-at end None s at there = at
+  units-at end (Some units) s at there = follows units (record s { at = end }) there
+
+  prefix-landed-at : (first : ℕ) (r : Reached Find) (s : State) → s.at ≤ last → AtEnd (λ end. end ≤ last) r
+      → (landed_prefix limits id own first next r k s).state.at ≤ last
+  prefix-landed-at first (Told (Fails cause)) s at there = at
+  prefix-landed-at first (Told (Finds content end)) s at there = units-at end (units_told own content) s at there
+  prefix-landed-at first (Told (FindsOctets bytes end)) s at there = at
+  prefix-landed-at first (Told (FindsText bytes end)) s at there = at
+  prefix-landed-at first TooFar s at there = at
+  prefix-landed-at first Missing s at there = at
+
+-- a step comes no further than these bytes and those that it looked at
+abbrev pub Within : ℕ → Move → Type 0
+Within m move = Reaches (max m move.tally.far) move.held move.machine.focus move.machine.state
+
+both : (m : ℕ) (held : Held) (focus : Focus) (s : State) → held.base ≤ m → s.at ≤ 8 * m → Reaches m held focus s
+both m held (Enter id) s base at = at
+both m held (Pass to) s base at = at
+both m held (PassRest bit outer) s base at = at
+both m held (Sized prim size) s base at = at
+both m held (Seek list terminates) s base at = at
+both m held (Leave end) s base at = (base, at)
+
+-- a look is too far by its place
+over_far : (over inside ended : Bool) (byte : ℕ) → shown over inside ended byte ≡ Over → over ≡ true
+over_far true inside ended byte is = refl
+over_far false true ended byte is = absurd (cc)
+over_far false false true byte is = absurd (cc)
+over_far false false false byte is = absurd (cc)
+
+-- where a look is too far, a mark is open before it
+fill-over : (held : Held) (m low k : ℕ) (s : State) → s.at ≤ 8 * m → 0 < held.size → (low ≡ k) ⊎ (low ≤ s.at / 8) → seen_beyond held low k ≡ Over → low ≤ m
+fill-over held m low k s at some (inr near) is = omega arith
+fill-over held m low k s at some (inl same) is =
+    let near : ℕ = min low (end_of held) in
+    let over : leb held.size (near + (k - low) - near) ≡ true = over_far _ _ held.ended _ is in
+    let few : held.size ≤ near + (k - low) - near = grind (arith, nat_tests) in
+    absurd (omega arith)
+
+-- the same of the bit of the first byte that is needed
+near-byte : (at bit k : ℕ) (marks : List Mark) → bit / 8 ≡ k → (held_from marks bit ≡ bit) ⊎ (held_from marks bit / 8 ≤ at / 8)
+    → (held_from marks bit / 8 ≡ k) ⊎ (held_from marks bit / 8 ≤ at / 8)
+near-byte at bit k marks is (inl same) = inl (ap (λ (n : ℕ). n / 8) same ∙ is)
+near-byte at bit k marks is (inr near) = inr near
+
+-- fill, and the rest of a box
+module _ (m : ℕ) (held : Held) (s : State) (at : s.at ≤ 8 * m) (some : 0 < held.size) where
+  filled-reaches : (window low to : ℕ) (v : Seen) (k : List Frame) → low ≤ (to - 1) / 8 → (v ≡ Over → low ≤ m)
+      → Within m (fill_move window (from_byte held (min low (end_of held))) to v k s)
+  filled-reaches window low to (Byte b) k less over = (omega arith, omega arith)
+  filled-reaches window low to DataEnded k less over = (omega arith, omega arith)
+  filled-reaches window low to NotYet k less over = omega arith
+  filled-reaches window low to Over k less over = let few = over refl in (omega arith, omega arith)
+
+  pub fill-reaches : (limits : Limits) (to base : ℕ) (k : List Frame) → AreOpen base s.at k s.marks → anchor_at s (to - 1) ≤ (to - 1) / 8
+      → Within m (fill limits held to k s)
+  fill-reaches limits to base k opens less =
+      let low : ℕ = anchor_at s (to - 1) in
+      filled-reaches limits.window low to (seen_beyond held low ((to - 1) / 8)) k less
+      (fill-over held m low ((to - 1) / 8) s at some (near-byte s.at (to - 1) ((to - 1) / 8) s.marks refl (held-near base s.at (to - 1) k s.marks opens)))
+
+  past-reaches : (low byte : ℕ) (outer : Outside) (k : List Frame) → low ≤ byte → (last : Bool) → nat_le ((s.stop - 1) / 8) byte ≡ last
+      → let sight : Held = from_byte held (min low (end_of held)) in
+      Within m (cond last (pass (saw_byte byte nothing) sight (Leave Done) k (back_outside outer (record s { at = s.stop })))
+      (pass (saw_byte byte nothing) sight (PassRest (8 * (byte + 1)) outer) k s))
+  past-reaches low byte outer k less true is =
+      let most : (s.stop - 1) / 8 ≤ byte = grind (arith, nat_tests) in
+      (omega arith, omega arith)
+  past-reaches low byte outer k less false is = omega arith
+
+  rested-reaches : (window low bit : ℕ) (outer : Outside) (v : Seen) (k : List Frame) → low ≤ bit / 8 → (v ≡ Over → low ≤ m)
+      → Within m (rest_move window (from_byte held (min low (end_of held))) bit outer v k s)
+  rested-reaches window low bit outer (Byte b) k less over = past-reaches low (bit / 8) outer k less (nat_le ((s.stop - 1) / 8) (bit / 8)) refl
+  rested-reaches window low bit outer DataEnded k less over = (omega arith, omega arith)
+  rested-reaches window low bit outer NotYet k less over = omega arith
+  rested-reaches window low bit outer Over k less over = let few = over refl in (omega arith, omega arith)
+
+  pub rest-reaches : (limits : Limits) (bit : ℕ) (outer : Outside) (base : ℕ) (k : List Frame) → AreOpen base s.at k s.marks → anchor_at s (8 * (bit / 8)) ≤ bit / 8
+      → Within m (pass_rest limits held bit outer k s)
+  rest-reaches limits bit outer base k opens less =
+      let low : ℕ = anchor_at s (8 * (bit / 8)) in
+      rested-reaches limits.window low bit outer (seen_beyond held low (bit / 8)) k less
+      (fill-over held m low (bit / 8) s at some (near-byte s.at (8 * (bit / 8)) (bit / 8) s.marks (omega arith) (held-near base s.at (8 * (bit / 8)) k s.marks opens)))
+
+-- each other step
+module _ (m : ℕ) (held : Held) (base : held.base ≤ m) where
+  pass-reaches : (t : Tally) (focus : Focus) (k : List Frame) (s : State) → s.at ≤ 8 * m → Within m (pass t held focus k s)
+  pass-reaches t focus k s at = both (max m t.far) held focus s (omega arith) (omega arith)
+
+  -- one representation of an element
+  attempt-reaches : (cost : Tally) (most id : ℕ) (parts : Parts) (instead : Instead) (k : List Frame) (s : State) → s.at ≤ 8 * m → (room : Bool)
+      → Within m (cond room
+      (pass cost held (Enter parts.body) (Element s.inside parts.complex ∷ k) (begun id instead s))
+      (pass cost held (Leave (Stopped Nodes most)) k s))
+  attempt-reaches cost most id parts instead k s at true = pass-reaches cost (Enter parts.body) (Element s.inside parts.complex ∷ k) (begun id instead s) at
+  attempt-reaches cost most id parts instead k s at false = pass-reaches cost (Leave (Stopped Nodes most)) k s at
+
+  module _ (cost : Tally) (most id : ℕ) (parts : Parts) (k : List Frame) (s : State) (at : s.at ≤ 8 * m) where
+    normal-reaches : Within m (try_normal cost most held id parts k s)
+    normal-reaches = attempt-reaches cost most id parts Nothing (Trial id next.Nothing ∷ k) s at (nat_lt (length s.nodes) most)
+
+    empty-reaches : (empty : Option ℕ) → Within m (try_empty cost most held id parts empty k s)
+    empty-reaches None = normal-reaches
+    empty-reaches (Some prim) = attempt-reaches cost most id parts (Empty prim) (Trial id next.Normal ∷ k) s at (nat_lt (length s.nodes) most)
+
+    nil-reaches : (nil : Option ℕ) → Within m (try_nil cost most held id parts nil k s)
+    nil-reaches None = empty-reaches parts.tried.empty
+    nil-reaches (Some prim) = attempt-reaches cost most id parts (Nil prim) (Trial id next.Empty ∷ k) s at (nat_lt (length s.nodes) most)
+
+  module _ (s : State) (at : s.at ≤ 8 * m) where
+    -- a leaf, by where what it finds ends
+    look-reaches : Anchored held s → (cost : Tally) (nil : Option (List Value)) (primitive : Primitive) → has_room primitive s.at s.stop ≡ true
+        → (machine : Reached Find → Machine) → ((last : ℕ) (r : Reached Find) → s.at ≤ 8 * last → AtEnd (λ end. end ≤ 8 * last) r → (machine r).state.at ≤ 8 * last)
+        → let reading : Reading Find = ask (seen_at (from_byte held (anchor s))) (program_for nil primitive s.at s.stop) nothing in
+        Reaches (max m (plus cost reading.tally).far) (from_byte held (anchor s)) (machine reading.reached).focus (machine reading.reached).state
+    look-reaches stands cost nil primitive room machine ends =
+        let sight : Held = from_byte held (anchor s) in
+        let reading : Reading Find = ask (seen_at sight) (program_for nil primitive s.at s.stop) nothing in
+        let last : ℕ = max m (plus cost reading.tally).far in
+        let low = stands.low in
+        both last sight (machine reading.reached).focus (machine reading.reached).state (omega arith)
+        (ends last reading.reached (omega arith) (found-lies (seen_at sight) last s.at s.stop (omega arith) nil primitive room (omega arith)))
+
+    room-reaches : Anchored held s → (cost : Tally) (limits : Limits) (focus : Focus) (nil : Option (List Value)) (primitive : Primitive) (k : List Frame)
+        → (room : Bool) → has_room primitive s.at s.stop ≡ room
+        → Within m (cond room
+        (read_move cost limits focus (content_begins primitive s.at) (from_byte held (anchor s))
+        (ask (seen_at (from_byte held (anchor s))) (program_for nil primitive s.at s.stop) nothing) k s)
+        (pass cost held (Leave (Failed LengthOutOfRange s.at)) k s))
+    room-reaches stands cost limits focus nil primitive k true has =
+        look-reaches stands cost nil primitive has (λ r. landed limits focus (content_begins primitive s.at) r k s)
+        (λ last r before there. landed-at limits focus (content_begins primitive s.at) last k s r before there)
+    room-reaches stands cost limits focus nil primitive k false has = pass-reaches cost (Leave (Failed LengthOutOfRange s.at)) k s at
+
+    leaf-reaches : Anchored held s → (cost : Tally) (limits : Limits) (focus : Focus) (nil : Option (List Value)) (primitive : Option Primitive) (k : List Frame)
+        → Within m (read_leaf cost limits focus held nil primitive k s)
+    leaf-reaches stands cost limits focus nil None k = pass-reaches cost (Leave Done) k s at
+    leaf-reaches stands cost limits focus nil (Some primitive) k = room-reaches stands cost limits focus nil primitive k (has_room primitive s.at s.stop) refl
+
+    resized-reaches : Anchored held s → (limits : Limits) (focus : Focus) (nil : Option (List Value)) (primitive : Option Primitive) (k : List Frame)
+        → Within m (read_resized limits focus held nil primitive k s)
+    resized-reaches stands limits focus nil None k = pass-reaches nothing (Leave (Failed LengthOutOfRange s.at)) k s at
+    resized-reaches stands limits focus nil (Some primitive) k = leaf-reaches stands nothing limits focus nil (Some primitive) k
+
+    pub told-reaches : Anchored held s → (limits : Limits) (prim : ℕ) (size : TextSize) (nil : Option (List Value)) (primitive : Option Primitive) (k : List Frame)
+        → Within m (read_sized limits held prim size nil primitive k s)
+    told-reaches stands limits prim size nil None k = pass-reaches nothing (Leave Done) k s at
+    told-reaches stands limits prim size nil (Some primitive) k = resized-reaches stands limits (Sized prim size) nil (resized size primitive) k
+
+    prefix-room-reaches : Anchored held s → (limits : Limits) (id own : ℕ) (next : ℕ → List Frame → State → Machine) (primitive : Primitive) (k : List Frame)
+        → ((last units : ℕ) (after : State) → after.at ≤ last → (next units k after).state.at ≤ last)
+        → (room : Bool) → has_room primitive s.at s.stop ≡ room
+        → Within m (cond room
+        (prefix_move limits id own (content_begins primitive s.at) next (from_byte held (anchor s))
+        (ask (seen_at (from_byte held (anchor s))) (program primitive s.at s.stop) nothing) k s)
+        (pass one_row held (Leave (Failed LengthOutOfRange s.at)) k s))
+    prefix-room-reaches stands limits id own next primitive k follows true has =
+        look-reaches stands one_row None primitive has (λ r. landed_prefix limits id own (content_begins primitive s.at) next r k s)
+        (λ last r before there. prefix-landed-at limits id own next k (8 * last) (follows (8 * last)) (content_begins primitive s.at) r s before there)
+    prefix-room-reaches stands limits id own next primitive k follows false has = pass-reaches one_row (Leave (Failed LengthOutOfRange s.at)) k s at
+
+    prefix-reaches : Anchored held s → (limits : Limits) (id own : ℕ) (next : ℕ → List Frame → State → Machine) (primitive : Option Primitive) (k : List Frame)
+        → ((last units : ℕ) (after : State) → after.at ≤ last → (next units k after).state.at ≤ last)
+        → Within m (read_prefix limits id held own next primitive k s)
+    prefix-reaches stands limits id own next None k follows = pass-reaches one_row (Leave (Failed LengthOutOfRange s.at)) k s at
+    prefix-reaches stands limits id own next (Some primitive) k follows =
+        prefix-room-reaches stands limits id own next primitive k follows (has_room primitive s.at s.stop) refl
+
+    begin-reaches : (to : ℕ) (k : List Frame) (over inside : Bool)
+        → Within m (cond over (pass one_row held (Leave Done) k s)
+        (cond inside (pass one_row held (Pass to) k s) (pass one_row held (Leave (Failed LengthOutOfRange s.at)) k s)))
+    begin-reaches to k true inside = pass-reaches one_row (Leave Done) k s at
+    begin-reaches to k false true = pass-reaches one_row (Pass to) k s at
+    begin-reaches to k false false = pass-reaches one_row (Leave (Failed LengthOutOfRange s.at)) k s at
+
+    element-reaches : (most id : ℕ) (parts : Parts) (k : List Frame) (several : Bool)
+        → Within m (cond several (try_nil two_rows most held id parts parts.tried.nil k (marked s)) (attempt two_rows most held id parts Nothing k s))
+    element-reaches most id parts k true = nil-reaches two_rows most id parts k (marked s) at parts.tried.nil
+    element-reaches most id parts k false = attempt-reaches two_rows most id parts Nothing k s at (nat_lt (length s.nodes) most)
+
+    -- a delimiter begins, and is sought
+    delimiter-reaches : (delimiter : Delimiter) (terminates : Bool) (k : List Frame) (stands : Bool)
+        → Within m (cond stands (pass one_row held (Seek delimiter.list terminates) k s) (pass one_row held (Leave Done) k s))
+    delimiter-reaches delimiter terminates k true = pass-reaches one_row (Seek delimiter.list terminates) k s at
+    delimiter-reaches delimiter terminates k false = pass-reaches one_row (Leave Done) k s at
+
+    group-reaches : (id : ℕ) (children : List ℕ) (k : List Frame) → Within m (enter_group held id children k s)
+    group-reaches id [] k = pass-reaches one_row (Leave Done) k s at
+    group-reaches id (child ∷ rest) k = pass-reaches one_row (Enter child) (Rest id 1 ∷ k) s at
+
+    pub enter-reaches : Anchored held s → (limits : Limits) (table : Table) (id : ℕ) (r : Option Row) (k : List Frame) → Within m (enter limits table held id r k s)
+    enter-reaches stands limits table id None k = pass-reaches one_row (Leave Done) k s at
+    enter-reaches stands limits table id (Some (Leaf prim)) k =
+        leaf-reaches stands one_row limits (Enter id) (nil_values table.primitives s.instead) (slice_get table.primitives (read_by table.primitives s.instead prim)) k
+    enter-reaches stands limits table id (Some (Elem name simple tried body)) k =
+        element-reaches limits.nodes id (record { complex = has_elements simple; tried = tried; body = body }) k tried.are_several
+    enter-reaches stands limits table id (Some (Group children)) k = group-reaches id children k
+    enter-reaches stands limits table id (Some (Skip bits)) k = begin-reaches (s.at + bits) k (nat_le (s.at + bits) s.at) (nat_le (s.at + bits) s.stop)
+    enter-reaches stands limits table id (Some (Align bits)) k = begin-reaches (aligned bits s.at) k (nat_le (aligned bits s.at) s.at) (nat_le (aligned bits s.at) s.stop)
+    enter-reaches stands limits table id (Some (Initiator delimiter)) k = delimiter-reaches delimiter false k (stands_in s.instead delimiter)
+    enter-reaches stands limits table id (Some (Terminator delimiter)) k = delimiter-reaches delimiter true k (stands_in s.instead delimiter)
+    enter-reaches stands limits table id (Some (Scope list body)) k = pass-reaches one_row (Enter body) (ScopeFrame (length s.lists) ∷ k) (opens list s) at
+    enter-reaches stands limits table id (Some (Boxed bits body)) k = both (max m 0) held (box_begins bits body k s).focus (box_begins bits body k s).state (omega arith) (let there = box-at (8 * m) bits body k s at in omega arith)
+    enter-reaches stands limits table id (Some (PrefixedLeaf prefix prim)) k =
+        let what : Behind = behind.Leaf (read_by table.primitives s.instead prim) in
+        prefix-reaches stands limits id prefix.own (behind_units table.primitives prefix.unit what) (slice_get table.primitives prefix.prim) k
+        (λ last units after before. behind-at last table prefix.unit what units k after before)
+    enter-reaches stands limits table id (Some (PrefixedBox prefix body)) k =
+        prefix-reaches stands limits id prefix.own (behind_units table.primitives prefix.unit (behind.Box body)) (slice_get table.primitives prefix.prim) k
+        (λ last units after before. behind-at last table prefix.unit (behind.Box body) units k after before)
+
+    go-reaches : (id next : ℕ) (child : Option ℕ) (k : List Frame) → Within m (go_on held id next child k s)
+    go-reaches id next None k = pass-reaches nothing (Leave Done) k s at
+    go-reaches id next (Some child) k = pass-reaches nothing (Enter child) (Rest id (next + 1) ∷ k) s at
+
+    leave-box-reaches : (outer : Outside) (k : List Frame) (over : Bool)
+        → Within m (cond over (pass nothing held (Leave Done) k (back_outside outer s)) (pass nothing held (PassRest s.at outer) k s))
+    leave-box-reaches outer k true = pass-reaches nothing (Leave Done) k (back_outside outer s) at
+    leave-box-reaches outer k false = pass-reaches nothing (PassRest s.at outer) k s at
+
+    -- going back leads to no bit behind the one that comes next
+    back-at : (marks : List Mark) → IsBefore marks s.at → (back_among marks s).at ≤ 8 * m
+    back-at [] less = at
+    back-at (mark ∷ outer) less = omega arith
+
+    retry-reaches : (most id : ℕ) (parts : Option Parts) (follows : Next) (told : End) (k : List Frame) → IsBefore s.marks s.at
+        → Within m (retry most held id parts follows told k s)
+    retry-reaches most id None follows told k less = (omega arith, omega arith)
+    retry-reaches most id (Some parts) next.Empty told k less = empty-reaches one_row most id parts k (back s) (back-at s.marks less) parts.tried.empty
+    retry-reaches most id (Some parts) next.Normal told k less = normal-reaches one_row most id parts k (back s) (back-at s.marks less)
+    retry-reaches most id (Some parts) next.Nothing told k less = (omega arith, omega arith)
+
+    refused-reaches : (marks : List Mark) (k : List Frame) → Within m (refused marks held k s)
+    refused-reaches [] k = (omega arith, omega arith)
+    refused-reaches (mark ∷ outer) k = (omega arith, omega arith)
+
+    done-reaches : (k : List Frame) (is : Bool) → Within m (cond is (refused s.marks held k s) (pass nothing held (Leave Done) k (closed s)))
+    done-reaches k true = refused-reaches s.marks k
+    done-reaches k false = (omega arith, omega arith)
+
+    pub leave-reaches : (limits : Limits) (table : Table) (frame : Frame) (told : End) (k : List Frame) → GoesBack told s → Within m (leave limits table held frame told k s)
+    leave-reaches limits table (Rest id next) Done k goes = go-reaches id next (slice_get (children_of (slice_get table.rows id)) next) k
+    leave-reaches limits table (Rest id next) (Failed cause bit) k goes = (omega arith, omega arith)
+    leave-reaches limits table (Rest id next) (Stopped cause quantity) k goes = (omega arith, omega arith)
+    leave-reaches limits table (Element outer complex) Done k goes = (omega arith, omega arith)
+    leave-reaches limits table (Element outer complex) (Failed cause bit) k goes = (omega arith, omega arith)
+    leave-reaches limits table (Element outer complex) (Stopped cause quantity) k goes = (omega arith, omega arith)
+    leave-reaches limits table (Box outer) Done k goes = leave-box-reaches outer k (nat_le s.stop s.at)
+    leave-reaches limits table (Box outer) (Failed cause bit) k goes = (omega arith, omega arith)
+    leave-reaches limits table (Box outer) (Stopped cause quantity) k goes = (omega arith, omega arith)
+    leave-reaches limits table (ScopeFrame count) Done k goes = (omega arith, omega arith)
+    leave-reaches limits table (ScopeFrame count) (Failed cause bit) k goes = (omega arith, omega arith)
+    leave-reaches limits table (ScopeFrame count) (Stopped cause quantity) k goes = (omega arith, omega arith)
+    leave-reaches limits table (Trial id next) Done k goes = done-reaches k (is_refused (parts_of (slice_get table.rows id)) next)
+    leave-reaches limits table (Trial id next) (Failed cause bit) k goes =
+        retry-reaches limits.nodes id (parts_of (slice_get table.rows id)) next (Failed cause bit) k goes
+    leave-reaches limits table (Trial id next) (Stopped cause quantity) k goes = (omega arith, omega arith)
+
+-- a search, by where the text that it finds ends
+module _ (m : ℕ) (held : Held) (s : State) (at : s.at ≤ 8 * m) where
+  text-reaches : (last bits : ℕ) (sight : Held) (t : State) → sight.base ≤ last → s.at ≤ 8 * last → t.at ≤ 8 * last → (told : End) → (is : Bool)
+      → let o : Outcome = cond is (ended Done t) (ended told s) in Reaches last sight (Leave o.end) o.state
+  text-reaches last bits sight t base before behind told true = (base, behind)
+  text-reaches last bits sight t base before behind told false = (base, before)
+
+  found-reaches : (window place last : ℕ) (focus : Focus) (cause : ParseCause) (sight : Held) (k : List Frame) (r : Reached Longest)
+      → sight.base ≤ last → s.at ≤ 8 * last → AtText (aligned 8 s.at) last r
+      → (is_cut r ≡ true → Reaches last sight focus s)
+      → Reaches last sight (found_text window focus cause place r k s).focus (found_text window focus cause place r k s).state
+  found-reaches window place last focus cause sight k (Told (Text which bits)) base before ends waits =
+      text-reaches last bits sight (record s { at = aligned 8 s.at + bits }) base before ends (Failed cause s.at) (nat_eq which place && nat_lt 0 bits)
+  found-reaches window place last focus cause sight k (Told NoText) base before ends waits = (base, before)
+  found-reaches window place last focus cause sight k TooFar base before ends waits = (base, before)
+  found-reaches window place last focus cause sight k Missing base before ends waits = waits refl
+
+  pub search-reaches : Anchored held (record s { at = aligned 8 s.at }) → (limits : Limits) (delimiters : List Delimiters) (list : ℕ) (terminates : Bool) (k : List Frame)
+      → Within m (search limits delimiters held list terminates k s)
+  search-reaches stands limits delimiters list terminates k =
+      let sight : Held = from_byte held (anchor_at s (aligned 8 s.at)) in
+      let lists : List Opened = among delimiters list terminates s in
+      let reading : Reading Longest = ask (seen_at sight) (sought_among lists s.at s.stop) nothing in
+      let last : ℕ = max m reading.tally.far in
+      let low = stands.low in
+      found-reaches limits.window (place_of terminates s) last (Seek list terminates) (cause_of terminates) sight k reading.reached (omega arith) (omega arith)
+      (sought-lies (seen_at sight) last lists s.at s.stop (omega arith) (omega arith)) (λ cut. omega arith)
+
+pub step-reaches : (m : ℕ) (held : Held) (s : State) → 0 < held.size → (limits : Limits) (table : Table) (focus : Focus) (k : List Frame) → Stands held focus s
+    → NeedsFrom held.base focus k s → Reaches m held focus s → Within m (step limits table held focus k s)
+step-reaches m held s some limits table (Enter id) k stands needs at =
+    let low : held.base ≤ s.at / 8 = needs.0 in
+    enter-reaches m held (omega arith) s at stands limits table id (slice_get table.rows id) k
+step-reaches m held s some limits table (Pass to) k stands needs at = fill-reaches m held s at some limits to held.base k needs.1.1 stands.1
+step-reaches m held s some limits table (PassRest bit outer) k stands needs at = rest-reaches m held s at some limits bit outer held.base k needs.1.1.1 stands.1.1
+step-reaches m held s some limits table (Sized prim size) k stands needs at =
+    let low : held.base ≤ s.at / 8 = needs.0 in
+    told-reaches m held (omega arith) s at stands limits prim size (nil_values table.primitives s.instead) (slice_get table.primitives prim) k
+step-reaches m held s some limits table (Seek list terminates) k stands needs at = search-reaches m held s at stands limits table.delimiters list terminates k
+step-reaches m held s some limits table (Leave told) [] stands needs reaches = both (max m 0) held (Leave told) s (let low = reaches.0 in omega arith) (let at = reaches.1 in omega arith)
+step-reaches m held s some limits table (Leave told) (frame ∷ k) stands needs reaches =
+    leave-reaches m held reaches.0 s reaches.1 limits table frame told k (holds held.base (Leave told) (frame ∷ k) s needs)
+
+-- further on
+pub further : (m n : ℕ) (held : Held) (focus : Focus) (s : State) → m ≤ n → Reaches m held focus s → Reaches n held focus s
+further m n held (Enter id) s less at = omega arith
+further m n held (Pass to) s less at = omega arith
+further m n held (PassRest bit outer) s less at = omega arith
+further m n held (Sized prim size) s less at = omega arith
+further m n held (Seek list terminates) s less at = omega arith
+further m n held (Leave end) s less reaches = let low = reaches.0 in let at = reaches.1 in (omega arith, omega arith)
+
+-- a step that waits leaves what is done next
+pub waiting-reaches : (table : Table) (last : ℕ) (held after : Held) (s : State) (limits : Limits) (focus : Focus) (k : List Frame)
+    → (step limits table held focus k s).waits ≡ true → Reaches last held focus s → Reaches last after focus s
+waiting-reaches table last held after s limits (Enter id) k waits at = at
+waiting-reaches table last held after s limits (Pass to) k waits at = at
+waiting-reaches table last held after s limits (PassRest bit outer) k waits at = at
+waiting-reaches table last held after s limits (Sized prim size) k waits at = at
+waiting-reaches table last held after s limits (Seek list terminates) k waits at = at
+waiting-reaches table last held after s limits (Leave told) [] waits reaches = absurd (cc)
+waiting-reaches table last held after s limits (Leave told) (frame ∷ k) waits reaches = absurd (leave-on table held s limits frame told k waits)

@@ -1,0 +1,358 @@
+-- A step names no lists but those of the tables.
+use Rattle.std.proofs.Common.{◌≡◌, ℕ, zero, suc, ◌+◌, ◌-◌, ◌*◌, ◌/◌, ◌<◌, min, ◌&&◌, nat_eq, nat_le, nat_lt, refl, List, [], ◌∷◌, length, map, Bool, true, false, cond, Option, Some, None, All, sym, subst, arith}
+use Rattle.std.specs.Prelude.{slice_get}
+use Rattle.std.proofs.lemmas.List.Elements.{All-append, All-take}
+use Rattle.std.proofs.lemmas.Option.{get_or_from_slice_get, slice_get_within}
+use Rattle.dfdl_bits.specs.Window.{Held, end_of, from_byte, seen_at}
+use Rattle.dfdl_bits.specs.declared.window.Seen.{Seen}
+use Rattle.dfdl_bits.specs.declared.window.Seen.TheVariants.{Byte, End as DataEnded, NotYet, Over}
+use Rattle.dfdl_report.specs.declared.cause.LimitCause.TheVariants.{Nodes, Text as TextLimit}
+use Rattle.dfdl_report.specs.declared.cause.ParseCause.{ParseCause}
+use Rattle.dfdl_report.specs.declared.cause.ParseCause.TheVariants.{LengthOutOfRange}
+use Rattle.dfdl_value.specs.declared.value.Value.{Value}
+use Rattle.dfdl_delims.specs.Registers.{Holds}
+use Rattle.dfdl_delims.specs.Longest.{Longest, Text, NoText}
+use Rattle.dfdl_terms.specs.declared.delimiters.Delimiter.{Delimiter}
+use Rattle.dfdl_terms.specs.declared.row.Primitive.{Primitive}
+use Rattle.dfdl_terms.specs.declared.row.Row.{Row}
+use Rattle.dfdl_terms.specs.declared.row.Row.TheVariants.{Leaf, Elem, Group, Skip, Align, Initiator, Terminator, Scope, Boxed, PrefixedLeaf, PrefixedBox}
+use Rattle.dfdl_terms.specs.declared.text.TextSize.{TextSize}
+use Rattle.dfdl_terms.specs.Rows.{NamesWithin, Table, named_by}
+use Rattle.dfdl_looks.specs.Asks.{Reached, Told, TooFar, Missing, ask}
+use Rattle.dfdl_looks.specs.Tallies.{Tally, nothing, one_row, saw_byte}
+use Rattle.dfdl_grammar.specs.declared.end.End.{End}
+use Rattle.dfdl_grammar.specs.declared.end.End.TheVariants.{Done, Failed, Stopped}
+use Rattle.dfdl_grammar.specs.declared.instead.Instead.{Instead}
+use Rattle.dfdl_grammar.specs.declared.instead.Instead.TheVariants.{Nothing, Nil, Empty}
+use Rattle.dfdl_grammar.specs.declared.limits.Limits.{Limits}
+use Rattle.dfdl_grammar.specs.declared.mark.Mark.{Mark}
+use Rattle.dfdl_grammar.specs.States.{State, anchor, anchor_at}
+use Rattle.dfdl_grammar.specs.Outcomes.{Outcome, ended}
+use Rattle.dfdl_grammar.specs.Marks.{back, back_among, closed, marked}
+use Rattle.dfdl_grammar.specs.Leaves.{Find, Fails, Finds, FindsOctets, FindsText, content_begins, has_room, nil_values, program, program_for, read_by}
+use Rattle.dfdl_grammar.specs.Framing.{aligned}
+use Rattle.dfdl_grammar.specs.Delimiters.{opened, sought_among, stands_in}
+use Rattle.dfdl_grammar.specs.Boxes.{boxed_at}
+use Rattle.dfdl_grammar.specs.Elements.{begun, has_elements}
+use Rattle.dfdl_grammar.specs.Prefixes.{bits_of_units, resized, size_of, units_told}
+use Rattle.dfdl_parse.specs.declared.frame.Frame.{Frame}
+use Rattle.dfdl_parse.specs.declared.frame.Frame.TheVariants.{Rest, Element, Box, Scope as ScopeFrame, Trial}
+use Rattle.dfdl_parse.specs.declared.frame.Outside.{Outside}
+use Rattle.dfdl_parse.specs.declared.frame.Next.{Next}
+use Rattle.dfdl_parse.specs.declared.frame.Next.TheVariants as next
+use Rattle.dfdl_parse.specs.declared.frame.Parts.{Parts}
+use Rattle.dfdl_parse.specs.declared.frame.Focus.{Focus}
+use Rattle.dfdl_parse.specs.declared.frame.Focus.TheVariants.{Enter, Pass, PassRest, Sized, Seek, Leave}
+use Rattle.dfdl_parse.specs.declared.frame.Behind.TheVariants as behind
+use Rattle.dfdl_parse.specs.declared.parser.Parser.{Parser}
+use Rattle.dfdl_parse.specs.Boxing.{back_outside, outside}
+use Rattle.dfdl_parse.specs.Moves.{Machine, Move, landed, pass, read_leaf, read_move}
+use Rattle.dfdl_parse.specs.Prefixed.{at_end, behind_units, can_fit, landed_prefix, prefix_move, read_prefix, read_resized, read_sized, sized_begins, units_begin}
+use Rattle.dfdl_parse.specs.Machines.{children_of, enter, enter_group, fill_move, go_on, leave, rest_move, seen_beyond, step}
+use Rattle.dfdl_parse.specs.Registered.{IsRegistered, ListsWithin, SeeksWithin}
+use Rattle.dfdl_parse.specs.Searches.{among, cause_of, found_text, place_of}
+use Rattle.dfdl_parse.specs.Shown.{HasSameLimits, limits_of, state_of}
+use Rattle.dfdl_parse.specs.Steps.{Moved}
+use Rattle.dfdl_parse.specs.Trials.{attempt, parts_of, refused, retry, trial_done, try_empty, try_nil, try_normal, two_rows}
+
+-- the numbers of the row of a table are in the tables
+named-at : (table : Table) → All (NamesWithin (named_by table)) table.rows → (id : ℕ) (r : Row) → slice_get table.rows id ≡ Some r → NamesWithin (named_by table) r
+named-at table named id r is =
+    subst (λ (x : Row). NamesWithin (named_by table) x) (get_or_from_slice_get table.rows id r r is) (named id r (slice_get_within table.rows id r is))
+
+module _ (count : ℕ) where
+  abbrev IsOne : ℕ → Type 0
+  IsOne n = n < count
+
+  -- the lists of a machine behind a step
+  abbrev Names : Move → Type 0
+  Names move = ListsWithin count move.machine
+
+  left_at : (end : End) (k : List Frame) (s : State) → All IsOne s.lists → ListsWithin count (record { focus = Leave end; stack = k; state = s })
+  left_at end k s lists = record { sought = tt; open_lists = lists }
+
+  hold-names : (room : Bool) (k : List Frame) (s t : State) (most : ℕ) → All IsOne s.lists → All IsOne t.lists
+      → (let o : Outcome = cond room (ended Done s) (ended (Stopped TextLimit most) t) in
+      ListsWithin count (record { focus = Leave o.end; stack = k; state = o.state }))
+  hold-names true k s t most new lists = left_at Done k s new
+  hold-names false k s t most new lists = left_at (Stopped TextLimit most) k t lists
+
+  landed-names : (limits : Limits) (focus : Focus) (first : ℕ) (reached : Reached Find) (k : List Frame) (s : State) → SeeksWithin count focus → All IsOne s.lists
+      → ListsWithin count (landed limits focus first reached k s)
+  landed-names limits focus first (Told (Fails cause)) k s seeks lists = left_at _ k s lists
+  landed-names limits focus first (Told (Finds content end)) k s seeks lists = left_at Done k _ lists
+  landed-names limits focus first (Told (FindsOctets bytes end)) k s seeks lists =
+      hold-names (nat_le (length s.text + length bytes) limits.text) k _ s limits.text lists lists
+  landed-names limits focus first (Told (FindsText bytes end)) k s seeks lists =
+      hold-names (nat_le (length s.text + length bytes) limits.text) k _ s limits.text lists lists
+  landed-names limits focus first TooFar k s seeks lists = left_at _ k s lists
+  landed-names limits focus first Missing k s seeks lists = record { sought = seeks; open_lists = lists }
+
+  leaf-names : (cost : Tally) (limits : Limits) (focus : Focus) (held : Held) (nil : Option (List Value)) (primitive : Option Primitive) (k : List Frame) (s : State)
+      → SeeksWithin count focus → All IsOne s.lists → Names (read_leaf cost limits focus held nil primitive k s)
+  leaf-names cost limits focus held nil None k s seeks lists = left_at Done k s lists
+  leaf-names cost limits focus held nil (Some primitive) k s seeks lists = by (has_room primitive s.at s.stop)
+    where
+      by : (room : Bool)
+          → Names (cond room
+          (read_move cost limits focus (content_begins primitive s.at) (from_byte held (anchor s))
+          (ask (seen_at (from_byte held (anchor s))) (program_for nil primitive s.at s.stop) nothing) k s)
+          (pass cost held (Leave (Failed LengthOutOfRange s.at)) k s))
+      by true =
+          landed-names limits focus (content_begins primitive s.at)
+          (ask (seen_at (from_byte held (anchor s))) (program_for nil primitive s.at s.stop) nothing).reached k s seeks lists
+      by false = left_at _ k s lists
+
+  resized-names : (limits : Limits) (prim : ℕ) (size : TextSize) (held : Held) (nil : Option (List Value)) (primitive : Option Primitive) (k : List Frame) (s : State)
+      → All IsOne s.lists → Names (read_resized limits (Sized prim size) held nil primitive k s)
+  resized-names limits prim size held nil None k s lists = left_at _ k s lists
+  resized-names limits prim size held nil (Some primitive) k s lists = leaf-names nothing limits (Sized prim size) held nil (Some primitive) k s tt lists
+
+  sized-names : (limits : Limits) (prim : ℕ) (size : TextSize) (held : Held) (nil : Option (List Value)) (primitive : Option Primitive) (k : List Frame) (s : State)
+      → All IsOne s.lists → Names (read_sized limits held prim size nil primitive k s)
+  sized-names limits prim size held nil None k s lists = left_at _ k s lists
+  sized-names limits prim size held nil (Some primitive) k s lists = resized-names limits prim size held nil (resized size primitive) k s lists
+
+  -- what stands behind a prefix
+  begun-names : (prim : ℕ) (size : TextSize) (primitive : Option Primitive) (k : List Frame) (s : State) → All IsOne s.lists
+      → ListsWithin count (sized_begins primitive prim size k s)
+  begun-names prim size None k s lists = left_at Done k s lists
+  begun-names prim size (Some primitive) k s lists = by (can_fit size s.at s.stop)
+    where
+      by : (fits : Bool) → ListsWithin count (cond fits (record { focus = Sized prim size; stack = k; state = s }) (at_end (Failed LengthOutOfRange s.at) k s))
+      by true = record { sought = tt; open_lists = lists }
+      by false = left_at _ k s lists
+
+  box-names : (bits body : ℕ) (k : List Frame) (s : State) → All IsOne s.lists → (inside : Bool)
+      → ListsWithin count (cond inside
+      (record { focus = Enter body; stack = Box (outside s) ∷ k; state = boxed_at (s.at + bits) s })
+      (at_end (Failed LengthOutOfRange s.at) k s))
+  box-names bits body k s lists true = record { sought = tt; open_lists = lists }
+  box-names bits body k s lists false = left_at _ k s lists
+
+  module _ (limits : Limits) (id own : ℕ) (next : ℕ → List Frame → State → Machine) (k : List Frame)
+      (follows : (units : ℕ) (s : State) → All IsOne s.lists → ListsWithin count (next units k s)) where
+    units-names : (end : ℕ) (units : Option ℕ) (s : State) → All IsOne s.lists → ListsWithin count (units_begin end next units k s)
+    units-names end None s lists = left_at _ k s lists
+    units-names end (Some units) s lists = follows units (record s { at = end }) lists
+
+    prefix-landed-names : (first : ℕ) (reached : Reached Find) (s : State) → All IsOne s.lists
+        → ListsWithin count (landed_prefix limits id own first next reached k s)
+    prefix-landed-names first (Told (Fails cause)) s lists = left_at _ k s lists
+    prefix-landed-names first (Told (Finds content end)) s lists = units-names end (units_told own content) s lists
+    prefix-landed-names first (Told (FindsOctets bytes end)) s lists = left_at _ k s lists
+    prefix-landed-names first (Told (FindsText bytes end)) s lists = left_at _ k s lists
+    prefix-landed-names first TooFar s lists = left_at _ k s lists
+    prefix-landed-names first Missing s lists = record { sought = tt; open_lists = lists }
+
+    prefix-names : (held : Held) (primitive : Option Primitive) (s : State) → All IsOne s.lists → Names (read_prefix limits id held own next primitive k s)
+    prefix-names held None s lists = left_at _ k s lists
+    prefix-names held (Some primitive) s lists = by (has_room primitive s.at s.stop)
+      where
+        by : (room : Bool)
+            → Names (cond room
+            (prefix_move limits id own (content_begins primitive s.at) next (from_byte held (anchor s))
+            (ask (seen_at (from_byte held (anchor s))) (program primitive s.at s.stop) nothing) k s)
+            (pass one_row held (Leave (Failed LengthOutOfRange s.at)) k s))
+        by true =
+            prefix-landed-names (content_begins primitive s.at) (ask (seen_at (from_byte held (anchor s))) (program primitive s.at s.stop) nothing).reached s lists
+        by false = left_at _ k s lists
+
+  -- one representation of an element
+  attempt-names : (cost : Tally) (most : ℕ) (held : Held) (id : ℕ) (parts : Parts) (instead : Instead) (k : List Frame) (s : State) → All IsOne s.lists → (room : Bool)
+      → Names (cond room
+      (pass cost held (Enter parts.body) (Element s.inside parts.complex ∷ k) (begun id instead s))
+      (pass cost held (Leave (Stopped Nodes most)) k s))
+  attempt-names cost most held id parts instead k s lists true = record { sought = tt; open_lists = lists }
+  attempt-names cost most held id parts instead k s lists false = left_at _ k s lists
+
+  module _ (cost : Tally) (most : ℕ) (held : Held) (id : ℕ) (parts : Parts) (k : List Frame) (s : State) (lists : All IsOne s.lists) where
+    normal-names : Names (try_normal cost most held id parts k s)
+    normal-names = attempt-names cost most held id parts Nothing (Trial id next.Nothing ∷ k) s lists (nat_lt (length s.nodes) most)
+
+    empty-names : (empty : Option ℕ) → Names (try_empty cost most held id parts empty k s)
+    empty-names None = normal-names
+    empty-names (Some prim) = attempt-names cost most held id parts (Empty prim) (Trial id next.Normal ∷ k) s lists (nat_lt (length s.nodes) most)
+
+    nil-names : (nil : Option ℕ) → Names (try_nil cost most held id parts nil k s)
+    nil-names None = empty-names parts.tried.empty
+    nil-names (Some prim) = attempt-names cost most held id parts (Nil prim) (Trial id next.Empty ∷ k) s lists (nat_lt (length s.nodes) most)
+
+  element-names : (most : ℕ) (held : Held) (id : ℕ) (parts : Parts) (k : List Frame) (s : State) → All IsOne s.lists → (several : Bool)
+      → Names (cond several (try_nil two_rows most held id parts parts.tried.nil k (marked s)) (attempt two_rows most held id parts Nothing k s))
+  element-names most held id parts k s lists true = nil-names two_rows most held id parts k (marked s) lists parts.tried.nil
+  element-names most held id parts k s lists false = attempt-names two_rows most held id parts Nothing k s lists (nat_lt (length s.nodes) most)
+
+  -- going back to a mark leaves the lists
+  back-lists : (marks : List Mark) (s : State) → All IsOne s.lists → All IsOne (back_among marks s).lists
+  back-lists [] s lists = lists
+  back-lists (mark ∷ outer) s lists = lists
+
+  retry-names : (most : ℕ) (held : Held) (id : ℕ) (parts : Option Parts) (follows : Next) (end : End) (k : List Frame) (s : State) → All IsOne s.lists
+      → Names (retry most held id parts follows end k s)
+  retry-names most held id None follows end k s lists = left_at end k (closed s) lists
+  retry-names most held id (Some parts) next.Empty end k s lists =
+      empty-names one_row most held id parts k (back s) (back-lists s.marks s lists) parts.tried.empty
+  retry-names most held id (Some parts) next.Normal end k s lists = normal-names one_row most held id parts k (back s) (back-lists s.marks s lists)
+  retry-names most held id (Some parts) next.Nothing end k s lists = left_at end k (closed s) lists
+
+  refused-names : (held : Held) (marks : List Mark) (k : List Frame) (s : State) → All IsOne s.lists → Names (refused marks held k s)
+  refused-names held [] k s lists = left_at Done k s lists
+  refused-names held (mark ∷ outer) k s lists = left_at _ k _ lists
+
+  found-names : (held : Held) (refuses : Bool) (k : List Frame) (s : State) → All IsOne s.lists
+      → Names (cond refuses (refused s.marks held k s) (pass nothing held (Leave Done) k (closed s)))
+  found-names held true k s lists = refused-names held s.marks k s lists
+  found-names held false k s lists = left_at Done k (closed s) lists
+
+  done-names : (held : Held) (parts : Option Parts) (follows : Next) (k : List Frame) (s : State) → All IsOne s.lists → Names (trial_done held parts follows k s)
+  done-names held None follows k s lists = left_at Done k (closed s) lists
+  done-names held (Some parts) next.Empty k s lists = left_at Done k (closed s) lists
+  done-names held (Some parts) next.Normal k s lists = found-names held parts.tried.refuses_empty k s lists
+  done-names held (Some parts) next.Nothing k s lists = left_at Done k (closed s) lists
+
+  -- fill, and the rest of a box
+  begin-names : (held : Held) (to : ℕ) (k : List Frame) (s : State) → All IsOne s.lists → (over inside : Bool)
+      → Names (cond over (pass one_row held (Leave Done) k s)
+      (cond inside (pass one_row held (Pass to) k s) (pass one_row held (Leave (Failed LengthOutOfRange s.at)) k s)))
+  begin-names held to k s lists true inside = left_at Done k s lists
+  begin-names held to k s lists false true = record { sought = tt; open_lists = lists }
+  begin-names held to k s lists false false = left_at _ k s lists
+
+  filled-names : (window : ℕ) (sight : Held) (to : ℕ) (v : Seen) (k : List Frame) (s : State) → All IsOne s.lists → Names (fill_move window sight to v k s)
+  filled-names window sight to (Byte b) k s lists = left_at Done k _ lists
+  filled-names window sight to DataEnded k s lists = left_at _ k s lists
+  filled-names window sight to NotYet k s lists = record { sought = tt; open_lists = lists }
+  filled-names window sight to Over k s lists = left_at _ k s lists
+
+  leave-box-names : (held : Held) (outer : Outside) (k : List Frame) (s : State) → All IsOne s.lists → (over : Bool)
+      → Names (cond over (pass nothing held (Leave Done) k (back_outside outer s)) (pass nothing held (PassRest s.at outer) k s))
+  leave-box-names held outer k s lists true = left_at Done k _ lists
+  leave-box-names held outer k s lists false = record { sought = tt; open_lists = lists }
+
+  past-names : (sight : Held) (byte : ℕ) (outer : Outside) (k : List Frame) (s : State) → All IsOne s.lists → (last : Bool)
+      → Names (cond last (pass (saw_byte byte nothing) sight (Leave Done) k (back_outside outer (record s { at = s.stop })))
+      (pass (saw_byte byte nothing) sight (PassRest (8 * (byte + 1)) outer) k s))
+  past-names sight byte outer k s lists true = left_at Done k _ lists
+  past-names sight byte outer k s lists false = record { sought = tt; open_lists = lists }
+
+  rested-names : (window : ℕ) (sight : Held) (bit : ℕ) (outer : Outside) (v : Seen) (k : List Frame) (s : State) → All IsOne s.lists
+      → Names (rest_move window sight bit outer v k s)
+  rested-names window sight bit outer (Byte b) k s lists = past-names sight (bit / 8) outer k s lists (nat_le ((s.stop - 1) / 8) (bit / 8))
+  rested-names window sight bit outer DataEnded k s lists = left_at _ k _ lists
+  rested-names window sight bit outer NotYet k s lists = record { sought = tt; open_lists = lists }
+  rested-names window sight bit outer Over k s lists = left_at _ k s lists
+
+  -- a delimiter
+  delimiter-names : (held : Held) (delimiter : Delimiter) (terminates : Bool) (k : List Frame) (s : State) → delimiter.list < count → All IsOne s.lists → (does_stand : Bool)
+      → Names (cond does_stand (pass one_row held (Seek delimiter.list terminates) k s) (pass one_row held (Leave Done) k s))
+  delimiter-names held delimiter terminates k s less lists true = record { sought = less; open_lists = lists }
+  delimiter-names held delimiter terminates k s less lists false = left_at Done k s lists
+
+  one-text-names : (cause : ParseCause) (bits : ℕ) (k : List Frame) (s : State) → All IsOne s.lists → (is : Bool)
+      → (let o : Outcome = cond is (ended Done (record s { at = aligned 8 s.at + bits })) (ended (Failed cause s.at) s) in
+      ListsWithin count (record { focus = Leave o.end; stack = k; state = o.state }))
+  one-text-names cause bits k s lists true = left_at Done k _ lists
+  one-text-names cause bits k s lists false = left_at _ k s lists
+
+  text-names : (window list : ℕ) (terminates : Bool) (reached : Reached Longest) (k : List Frame) (s : State) → list < count → All IsOne s.lists
+      → ListsWithin count (found_text window (Seek list terminates) (cause_of terminates) (place_of terminates s) reached k s)
+  text-names window list terminates (Told (Text which bits)) k s less lists =
+      one-text-names (cause_of terminates) bits k s lists (nat_eq which (place_of terminates s) && nat_lt 0 bits)
+  text-names window list terminates (Told NoText) k s less lists = left_at _ k s lists
+  text-names window list terminates TooFar k s less lists = left_at _ k s lists
+  text-names window list terminates Missing k s less lists = record { sought = less; open_lists = lists }
+
+  group-names : (held : Held) (id : ℕ) (children : List ℕ) (k : List Frame) (s : State) → All IsOne s.lists → Names (enter_group held id children k s)
+  group-names held id [] k s lists = left_at Done k s lists
+  group-names held id (child ∷ rest) k s lists = record { sought = tt; open_lists = lists }
+
+  go-names : (held : Held) (id next : ℕ) (child : Option ℕ) (k : List Frame) (s : State) → All IsOne s.lists → Names (go_on held id next child k s)
+  go-names held id next None k s lists = left_at Done k s lists
+  go-names held id next (Some child) k s lists = record { sought = tt; open_lists = lists }
+
+  leave-names : (limits : Limits) (table : Table) (held : Held) (frame : Frame) (end : End) (k : List Frame) (s : State) → All IsOne s.lists
+      → Names (leave limits table held frame end k s)
+  leave-names limits table held (Rest id next) Done k s lists = go-names held id next (slice_get (children_of (slice_get table.rows id)) next) k s lists
+  leave-names limits table held (Rest id next) (Failed cause bit) k s lists = left_at _ k s lists
+  leave-names limits table held (Rest id next) (Stopped cause quantity) k s lists = left_at _ k s lists
+  leave-names limits table held (Element outer complex) Done k s lists = left_at Done k _ lists
+  leave-names limits table held (Element outer complex) (Failed cause bit) k s lists = left_at _ k s lists
+  leave-names limits table held (Element outer complex) (Stopped cause quantity) k s lists = left_at _ k s lists
+  leave-names limits table held (Box outer) Done k s lists = leave-box-names held outer k s lists (nat_le s.stop s.at)
+  leave-names limits table held (Box outer) (Failed cause bit) k s lists = left_at _ k _ lists
+  leave-names limits table held (Box outer) (Stopped cause quantity) k s lists = left_at _ k s lists
+  leave-names limits table held (ScopeFrame most) Done k s lists = left_at Done k _ (All-take IsOne most s.lists lists)
+  leave-names limits table held (ScopeFrame most) (Failed cause bit) k s lists = left_at _ k _ (All-take IsOne most s.lists lists)
+  leave-names limits table held (ScopeFrame most) (Stopped cause quantity) k s lists = left_at _ k s lists
+  leave-names limits table held (Trial id next) Done k s lists = done-names held (parts_of (slice_get table.rows id)) next k s lists
+  leave-names limits table held (Trial id next) (Failed cause bit) k s lists =
+      retry-names limits.nodes held id (parts_of (slice_get table.rows id)) next (Failed cause bit) k s lists
+  leave-names limits table held (Trial id next) (Stopped cause quantity) k s lists = left_at _ k s lists
+
+module _ (limits : Limits) (table : Table) (held : Held) (named : All (NamesWithin (named_by table)) table.rows) where
+  abbrev count : ℕ
+  count = length table.delimiters
+
+  enter-names : (id : ℕ) (r : Option Row) (k : List Frame) (s : State) → slice_get table.rows id ≡ r → All (IsOne count) s.lists
+      → Names count (enter limits table held id r k s)
+  enter-names id None k s is lists = left_at count Done k s lists
+  enter-names id (Some (Leaf prim)) k s is lists =
+      leaf-names count one_row limits (Enter id) held (nil_values table.primitives s.instead)
+      (slice_get table.primitives (read_by table.primitives s.instead prim)) k s tt lists
+  enter-names id (Some (Elem name simple tried body)) k s is lists =
+      element-names count limits.nodes held id (record { complex = has_elements simple; tried = tried; body = body }) k s lists tried.are_several
+  enter-names id (Some (Group children)) k s is lists = group-names count held id children k s lists
+  enter-names id (Some (Skip bits)) k s is lists = begin-names count held (s.at + bits) k s lists (nat_le (s.at + bits) s.at) (nat_le (s.at + bits) s.stop)
+  enter-names id (Some (Align bits)) k s is lists =
+      begin-names count held (aligned bits s.at) k s lists (nat_le (aligned bits s.at) s.at) (nat_le (aligned bits s.at) s.stop)
+  enter-names id (Some (Initiator delimiter)) k s is lists =
+      delimiter-names count held delimiter false k s (named-at table named id (Initiator delimiter) is) lists (stands_in s.instead delimiter)
+  enter-names id (Some (Terminator delimiter)) k s is lists =
+      delimiter-names count held delimiter true k s (named-at table named id (Terminator delimiter) is) lists (stands_in s.instead delimiter)
+  enter-names id (Some (Scope list body)) k s is lists = record {
+    sought = tt;
+    open_lists = All-append (IsOne count) s.lists (list ∷ []) lists (one (named-at table named id (Scope list body) is));
+  }
+    where
+      one : list < count → All (IsOne count) (list ∷ [])
+      one less zero d few = less
+      one less (suc i) d few = absurd (omega arith)
+  enter-names id (Some (Boxed bits body)) k s is lists = box-names count bits body k s lists (nat_le (s.at + bits) s.stop)
+  enter-names id (Some (PrefixedLeaf prefix prim)) k s is lists =
+      let by : ℕ = read_by table.primitives s.instead prim in
+      prefix-names count limits id prefix.own (behind_units table.primitives prefix.unit (behind.Leaf by)) k
+      (λ units after still. begun-names count by (size_of prefix.unit units) (slice_get table.primitives by) k after still)
+      held (slice_get table.primitives prefix.prim) s lists
+  enter-names id (Some (PrefixedBox prefix body)) k s is lists =
+      prefix-names count limits id prefix.own (behind_units table.primitives prefix.unit (behind.Box body)) k
+      (λ units after still. box-names count (bits_of_units prefix.unit units) body k after still (nat_le (after.at + bits_of_units prefix.unit units) after.stop))
+      held (slice_get table.primitives prefix.prim) s lists
+
+  pub step-names : (focus : Focus) (k : List Frame) (s : State) → ListsWithin count (record { focus = focus; stack = k; state = s })
+      → ListsWithin count (step limits table held focus k s).machine
+  step-names (Enter id) k s within = enter-names id (slice_get table.rows id) k s refl within.open_lists
+  step-names (Pass to) k s within =
+      let low : ℕ = anchor_at s (to - 1) in
+      filled-names count limits.window (from_byte held (min low (end_of held))) to (seen_beyond held low ((to - 1) / 8)) k s within.open_lists
+  step-names (PassRest bit outer) k s within =
+      let low : ℕ = anchor_at s (8 * (bit / 8)) in
+      rested-names count limits.window (from_byte held (min low (end_of held))) bit outer (seen_beyond held low (bit / 8)) k s within.open_lists
+  step-names (Sized prim size) k s within =
+      sized-names count limits prim size held (nil_values table.primitives s.instead) (slice_get table.primitives prim) k s within.open_lists
+  step-names (Seek list terminates) k s within =
+      text-names count limits.window list terminates
+      (ask (seen_at (from_byte held (anchor_at s (aligned 8 s.at)))) (sought_among (among table.delimiters list terminates s) s.at s.stop) nothing).reached k s
+      within.sought within.open_lists
+  step-names (Leave end) [] s within = within
+  step-names (Leave end) (frame ∷ k) s within = leave-names count limits table held frame end k s within.open_lists
+
+-- a step leaves the register as it was, and names none of its lists but those of the tables
+pub still_registered : (table : Table) → All (NamesWithin (named_by table)) table.rows → (old new : Parser) (before after : Held) (waited : Bool) (far looks : ℕ)
+    → HasSameLimits old new → Moved (step (limits_of old before) table before old.focus old.stack (state_of old)) waited far new after looks
+    → IsRegistered table old → IsRegistered table new
+still_registered table named old new before after waited far looks most moved is = record {
+  holds = subst (λ r. Holds r (map opened table.delimiters)) (sym most.1.1) is.holds;
+  within = subst (λ (m : Machine). ListsWithin (length table.delimiters) m) (sym moved.machine)
+      (step-names (limits_of old before) table before named old.focus old.stack (state_of old) is.within);
+}

@@ -1,0 +1,151 @@
+-- The steps of delimiters and scopes do a part of what is ahead.
+use Rattle.std.proofs.Common.{◌≡◌, ℕ, zero, suc, ◌+◌, ◌<◌, max, ◌&&◌, nat_eq, nat_lt, refl, List, ◌∷◌, length, Bool, true, false, cond, ap, sym, subst, ◌∙◌, arith}
+use Rattle.dfdl_bits.specs.Window.{Held, end_of, from_byte, room_of, seen_at}
+use Rattle.dfdl_report.specs.declared.cause.ParseCause.{ParseCause}
+use Rattle.dfdl_terms.specs.declared.delimiters.Delimiter.{Delimiter}
+use Rattle.dfdl_terms.specs.declared.delimiters.Delimiters.{Delimiters}
+use Rattle.dfdl_terms.specs.Rows.{Table}
+use Rattle.dfdl_looks.specs.Looks.{Agrees, seen_in}
+use Rattle.dfdl_looks.specs.Asks.{Ask, AsksFrom, Reached, Told, TooFar, Missing, Reading, ask}
+use Rattle.dfdl_looks.specs.Tallies.{Tally, first_of, nothing, one_row}
+use Rattle.dfdl_looks.proofs.Resumed.{asked}
+use Rattle.dfdl_looks.proofs.Waiting.{missed, waits_while, counted}
+use Rattle.dfdl_delims.specs.Longest.{Longest, Text, NoText}
+use Rattle.dfdl_grammar.specs.declared.end.End.TheVariants.{Done, Failed}
+use Rattle.dfdl_grammar.specs.States.{Input, State, anchor_at}
+use Rattle.dfdl_grammar.specs.Outcomes.{Outcome, ended, spend}
+use Rattle.dfdl_grammar.specs.Delimiters.{opens, passed_text, scoped, sought_among, unscoped}
+use Rattle.dfdl_grammar.specs.Framing.{aligned}
+use Rattle.dfdl_grammar.specs.Rows.{below}
+use Rattle.dfdl_grammar.proofs.Towers.{below-meaning}
+use Rattle.dfdl_parse.specs.declared.frame.Frame.{Frame}
+use Rattle.dfdl_parse.specs.declared.frame.Frame.TheVariants.{Scope as ScopeFrame}
+use Rattle.dfdl_parse.specs.declared.frame.Focus.{Focus}
+use Rattle.dfdl_parse.specs.declared.frame.Focus.TheVariants.{Enter, Seek, Leave}
+use Rattle.dfdl_parse.specs.Moves.{pass}
+use Rattle.dfdl_parse.specs.Searches.{among, cause_of, found_text, is_cut, place_of, search, sought}
+use Rattle.dfdl_parse.specs.Ahead.{ahead, finish}
+use Rattle.dfdl_parse.proofs.Windows.{agrees_from, end_from}
+use Rattle.dfdl_parse.proofs.Finishes.{Anchored, Does, finish-spend, from_here}
+use Rattle.dfdl_parse.proofs.Seeks.{sought-from}
+
+-- what a search makes of the state costs nothing more
+one-nothing : (cause : ParseCause) (bits : ℕ) (s : State) (is : Bool)
+    → (cond is (ended Done (record s { at = aligned 8 s.at + bits })) (ended (Failed cause s.at) s)).tally ≡ nothing
+one-nothing cause bits s true = refl
+one-nothing cause bits s false = refl
+
+text-nothing : (cause : ParseCause) (place window : ℕ) (reached : Reached Longest) (s : State) → (passed_text cause place window reached s).tally ≡ nothing
+text-nothing cause place window (Told (Text which bits)) s = one-nothing cause bits s (nat_eq which place && nat_lt 0 bits)
+text-nothing cause place window (Told NoText) s = refl
+text-nothing cause place window TooFar s = refl
+text-nothing cause place window Missing s = refl
+
+came : (reached : Reached Longest) → is_cut reached ≡ false → reached ≡ Missing → ⊥
+came (Told found) is cut = absurd (cc)
+came TooFar is cut = absurd (cc)
+came Missing is cut = absurd (cc)
+
+pub is_lost : (reached : Reached Longest) → is_cut reached ≡ true → reached ≡ Missing
+is_lost (Told found) is = absurd (cc)
+is_lost TooFar is = absurd (cc)
+is_lost Missing is = refl
+
+-- the first of two costs that missed a byte
+first_told : (n t : ℕ) → 0 < n → first_of n t ≡ n
+first_told zero t some = absurd (omega arith)
+first_told (suc n) t some = refl
+
+module _ (input : Input) (table : Table) where
+  pub delimiter-ahead : (held : Held) (delimiter : Delimiter) (terminates : Bool) (k : List Frame) (s : State) (stands : Bool)
+      → Does input table (finish input table k (spend one_row (cond stands (sought input table.delimiters delimiter.list terminates s) (ended Done s))))
+      (cond stands (pass one_row held (Seek delimiter.list terminates) k s) (pass one_row held (Leave Done) k s))
+  delimiter-ahead held delimiter terminates k s true = finish-spend input table k one_row (sought input table.delimiters delimiter.list terminates s)
+  delimiter-ahead held delimiter terminates k s false = finish-spend input table k one_row (ended Done s)
+
+  pub scope-ahead : (held : Held) (id list body : ℕ) (k : List Frame) (s : State) → body < id
+      → Does input table (finish input table k (spend one_row (scoped list (below input table id body) s)))
+      (pass one_row held (Enter body) (ScopeFrame (length s.lists) ∷ k) (opens list s))
+  unfolding finish
+  scope-ahead held id list body k s less =
+      finish-spend input table k one_row (scoped list (below input table id body) s)
+      ∙ ap (λ (o : Outcome). spend one_row (finish input table k (unscoped o.end (length s.lists) o))) (below-meaning input table id body (opens list s) less)
+
+  text-ahead : (focus : Focus) (cause : ParseCause) (place : ℕ) (reached : Reached Longest) (k : List Frame) (s : State) → is_cut reached ≡ false
+      → finish input table k (passed_text cause place input.limits.window reached s)
+      ≡ ahead input table (found_text input.limits.window focus cause place reached k s)
+  text-ahead focus cause place (Told found) k s is =
+      let o : Outcome = passed_text cause place input.limits.window (Told found) s in
+      ap (λ (t : Tally). finish input table k (record { end = o.end; state = o.state; tally = t })) (text-nothing cause place input.limits.window (Told found) s)
+  text-ahead focus cause place TooFar k s is = refl
+  text-ahead focus cause place Missing k s is = absurd (cc)
+
+  -- a search over whole data
+  abbrev pub whole_of : ℕ → Bool → State → Reading Longest
+  whole_of list terminates s =
+      ask (seen_in input.bytes input.limits.window (anchor_at s (aligned 8 s.at)))
+      (sought_among (among table.delimiters list terminates s) s.at s.stop) nothing
+
+  module _ (held : Held) (list : ℕ) (terminates : Bool) (k : List Frame) (s : State) (agrees : Agrees held input.bytes) (size : held.size ≡ input.limits.window)
+      (stands : Anchored held (record s { at = aligned 8 s.at })) where
+    abbrev low : ℕ
+    low = anchor_at s (aligned 8 s.at)
+
+    abbrev asks : Ask Longest
+    asks = sought_among (among table.delimiters list terminates s) s.at s.stop
+
+    abbrev here : Reading Longest
+    here = ask (seen_at (from_byte held low)) asks nothing
+
+    from : AsksFrom low asks
+    from = sought-from (among table.delimiters list terminates s) low s.at s.stop stands.low
+
+    seek-reads : (here.reached ≡ Missing → ⊥) → here ≡ whole_of list terminates s
+    seek-reads found =
+        asked (from_byte held low) input.bytes (agrees_from held input.bytes low stands.base stands.end agrees) asks from nothing found
+        ∙ ap (λ (n : ℕ). ask (seen_in input.bytes n low) asks nothing) size
+
+    pub seek-ahead : (search input.limits table.delimiters held list terminates k s).waits ≡ false
+        → Does input table (from_here input table (Seek list terminates) k s) (search input.limits table.delimiters held list terminates k s)
+    seek-ahead going =
+        let cause : ParseCause = cause_of terminates in
+        let place : ℕ = place_of terminates s in
+        ap (λ (r : Reading Longest). finish input table k (spend r.tally (passed_text cause place input.limits.window r.reached s)))
+        (sym (seek-reads (came here.reached going)))
+        ∙ finish-spend input table k here.tally (passed_text cause place input.limits.window here.reached s)
+        ∙ ap (spend here.tally) (text-ahead (Seek list terminates) cause place here.reached k s going)
+
+    -- a search that was in vain is one for the end of the data that have come
+    pub seek-lost : length input.bytes ≡ end_of held → held.ended ≡ false → here.reached ≡ Missing
+        → ((from_here input table (Seek list terminates) k s).tally.tail ≡ here.tally.looks)
+        × (end_of held < (from_here input table (Seek list terminates) k s).tally.far)
+    seek-lost all on missing =
+        let sight : Held = from_byte held low in
+        let whole : Reading Longest = whole_of list terminates s in
+        let ends : end_of sight ≡ end_of held = end_from held low stands.base stands.end in
+        let told = missed sight input.bytes (agrees_from held input.bytes low stands.base stands.end agrees) (all ∙ sym ends) on asks from nothing refl missing in
+        let same : ask (seen_in input.bytes held.size low) asks nothing ≡ whole =
+        ap (λ (n : ℕ). ask (seen_in input.bytes n low) asks nothing) size in
+        let tail : whole.tally.tail ≡ here.tally.looks = ap (λ (r : Reading Longest). r.tally.tail) (sym same) ∙ told.0 in
+        let far : length input.bytes < whole.tally.far = subst (λ (r : Reading Longest). length input.bytes < r.tally.far) same told.1 in
+        let some : 0 < here.tally.looks = counted (seen_at sight) asks nothing missing in
+        let o : Outcome = passed_text (cause_of terminates) (place_of terminates s) input.limits.window whole.reached s in
+        let rest : Outcome = finish input table k o in
+        let is : from_here input table (Seek list terminates) k s ≡ spend whole.tally rest = finish-spend input table k whole.tally o in
+        let is_tail : (from_here input table (Seek list terminates) k s).tally.tail ≡ first_of whole.tally.tail rest.tally.tail =
+        ap (λ (o : Outcome). o.tally.tail) is in
+        let is_far : (from_here input table (Seek list terminates) k s).tally.far ≡ max whole.tally.far rest.tally.far =
+        ap (λ (o : Outcome). o.tally.far) is in
+        let told_some : 0 < whole.tally.tail = omega arith in
+        (is_tail ∙ first_told whole.tally.tail rest.tally.tail told_some ∙ tail, omega arith)
+
+-- where a search waits, the end wasn't told, and there is room for a byte
+pub seek-room : (delimiters : List Delimiters) (held : Held) (list : ℕ) (terminates : Bool) (s : State)
+    → let sight : Held = from_byte held (anchor_at s (aligned 8 s.at)) in
+    (ask (seen_at sight) (sought_among (among delimiters list terminates s) s.at s.stop) nothing).reached ≡ Missing
+    → (held.ended ≡ false) × (0 < room_of sight)
+seek-room delimiters held list terminates s missing =
+    let sight : Held = from_byte held (anchor_at s (aligned 8 s.at)) in
+    let stands = waits_while sight (sought_among (among delimiters list terminates s) s.at s.stop) nothing missing in
+    let short : length sight.bytes < sight.size = stands.1 in
+    (stands.0, omega arith)

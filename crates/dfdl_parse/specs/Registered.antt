@@ -1,0 +1,29 @@
+-- Mirror for the prover: the lists of the tables that the machine's register holds, and those that the machine names.
+use Rattle.std.specs.Prelude.{ℕ, ◌<◌, length, map, All}
+use Rattle.dfdl_delims.specs.Registers.{Holds}
+use Rattle.dfdl_terms.specs.Rows.{Table}
+use Rattle.dfdl_grammar.specs.Delimiters.{opened}
+use Rattle.dfdl_parse.specs.declared.frame.Focus.{Focus}
+use Rattle.dfdl_parse.specs.declared.frame.Focus.TheVariants.{Enter, Pass, PassRest, Sized, Seek, Leave}
+use Rattle.dfdl_parse.specs.declared.parser.Parser.{Parser}
+use Rattle.dfdl_parse.specs.Moves.{Machine}
+use Rattle.dfdl_parse.specs.Shown.{shown}
+
+-- what is done next seeks a text of one of so many lists, if of any
+abbrev pub SeeksWithin : ℕ → Focus → Type 0
+SeeksWithin count (Enter id) = Unit {0}
+SeeksWithin count (Pass to) = Unit {0}
+SeeksWithin count (PassRest bit outer) = Unit {0}
+SeeksWithin count (Sized prim size) = Unit {0}
+SeeksWithin count (Seek list terminates) = list < count
+SeeksWithin count (Leave end) = Unit {0}
+
+-- the lists that are open, and the one that is sought, are some of so many
+pub record ListsWithin (count : ℕ) (m : Machine) : Type 0 where
+  pub sought : SeeksWithin count m.focus
+  pub open_lists : All (λ n. n < count) m.state.lists
+
+-- the register holds the lists of the tables, list n of them as list n, and the machine names no others
+pub record IsRegistered (table : Table) (p : Parser) : Type 0 where
+  pub holds : Holds p.markup (map opened table.delimiters)
+  pub within : ListsWithin (length table.delimiters) (shown p)

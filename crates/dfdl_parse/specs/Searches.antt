@@ -1,0 +1,91 @@
+-- The step of a search for a delimiter.
+use Rattle.std.specs.Prelude.{ℕ, ◌+◌, ◌*◌, ◌≤◌, min, Bool, true, false, List, [], ◌∷◌, ◌++◌, length, if◌then◌else◌}
+use Rattle.dfdl_bits.specs.Window.{Held, from_byte, seen_at}
+use Rattle.dfdl_delims.specs.declared.found.Found.{Found}
+use Rattle.dfdl_delims.specs.declared.found.Found.TheVariants.{Match, None as NoMatch, NotYet, Over}
+use Rattle.dfdl_delims.specs.Lists.{Opened}
+use Rattle.dfdl_delims.specs.Longest.{Longest}
+use Rattle.dfdl_report.specs.declared.cause.ParseCause.{ParseCause}
+use Rattle.dfdl_report.specs.declared.cause.ParseCause.TheVariants.{InitiatorMissing, TerminatorMissing}
+use Rattle.dfdl_terms.specs.declared.delimiters.Delimiter.{Delimiter}
+use Rattle.dfdl_terms.specs.declared.delimiters.Delimiters.{Delimiters}
+use Rattle.dfdl_looks.specs.Asks.{Reached, Told, TooFar, Missing, Reading, ask}
+use Rattle.dfdl_looks.specs.Tallies.{nothing, one_row}
+use Rattle.dfdl_grammar.specs.declared.end.End.TheVariants.{Done}
+use Rattle.dfdl_grammar.specs.declared.limits.Limits.{Limits}
+use Rattle.dfdl_grammar.specs.States.{Input, State, anchor_at}
+use Rattle.dfdl_grammar.specs.Outcomes.{Outcome}
+use Rattle.dfdl_grammar.specs.Framing.{aligned}
+use Rattle.dfdl_grammar.specs.Delimiters.{lists_of, markup, passed_text, seek, sought_among, stands_in}
+use Rattle.dfdl_parse.specs.declared.frame.Frame.{Frame}
+use Rattle.dfdl_parse.specs.declared.frame.Focus.{Focus}
+use Rattle.dfdl_parse.specs.declared.frame.Focus.TheVariants.{Seek, Leave}
+use Rattle.dfdl_parse.specs.Moves.{Machine, Move, pass}
+
+-- the lists among whose texts one of this list is sought, as a terminator or as an initiator
+abbrev pub among : List Delimiters → ℕ → Bool → State → List Opened
+among delimiters list false s = lists_of delimiters (list ∷ [])
+among delimiters list true s = lists_of delimiters (markup s ++ list ∷ [])
+
+-- how many open lists stand before the first of them, where the one that is sought is put behind all
+abbrev pub first_open : Bool → State → ℕ
+first_open false s = length s.lists
+first_open true s = min s.hidden (length s.lists)
+
+-- the place of the list among them
+abbrev pub place_of : Bool → State → ℕ
+place_of false s = 0
+place_of true s = length (markup s)
+
+-- why it fails where there is none
+abbrev pub cause_of : Bool → ParseCause
+cause_of false = InitiatorMissing
+cause_of true = TerminatorMissing
+
+-- a terminator or an initiator of this list, as it is in the data
+abbrev pub sought : Input → List Delimiters → ℕ → Bool → State → Outcome
+sought input delimiters list terminates s = seek input (cause_of terminates) (among delimiters list terminates s) (place_of terminates s) s
+
+-- a delimiter begins: it is sought, where it stands in the representation that is tried
+abbrev pub enter_delimiter : Held → Delimiter → Bool → List Frame → State → Move
+enter_delimiter held delimiter terminates k s =
+    if stands_in s.instead delimiter then pass one_row held (Seek delimiter.list terminates) k s else pass one_row held (Leave Done) k s
+
+-- whether a byte of a text hasn't come
+abbrev pub is_cut : Reached Longest → Bool
+is_cut (Told found) = false
+is_cut TooFar = false
+is_cut Missing = true
+
+-- the machine at what a search comes to
+abbrev pub at_outcome : Outcome → List Frame → Machine
+at_outcome o k = record { focus = Leave o.end; stack = k; state = o.state }
+
+-- the machine behind a search: as it was, where a byte hasn't come
+abbrev pub found_text : ℕ → Focus → ParseCause → ℕ → Reached Longest → List Frame → State → Machine
+found_text window focus cause place Missing k s = record { focus = focus; stack = k; state = s }
+found_text window focus cause place (Told found) k s = at_outcome (passed_text cause place window (Told found) s) k
+found_text window focus cause place TooFar k s = at_outcome (passed_text cause place window TooFar s) k
+
+-- the step of a search whose reading this is, with these bytes held behind it
+abbrev pub search_move : ℕ → Focus → ParseCause → ℕ → Held → Reading Longest → List Frame → State → Move
+search_move window focus cause place sight reading k s = record {
+  tally = reading.tally;
+  machine = found_text window focus cause place reading.reached k s;
+  held = sight;
+  waits = is_cut reading.reached;
+}
+
+-- a search, which gives up the bytes that are no longer needed at the next whole byte
+abbrev pub search : Limits → List Delimiters → Held → ℕ → Bool → List Frame → State → Move
+search limits delimiters held list terminates k s =
+    let sight : Held = from_byte held (anchor_at s (aligned 8 s.at)) in
+    search_move limits.window (Seek list terminates) (cause_of terminates) (place_of terminates s) sight
+    (ask (seen_at sight) (sought_among (among delimiters list terminates s) s.at s.stop) nothing) k s
+
+-- a text that is found at a bit ends before this byte
+abbrev pub EndsWithin : Found → ℕ → ℕ → Type 0
+EndsWithin (Match which bits) bit end = bit + bits ≤ 8 * end
+EndsWithin NoMatch bit end = Unit {0}
+EndsWithin NotYet bit end = Unit {0}
+EndsWithin Over bit end = Unit {0}

@@ -1,0 +1,180 @@
+// A delimiter begins, and is sought.
+ghost use Rattle.std.specs.Prelude.{◌≡◌, ℕ, ◌+◌, ◌-◌, ◌*◌, ◌/◌, ◌≤◌, ◌<◌, false, true, IfOk, OnOk, length};
+ghost use Rattle.dfdl_bits.specs.Window.{Held, end_of, seen_at};
+ghost use Rattle.dfdl_looks.specs.Asks.{Reading, ask};
+ghost use Rattle.dfdl_looks.specs.Tallies.{nothing};
+ghost use Rattle.dfdl_delims.specs.Longest.{Answers, Longest};
+ghost use Rattle.dfdl_grammar.specs.Delimiters.{sought_among, stands_in};
+ghost use Rattle.dfdl_grammar.specs.Framing.{aligned};
+ghost use Rattle.dfdl_parse.specs.Opens.{IsHeld};
+ghost use Rattle.dfdl_parse.specs.Registered.{IsRegistered};
+ghost use Rattle.dfdl_parse.specs.Searches.{EndsWithin, among, cause_of, enter_delimiter, first_open, place_of, search, search_move};
+ghost use Rattle.dfdl_parse.specs.Steps.{Moved};
+ghost use Rattle.dfdl_parse.specs.Shown.{HasSameLimits, limits_of, state_of};
+
+use crate::frame::Focus;
+use crate::framing::aligned;
+use crate::parser::Parser;
+use dfdl_bits::{Steps, Window};
+use dfdl_delims::longest::longest;
+use dfdl_delims::{Found, Glance, OpenLists};
+use dfdl_grammar::{End, Instead};
+use dfdl_report::{LimitCause, ParseCause};
+use dfdl_terms::{Delimiter, Terms};
+use std::alloc::AllocError;
+use std::sync::ledger::Ledger;
+
+impl Parser {
+    // A delimiter begins: it is sought next, where it stands in the representation that is tried.
+    pub(crate) fn begin_delimiter(&mut self, delimiter: Delimiter, terminates: bool)
+        ensures moved { (held : Held) → Moved
+            (enter_delimiter held delimiter terminates self.old.stack (state_of self.old)) false self.old.far self.new held 0 }
+        ensures most { HasSameLimits self.old self.new }
+        ensures at { self.new.at ≡ self.old.at }
+    {
+        if stands_in(self.instead, delimiter) {
+            self.focus = Focus::Seek {
+                list: delimiter.list,
+                terminates,
+            };
+        } else {
+            self.focus = Focus::Leave(End::Done);
+        }
+    }
+
+    // A text of a list is sought at the next whole byte.
+    pub(crate) fn seek<L: Ledger>(
+        &mut self,
+        terms: &Terms,
+        list: u32,
+        terminates: bool,
+        sight: &mut Window,
+        steps: &mut Steps<L>,
+    ) -> Result<bool, AllocError>
+        requires focus { self.old.focus ≡ Focus.Seek list terminates }
+        requires base { IsHeld sight.old.base (aligned 8 self.old.at) (state_of self.old) }
+        requires at { self.old.at ≤ 8 * end_of sight.old }
+        requires registered { IsRegistered terms.now self.old }
+        ensures moved { IfOk result (λ waits. Moved
+            (search (limits_of self.old sight.old) terms.now.delimiters sight.old list terminates self.old.stack (state_of self.old))
+            waits self.old.far self.new sight.new (steps.new - steps.old)) }
+        ensures steps { steps.old ≤ steps.new }
+        ensures most { OnOk result (HasSameLimits self.old self.new) }
+        ensures at { OnOk result (self.new.at ≤ 8 * end_of sight.new) }
+    {
+        let _end = sight.end();
+        let bit = aligned(8, self.at);
+        sight.drop_before(self.anchor_at(bit));
+        let glance = self.glance_at_text(terms, list, terminates, bit, sight, steps)?;
+        Ok(self.pass_text(terminates, glance, bit, sight))
+    }
+
+    // The longest text is found at a bit that is a whole byte. What it comes to isn't taken.
+    fn glance_at_text<L: Ledger>(
+        &mut self,
+        terms: &Terms,
+        list: u32,
+        terminates: bool,
+        bit: u64,
+        sight: &Window,
+        steps: &mut Steps<L>,
+    ) -> Result<Glance, AllocError>
+        requires bit { bit ≡ aligned 8 self.old.at }
+        requires base { sight.now.base ≤ bit / 8 }
+        requires at { self.old.at ≤ 8 * end_of sight.now }
+        requires registered { IsRegistered terms.now self.old }
+        requires named { list < length terms.now.delimiters }
+        ensures answers { IfOk result (λ glance. Answers
+            (ask (seen_at sight.now) (sought_among (among terms.now.delimiters list terminates (state_of self.old)) self.old.at self.old.stop) nothing)
+            glance (steps.new - steps.old)) }
+        ensures within { IfOk result (λ glance. EndsWithin glance.found bit (end_of sight.now)) }
+        ensures steps { steps.old ≤ steps.new }
+        ensures same { OnOk result (self.new ≡ record self.old { candidates = self.new.candidates }) }
+    {
+        let _tables = terms.tables();
+        let count = self.lists.len();
+        let from = self.first_open(terminates);
+        self.lists.push(list)?;
+        let lists = OpenLists {
+            markup: &self.markup,
+            numbers: self.lists.from(from),
+        };
+        let answer = longest(lists, sight, bit, self.stop, &mut self.candidates, steps);
+        self.lists.close_to(count);
+        let glance = answer?;
+        Ok(glance)
+    }
+
+    // How many of the open lists stand before those among whose texts one is sought.
+    fn first_open(&self, terminates: bool) -> usize
+        ensures { result ≡ first_open terminates (state_of self.now) }
+    {
+        let count = self.lists.len();
+        if terminates {
+            self.hidden.min(count)
+        } else {
+            count
+        }
+    }
+
+    // What a search has found at a bit that is a whole byte is taken.
+    fn pass_text(&mut self, terminates: bool, glance: Glance, bit: u64, sight: &Window) -> bool
+        requires within { EndsWithin glance.found bit (end_of sight.now) }
+        ensures moved { (held : Held) (looks : ℕ) (reading : Reading Longest) → Answers reading glance looks → bit ≡ aligned 8 self.old.at
+            → Moved (search_move sight.now.size self.old.focus (cause_of terminates) (place_of terminates (state_of self.old)) held reading
+            self.old.stack (state_of self.old)) result self.old.far self.new held looks }
+        ensures most { HasSameLimits self.old self.new }
+        ensures at { self.old.at ≤ 8 * end_of sight.now → self.new.at ≤ 8 * end_of sight.now }
+    {
+        let _end = sight.end();
+        let cause = cause_of(terminates);
+        match glance.found {
+            Found::NotYet => return true,
+            Found::Match { which, bits } => {
+                if which == self.place_of(terminates) && 0 < bits {
+                    self.at = bit + bits;
+                    self.focus = Focus::Leave(End::Done);
+                } else {
+                    self.fail(cause);
+                }
+            }
+            Found::None => self.fail(cause),
+            Found::Over => self.stop_at(LimitCause::Window, sight.size() as u64),
+        }
+        self.far = self.far.max(glance.far);
+        false
+    }
+
+    // The place of the list that is sought among those whose texts are found.
+    fn place_of(&self, terminates: bool) -> usize
+        ensures { result ≡ place_of terminates (state_of self.now) }
+    {
+        if terminates {
+            self.lists.from(self.hidden).len()
+        } else {
+            0
+        }
+    }
+}
+
+// Why a search fails that finds no text.
+fn cause_of(terminates: bool) -> ParseCause
+    ensures { result ≡ cause_of terminates }
+{
+    if terminates {
+        ParseCause::TerminatorMissing
+    } else {
+        ParseCause::InitiatorMissing
+    }
+}
+
+// Whether a delimiter stands in the representation that is tried.
+fn stands_in(instead: Instead, delimiter: Delimiter) -> bool
+    ensures { result ≡ stands_in instead delimiter }
+{
+    match instead {
+        Instead::Nothing => true,
+        Instead::Nil(_) => delimiter.in_nil,
+        Instead::Empty(_) => delimiter.in_empty,
+    }
+}

@@ -1,0 +1,202 @@
+// The rows around the content of a component: fill, its initiator and its terminator.
+ghost use Rattle.std.specs.Prelude.{◌≡◌, ◌<◌, ◌≤◌, ◌+◌, ◌^◌, ◌++◌, ◌∷◌, [], length, IfOk, OnOk};
+ghost use Rattle.dfdl_rows.specs.Framing as spec;
+
+use dfdl_terms::{Delimiter, Framing, Row, RowId, RowList};
+use std::alloc::{AllocError, Global};
+
+/// There is a skip, an alignment to more than one bit, an initiator or a terminator.
+pub(crate) fn has_framing(framing: Framing) -> bool
+    ensures { result ≡ spec.has_framing framing }
+{
+    framing.leading_skip > 0
+        || framing.alignment > 1
+        || framing.initiator.is_some()
+        || framing.terminator.is_some()
+        || framing.trailing_skip > 0
+}
+
+// How many rows a skip of so many bits is.
+fn skip_size(bits: u32) -> u64
+    ensures size { result ≡ length (spec.skip_rows bits) }
+    ensures few { result ≤ 1 }
+{
+    if bits > 0 { 1 } else { 0 }
+}
+
+// How many rows an alignment to so many bits is.
+fn align_size(bits: u32) -> u64
+    ensures size { result ≡ length (spec.align_rows bits) }
+    ensures few { result ≤ 1 }
+{
+    if bits > 1 { 1 } else { 0 }
+}
+
+// How many rows an initiator or a terminator is.
+fn delimiter_size(delimiter: Option<Delimiter>) -> u64
+    ensures initiator { result ≡ length (spec.initiator_rows delimiter) }
+    ensures terminator { result ≡ length (spec.terminator_rows delimiter) }
+    ensures few { result ≤ 1 }
+{
+    match delimiter {
+        Some(_) => 1,
+        None => 0,
+    }
+}
+
+// How many rows stand before a content.
+fn size_before(framing: Framing) -> u64
+    ensures size { result ≡ length (spec.rows_before framing) }
+    ensures few { result ≤ 3 }
+{
+    let fill = skip_size(framing.leading_skip) + align_size(framing.alignment);
+    fill + delimiter_size(framing.initiator)
+}
+
+// How many rows stand behind a content.
+fn size_behind(framing: Framing) -> u64
+    ensures size { result ≡ length (spec.rows_behind framing) }
+    ensures few { result ≤ 2 }
+{
+    delimiter_size(framing.terminator) + skip_size(framing.trailing_skip)
+}
+
+/// How many rows frame a content.
+pub(crate) fn framing_size(framing: Framing) -> u64
+    ensures size { result ≡ spec.framing_size framing }
+    ensures few { result ≤ 6 }
+{
+    if !has_framing(framing) {
+        return 0;
+    }
+    size_before(framing) + size_behind(framing) + 1
+}
+
+// Adds a row to the rows, and its number to those of a group.
+fn push_row(rows: &mut Vec<Row>, group: &mut Vec<RowId>, row: Row) -> Result<(), AllocError>
+    requires { length rows.old.items < 2 ^ 32 }
+    ensures rows { OnOk result (rows.new.items ≡ rows.old.items ++ row ∷ []) }
+    ensures group { OnOk result (group.new.items ≡ group.old.items ++ length rows.old.items ∷ []) }
+{
+    group.push(RowId::new(rows.len() as u32))?;
+    rows.push(row)?;
+    Ok(())
+}
+
+// Adds a skip of so many bits, where they are some.
+fn push_skip(rows: &mut Vec<Row>, group: &mut Vec<RowId>, bits: u32) -> Result<(), AllocError>
+    requires { length rows.old.items < 2 ^ 32 }
+    ensures rows { OnOk result (rows.new.items ≡ rows.old.items ++ spec.skip_rows bits) }
+    ensures group { OnOk result (group.new.items
+        ≡ group.old.items ++ spec.numbers (spec.skip_rows bits) (length rows.old.items)) }
+{
+    if bits == 0 {
+        return Ok(());
+    }
+    push_row(rows, group, Row::Skip { bits })
+}
+
+// Adds an alignment to so many bits, where they are more than one.
+fn push_align(rows: &mut Vec<Row>, group: &mut Vec<RowId>, bits: u32) -> Result<(), AllocError>
+    requires { length rows.old.items < 2 ^ 32 }
+    ensures rows { OnOk result (rows.new.items ≡ rows.old.items ++ spec.align_rows bits) }
+    ensures group { OnOk result (group.new.items
+        ≡ group.old.items ++ spec.numbers (spec.align_rows bits) (length rows.old.items)) }
+{
+    if bits <= 1 {
+        return Ok(());
+    }
+    push_row(rows, group, Row::Align { bits })
+}
+
+// Adds an initiator, where there is one.
+fn push_initiator(
+    rows: &mut Vec<Row>,
+    group: &mut Vec<RowId>,
+    initiator: Option<Delimiter>,
+) -> Result<(), AllocError>
+    requires { length rows.old.items < 2 ^ 32 }
+    ensures rows { OnOk result (rows.new.items ≡ rows.old.items ++ spec.initiator_rows initiator) }
+    ensures group { OnOk result (group.new.items
+        ≡ group.old.items ++ spec.numbers (spec.initiator_rows initiator) (length rows.old.items)) }
+{
+    match initiator {
+        Some(delimiter) => push_row(rows, group, Row::Initiator { delimiter }),
+        None => Ok(()),
+    }
+}
+
+// Adds a terminator, where there is one.
+fn push_terminator(
+    rows: &mut Vec<Row>,
+    group: &mut Vec<RowId>,
+    terminator: Option<Delimiter>,
+) -> Result<(), AllocError>
+    requires { length rows.old.items < 2 ^ 32 }
+    ensures rows { OnOk result (rows.new.items ≡ rows.old.items ++ spec.terminator_rows terminator) }
+    ensures group { OnOk result (group.new.items
+        ≡ group.old.items ++ spec.numbers (spec.terminator_rows terminator) (length rows.old.items)) }
+{
+    match terminator {
+        Some(delimiter) => push_row(rows, group, Row::Terminator { delimiter }),
+        None => Ok(()),
+    }
+}
+
+// Adds the rows before a content.
+fn push_before(
+    rows: &mut Vec<Row>,
+    group: &mut Vec<RowId>,
+    framing: Framing,
+) -> Result<(), AllocError>
+    requires { length rows.old.items + length (spec.rows_before framing) < 2 ^ 32 }
+    ensures rows { OnOk result (rows.new.items ≡ rows.old.items ++ spec.rows_before framing) }
+    ensures group { OnOk result (group.new.items
+        ≡ group.old.items ++ spec.numbers (spec.rows_before framing) (length rows.old.items)) }
+{
+    push_skip(rows, group, framing.leading_skip)?;
+    push_align(rows, group, framing.alignment)?;
+    push_initiator(rows, group, framing.initiator)?;
+    Ok(())
+}
+
+// Adds the rows behind a content.
+fn push_behind(
+    rows: &mut Vec<Row>,
+    group: &mut Vec<RowId>,
+    framing: Framing,
+) -> Result<(), AllocError>
+    requires { length rows.old.items + length (spec.rows_behind framing) < 2 ^ 32 }
+    ensures rows { OnOk result (rows.new.items ≡ rows.old.items ++ spec.rows_behind framing) }
+    ensures group { OnOk result (group.new.items
+        ≡ group.old.items ++ spec.numbers (spec.rows_behind framing) (length rows.old.items)) }
+{
+    push_terminator(rows, group, framing.terminator)?;
+    push_skip(rows, group, framing.trailing_skip)?;
+    Ok(())
+}
+
+/// Adds the rows that frame the row of a content, and gives the row that stands for all of them.
+pub(crate) fn push_framed(
+    alloc: Global,
+    rows: &mut Vec<Row>,
+    framing: Framing,
+    content: RowId,
+) -> Result<RowId, AllocError>
+    requires { length rows.old.items + spec.framing_size framing < 2 ^ 32 }
+    ensures rows { OnOk result (rows.new.items ≡ rows.old.items ++ spec.framed framing content (length rows.old.items)) }
+    ensures whole { IfOk result (λ whole. whole ≡ spec.framed_row framing content (length rows.old.items)) }
+{
+    if !has_framing(framing) {
+        return Ok(content);
+    }
+    let mut group = Vec::new(alloc);
+    push_before(rows, &mut group, framing)?;
+    group.push(content)?;
+    push_behind(rows, &mut group, framing)?;
+    let whole = RowId::new(rows.len() as u32);
+    rows.push(Row::Group {
+        children: RowList::new(group),
+    })?;
+    Ok(whole)
+}

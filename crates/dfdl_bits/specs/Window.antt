@@ -1,9 +1,9 @@
 -- What a window holds of the data, and what a look into it sees. Profile: a parser reads the data by such looks alone.
-use Rattle.std.specs.Prelude.{ℕ, ◌+◌, ◌-◌, Bool, List, ◌++◌, length, take, drop, slice_index, nat_lt, nat_le, if◌then◌else◌}
+use Rattle.std.specs.Prelude.{ℕ, ◌+◌, ◌-◌, Bool, List, ◌++◌, length, take, drop, min, slice_index, nat_lt, nat_le, if◌then◌else◌}
 use Rattle.dfdl_bits.specs.declared.window.Seen.{Seen}
 use Rattle.dfdl_bits.specs.declared.window.Seen.TheVariants.{Byte, End, NotYet, Over}
 
--- The bytes of the data from the byte base on that have come and are still held, at most size of them; and
+-- The bytes of the data from the byte base on that have come and are still held, of which a look sees the first size; and
 -- whether it was told that the data ends behind them.
 pub record Held : Type 0 where
   pub bytes : List ℕ
@@ -39,6 +39,6 @@ seen_at held k =
     else (if nat_lt place (length held.bytes) then Byte (slice_index held.bytes place)
     else (if held.ended then End else NotYet))
 
--- the bytes that are held from byte k of the data on, at most so many, for a k that is no byte before the base
+-- the bytes that a look sees from byte k of the data on, at most so many, for a k that is no byte before the base
 abbrev pub run_at : Held → ℕ → ℕ → List ℕ
-run_at held k most = take most (drop (k - held.base) held.bytes)
+run_at held k most = take (min most (held.size - (k - held.base))) (drop (k - held.base) held.bytes)

@@ -1,5 +1,5 @@
 // A window that slides over the data while its bytes come in pieces.
-ghost use Rattle.std.specs.Prelude.{◌≡◌, ◌+◌, ◌-◌, ◌*◌, ◌^◌, ◌<◌, ◌≤◌, ◌↔◌, ℕ, [], ◌++◌, true, false, length, take, drop, min, IfOk, slice_index, All, vec_len, vec_capacity};
+ghost use Rattle.std.specs.Prelude.{◌≡◌, ◌+◌, ◌-◌, ◌*◌, ◌^◌, ◌<◌, ◌≤◌, ◌↔◌, ℕ, [], ◌++◌, true, false, length, take, drop, min, IfOk, OnErr, slice_index, All, vec_len, vec_capacity};
 ghost use Rattle.dfdl_bits.specs.Window.{Held, end_of, room_of, with_more, from_byte, up_to_byte, seen_at, run_at};
 ghost use Rattle.dfdl_bits.specs.declared.window.Seen.TheVariants.{Byte};
 
@@ -17,14 +17,14 @@ pub enum Seen {
     End,
     /// It hasn't come, and the end of the data wasn't told.
     NotYet,
-    /// It lies as many bytes behind the base as the window can hold, or more.
+    /// It lies as many bytes behind the base as the window's size, or more.
     Over,
 }
 
-/// The bytes of the data from a base on that have come, at most as many as the window's size.
+/// The bytes of the data from a base on that have come. A look sees at most as many of them as the window's size.
 ///
-/// They stand together at the end of a buffer of twice the size. Bytes that were given up stay before them until
-/// they are as many; so at most as many bytes are moved as were given up.
+/// They stand together at the end of a buffer of twice the size, which grows for a piece that is longer than the room. Bytes
+/// that were given up stay before them until they are as many; so at most as many bytes are moved as were given up.
 #[derive(Drop)]
 pub struct Window {
     buffer: Vec<u8>,
@@ -42,14 +42,12 @@ impl Model for Window {
 
     ghost view = { λ w. record { bytes = drop w.start w.buffer.items; base = w.base; size = w.size; ended = w.ended } };
 
-    ghost invariant = { λ w. (w.start ≤ length w.buffer.items) × (length w.buffer.items ≤ w.start + w.size)
-        × (length w.buffer.items ≤ 2 * w.size) × (2 * w.size ≤ vec_capacity w.buffer) × (w.size < 2 ^ 32)
-        × (w.base + (length w.buffer.items - w.start) ≤ 2 ^ 60) };
+    ghost invariant = { λ w. (w.start ≤ length w.buffer.items) × (length w.buffer.items ≤ vec_capacity w.buffer)
+        × (2 * w.size ≤ vec_capacity w.buffer) × (w.size < 2 ^ 32) × (w.base + (length w.buffer.items - w.start) ≤ 2 ^ 60) };
 }
 
 impl Window {
-    /// A window over the front of the data, with the memory for all bytes that it can hold. No other call
-    /// takes memory.
+    /// A window over the front of the data, with the memory for all bytes that it can show. No call but `append_all` takes more.
     pub fn open(alloc: Global, size: u32) -> Result<Window, AllocError>
         ensures { IfOk result (λ window. window ≡ record { bytes = []; base = 0; size = size; ended = false }) }
     {
@@ -71,12 +69,20 @@ impl Window {
         ensures held { self.new ≡ with_more self.old (take result piece.now) }
     {
         let taken = piece.len().min(self.room());
-        if self.start >= self.buffer.len() - self.start {
-            slide(&mut self.buffer, self.start);
-            self.start = 0;
-        }
+        self.start = settle(&mut self.buffer, self.start);
         extend(&mut self.buffer, &piece[..taken]);
         taken
+    }
+
+    /// Takes the next bytes of the data, all of them, with memory for those for which there is no room.
+    pub fn append_all(&mut self, piece: &[u8]) -> Result<(), AllocError>
+        requires going_on { self.old.ended ≡ false }
+        requires bound { end_of self.old + length piece.now ≤ 2 ^ 60 }
+        ensures held { IfOk result (λ _. self.new ≡ with_more self.old piece.now) }
+        ensures memory { OnErr result (self.new ≡ self.old) }
+    {
+        self.start = settle(&mut self.buffer, self.start);
+        self.buffer.extend_from_slice(piece)
     }
 
     /// Says that the data ends behind the bytes that have come.
@@ -119,12 +125,11 @@ impl Window {
     pub fn end(&self) -> u64
         ensures end { result ≡ end_of self.now }
         ensures bound { end_of self.now ≤ 2 ^ 60 }
-        ensures within { length self.now.bytes ≤ self.now.size }
     {
         self.base + (self.buffer.len() - self.start) as u64
     }
 
-    /// How many bytes it can hold.
+    /// How many bytes from the base on a look can see.
     pub fn size(&self) -> usize
         ensures size { result ≡ self.now.size }
         ensures small { result < 2 ^ 32 }
@@ -136,7 +141,7 @@ impl Window {
     pub fn room(&self) -> usize
         ensures { result ≡ room_of self.now }
     {
-        self.size - (self.buffer.len() - self.start)
+        self.size.saturating_sub(self.buffer.len() - self.start)
     }
 
     /// Whether it was told that the data ends behind the bytes that have come.
@@ -167,8 +172,8 @@ impl Window {
         }
     }
 
-    /// Looks at the bytes that are held from byte `k` of the data on, at most `most` of them, in as many steps as
-    /// it answers bytes.
+    /// Looks at the bytes that are held from byte `k` of the data on, at most `most` of them and as far as a look sees, in as
+    /// many steps as it answers bytes.
     pub fn run<L: Ledger>(&self, k: u64, most: usize, steps: &mut Steps<L>) -> &[u8]
         requires { self.now.base ≤ k }
         ensures run { result.now ≡ run_at self.now k most }
@@ -206,11 +211,10 @@ impl Window {
         &held[..count]
     }
 
-    // The bytes that are held from byte `k` of the data on, at most `most` of them.
+    // The bytes that are held from byte `k` of the data on and that a look can see, at most `most` of them.
     fn held(&self, k: u64, most: usize) -> &[u8]
         requires { self.now.base ≤ k }
         ensures run { result.now ≡ run_at self.now k most }
-        ensures fits { length self.now.bytes ≤ self.now.size }
         ensures bytes { All (λ byte. byte < 256) result.now }
     {
         let held = self.buffer.len() - self.start;
@@ -219,6 +223,7 @@ impl Window {
             return &[];
         }
         let place = place as usize;
+        let most = most.min(self.size.saturating_sub(place));
         let count = most.min(held - place);
         part(&self.buffer, self.start + place, count)
     }
@@ -245,6 +250,21 @@ fn count_below(bytes: &[u8], limit: u8) -> usize
         }
     }
     bytes.len()
+}
+
+// Moves the bytes from a place on to the front, unless fewer bytes stand before them than they are, and answers where they begin.
+fn settle(buffer: &mut Vec<u8>, start: usize) -> usize
+    requires { start ≤ vec_len buffer.old }
+    ensures items { drop result buffer.new.items ≡ drop start buffer.old.items }
+    ensures within { result + (vec_len buffer.old - start) ≡ vec_len buffer.new }
+    ensures front { result + result ≤ vec_len buffer.new }
+    ensures capacity { vec_capacity buffer.new ≡ vec_capacity buffer.old }
+{
+    if start < buffer.len() - start {
+        return start;
+    }
+    slide(buffer, start);
+    0
 }
 
 // Gives up the bytes before a place.

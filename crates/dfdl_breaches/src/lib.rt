@@ -21,8 +21,6 @@ mod prefixes;
 mod root;
 mod sites;
 mod telling;
-#[cfg(test)]
-mod tests;
 
 pub use judgement::Judgement;
 pub use root::root_of;

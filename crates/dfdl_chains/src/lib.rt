@@ -18,8 +18,6 @@ mod numbers;
 mod parts;
 mod prefixes;
 mod simple;
-#[cfg(test)]
-mod tests;
 mod typed;
 
 pub use chain::chain_sites;

@@ -9,8 +9,6 @@ mod compiling;
 mod fault;
 mod gathering;
 mod primitives;
-#[cfg(test)]
-mod tests;
 
 pub use compiling::{compile, compile_for_unparse};
 pub use fault::CompileFault;

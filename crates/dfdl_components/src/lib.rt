@@ -22,8 +22,6 @@ mod recursion;
 mod referring;
 mod schema;
 mod site;
-#[cfg(test)]
-mod tests;
 
 pub use fault::SchemaFault;
 pub use kind::ComponentKind;

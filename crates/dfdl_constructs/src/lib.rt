@@ -18,8 +18,6 @@ mod placing;
 mod qualified;
 mod role;
 mod roles;
-#[cfg(test)]
-mod tests;
 mod unknown;
 mod value;
 

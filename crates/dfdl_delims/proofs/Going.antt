@@ -188,7 +188,7 @@ pub record Given (pieces : List Piece) (starts : List Candidate) (lists : List O
   pub decides : Decides lists test
 
 abbrev pub spent : ℕ → ℕ → Tally
-spent looks far = record { rows = 0; looks = looks; far = far; tail = 0 }
+spent looks far = record { rows = 0; looks = looks; far = far; tail = 0; anchor = 0 }
 
 pub record Going (look : ℕ → Seen) (pieces : List Piece) (starts live : List Candidate) (first last place far looks : ℕ) (found : Longest) : Type 0 where
   pub seen : List ℕ

@@ -57,6 +57,3 @@ pub fn read(alloc: Global, bytes: &[u8]) -> Result<Tree, DocFault>
         Err(fault_of(bytes, bytes.len(), refusal))
     }
 }
-
-#[cfg(test)]
-mod tests;

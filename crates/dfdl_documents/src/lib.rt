@@ -21,6 +21,3 @@ pub use documents::Documents;
 pub use fault::DocumentsFault;
 pub use loading::load_documents;
 pub use reference::{DocumentReference, ReferenceKind};
-
-#[cfg(test)]
-mod tests;

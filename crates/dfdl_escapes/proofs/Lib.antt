@@ -5,3 +5,4 @@ pub mod Matching
 pub mod Places
 pub mod ReadOn
 pub mod Passing
+pub mod TrimmedContents

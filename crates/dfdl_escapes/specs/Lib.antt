@@ -4,3 +4,4 @@ pub mod Contents
 pub mod Written
 pub mod Sought
 pub mod Reads
+pub mod Trims

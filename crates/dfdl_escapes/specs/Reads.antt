@@ -63,7 +63,7 @@ sum_of reading = record { reached = reading.reached; looks = reading.tally.looks
 
 -- the cost of so many looks that have gone so far
 abbrev pub spent : ℕ → ℕ → Tally
-spent looks far = record { rows = 0; looks = looks; far = far; tail = 0 }
+spent looks far = record { rows = 0; looks = looks; far = far; tail = 0; anchor = 0 }
 
 -- what a content still comes to, behind these characters and so many looks
 abbrev pub left_of : (ℕ → Seen) → (List ℕ → Bool) → List Opened → Form → ℕ → List Character → Stand → ℕ → ℕ → Sum

@@ -1,16 +1,19 @@
 // Laws of the definitions that the contracts cite. The calls do nothing.
-ghost use Rattle.std.specs.Prelude.{◌≡◌, ◌≤◌, ℕ, Bool, List};
+ghost use Rattle.std.specs.Prelude.{◌≡◌, ◌≤◌, ℕ, Bool, List, map};
 ghost use Rattle.dfdl_bits.specs.declared.window.Seen.{Seen as AnySeen};
 ghost use Rattle.dfdl_bits.specs.Window.{Held, seen_at};
 ghost use Rattle.dfdl_looks.specs.Looks.{Agrees, seen_in};
 ghost use Rattle.dfdl_looks.specs.Asks.{AsksFrom, Told, ask};
 ghost use Rattle.dfdl_looks.specs.Tallies.{Tally};
 ghost use Rattle.dfdl_delims.specs.Lists.{Opened};
+ghost use Rattle.dfdl_forms.specs.declared.text.PadForm.{PadForm as AnyPadForm};
+ghost use Rattle.dfdl_text_string.specs.Padding.{trimmed, trimmed_from};
 ghost use Rattle.dfdl_escapes.specs.declared.character.Character.{Character as AnyCharacter};
 ghost use Rattle.dfdl_escapes.specs.declared.form.Form.{Form as AnyForm};
 ghost use Rattle.dfdl_escapes.specs.declared.form.Stand.{Stand as AnyStand};
 ghost use Rattle.dfdl_escapes.specs.Contents.{ArePassed, Content, IsContent, IsStep, MovesOn, content_at, rest_of};
 ghost use Rattle.dfdl_escapes.specs.Steps.{Step, step_at};
+ghost use Rattle.dfdl_escapes.specs.Trims.{only_escaped, trimmed_content, trimmed_content_from, unescaped};
 
 /// Each look of a step, and of a content, is where the scan stands or behind it.
 pub fn steps_begin()
@@ -54,3 +57,14 @@ pub fn steps_stay()
 {
     dfdl_delims::laws::texts_begin();
 }
+
+/// Where nothing is escaped a content is trimmed as the text of its characters is.
+pub fn contents_without_escapes_are_trimmed_as_texts()
+    ensures content { (form : AnyPadForm) (text : List ℕ) → trimmed_content form (map unescaped text) ≡ map unescaped (trimmed form text) }
+    ensures begin { (form : AnyPadForm) (text : List ℕ) → trimmed_content_from form (map unescaped text) ≡ trimmed_from form text }
+{}
+
+/// Trimming takes no escaped character off.
+pub fn escaped_characters_stay()
+    ensures { (form : AnyPadForm) (characters : List AnyCharacter) → only_escaped (trimmed_content form characters) ≡ only_escaped characters }
+{}

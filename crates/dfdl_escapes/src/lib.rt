@@ -1,8 +1,9 @@
-//! Delimited text with escape schemes: its characters, each escaped or not, where it ends, and what a text is written as.
+//! Delimited text with escape schemes: its characters, each escaped or not, where it ends, what trimming keeps of it, and what a text
+//! is written as.
 //!
 //! The contracts cite `step_at` (`specs/Steps.antt`) and `content_from` (`specs/Contents.antt`), programs over looks as dfdl_looks
-//! has them, and `written` (`specs/Written.antt`). It serves the chapter 'Simple Types' (escape schemes) of the DFDL 1.0
-//! specification, GFD.240.
+//! has them, `trimmed_content` (`specs/Trims.antt`) and `written` (`specs/Written.antt`). It serves the chapter 'Simple Types'
+//! (escape schemes) of the DFDL 1.0 specification, GFD.240.
 #![tactic(auto)]
 
 pub mod character;
@@ -17,6 +18,7 @@ pub mod reading;
 pub mod refusal;
 pub mod scan;
 pub mod scanned;
+pub mod trimming;
 mod turn;
 mod unit;
 mod walk;
@@ -30,6 +32,9 @@ pub use reading::read_content;
 pub use refusal::Refusal;
 pub use scan::Scan;
 pub use scanned::{Glance, Scanned};
+pub use trimming::trim_content;
 
 #[cfg(test)]
 mod tests;
+#[cfg(test)]
+mod trimming_tests;

@@ -20,7 +20,7 @@ use Rattle.dfdl_terms.specs.declared.text.TextSize.{TextSize}
 use Rattle.dfdl_region.specs.Nodes.{with_content}
 use Rattle.dfdl_looks.specs.Asks.{Ask, Reached, Told, TooFar, Missing, ask}
 use Rattle.dfdl_looks.specs.Looks.{seen_in}
-use Rattle.dfdl_looks.specs.Tallies.{nothing, one_row}
+use Rattle.dfdl_looks.specs.Tallies.{needs_from, nothing, one_row}
 use Rattle.dfdl_grammar.specs.declared.end.End.{End}
 use Rattle.dfdl_grammar.specs.declared.end.End.TheVariants.{Done, Failed, Stopped}
 use Rattle.dfdl_grammar.specs.declared.instead.Instead.{Instead}
@@ -116,11 +116,11 @@ module _ (input : Input) (table : Table) (leaves : HasLeaves table) where
   room-reads : (nil : Option (List Value)) (primitive : Primitive) (s : State) (room : Bool)
       → (cond room
       (let reading = ask (seen_in input.bytes input.limits.window (anchor s)) (program_for nil primitive s.at s.stop) nothing in
-      spend reading.tally (land input.limits (content_begins primitive s.at) reading.reached s))
+      spend (needs_from (anchor s) reading.tally) (land input.limits (content_begins primitive s.at) reading.reached s))
       (ended (Failed LengthOutOfRange s.at) s)).end ≡ Done
       → IsRead s (cond room
       (let reading = ask (seen_in input.bytes input.limits.window (anchor s)) (program_for nil primitive s.at s.stop) nothing in
-      spend reading.tally (land input.limits (content_begins primitive s.at) reading.reached s))
+      spend (needs_from (anchor s) reading.tally) (land input.limits (content_begins primitive s.at) reading.reached s))
       (ended (Failed LengthOutOfRange s.at) s)).state
   room-reads nil primitive s true done =
       let a : Ask Find = program_for nil primitive s.at s.stop in

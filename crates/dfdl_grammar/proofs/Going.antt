@@ -18,7 +18,7 @@ use Rattle.dfdl_region.specs.declared.node.Content.TheVariants.{Begun, Complex, 
 use Rattle.dfdl_region.specs.Nodes.{with_content}
 use Rattle.dfdl_looks.specs.Asks.{Reached, Told, TooFar, Missing, ask}
 use Rattle.dfdl_looks.specs.Looks.{seen_in}
-use Rattle.dfdl_looks.specs.Tallies.{nothing}
+use Rattle.dfdl_looks.specs.Tallies.{needs_from, nothing}
 use Rattle.dfdl_grammar.specs.declared.end.End.{End}
 use Rattle.dfdl_grammar.specs.declared.end.End.TheVariants.{Done, Failed, Stopped}
 use Rattle.dfdl_grammar.specs.declared.instead.Instead.{Instead}
@@ -87,7 +87,7 @@ module _ (input : Input) where
   room-goes : (nil : Option (List Value)) (primitive : Primitive) (s : State) (room : Bool)
       → (let o : Outcome = cond room
       (let reading = ask (seen_in input.bytes input.limits.window (anchor s)) (program_for nil primitive s.at s.stop) nothing in
-      spend reading.tally (land input.limits (content_begins primitive s.at) reading.reached s))
+      spend (needs_from (anchor s) reading.tally) (land input.limits (content_begins primitive s.at) reading.reached s))
       (ended (Failed LengthOutOfRange s.at) s) in Went s.inside s o.end o.state)
   room-goes nil primitive s true =
       land-goes (content_begins primitive s.at) (ask (seen_in input.bytes input.limits.window (anchor s)) (program_for nil primitive s.at s.stop) nothing).reached s

@@ -49,7 +49,7 @@ use Rattle.dfdl_region.specs.Nodes.{with_content}
 use Rattle.dfdl_region.specs.Texts.{HasText, HaveTexts}
 use Rattle.dfdl_looks.specs.Asks.{Ask, Answer, Reached, Told, TooFar, Missing, Reading, and_then, ask, go_on}
 use Rattle.dfdl_looks.specs.Looks.{seen_in}
-use Rattle.dfdl_looks.specs.Tallies.{Tally, nothing}
+use Rattle.dfdl_looks.specs.Tallies.{needs_from, Tally, nothing}
 use Rattle.dfdl_looks.proofs.Sequels.{ask-then}
 use Rattle.dfdl_grammar.specs.declared.end.End.{End}
 use Rattle.dfdl_grammar.specs.declared.end.End.TheVariants.{Done, Failed, Stopped}
@@ -389,7 +389,7 @@ module _ (input : Input) (small : All (λ b. b < 256) input.bytes) where
   room-keeps : (nil : Option (List Value)) (primitive : Primitive) → IsSound primitive → (s : State) → Has s → (room : Bool)
       → Has (cond room
       (let reading = ask (seen_in input.bytes input.limits.window (anchor s)) (program_for nil primitive s.at s.stop) nothing in
-      spend reading.tally (land input.limits (content_begins primitive s.at) reading.reached s))
+      spend (needs_from (anchor s) reading.tally) (land input.limits (content_begins primitive s.at) reading.reached s))
       (ended (Failed LengthOutOfRange s.at) s)).state
   room-keeps nil primitive good s has true =
       land-keeps (content_begins primitive s.at) (ask (seen_in input.bytes input.limits.window (anchor s)) (program_for nil primitive s.at s.stop) nothing).reached

@@ -8,7 +8,7 @@ use Rattle.dfdl_report.specs.declared.cause.ParseCause.TheVariants.{LengthOutOfR
 use Rattle.dfdl_terms.specs.declared.row.Primitive.{Primitive}
 use Rattle.dfdl_looks.specs.Asks.{Ask, Reached, Told, TooFar, Missing, ask}
 use Rattle.dfdl_looks.specs.Looks.{seen_in}
-use Rattle.dfdl_looks.specs.Tallies.{nothing}
+use Rattle.dfdl_looks.specs.Tallies.{needs_from, nothing}
 use Rattle.dfdl_grammar.specs.declared.end.End.{End}
 use Rattle.dfdl_grammar.specs.declared.end.End.TheVariants.{Failed, Stopped}
 use Rattle.dfdl_grammar.specs.States.{Input, State, anchor}
@@ -38,7 +38,7 @@ module _ (P : End → State → Type 0) (s : State)
 
     room-comes : (own : ℕ) (primitive : Primitive) (room : Bool)
         → (let reading = ask (seen_in input.bytes input.limits.window (anchor s)) (program primitive s.at s.stop) nothing in
-        let o : Outcome = cond room (spend reading.tally (land_prefix input.limits own (content_begins primitive s.at) next reading.reached s))
+        let o : Outcome = cond room (spend (needs_from (anchor s) reading.tally) (land_prefix input.limits own (content_begins primitive s.at) next reading.reached s))
         (ended (Failed LengthOutOfRange s.at) s) in
         P o.end o.state)
     room-comes own primitive true =

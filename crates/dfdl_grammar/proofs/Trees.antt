@@ -16,7 +16,7 @@ use Rattle.dfdl_region.specs.declared.node.Content.TheVariants.{Begun, Complex, 
 use Rattle.dfdl_region.specs.Nodes.{with_content}
 use Rattle.dfdl_looks.specs.Asks.{Reached, Told, TooFar, Missing, ask}
 use Rattle.dfdl_looks.specs.Looks.{seen_in}
-use Rattle.dfdl_looks.specs.Tallies.{nothing}
+use Rattle.dfdl_looks.specs.Tallies.{needs_from, nothing}
 use Rattle.dfdl_grammar.specs.declared.end.End.{End}
 use Rattle.dfdl_grammar.specs.declared.end.End.TheVariants.{Done, Failed, Stopped}
 use Rattle.dfdl_grammar.specs.declared.instead.Instead.{Instead}
@@ -148,7 +148,7 @@ module _ (input : Input) (table : Table) where
   room-keeps : (nil : Option (List Value)) (primitive : Primitive) (s : State) → Grows table s → (room : Bool)
       → Follows s (cond room
       (let reading = ask (seen_in input.bytes input.limits.window (anchor s)) (program_for nil primitive s.at s.stop) nothing in
-      spend reading.tally (land input.limits (content_begins primitive s.at) reading.reached s))
+      spend (needs_from (anchor s) reading.tally) (land input.limits (content_begins primitive s.at) reading.reached s))
       (ended (Failed LengthOutOfRange s.at) s)).state
   room-keeps nil primitive s good true =
       land-keeps (content_begins primitive s.at) (ask (seen_in input.bytes input.limits.window (anchor s)) (program_for nil primitive s.at s.stop) nothing).reached s good

@@ -4,7 +4,7 @@ use Rattle.dfdl_report.specs.declared.cause.LimitCause.TheVariants.{Window}
 use Rattle.dfdl_report.specs.declared.cause.ParseCause.TheVariants.{DataEnds, LengthOutOfRange}
 use Rattle.dfdl_looks.specs.Asks.{Reached, Told, TooFar, Missing, Reading, ask}
 use Rattle.dfdl_looks.specs.Looks.{seen_in}
-use Rattle.dfdl_looks.specs.Tallies.{nothing}
+use Rattle.dfdl_looks.specs.Tallies.{needs_from, nothing}
 use Rattle.dfdl_grammar.specs.declared.end.End.{End}
 use Rattle.dfdl_grammar.specs.declared.end.End.TheVariants.{Done, Failed, Stopped}
 use Rattle.dfdl_grammar.specs.States.{Input, State, anchor_at}
@@ -23,7 +23,7 @@ abbrev pub pass_bytes : Input → ℕ → ℕ → State → Outcome
 pass_bytes input zero k s = ended Done (record s { at = s.stop })
 pass_bytes input (suc left) k s =
     let reading : Reading Bool = ask (seen_in input.bytes input.limits.window (anchor_at s (8 * k))) (has_byte k) nothing in
-    spend reading.tally (past_byte input.limits.window reading.reached (pass_bytes input left (k + 1)) s)
+    spend (needs_from (anchor_at s (8 * k)) reading.tally) (past_byte input.limits.window reading.reached (pass_bytes input left (k + 1)) s)
 
 -- how many bytes there are from byte k on up to a bit
 abbrev pub bytes_up_to : ℕ → ℕ → ℕ

@@ -9,7 +9,7 @@ use Rattle.dfdl_delims.specs.Lists.{Opened}
 use Rattle.dfdl_delims.specs.Longest.{Longest, Text, NoText, longest_at}
 use Rattle.dfdl_looks.specs.Asks.{Ask, Reached, Told, TooFar, Missing, Reading, ask}
 use Rattle.dfdl_looks.specs.Looks.{seen_in}
-use Rattle.dfdl_looks.specs.Tallies.{nothing}
+use Rattle.dfdl_looks.specs.Tallies.{needs_from, nothing}
 use Rattle.dfdl_terms.specs.declared.delimiters.Delimiter.{Delimiter}
 use Rattle.dfdl_terms.specs.declared.delimiters.Delimiters.{Delimiters}
 use Rattle.dfdl_grammar.specs.declared.end.End.{End}
@@ -60,7 +60,7 @@ abbrev pub seek : Input → ParseCause → List Opened → ℕ → State → Out
 seek input cause lists place s =
     let reading : Reading Longest =
     ask (seen_in input.bytes input.limits.window (anchor_at s (aligned 8 s.at))) (sought_among lists s.at s.stop) nothing in
-    spend reading.tally (passed_text cause place input.limits.window reading.reached s)
+    spend (needs_from (anchor_at s (aligned 8 s.at)) reading.tally) (passed_text cause place input.limits.window reading.reached s)
 
 -- an initiator, where it stands in the representation that is tried: it is sought among its own literals
 abbrev pub initiator : Input → List Delimiters → Delimiter → State → Outcome

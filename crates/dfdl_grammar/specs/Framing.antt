@@ -4,7 +4,7 @@ use Rattle.dfdl_report.specs.declared.cause.LimitCause.TheVariants.{Window}
 use Rattle.dfdl_report.specs.declared.cause.ParseCause.TheVariants.{DataEnds, LengthOutOfRange}
 use Rattle.dfdl_looks.specs.Asks.{Ask, Answer, Look, Reached, Told, TooFar, Missing, Reading, ask}
 use Rattle.dfdl_looks.specs.Looks.{seen_in}
-use Rattle.dfdl_looks.specs.Tallies.{nothing}
+use Rattle.dfdl_looks.specs.Tallies.{needs_from, nothing}
 use Rattle.dfdl_grammar.specs.declared.end.End.TheVariants.{Done, Failed, Stopped}
 use Rattle.dfdl_grammar.specs.States.{Input, State, anchor_at}
 use Rattle.dfdl_grammar.specs.Outcomes.{Outcome, ended, spend}
@@ -30,7 +30,7 @@ passed window to Missing s = ended Done s
 abbrev pub fill_to : Input → ℕ → State → Outcome
 fill_to input to s =
     let reading : Reading Bool = ask (seen_in input.bytes input.limits.window (anchor_at s (to - 1))) (has_byte ((to - 1) / 8)) nothing in
-    spend reading.tally (passed input.limits.window to reading.reached s)
+    spend (needs_from (anchor_at s (to - 1)) reading.tally) (passed input.limits.window to reading.reached s)
 
 -- fill up to a bit, where there is any; where it would pass the end of the box, this fails
 abbrev pub pass_to : Input → ℕ → State → Outcome

@@ -41,7 +41,7 @@ use Rattle.dfdl_region.specs.declared.node.Content.TheVariants.{Signed, Unsigned
 use Rattle.dfdl_region.specs.Nodes.{with_content}
 use Rattle.dfdl_looks.specs.Asks.{Ask, Answer, Reached, Told, TooFar, Missing, Reading, and_then, ask, look_at}
 use Rattle.dfdl_looks.specs.Looks.{seen_in}
-use Rattle.dfdl_looks.specs.Tallies.{nothing}
+use Rattle.dfdl_looks.specs.Tallies.{needs_from, nothing}
 use Rattle.dfdl_grammar.specs.declared.end.End.TheVariants.{Done, Failed, Stopped}
 use Rattle.dfdl_grammar.specs.declared.instead.Instead.{Instead}
 use Rattle.dfdl_grammar.specs.declared.instead.Instead.TheVariants.{Nothing, Nil as InsteadNil, Empty}
@@ -365,5 +365,5 @@ leaf input nil None s = ended Done s
 leaf input nil (Some primitive) s =
     if has_room primitive s.at s.stop
     then (let reading : Reading Find = ask (seen_in input.bytes input.limits.window (anchor s)) (program_for nil primitive s.at s.stop) nothing in
-    spend reading.tally (land input.limits (content_begins primitive s.at) reading.reached s))
+    spend (needs_from (anchor s) reading.tally) (land input.limits (content_begins primitive s.at) reading.reached s))
     else ended (Failed LengthOutOfRange s.at) s

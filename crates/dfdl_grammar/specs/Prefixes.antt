@@ -18,7 +18,7 @@ use Rattle.dfdl_region.specs.declared.node.Content.{Content}
 use Rattle.dfdl_region.specs.declared.node.Content.TheVariants.{Signed, Unsigned}
 use Rattle.dfdl_looks.specs.Asks.{Reached, Told, TooFar, Missing, Reading, ask}
 use Rattle.dfdl_looks.specs.Looks.{seen_in}
-use Rattle.dfdl_looks.specs.Tallies.{nothing}
+use Rattle.dfdl_looks.specs.Tallies.{needs_from, nothing}
 use Rattle.dfdl_grammar.specs.declared.end.End.TheVariants.{Done, Failed, Stopped}
 use Rattle.dfdl_grammar.specs.declared.limits.Limits.{Limits}
 use Rattle.dfdl_grammar.specs.States.{Input, State, anchor}
@@ -98,7 +98,7 @@ prefixed input None own next s = behind_prefix s.at next s None
 prefixed input (Some primitive) own next s =
     if has_room primitive s.at s.stop
     then (let reading : Reading Find = ask (seen_in input.bytes input.limits.window (anchor s)) (program primitive s.at s.stop) nothing in
-    spend reading.tally (land_prefix input.limits own (content_begins primitive s.at) next reading.reached s))
+    spend (needs_from (anchor s) reading.tally) (land_prefix input.limits own (content_begins primitive s.at) next reading.reached s))
     else ended (Failed LengthOutOfRange s.at) s
 
 -- a prefix and the leaf whose size it tells

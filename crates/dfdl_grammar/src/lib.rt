@@ -31,6 +31,3 @@ pub use end::End;
 pub use instead::Instead;
 pub use limits::Limits;
 pub use mark::Mark;
-
-#[cfg(test)]
-mod tests;

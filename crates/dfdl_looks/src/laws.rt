@@ -26,7 +26,6 @@ pub fn looks_resume()
 pub fn costs_add_up()
     ensures grouped { (a b c : Tally) → plus (plus a b) c ≡ plus a (plus b c) }
     ensures front { (t : Tally) → plus nothing t ≡ t }
-    ensures behind { (t : Tally) → plus t nothing ≡ t }
 {}
 
 /// Each look of a stretch of bytes is at its first byte or behind it.

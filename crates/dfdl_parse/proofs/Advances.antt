@@ -16,7 +16,7 @@ use Rattle.dfdl_terms.specs.declared.row.Row.TheVariants.{Leaf, Elem, Group, Ski
 use Rattle.dfdl_terms.specs.Rows.{Table}
 use Rattle.dfdl_looks.specs.Looks.{Agrees}
 use Rattle.dfdl_looks.specs.Asks.{ask}
-use Rattle.dfdl_looks.specs.Tallies.{Tally, first_of, nothing, one_row, plus, saw_byte}
+use Rattle.dfdl_looks.specs.Tallies.{Tally, first_of, needs_from, nothing, one_row, plus, saw_byte}
 use Rattle.dfdl_looks.proofs.Waiting.{kept}
 use Rattle.dfdl_grammar.specs.declared.end.End.{End}
 use Rattle.dfdl_grammar.specs.declared.end.End.TheVariants.{Done, Failed, Stopped}
@@ -73,7 +73,7 @@ module _ (held : Held) (s : State) where
   -- a step that looks at a leaf
   looked-keeps : Anchored held s → (cost : Tally) → cost.tail ≡ 0 → cost.far ≡ 0 → (nil : Option (List Value)) (primitive : Primitive) (machine : Machine) (waits : Bool)
       → let sight : Held = from_byte held (anchor s) in
-      Keeps held (record { tally = plus cost (ask (seen_at sight) (program_for nil primitive s.at s.stop) nothing).tally; machine = machine; held = sight; waits = waits })
+      Keeps held (record { tally = plus cost (needs_from (anchor s) (ask (seen_at sight) (program_for nil primitive s.at s.stop) nothing).tally); machine = machine; held = sight; waits = waits })
   looked-keeps stands cost no_tail no_far nil primitive machine waits =
       let sight : Held = from_byte held (anchor s) in
       let ends : end_of sight ≡ end_of held = end_from held (anchor s) stands.base stands.end in
@@ -134,24 +134,24 @@ module _ (held : Held) (s : State) where
   leave-box-keeps outer k false = pass-keeps nothing held _ _ _ refl refl
 
   -- the cost of fill whose last byte is seen as this
-  filled-tail : (window : ℕ) (sight : Held) (to : ℕ) (v : Seen) (k : List Frame) → (v ≡ DataEnded → ⊥) → (fill_move window sight to v k s).tally.tail ≡ 0
-  filled-tail window sight to (Byte b) k on = refl
-  filled-tail window sight to DataEnded k on = absurd (on refl)
-  filled-tail window sight to NotYet k on = refl
-  filled-tail window sight to Over k on = refl
+  filled-tail : (window : ℕ) (sight : Held) (low to : ℕ) (v : Seen) (k : List Frame) → (v ≡ DataEnded → ⊥) → (fill_move window sight low to v k s).tally.tail ≡ 0
+  filled-tail window sight low to (Byte b) k on = refl
+  filled-tail window sight low to DataEnded k on = absurd (on refl)
+  filled-tail window sight low to NotYet k on = refl
+  filled-tail window sight low to Over k on = refl
 
-  filled-far : (window : ℕ) (sight : Held) (to : ℕ) (v : Seen) (k : List Frame) → (v ≡ DataEnded → ⊥) → ((b : ℕ) → v ≡ Byte b → (to - 1) / 8 + 1 ≤ end_of held)
-      → (fill_move window sight to v k s).tally.far ≤ end_of held
-  filled-far window sight to (Byte b) k on within = omega (arith, within b refl)
-  filled-far window sight to DataEnded k on within = absurd (on refl)
-  filled-far window sight to NotYet k on within = omega arith
-  filled-far window sight to Over k on within = omega arith
+  filled-far : (window : ℕ) (sight : Held) (low to : ℕ) (v : Seen) (k : List Frame) → (v ≡ DataEnded → ⊥) → ((b : ℕ) → v ≡ Byte b → (to - 1) / 8 + 1 ≤ end_of held)
+      → (fill_move window sight low to v k s).tally.far ≤ end_of held
+  filled-far window sight low to (Byte b) k on within = omega (arith, within b refl)
+  filled-far window sight low to DataEnded k on within = absurd (on refl)
+  filled-far window sight low to NotYet k on within = omega arith
+  filled-far window sight low to Over k on within = omega arith
 
-  filled-held : (window : ℕ) (sight : Held) (to : ℕ) (v : Seen) (k : List Frame) → (fill_move window sight to v k s).held ≡ sight
-  filled-held window sight to (Byte b) k = refl
-  filled-held window sight to DataEnded k = refl
-  filled-held window sight to NotYet k = refl
-  filled-held window sight to Over k = refl
+  filled-held : (window : ℕ) (sight : Held) (low to : ℕ) (v : Seen) (k : List Frame) → (fill_move window sight low to v k s).held ≡ sight
+  filled-held window sight low to (Byte b) k = refl
+  filled-held window sight low to DataEnded k = refl
+  filled-held window sight low to NotYet k = refl
+  filled-held window sight low to Over k = refl
 
   fill-keeps : (limits : Limits) (to : ℕ) (k : List Frame) → Stands held (Pass to) s → Keeps held (fill limits held to k s)
   fill-keeps limits to k stands =
@@ -161,52 +161,52 @@ module _ (held : Held) (s : State) where
       let near : ℕ = min low (end_of held) in
       let sight : Held = from_byte held near in
       let seen : Seen = seen_beyond held low last in
-      let same : sight ≡ (fill limits held to k s).held = sym (filled-held limits.window sight to seen k) in
+      let same : sight ≡ (fill limits held to k s).held = sym (filled-held limits.window sight low to seen k) in
       let slid : Slid held sight = record { size = refl; ended = refl; end = end_from held near (omega arith) (omega arith); base = omega arith } in
       record {
         slid = subst (λ (h : Held). Slid held h) same slid;
         agrees = λ whole agrees. subst (λ (h : Held). Agrees h whole) same (agrees_from held whole near (omega arith) (omega arith) agrees);
-        tail = λ on. filled-tail limits.window sight to seen k (beyond-end held low last base stands.1 on);
-        far = λ on. filled-far limits.window sight to seen k (beyond-end held low last base stands.1 on) (λ b is. beyond-byte held low last base stands.1 b is);
+        tail = λ on. filled-tail limits.window sight low to seen k (beyond-end held low last base stands.1 on);
+        far = λ on. filled-far limits.window sight low to seen k (beyond-end held low last base stands.1 on) (λ b is. beyond-byte held low last base stands.1 b is);
       }
 
   -- the cost of a byte of the rest of a box
-  past-tail : (sight : Held) (byte : ℕ) (outer : Outside) (k : List Frame) (last : Bool)
-      → (cond last (pass (saw_byte byte nothing) sight (Leave Done) k (back_outside outer (record s { at = s.stop })))
-      (pass (saw_byte byte nothing) sight (PassRest (8 * (byte + 1)) outer) k s)).tally ≡ saw_byte byte nothing
-  past-tail sight byte outer k true = refl
-  past-tail sight byte outer k false = refl
+  past-tail : (sight : Held) (low byte : ℕ) (outer : Outside) (k : List Frame) (last : Bool)
+      → (cond last (pass (needs_from low (saw_byte byte nothing)) sight (Leave Done) k (back_outside outer (record s { at = s.stop })))
+      (pass (needs_from low (saw_byte byte nothing)) sight (PassRest (8 * (byte + 1)) outer) k s)).tally ≡ needs_from low (saw_byte byte nothing)
+  past-tail sight low byte outer k true = refl
+  past-tail sight low byte outer k false = refl
 
-  past-held : (sight : Held) (byte : ℕ) (outer : Outside) (k : List Frame) (last : Bool)
-      → (cond last (pass (saw_byte byte nothing) sight (Leave Done) k (back_outside outer (record s { at = s.stop })))
-      (pass (saw_byte byte nothing) sight (PassRest (8 * (byte + 1)) outer) k s)).held ≡ sight
-  past-held sight byte outer k true = refl
-  past-held sight byte outer k false = refl
+  past-held : (sight : Held) (low byte : ℕ) (outer : Outside) (k : List Frame) (last : Bool)
+      → (cond last (pass (needs_from low (saw_byte byte nothing)) sight (Leave Done) k (back_outside outer (record s { at = s.stop })))
+      (pass (needs_from low (saw_byte byte nothing)) sight (PassRest (8 * (byte + 1)) outer) k s)).held ≡ sight
+  past-held sight low byte outer k true = refl
+  past-held sight low byte outer k false = refl
 
-  past-cost : (sight : Held) (byte : ℕ) (outer : Outside) (k : List Frame) → (past_one sight byte outer k s).tally ≡ saw_byte byte nothing
-  past-cost sight byte outer k = past-tail sight byte outer k (nat_le ((s.stop - 1) / 8) byte)
+  past-cost : (sight : Held) (low byte : ℕ) (outer : Outside) (k : List Frame) → (past_one sight low byte outer k s).tally ≡ needs_from low (saw_byte byte nothing)
+  past-cost sight low byte outer k = past-tail sight low byte outer k (nat_le ((s.stop - 1) / 8) byte)
 
-  rested-tail : (window : ℕ) (sight : Held) (bit : ℕ) (outer : Outside) (v : Seen) (k : List Frame) → (v ≡ DataEnded → ⊥)
-      → (rest_move window sight bit outer v k s).tally.tail ≡ 0
-  rested-tail window sight bit outer (Byte b) k on = ap (λ (t : Tally). t.tail) (past-cost sight (bit / 8) outer k)
-  rested-tail window sight bit outer DataEnded k on = absurd (on refl)
-  rested-tail window sight bit outer NotYet k on = refl
-  rested-tail window sight bit outer Over k on = refl
+  rested-tail : (window : ℕ) (sight : Held) (low bit : ℕ) (outer : Outside) (v : Seen) (k : List Frame) → (v ≡ DataEnded → ⊥)
+      → (rest_move window sight low bit outer v k s).tally.tail ≡ 0
+  rested-tail window sight low bit outer (Byte b) k on = ap (λ (t : Tally). t.tail) (past-cost sight low (bit / 8) outer k)
+  rested-tail window sight low bit outer DataEnded k on = absurd (on refl)
+  rested-tail window sight low bit outer NotYet k on = refl
+  rested-tail window sight low bit outer Over k on = refl
 
-  rested-far : (window : ℕ) (sight : Held) (bit : ℕ) (outer : Outside) (v : Seen) (k : List Frame) → (v ≡ DataEnded → ⊥)
-      → ((b : ℕ) → v ≡ Byte b → bit / 8 + 1 ≤ end_of held) → (rest_move window sight bit outer v k s).tally.far ≤ end_of held
-  rested-far window sight bit outer (Byte b) k on within =
-      let cost : (past_one sight (bit / 8) outer k s).tally.far ≡ max 0 (bit / 8 + 1) = ap (λ (t : Tally). t.far) (past-cost sight (bit / 8) outer k) in
+  rested-far : (window : ℕ) (sight : Held) (low bit : ℕ) (outer : Outside) (v : Seen) (k : List Frame) → (v ≡ DataEnded → ⊥)
+      → ((b : ℕ) → v ≡ Byte b → bit / 8 + 1 ≤ end_of held) → (rest_move window sight low bit outer v k s).tally.far ≤ end_of held
+  rested-far window sight low bit outer (Byte b) k on within =
+      let cost : (past_one sight low (bit / 8) outer k s).tally.far ≡ max 0 (bit / 8 + 1) = ap (λ (t : Tally). t.far) (past-cost sight low (bit / 8) outer k) in
       omega (arith, cost, within b refl)
-  rested-far window sight bit outer DataEnded k on within = absurd (on refl)
-  rested-far window sight bit outer NotYet k on within = omega arith
-  rested-far window sight bit outer Over k on within = omega arith
+  rested-far window sight low bit outer DataEnded k on within = absurd (on refl)
+  rested-far window sight low bit outer NotYet k on within = omega arith
+  rested-far window sight low bit outer Over k on within = omega arith
 
-  rested-held : (window : ℕ) (sight : Held) (bit : ℕ) (outer : Outside) (v : Seen) (k : List Frame) → (rest_move window sight bit outer v k s).held ≡ sight
-  rested-held window sight bit outer (Byte b) k = past-held sight (bit / 8) outer k (nat_le ((s.stop - 1) / 8) (bit / 8))
-  rested-held window sight bit outer DataEnded k = refl
-  rested-held window sight bit outer NotYet k = refl
-  rested-held window sight bit outer Over k = refl
+  rested-held : (window : ℕ) (sight : Held) (low bit : ℕ) (outer : Outside) (v : Seen) (k : List Frame) → (rest_move window sight low bit outer v k s).held ≡ sight
+  rested-held window sight low bit outer (Byte b) k = past-held sight low (bit / 8) outer k (nat_le ((s.stop - 1) / 8) (bit / 8))
+  rested-held window sight low bit outer DataEnded k = refl
+  rested-held window sight low bit outer NotYet k = refl
+  rested-held window sight low bit outer Over k = refl
 
   rest-keeps : (limits : Limits) (bit : ℕ) (outer : Outside) (k : List Frame) → Stands held (PassRest bit outer) s → Keeps held (pass_rest limits held bit outer k s)
   rest-keeps limits bit outer k stands =
@@ -216,13 +216,13 @@ module _ (held : Held) (s : State) where
       let near : ℕ = min low (end_of held) in
       let sight : Held = from_byte held near in
       let seen : Seen = seen_beyond held low byte in
-      let same : sight ≡ (pass_rest limits held bit outer k s).held = sym (rested-held limits.window sight bit outer seen k) in
+      let same : sight ≡ (pass_rest limits held bit outer k s).held = sym (rested-held limits.window sight low bit outer seen k) in
       let slid : Slid held sight = record { size = refl; ended = refl; end = end_from held near (omega arith) (omega arith); base = omega arith } in
       record {
         slid = subst (λ (h : Held). Slid held h) same slid;
         agrees = λ whole agrees. subst (λ (h : Held). Agrees h whole) same (agrees_from held whole near (omega arith) (omega arith) agrees);
-        tail = λ on. rested-tail limits.window sight bit outer seen k (beyond-end held low byte base stands.1.1 on);
-        far = λ on. rested-far limits.window sight bit outer seen k (beyond-end held low byte base stands.1.1 on) (λ b is. beyond-byte held low byte base stands.1.1 b is);
+        tail = λ on. rested-tail limits.window sight low bit outer seen k (beyond-end held low byte base stands.1.1 on);
+        far = λ on. rested-far limits.window sight low bit outer seen k (beyond-end held low byte base stands.1.1 on) (λ b is. beyond-byte held low byte base stands.1.1 b is);
       }
 
   attempt-keeps : (cost : Tally) → cost.tail ≡ 0 → cost.far ≡ 0 → (most id : ℕ) (parts : Parts) (instead : Instead) (k : List Frame) (t : State) (room : Bool)

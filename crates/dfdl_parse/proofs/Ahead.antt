@@ -17,7 +17,7 @@ use Rattle.dfdl_terms.specs.declared.row.Row.TheVariants.{Leaf, Elem, Group, Ski
 use Rattle.dfdl_terms.specs.Rows.{Table, Nests}
 use Rattle.dfdl_looks.specs.Looks.{seen_in}
 use Rattle.dfdl_looks.specs.Asks.{Answer, Reading}
-use Rattle.dfdl_looks.specs.Tallies.{Tally, nothing, one_row, plus, saw_byte, saw_end, saw_none}
+use Rattle.dfdl_looks.specs.Tallies.{Tally, needs_from, nothing, one_row, plus, saw_byte, saw_end, saw_none}
 use Rattle.dfdl_looks.proofs.Resumed.{on_seen}
 use Rattle.dfdl_grammar.specs.declared.end.End.{End}
 use Rattle.dfdl_grammar.specs.declared.end.End.TheVariants.{Done, Failed, Stopped}
@@ -199,25 +199,25 @@ module _ (input : Input) (table : Table) where
   enter-fill held to k s false true = finish-spend input table k one_row (fill_to input to s)
   enter-fill held to k s false false = finish-spend input table k one_row (ended (Failed LengthOutOfRange s.at) s)
 
-  -- the outcome of fill whose last byte is seen as this
-  abbrev pub filled : ℕ → Seen → State → Outcome
-  filled to v s =
-      let reading : Reading Bool = on_seen (seen_in input.bytes input.limits.window (anchor_at s (to - 1))) (λ byte. Answer (is_some byte)) ((to - 1) / 8) nothing v in
-      spend reading.tally (passed input.limits.window to reading.reached s)
+  -- the outcome of fill whose last byte is seen as this, where the first byte that is still needed is given
+  abbrev pub filled : ℕ → ℕ → Seen → State → Outcome
+  filled low to v s =
+      let reading : Reading Bool = on_seen (seen_in input.bytes input.limits.window low) (λ byte. Answer (is_some byte)) ((to - 1) / 8) nothing v in
+      spend (needs_from low reading.tally) (passed input.limits.window to reading.reached s)
 
-  filled-ahead : (sight : Held) (to : ℕ) (v : Seen) (k : List Frame) (s : State) → (fill_move input.limits.window sight to v k s).waits ≡ false
-      → Does input table (finish input table k (filled to v s)) (fill_move input.limits.window sight to v k s)
-  filled-ahead sight to (Byte b) k s going = finish-spend input table k (saw_byte ((to - 1) / 8) nothing) (ended Done (record s { at = to }))
-  filled-ahead sight to DataEnded k s going = finish-spend input table k (saw_end ((to - 1) / 8) nothing) (ended (Failed DataEnds s.at) s)
-  filled-ahead sight to NotYet k s going = absurd (cc)
-  filled-ahead sight to Over k s going = finish-spend input table k (saw_none nothing) (ended (Stopped Window input.limits.window) s)
+  filled-ahead : (sight : Held) (low to : ℕ) (v : Seen) (k : List Frame) (s : State) → (fill_move input.limits.window sight low to v k s).waits ≡ false
+      → Does input table (finish input table k (filled low to v s)) (fill_move input.limits.window sight low to v k s)
+  filled-ahead sight low to (Byte b) k s going = finish-spend input table k (needs_from low (saw_byte ((to - 1) / 8) nothing)) (ended Done (record s { at = to }))
+  filled-ahead sight low to DataEnded k s going = finish-spend input table k (needs_from low (saw_end ((to - 1) / 8) nothing)) (ended (Failed DataEnds s.at) s)
+  filled-ahead sight low to NotYet k s going = absurd (cc)
+  filled-ahead sight low to Over k s going = finish-spend input table k (needs_from low (saw_none nothing)) (ended (Stopped Window input.limits.window) s)
 
   -- a look that isn't in vain
-  came : (window : ℕ) (sight : Held) (to : ℕ) (v : Seen) (k : List Frame) (s : State) → (fill_move window sight to v k s).waits ≡ false → v ≡ NotYet → ⊥
-  came window sight to (Byte b) k s going is = absurd (cc)
-  came window sight to DataEnded k s going is = absurd (cc)
-  came window sight to NotYet k s going is = absurd (cc)
-  came window sight to Over k s going is = absurd (cc)
+  came : (window : ℕ) (sight : Held) (low to : ℕ) (v : Seen) (k : List Frame) (s : State) → (fill_move window sight low to v k s).waits ≡ false → v ≡ NotYet → ⊥
+  came window sight low to (Byte b) k s going is = absurd (cc)
+  came window sight low to DataEnded k s going is = absurd (cc)
+  came window sight low to NotYet k s going is = absurd (cc)
+  came window sight low to Over k s going is = absurd (cc)
 
   fill-ahead : (held : Held) (to : ℕ) (k : List Frame) (s : State) → Fits held input (Pass to) s → (fill input.limits held to k s).waits ≡ false
       → Does input table (finish input table k (fill_to input to s)) (fill input.limits held to k s)
@@ -227,61 +227,62 @@ module _ (input : Input) (table : Table) where
       let sight : Held = from_byte held (min low (end_of held)) in
       let seen : Seen = seen_beyond held low last in
       let same : seen ≡ seen_in input.bytes input.limits.window low last =
-      beyond-same held low last fits.stands.0 fits.stands.1 input.bytes fits.agrees (came input.limits.window sight to seen k s going)
+      beyond-same held low last fits.stands.0 fits.stands.1 input.bytes fits.agrees (came input.limits.window sight low to seen k s going)
       ∙ ap (λ (size : ℕ). seen_in input.bytes size low last) fits.size in
-      ap (λ (v : Seen). finish input table k (filled to v s)) (sym same)
-      ∙ filled-ahead sight to seen k s going
+      ap (λ (v : Seen). finish input table k (filled low to v s)) (sym same)
+      ∙ filled-ahead sight low to seen k s going
 
   -- what follows a byte of the rest of a box
   abbrev pub after_one : ℕ → Outside → State → Outcome
   after_one byte outer s = let o : Outcome = pass_bytes input (bytes_up_to s.stop (byte + 1)) (byte + 1) s in unboxed o.end outer.stop outer.hidden o
 
-  past-ahead : (sight : Held) (byte : ℕ) (outer : Outside) (k : List Frame) (s : State) (last : Bool) → nat_le ((s.stop - 1) / 8) byte ≡ last
-      → Does input table (finish input table k (spend (saw_byte byte nothing) (after_one byte outer s)))
-      (cond last (pass (saw_byte byte nothing) sight (Leave Done) k (back_outside outer (record s { at = s.stop })))
-      (pass (saw_byte byte nothing) sight (PassRest (8 * (byte + 1)) outer) k s))
-  past-ahead sight byte outer k s true is =
+  past-ahead : (sight : Held) (low byte : ℕ) (outer : Outside) (k : List Frame) (s : State) (last : Bool) → nat_le ((s.stop - 1) / 8) byte ≡ last
+      → Does input table (finish input table k (spend (needs_from low (saw_byte byte nothing)) (after_one byte outer s)))
+      (cond last (pass (needs_from low (saw_byte byte nothing)) sight (Leave Done) k (back_outside outer (record s { at = s.stop })))
+      (pass (needs_from low (saw_byte byte nothing)) sight (PassRest (8 * (byte + 1)) outer) k s))
+  past-ahead sight low byte outer k s true is =
       let none : bytes_up_to s.stop (byte + 1) ≡ 0 = grind (arith, nat_tests) in
-      finish-spend input table k (saw_byte byte nothing) (after_one byte outer s)
-      ∙ ap (λ (n : ℕ). spend (saw_byte byte nothing) (finish input table k
+      finish-spend input table k (needs_from low (saw_byte byte nothing)) (after_one byte outer s)
+      ∙ ap (λ (n : ℕ). spend (needs_from low (saw_byte byte nothing)) (finish input table k
       (unboxed (pass_bytes input n (byte + 1) s).end outer.stop outer.hidden (pass_bytes input n (byte + 1) s)))) none
-  past-ahead sight byte outer k s false is =
+  past-ahead sight low byte outer k s false is =
       let at : byte + 1 ≡ 8 * (byte + 1) / 8 = omega arith in
-      finish-spend input table k (saw_byte byte nothing) (after_one byte outer s)
-      ∙ ap (λ (b : ℕ). spend (saw_byte byte nothing) (finish input table k
+      finish-spend input table k (needs_from low (saw_byte byte nothing)) (after_one byte outer s)
+      ∙ ap (λ (b : ℕ). spend (needs_from low (saw_byte byte nothing)) (finish input table k
       (unboxed (pass_bytes input (bytes_up_to s.stop b) b s).end outer.stop outer.hidden (pass_bytes input (bytes_up_to s.stop b) b s)))) at
 
-  -- the outcome of the rest of a box from a byte on that is seen as this
-  abbrev pub rested : ℕ → Outside → Seen → State → Outcome
-  rested byte outer v s =
-      let reading : Reading Bool = on_seen (seen_in input.bytes input.limits.window (anchor_at s (8 * byte))) (λ b. Answer (is_some b)) byte nothing v in
-      let o : Outcome = spend reading.tally (past_byte input.limits.window reading.reached (pass_bytes input (bytes_up_to s.stop (byte + 1)) (byte + 1)) s) in
+  -- the outcome of the rest of a box from a byte on that is seen as this, where the first byte that is still needed is given
+  abbrev pub rested : ℕ → ℕ → Outside → Seen → State → Outcome
+  rested low byte outer v s =
+      let reading : Reading Bool = on_seen (seen_in input.bytes input.limits.window low) (λ b. Answer (is_some b)) byte nothing v in
+      let o : Outcome = spend (needs_from low reading.tally) (past_byte input.limits.window reading.reached (pass_bytes input (bytes_up_to s.stop (byte + 1)) (byte + 1)) s) in
       unboxed o.end outer.stop outer.hidden o
 
-  rested-ahead : (sight : Held) (bit : ℕ) (outer : Outside) (v : Seen) (k : List Frame) (s : State)
-      → (rest_move input.limits.window sight bit outer v k s).waits ≡ false
-      → Does input table (finish input table k (rested (bit / 8) outer v s)) (rest_move input.limits.window sight bit outer v k s)
-  rested-ahead sight bit outer (Byte b) k s going =
+  rested-ahead : (sight : Held) (low bit : ℕ) (outer : Outside) (v : Seen) (k : List Frame) (s : State)
+      → (rest_move input.limits.window sight low bit outer v k s).waits ≡ false
+      → Does input table (finish input table k (rested low (bit / 8) outer v s)) (rest_move input.limits.window sight low bit outer v k s)
+  rested-ahead sight low bit outer (Byte b) k s going =
       let byte : ℕ = bit / 8 in
       let o : Outcome = pass_bytes input (bytes_up_to s.stop (byte + 1)) (byte + 1) s in
-      ap (finish input table k) (unboxed-spend o.end (saw_byte byte nothing) outer.stop outer.hidden o)
-      ∙ past-ahead sight byte outer k s (nat_le ((s.stop - 1) / 8) byte) refl
-  rested-ahead sight bit outer DataEnded k s going = finish-spend input table k (saw_end (bit / 8) nothing) (ended (Failed DataEnds s.at) (hides outer.hidden s))
-  rested-ahead sight bit outer NotYet k s going = absurd (cc)
-  rested-ahead sight bit outer Over k s going = finish-spend input table k (saw_none nothing) (ended (Stopped Window input.limits.window) s)
+      ap (finish input table k) (unboxed-spend o.end (needs_from low (saw_byte byte nothing)) outer.stop outer.hidden o)
+      ∙ past-ahead sight low byte outer k s (nat_le ((s.stop - 1) / 8) byte) refl
+  rested-ahead sight low bit outer DataEnded k s going = finish-spend input table k (needs_from low (saw_end (bit / 8) nothing)) (ended (Failed DataEnds s.at) (hides outer.hidden s))
+  rested-ahead sight low bit outer NotYet k s going = absurd (cc)
+  rested-ahead sight low bit outer Over k s going = finish-spend input table k (needs_from low (saw_none nothing)) (ended (Stopped Window input.limits.window) s)
 
   -- a look at the rest that isn't in vain
-  rest-came : (window : ℕ) (sight : Held) (bit : ℕ) (outer : Outside) (v : Seen) (k : List Frame) (s : State)
-      → (rest_move window sight bit outer v k s).waits ≡ false → v ≡ NotYet → ⊥
-  rest-came window sight bit outer (Byte b) k s going is = absurd (cc)
-  rest-came window sight bit outer DataEnded k s going is = absurd (cc)
-  rest-came window sight bit outer NotYet k s going is = absurd (cc)
-  rest-came window sight bit outer Over k s going is = absurd (cc)
+  rest-came : (window : ℕ) (sight : Held) (low bit : ℕ) (outer : Outside) (v : Seen) (k : List Frame) (s : State)
+      → (rest_move window sight low bit outer v k s).waits ≡ false → v ≡ NotYet → ⊥
+  rest-came window sight low bit outer (Byte b) k s going is = absurd (cc)
+  rest-came window sight low bit outer DataEnded k s going is = absurd (cc)
+  rest-came window sight low bit outer NotYet k s going is = absurd (cc)
+  rest-came window sight low bit outer Over k s going is = absurd (cc)
 
   -- the rest of a box has a byte
   pub rest-seen : (bit : ℕ) (outer : Outside) (k : List Frame) (s : State) → bit < s.stop
       → from_here input table (PassRest bit outer) k s
-      ≡ finish input table k (rested (bit / 8) outer (seen_in input.bytes input.limits.window (anchor_at s (8 * (bit / 8))) (bit / 8)) s)
+      ≡ finish input table k (rested (anchor_at s (8 * (bit / 8))) (bit / 8) outer
+      (seen_in input.bytes input.limits.window (anchor_at s (8 * (bit / 8))) (bit / 8)) s)
   rest-seen bit outer k s inside =
       let byte : ℕ = bit / 8 in
       let some : bytes_up_to s.stop byte ≡ suc (bytes_up_to s.stop (byte + 1)) = omega arith in
@@ -296,11 +297,11 @@ module _ (input : Input) (table : Table) where
       let sight : Held = from_byte held (min low (end_of held)) in
       let seen : Seen = seen_beyond held low byte in
       let same : seen ≡ seen_in input.bytes input.limits.window low byte =
-      beyond-same held low byte fits.stands.0 fits.stands.1.1 input.bytes fits.agrees (rest-came input.limits.window sight bit outer seen k s going)
+      beyond-same held low byte fits.stands.0 fits.stands.1.1 input.bytes fits.agrees (rest-came input.limits.window sight low bit outer seen k s going)
       ∙ ap (λ (size : ℕ). seen_in input.bytes size low byte) fits.size in
       rest-seen bit outer k s fits.stands.1.0
-      ∙ ap (λ (v : Seen). finish input table k (rested byte outer v s)) (sym same)
-      ∙ rested-ahead sight bit outer seen k s going
+      ∙ ap (λ (v : Seen). finish input table k (rested low byte outer v s)) (sym same)
+      ∙ rested-ahead sight low bit outer seen k s going
 
   -- a box ends, or its rest begins
   leave-box : (held : Held) (outer : Outside) (k : List Frame) (s : State) (over : Bool) → nat_le s.stop s.at ≡ over

@@ -15,7 +15,7 @@ use Rattle.dfdl_terms.specs.declared.row.Row.{Row}
 use Rattle.dfdl_terms.specs.declared.row.Row.TheVariants.{Leaf, Elem, Group, Skip, Align, Initiator, Terminator, Scope, Boxed, PrefixedLeaf, PrefixedBox}
 use Rattle.dfdl_terms.specs.Rows.{Table, Nests}
 use Rattle.dfdl_looks.specs.Asks.{Reached, Told, TooFar, Missing, Reading, ask}
-use Rattle.dfdl_looks.specs.Tallies.{Tally, nothing, one_row, saw_byte}
+use Rattle.dfdl_looks.specs.Tallies.{Tally, needs_from, nothing, one_row, saw_byte}
 use Rattle.dfdl_grammar.specs.declared.end.End.{End}
 use Rattle.dfdl_grammar.specs.declared.end.End.TheVariants.{Done, Failed, Stopped}
 use Rattle.dfdl_grammar.specs.declared.limits.Limits.{Limits}
@@ -235,25 +235,25 @@ leave-box-falls : (held : Held) (outer : Outside) (k : List Frame) (s : State) (
 leave-box-falls held outer k s true = omega arith
 leave-box-falls held outer k s false = omega arith
 
-past-falls : (sight : Held) (bit byte : ℕ) (outer : Outside) (k : List Frame) (s : State) (last : Bool)
-    → Falls (PassRest bit outer) k (cond last (pass (saw_byte byte nothing) sight (Leave Done) k (back_outside outer (record s { at = s.stop })))
-    (pass (saw_byte byte nothing) sight (PassRest (8 * (byte + 1)) outer) k s))
-past-falls sight bit byte outer k s true = omega arith
-past-falls sight bit byte outer k s false = omega arith
+past-falls : (sight : Held) (low bit byte : ℕ) (outer : Outside) (k : List Frame) (s : State) (last : Bool)
+    → Falls (PassRest bit outer) k (cond last (pass (needs_from low (saw_byte byte nothing)) sight (Leave Done) k (back_outside outer (record s { at = s.stop })))
+    (pass (needs_from low (saw_byte byte nothing)) sight (PassRest (8 * (byte + 1)) outer) k s))
+past-falls sight low bit byte outer k s true = omega arith
+past-falls sight low bit byte outer k s false = omega arith
 
-rested-falls : (window : ℕ) (sight : Held) (bit : ℕ) (outer : Outside) (v : Seen) (k : List Frame) (s : State)
-    → (rest_move window sight bit outer v k s).waits ≡ false → Falls (PassRest bit outer) k (rest_move window sight bit outer v k s)
-rested-falls window sight bit outer (Byte b) k s going = past-falls sight bit (bit / 8) outer k s (nat_le ((s.stop - 1) / 8) (bit / 8))
-rested-falls window sight bit outer DataEnded k s going = omega arith
-rested-falls window sight bit outer NotYet k s going = absurd (cc)
-rested-falls window sight bit outer Over k s going = omega arith
+rested-falls : (window : ℕ) (sight : Held) (low bit : ℕ) (outer : Outside) (v : Seen) (k : List Frame) (s : State)
+    → (rest_move window sight low bit outer v k s).waits ≡ false → Falls (PassRest bit outer) k (rest_move window sight low bit outer v k s)
+rested-falls window sight low bit outer (Byte b) k s going = past-falls sight low bit (bit / 8) outer k s (nat_le ((s.stop - 1) / 8) (bit / 8))
+rested-falls window sight low bit outer DataEnded k s going = omega arith
+rested-falls window sight low bit outer NotYet k s going = absurd (cc)
+rested-falls window sight low bit outer Over k s going = omega arith
 
-filled-falls : (window : ℕ) (sight : Held) (to : ℕ) (v : Seen) (k : List Frame) (s : State) → (fill_move window sight to v k s).waits ≡ false
-    → Falls (Pass to) k (fill_move window sight to v k s)
-filled-falls window sight to (Byte b) k s going = omega arith
-filled-falls window sight to DataEnded k s going = omega arith
-filled-falls window sight to NotYet k s going = absurd (cc)
-filled-falls window sight to Over k s going = omega arith
+filled-falls : (window : ℕ) (sight : Held) (low to : ℕ) (v : Seen) (k : List Frame) (s : State) → (fill_move window sight low to v k s).waits ≡ false
+    → Falls (Pass to) k (fill_move window sight low to v k s)
+filled-falls window sight low to (Byte b) k s going = omega arith
+filled-falls window sight low to DataEnded k s going = omega arith
+filled-falls window sight low to NotYet k s going = absurd (cc)
+filled-falls window sight low to Over k s going = omega arith
 
 enter-falls : (limits : Limits) (table : Table) (held : Held) (id : ℕ) (r : Option Row) (k : List Frame) (s : State)
     → (enter limits table held id r k s).waits ≡ false → Falls (Enter id) k (enter limits table held id r k s)
@@ -309,10 +309,10 @@ step-falls : (limits : Limits) (table : Table) (held : Held) (focus : Focus) (k 
 step-falls limits table held (Enter id) k s on going = enter-falls limits table held id (slice_get table.rows id) k s going
 step-falls limits table held (PassRest bit outer) k s on going =
     let low : ℕ = anchor_at s (8 * (bit / 8)) in
-    rested-falls limits.window (from_byte held (min low (end_of held))) bit outer (seen_beyond held low (bit / 8)) k s going
+    rested-falls limits.window (from_byte held (min low (end_of held))) low bit outer (seen_beyond held low (bit / 8)) k s going
 step-falls limits table held (Pass to) k s on going =
     let low : ℕ = anchor_at s (to - 1) in
-    filled-falls limits.window (from_byte held (min low (end_of held))) to (seen_beyond held low ((to - 1) / 8)) k s going
+    filled-falls limits.window (from_byte held (min low (end_of held))) low to (seen_beyond held low ((to - 1) / 8)) k s going
 step-falls limits table held (Sized prim size) k s on going = sized-falls limits held prim size (nil_values table.primitives s.instead) (slice_get table.primitives prim) k s going
 step-falls limits table held (Seek list terminates) k s on going =
     let here : Reading Longest = ask (seen_at (from_byte held (anchor_at s (aligned 8 s.at)))) (sought_among (among table.delimiters list terminates s) s.at s.stop) nothing in

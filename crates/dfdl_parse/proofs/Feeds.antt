@@ -1,11 +1,10 @@
 -- A session takes a piece, or the end of the data.
-use Rattle.std.proofs.Common.{◌≡◌, ℕ, zero, suc, ◌+◌, ◌-◌, ◌<◌, ◌≤◌, ◌⊎◌, inl, inr, refl, List, [], ◌++◌, length, get_or, true, false, ap, sym, subst, ◌∙◌, arith, append_assoc, length-append}
+use Rattle.std.proofs.Common.{◌≡◌, ℕ, zero, suc, ◌+◌, ◌-◌, ◌<◌, ◌≤◌, max, ◌⊎◌, inl, inr, refl, List, [], ◌++◌, length, get_or, true, false, ap, sym, subst, ◌∙◌, arith, append_assoc, length-append}
 use Rattle.std.proofs.lemmas.List.{append-nil, get_or_append_left, get_or-append_right}
 use Rattle.dfdl_bits.specs.Window.{Held, end_of, with_more}
 use Rattle.dfdl_terms.specs.Rows.{Table}
 use Rattle.dfdl_looks.specs.Looks.{Agrees}
 use Rattle.dfdl_looks.specs.Tallies.{Tally, nothing}
-use Rattle.dfdl_looks.proofs.Costs.{plus-nothing}
 use Rattle.dfdl_grammar.specs.declared.limits.Limits.{Limits}
 use Rattle.dfdl_grammar.specs.States.{Input, State}
 use Rattle.dfdl_grammar.specs.Outcomes.{Outcome, ended, spend}
@@ -98,9 +97,15 @@ pub record Over (p : Parser) (o : Outcome) (looks_made : ℕ) : Type 0 where
   pub far : p.far ≡ o.tally.far
   pub looks : looks_made ≡ o.tally.looks
 
+far-stays : (far : ℕ) → max far 0 ≡ far
+far-stays far = omega arith
+
+looks-stay : (looks : ℕ) → looks + 0 ≡ looks
+looks-stay looks = omega arith
+
 over_at : (input : Input) (table : Table) (root : Outcome) (focus : Focus) (k : List Frame) (s : State) (spent : Tally) → HasEnded focus k
     → root ≡ spend spent (ahead input table (record { focus = focus; stack = k; state = s }))
-    → (focus ≡ Leave root.end) × (k ≡ []) × (s ≡ root.state) × (root.tally ≡ spent)
+    → (focus ≡ Leave root.end) × (k ≡ []) × (s ≡ root.state) × (root.tally.far ≡ spent.far) × (root.tally.looks ≡ spent.looks)
 unfolding finish
 over_at input table root (Enter id) k s spent ended_here same = absurd ended_here
 over_at input table root (Pass to) k s spent ended_here same = absurd ended_here
@@ -113,7 +118,8 @@ over_at input table root (Leave end) k s spent ended_here same =
       ap (λ (o : Outcome). Leave o.end) (sym is),
       ended_here,
       ap (λ (o : Outcome). o.state) (sym is),
-      ap (λ (o : Outcome). o.tally) is ∙ plus-nothing spent,
+      ap (λ (o : Outcome). o.tally.far) is ∙ far-stays spent.far,
+      ap (λ (o : Outcome). o.tally.looks) is ∙ looks-stay spent.looks,
     )
 
 pub over : (input : Input) (table : Table) (root : Outcome) (p : Parser) (held : Held) (looks_made : ℕ) → HasEnded p.focus p.stack
@@ -124,8 +130,8 @@ over input table root p held looks_made ended_here runs =
       focus = parts.0;
       stack = parts.1;
       state = parts.2;
-      far = sym runs.far ∙ ap (λ (t : Tally). t.far) (sym parts.3);
-      looks = sym runs.looks ∙ ap (λ (t : Tally). t.looks) (sym parts.3);
+      far = sym runs.far ∙ sym parts.3;
+      looks = sym runs.looks ∙ sym parts.4;
     }
 
 -- a machine that begins at a byte stands in the work on the document from there on

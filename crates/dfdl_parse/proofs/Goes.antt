@@ -5,7 +5,7 @@ use Rattle.std.proofs.lemmas.List.{length-replicate, get_or-append-add}
 use Rattle.dfdl_bits.specs.Window.{Held, end_of, room_of}
 use Rattle.dfdl_terms.specs.Rows.{Table, Nests}
 use Rattle.dfdl_looks.specs.Looks.{Agrees}
-use Rattle.dfdl_looks.specs.Tallies.{first_of, plus}
+use Rattle.dfdl_looks.specs.Tallies.{beside_first, first_of, plus}
 use Rattle.dfdl_grammar.specs.declared.limits.Limits.{Limits}
 use Rattle.dfdl_grammar.specs.States.{Input, State}
 use Rattle.dfdl_grammar.specs.Outcomes.{Outcome, spend}
@@ -35,6 +35,9 @@ tail_none a b first second = ap (λ (n : ℕ). first_of n b) first ∙ second
 
 tail_last : (a b c : ℕ) → a ≡ 0 → b ≡ c → first_of a b ≡ c
 tail_last a b c first second = ap (λ (n : ℕ). first_of n b) first ∙ second
+
+anchor_last : (n a b : ℕ) → n ≡ 0 → beside_first n a b ≡ b
+anchor_last n a b none = ap (λ (m : ℕ). beside_first m a b) none
 
 within : (at end : ℕ) → at ≤ 8 * end → at / 8 ≤ end
 within at end few = omega arith
@@ -210,10 +213,19 @@ module _ (table : Table) (nests : Nests table.rows) (old new : Parser) (before a
             let lost = waits.missed input (fits input runs.agrees runs.size) all in
             let found = runs.found waits.on in
             let far_is : root.tally.far ≡ max runs.spent.far (ahead input table (shown old)).tally.far = ap (λ (o : Outcome). o.tally.far) runs.same in
-            let far : end_of before < (ahead input table (shown old)).tally.far = lost.1 in (
+            let far : end_of before < (ahead input table (shown old)).tally.far = lost.1.0 in
+            let anchor_is : root.tally.anchor ≡ (ahead input table (shown old)).tally.anchor =
+            ap (λ (o : Outcome). o.tally.anchor) runs.same
+            ∙ anchor_last runs.spent.tail runs.spent.anchor (ahead input table (shown old)).tally.anchor found.0 in
+            let kept : length move.held.bytes ≡ end_of before - (ahead input table (shown old)).tally.anchor = lost.1.1 in
+            let held_is : length after.bytes ≡ length move.held.bytes = ap (λ (h : Held). length h.bytes) moved.held in
+            let ends : end_of after ≡ end_of before = slid.end in (
               omega arith,
-              ap (λ (o : Outcome). o.tally.tail) runs.same
-                  ∙ tail_last runs.spent.tail (ahead input table (shown old)).tally.tail move.tally.looks found.0 lost.0 ∙ sym moved.looks,
+              (
+                ap (λ (o : Outcome). o.tally.tail) runs.same
+                    ∙ tail_last runs.spent.tail (ahead input table (shown old)).tally.tail move.tally.looks found.0 lost.0 ∙ sym moved.looks,
+                omega (arith, kept, held_is, ends, anchor_is),
+              ),
             );
       }
 

@@ -15,7 +15,7 @@ use Rattle.dfdl_terms.specs.declared.text.TextSize.TheVariants.{Bits, Characters
 use Rattle.dfdl_terms.specs.Rows.{Table}
 use Rattle.dfdl_looks.specs.Looks.{Agrees, seen_in}
 use Rattle.dfdl_looks.specs.Asks.{Reached, Told, TooFar, Missing, Reading, ask}
-use Rattle.dfdl_looks.specs.Tallies.{Tally, nothing, one_row, plus}
+use Rattle.dfdl_looks.specs.Tallies.{Tally, needs_from, nothing, one_row, plus}
 use Rattle.dfdl_looks.proofs.Resumed.{asked}
 use Rattle.dfdl_grammar.specs.declared.end.End.TheVariants.{Done, Failed}
 use Rattle.dfdl_grammar.specs.States.{Input, State, anchor}
@@ -79,16 +79,17 @@ module _ (input : Input) (table : Table) where
       let whole : Reading Find = ask (seen_in input.bytes input.limits.window (anchor s)) (program_for nil primitive s.at s.stop) nothing in
       move.waits ≡ false
       → Does input table (finish input table k (spend cost (cond room
-      (spend whole.tally (land input.limits (content_begins primitive s.at) whole.reached s))
+      (spend (needs_from (anchor s) whole.tally) (land input.limits (content_begins primitive s.at) whole.reached s))
       (ended (Failed LengthOutOfRange s.at) s)))) move
   leaf-ahead cost focus held nil primitive k s sees true going =
       let here : Reading Find = ask (seen_at (from_byte held (anchor s))) (program_for nil primitive s.at s.stop) nothing in
       let same = leaf-reads held nil primitive s sees (found here.reached going) in
       let first : ℕ = content_begins primitive s.at in
-      ap (λ (r : Reading Find). finish input table k (spend cost (spend r.tally (land input.limits first r.reached s)))) (sym same)
-      ∙ ap (finish input table k) (spend-spend cost here.tally (land input.limits first here.reached s))
-      ∙ finish-spend input table k (plus cost here.tally) (land input.limits first here.reached s)
-      ∙ ap (spend (plus cost here.tally)) (land-ahead focus first here.reached k s going)
+      let spent : Tally = needs_from (anchor s) here.tally in
+      ap (λ (r : Reading Find). finish input table k (spend cost (spend (needs_from (anchor s) r.tally) (land input.limits first r.reached s)))) (sym same)
+      ∙ ap (finish input table k) (spend-spend cost spent (land input.limits first here.reached s))
+      ∙ finish-spend input table k (plus cost spent) (land input.limits first here.reached s)
+      ∙ ap (spend (plus cost spent)) (land-ahead focus first here.reached k s going)
   leaf-ahead cost focus held nil primitive k s sees false going = finish-spend input table k cost (ended (Failed LengthOutOfRange s.at) s)
 
   pub leaf-of : (cost : Tally) (focus : Focus) (held : Held) (nil : Option (List Value)) (primitive : Option Primitive) (k : List Frame) (s : State) → Sees held input s
@@ -118,7 +119,7 @@ module _ (input : Input) (table : Table) where
       → leaf_of input nil (cond test (Some primitive) None) s ≡ ended (Failed LengthOutOfRange s.at) s
   too-long nil s bits over true primitive ends =
       let whole : Reading Find = ask (seen_in input.bytes input.limits.window (anchor s)) (program_for nil primitive s.at s.stop) nothing in
-      ap (λ (room : Bool). cond room (spend whole.tally (land input.limits (content_begins primitive s.at) whole.reached s)) (ended (Failed LengthOutOfRange s.at) s))
+      ap (λ (room : Bool). cond room (spend (needs_from (anchor s) whole.tally) (land input.limits (content_begins primitive s.at) whole.reached s)) (ended (Failed LengthOutOfRange s.at) s))
       (no-room primitive s.at bits s.stop (ends refl) over)
   too-long nil s bits over false primitive ends = refl
 
@@ -195,16 +196,18 @@ module _ (input : Input) (table : Table) where
         let whole : Reading Find = ask (seen_in input.bytes input.limits.window (anchor s)) (program primitive s.at s.stop) nothing in
         move.waits ≡ false
         → Does input table (finish input table k (spend one_row (cond room
-        (spend whole.tally (land_prefix input.limits own (content_begins primitive s.at) follow whole.reached s))
+        (spend (needs_from (anchor s) whole.tally) (land_prefix input.limits own (content_begins primitive s.at) follow whole.reached s))
         (ended (Failed LengthOutOfRange s.at) s)))) move
     prefix-ahead held primitive sees true going =
         let here : Reading Find = ask (seen_at (from_byte held (anchor s))) (program primitive s.at s.stop) nothing in
         let same = leaf-reads held None primitive s sees (found here.reached going) in
         let first : ℕ = content_begins primitive s.at in
-        ap (λ (r : Reading Find). finish input table k (spend one_row (spend r.tally (land_prefix input.limits own first follow r.reached s)))) (sym same)
-        ∙ ap (finish input table k) (spend-spend one_row here.tally (land_prefix input.limits own first follow here.reached s))
-        ∙ finish-spend input table k (plus one_row here.tally) (land_prefix input.limits own first follow here.reached s)
-        ∙ ap (spend (plus one_row here.tally)) (prefix-landed first here.reached going)
+        let spent : Tally = needs_from (anchor s) here.tally in
+        ap (λ (r : Reading Find). finish input table k
+        (spend one_row (spend (needs_from (anchor s) r.tally) (land_prefix input.limits own first follow r.reached s)))) (sym same)
+        ∙ ap (finish input table k) (spend-spend one_row spent (land_prefix input.limits own first follow here.reached s))
+        ∙ finish-spend input table k (plus one_row spent) (land_prefix input.limits own first follow here.reached s)
+        ∙ ap (spend (plus one_row spent)) (prefix-landed first here.reached going)
     prefix-ahead held primitive sees false going = finish-spend input table k one_row (ended (Failed LengthOutOfRange s.at) s)
 
     pub prefix-of : (held : Held) (primitive : Option Primitive) → Sees held input s

@@ -16,7 +16,7 @@ use Rattle.dfdl_terms.specs.declared.row.Row.{Row}
 use Rattle.dfdl_terms.specs.declared.row.Row.TheVariants.{Leaf, Elem, Group, Skip, Align, Initiator, Terminator, Scope, Boxed, PrefixedLeaf, PrefixedBox}
 use Rattle.dfdl_terms.specs.Rows.{Table}
 use Rattle.dfdl_looks.specs.Asks.{Reached, Told, TooFar, Missing, ask}
-use Rattle.dfdl_looks.specs.Tallies.{Tally, nothing, one_row, saw_byte}
+use Rattle.dfdl_looks.specs.Tallies.{Tally, needs_from, nothing, one_row, saw_byte}
 use Rattle.dfdl_grammar.specs.declared.end.End.{End}
 use Rattle.dfdl_grammar.specs.declared.end.End.TheVariants.{Done, Failed, Stopped}
 use Rattle.dfdl_grammar.specs.declared.limits.Limits.{Limits}
@@ -109,31 +109,31 @@ module _ (limits : Limits) (id own : ℕ) (next : ℕ → List Frame → State �
   prefix-landed-low first TooFar s is opens ends = tt
   prefix-landed-low first Missing s is opens ends = (is, opens)
 
-filled-low : (window : ℕ) (sight : Held) (to : ℕ) (v : Seen) (k : List Frame) (s : State) → sight.base ≤ (to - 1) / 8 → s.at < to
-    → AreOpen sight.base s.at k s.marks → IsLow (fill_move window sight to v k s)
-filled-low window sight to (Byte b) k s is less opens = (omega arith, later sight.base s.at to k s.marks (omega arith) opens)
-filled-low window sight to DataEnded k s is less opens = opens
-filled-low window sight to NotYet k s is less opens = (is, (less, opens))
-filled-low window sight to Over k s is less opens = tt
+filled-low : (window : ℕ) (sight : Held) (low to : ℕ) (v : Seen) (k : List Frame) (s : State) → sight.base ≤ (to - 1) / 8 → s.at < to
+    → AreOpen sight.base s.at k s.marks → IsLow (fill_move window sight low to v k s)
+filled-low window sight low to (Byte b) k s is less opens = (omega arith, later sight.base s.at to k s.marks (omega arith) opens)
+filled-low window sight low to DataEnded k s is less opens = opens
+filled-low window sight low to NotYet k s is less opens = (is, (less, opens))
+filled-low window sight low to Over k s is less opens = tt
 
 -- a byte of the rest of a box
-past-low : (sight : Held) (byte : ℕ) (outer : Outside) (k : List Frame) (s : State) → sight.base ≤ byte → 8 * byte < s.stop → s.at ≤ 8 * (byte + 1) → s.at ≤ s.stop
+past-low : (sight : Held) (low byte : ℕ) (outer : Outside) (k : List Frame) (s : State) → sight.base ≤ byte → 8 * byte < s.stop → s.at ≤ 8 * (byte + 1) → s.at ≤ s.stop
     → AreOpen sight.base s.at k s.marks → (last : Bool) → nat_le ((s.stop - 1) / 8) byte ≡ last
-    → IsLow (cond last (pass (saw_byte byte nothing) sight (Leave Done) k (back_outside outer (record s { at = s.stop })))
-    (pass (saw_byte byte nothing) sight (PassRest (8 * (byte + 1)) outer) k s))
-past-low sight byte outer k s base inside behind before_stop opens true is =
+    → IsLow (cond last (pass (needs_from low (saw_byte byte nothing)) sight (Leave Done) k (back_outside outer (record s { at = s.stop })))
+    (pass (needs_from low (saw_byte byte nothing)) sight (PassRest (8 * (byte + 1)) outer) k s))
+past-low sight low byte outer k s base inside behind before_stop opens true is =
     (omega arith, later sight.base s.at s.stop k s.marks before_stop opens)
-past-low sight byte outer k s base inside behind before_stop opens false is =
+past-low sight low byte outer k s base inside behind before_stop opens false is =
     let less : byte < (s.stop - 1) / 8 = grind (arith, nat_tests) in
     (omega arith, (omega arith, (behind, opens)))
 
-rested-low : (window : ℕ) (sight : Held) (bit : ℕ) (outer : Outside) (v : Seen) (k : List Frame) (s : State) → sight.base ≤ bit / 8 → bit < s.stop → s.at ≤ bit
-    → AreOpen sight.base s.at k s.marks → IsLow (rest_move window sight bit outer v k s)
-rested-low window sight bit outer (Byte b) k s base inside behind opens =
-    past-low sight (bit / 8) outer k s base (omega arith) (omega arith) (omega arith) opens (nat_le ((s.stop - 1) / 8) (bit / 8)) refl
-rested-low window sight bit outer DataEnded k s base inside behind opens = opens
-rested-low window sight bit outer NotYet k s base inside behind opens = (base, (inside, (behind, opens)))
-rested-low window sight bit outer Over k s base inside behind opens = tt
+rested-low : (window : ℕ) (sight : Held) (low bit : ℕ) (outer : Outside) (v : Seen) (k : List Frame) (s : State) → sight.base ≤ bit / 8 → bit < s.stop → s.at ≤ bit
+    → AreOpen sight.base s.at k s.marks → IsLow (rest_move window sight low bit outer v k s)
+rested-low window sight low bit outer (Byte b) k s base inside behind opens =
+    past-low sight low (bit / 8) outer k s base (omega arith) (omega arith) (omega arith) opens (nat_le ((s.stop - 1) / 8) (bit / 8)) refl
+rested-low window sight low bit outer DataEnded k s base inside behind opens = opens
+rested-low window sight low bit outer NotYet k s base inside behind opens = (base, (inside, (behind, opens)))
+rested-low window sight low bit outer Over k s base inside behind opens = tt
 
 -- a delimiter that is sought
 one-text-low : (cause : ParseCause) (bits low : ℕ) (k : List Frame) (s : State) → low ≤ aligned 8 s.at / 8 → AreOpen low s.at k s.marks → (is : Bool)
@@ -343,12 +343,12 @@ module _ (held : Held) (s : State) where
   step-low limits table (PassRest bit outer) k stands needs =
       let low : ℕ = anchor_at s (8 * (bit / 8)) in
       let few : low ≤ bit / 8 = stands.1.1 in
-      rested-low limits.window (from_byte held (min low (end_of held))) bit outer (seen_beyond held low (bit / 8)) k s (omega arith) needs.1.0 needs.1.1.0
+      rested-low limits.window (from_byte held (min low (end_of held))) low bit outer (seen_beyond held low (bit / 8)) k s (omega arith) needs.1.0 needs.1.1.0
       (given-up (8 * (bit / 8)) k needs.1.1.1)
   step-low limits table (Pass to) k stands needs =
       let low : ℕ = anchor_at s (to - 1) in
       let few : low ≤ (to - 1) / 8 = stands.1 in
-      filled-low limits.window (from_byte held (min low (end_of held))) to (seen_beyond held low ((to - 1) / 8)) k s (omega arith) needs.1.0
+      filled-low limits.window (from_byte held (min low (end_of held))) low to (seen_beyond held low ((to - 1) / 8)) k s (omega arith) needs.1.0
       (given-up (to - 1) k needs.1.1)
   step-low limits table (Sized prim size) k stands needs = told-low limits prim size (nil_values table.primitives s.instead) (slice_get table.primitives prim) k stands needs.0 needs.1
   step-low limits table (Seek list terminates) k stands needs =
@@ -360,42 +360,42 @@ module _ (held : Held) (s : State) where
   step-low limits table (Leave told) (frame ∷ k) stands needs = leave-low limits table frame told k needs
 
 -- fill that was passed over ends among the bytes that have come
-filled-within : (window : ℕ) (sight : Held) (to : ℕ) (v : Seen) (k : List Frame) (s : State) (end : ℕ) → s.at ≤ 8 * end
-    → ((b : ℕ) → v ≡ Byte b → (to - 1) / 8 + 1 ≤ end) → (fill_move window sight to v k s).machine.state.at ≤ 8 * end
-filled-within window sight to (Byte b) k s end at within = let there = within b refl in omega arith
-filled-within window sight to DataEnded k s end at within = at
-filled-within window sight to NotYet k s end at within = at
-filled-within window sight to Over k s end at within = at
+filled-within : (window : ℕ) (sight : Held) (low to : ℕ) (v : Seen) (k : List Frame) (s : State) (end : ℕ) → s.at ≤ 8 * end
+    → ((b : ℕ) → v ≡ Byte b → (to - 1) / 8 + 1 ≤ end) → (fill_move window sight low to v k s).machine.state.at ≤ 8 * end
+filled-within window sight low to (Byte b) k s end at within = let there = within b refl in omega arith
+filled-within window sight low to DataEnded k s end at within = at
+filled-within window sight low to NotYet k s end at within = at
+filled-within window sight low to Over k s end at within = at
 
 pub fill-within : (limits : Limits) (held : Held) (to : ℕ) (k : List Frame) (s : State) → IsHeld held.base (to - 1) s → s.at ≤ 8 * end_of held
     → (fill limits held to k s).machine.state.at ≤ 8 * end_of held
 fill-within limits held to k s base at =
     let low : ℕ = anchor_at s (to - 1) in
-    filled-within limits.window (from_byte held (min low (end_of held))) to (seen_beyond held low ((to - 1) / 8)) k s (end_of held) at
+    filled-within limits.window (from_byte held (min low (end_of held))) low to (seen_beyond held low ((to - 1) / 8)) k s (end_of held) at
     (λ b is. beyond-byte held low ((to - 1) / 8) base.0 base.1 b is)
 
 -- so does the rest of a box
-past-within : (sight : Held) (byte : ℕ) (outer : Outside) (k : List Frame) (s : State) (end : ℕ) → s.at ≤ 8 * end → byte + 1 ≤ end
+past-within : (sight : Held) (low byte : ℕ) (outer : Outside) (k : List Frame) (s : State) (end : ℕ) → s.at ≤ 8 * end → byte + 1 ≤ end
     → (last : Bool) → nat_le ((s.stop - 1) / 8) byte ≡ last
-    → (cond last (pass (saw_byte byte nothing) sight (Leave Done) k (back_outside outer (record s { at = s.stop })))
-    (pass (saw_byte byte nothing) sight (PassRest (8 * (byte + 1)) outer) k s)).machine.state.at ≤ 8 * end
-past-within sight byte outer k s end at there true is =
+    → (cond last (pass (needs_from low (saw_byte byte nothing)) sight (Leave Done) k (back_outside outer (record s { at = s.stop })))
+    (pass (needs_from low (saw_byte byte nothing)) sight (PassRest (8 * (byte + 1)) outer) k s)).machine.state.at ≤ 8 * end
+past-within sight low byte outer k s end at there true is =
     let most : (s.stop - 1) / 8 ≤ byte = grind (arith, nat_tests) in
     omega arith
-past-within sight byte outer k s end at there false is = at
+past-within sight low byte outer k s end at there false is = at
 
-rested-within : (window : ℕ) (sight : Held) (bit : ℕ) (outer : Outside) (v : Seen) (k : List Frame) (s : State) (end : ℕ) → s.at ≤ 8 * end
-    → ((b : ℕ) → v ≡ Byte b → bit / 8 + 1 ≤ end) → (rest_move window sight bit outer v k s).machine.state.at ≤ 8 * end
-rested-within window sight bit outer (Byte b) k s end at within =
-    past-within sight (bit / 8) outer k s end at (within b refl) (nat_le ((s.stop - 1) / 8) (bit / 8)) refl
-rested-within window sight bit outer DataEnded k s end at within = at
-rested-within window sight bit outer NotYet k s end at within = at
-rested-within window sight bit outer Over k s end at within = at
+rested-within : (window : ℕ) (sight : Held) (low bit : ℕ) (outer : Outside) (v : Seen) (k : List Frame) (s : State) (end : ℕ) → s.at ≤ 8 * end
+    → ((b : ℕ) → v ≡ Byte b → bit / 8 + 1 ≤ end) → (rest_move window sight low bit outer v k s).machine.state.at ≤ 8 * end
+rested-within window sight low bit outer (Byte b) k s end at within =
+    past-within sight low (bit / 8) outer k s end at (within b refl) (nat_le ((s.stop - 1) / 8) (bit / 8)) refl
+rested-within window sight low bit outer DataEnded k s end at within = at
+rested-within window sight low bit outer NotYet k s end at within = at
+rested-within window sight low bit outer Over k s end at within = at
 
 pub rest-within : (limits : Limits) (held : Held) (bit : ℕ) (outer : Outside) (k : List Frame) (s : State) → IsHeld held.base (8 * (bit / 8)) s → s.at ≤ 8 * end_of held
     → (pass_rest limits held bit outer k s).machine.state.at ≤ 8 * end_of held
 rest-within limits held bit outer k s base at =
     let low : ℕ = anchor_at s (8 * (bit / 8)) in
     let few = base.1 in
-    rested-within limits.window (from_byte held (min low (end_of held))) bit outer (seen_beyond held low (bit / 8)) k s (end_of held) at
+    rested-within limits.window (from_byte held (min low (end_of held))) low bit outer (seen_beyond held low (bit / 8)) k s (end_of held) at
     (λ b is. beyond-byte held low (bit / 8) base.0 (omega arith) b is)

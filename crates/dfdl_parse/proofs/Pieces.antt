@@ -1,8 +1,8 @@
 -- What a session promises of a piece, of the end of the data and of the next document.
-use Rattle.std.proofs.Common.{◌≡◌, ℕ, ◌+◌, ◌-◌, ◌*◌, ◌/◌, ◌<◌, ◌≤◌, max, min, refl, List, [], ◌∷◌, ◌++◌, length, take, Bool, true, false, ap, sym, subst, ◌∙◌, arith, length-append}
-use Rattle.std.proofs.lemmas.List.{append-nil, get_or-take, get_or_append_left, length-take-le, take_all}
+use Rattle.std.proofs.Common.{◌≡◌, ℕ, ◌+◌, ◌-◌, ◌*◌, ◌/◌, ◌<◌, ◌≤◌, ◌⊎◌, inl, inr, max, not, refl, List, [], ◌∷◌, ◌++◌, length, take, Bool, true, false, ap, sym, subst, ◌∙◌, arith, length-append}
+use Rattle.std.proofs.lemmas.List.{append-nil, get_or-take, get_or_append_left, length-take-le}
 use Rattle.std.proofs.Math.Seq.{take-append-add}
-use Rattle.dfdl_bits.specs.Window.{Held, end_of, from_byte, room_of, up_to_byte, with_more}
+use Rattle.dfdl_bits.specs.Window.{Held, end_of, from_byte, up_to_byte, with_more}
 use Rattle.dfdl_looks.specs.Looks.{Agrees}
 use Rattle.dfdl_terms.specs.Rows.{Table}
 use Rattle.dfdl_grammar.specs.declared.limits.Limits.{Limits}
@@ -21,22 +21,21 @@ use Rattle.dfdl_parse.specs.Answers.{answer_at}
 use Rattle.dfdl_parse.specs.Opens.{AreOpen, NeedsFrom}
 use Rattle.dfdl_parse.specs.Shown.{HasSameLimits, KeepsTo, shown, state_of}
 use Rattle.dfdl_parse.specs.Runs.{Runs}
-use Rattle.dfdl_parse.specs.Running.{Advanced, Reaches, Waited}
+use Rattle.dfdl_parse.specs.Running.{Advanced, Reaches, Slid, Waited}
 use Rattle.dfdl_parse.specs.Registered.{IsRegistered}
-use Rattle.dfdl_parse.specs.Sessions.{CanFollow, ComesTo, Ends, Finished, HasTaken, IsSound, StandsFor, byte_behind, document_of, input_of}
+use Rattle.dfdl_parse.specs.Sessions.{CanFollow, ComesTo, Ends, Finished, HasTaken, IsReady, IsSound, StandsFor, byte_behind, document_of, input_of, still_needed}
 use Rattle.dfdl_parse.proofs.Feeds.{fed, over, stands_first, told}
 use Rattle.dfdl_parse.proofs.Windows.{agrees_from, end_from}
+
+-- a session that hasn't lost can take a piece
+pub ready_when : (lost : Bool) (s : Session) → (lost ≡ true) ⊎ IsReady s → not lost ≡ true → IsReady s
+ready_when true s ready on = absurd (cc)
+ready_when false s (inl lost) on = absurd (cc)
+ready_when false s (inr ready) on = ready
 
 -- a session keeps to its limits
 keeps_to : (s : Session) → IsSound s → KeepsTo s.parser s.limits
 keeps_to s sound = (sym sound.nodes, sym sound.text)
-
--- a part that there is room for
-pub part_bound : (held : Held) (piece : List ℕ) (taken : ℕ) → taken ≡ min (length piece) (room_of held) → length (take taken piece) ≡ taken
-part_bound held piece taken is = length-take-le taken piece (omega arith)
-
-pub whole_part : (held : Held) (piece : List ℕ) (taken : ℕ) → taken ≡ min (length piece) (room_of held) → length piece ≤ room_of held → take taken piece ≡ piece
-whole_part held piece taken is room = take_all taken piece (omega arith)
 
 -- the work as before, with these limits and rows, on the document that begins at this byte
 abbrev WorksOn : Session → Limits → Table → ℕ → ℕ → List ℕ → Type 0
@@ -81,7 +80,9 @@ module _ (old : Session) (piece : List ℕ) (sight : Held) (sound : IsSound old)
   module _ (new : Session) (looks_made : ℕ) (limits : new.limits ≡ old.limits) (rows : new.terms.now ≡ old.terms.now)
       (begins : new.start ≡ old.start) (memory : new.lost ≡ false) where
     lost : (waited : Waited old.terms.now old.parser new.parser sight new.sight looks_made)
-        → (end_of sight < (document_of old (stream ++ piece)).tally.far) × ((document_of old (stream ++ piece)).tally.tail ≡ waited.vain)
+        → (end_of sight < (document_of old (stream ++ piece)).tally.far)
+        × (((document_of old (stream ++ piece)).tally.tail ≡ waited.vain)
+        × (length new.sight.bytes ≡ end_of new.sight - (document_of old (stream ++ piece)).tally.anchor))
     lost waited =
         let here : RunsIn sight (stream ++ piece) = subst (λ (bytes : List ℕ). RunsIn sight bytes) (append-nil (stream ++ piece)) (fed_at []) in
         waited.missed (input_of old (stream ++ piece)) (document_of old (stream ++ piece)) stands.looks (keeps_to old sound) here whole
@@ -90,12 +91,18 @@ module _ (old : Session) (piece : List ℕ) (sight : Held) (sound : IsSound old)
         → length (stream ++ piece) < (document_of old (stream ++ piece)).tally.far
     fed_far waited = subst (λ (n : ℕ). n < (document_of old (stream ++ piece)).tally.far) (sym whole) (lost waited).0
 
+    pub fed_held : Waited old.terms.now old.parser new.parser sight new.sight looks_made
+        → length new.sight.bytes ≡ still_needed old (stream ++ piece)
+    fed_held waited =
+        (lost waited).1.1
+        ∙ ap (λ (n : ℕ). n - (document_of old (stream ++ piece)).tally.anchor) (waited.advanced.slid.end ∙ sym whole)
+
     pub fed_more : Waited old.terms.now old.parser new.parser sight new.sight looks_made
         → StandsFor new (stream ++ piece) start (spent + looks_made) (allowed + (document_of old (stream ++ piece)).tally.tail)
     fed_more waited =
         let counted = stands.counted in
         let few = waited.few in
-        let tail : (document_of old (stream ++ piece)).tally.tail ≡ waited.vain = (lost waited).1 in
+        let tail : (document_of old (stream ++ piece)).tally.tail ≡ waited.vain = (lost waited).1.0 in
         stands_as new old.limits old.terms.now old.start start limits rows begins stands.begins (stream ++ piece) (spent + looks_made)
         (allowed + (document_of old (stream ++ piece)).tally.tail) (stands.looks + (looks_made - waited.vain))
         (λ more can. waited.advanced.runs (input_of old ((stream ++ piece) ++ more)) (document_of old ((stream ++ piece) ++ more)) stands.looks
@@ -281,12 +288,54 @@ reaches_now s (Seek list terminates) sound = sound.at
 reaches_now s (Leave told) sound = (omega arith, sound.at)
 
 -- and comes to no byte behind those, or behind the last that it looks at
-pub reaches_behind : (old mid : Session) (before : ℕ) → before ≡ end_of old.sight → IsSound old → HasEnded mid.parser.focus mid.parser.stack
+reaches_behind : (old mid : Session) (before : ℕ) → before ≡ end_of old.sight → IsSound old → HasEnded mid.parser.focus mid.parser.stack
     → ((last : ℕ) → Reaches last old.sight old.parser.focus (state_of old.parser) → Reaches (max last mid.parser.far) mid.sight mid.parser.focus (state_of mid.parser))
     → (mid.sight.base ≤ max before mid.parser.far) × (mid.parser.at ≤ 8 * max before mid.parser.far)
 reaches_behind old mid before is sound over_here reaches =
     ended_reaches (max before mid.parser.far) mid.sight mid.parser.focus mid.parser.stack (state_of mid.parser) over_here
     (reaches before (subst (λ (n : ℕ). Reaches n old.sight old.parser.focus (state_of old.parser)) (sym is) (reaches_now old old.parser.focus sound)))
+
+-- a session that can take a piece has run over it
+module _ (old mid : Session) (sight : Held) (piece : List ℕ) (ready : IsReady old) (is : sight ≡ with_more old.sight piece) (slid : Slid sight mid.sight) where
+  pub ran_on : mid.sight.ended ≡ false
+  ran_on = slid.ended ∙ ap (λ (h : Held). h.ended) is ∙ ready.ended
+
+  pub ran_end : end_of mid.sight ≡ end_of old.sight + length piece
+  ran_end =
+      let size = length-append old.sight.bytes piece in
+      let there : end_of (with_more old.sight piece) ≡ end_of old.sight + length piece = omega arith in
+      slid.end ∙ ap end_of is ∙ there
+
+  pub ran_sound : mid.limits ≡ old.limits → HasSameLimits old.parser mid.parser → (mid.sight.ended ≡ false → mid.parser.far ≤ end_of mid.sight)
+      → NeedsFrom mid.sight.base mid.parser.focus mid.parser.stack (state_of mid.parser) → mid.parser.at ≤ 8 * end_of mid.sight
+      → IsRegistered mid.terms.now mid.parser → mid.lost ≡ old.lost → IsSound mid
+  ran_sound limits most seen low at registered memory = record {
+    some = subst (λ (l : Limits). 1 ≤ l.window) (sym limits) ready.sound.some;
+    seen = seen;
+    low = low;
+    at = at;
+    registered = registered;
+    window = slid.size ∙ ap (λ (h : Held). h.size) is ∙ ready.sound.window ∙ ap (λ (l : Limits). l.window) (sym limits);
+    nodes = most.0 ∙ ready.sound.nodes ∙ ap (λ (l : Limits). l.nodes) (sym limits);
+    text = most.1.0 ∙ ready.sound.text ∙ ap (λ (l : Limits). l.text) (sym limits);
+    memory = memory ∙ ready.sound.memory;
+  }
+
+  -- a window with a piece more has given up no byte more
+  reaches_more : (last : ℕ) (focus : Focus) (s : State) → Reaches last old.sight focus s → Reaches last sight focus s
+  reaches_more last (Enter id) s at = at
+  reaches_more last (Pass to) s at = at
+  reaches_more last (PassRest bit outer) s at = at
+  reaches_more last (Sized prim size) s at = at
+  reaches_more last (Seek list terminates) s at = at
+  reaches_more last (Leave told) s reaches = (subst (λ (h : Held). h.base ≤ last) (sym is) reaches.0, reaches.1)
+
+  pub ran_reaches : (before : ℕ) → before ≡ end_of old.sight → HasEnded mid.parser.focus mid.parser.stack
+      → ((last : ℕ) → Reaches last sight old.parser.focus (state_of old.parser) → Reaches (max last mid.parser.far) mid.sight mid.parser.focus (state_of mid.parser))
+      → (mid.sight.base ≤ max before mid.parser.far) × (mid.parser.at ≤ 8 * max before mid.parser.far)
+  ran_reaches before at over_here reaches =
+      reaches_behind old mid before at ready.sound over_here
+      (λ last there. reaches last (reaches_more last old.parser.focus (state_of old.parser) there))
 
 -- the front of a stream with a piece, from the piece on
 front_of : (stream piece : List ℕ) (k taken : ℕ) → k ≡ length stream + taken → take k (stream ++ piece) ≡ stream ++ take taken piece

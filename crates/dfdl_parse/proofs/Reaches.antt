@@ -20,7 +20,7 @@ use Rattle.dfdl_terms.specs.Rows.{Table}
 use Rattle.dfdl_terms.specs.declared.prefix.LengthUnit.{LengthUnit}
 use Rattle.dfdl_terms.specs.declared.text.TextSize.{TextSize}
 use Rattle.dfdl_looks.specs.Asks.{Reached, Told, TooFar, Missing, Reading, ask}
-use Rattle.dfdl_looks.specs.Tallies.{Tally, nothing, one_row, plus, saw_byte}
+use Rattle.dfdl_looks.specs.Tallies.{Tally, needs_from, nothing, one_row, plus, saw_byte}
 use Rattle.dfdl_looks.proofs.Seeing.{shown}
 use Rattle.dfdl_grammar.specs.declared.end.End.{End}
 use Rattle.dfdl_grammar.specs.declared.end.End.TheVariants.{Done, Failed, Stopped}
@@ -173,7 +173,7 @@ near-byte at bit k marks is (inr near) = inr near
 -- fill, and the rest of a box
 module _ (m : ℕ) (held : Held) (s : State) (at : s.at ≤ 8 * m) (some : 0 < held.size) where
   filled-reaches : (window low to : ℕ) (v : Seen) (k : List Frame) → low ≤ (to - 1) / 8 → (v ≡ Over → low ≤ m)
-      → Within m (fill_move window (from_byte held (min low (end_of held))) to v k s)
+      → Within m (fill_move window (from_byte held (min low (end_of held))) low to v k s)
   filled-reaches window low to (Byte b) k less over = (omega arith, omega arith)
   filled-reaches window low to DataEnded k less over = (omega arith, omega arith)
   filled-reaches window low to NotYet k less over = omega arith
@@ -188,15 +188,15 @@ module _ (m : ℕ) (held : Held) (s : State) (at : s.at ≤ 8 * m) (some : 0 < h
 
   past-reaches : (low byte : ℕ) (outer : Outside) (k : List Frame) → low ≤ byte → (last : Bool) → nat_le ((s.stop - 1) / 8) byte ≡ last
       → let sight : Held = from_byte held (min low (end_of held)) in
-      Within m (cond last (pass (saw_byte byte nothing) sight (Leave Done) k (back_outside outer (record s { at = s.stop })))
-      (pass (saw_byte byte nothing) sight (PassRest (8 * (byte + 1)) outer) k s))
+      Within m (cond last (pass (needs_from low (saw_byte byte nothing)) sight (Leave Done) k (back_outside outer (record s { at = s.stop })))
+      (pass (needs_from low (saw_byte byte nothing)) sight (PassRest (8 * (byte + 1)) outer) k s))
   past-reaches low byte outer k less true is =
       let most : (s.stop - 1) / 8 ≤ byte = grind (arith, nat_tests) in
       (omega arith, omega arith)
   past-reaches low byte outer k less false is = omega arith
 
   rested-reaches : (window low bit : ℕ) (outer : Outside) (v : Seen) (k : List Frame) → low ≤ bit / 8 → (v ≡ Over → low ≤ m)
-      → Within m (rest_move window (from_byte held (min low (end_of held))) bit outer v k s)
+      → Within m (rest_move window (from_byte held (min low (end_of held))) low bit outer v k s)
   rested-reaches window low bit outer (Byte b) k less over = past-reaches low (bit / 8) outer k less (nat_le ((s.stop - 1) / 8) (bit / 8)) refl
   rested-reaches window low bit outer DataEnded k less over = (omega arith, omega arith)
   rested-reaches window low bit outer NotYet k less over = omega arith

@@ -19,7 +19,7 @@ use Rattle.dfdl_terms.specs.declared.row.Row.TheVariants.{Leaf, Elem, Group, Ski
 use Rattle.dfdl_terms.specs.declared.text.TextSize.{TextSize}
 use Rattle.dfdl_terms.specs.Rows.{NamesWithin, Table, named_by}
 use Rattle.dfdl_looks.specs.Asks.{Reached, Told, TooFar, Missing, ask}
-use Rattle.dfdl_looks.specs.Tallies.{Tally, nothing, one_row, saw_byte}
+use Rattle.dfdl_looks.specs.Tallies.{Tally, needs_from, nothing, one_row, saw_byte}
 use Rattle.dfdl_grammar.specs.declared.end.End.{End}
 use Rattle.dfdl_grammar.specs.declared.end.End.TheVariants.{Done, Failed, Stopped}
 use Rattle.dfdl_grammar.specs.declared.instead.Instead.{Instead}
@@ -219,29 +219,29 @@ module _ (count : ℕ) where
   begin-names held to k s lists false true = record { sought = tt; open_lists = lists }
   begin-names held to k s lists false false = left_at _ k s lists
 
-  filled-names : (window : ℕ) (sight : Held) (to : ℕ) (v : Seen) (k : List Frame) (s : State) → All IsOne s.lists → Names (fill_move window sight to v k s)
-  filled-names window sight to (Byte b) k s lists = left_at Done k _ lists
-  filled-names window sight to DataEnded k s lists = left_at _ k s lists
-  filled-names window sight to NotYet k s lists = record { sought = tt; open_lists = lists }
-  filled-names window sight to Over k s lists = left_at _ k s lists
+  filled-names : (window : ℕ) (sight : Held) (low to : ℕ) (v : Seen) (k : List Frame) (s : State) → All IsOne s.lists → Names (fill_move window sight low to v k s)
+  filled-names window sight low to (Byte b) k s lists = left_at Done k _ lists
+  filled-names window sight low to DataEnded k s lists = left_at _ k s lists
+  filled-names window sight low to NotYet k s lists = record { sought = tt; open_lists = lists }
+  filled-names window sight low to Over k s lists = left_at _ k s lists
 
   leave-box-names : (held : Held) (outer : Outside) (k : List Frame) (s : State) → All IsOne s.lists → (over : Bool)
       → Names (cond over (pass nothing held (Leave Done) k (back_outside outer s)) (pass nothing held (PassRest s.at outer) k s))
   leave-box-names held outer k s lists true = left_at Done k _ lists
   leave-box-names held outer k s lists false = record { sought = tt; open_lists = lists }
 
-  past-names : (sight : Held) (byte : ℕ) (outer : Outside) (k : List Frame) (s : State) → All IsOne s.lists → (last : Bool)
-      → Names (cond last (pass (saw_byte byte nothing) sight (Leave Done) k (back_outside outer (record s { at = s.stop })))
-      (pass (saw_byte byte nothing) sight (PassRest (8 * (byte + 1)) outer) k s))
-  past-names sight byte outer k s lists true = left_at Done k _ lists
-  past-names sight byte outer k s lists false = record { sought = tt; open_lists = lists }
+  past-names : (sight : Held) (low byte : ℕ) (outer : Outside) (k : List Frame) (s : State) → All IsOne s.lists → (last : Bool)
+      → Names (cond last (pass (needs_from low (saw_byte byte nothing)) sight (Leave Done) k (back_outside outer (record s { at = s.stop })))
+      (pass (needs_from low (saw_byte byte nothing)) sight (PassRest (8 * (byte + 1)) outer) k s))
+  past-names sight low byte outer k s lists true = left_at Done k _ lists
+  past-names sight low byte outer k s lists false = record { sought = tt; open_lists = lists }
 
-  rested-names : (window : ℕ) (sight : Held) (bit : ℕ) (outer : Outside) (v : Seen) (k : List Frame) (s : State) → All IsOne s.lists
-      → Names (rest_move window sight bit outer v k s)
-  rested-names window sight bit outer (Byte b) k s lists = past-names sight (bit / 8) outer k s lists (nat_le ((s.stop - 1) / 8) (bit / 8))
-  rested-names window sight bit outer DataEnded k s lists = left_at _ k _ lists
-  rested-names window sight bit outer NotYet k s lists = record { sought = tt; open_lists = lists }
-  rested-names window sight bit outer Over k s lists = left_at _ k s lists
+  rested-names : (window : ℕ) (sight : Held) (low bit : ℕ) (outer : Outside) (v : Seen) (k : List Frame) (s : State) → All IsOne s.lists
+      → Names (rest_move window sight low bit outer v k s)
+  rested-names window sight low bit outer (Byte b) k s lists = past-names sight low (bit / 8) outer k s lists (nat_le ((s.stop - 1) / 8) (bit / 8))
+  rested-names window sight low bit outer DataEnded k s lists = left_at _ k _ lists
+  rested-names window sight low bit outer NotYet k s lists = record { sought = tt; open_lists = lists }
+  rested-names window sight low bit outer Over k s lists = left_at _ k s lists
 
   -- a delimiter
   delimiter-names : (held : Held) (delimiter : Delimiter) (terminates : Bool) (k : List Frame) (s : State) → delimiter.list < count → All IsOne s.lists → (does_stand : Bool)
@@ -334,10 +334,10 @@ module _ (limits : Limits) (table : Table) (held : Held) (named : All (NamesWith
   step-names (Enter id) k s within = enter-names id (slice_get table.rows id) k s refl within.open_lists
   step-names (Pass to) k s within =
       let low : ℕ = anchor_at s (to - 1) in
-      filled-names count limits.window (from_byte held (min low (end_of held))) to (seen_beyond held low ((to - 1) / 8)) k s within.open_lists
+      filled-names count limits.window (from_byte held (min low (end_of held))) low to (seen_beyond held low ((to - 1) / 8)) k s within.open_lists
   step-names (PassRest bit outer) k s within =
       let low : ℕ = anchor_at s (8 * (bit / 8)) in
-      rested-names count limits.window (from_byte held (min low (end_of held))) bit outer (seen_beyond held low (bit / 8)) k s within.open_lists
+      rested-names count limits.window (from_byte held (min low (end_of held))) low bit outer (seen_beyond held low (bit / 8)) k s within.open_lists
   step-names (Sized prim size) k s within =
       sized-names count limits prim size held (nil_values table.primitives s.instead) (slice_get table.primitives prim) k s within.open_lists
   step-names (Seek list terminates) k s within =

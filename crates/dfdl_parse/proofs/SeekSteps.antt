@@ -1,5 +1,5 @@
 -- The steps of delimiters and scopes do a part of what is ahead.
-use Rattle.std.proofs.Common.{◌≡◌, ℕ, zero, suc, ◌+◌, ◌<◌, max, ◌&&◌, nat_eq, nat_lt, refl, List, ◌∷◌, length, Bool, true, false, cond, ap, sym, subst, ◌∙◌, arith}
+use Rattle.std.proofs.Common.{◌≡◌, ℕ, zero, suc, ◌+◌, ◌-◌, ◌<◌, max, ◌&&◌, nat_eq, nat_lt, refl, List, ◌∷◌, length, Bool, true, false, cond, ap, sym, subst, ◌∙◌, arith}
 use Rattle.dfdl_bits.specs.Window.{Held, end_of, from_byte, room_of, seen_at}
 use Rattle.dfdl_report.specs.declared.cause.ParseCause.{ParseCause}
 use Rattle.dfdl_terms.specs.declared.delimiters.Delimiter.{Delimiter}
@@ -7,7 +7,7 @@ use Rattle.dfdl_terms.specs.declared.delimiters.Delimiters.{Delimiters}
 use Rattle.dfdl_terms.specs.Rows.{Table}
 use Rattle.dfdl_looks.specs.Looks.{Agrees, seen_in}
 use Rattle.dfdl_looks.specs.Asks.{Ask, AsksFrom, Reached, Told, TooFar, Missing, Reading, ask}
-use Rattle.dfdl_looks.specs.Tallies.{Tally, first_of, nothing, one_row}
+use Rattle.dfdl_looks.specs.Tallies.{Tally, beside_first, first_of, needs_from, nothing, one_row}
 use Rattle.dfdl_looks.proofs.Resumed.{asked}
 use Rattle.dfdl_looks.proofs.Waiting.{missed, waits_while, counted}
 use Rattle.dfdl_delims.specs.Longest.{Longest, Text, NoText}
@@ -55,6 +55,11 @@ is_lost Missing is = refl
 first_told : (n t : ℕ) → 0 < n → first_of n t ≡ n
 first_told zero t some = absurd (omega arith)
 first_told (suc n) t some = refl
+
+-- and what is told beside it
+beside_told : (n a b : ℕ) → 0 < n → beside_first n a b ≡ a
+beside_told zero a b some = absurd (omega arith)
+beside_told (suc n) a b some = refl
 
 module _ (input : Input) (table : Table) where
   pub delimiter-ahead : (held : Held) (delimiter : Delimiter) (terminates : Bool) (k : List Frame) (s : State) (stands : Bool)
@@ -110,15 +115,16 @@ module _ (input : Input) (table : Table) where
     seek-ahead going =
         let cause : ParseCause = cause_of terminates in
         let place : ℕ = place_of terminates s in
-        ap (λ (r : Reading Longest). finish input table k (spend r.tally (passed_text cause place input.limits.window r.reached s)))
+        ap (λ (r : Reading Longest). finish input table k (spend (needs_from low r.tally) (passed_text cause place input.limits.window r.reached s)))
         (sym (seek-reads (came here.reached going)))
-        ∙ finish-spend input table k here.tally (passed_text cause place input.limits.window here.reached s)
-        ∙ ap (spend here.tally) (text-ahead (Seek list terminates) cause place here.reached k s going)
+        ∙ finish-spend input table k (needs_from low here.tally) (passed_text cause place input.limits.window here.reached s)
+        ∙ ap (spend (needs_from low here.tally)) (text-ahead (Seek list terminates) cause place here.reached k s going)
 
     -- a search that was in vain is one for the end of the data that have come
     pub seek-lost : length input.bytes ≡ end_of held → held.ended ≡ false → here.reached ≡ Missing
         → ((from_here input table (Seek list terminates) k s).tally.tail ≡ here.tally.looks)
-        × (end_of held < (from_here input table (Seek list terminates) k s).tally.far)
+        × ((end_of held < (from_here input table (Seek list terminates) k s).tally.far)
+        × (length (from_byte held low).bytes ≡ end_of held - (from_here input table (Seek list terminates) k s).tally.anchor))
     seek-lost all on missing =
         let sight : Held = from_byte held low in
         let whole : Reading Longest = whole_of list terminates s in
@@ -131,13 +137,17 @@ module _ (input : Input) (table : Table) where
         let some : 0 < here.tally.looks = counted (seen_at sight) asks nothing missing in
         let o : Outcome = passed_text (cause_of terminates) (place_of terminates s) input.limits.window whole.reached s in
         let rest : Outcome = finish input table k o in
-        let is : from_here input table (Seek list terminates) k s ≡ spend whole.tally rest = finish-spend input table k whole.tally o in
+        let is : from_here input table (Seek list terminates) k s ≡ spend (needs_from low whole.tally) rest =
+        finish-spend input table k (needs_from low whole.tally) o in
         let is_tail : (from_here input table (Seek list terminates) k s).tally.tail ≡ first_of whole.tally.tail rest.tally.tail =
         ap (λ (o : Outcome). o.tally.tail) is in
         let is_far : (from_here input table (Seek list terminates) k s).tally.far ≡ max whole.tally.far rest.tally.far =
         ap (λ (o : Outcome). o.tally.far) is in
         let told_some : 0 < whole.tally.tail = omega arith in
-        (is_tail ∙ first_told whole.tally.tail rest.tally.tail told_some ∙ tail, omega arith)
+        let is_anchor : (from_here input table (Seek list terminates) k s).tally.anchor ≡ low =
+        ap (λ (o : Outcome). o.tally.anchor) is ∙ beside_told whole.tally.tail low rest.tally.anchor told_some in
+        let kept : low + length sight.bytes ≡ end_of held = ends in
+        (is_tail ∙ first_told whole.tally.tail rest.tally.tail told_some ∙ tail, (omega arith, omega (arith, kept, is_anchor)))
 
 -- where a search waits, the end wasn't told, and there is room for a byte
 pub seek-room : (delimiters : List Delimiters) (held : Held) (list : ℕ) (terminates : Bool) (s : State)

@@ -15,7 +15,7 @@ use Rattle.dfdl_terms.specs.declared.row.Row.TheVariants.{Leaf, Elem, Group, Ski
 use Rattle.dfdl_terms.specs.Rows.{Table}
 use Rattle.dfdl_looks.specs.Looks.{seen_in}
 use Rattle.dfdl_looks.specs.Asks.{Reached, Told, TooFar, Missing, Reading, ask}
-use Rattle.dfdl_looks.specs.Tallies.{Tally, first_of, nothing, one_row, plus, saw_byte, saw_end}
+use Rattle.dfdl_looks.specs.Tallies.{Tally, beside_first, first_of, needs_from, nothing, one_row, plus, saw_byte, saw_end}
 use Rattle.dfdl_looks.proofs.Waiting.{missed, waits_while, counted}
 use Rattle.dfdl_grammar.specs.declared.end.End.{End}
 use Rattle.dfdl_grammar.specs.declared.end.End.TheVariants.{Done, Failed, Stopped}
@@ -65,7 +65,9 @@ pub record Waits (table : Table) (held : Held) (focus : Focus) (k : List Frame) 
   pub on : held.ended ≡ false
   pub room : 0 < room_of move.held
   pub missed : (input : Input) → Fits held input focus s → length input.bytes ≡ end_of held
-      → ((from_here input table focus k s).tally.tail ≡ move.tally.looks) × (end_of held < (from_here input table focus k s).tally.far)
+      → ((from_here input table focus k s).tally.tail ≡ move.tally.looks)
+      × ((end_of held < (from_here input table focus k s).tally.far)
+      × (length move.held.bytes ≡ end_of held - (from_here input table focus k s).tally.anchor))
 
 is_lost : (reached : Reached Find) → is_missing reached ≡ true → reached ≡ Missing
 is_lost (Told f) is = absurd (cc)
@@ -77,6 +79,12 @@ first_told : (n t : ℕ) → 0 < n → first_of n t ≡ n
 first_told zero t some = absurd (omega arith)
 first_told (suc n) t some = refl
 
+-- and what is told beside the second one
+beside_second : (n t a b c : ℕ) → n ≡ 0 → 0 < t → beside_first (first_of n t) (beside_first n a b) c ≡ b
+beside_second zero zero a b c none some = absurd (omega arith)
+beside_second zero (suc t) a b c none some = refl
+beside_second (suc n) t a b c none some = absurd (omega arith)
+
 module _ (table : Table) (held : Held) (s : State) where
   -- what a leaf reads over whole data
   abbrev whole_of : Input → Option (List Value) → Primitive → Reading Find
@@ -85,9 +93,11 @@ module _ (table : Table) (held : Held) (s : State) where
   -- the outcome of a look at a leaf that was in vain, behind a cost that missed nothing, whatever is made of it
   look-lost : (input : Input) (cost : Tally) → cost.tail ≡ 0 → (nil : Option (List Value)) (primitive : Primitive) (k : List Frame) (o : Outcome) → Sees held input s → length input.bytes ≡ end_of held
       → (ask (seen_at (from_byte held (anchor s))) (program_for nil primitive s.at s.stop) nothing).reached ≡ Missing → held.ended ≡ false
-      → ((finish input table k (spend cost (spend (whole_of input nil primitive).tally o))).tally.tail
+      → ((finish input table k (spend cost (spend (needs_from (anchor s) (whole_of input nil primitive).tally) o))).tally.tail
       ≡ (ask (seen_at (from_byte held (anchor s))) (program_for nil primitive s.at s.stop) nothing).tally.looks)
-      × (end_of held < (finish input table k (spend cost (spend (whole_of input nil primitive).tally o))).tally.far)
+      × ((end_of held < (finish input table k (spend cost (spend (needs_from (anchor s) (whole_of input nil primitive).tally) o))).tally.far)
+      × (length (from_byte held (anchor s)).bytes
+      ≡ end_of held - (finish input table k (spend cost (spend (needs_from (anchor s) (whole_of input nil primitive).tally) o))).tally.anchor))
   look-lost input cost no_tail nil primitive k o sees all missing on =
       let sight : Held = from_byte held (anchor s) in
       let here : Reading Find = ask (seen_at sight) (program_for nil primitive s.at s.stop) nothing in
@@ -101,27 +111,32 @@ module _ (table : Table) (held : Held) (s : State) where
       let far : length input.bytes < whole.tally.far = subst (λ (r : Reading Find). length input.bytes < r.tally.far) same told.1 in
       let some : 0 < here.tally.looks = counted (seen_at sight) (program_for nil primitive s.at s.stop) nothing missing in
       let rest : Outcome = finish input table k o in
-      let is : finish input table k (spend cost (spend whole.tally o)) ≡ spend (plus cost whole.tally) rest =
-      ap (finish input table k) (spend-spend cost whole.tally o)
-      ∙ finish-spend input table k (plus cost whole.tally) o in
-      let is_tail : (finish input table k (spend cost (spend whole.tally o))).tally.tail ≡ first_of (first_of cost.tail whole.tally.tail) rest.tally.tail =
+      let spent : Tally = needs_from (anchor s) whole.tally in
+      let is : finish input table k (spend cost (spend spent o)) ≡ spend (plus cost spent) rest =
+      ap (finish input table k) (spend-spend cost spent o)
+      ∙ finish-spend input table k (plus cost spent) o in
+      let is_tail : (finish input table k (spend cost (spend spent o))).tally.tail ≡ first_of (first_of cost.tail whole.tally.tail) rest.tally.tail =
       ap (λ (o : Outcome). o.tally.tail) is in
-      let is_far : (finish input table k (spend cost (spend whole.tally o))).tally.far ≡ max (max cost.far whole.tally.far) rest.tally.far =
+      let is_far : (finish input table k (spend cost (spend spent o))).tally.far ≡ max (max cost.far whole.tally.far) rest.tally.far =
       ap (λ (o : Outcome). o.tally.far) is in
-      let told_some : 0 < whole.tally.tail = omega arith in (
+      let told_some : 0 < whole.tally.tail = omega arith in
+      let is_anchor : (finish input table k (spend cost (spend spent o))).tally.anchor ≡ anchor s =
+      ap (λ (o : Outcome). o.tally.anchor) is
+      ∙ beside_second cost.tail whole.tally.tail cost.anchor (anchor s) rest.tally.anchor no_tail told_some in
+      let kept : anchor s + length sight.bytes ≡ end_of held = ends in (
         is_tail ∙ ap (λ (n : ℕ). first_of (first_of n whole.tally.tail) rest.tally.tail) no_tail
             ∙ first_told whole.tally.tail rest.tally.tail told_some ∙ tail,
-        omega arith,
+        (omega arith, omega (arith, kept, is_anchor)),
       )
 
   -- a step whose look at a leaf was in vain
   look-waits : (cost : Tally) → cost.tail ≡ 0 → cost.looks ≡ 0 → (focus : Focus) (nil : Option (List Value)) (primitive : Primitive) (k : List Frame) (machine : Machine) (waits : Bool)
       → machine ≡ record { focus = focus; stack = k; state = s }
       → ((input : Input) → Fits held input focus s → Sees held input s) → (made : Input → Outcome)
-      → ((input : Input) → from_here input table focus k s ≡ finish input table k (spend cost (spend (whole_of input nil primitive).tally (made input))))
+      → ((input : Input) → from_here input table focus k s ≡ finish input table k (spend cost (spend (needs_from (anchor s) (whole_of input nil primitive).tally) (made input))))
       → (ask (seen_at (from_byte held (anchor s))) (program_for nil primitive s.at s.stop) nothing).reached ≡ Missing
       → Waits table held focus k s (record {
-        tally = plus cost (ask (seen_at (from_byte held (anchor s))) (program_for nil primitive s.at s.stop) nothing).tally;
+        tally = plus cost (needs_from (anchor s) (ask (seen_at (from_byte held (anchor s))) (program_for nil primitive s.at s.stop) nothing).tally);
         machine = machine;
         held = from_byte held (anchor s);
         waits = waits;
@@ -137,9 +152,13 @@ module _ (table : Table) (held : Held) (s : State) where
         room = omega arith;
         missed = λ input fits all.
             let lost = look-lost input cost no_tail nil primitive k (made input) (sees input fits) all missing stands.0 in
-            let looks : here.tally.looks ≡ (plus cost here.tally).looks = omega arith in (
+            let looks : here.tally.looks ≡ (plus cost here.tally).looks = omega arith in
+            let same = sym (is input) in (
               ap (λ (o : Outcome). o.tally.tail) (is input) ∙ lost.0 ∙ looks,
-              subst (λ (o : Outcome). end_of held < o.tally.far) (sym (is input)) lost.1,
+              (
+                subst (λ (o : Outcome). end_of held < o.tally.far) same lost.1.0,
+                subst (λ (o : Outcome). length sight.bytes ≡ end_of held - o.tally.anchor) same lost.1.1,
+              ),
             );
       }
 
@@ -168,7 +187,7 @@ module _ (table : Table) (held : Held) (s : State) where
       (λ input fits. record { agrees = fits.agrees; size = fits.size; stands = fits.stands }) (λ input. read_over input primitive)
       (λ input. ap (λ (r : Option Row). finish input table k (spend one_row (row input table (below input table id) id r s))) at
       ∙ ap (λ (p : Option Primitive). finish input table k (spend one_row (leaf input nil p s))) is
-      ∙ ap (λ (b : Bool). finish input table k (spend one_row (cond b (spend (whole_of input nil primitive).tally (read_over input primitive))
+      ∙ ap (λ (b : Bool). finish input table k (spend one_row (cond b (spend (needs_from (anchor s) (whole_of input nil primitive).tally) (read_over input primitive))
       (ended (Failed LengthOutOfRange s.at) s)))) has)
       missing
 
@@ -195,9 +214,9 @@ module _ (table : Table) (held : Held) (s : State) where
       (λ input fits. record { agrees = fits.agrees; size = fits.size; stands = fits.stands }) (λ input. read_over input primitive)
       (λ input. ap (λ (p : Option Primitive). finish input table k (sized_leaf input nil p size s)) is
       ∙ ap (λ (p : Option Primitive). finish input table k (leaf_of input nil p s)) sized
-      ∙ ap (λ (b : Bool). finish input table k (cond b (spend (whole_of input nil primitive).tally (read_over input primitive))
+      ∙ ap (λ (b : Bool). finish input table k (cond b (spend (needs_from (anchor s) (whole_of input nil primitive).tally) (read_over input primitive))
       (ended (Failed LengthOutOfRange s.at) s))) has
-      ∙ ap (finish input table k) (sym (spend-nothing (spend (whole_of input nil primitive).tally (read_over input primitive)))))
+      ∙ ap (finish input table k) (sym (spend-nothing (spend (needs_from (anchor s) (whole_of input nil primitive).tally) (read_over input primitive)))))
       missing
 
   resized-waits : (limits : Limits) (prim : ℕ) (size : TextSize) (first : Primitive) (primitive : Option Primitive) (k : List Frame) → slice_get table.primitives prim ≡ Some first
@@ -234,7 +253,7 @@ module _ (table : Table) (held : Held) (s : State) where
         (λ input. means input
         ∙ ap (λ (p : Option Primitive). finish input table k (spend one_row (prefixed input p own (follow input) s))) is
         ∙ ap (λ (b : Bool). finish input table k (spend one_row (cond b
-        (spend (whole_of input None primitive).tally (land_prefix input.limits own first (follow input) (whole_of input None primitive).reached s))
+        (spend (needs_from (anchor s) (whole_of input None primitive).tally) (land_prefix input.limits own first (follow input) (whole_of input None primitive).reached s))
         (ended (Failed LengthOutOfRange s.at) s)))) has)
         missing
 
@@ -255,21 +274,29 @@ module _ (table : Table) (held : Held) (s : State) where
   leave-box-on outer k true waits = absurd (cc)
   leave-box-on outer k false waits = absurd (cc)
 
+  -- what is held from the first byte on that is needed, as far as it has come
+  kept_from : (low : ℕ) → held.base ≤ low → (count anchor : ℕ) → count ≡ length (from_byte held (min low (end_of held))).bytes → anchor ≡ low
+      → count ≡ end_of held - anchor
+  kept_from low base count anchor is at =
+      let ends : min low (end_of held) + length (from_byte held (min low (end_of held))).bytes ≡ end_of held =
+      end_from held (min low (end_of held)) (omega arith) (omega arith) in
+      omega (arith, ends, is, at)
+
   -- a look over fill that is in vain
-  in_vain : (window : ℕ) (sight : Held) (to : ℕ) (v : Seen) (k : List Frame) → (fill_move window sight to v k s).waits ≡ true → v ≡ NotYet
-  in_vain window sight to (Byte b) k waits = absurd (cc)
-  in_vain window sight to DataEnded k waits = absurd (cc)
-  in_vain window sight to NotYet k waits = refl
-  in_vain window sight to Over k waits = absurd (cc)
+  in_vain : (window : ℕ) (sight : Held) (low to : ℕ) (v : Seen) (k : List Frame) → (fill_move window sight low to v k s).waits ≡ true → v ≡ NotYet
+  in_vain window sight low to (Byte b) k waits = absurd (cc)
+  in_vain window sight low to DataEnded k waits = absurd (cc)
+  in_vain window sight low to NotYet k waits = refl
+  in_vain window sight low to Over k waits = absurd (cc)
 
   fill-waits : (limits : Limits) (to : ℕ) (k : List Frame) → (fill limits held to k s).waits ≡ true → Waits table held (Pass to) k s (fill limits held to k s)
   fill-waits limits to k waits =
       let last : ℕ = (to - 1) / 8 in
       let low : ℕ = anchor_at s (to - 1) in
       let sight : Held = from_byte held (min low (end_of held)) in
-      let none : seen_beyond held low last ≡ NotYet = in_vain limits.window sight to (seen_beyond held low last) k waits in
+      let none : seen_beyond held low last ≡ NotYet = in_vain limits.window sight low to (seen_beyond held low last) k waits in
       let here = beyond-waits held low last none in
-      let move_is : fill limits held to k s ≡ fill_move limits.window sight to NotYet k s = ap (λ (v : Seen). fill_move limits.window sight to v k s) none in
+      let move_is : fill limits held to k s ≡ fill_move limits.window sight low to NotYet k s = ap (λ (v : Seen). fill_move limits.window sight low to v k s) none in
       record {
         machine = ap (λ (m : Move). m.machine) move_is;
         on = here.0;
@@ -280,27 +307,29 @@ module _ (table : Table) (held : Held) (s : State) where
             let seen : seen_in input.bytes input.limits.window low last ≡ DataEnded =
             ap (λ (size : ℕ). seen_in input.bytes size low last) (sym fits.size) ∙ lost.0 in
             let rest : Outcome = finish input table k (ended (Failed DataEnds s.at) s) in
-            let is : finish input table k (fill_to input to s) ≡ spend (saw_end last nothing) rest =
-            ap (λ (v : Seen). finish input table k (filled input table to v s)) seen
-            ∙ finish-spend input table k (saw_end last nothing) (ended (Failed DataEnds s.at) s) in
+            let is : finish input table k (fill_to input to s) ≡ spend (needs_from low (saw_end last nothing)) rest =
+            ap (λ (v : Seen). finish input table k (filled input table low to v s)) seen
+            ∙ finish-spend input table k (needs_from low (saw_end last nothing)) (ended (Failed DataEnds s.at) s) in
             let looks : (fill limits held to k s).tally.looks ≡ 1 = ap (λ (m : Move). m.tally.looks) move_is in
             let is_tail : (finish input table k (fill_to input to s)).tally.tail ≡ 1 = ap (λ (o : Outcome). o.tally.tail) is in
             let is_far : (finish input table k (fill_to input to s)).tally.far ≡ max (max 0 (last + 1)) rest.tally.far = ap (λ (o : Outcome). o.tally.far) is in
-            (is_tail ∙ sym looks, omega arith);
+            let is_anchor : (finish input table k (fill_to input to s)).tally.anchor ≡ low = ap (λ (o : Outcome). o.tally.anchor) is in
+            let held_is : length (fill limits held to k s).held.bytes ≡ length sight.bytes = ap (λ (m : Move). length m.held.bytes) move_is in
+            (is_tail ∙ sym looks, (omega arith, kept_from low fits.stands.0 _ _ held_is is_anchor));
       }
 
   -- a byte of the rest of a box that is looked at in vain
-  past-on : (sight : Held) (byte : ℕ) (outer : Outside) (k : List Frame) (last : Bool)
-      → (cond last (pass (saw_byte byte nothing) sight (Leave Done) k (back_outside outer (record s { at = s.stop })))
-      (pass (saw_byte byte nothing) sight (PassRest (8 * (byte + 1)) outer) k s)).waits ≡ true → ⊥
-  past-on sight byte outer k true waits = absurd (cc)
-  past-on sight byte outer k false waits = absurd (cc)
+  past-on : (sight : Held) (low byte : ℕ) (outer : Outside) (k : List Frame) (last : Bool)
+      → (cond last (pass (needs_from low (saw_byte byte nothing)) sight (Leave Done) k (back_outside outer (record s { at = s.stop })))
+      (pass (needs_from low (saw_byte byte nothing)) sight (PassRest (8 * (byte + 1)) outer) k s)).waits ≡ true → ⊥
+  past-on sight low byte outer k true waits = absurd (cc)
+  past-on sight low byte outer k false waits = absurd (cc)
 
-  rest-in_vain : (window : ℕ) (sight : Held) (bit : ℕ) (outer : Outside) (v : Seen) (k : List Frame) → (rest_move window sight bit outer v k s).waits ≡ true → v ≡ NotYet
-  rest-in_vain window sight bit outer (Byte b) k waits = absurd (past-on sight (bit / 8) outer k (nat_le ((s.stop - 1) / 8) (bit / 8)) waits)
-  rest-in_vain window sight bit outer DataEnded k waits = absurd (cc)
-  rest-in_vain window sight bit outer NotYet k waits = refl
-  rest-in_vain window sight bit outer Over k waits = absurd (cc)
+  rest-in_vain : (window : ℕ) (sight : Held) (low bit : ℕ) (outer : Outside) (v : Seen) (k : List Frame) → (rest_move window sight low bit outer v k s).waits ≡ true → v ≡ NotYet
+  rest-in_vain window sight low bit outer (Byte b) k waits = absurd (past-on sight low (bit / 8) outer k (nat_le ((s.stop - 1) / 8) (bit / 8)) waits)
+  rest-in_vain window sight low bit outer DataEnded k waits = absurd (cc)
+  rest-in_vain window sight low bit outer NotYet k waits = refl
+  rest-in_vain window sight low bit outer Over k waits = absurd (cc)
 
   rest-waits : (limits : Limits) (bit : ℕ) (outer : Outside) (k : List Frame) → (pass_rest limits held bit outer k s).waits ≡ true
       → Waits table held (PassRest bit outer) k s (pass_rest limits held bit outer k s)
@@ -308,10 +337,10 @@ module _ (table : Table) (held : Held) (s : State) where
       let byte : ℕ = bit / 8 in
       let low : ℕ = anchor_at s (8 * byte) in
       let sight : Held = from_byte held (min low (end_of held)) in
-      let none : seen_beyond held low byte ≡ NotYet = rest-in_vain limits.window sight bit outer (seen_beyond held low byte) k waits in
+      let none : seen_beyond held low byte ≡ NotYet = rest-in_vain limits.window sight low bit outer (seen_beyond held low byte) k waits in
       let here = beyond-waits held low byte none in
-      let move_is : pass_rest limits held bit outer k s ≡ rest_move limits.window sight bit outer NotYet k s =
-      ap (λ (v : Seen). rest_move limits.window sight bit outer v k s) none in
+      let move_is : pass_rest limits held bit outer k s ≡ rest_move limits.window sight low bit outer NotYet k s =
+      ap (λ (v : Seen). rest_move limits.window sight low bit outer v k s) none in
       record {
         machine = ap (λ (m : Move). m.machine) move_is;
         on = here.0;
@@ -322,14 +351,16 @@ module _ (table : Table) (held : Held) (s : State) where
             let seen : seen_in input.bytes input.limits.window low byte ≡ DataEnded =
             ap (λ (size : ℕ). seen_in input.bytes size low byte) (sym fits.size) ∙ lost.0 in
             let rest : Outcome = finish input table k (ended (Failed DataEnds s.at) (hides outer.hidden s)) in
-            let is : from_here input table (PassRest bit outer) k s ≡ spend (saw_end byte nothing) rest =
+            let is : from_here input table (PassRest bit outer) k s ≡ spend (needs_from low (saw_end byte nothing)) rest =
             rest-seen input table bit outer k s fits.stands.1.0
-            ∙ ap (λ (v : Seen). finish input table k (rested input table byte outer v s)) seen
-            ∙ finish-spend input table k (saw_end byte nothing) (ended (Failed DataEnds s.at) (hides outer.hidden s)) in
+            ∙ ap (λ (v : Seen). finish input table k (rested input table low byte outer v s)) seen
+            ∙ finish-spend input table k (needs_from low (saw_end byte nothing)) (ended (Failed DataEnds s.at) (hides outer.hidden s)) in
             let looks : (pass_rest limits held bit outer k s).tally.looks ≡ 1 = ap (λ (m : Move). m.tally.looks) move_is in
             let is_tail : (from_here input table (PassRest bit outer) k s).tally.tail ≡ 1 = ap (λ (o : Outcome). o.tally.tail) is in
             let is_far : (from_here input table (PassRest bit outer) k s).tally.far ≡ max (max 0 (byte + 1)) rest.tally.far = ap (λ (o : Outcome). o.tally.far) is in
-            (is_tail ∙ sym looks, omega arith);
+            let is_anchor : (from_here input table (PassRest bit outer) k s).tally.anchor ≡ low = ap (λ (o : Outcome). o.tally.anchor) is in
+            let held_is : length (pass_rest limits held bit outer k s).held.bytes ≡ length sight.bytes = ap (λ (m : Move). length m.held.bytes) move_is in
+            (is_tail ∙ sym looks, (omega arith, kept_from low fits.stands.0 _ _ held_is is_anchor));
       }
 
   attempt-on : (cost : Tally) (most id : ℕ) (parts : Parts) (instead : Instead) (k : List Frame) (t : State) (room : Bool)

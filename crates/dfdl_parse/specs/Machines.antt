@@ -8,7 +8,7 @@ use Rattle.dfdl_report.specs.declared.cause.ParseCause.TheVariants.{DataEnds, Le
 use Rattle.dfdl_terms.specs.declared.row.Row.{Row}
 use Rattle.dfdl_terms.specs.declared.row.Row.TheVariants.{Leaf, Elem, Group, Skip, Align, Initiator, Terminator, Scope, Boxed, PrefixedLeaf, PrefixedBox}
 use Rattle.dfdl_terms.specs.Rows.{Table}
-use Rattle.dfdl_looks.specs.Tallies.{nothing, one_row, saw_byte, saw_end, saw_none}
+use Rattle.dfdl_looks.specs.Tallies.{needs_from, nothing, one_row, saw_byte, saw_end, saw_none}
 use Rattle.dfdl_grammar.specs.declared.end.End.{End}
 use Rattle.dfdl_grammar.specs.declared.end.End.TheVariants.{Done, Failed, Stopped}
 use Rattle.dfdl_grammar.specs.declared.limits.Limits.{Limits}
@@ -56,13 +56,16 @@ enter_fill held to k s =
 abbrev pub seen_beyond : Held → ℕ → ℕ → Seen
 seen_beyond held anchor k = let near : ℕ = min anchor (end_of held) in seen_at (from_byte held near) (near + (k - anchor))
 
--- the step over fill up to a bit, by what the look at its last byte sees, with these bytes held behind it
-abbrev pub fill_move : ℕ → Held → ℕ → Seen → List Frame → State → Move
-fill_move window sight to (Byte byte) k s = pass (saw_byte ((to - 1) / 8) nothing) sight (Leave Done) k (record s { at = to })
-fill_move window sight to DataEnded k s = pass (saw_end ((to - 1) / 8) nothing) sight (Leave (Failed DataEnds s.at)) k s
-fill_move window sight to Over k s = pass (saw_none nothing) sight (Leave (Stopped Window window)) k s
-fill_move window sight to NotYet k s = record {
-  tally = saw_none nothing;
+-- the step over fill up to a bit, by the first byte that is still needed and what the look at the last byte sees, with these bytes
+-- held behind it
+abbrev pub fill_move : ℕ → Held → ℕ → ℕ → Seen → List Frame → State → Move
+fill_move window sight low to (Byte byte) k s =
+    pass (needs_from low (saw_byte ((to - 1) / 8) nothing)) sight (Leave Done) k (record s { at = to })
+fill_move window sight low to DataEnded k s =
+    pass (needs_from low (saw_end ((to - 1) / 8) nothing)) sight (Leave (Failed DataEnds s.at)) k s
+fill_move window sight low to Over k s = pass (needs_from low (saw_none nothing)) sight (Leave (Stopped Window window)) k s
+fill_move window sight low to NotYet k s = record {
+  tally = needs_from low (saw_none nothing);
   machine = record { focus = Pass to; stack = k; state = s };
   held = sight;
   waits = true;
@@ -72,7 +75,7 @@ fill_move window sight to NotYet k s = record {
 abbrev pub fill : Limits → Held → ℕ → List Frame → State → Move
 fill limits held to k s =
     let low : ℕ = anchor_at s (to - 1) in
-    fill_move limits.window (from_byte held (min low (end_of held))) to (seen_beyond held low ((to - 1) / 8)) k s
+    fill_move limits.window (from_byte held (min low (end_of held))) low to (seen_beyond held low ((to - 1) / 8)) k s
 
 -- a box of so many bits begins; it can't pass the end of the one around it
 abbrev pub enter_box : Held → ℕ → ℕ → List Frame → State → Move
@@ -86,19 +89,21 @@ leave_box held outer k s =
     else pass nothing held (PassRest s.at outer) k s
 
 -- a byte of the rest of a box was seen: it is the last one, or the next one follows
-abbrev pub past_one : Held → ℕ → Outside → List Frame → State → Move
-past_one sight byte outer k s =
+abbrev pub past_one : Held → ℕ → ℕ → Outside → List Frame → State → Move
+past_one sight low byte outer k s =
     if nat_le ((s.stop - 1) / 8) byte
-    then pass (saw_byte byte nothing) sight (Leave Done) k (back_outside outer (record s { at = s.stop }))
-    else pass (saw_byte byte nothing) sight (PassRest (8 * (byte + 1)) outer) k s
+    then pass (needs_from low (saw_byte byte nothing)) sight (Leave Done) k (back_outside outer (record s { at = s.stop }))
+    else pass (needs_from low (saw_byte byte nothing)) sight (PassRest (8 * (byte + 1)) outer) k s
 
--- the step over the byte of a bit in the rest of a box, by what the look at it sees, with these bytes held behind it
-abbrev pub rest_move : ℕ → Held → ℕ → Outside → Seen → List Frame → State → Move
-rest_move window sight bit outer (Byte b) k s = past_one sight (bit / 8) outer k s
-rest_move window sight bit outer DataEnded k s = pass (saw_end (bit / 8) nothing) sight (Leave (Failed DataEnds s.at)) k (hides outer.hidden s)
-rest_move window sight bit outer Over k s = pass (saw_none nothing) sight (Leave (Stopped Window window)) k s
-rest_move window sight bit outer NotYet k s = record {
-  tally = saw_none nothing;
+-- the step over the byte of a bit in the rest of a box, by the first byte that is still needed and what the look sees, with these
+-- bytes held behind it
+abbrev pub rest_move : ℕ → Held → ℕ → ℕ → Outside → Seen → List Frame → State → Move
+rest_move window sight low bit outer (Byte b) k s = past_one sight low (bit / 8) outer k s
+rest_move window sight low bit outer DataEnded k s =
+    pass (needs_from low (saw_end (bit / 8) nothing)) sight (Leave (Failed DataEnds s.at)) k (hides outer.hidden s)
+rest_move window sight low bit outer Over k s = pass (needs_from low (saw_none nothing)) sight (Leave (Stopped Window window)) k s
+rest_move window sight low bit outer NotYet k s = record {
+  tally = needs_from low (saw_none nothing);
   machine = record { focus = PassRest bit outer; stack = k; state = s };
   held = sight;
   waits = true;
@@ -108,7 +113,7 @@ rest_move window sight bit outer NotYet k s = record {
 abbrev pub pass_rest : Limits → Held → ℕ → Outside → List Frame → State → Move
 pass_rest limits held bit outer k s =
     let low : ℕ = anchor_at s (8 * (bit / 8)) in
-    rest_move limits.window (from_byte held (min low (end_of held))) bit outer (seen_beyond held low (bit / 8)) k s
+    rest_move limits.window (from_byte held (min low (end_of held))) low bit outer (seen_beyond held low (bit / 8)) k s
 
 -- a group
 abbrev pub enter_group : Held → ℕ → List ℕ → List Frame → State → Move

@@ -5,7 +5,7 @@ use Rattle.dfdl_report.specs.declared.cause.ParseCause.TheVariants.{LengthOutOfR
 use Rattle.dfdl_value.specs.declared.value.Value.{Value}
 use Rattle.dfdl_terms.specs.declared.row.Primitive.{Primitive}
 use Rattle.dfdl_looks.specs.Asks.{Reached, Told, TooFar, Missing, Reading, ask}
-use Rattle.dfdl_looks.specs.Tallies.{Tally, nothing, plus}
+use Rattle.dfdl_looks.specs.Tallies.{Tally, needs_from, nothing, plus}
 use Rattle.dfdl_grammar.specs.declared.end.End.TheVariants.{Done, Failed}
 use Rattle.dfdl_grammar.specs.declared.limits.Limits.{Limits}
 use Rattle.dfdl_grammar.specs.States.{State, anchor}
@@ -48,7 +48,7 @@ landed limits focus first TooFar k s = let o : Outcome = land limits first TooFa
 -- the step of a leaf whose reading this is, behind a cost, with these bytes held behind it
 abbrev pub read_move : Tally → Limits → Focus → ℕ → Held → Reading Find → List Frame → State → Move
 read_move cost limits focus first sight reading k s = record {
-  tally = plus cost reading.tally;
+  tally = plus cost (needs_from sight.base reading.tally);
   machine = landed limits focus first reading.reached k s;
   held = sight;
   waits = is_missing reading.reached;

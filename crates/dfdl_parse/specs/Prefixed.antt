@@ -9,7 +9,7 @@ use Rattle.dfdl_terms.specs.declared.row.Primitive.{Primitive}
 use Rattle.dfdl_terms.specs.declared.text.TextSize.{TextSize}
 use Rattle.dfdl_terms.specs.declared.text.TextSize.TheVariants.{Bits, Characters}
 use Rattle.dfdl_looks.specs.Asks.{Reached, Told, TooFar, Missing, Reading, ask}
-use Rattle.dfdl_looks.specs.Tallies.{nothing, one_row, plus}
+use Rattle.dfdl_looks.specs.Tallies.{needs_from, nothing, one_row, plus}
 use Rattle.dfdl_grammar.specs.declared.end.End.{End}
 use Rattle.dfdl_grammar.specs.declared.end.End.TheVariants.{Done, Failed, Stopped}
 use Rattle.dfdl_grammar.specs.declared.limits.Limits.{Limits}
@@ -70,7 +70,7 @@ landed_prefix limits id own first next TooFar k s = at_end (Stopped Window limit
 -- the step of a prefix whose reading this is, with these bytes held behind it
 abbrev pub prefix_move : Limits → ℕ → ℕ → ℕ → (ℕ → List Frame → State → Machine) → Held → Reading Find → List Frame → State → Move
 prefix_move limits id own first next sight reading k s = record {
-  tally = plus one_row reading.tally;
+  tally = plus one_row (needs_from sight.base reading.tally);
   machine = landed_prefix limits id own first next reading.reached k s;
   held = sight;
   waits = is_missing reading.reached;

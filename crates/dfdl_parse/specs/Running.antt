@@ -33,7 +33,7 @@ pub record Advanced (table : Table) (old new : Parser) (before after : Held) (lo
   pub slid : Slid before after
 
 -- The machine has gone on, and waits for a byte: of its looks the last ones were in vain. The data that have come, taken as
--- whole, end in the row that waits.
+-- whole, end in the row that waits. No byte is held before the first that is needed at the look that found none.
 pub record Waited (table : Table) (old new : Parser) (before after : Held) (looks_made : ℕ) : Type 0 where
   pub vain : ℕ
   pub few : vain ≤ looks_made
@@ -42,4 +42,4 @@ pub record Waited (table : Table) (old new : Parser) (before after : Held) (look
   pub room : 0 < room_of after
   pub missed : (input : Input) (root : Outcome) (spent : ℕ) → KeepsTo old input.limits
       → Runs input table root (shown old) before spent old.far → length input.bytes ≡ end_of before
-      → (end_of before < root.tally.far) × (root.tally.tail ≡ vain)
+      → (end_of before < root.tally.far) × ((root.tally.tail ≡ vain) × (length after.bytes ≡ end_of after - root.tally.anchor))

@@ -10,7 +10,7 @@ use Rattle.dfdl_report.specs.declared.cause.ParseCause.TheVariants.{InitiatorMis
 use Rattle.dfdl_terms.specs.declared.delimiters.Delimiter.{Delimiter}
 use Rattle.dfdl_terms.specs.declared.delimiters.Delimiters.{Delimiters}
 use Rattle.dfdl_looks.specs.Asks.{Reached, Told, TooFar, Missing, Reading, ask}
-use Rattle.dfdl_looks.specs.Tallies.{nothing, one_row}
+use Rattle.dfdl_looks.specs.Tallies.{needs_from, nothing, one_row}
 use Rattle.dfdl_grammar.specs.declared.end.End.TheVariants.{Done}
 use Rattle.dfdl_grammar.specs.declared.limits.Limits.{Limits}
 use Rattle.dfdl_grammar.specs.States.{Input, State, anchor_at}
@@ -70,7 +70,7 @@ found_text window focus cause place TooFar k s = at_outcome (passed_text cause p
 -- the step of a search whose reading this is, with these bytes held behind it
 abbrev pub search_move : ℕ → Focus → ParseCause → ℕ → Held → Reading Longest → List Frame → State → Move
 search_move window focus cause place sight reading k s = record {
-  tally = reading.tally;
+  tally = needs_from sight.base reading.tally;
   machine = found_text window focus cause place reading.reached k s;
   held = sight;
   waits = is_cut reading.reached;

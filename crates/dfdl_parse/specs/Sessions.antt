@@ -1,5 +1,5 @@
 -- What a session is over a stream of data that comes in pieces, and has one document after another.
-use Rattle.std.specs.Prelude.{◌≡◌, ◌≤◌, ℕ, ◌+◌, ◌*◌, ◌/◌, max, true, false, List, [], ◌++◌, length, take}
+use Rattle.std.specs.Prelude.{◌≡◌, ◌≤◌, ℕ, ◌+◌, ◌-◌, ◌*◌, ◌/◌, max, true, false, List, [], ◌++◌, length, take}
 use Rattle.dfdl_bits.specs.Window.{end_of}
 use Rattle.dfdl_looks.specs.Looks.{Agrees}
 use Rattle.dfdl_grammar.specs.States.{Input}
@@ -19,6 +19,11 @@ input_of s bytes = record { bytes = bytes; limits = s.limits }
 -- what data mean to a session, from the byte on at which its document begins
 abbrev pub document_of : Session → List ℕ → Outcome
 document_of s bytes = document_from s.limits s.terms.now s.start bytes
+
+-- how many bytes of a stream are still needed where no more have come: those from the first one on that was still needed at the look
+-- that found no byte
+abbrev pub still_needed : Session → List ℕ → ℕ
+still_needed s stream = length stream - (document_of s stream).tally.anchor
 
 -- the first whole byte behind a bit: a document that ends at this bit has the next one behind it begin there
 abbrev pub byte_behind : ℕ → ℕ

@@ -1,5 +1,5 @@
 // A box begins, and what its content leaves of it is passed over.
-ghost use Rattle.std.specs.Prelude.{◌≡◌, ◌+◌, ◌-◌, ◌*◌, ◌/◌, ◌<◌, ◌≤◌, false, max, IfSome, IfNone, OnOk};
+ghost use Rattle.std.specs.Prelude.{◌≡◌, ◌+◌, ◌-◌, ◌*◌, ◌/◌, ◌<◌, ◌≤◌, ℕ, false, max, IfSome, IfNone, OnOk};
 ghost use Rattle.dfdl_bits.specs.Window.{Held, end_of};
 ghost use Rattle.dfdl_parse.specs.Opens.{IsHeld};
 ghost use Rattle.dfdl_parse.specs.Machines.{enter_box, leave_box, pass_rest, past_one, rest_move};
@@ -94,8 +94,8 @@ impl Parser {
     // The byte of a bit in the rest of the innermost box is seen.
     fn past_byte(&mut self, seen: Seen, bit: u64, outer: Outside, window: u64) -> bool
         requires focus { self.old.focus ≡ Focus.PassRest bit outer }
-        ensures moved { (sight : Held) → Moved
-            (rest_move window sight bit outer seen self.old.stack (state_of self.old)) result self.old.far self.new sight 1 }
+        ensures moved { (sight : Held) (low : ℕ) → Moved
+            (rest_move window sight low bit outer seen self.old.stack (state_of self.old)) result self.old.far self.new sight 1 }
         ensures most { HasSameLimits self.old self.new }
     {
         let byte = bit / 8;
@@ -118,8 +118,8 @@ impl Parser {
     // A byte of the rest of the innermost box was seen: the box ends there, or the next byte follows.
     fn past_one(&mut self, byte: u64, outer: Outside, far: u64)
         requires far { far ≡ max self.old.far (byte + 1) }
-        ensures moved { (sight : Held) → Moved
-            (past_one sight byte outer self.old.stack (state_of self.old)) false self.old.far self.new sight 1 }
+        ensures moved { (sight : Held) (low : ℕ) → Moved
+            (past_one sight low byte outer self.old.stack (state_of self.old)) false self.old.far self.new sight 1 }
         ensures most { HasSameLimits self.old self.new }
     {
         if last_byte(self.stop) <= byte {

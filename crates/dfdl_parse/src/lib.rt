@@ -5,25 +5,15 @@
 //! else. `StandsFor`, `Ends` and `Finished` (`specs/Sessions.antt`) say so. Serves 'Parsing Algorithm'.
 #![tactic(auto)]
 
-#[cfg(test)]
-mod box_tests;
 mod boxes;
 mod contents;
 mod defaults;
 pub mod frame;
 mod framing;
-#[cfg(test)]
-mod framing_tests;
 mod landing;
 mod leaf;
-#[cfg(test)]
-mod leaf_tests;
 mod leaving;
 pub mod marks;
-#[cfg(test)]
-mod markup_tests;
-#[cfg(test)]
-mod nil_tests;
 mod nil_values;
 mod nils;
 mod octets;
@@ -31,23 +21,15 @@ mod outcome;
 pub mod parser;
 mod path;
 mod patterns;
-#[cfg(test)]
-mod prefix_tests;
 mod prefixes;
 mod register;
-#[cfg(test)]
-mod representation_tests;
 mod run;
 pub mod scopes;
 mod scoping;
 mod searches;
 pub mod session;
 pub mod stack;
-#[cfg(test)]
-mod stream_tests;
 mod strings;
-#[cfg(test)]
-mod tests;
 mod trials;
 mod view;
 

@@ -322,8 +322,8 @@ impl Parser {
     // The last byte of fill up to a bit is seen.
     fn fill(&mut self, seen: Seen, to: u64, window: u64) -> bool
         requires focus { self.old.focus ≡ Focus.Pass to }
-        ensures moved { (sight : Held) → Moved
-            (fill_move window sight to seen self.old.stack (state_of self.old)) result self.old.far self.new sight 1 }
+        ensures moved { (sight : Held) (low : ℕ) → Moved
+            (fill_move window sight low to seen self.old.stack (state_of self.old)) result self.old.far self.new sight 1 }
         ensures most { HasSameLimits self.old self.new }
     {
         let far = self.far.max(last_byte(to) + 1);

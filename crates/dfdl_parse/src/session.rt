@@ -1,5 +1,5 @@
 // The documents of a stream, each parsed while its data come.
-ghost use Rattle.std.specs.Prelude.{◌≡◌, ◌+◌, ◌-◌, ◌*◌, ◌/◌, ◌^◌, ◌<◌, ◌≤◌, ℕ, List, [], ◌++◌, true, false, IfOk, OnErr, OnOk, if◌then◌else◌, length, max, min, take, string_bytes};
+ghost use Rattle.std.specs.Prelude.{◌≡◌, ◌+◌, ◌-◌, ◌*◌, ◌/◌, ◌^◌, ◌<◌, ◌≤◌, ◌⊎◌, ℕ, List, [], ◌++◌, true, false, IfOk, IsErr, OnErr, OnOk, if◌then◌else◌, length, max, string_bytes};
 ghost use Rattle.dfdl_bits.specs.Window.{end_of, from_byte, room_of, up_to_byte};
 ghost use Rattle.dfdl_grammar.specs.Documents.{front_at};
 ghost use Rattle.dfdl_grammar.specs.Paths.{path_of};
@@ -8,7 +8,7 @@ ghost use Rattle.dfdl_parse.specs.Opens.{NeedsFrom};
 ghost use Rattle.dfdl_parse.specs.Registered.{IsRegistered};
 ghost use Rattle.dfdl_parse.specs.Running.{Advanced, Reaches, Waited};
 ghost use Rattle.dfdl_parse.specs.Shown.{HasSameLimits, state_of};
-ghost use Rattle.dfdl_parse.specs.Sessions.{HasTaken, StandsFor, IsReady, IsSound, Ends, ComesTo, Finished, byte_behind, document_of};
+ghost use Rattle.dfdl_parse.specs.Sessions.{HasTaken, StandsFor, IsReady, IsSound, Ends, Finished, byte_behind, document_of, still_needed};
 ghost use Rattle.dfdl_parse.specs.Answers.{answer_at, answer_of};
 ghost use Rattle.dfdl_grammar.specs.Outcomes.{Outcome as Meaning};
 
@@ -22,13 +22,6 @@ use dfdl_region::Node;
 use dfdl_terms::Terms;
 use std::alloc::{AllocError, Global};
 use std::sync::ledger::Ledger;
-
-// So many bytes of a piece were taken, and the machine waits for a byte or has ended.
-#[derive(Debug, Clone, Copy, PartialEq, Eq)]
-struct Part {
-    taken: usize,
-    waits: bool,
-}
 
 /// The parsing of a stream of documents by the rows of a schema, one after another. Bits and bytes count from the front of
 /// the stream.
@@ -48,7 +41,6 @@ impl<'t> Session<'t> {
         requires window { 1 ≤ limits.window }
         requires nodes { 1 ≤ limits.nodes }
         ensures ready { IfOk result (λ s. IsReady s) }
-        ensures room { IfOk result (λ s. 0 < room_of s.sight) }
         ensures stands { IfOk result (λ s. StandsFor s [] 0 0 0) }
         ensures terms { IfOk result (λ s. s.terms.now ≡ terms.now) }
         ensures limits { IfOk result (λ s. s.limits ≡ limits) }
@@ -64,59 +56,50 @@ impl<'t> Session<'t> {
         })
     }
 
-    /// Takes the next bytes of the data, and answers whether more are needed.
+    /// Takes the next bytes of the data, however many they are, and answers whether more are needed. Where they are, the bytes are
+    /// held from the first one on that the look needs which found none: fewer than the window's size. A session that has lost stays
+    /// lost.
     pub fn feed<L: Ledger>(&mut self, piece: &[u8], steps: &mut Steps<L>) -> Result<Fed, AllocError>
-        requires ready { IsReady self.old }
+        requires ready { self.old.lost ≡ true ⊎ IsReady self.old }
         requires bound { end_of self.old.sight + length piece.now ≤ 2 ^ 60 }
-        requires room { length piece.now ≤ room_of self.old.sight }
         ensures ready { OnOk result (IsReady self.new) }
         ensures room { IfOk result (λ fed. fed ≡ Fed.More → 0 < room_of self.new.sight) }
         ensures same { (self.new.terms ≡ self.old.terms) × (self.new.limits ≡ self.old.limits) × (self.new.start ≡ self.old.start) }
         ensures far { IfOk result (λ fed. fed ≡ Fed.More → (stream : List ℕ) (start spent allowed : ℕ) → StandsFor self.old stream start spent allowed
             → length (stream ++ piece.now) < (document_of self.old (stream ++ piece.now)).tally.far) }
+        ensures held { IfOk result (λ fed. fed ≡ Fed.More → (stream : List ℕ) (start spent allowed : ℕ) → StandsFor self.old stream start spent allowed
+            → length self.new.sight.bytes ≡ still_needed self.old (stream ++ piece.now)) }
         ensures more { IfOk result (λ fed. fed ≡ Fed.More → (stream : List ℕ) (start spent allowed : ℕ) → StandsFor self.old stream start spent allowed
             → StandsFor self.new (stream ++ piece.now) start (spent + (steps.new - steps.old)) (allowed + (document_of self.old (stream ++ piece.now)).tally.tail)) }
         ensures done { IfOk result (λ fed. (taken : ℕ) → fed ≡ Fed.Done taken → (stream : List ℕ) (start spent allowed : ℕ) → StandsFor self.old stream start spent allowed
             → Finished self.old self.new stream piece.now taken (spent + (steps.new - steps.old)) allowed) }
         ensures lost { OnErr result (self.new.lost ≡ true) }
+        ensures again { self.old.lost ≡ true → IsErr result × (self.new ≡ self.old) }
     {
+        if !self.can_go_on() {
+            return Err(AllocError);
+        }
         let before = self.sight.end();
-        let part = self.feed_part(piece, steps)?;
-        if part.waits {
+        if let Err(fault) = self.sight.append_all(piece) {
+            self.lost = true;
+            return Err(fault);
+        }
+        let waits = self.run(steps)?;
+        if waits {
             return Ok(Fed::More);
         }
         let taken = self.give_back(before);
         Ok(Fed::Done { taken })
     }
 
-    // Takes as many of the next bytes of the data as there is room for, and runs.
-    fn feed_part<L: Ledger>(
-        &mut self,
-        piece: &[u8],
-        steps: &mut Steps<L>,
-    ) -> Result<Part, AllocError>
-        requires ready { IsReady self.old }
-        requires bound { end_of self.old.sight + length piece.now ≤ 2 ^ 60 }
-        ensures taken { IfOk result (λ part. part.taken ≡ min (length piece.now) (room_of self.old.sight)) }
-        ensures room { IfOk result (λ part. part.waits ≡ true → 0 < room_of self.new.sight) }
-        ensures ready { OnOk result (IsReady self.new) }
-        ensures end { IfOk result (λ part. end_of self.new.sight ≡ end_of self.old.sight + part.taken) }
-        ensures same { (self.new.terms ≡ self.old.terms) × (self.new.limits ≡ self.old.limits) × (self.new.start ≡ self.old.start) }
-        ensures reaches { OnOk result ((last : ℕ) → Reaches last self.old.sight self.old.parser.focus (state_of self.old.parser)
-            → Reaches (max last self.new.parser.far) self.new.sight self.new.parser.focus (state_of self.new.parser)) }
-        ensures far { IfOk result (λ part. part.waits ≡ true → (stream : List ℕ) (start spent allowed : ℕ) → StandsFor self.old stream start spent allowed
-            → length (stream ++ take part.taken piece.now) < (document_of self.old (stream ++ take part.taken piece.now)).tally.far) }
-        ensures more { IfOk result (λ part. part.waits ≡ true → (stream : List ℕ) (start spent allowed : ℕ) → StandsFor self.old stream start spent allowed
-            → StandsFor self.new (stream ++ take part.taken piece.now) start (spent + (steps.new - steps.old))
-            (allowed + (document_of self.old (stream ++ take part.taken piece.now)).tally.tail)) }
-        ensures done { IfOk result (λ part. part.waits ≡ false → (stream : List ℕ) (start spent allowed : ℕ) → StandsFor self.old stream start spent allowed
-            → ComesTo self.old self.new (stream ++ take part.taken piece.now) (spent + (steps.new - steps.old)) allowed) }
-        ensures over { IfOk result (λ part. part.waits ≡ false → HasEnded self.new.parser.focus self.new.parser.stack) }
-        ensures lost { OnErr result (self.new.lost ≡ true) }
+    // Whether no memory was wanting so far.
+    fn can_go_on(&self) -> bool
+        requires ready { self.now.lost ≡ true ⊎ IsReady self.now }
+        ensures ready { result ≡ true → IsReady self.now }
+        ensures on { result ≡ true → self.now.lost ≡ false }
+        ensures lost { result ≡ false → self.now.lost ≡ true }
     {
-        let taken = self.sight.append(piece);
-        let waits = self.run(steps)?;
-        Ok(Part { taken, waits })
+        !self.lost
     }
 
     // Gives up those of the bytes from one on that weren't looked at, and answers how many of these are left.
@@ -274,14 +257,8 @@ impl<'t> Session<'t> {
         self.sight.end()
     }
 
-    /// How many more bytes a piece can have.
-    pub fn room(&self) -> usize
-        ensures { result ≡ room_of self.now.sight }
-    {
-        self.sight.room()
-    }
-
-    /// How many bytes of the data are held.
+    /// How many bytes of the data are held, which are the last of those that were taken. Where more are needed, these are as few as
+    /// `feed` says.
     pub fn held(&self) -> usize
         ensures { result ≡ length self.now.sight.bytes }
     {

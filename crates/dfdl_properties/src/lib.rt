@@ -16,6 +16,3 @@ mod trim;
 pub use default::default_format;
 pub use joined::{format_parts, formats};
 pub use own::{format_properties, own_properties};
-
-#[cfg(test)]
-mod tests;

@@ -9,8 +9,6 @@
 mod kinds;
 pub mod laws;
 mod referring;
-#[cfg(test)]
-mod tests;
 mod writers;
 mod writing;
 

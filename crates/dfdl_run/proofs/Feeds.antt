@@ -1,8 +1,7 @@
 -- What a session has taken of data that come in pieces.
-use Rattle.std.proofs.Common.{◌≡◌, ℕ, ◌+◌, ◌^◌, ◌<◌, ◌≤◌, List, [], ◌++◌, All, length, take, drop, true, false, refl, sym, ap, subst, ◌∙◌, arith, append-nil, append_assoc, length-append}
-use Rattle.std.proofs.lemmas.List.{length-take, length-take-le, take_all}
+use Rattle.std.proofs.Common.{◌≡◌, ℕ, ◌+◌, ◌^◌, ◌<◌, ◌≤◌, List, [], ◌++◌, All, length, true, false, refl, sym, subst, ◌∙◌, arith, append-nil, append_assoc, length-append}
 use Rattle.std.proofs.lemmas.List.Elements.{All-append}
-use Rattle.dfdl_bits.specs.Window.{end_of, room_of}
+use Rattle.dfdl_bits.specs.Window.{end_of}
 use Rattle.dfdl_terms.specs.Rows.{Table}
 use Rattle.dfdl_grammar.specs.Documents.{document}
 use Rattle.dfdl_parse.specs.Sessions.{Ends, Finished, IsReady, StandsFor, document_of}
@@ -11,46 +10,27 @@ use Rattle.dfdl_run.specs.declared.feeding.Feeding.{Feeding}
 use Rattle.dfdl_run.specs.Fed.{HasEnded, HasTaken, IsOver, NeedsMore}
 use Rattle.dfdl_run.specs.Meaning.{limits}
 use Rattle.dfdl_run.specs.Parsed.{HasParsed}
-use Rattle.dfdl_run.proofs.Parses.{all_bytes, more_bytes, parsed_end}
-
--- a piece behind the front of some bytes that came behind others
-more_behind : (stream bytes piece : List ℕ) (at count : ℕ) → piece ≡ take count (drop at bytes)
-    → (stream ++ take at bytes) ++ piece ≡ stream ++ take (at + count) bytes
-more_behind stream bytes piece at count is =
-    append_assoc stream (take at bytes) piece ∙ ap (λ (xs : List ℕ). stream ++ xs) (more_bytes bytes piece at count is)
-
--- with the rest of them, and any bytes more
-all_behind : (stream bytes piece more : List ℕ) (at count : ℕ) → piece ≡ take count (drop at bytes)
-    → ((stream ++ take at bytes) ++ piece) ++ (drop (at + count) bytes ++ more) ≡ (stream ++ bytes) ++ more
-all_behind stream bytes piece more at count is =
-    sym (append_assoc ((stream ++ take at bytes) ++ piece) (drop (at + count) bytes) more)
-    ∙ ap (λ (xs : List ℕ). xs ++ more)
-    (ap (λ (xs : List ℕ). xs ++ drop (at + count) bytes) (append_assoc stream (take at bytes) piece)
-    ∙ (append_assoc stream (take at bytes ++ piece) (drop (at + count) bytes)
-    ∙ ap (λ (xs : List ℕ). stream ++ xs) (all_bytes bytes piece at count is)))
+use Rattle.dfdl_run.proofs.Parses.{parsed_end}
 
 -- a session that needs more behind a piece
-pub needs_behind : (t : Table) (old new : Session) (stream bytes piece : List ℕ) (at count spent allowed : ℕ) → piece ≡ take count (drop at bytes)
-    → NeedsMore t old (stream ++ take at bytes) → IsReady new → 0 < room_of new.sight → new.terms.now ≡ old.terms.now → new.limits ≡ old.limits
-    → StandsFor new ((stream ++ take at bytes) ++ piece) 0 spent allowed → NeedsMore t new (stream ++ take (at + count) bytes)
-needs_behind t old new stream bytes piece at count spent allowed is needs ready room terms_are limits_are stands = record {
+pub needs_behind : (t : Table) (old new : Session) (bytes piece : List ℕ) (spent allowed : ℕ) → NeedsMore t old bytes → IsReady new
+    → new.terms.now ≡ old.terms.now → new.limits ≡ old.limits → StandsFor new (bytes ++ piece) 0 spent allowed → NeedsMore t new (bytes ++ piece)
+needs_behind t old new bytes piece spent allowed needs ready terms_are limits_are stands = record {
   ready = ready;
-  room = room;
   terms = terms_are ∙ needs.terms;
   limits_are = limits_are ∙ needs.limits_are;
   spent = spent;
   allowed = allowed;
-  stands = subst (λ (xs : List ℕ). StandsFor new xs 0 spent allowed) (more_behind stream bytes piece at count is) stands;
+  stands = stands;
 }
 
 -- a session that has come to an outcome with a piece, whatever comes behind it
-pub over_behind : (t : Table) (old new : Session) (stream bytes piece : List ℕ) (at count taken steps allowed : ℕ) → piece ≡ take count (drop at bytes)
-    → NeedsMore t old (stream ++ take at bytes) → new.terms.now ≡ old.terms.now
-    → Finished old new (stream ++ take at bytes) piece taken steps allowed → IsOver t new (stream ++ bytes)
-over_behind t old new stream bytes piece at count taken steps allowed is needs terms_are finished = record {
+pub over_behind : (t : Table) (old new : Session) (bytes piece : List ℕ) (taken steps allowed : ℕ) → NeedsMore t old bytes → new.terms.now ≡ old.terms.now
+    → Finished old new bytes piece taken steps allowed → IsOver t new (bytes ++ piece)
+over_behind t old new bytes piece taken steps allowed needs terms_are finished = record {
   terms = terms_are ∙ needs.terms;
-  parsed = λ more. parsed_end old new t _ _ steps allowed needs.terms needs.limits_are needs.stands.begins (all_behind stream bytes piece more at count is)
-      (finished.outcome (drop (at + count) bytes ++ more));
+  parsed = λ more. parsed_end old new t ((bytes ++ piece) ++ more) ((bytes ++ piece) ++ more) steps allowed needs.terms needs.limits_are needs.stands.begins refl
+      (finished.outcome more);
 }
 
 -- a session that needs no more doesn't see a piece
@@ -59,24 +39,6 @@ over_more t s bytes piece over = record {
   terms = over.terms;
   parsed = λ more. subst (λ (xs : List ℕ). HasParsed s (document limits t xs)) (sym (append_assoc bytes piece more)) (over.parsed (piece ++ more));
 }
-
--- all bytes were taken
-pub whole_needs : (t : Table) (s : Session) (stream bytes : List ℕ) (at : ℕ) → length bytes ≤ at → NeedsMore t s (stream ++ take at bytes)
-    → NeedsMore t s (stream ++ bytes)
-whole_needs t s stream bytes at past needs =
-    subst (λ (xs : List ℕ). NeedsMore t s (stream ++ xs)) (take_all at bytes past) needs
-
--- a piece doesn't pass the bound that all bytes keep
-pub bound_behind : (t : Table) (old now : Session) (stream bytes piece : List ℕ) (at count : ℕ) → piece ≡ take count (drop at bytes)
-    → at + count ≤ length bytes → NeedsMore t old stream → NeedsMore t now (stream ++ take at bytes)
-    → end_of old.sight + length bytes ≤ 2 ^ 60 → end_of now.sight + length piece ≤ 2 ^ 60
-bound_behind t old now stream bytes piece at count is fits before after few =
-    let first = before.stands.taken.all in
-    let then = after.stands.taken.all in
-    let size = length-append stream (take at bytes) in
-    let front : length (take at bytes) ≡ at = length-take-le at bytes (omega arith) in
-    let part : length piece ≤ count = rw is (grind (arith, length-take)) in
-    omega arith
 
 -- a piece more was counted and taken
 pub taken_behind : (t : Table) (old new : Feeding) (bytes piece : List ℕ) → HasTaken t old bytes → All (λ byte. byte < 256) piece
@@ -120,7 +82,3 @@ few_held f t bytes piece taken more few =
     let all = (taken.needed more).stands.taken.all in
     let count = taken.count in
     omega arith
-
--- no byte was taken yet
-pub needs_first : (t : Table) (s : Session) (stream : List ℕ) → NeedsMore t s stream → NeedsMore t s (stream ++ [])
-needs_first t s stream needs = subst (λ (xs : List ℕ). NeedsMore t s xs) (sym (append-nil stream)) needs

@@ -1,7 +1,5 @@
--- A session that has come to the outcome of its data, and the pieces in which they came.
-use Rattle.std.proofs.Common.{◌≡◌, ℕ, ◌+◌, List, ◌++◌, take, drop, sym, ap, subst, ◌∙◌}
-use Rattle.std.proofs.Math.Seq.{take-add}
-use Rattle.std.proofs.lemmas.List.{take-append-drop}
+-- A session that has come to the outcome of its data.
+use Rattle.std.proofs.Common.{◌≡◌, ℕ, List, ap, subst, ◌∙◌}
 use Rattle.dfdl_terms.specs.Rows.{Table}
 use Rattle.dfdl_grammar.specs.declared.limits.Limits.{Limits}
 use Rattle.dfdl_grammar.specs.Outcomes.{Outcome}
@@ -22,15 +20,3 @@ parsed_end old new t bytes stream steps allowed terms_are limits_are begins is e
       ∙ ap (λ (l : Limits). document l old.terms.now stream) limits_are
       ∙ (ap (λ (table : Table). document limits table stream) terms_are ∙ ap (document limits t) is)) ends;
 }
-
--- a piece behind what was taken, and what is left behind it
-pub all_bytes : (bytes piece : List ℕ) (at count : ℕ) → piece ≡ take count (drop at bytes)
-    → (take at bytes ++ piece) ++ drop (at + count) bytes ≡ bytes
-all_bytes bytes piece at count is =
-    ap (λ (p : List ℕ). (take at bytes ++ p) ++ drop (at + count) bytes) is
-    ∙ (ap (λ (front : List ℕ). front ++ drop (at + count) bytes) (sym (take-add at count bytes))
-    ∙ take-append-drop (at + count) bytes)
-
--- what was taken with the piece
-pub more_bytes : (bytes piece : List ℕ) (at count : ℕ) → piece ≡ take count (drop at bytes) → take at bytes ++ piece ≡ take (at + count) bytes
-more_bytes bytes piece at count is = ap (λ (p : List ℕ). take at bytes ++ p) is ∙ sym (take-add at count bytes)

@@ -6,7 +6,7 @@ use Rattle.dfdl_report.specs.declared.cause.ParseCause.{ParseCause}
 use Rattle.dfdl_report.specs.declared.cause.ParseCause.TheVariants.{LengthOutOfRange, InitiatorMissing, TerminatorMissing}
 use Rattle.dfdl_looks.specs.Asks.{Reached, Told, TooFar, Missing, ask}
 use Rattle.dfdl_looks.specs.Looks.{seen_in}
-use Rattle.dfdl_looks.specs.Tallies.{nothing}
+use Rattle.dfdl_looks.specs.Tallies.{needs_from, nothing}
 use Rattle.dfdl_delims.specs.Lists.{Opened}
 use Rattle.dfdl_delims.specs.Longest.{Longest, Text as FoundText, NoText}
 use Rattle.dfdl_terms.specs.declared.delimiters.Delimiter.{Delimiter}
@@ -75,7 +75,7 @@ land-stops limits first Missing s = tt
 room-stops : (input : Input) (nil : Option (List Value)) (primitive : Primitive) (s : State) (room : Bool)
     → StopsByData (let whole : Outcome = (if room then
     (let reading = ask (seen_in input.bytes input.limits.window (anchor s)) (program_for nil primitive s.at s.stop) nothing in
-    spend reading.tally (land input.limits (content_begins primitive s.at) reading.reached s))
+    spend (needs_from (anchor s) reading.tally) (land input.limits (content_begins primitive s.at) reading.reached s))
     else ended (Failed LengthOutOfRange s.at) s) in whole.end)
 room-stops input nil primitive s true =
     land-stops input.limits (content_begins primitive s.at)
@@ -273,7 +273,7 @@ prefix-room-stops : (input : Input) (primitive : Primitive) (own : ℕ) (next : 
     → ((units : ℕ) (s : State) → StopsByData (next units s).end) → (s : State) (room : Bool)
     → StopsByData (let whole : Outcome = (if room then
     (let reading = ask (seen_in input.bytes input.limits.window (anchor s)) (program primitive s.at s.stop) nothing in
-    spend reading.tally (land_prefix input.limits own (content_begins primitive s.at) next reading.reached s))
+    spend (needs_from (anchor s) reading.tally) (land_prefix input.limits own (content_begins primitive s.at) next reading.reached s))
     else ended (Failed LengthOutOfRange s.at) s) in whole.end)
 prefix-room-stops input primitive own next each s true =
     land-prefix-stops input.limits own (content_begins primitive s.at) next each

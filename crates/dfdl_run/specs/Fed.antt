@@ -2,7 +2,6 @@
 use Rattle.std.specs.Prelude.{◌≡◌, ℕ, ◌<◌, ◌≤◌, true, false, List, ◌++◌, All, Option, length}
 use Rattle.dfdl_edge.specs.Told.{IsAll}
 use Rattle.dfdl_edge.specs.Whole.{IsAfter, IsUsedUp}
-use Rattle.dfdl_bits.specs.Window.{room_of}
 use Rattle.dfdl_terms.specs.Rows.{Table}
 use Rattle.dfdl_grammar.specs.Documents.{document}
 use Rattle.dfdl_parse.specs.Sessions.{IsReady, StandsFor}
@@ -14,7 +13,6 @@ use Rattle.dfdl_run.specs.Parsed.{HasParsed}
 -- the session has taken these bytes, and needs more
 pub record NeedsMore (t : Table) (s : Session) (bytes : List ℕ) : Type 0 where
   pub ready : IsReady s
-  pub room : 0 < room_of s.sight
   pub terms : s.terms.now ≡ t
   pub limits_are : s.limits ≡ limits
   pub spent : ℕ

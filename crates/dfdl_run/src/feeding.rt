@@ -1,9 +1,8 @@
 // A session that is given the data as they come.
-ghost use Rattle.std.specs.Prelude.{◌≡◌, ◌<◌, ◌+◌, ◌^◌, ◌≤◌, ℕ, List, [], ◌++◌, true, false, IfOk, OnOk, All, length, take, drop};
+ghost use Rattle.std.specs.Prelude.{◌≡◌, ◌<◌, ◌+◌, ◌^◌, ◌≤◌, ℕ, List, [], ◌++◌, true, false, IfOk, OnOk, All, length};
 ghost use Rattle.dfdl_terms.specs.Rows.{Table};
-ghost use Rattle.dfdl_bits.specs.Window.{end_of};
 ghost use Rattle.dfdl_run.specs.Meaning.{limits};
-ghost use Rattle.dfdl_run.specs.Fed.{HasBegun, HasEnded, HasTaken, IsOver, NeedsMore};
+ghost use Rattle.dfdl_run.specs.Fed.{HasBegun, HasEnded, HasTaken};
 
 use dfdl_bits::Steps;
 use dfdl_parse::{Fed, Limits, Session};
@@ -61,7 +60,8 @@ impl<'t> Feeding<'t> {
         if !self.needs_more {
             return Ok(());
         }
-        self.needs_more = feed_all(&mut self.session, piece, steps)?;
+        let fed = self.session.feed(piece, steps)?;
+        self.needs_more = is_more(fed);
         Ok(())
     }
 
@@ -86,14 +86,6 @@ fn are_bytes(bytes: &[u8])
     let _bytes = bytes;
 }
 
-// So many bytes from one on.
-fn piece_of(bytes: &[u8], at: usize, count: usize) -> &[u8]
-    requires { at + count ≤ length bytes.now }
-    ensures { result.now ≡ take count (drop at bytes.now) }
-{
-    &bytes[at..at + count]
-}
-
 // Whether a session needs more.
 fn is_more(fed: Fed) -> bool
     ensures more { result ≡ true → fed ≡ Fed.More }
@@ -103,30 +95,4 @@ fn is_more(fed: Fed) -> bool
         Fed::More => true,
         Fed::Done { .. } => false,
     }
-}
-
-// Gives the session these bytes, in parts for which it has room, while it needs more, and answers whether it still does.
-fn feed_all<L: Ledger>(
-    session: &mut Session<'_>,
-    bytes: &[u8],
-    steps: &mut Steps<L>,
-) -> Result<bool, AllocError>
-    requires begun { (t : Table) × (stream : List ℕ) × NeedsMore t session.old stream }
-    requires few { end_of session.old.sight + length bytes.now ≤ 2 ^ 60 }
-    ensures needed { IfOk result (λ more. more ≡ true → (t : Table) (stream : List ℕ)
-        → NeedsMore t session.old stream → NeedsMore t session.new (stream ++ bytes.now)) }
-    ensures over { IfOk result (λ more. more ≡ false → (t : Table) (stream : List ℕ)
-        → NeedsMore t session.old stream → IsOver t session.new (stream ++ bytes.now)) }
-{
-    let mut at = 0usize;
-    while at < bytes.len() {
-        let count = session.room().min(bytes.len() - at);
-        let fed = session.feed(piece_of(bytes, at, count), steps)?;
-        let more = is_more(fed);
-        if !more {
-            return Ok(false);
-        }
-        at += count;
-    }
-    Ok(true)
 }

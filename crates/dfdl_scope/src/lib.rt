@@ -24,6 +24,3 @@ pub use properties::Properties;
 pub use repeated::first_repeated;
 pub use row::{Absence, Form, PropertyRow, Values};
 pub use table::{property_row, property_rows};
-
-#[cfg(test)]
-mod tests;

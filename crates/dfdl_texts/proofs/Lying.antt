@@ -215,7 +215,7 @@ module _ (look : ℕ → Seen) (small near : Type 0) (stop last k : ℕ)
 
   cut-lies : (bytes : List ℕ) → 1 ≤ length bytes → Come (length bytes) → Lies (Told (cut_after bytes))
   cut-lies [] some come = tt
-  cut-lies (b ∷ bs) some come = bad 1 (length (b ∷ bs)) (omega arith) some come (record { rows = 0; looks = 0; far = 0; tail = 0 })
+  cut-lies (b ∷ bs) some come = bad 1 (length (b ∷ bs)) (omega arith) some come (record { rows = 0; looks = 0; far = 0; tail = 0; anchor = 0 })
 
   utf8 : (more : ℕ) (bytes : List ℕ) → 1 ≤ length bytes → Come (length bytes) → Is (utf8_unit more stop k bytes)
   utf8 zero bytes some come =
@@ -251,11 +251,11 @@ module _ (look : ℕ → Seen) (small near : Type 0) (stop last k : ℕ)
 
     utf16 : Is (utf16_unit join stop k)
     utf16 =
-        by_unit 0 k (sym (add-zero k)) (NoMore, Broken 1) tt (λ come. bad 1 1 (omega arith) (omega arith) come (record { rows = 0; looks = 0; far = 0; tail = 0 }))
+        by_unit 0 k (sym (add-zero k)) (NoMore, Broken 1) tt (λ come. bad 1 1 (omega arith) (omega arith) come (record { rows = 0; looks = 0; far = 0; tail = 0; anchor = 0 }))
         (λ unit. utf16_first join stop k unit)
         (λ unit less come. either (is_high unit) _ _
-        (λ high. by_unit 2 (k + 2) refl (Broken 2, Broken 2) (bad 2 2 (omega arith) (omega arith) come (record { rows = 0; looks = 0; far = 0; tail = 0 }))
-        (λ further. bad 2 3 (omega arith) (omega arith) further (record { rows = 0; looks = 0; far = 0; tail = 0 }))
+        (λ high. by_unit 2 (k + 2) refl (Broken 2, Broken 2) (bad 2 2 (omega arith) (omega arith) come (record { rows = 0; looks = 0; far = 0; tail = 0; anchor = 0 }))
+        (λ further. bad 2 3 (omega arith) (omega arith) further (record { rows = 0; looks = 0; far = 0; tail = 0; anchor = 0 }))
         (λ second. utf16_second unit second)
         (λ second fewer all. either (is_low second) (Answer (Holds (pair_code unit second) 4)) (Answer (Broken 2))
         (λ low. one (pair_code unit second) 4 4 (λ is_small. pair-scalar unit second high low) (omega arith) (omega arith) all)

@@ -59,7 +59,7 @@ sum_of reading = record { reached = reading.reached; looks = reading.tally.looks
 
 -- the cost of so many looks that have gone so far
 abbrev pub spent : ℕ → ℕ → Tally
-spent looks far = record { rows = 0; looks = looks; far = far; tail = 0 }
+spent looks far = record { rows = 0; looks = looks; far = far; tail = 0; anchor = 0 }
 
 -- what a text still comes to at a spot of it, behind these characters and so many looks
 abbrev pub left_of : Held → Task → Spot → List ℕ → ℕ → Sum

@@ -18,8 +18,6 @@ mod pairs;
 mod resolved;
 mod scope;
 mod tag;
-#[cfg(test)]
-mod tests;
 mod waiting;
 
 pub use binding_rules::{may_bind, may_close};

@@ -9,8 +9,6 @@
 mod element;
 mod growing;
 mod scope;
-#[cfg(test)]
-mod tests;
 mod text;
 mod tree;
 

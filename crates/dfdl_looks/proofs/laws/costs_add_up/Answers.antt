@@ -1,4 +1,4 @@
-use Rattle.dfdl_looks.proofs.Costs.{plus-assoc, nothing-plus, plus-nothing}
+use Rattle.dfdl_looks.proofs.Costs.{plus-assoc, nothing-plus}
 use Rattle.dfdl_looks.proofs.laws.costs_add_up.Goals as goal
 
 pub returns-clause-grouped : goal.returns-clause-grouped
@@ -6,6 +6,3 @@ returns-clause-grouped c = plus-assoc
 
 pub returns-clause-front : goal.returns-clause-front
 returns-clause-front c = nothing-plus
-
-pub returns-clause-behind : goal.returns-clause-behind
-returns-clause-behind c = plus-nothing

@@ -17,9 +17,9 @@ returns-clause-moved g c =
     (c.look_beyond-seen.new.steps - c.args.steps.now)
     c.look_beyond-seen.new.sight c.look_beyond-seen.result (λ n. from_byte c.args.sight.now (min n (end_of c.args.sight.now))) (λ n k. seen_beyond c.args.sight.now n k)
     c.size-window.ensures.size (c.anchor_at-low.ensures ∙ ap (anchor_at s) c.last_bit.ensures) c.last_byte.ensures.last (omega arith) c.look_beyond-seen.ensures.seen c.look_beyond-seen.ensures.held
-    (λ window held sight seen looks. Moved (fill_move window held c.args.to seen c.args.self.now.stack s)
+    (λ window held sight seen looks. Moved (fill_move window held (anchor_at s (c.args.to - 1)) c.args.to seen c.args.self.now.stack s)
     c.fill.result c.args.self.now.far c.fill.new.self sight looks)
-    (c.fill.ensures.moved c.look_beyond-seen.new.sight)
+    (c.fill.ensures.moved c.look_beyond-seen.new.sight (anchor_at s (c.args.to - 1)))
 
 pub returns-clause-at : goal.returns-clause-at
 returns-clause-at g c =

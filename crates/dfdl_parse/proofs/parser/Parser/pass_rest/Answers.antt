@@ -18,9 +18,9 @@ returns-clause-moved g c =
     (c.look_beyond-seen.new.steps - c.args.steps.now)
     c.look_beyond-seen.new.sight c.look_beyond-seen.result (λ n. from_byte c.args.sight.now (min n (end_of c.args.sight.now))) (λ n k. seen_beyond c.args.sight.now n k)
     c.size-window.ensures.size c.anchor_at-low.ensures refl (omega arith) c.look_beyond-seen.ensures.seen c.look_beyond-seen.ensures.held
-    (λ window held sight seen looks. Moved (rest_move window held c.args.bit c.args.outer seen c.args.self.now.stack s)
+    (λ window held sight seen looks. Moved (rest_move window held (anchor_at s (8 * byte)) c.args.bit c.args.outer seen c.args.self.now.stack s)
     c.past_byte.result c.args.self.now.far c.past_byte.new.self sight looks)
-    (c.past_byte.ensures.moved c.look_beyond-seen.new.sight)
+    (c.past_byte.ensures.moved c.look_beyond-seen.new.sight (anchor_at s (8 * byte)))
 
 pub returns-clause-at : goal.returns-clause-at
 returns-clause-at g c =

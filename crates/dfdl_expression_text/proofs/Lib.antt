@@ -1,0 +1,9 @@
+mod Comes
+mod Drives
+mod Texts
+mod Steps
+mod Lives
+mod High
+mod Runs
+pub mod Could
+mod Whole

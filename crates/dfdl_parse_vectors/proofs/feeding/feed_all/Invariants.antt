@@ -1,5 +1,0 @@
-use Rattle.dfdl_parse.specs.Sessions.{IsReady}
-use Rattle.dfdl_parse_vectors.proofs.feeding.feed_all.Given as goal
-
-abbrev pub invariant-loop-piece : goal.invariant-loop-piece
-invariant-loop-piece g l = IsReady l.session

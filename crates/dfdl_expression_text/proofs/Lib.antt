@@ -1,9 +1,0 @@
-mod Comes
-mod Drives
-mod Texts
-mod Steps
-mod Lives
-mod High
-mod Runs
-pub mod Could
-mod Whole

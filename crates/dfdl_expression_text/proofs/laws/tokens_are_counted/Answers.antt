@@ -1,5 +1,0 @@
-use Rattle.dfdl_expression_text.proofs.Whole.{counted}
-use Rattle.dfdl_expression_text.proofs.laws.tokens_are_counted.Goals as goal
-
-pub returns : goal.returns
-returns c = counted

@@ -1,0 +1,8 @@
+// What the definitions say of expressions, as a law. The call does nothing.
+ghost use Rattle.std.specs.Prelude.{◌≡◌, ℕ, List};
+ghost use Rattle.dfdl_expression_text.specs.Expressions.{ReadsBytes};
+
+/// However a text is read by the grammar of 'DFDL Expression Language', it has one number of tokens.
+pub fn tokens_are_counted()
+    ensures { (first second : ℕ) (bytes : List ℕ) → ReadsBytes first bytes → ReadsBytes second bytes → first ≡ second }
+{}

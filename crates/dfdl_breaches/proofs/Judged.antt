@@ -35,6 +35,7 @@ module _ (j : Judged) (is : j.pattern_is_refused ≡ false) where
     facts = j.facts;
     root_bits_by = j.root_bits_by;
     prefix = j.prefix;
+    scheme = j.scheme;
     pattern_is_refused = is i;
   }
 

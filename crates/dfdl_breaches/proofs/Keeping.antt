@@ -23,6 +23,7 @@ use Rattle.dfdl_breaches.specs.Judging.{judged_at}
 use Rattle.dfdl_breaches.specs.KeptShown.{IsFormatIf}
 use Rattle.dfdl_breaches.specs.Prefixes.{prefix_at}
 use Rattle.dfdl_breaches.specs.Roots.{chain_at, root_bits_by}
+use Rattle.dfdl_breaches.specs.Schemes.{scheme_at}
 use Rattle.dfdl_references.specs.References.{default_of, format_of}
 use Rattle.dfdl_breaches.specs.Tabled.{AreJoined, AreTabled}
 
@@ -100,10 +101,10 @@ same_element a b place own twice format default = λ i. record {
 -- a component whose parts are those of the documents
 pub same_judged : (refused : Site → Bool) (documents : List SchemaDocument) (own : Site) (j : Judged) → j.kind ≡ kind_at documents own
     → j.place.document ≡ (place_of documents own).document → j.place.at ≡ (place_of documents own).at → j.chain ≡ chain_at documents own
-    → j.facts ≡ facts_at documents own → j.root_bits_by ≡ root_bits_by documents → j.prefix ≡ prefix_at documents own
+    → j.facts ≡ facts_at documents own → j.root_bits_by ≡ root_bits_by documents → j.prefix ≡ prefix_at documents own → j.scheme ≡ scheme_at documents own
     → j.pattern_is_refused ≡ refused own
     → j ≡ judged_at j.purpose refused documents own
-same_judged refused documents own j kind document at chain facts root prefix is_refused = λ i. record {
+same_judged refused documents own j kind document at chain facts root prefix scheme is_refused = λ i. record {
   purpose = j.purpose;
   kind = kind i;
   place = same_place j.place (place_of documents own).document (place_of documents own).at document at i;
@@ -111,5 +112,6 @@ same_judged refused documents own j kind document at chain facts root prefix is_
   facts = facts i;
   root_bits_by = root i;
   prefix = prefix i;
+  scheme = scheme i;
   pattern_is_refused = is_refused i;
 }

@@ -5,6 +5,7 @@ mod Ordered
 mod Roots
 pub mod Searches
 mod Tables
+mod NamedSchemes
 mod PrefixTypes
 pub mod Building
 mod Forms

@@ -5,18 +5,20 @@ use Rattle.dfdl_documents.specs.Documents.{SchemaDocument}
 use Rattle.dfdl_forms.specs.declared.simple.Simple.{Simple}
 use Rattle.dfdl_report.specs.declared.place.Place.{Place}
 use Rattle.dfdl_components.specs.declared.site.Site.{Site}
+use Rattle.dfdl_escape_schemes.specs.declared.named.NamedScheme.{NamedScheme}
 use Rattle.dfdl_scope.specs.Expressions.{is_expression, literal}
 use Rattle.dfdl_scope.specs.Scoping.{Element, Told, Value, Absent, Twice, told}
 use Rattle.dfdl_checks.specs.Judged.{PrefixJudged}
 use Rattle.dfdl_checks.specs.Subjects.{is_word}
 use Rattle.dfdl_chains.specs.Chains.{chain_sites}
-use Rattle.dfdl_chains.specs.Prefixes.{NamedType}
-use Rattle.dfdl_references.specs.Writers.{writer_of}
+use Rattle.dfdl_references.specs.Writers.{by_default_writer, writer_of}
 use Rattle.dfdl_breaches.specs.Elements.{element_at, place_of}
-use Rattle.dfdl_breaches.specs.Prefixes.{by_default_alone, judged_named, judged_told, judged_type, judged_written, prefix_at}
+use Rattle.dfdl_breaches.specs.Prefixes.{built_in_chain, built_in_type, by_default_alone, defined_type, judged_told, judged_written, prefix_at}
 use Rattle.dfdl_breaches.specs.PrefixesShown.{name_in, type_told}
 use Rattle.dfdl_breaches.specs.Roots.{chain_at}
+use Rattle.dfdl_breaches.specs.Schemes.{scheme_told}
 use Rattle.dfdl_breaches.proofs.Keeping.{same_place}
+use Rattle.dfdl_breaches.proofs.NamedSchemes.{of_chain}
 
 -- the type of a name that may be lacking, where its property is written
 abbrev judged_by : List SchemaDocument → Site → Option (List ℕ) → Option PrefixJudged
@@ -61,21 +63,39 @@ name_told documents own sites chain text writer at is told written =
     ∙ (ap (judged_by documents own) (told ∙ ap type_told is) ∙ sym (by_name documents own))
 
 -- the type of a prefix by its parts
-abbrev prefix_judged : Option Simple → Place → List Element → PrefixJudged
-prefix_judged simple place chain = record { simple = simple; place = place; chain = chain }
+abbrev prefix_judged : Option Simple → Place → List Element → NamedScheme → PrefixJudged
+prefix_judged simple place chain scheme = record { simple = simple; place = place; chain = chain; scheme = scheme }
+
+-- a type that a document defines
+pub defined : (documents : List SchemaDocument) (type : Site) (simple : Option Simple) (sites : List Site) (place : Place) (chain : List Element)
+    (scheme : NamedScheme) → place.document ≡ (place_of documents type).document → place.at ≡ (place_of documents type).at
+    → chain ≡ map (element_at documents) sites → scheme ≡ scheme_told documents (writer_of documents sites (codes "escapeSchemeRef")) chain
+    → prefix_judged simple place chain scheme ≡ defined_type documents type simple sites
+defined documents type simple sites place chain scheme document at made named = λ i. record {
+  simple = simple;
+  place = same_place place (place_of documents type).document (place_of documents type).at document at i;
+  chain = made i;
+  scheme = of_chain documents sites chain scheme named made i;
+}
 
 -- a type that no document defines
-pub built_in_type : (documents : List SchemaDocument) (own : Site) (sites types : List Site) (named : NamedType) (place : Place) (chain : List Element)
-    → types ≡ named.sites → length types < 1 → place.document ≡ (place_of documents own).document → place.at ≡ (place_of documents own).at
+pub built_in : (documents : List SchemaDocument) (own : Site) (simple : Option Simple) (sites : List Site) (place : Place) (chain : List Element)
+    (scheme : NamedScheme) → place.document ≡ (place_of documents own).document → place.at ≡ (place_of documents own).at
     → sites ≡ chain_sites documents own → chain ≡ map (λ (s : Site). by_default_alone (element_at documents s)) sites
-    → prefix_judged named.simple place chain ≡ judged_named documents own named
-built_in_type documents own sites (type ∷ bases) named place chain is none document at sited made = absurd (omega (arith, none))
-built_in_type documents own sites [] named place chain is none document at sited made =
-    subst (λ (xs : List Site). prefix_judged named.simple place chain ≡ judged_type documents own named xs) is
-    (λ i. record {
-      simple = named.simple;
-      place = same_place place (place_of documents own).document (place_of documents own).at document at i;
-      chain = (made
-          ∙ (ap (map (λ (s : Site). by_default_alone (element_at documents s))) sited
-          ∙ sym (map-map by_default_alone (element_at documents) (chain_sites documents own)))) i;
-    })
+    → scheme ≡ scheme_told documents (by_default_writer documents sites (codes "escapeSchemeRef")) chain
+    → prefix_judged simple place chain scheme ≡ built_in_type documents own simple
+built_in documents own simple sites place chain scheme document at sited made named = λ i. record {
+  simple = simple;
+  place = same_place place (place_of documents own).document (place_of documents own).at document at i;
+  chain = same i;
+  scheme =
+      (named
+      ∙ (ap (λ (xs : List Site). scheme_told documents (by_default_writer documents xs (codes "escapeSchemeRef")) chain) sited
+      ∙ ap (scheme_told documents (by_default_writer documents (chain_sites documents own) (codes "escapeSchemeRef"))) same)) i;
+}
+  where
+    same : chain ≡ built_in_chain documents own
+    same =
+        made
+        ∙ (ap (map (λ (s : Site). by_default_alone (element_at documents s))) sited
+        ∙ sym (map-map by_default_alone (element_at documents) (chain_sites documents own)))

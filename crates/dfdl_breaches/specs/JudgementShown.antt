@@ -4,6 +4,7 @@ use Rattle.dfdl_checks.specs.Delimiters.{delimiters_of}
 use Rattle.dfdl_checks.specs.Framing.{framing_of}
 use Rattle.dfdl_checks.specs.Judged.{Judged}
 use Rattle.dfdl_checks.specs.Numbers.{primitive_of}
+use Rattle.dfdl_checks.specs.Occurrences.{occurrences_of}
 use Rattle.dfdl_checks.specs.Representations.{representations_of}
 use Rattle.dfdl_checks.specs.Rules.{breach_of_component}
 use Rattle.dfdl_breaches.specs.Judging.{form_before}
@@ -19,4 +20,5 @@ judgement_of j = record {
   size = size_of_box j;
   prefix = form_before j;
   others = representations_of j;
+  occurs = occurrences_of j;
 }

@@ -1,10 +1,11 @@
 -- What is wrong at each component of a schema by itself, how the values of its simple elements lie in the data, which fill, which
--- delimiters and which box stand around its content, and which other representations it has.
+-- delimiters and which box stand around its content, which other representations it has, and how often it occurs.
 use Rattle.std.specs.Prelude.{ℕ, List, Option, None, Some, Bool, if◌then◌else◌}
 use Rattle.dfdl_documents.specs.Documents.{SchemaDocument}
 use Rattle.dfdl_components.specs.declared.site.Site.{Site}
 use Rattle.dfdl_components.specs.Sites.{role_of}
 use Rattle.dfdl_checks.specs.Judged.{Judged}
+use Rattle.dfdl_checks.specs.Occurrences.{occurrences_of}
 use Rattle.dfdl_checks.specs.Patterns.{pattern_prefix}
 use Rattle.dfdl_checks.specs.Prefixes.{prefix_of}
 use Rattle.dfdl_checks.specs.Representations.{no_representations, representations_of}
@@ -27,6 +28,7 @@ use Rattle.dfdl_terms.specs.declared.row.Primitive.{Primitive}
 use Rattle.dfdl_breaches.specs.Elements.{place_of}
 use Rattle.dfdl_breaches.specs.Prefixes.{prefix_at}
 use Rattle.dfdl_breaches.specs.Roots.{chain_at, root_bits_by}
+use Rattle.dfdl_breaches.specs.Schemes.{scheme_at}
 use Rattle.dfdl_breaches.specs.declared.judgement.Judgement.{Judgement}
 
 -- a component as the rules see it, where the patterns of these elements are refused
@@ -39,6 +41,7 @@ judged_at purpose refused documents own = record {
   facts = facts_at documents own;
   root_bits_by = root_bits_by documents;
   prefix = prefix_at documents own;
+  scheme = scheme_at documents own;
   pattern_is_refused = refused own;
 }
 
@@ -54,7 +57,7 @@ primitive_at purpose refused documents own = primitive_of (judged_at purpose ref
 abbrev pub framing_at : Purpose → (Site → Bool) → List SchemaDocument → Site → Framing
 framing_at purpose refused documents own = framing_of (judged_at purpose refused documents own)
 
--- the initiator and the terminator of a component
+-- the initiator, the terminator and the separator of a component
 abbrev pub markup_at : Purpose → (Site → Bool) → List SchemaDocument → Site → Markup
 markup_at purpose refused documents own = delimiters_of (judged_at purpose refused documents own)
 
@@ -79,6 +82,10 @@ form_of_prefix purpose refused documents own = form_before (judged_at purpose re
 abbrev pub others_at : Purpose → (Site → Bool) → List SchemaDocument → Site → OtherRepresentations
 others_at purpose refused documents own = representations_of (judged_at purpose refused documents own)
 
+-- how often a component occurs where it stands
+abbrev pub occurrences_at : Purpose → (Site → Bool) → List SchemaDocument → Site → ℕ
+occurrences_at purpose refused documents own = occurrences_of (judged_at purpose refused documents own)
+
 -- nothing is told of what is no component
 abbrev pub no_judgement : Judgement
 no_judgement = record {
@@ -89,6 +96,7 @@ no_judgement = record {
   size = None;
   prefix = None;
   others = no_representations;
+  occurs = 1;
 }
 
 -- what is told of an element of the documents
@@ -103,5 +111,6 @@ judgement_at purpose refused documents own =
       size = size_at purpose refused documents own;
       prefix = form_of_prefix purpose refused documents own;
       others = others_at purpose refused documents own;
+      occurs = occurrences_at purpose refused documents own;
     }
     else no_judgement

@@ -1,6 +1,7 @@
 pub mod Formats
 pub mod Elements
 pub mod Roots
+pub mod Schemes
 pub mod Prefixes
 pub mod Judging
 pub mod Builds

@@ -9,9 +9,11 @@ use Rattle.dfdl_checks.specs.Judged.{PrefixJudged}
 use Rattle.dfdl_checks.specs.Subjects.{is_word}
 use Rattle.dfdl_chains.specs.Chains.{chain_sites}
 use Rattle.dfdl_chains.specs.Prefixes.{NamedType, prefix_type}
-use Rattle.dfdl_references.specs.Writers.{writer_of}
+use Rattle.dfdl_forms.specs.declared.simple.Simple.{Simple}
+use Rattle.dfdl_references.specs.Writers.{by_default_writer, writer_of}
 use Rattle.dfdl_breaches.specs.Elements.{element_at, place_of}
 use Rattle.dfdl_breaches.specs.Roots.{chain_at}
+use Rattle.dfdl_breaches.specs.Schemes.{scheme_of, scheme_told}
 
 -- no property is given twice
 abbrev pub never : List ℕ → Bool
@@ -32,12 +34,28 @@ by_default_alone element = record {
 abbrev pub built_in_chain : List SchemaDocument → Site → List Element
 built_in_chain documents own = map by_default_alone (chain_at documents own)
 
--- the type of a component's prefix, where it comes of these simple types: it stands where the first of them does, and a type of XML
--- Schema's where the component does
+-- a type of XML Schema's as that of a component's prefix: it stands where the component does
+abbrev pub built_in_type : List SchemaDocument → Site → Option Simple → PrefixJudged
+built_in_type documents own simple = record {
+  simple = simple;
+  place = place_of documents own;
+  chain = built_in_chain documents own;
+  scheme = scheme_told documents (by_default_writer documents (chain_sites documents own) (codes "escapeSchemeRef")) (built_in_chain documents own);
+}
+
+-- a type that comes of these simple types as that of a component's prefix: it stands where the first of them does
+abbrev pub defined_type : List SchemaDocument → Site → Option Simple → List Site → PrefixJudged
+defined_type documents type simple sites = record {
+  simple = simple;
+  place = place_of documents type;
+  chain = map (element_at documents) sites;
+  scheme = scheme_of documents sites;
+}
+
+-- the type of a component's prefix, where it comes of these simple types
 abbrev pub judged_type : List SchemaDocument → Site → NamedType → List Site → PrefixJudged
-judged_type documents own named [] = record { simple = named.simple; place = place_of documents own; chain = built_in_chain documents own }
-judged_type documents own named (type ∷ bases) =
-    record { simple = named.simple; place = place_of documents type; chain = map (element_at documents) (type ∷ bases) }
+judged_type documents own named [] = built_in_type documents own named.simple
+judged_type documents own named (type ∷ bases) = defined_type documents type named.simple (type ∷ bases)
 
 -- the same
 abbrev pub judged_named : List SchemaDocument → Site → NamedType → PrefixJudged

@@ -9,7 +9,7 @@ use Rattle.dfdl_breaches.specs.declared.prefixes.Prefix.{Prefix}
 
 -- the type with its chain
 abbrev pub prefix_seen : Prefix → PrefixJudged
-prefix_seen prefix = record { simple = prefix.simple; place = prefix.place; chain = chain_of prefix.chain }
+prefix_seen prefix = record { simple = prefix.simple; place = prefix.place; chain = chain_of prefix.chain; scheme = prefix.scheme }
 
 -- the name that is told, by no expression
 abbrev pub name_in : Told → Option (List ℕ)

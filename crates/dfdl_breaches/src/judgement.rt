@@ -11,7 +11,7 @@ pub struct Judgement {
     pub primitive: Option<Primitive>,
     /// The fill around its content.
     pub framing: Framing,
-    /// Its initiator and its terminator.
+    /// Its initiator, its terminator and its separator.
     pub markup: Markup,
     /// How many bits the box has around the content of a complex element with a length of its own.
     pub size: Option<u64>,
@@ -19,4 +19,6 @@ pub struct Judgement {
     pub prefix: Option<PrefixForm>,
     /// Which representations of it are tried before its normal one, and how their content lies in the data.
     pub others: OtherRepresentations,
+    /// How often it occurs where it stands.
+    pub occurs: u32,
 }

@@ -9,8 +9,8 @@ ghost use Rattle.dfdl_breaches.specs.JudgementShown.{judgement_of};
 
 use crate::judgement::Judgement;
 use dfdl_checks::{
-    PrefixForm, Subject, breach, delimiters_at, framing, length_pattern, other_representations,
-    pattern_encoding, prefix, primitive, size_of_box,
+    PrefixForm, Subject, breach, delimiters_at, framing, length_pattern, occurrences,
+    other_representations, pattern_encoding, prefix, primitive, size_of_box,
 };
 use dfdl_edge::{PatternRefusal, Patterns};
 use dfdl_forms::Encoding;
@@ -66,6 +66,7 @@ fn told_of(
         size: size_of_box(subject),
         prefix: form_or(prefix, pattern),
         others,
+        occurs: occurrences(subject),
     })
 }
 

@@ -4,8 +4,8 @@
 //! A component is judged by what the elements of its chain give: their own properties, the formats that they refer to
 //! (`specs/References.antt` of dfdl_references), each joined once with those that it refers to (`specs/Formats.antt`), and the
 //! default formats of their documents (`specs/Elements.antt`). The type of its length prefix is judged with it, by a chain of
-//! its own (`specs/Prefixes.antt`), and the pattern of its length is built (`specs/Builds.antt`). The contract of `breaches` cites
-//! `specs/Judging.antt`. It serves the chapter 'Property
+//! its own (`specs/Prefixes.antt`), with the escape scheme that it names (`specs/Schemes.antt`), and the pattern of its length is
+//! built (`specs/Builds.antt`). The contract of `breaches` cites `specs/Judging.antt`. It serves the chapter 'Property
 //! Scoping and DFDL Schema Checking'.
 #![tactic(auto)]
 
@@ -19,6 +19,7 @@ mod kept;
 pub mod laws;
 mod prefixes;
 mod root;
+mod schemes;
 mod sites;
 mod telling;
 

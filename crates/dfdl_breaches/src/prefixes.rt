@@ -15,9 +15,11 @@ ghost use Rattle.dfdl_breaches.specs.Roots as roots;
 
 use crate::chain::{built_in_chain, chain_at};
 use crate::kept::Kept;
+use crate::schemes::{scheme_by_default, scheme_of};
 use dfdl_chains::{NamedType, prefix_type};
 use dfdl_checks::PrefixType;
 use dfdl_components::{Schema, Site};
+use dfdl_escape_schemes::NamedScheme;
 use dfdl_forms::Simple;
 use dfdl_references::writer;
 use dfdl_report::Place;
@@ -33,6 +35,8 @@ pub(crate) struct Prefix<'e, 's> {
     pub(crate) place: Place,
     /// What its properties are asked of.
     pub(crate) chain: Component<'e, 's>,
+    /// What its property escapeSchemeRef names.
+    pub(crate) scheme: NamedScheme,
 }
 
 /// The same, lent.
@@ -44,6 +48,7 @@ pub(crate) fn lent<'p, 'e, 's>(prefix: &'p Option<Prefix<'e, 's>>) -> Option<Pre
             simple: prefix.simple,
             place: prefix.place,
             chain: &prefix.chain,
+            scheme: prefix.scheme,
         }),
         None => None,
     }
@@ -88,6 +93,55 @@ fn type_told<'c>(chain: &Component<'_, 'c>) -> Option<&'c str>
     }
 }
 
+// A type that comes of these simple types, as that of a prefix.
+fn defined_type<'e, 's>(
+    alloc: Global,
+    kept: &Kept<'e, 's>,
+    schema: &Schema,
+    simple: Option<Simple>,
+    own: Site,
+    types: &[Site],
+) -> Result<Prefix<'e, 's>, AllocError>
+    requires kept { AreKept schema.now kept.now }
+    requires own { IsSite schema.now own }
+    requires types { All (IsSite schema.now) types.now }
+    ensures { IfOk result (λ prefix. shown.prefix_seen prefix ≡ prefixes.defined_type schema.now own simple types.now) }
+{
+    let chain = chain_at(alloc, kept, schema, types)?;
+    let scheme = scheme_of(alloc, schema, types, &chain)?;
+    Ok(Prefix {
+        simple,
+        place: schema.place(own),
+        chain,
+        scheme,
+    })
+}
+
+// A type of XML Schema's, as that of the prefix of a component whose chain has these elements.
+fn built_in_type<'e, 's>(
+    alloc: Global,
+    kept: &Kept<'e, 's>,
+    schema: &Schema,
+    simple: Option<Simple>,
+    site: Site,
+    sites: &[Site],
+) -> Result<Prefix<'e, 's>, AllocError>
+    requires kept { AreKept schema.now kept.now }
+    requires site { IsSite schema.now site }
+    requires chain { sites.now ≡ chain_sites schema.now site }
+    requires within { All (IsSite schema.now) sites.now }
+    ensures { IfOk result (λ prefix. shown.prefix_seen prefix ≡ prefixes.built_in_type schema.now site simple) }
+{
+    let chain = built_in_chain(alloc, kept, schema, sites)?;
+    let scheme = scheme_by_default(alloc, schema, sites, &chain)?;
+    Ok(Prefix {
+        simple,
+        place: schema.place(site),
+        chain,
+        scheme,
+    })
+}
+
 // The type of the prefix of a component whose chain has these elements, by what its name names.
 fn judged_type<'e, 's>(
     alloc: Global,
@@ -106,16 +160,8 @@ fn judged_type<'e, 's>(
 {
     let types = named.sites.as_slice();
     match types {
-        [own, ..] => Ok(Prefix {
-            simple: named.simple,
-            place: schema.place(*own),
-            chain: chain_at(alloc, kept, schema, types)?,
-        }),
-        [] => Ok(Prefix {
-            simple: named.simple,
-            place: schema.place(site),
-            chain: built_in_chain(alloc, kept, schema, sites)?,
-        }),
+        [own, ..] => defined_type(alloc, kept, schema, named.simple, *own, types),
+        [] => built_in_type(alloc, kept, schema, named.simple, site, sites),
     }
 }
 

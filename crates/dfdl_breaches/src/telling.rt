@@ -19,6 +19,7 @@ use crate::judging::judge;
 use crate::kept::Kept;
 use crate::prefixes::{lent, prefix_at};
 use crate::root::root_of;
+use crate::schemes::scheme_of;
 use crate::sites::sites_of;
 use dfdl_chains::{chain_sites, facts_at, is_component, kind_at};
 use dfdl_checks::{Markup, OtherRepresentations, Purpose, Subject, bit_order};
@@ -84,6 +85,7 @@ fn judged<'s, P: Patterns>(
 {
     let chain = chain_at(alloc, kept, schema, sites)?;
     let prefix = prefix_at(alloc, kept, schema, site, sites, &chain)?;
+    let scheme = scheme_of(alloc, schema, sites, &chain)?;
     let subject = Subject {
         purpose,
         kind: kind_at(schema, &kept.sites.numbers, site),
@@ -92,6 +94,7 @@ fn judged<'s, P: Patterns>(
         facts: facts_at(schema, site, sites),
         root_bits_by: bits_by,
         prefix: lent(&prefix),
+        scheme,
         pattern_is_refused: false,
     };
     judge(alloc, &subject, patterns)
@@ -143,6 +146,7 @@ fn nothing_told() -> Judgement
         markup: Markup {
             initiator: None,
             terminator: None,
+            separator: None,
         },
         size: None,
         prefix: None,
@@ -152,6 +156,7 @@ fn nothing_told() -> Judgement
             refuses_empty: false,
             are_several: false,
         },
+        occurs: 1,
     }
 }
 

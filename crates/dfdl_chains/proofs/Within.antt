@@ -355,8 +355,7 @@ parts_are_within documents own within = by_role (role_of documents own)
     by_role role.ElementReference = contents_within documents (derivation.type_of documents own) (type_is_within documents own within)
     by_role role.Sequence = particles_within documents own within
     by_role role.Choice = particles_within documents own within
-    by_role role.GroupReference = listed_within documents (referred documents own kind.Group) (referred_is_within documents own kind.Group)
-    by_role role.GlobalGroup = particles_if_within documents (part_inside documents own) (inside_is_within documents own within)
+    by_role role.GroupReference = particles_if_within documents (group_content documents own) (group_within documents own)
     by_role _ = All-nil (IsSite documents)
 
 -- the same, after a call

@@ -1,7 +1,7 @@
 -- What a component states besides its properties. Of a reference and its declaration the reference says
 -- how often the element occurs, and the declaration whether it may be nil and which default it has ('DFDL
 -- Schema Component Model').
-use Rattle.std.specs.Prelude.{ℕ, List, [], ◌∷◌, ◌&&◌, ◌||◌, ◌==◌, if◌then◌else◌, Bool, true, false, not, nat_lt, length, Option, Some, None, codes, bytes_eq}
+use Rattle.std.specs.Prelude.{ℕ, List, [], ◌∷◌, ◌&&◌, ◌||◌, if◌then◌else◌, Bool, true, false, nat_lt, length, Option, Some, None, codes, bytes_eq}
 use Rattle.std.specs.List.{list_any}
 use Rattle.dfdl_markup.specs.Trees.{Node, node_at}
 use Rattle.dfdl_constructs.specs.declared.role.Role.{Role}
@@ -12,35 +12,40 @@ use Rattle.dfdl_documents.specs.Documents.{SchemaDocument}
 use Rattle.dfdl_components.specs.declared.site.Site.{Site}
 use Rattle.dfdl_components.specs.Sites.{nodes_of, role_of}
 use Rattle.dfdl_checks.specs.Judged.{FactsJudged}
+use Rattle.dfdl_checks.specs.declared.occurring.Bounds.{Bounds}
 use Rattle.dfdl_chains.specs.Declarations.{attribute_of, declaration}
 use Rattle.dfdl_chains.specs.Chains.{chain_sites}
-use Rattle.dfdl_chains.specs.Lengths.{max_length}
+use Rattle.dfdl_chains.specs.Lengths.{length_of, max_length}
 use Rattle.dfdl_chains.specs.Parts.{inside_of, is_none_of}
 
--- no character is left
-abbrev pub is_end : List ℕ → Bool
-is_end [] = true
-is_end (b ∷ text) = false
+-- the least number of occurrences, which is 1 where it is absent
+abbrev pub least_of : Option (List ℕ) → ℕ
+least_of None = 1
+least_of (Some digits) = length_of digits
 
--- the number 1, before which zeros may stand
-abbrev pub is_one : List ℕ → Bool
-is_one [] = false
-is_one (b ∷ text) = if b == 48 then is_one text else (b == 49 && is_end text)
+-- the greatest number of occurrences that a text gives, if it is bounded
+abbrev pub bounded_by : List ℕ → Option ℕ
+bounded_by text = if bytes_eq text (codes "unbounded") then None else Some (length_of text)
 
--- a bound of occurrences that is 1, as it is where it is absent
-abbrev pub is_one_or_absent : Option (List ℕ) → Bool
-is_one_or_absent None = true
-is_one_or_absent (Some text) = is_one text
+-- the greatest number of occurrences, which is 1 where it is absent
+abbrev pub most_of : Option (List ℕ) → Option ℕ
+most_of None = Some 1
+most_of (Some text) = bounded_by text
 
--- both bounds are 1
-abbrev pub are_bounds_one : List SchemaDocument → Site → Bool
-are_bounds_one documents own =
-    is_one_or_absent (attribute_of documents own (codes "minOccurs"))
-    && is_one_or_absent (attribute_of documents own (codes "maxOccurs"))
+-- the bounds of what occurs once
+abbrev pub once : Bounds
+once = record { least = 1; most = Some 1 }
 
--- the element occurs exactly once; a global element has no bounds
-abbrev pub occurs_once : List SchemaDocument → Site → Bool
-occurs_once documents own = not (is_occurring (role_of documents own)) || are_bounds_one documents own
+-- the bounds that a component gives
+abbrev pub bounds_given : List SchemaDocument → Site → Bounds
+bounds_given documents own = record {
+  least = least_of (attribute_of documents own (codes "minOccurs"));
+  most = most_of (attribute_of documents own (codes "maxOccurs"));
+}
+
+-- the bounds of how often the component occurs; a global element has none, and occurs once
+abbrev pub bounds_of : List SchemaDocument → Site → Bounds
+bounds_of documents own = if is_occurring (role_of documents own) then bounds_given documents own else once
 
 -- a truth value that is true
 abbrev pub is_true : Option (List ℕ) → Bool
@@ -96,7 +101,7 @@ has_own_statements documents own =
 -- what a component states
 unfoldable pub facts_at : List SchemaDocument → Site → FactsJudged
 facts_at documents own = record {
-  occurs_once = occurs_once documents own;
+  bounds = bounds_of documents own;
   is_nillable = is_nillable documents own;
   default = default_of documents own;
   has_statements = list_any (has_own_statements documents) (chain_sites documents own);

@@ -16,7 +16,7 @@ use Rattle.dfdl_components.specs.Sites.{nodes_of, role_of}
 use Rattle.dfdl_chains.specs.Declarations.{attribute_of, part_inside}
 use Rattle.dfdl_chains.specs.Derivation.{simple_types_of}
 
--- the length that digits stand for; past 64 bits the greatest number of these
+-- the length or other number that digits stand for; past 64 bits the greatest number of these
 abbrev pub length_of : List ℕ → ℕ
 length_of digits = min (number digits) (2 ^ 64 - 1)
 

@@ -5,15 +5,14 @@ use Rattle.dfdl_markup.specs.Trees.{node_at}
 use Rattle.dfdl_constructs.specs.declared.role.Role.{Role}
 use Rattle.dfdl_constructs.specs.declared.role.Role.TheVariants as role
 use Rattle.dfdl_documents.specs.Documents.{SchemaDocument}
-use Rattle.dfdl_components.specs.declared.kind.ComponentKind.TheVariants as kind
 use Rattle.dfdl_components.specs.declared.site.Site.{Site}
 use Rattle.dfdl_components.specs.Sites.{nodes_of, role_of}
 use Rattle.dfdl_components.specs.Globals.{site}
 use Rattle.dfdl_chains.specs.declared.typed.Typed.{Typed}
 use Rattle.dfdl_chains.specs.declared.typed.Typed.TheVariants.{Carried, NotCarried, Defined}
-use Rattle.dfdl_chains.specs.Declarations.{or_itself, part_inside, referred}
+use Rattle.dfdl_chains.specs.Declarations.{or_itself, part_inside}
 use Rattle.dfdl_chains.specs.Derivation.{type_of}
-use Rattle.dfdl_chains.specs.Chains.{group_content, listed}
+use Rattle.dfdl_chains.specs.Chains.{group_content}
 
 -- what can stand in a sequence or choice
 abbrev pub is_particle : Role → Bool
@@ -67,13 +66,12 @@ parts_by documents own role.LocalElement = contents documents (type_of documents
 parts_by documents own role.ElementReference = contents documents (type_of documents own)
 parts_by documents own role.Sequence = particles documents own
 parts_by documents own role.Choice = particles documents own
-parts_by documents own role.GroupReference = listed (referred documents own kind.Group)
-parts_by documents own role.GlobalGroup = particles_if documents (part_inside documents own)
+parts_by documents own role.GroupReference = particles_if documents (group_content documents own)
 parts_by documents own _ = []
 
 -- what a component consists of, in schema order: an element of its content, a sequence or choice of what
--- stands in it, a group reference of the group that it names, and that of what stands in its sequence or
--- choice. Everything else consists of nothing
+-- stands in it, and a group reference of what stands in the sequence or choice of the group that it names.
+-- Everything else consists of nothing
 unfoldable pub parts_at : List SchemaDocument → Site → List Site
 parts_at documents own = parts_by documents own (role_of documents own)
 

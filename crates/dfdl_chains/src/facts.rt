@@ -9,32 +9,40 @@ ghost use Rattle.dfdl_chains.specs.Chains as chains;
 ghost use Rattle.dfdl_chains.specs.Facts as spec;
 
 use crate::declaring::{attribute, declaration};
-use crate::lengths::max_length;
+use crate::lengths::{length_of, max_length};
 use crate::parts::is_empty;
-use dfdl_checks::Facts;
+use dfdl_checks::{Bounds, Facts};
 use dfdl_components::{Schema, Site};
 use dfdl_constructs::Role;
 
-// The number 1, before which zeros may stand.
-fn is_one(text: &str) -> bool
-    ensures { result ≡ spec.is_one text.now }
-{
-    let digits = text.as_bytes();
-    for at in 0..digits.len() {
-        if digits[at] != b'0' {
-            return digits[at] == b'1' && at + 1 == digits.len();
-        }
-    }
-    false
-}
-
-// A bound of occurrences that is 1, as it is where it is absent.
-fn is_one_or_absent(text: Option<&str>) -> bool
-    ensures { result ≡ spec.is_one_or_absent (option_copied text.entry) }
+// The least number of occurrences, which is 1 where it is absent.
+fn least_of(text: Option<&str>) -> u64
+    ensures { result ≡ spec.least_of (option_copied text.entry) }
 {
     match text {
-        Some(text) => is_one(text),
-        None => true,
+        Some(digits) => length_of(digits),
+        None => 1,
+    }
+}
+
+// The greatest number of occurrences that a text gives, if it is bounded.
+fn bounded_by(text: &str) -> Option<u64>
+    ensures { result ≡ spec.bounded_by text.now }
+{
+    if text == "unbounded" {
+        None
+    } else {
+        Some(length_of(text))
+    }
+}
+
+// The greatest number of occurrences, which is 1 where it is absent.
+fn most_of(text: Option<&str>) -> Option<u64>
+    ensures { result ≡ spec.most_of (option_copied text.entry) }
+{
+    match text {
+        Some(text) => bounded_by(text),
+        None => Some(1),
     }
 }
 
@@ -48,16 +56,37 @@ fn is_occurring(role: Role) -> bool
     }
 }
 
-// The element occurs exactly once.
-fn occurs_once(schema: &Schema, site: Site) -> bool
-    requires { IsSite schema.now site }
-    ensures { result ≡ spec.occurs_once schema.now site }
+// The bounds of what occurs once.
+fn once() -> Bounds
+    ensures { result ≡ spec.once }
 {
-    if !is_occurring(schema.role(site)) {
-        return true;
+    Bounds {
+        least: 1,
+        most: Some(1),
     }
-    is_one_or_absent(attribute(schema, site, "minOccurs"))
-        && is_one_or_absent(attribute(schema, site, "maxOccurs"))
+}
+
+// The bounds that a component gives.
+fn bounds_given(schema: &Schema, site: Site) -> Bounds
+    requires { IsSite schema.now site }
+    ensures { result ≡ spec.bounds_given schema.now site }
+{
+    Bounds {
+        least: least_of(attribute(schema, site, "minOccurs")),
+        most: most_of(attribute(schema, site, "maxOccurs")),
+    }
+}
+
+// The bounds of how often the component occurs.
+fn bounds_of(schema: &Schema, site: Site) -> Bounds
+    requires { IsSite schema.now site }
+    ensures { result ≡ spec.bounds_of schema.now site }
+{
+    if is_occurring(schema.role(site)) {
+        bounds_given(schema, site)
+    } else {
+        once()
+    }
 }
 
 // A truth value that is true.
@@ -206,7 +235,7 @@ pub fn facts_at<'s>(schema: &'s Schema, site: Site, chain: &[Site]) -> Facts<'s>
     ensures { facts_judged_of result ≡ spec.facts_at schema.now site }
 {
     Facts {
-        occurs_once: occurs_once(schema, site),
+        bounds: bounds_of(schema, site),
         is_nillable: is_nillable(schema, site),
         default: default_of(schema, site),
         has_statements: have_statements(schema, chain),

@@ -8,8 +8,8 @@ use crate::declaring::{attribute, part_inside};
 use dfdl_components::{Schema, Site};
 use dfdl_constructs::Role;
 
-// The length that digits stand for, at most 2^64 - 1.
-fn length_of(digits: &str) -> u64
+/// The number that digits stand for, at most 2^64 - 1.
+pub(crate) fn length_of(digits: &str) -> u64
     ensures { result ≡ spec.length_of digits.now }
 {
     let mut length: u64 = 0;

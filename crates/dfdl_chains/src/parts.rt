@@ -4,12 +4,12 @@ ghost use Rattle.dfdl_components.specs.Sites.{IsSite};
 ghost use Rattle.dfdl_chains.specs.Parts as spec;
 ghost use Rattle.dfdl_chains.specs.Shown.{AreNumbers, IsTypeOf};
 
-use crate::chain::{group_content, push_if};
-use crate::declaring::{part_inside, referred};
+use crate::chain::group_content;
+use crate::declaring::part_inside;
 use crate::derivation::type_of;
 use crate::numbers::Numbers;
 use crate::typed::Typed;
-use dfdl_components::{ComponentKind, Schema, Site};
+use dfdl_components::{Schema, Site};
 use dfdl_constructs::Role;
 use std::alloc::AllocError;
 
@@ -127,15 +127,14 @@ fn push_parts(
             push_content(schema, type_of(schema, numbers, site), parts)
         }
         Role::Sequence | Role::Choice => push_particles(schema, site, parts),
-        Role::GroupReference => push_if(parts, referred(schema, site, ComponentKind::Group)),
-        Role::GlobalGroup => push_particles_if(schema, part_inside(schema, site), parts),
+        Role::GroupReference => push_particles_if(schema, group_content(schema, site), parts),
         _ => Ok(()),
     }
 }
 
 /// What a component consists of, in schema order, in place of the parts before: an element of its content,
-/// a sequence or choice of what stands in it, a group reference of the group that it names, and that of
-/// what stands in its sequence or choice.
+/// a sequence or choice of what stands in it, and a group reference of what stands in the sequence or choice
+/// of the group that it names.
 pub fn parts_at(
     schema: &Schema,
     numbers: &Numbers,

@@ -24,7 +24,12 @@ same-chain (a ∷ xs) (b ∷ ys) alike = λ i. same-element a b alike.0 i ∷ sa
 
 -- types of prefixes that are alike are the same
 same-type : (a b : PrefixJudged) → IsAlikePrefix a b → a ≡ b
-same-type a b alike = λ i. record { simple = alike.simple i; place = alike.place i; chain = same-chain a.chain b.chain alike.chain i }
+same-type a b alike = λ i. record {
+  simple = alike.simple i;
+  place = alike.place i;
+  chain = same-chain a.chain b.chain alike.chain i;
+  scheme = alike.scheme i;
+}
 
 -- so are those that may be lacking
 same-prefix : (p q : Option PrefixJudged) → AreAlikePrefixes p q → p ≡ q
@@ -43,5 +48,6 @@ same-component a b alike = λ i. record {
   facts = alike.facts i;
   root_bits_by = alike.root_bits_by i;
   prefix = same-prefix a.prefix b.prefix alike.prefix i;
+  scheme = alike.scheme i;
   pattern_is_refused = alike.pattern_is_refused i;
 }

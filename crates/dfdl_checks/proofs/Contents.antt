@@ -14,7 +14,7 @@ use Rattle.dfdl_forms.specs.declared.simple.Simple.TheVariants as types
 use Rattle.dfdl_number_pattern.specs.Read.{pattern_read}
 use Rattle.dfdl_terms.specs.Rows.{IsTextContent}
 use Rattle.dfdl_terms.specs.declared.text.TextContent.{TextContent}
-use Rattle.dfdl_terms.specs.declared.text.TextContent.TheVariants.{Plain, Number, Zoned, Truth, Nil}
+use Rattle.dfdl_terms.specs.declared.text.TextContent.TheVariants.{Plain, Octets as TextOctets, Number, Zoned, Truth, Nil}
 use Rattle.dfdl_checks.proofs.BoxBounds.{none-some, some-is}
 use Rattle.dfdl_checks.proofs.Types.{boolean-type, string-type}
 use Rattle.dfdl_checks.specs.BooleanTexts.{truth_form_of}
@@ -112,6 +112,7 @@ number-bounded s form patterns is =
 -- what is known of the content of a text of a type
 abbrev pub IsContentOf : Judged → Simple → TextContent → Type 0
 IsContentOf s simple Plain = simple ≡ types.String
+IsContentOf s simple TextOctets = simple ≡ types.HexBinary
 IsContentOf s simple (Truth form) = simple ≡ types.Boolean
 IsContentOf s simple (Zoned form) = IsZonedBy simple form
 IsContentOf s simple (Number form kind) = (simple ≡ kind) × (number_form_of s ≡ Some form)
@@ -138,6 +139,7 @@ content-is s simple content is =
 -- it keeps its bounds
 pub content-bounded : (s : Judged) (simple : Simple) (content : TextContent) → ArePatternsBounded → IsContentOf s simple content → IsTextContent content
 content-bounded s simple Plain patterns of = tt
+content-bounded s simple TextOctets patterns of = tt
 content-bounded s simple (Truth form) patterns of = tt
 content-bounded s simple (Zoned form) patterns of = zoned-bounded simple form patterns of
 content-bounded s simple (Number form kind) patterns of = number-bounded s form patterns of.1
@@ -146,6 +148,7 @@ content-bounded s simple (Nil form) patterns of = absurd of
 -- its values are those of the type
 pub content-typed : (s : Judged) (simple : Simple) (content : TextContent) → IsContentOf s simple content → simple ≡ text_type content
 content-typed s simple Plain of = of
+content-typed s simple TextOctets of = of
 content-typed s simple (Truth form) of = of
 content-typed s simple (Zoned form) of = of.kind
 content-typed s simple (Number form kind) of = of.0

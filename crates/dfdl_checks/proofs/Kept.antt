@@ -4,13 +4,14 @@ use Rattle.std.specs.Option.{option_map_or}
 use Rattle.dfdl_report.specs.declared.cause.SchemaCause.{SchemaCause}
 use Rattle.dfdl_report.specs.declared.cause.SchemaCause.TheVariants as causes
 use Rattle.dfdl_report.specs.declared.place.Place.{Place}
-use Rattle.dfdl_checks.specs.Rules.{breach_of, first_breach, rules, is_unbuilt, property_twice, is_property_missing, is_value_not_carried, is_expression_not_allowed, is_literal_malformed, is_type_not_carried, is_max_length_missing, is_length_kind_not_allowed, is_length_in_characters, is_length_out_of_range, is_prefix_type_not_allowed, is_prefix_not_whole, is_pattern_refused, are_orders_apart, is_second_bit_order, is_character_not_encoded, is_alignment_not_allowed, is_pattern_malformed, are_codes_malformed, are_truths_malformed, is_pad_no_character, is_pad_malformed, is_separator_malformed, are_truth_texts_malformed, is_pad_not_encoded, is_separator_not_encoded, are_truth_texts_not_encoded, is_separator_other, are_separators_unfit, is_base_unfit, is_prefix_type_missing}
+use Rattle.dfdl_checks.specs.Rules.{breach_of, first_breach, rules, is_unbuilt, property_twice, is_property_missing, is_value_not_carried, is_expression_not_allowed, is_literal_malformed, is_type_not_carried, is_max_length_missing, is_length_kind_not_allowed, is_length_in_characters, is_length_out_of_range, is_prefix_type_not_allowed, is_prefix_not_whole, is_pattern_refused, are_orders_apart, is_second_bit_order, is_character_not_encoded, is_alignment_not_allowed, is_pattern_malformed, are_codes_malformed, are_truths_malformed, is_pad_no_character, is_pad_malformed, is_separator_malformed, are_truth_texts_malformed, is_bytes_encoding_other, is_pad_not_encoded, is_separator_not_encoded, are_truth_texts_not_encoded, is_separator_other, are_separators_unfit, is_base_unfit, is_prefix_type_missing, is_scheme_malformed, is_scheme_unknown}
 use Rattle.dfdl_checks.specs.Defaults.{is_default_not_allowed}
 use Rattle.dfdl_checks.specs.Delimiters.{is_delimiter_empty, is_delimiter_malformed, is_delimiter_not_encoded}
 use Rattle.dfdl_checks.specs.FillBytes.{is_fill_malformed, is_fill_other}
 use Rattle.dfdl_checks.specs.Flaws.{has_flaw}
 use Rattle.dfdl_checks.specs.NewLines.{is_new_line_expression, is_new_line_other}
 use Rattle.dfdl_checks.specs.NilValues.{is_nil_not_allowed}
+use Rattle.dfdl_checks.specs.Occurrences.{are_bounds_unfit}
 use Rattle.dfdl_checks.specs.Nils.{is_nil_malformed, is_nil_not_encoded}
 use Rattle.dfdl_checks.specs.declared.flaw.Flaw.TheVariants as flaws
 use Rattle.dfdl_checks.specs.Judged.{Judged}
@@ -43,6 +44,8 @@ pub record IsKept (s : Judged) : Type 0 where
   pub pad_single : is_pad_no_character s ≡ false
   pub nil : is_nil_not_allowed s ≡ false
   pub by_default : is_default_not_allowed s ≡ false
+  pub bounds : are_bounds_unfit s ≡ false
+  pub scheme : is_scheme_malformed s ≡ false
 
 -- no rule of some is broken: neither the first one nor another
 first-kept : (cause : SchemaCause) (at : Option Place) (rest : Option Breach)
@@ -84,6 +87,8 @@ keeps-all s none =
     let pad_single_at = first-kept causes.PadCharacter _ _ truths_at.1 in
     let nil_at = first-kept causes.NilNotAllowed _ _ pad_single_at.1 in
     let by_default_at = first-kept causes.DefaultNotAValue _ _ nil_at.1 in
+    let bounds_at = first-kept causes.OccurrenceBounds _ _ by_default_at.1 in
+    let scheme_at = first-kept causes.EscapeScheme _ _ bounds_at.1 in
     record {
       built = itself-kept _ s.place built_at.0;
       once = once_at.0;
@@ -110,6 +115,8 @@ keeps-all s none =
       pad_single = itself-kept _ s.place pad_single_at.0;
       nil = itself-kept _ s.place nil_at.0;
       by_default = itself-kept _ s.place by_default_at.0;
+      bounds = itself-kept _ s.place bounds_at.0;
+      scheme = itself-kept _ s.place scheme_at.0;
     }
 
 -- where none of two holds, the first doesn't
@@ -128,9 +135,11 @@ literals-kept s kept =
 -- the encoding has the characters of texts
 pub encoded-kept : (s : Judged) → IsKept s → (is_pad_not_encoded s || is_separator_not_encoded s || are_truth_texts_not_encoded s) ≡ false
 encoded-kept s kept =
-    first-of-two (is_pad_not_encoded s || is_separator_not_encoded s || are_truth_texts_not_encoded s) (is_nil_not_encoded s)
-    (first-of-two (is_pad_not_encoded s || is_separator_not_encoded s || are_truth_texts_not_encoded s || is_nil_not_encoded s) (is_delimiter_not_encoded s)
-    kept.encoded)
+    others (is_pad_not_encoded s) (is_separator_not_encoded s) (are_truth_texts_not_encoded s) (is_nil_not_encoded s) (is_delimiter_not_encoded s)
+    (is_bytes_encoding_other s) kept.encoded
+  where
+    others : (a b c d e f : Bool) → (a || b || c || d || e || f) ≡ false → (a || b || c) ≡ false
+    others a b c d e f none = grind (arith, none)
 
 -- values but those of fill bytes are carried
 abbrev pub AreValuesKept : Judged → Type 0
@@ -142,7 +151,11 @@ values-kept s kept =
     first-of-two (has_flaw flaws.NotCarried s || is_separator_other s || are_separators_unfit s || is_base_unfit s || is_prefix_type_missing s) (is_fill_other s)
     (first-of-two
     (has_flaw flaws.NotCarried s || is_separator_other s || are_separators_unfit s || is_base_unfit s || is_prefix_type_missing s || is_fill_other s)
-    (is_new_line_other s) kept.carried)
+    (is_new_line_other s)
+    (first-of-two
+    (has_flaw flaws.NotCarried s || is_separator_other s || are_separators_unfit s || is_base_unfit s || is_prefix_type_missing s || is_fill_other s
+    || is_new_line_other s)
+    (is_scheme_unknown s) kept.carried))
 
 -- no property that applies has an expression where none may stand
 pub expressions-kept : (s : Judged) → IsKept s → has_flaw flaws.Expression s ≡ false

@@ -97,21 +97,29 @@ boolean-kind Unparsing r t has other = implicit-kind Unparsing t (one-word (code
 -- the kinds of lengths of texts, of bytes and of complex elements
 abbrev boxed_kinds : Applicability
 boxed_kinds =
-    applies_by (codes "lengthKind") bearers.BoxedElements (BuiltWords (codes "implicit" ∷ codes "explicit" ∷ codes "prefixed" ∷ codes "pattern" ∷ []))
-    (word (codes "implicit"))
+    applies_by (codes "lengthKind") bearers.BoxedElements
+    (BuiltWords (codes "implicit" ∷ codes "explicit" ∷ codes "prefixed" ∷ codes "delimited" ∷ codes "pattern" ∷ [])) (word (codes "implicit"))
 
-boxed-told : (r : Row) (t : Told) → HasBuilt r boxed_kinds.parsing t → is_kind_told t ≡ true
+-- the length is one of the four, or delimited
+abbrev pub is_boxed_kind_told : Told → Bool
+is_boxed_kind_told t = is_kind_told t || is_word (codes "delimited") t
+
+boxed-told : (r : Row) (t : Told) → HasBuilt r boxed_kinds.parsing t → is_boxed_kind_told t ≡ true
 boxed-told r t has =
-    subst (λ t. is_kind_told t ≡ true) (sym has.is)
+    subst (λ t. is_boxed_kind_told t ≡ true) (sym has.is)
     (alone (bytes_eq (literal has.written) (codes "implicit")) (bytes_eq (literal has.written) (codes "explicit"))
-    (bytes_eq (literal has.written) (codes "prefixed")) (bytes_eq (literal has.written) (codes "pattern")) has.built_is)
+    (bytes_eq (literal has.written) (codes "prefixed")) (bytes_eq (literal has.written) (codes "delimited")) (bytes_eq (literal has.written) (codes "pattern"))
+    has.built_is)
   where
-    alone : (a b c d : Bool) → (a || (b || (c || (d || false)))) ≡ true → (a || b || c || d) ≡ true
-    alone a b c d h = grind (arith, h)
+    alone : (a b c d e : Bool) → (a || (b || (c || (d || (e || false))))) ≡ true → (a || b || c || e || d) ≡ true
+    alone a b c d e h = grind (arith, h)
 
-boxed-kind : (purpose : Purpose) (r : Row) (t : Told) → HasBuilt r (built_for purpose boxed_kinds) t → HasKind purpose t
-boxed-kind Parsing r t has = parsed-kind t (boxed-told r t has)
-boxed-kind Unparsing r t has = implicit-kind Unparsing t (one-word (codes "implicit") r t has)
+boxed-kind : (purpose : Purpose) (r : Row) (t : Told) → HasBuilt r (built_for purpose boxed_kinds) t → is_boxed_kind_told t ≡ true
+boxed-kind Parsing r t has = boxed-told r t has
+boxed-kind Unparsing r t has = first (is_word (codes "implicit") t) _ _ _ _ (one-word (codes "implicit") r t has)
+  where
+    first : (a b c d e : Bool) → a ≡ true → (a || b || c || d || e) ≡ true
+    first a b c d e h = grind (arith, h)
 
 -- the row of the kind of a length
 abbrev kind_row : Row
@@ -123,7 +131,7 @@ unfolding applicability_table property_table
 number-length s kept binary = number-kind s.purpose _ _ kinds not-by-content
   where
     kinds : HasBuilt kind_row (built_for s.purpose number_kinds) (told_at s (codes "lengthKind"))
-    kinds = built-by s kept 10 number_kinds refl binary _ refl refl
+    kinds = built-by s kept 11 number_kinds refl binary _ refl refl
 
     first-of : (a b c d e : Bool) → a ≡ true → ((a && (b || c)) || d || e) ≡ false → b ≡ false
     first-of a b c d e x y = grind (arith, x, y)
@@ -139,7 +147,7 @@ unfolding applicability_table property_table
 boolean-length s kept binary = boolean-kind s.purpose _ _ kinds not-delimited
   where
     kinds : HasBuilt kind_row (built_for s.purpose boolean_kinds) (told_at s (codes "lengthKind"))
-    kinds = built-by s kept 11 boolean_kinds refl binary _ refl refl
+    kinds = built-by s kept 12 boolean_kinds refl binary _ refl refl
 
     second-of : (a b c d : Bool) → b ≡ true → (a || (b && c) || d) ≡ false → c ≡ false
     second-of a b c d x y = grind (arith, x, y)
@@ -150,9 +158,9 @@ boolean-length s kept binary = boolean-kind s.purpose _ _ kinds not-delimited
         kept.length_kind
 
 -- the same of what stands in a box
-pub boxed-length : (s : Judged) → IsKept s → is_boxed s ≡ true → HasKind s.purpose (told_at s (codes "lengthKind"))
+pub boxed-length : (s : Judged) → IsKept s → is_boxed s ≡ true → is_boxed_kind_told (told_at s (codes "lengthKind")) ≡ true
 unfolding applicability_table property_table
 boxed-length s kept boxed = boxed-kind s.purpose _ _ kinds
   where
     kinds : HasBuilt kind_row (built_for s.purpose boxed_kinds) (told_at s (codes "lengthKind"))
-    kinds = built-by s kept 9 boxed_kinds refl boxed _ refl refl
+    kinds = built-by s kept 10 boxed_kinds refl boxed _ refl refl

@@ -42,4 +42,4 @@ in-bit-order s kept = record {
 }
   where
     told : field_order s ≡ told_order s
-    told = order-told s.purpose _ _ (flawless-by s kept 7 bit_orders refl refl _ refl)
+    told = order-told s.purpose _ _ (flawless-by s kept 8 bit_orders refl refl _ refl)

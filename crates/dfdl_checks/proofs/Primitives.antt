@@ -1,5 +1,5 @@
 -- What is known of each component with a primitive.
-use Rattle.std.proofs.Common.{◌≡◌, refl, sym, ap, subst, ◌∙◌, ℕ, List, ◌≤◌, ◌*◌, ◌/◌, ◌%◌, ◌==◌, Option, Some, None, Bool, true, false, if◌then◌else◌, ◌&&◌, ◌||◌, nat_le, nat_lt, option_map, codes, IsTrue, arith}
+use Rattle.std.proofs.Common.{◌≡◌, refl, sym, ap, subst, ◌∙◌, ℕ, List, ◌≤◌, ◌*◌, ◌/◌, ◌%◌, ◌==◌, Option, Some, None, Bool, true, false, if◌then◌else◌, ◌&&◌, ◌||◌, nat_le, nat_lt, option_and_then, option_map, codes, IsTrue, arith}
 use Rattle.std.specs.Str.Parse.{digits_value}
 use Rattle.dfdl_forms.specs.Binary.{most_bits, most_places}
 use Rattle.dfdl_forms.specs.Types.{form_of}
@@ -24,6 +24,7 @@ use Rattle.dfdl_terms.specs.declared.text.OctetForm.{OctetForm}
 use Rattle.dfdl_terms.specs.declared.text.TextContent.{TextContent}
 use Rattle.dfdl_terms.specs.declared.text.TextForm.{TextForm}
 use Rattle.dfdl_terms.specs.declared.text.TextSize.{TextSize}
+use Rattle.dfdl_terms.specs.declared.text.TextSize.TheVariants.{Delimited}
 use Rattle.dfdl_checks.proofs.BoxBounds.{bits-within, none-some, some-is, units-within}
 use Rattle.dfdl_checks.proofs.Types.{boolean-type, bytes-type, few-bits, number-or-truth, of-type, represented-else, represented-value, whole-number}
 use Rattle.dfdl_checks.proofs.Contents.{ArePatternsBounded, IsContentOf, content-bounded, content-is, content-typed}
@@ -36,8 +37,8 @@ use Rattle.dfdl_checks.specs.Numbers.{HasBitOrder, binary_of_type, field_bits, f
 use Rattle.dfdl_checks.specs.Orders.{field_order, order_for, orders_of}
 use Rattle.dfdl_checks.specs.Packed.{allowed_codes, codes_for, codes_in, codes_of_text, codes_told, is_strict, nibbles_in, nibbles_within, are_four, rep_of, usual_codes}
 use Rattle.dfdl_checks.specs.BuiltTypes.{is_built_type, is_whole_type}
-use Rattle.dfdl_checks.specs.Subjects.{binary_bits, has_point, is_characters, is_explicit, is_octets, is_sized_by_data, is_string, is_text, is_text_boolean, is_text_number, is_truths, simple_of, told_at}
-use Rattle.dfdl_checks.specs.Texts.{content_of, is_replaced, octets_by, octets_of, pad_of, size_in, text_by, text_of, text_size}
+use Rattle.dfdl_checks.specs.Subjects.{binary_bits, has_delimited_length, has_point, is_characters, is_explicit, is_octets, is_sized_by_data, is_string, is_text, is_text_boolean, is_text_number, is_truths, simple_of, told_at}
+use Rattle.dfdl_checks.specs.Texts.{boxed_size, content_of, delimited_octets, octets_by, octets_of, pad_of, replaces_at, scan_of, size_in, text_by, text_in, text_of, text_size}
 use Rattle.dfdl_checks.specs.Values.{is_number}
 use Rattle.dfdl_checks.specs.declared.purpose.Purpose.{Purpose}
 use Rattle.dfdl_checks.specs.declared.purpose.Purpose.TheVariants.{Parsing, Unparsing}
@@ -84,7 +85,7 @@ pub record IsTextOf (s : Judged) (form : TextForm) : Type 0 where
   pub simple : Simple
   pub kind : simple_of s.kind ≡ Some simple
   pub parsing : s.purpose ≡ Parsing
-  pub size : text_size s ≡ Some form.size
+  pub size : IsTextSize form.size
   pub content : IsContentOf s simple form.content
 
 -- what is known of the primitive of a component
@@ -145,22 +146,53 @@ truth-of s kind parsing =
     by (Some b) (Some t) None sized = tt
 
 octets-of : (s : Judged) → simple_of s.kind ≡ Some types.HexBinary → s.purpose ≡ Parsing → IsOfIf s (octets_of s)
-octets-of s kind parsing = by (box_bits s) refl
+octets-of s kind parsing = either (has_delimited_length s)
   where
     by : (bits : Option ℕ) → box_bits s ≡ bits → IsOfIf s (option_map (octets_by (field_order s)) bits)
     by (Some b) sized = record { kind = kind; parsing = parsing; bits = sized; bits_by = refl }
     by None sized = tt
 
-text-of : (s : Judged) (simple : Simple) → simple_of s.kind ≡ Some simple → s.purpose ≡ Parsing → IsOfIf s (text_of s simple)
-text-of s simple kind parsing = by (encoding_told (told_at s (codes "encoding"))) (text_size s) (content_of s simple) refl refl
+    either : (b : Bool) → IsOfIf s (if b then Some delimited_octets else option_map (octets_by (field_order s)) (box_bits s))
+    either true = record { simple = types.HexBinary; kind = kind; parsing = parsing; size = tt; content = refl }
+    either false = by (box_bits s) refl
+
+-- a text has no more characters or bits than the greatest length
+size-few : (are_characters : Bool) (unit n : ℕ) → n ≤ most_length → n * unit ≤ most_length → IsTextSize (size_in are_characters unit n)
+size-few true unit n few bits = few
+size-few false unit n few bits = bits
+
+-- what is known of the size of a text
+abbrev IsSizeIf : Option TextSize → Type 0
+IsSizeIf None = Unit {0}
+IsSizeIf (Some size) = IsTextSize size
+
+boxed-sized : (s : Judged) → IsSizeIf (boxed_size s)
+boxed-sized s = by (box_units s) refl
   where
-    by : (e : Option Encoding) (size : Option TextSize) (content : Option TextContent) → text_size s ≡ size → content_of s simple ≡ content
-        → IsOfIf s (text_by e (is_replaced (told_at s (codes "encodingErrorPolicy"))) size (pad_of s) content)
-    by (Some e) (Some z) (Some c) sized read =
+    by : (units : Option ℕ) → box_units s ≡ units → IsSizeIf (option_map (size_in (is_in_characters s) (box_unit s)) units)
+    by (Some n) within = let few = units-within s n within in size-few (is_in_characters s) (box_unit s) n few.0 few.1
+    by None within = tt
+
+text-sized : (s : Judged) (e : Encoding) → IsSizeIf (text_size s e)
+text-sized s e = by (has_delimited_length s)
+  where
+    by : (b : Bool) → IsSizeIf (if b then Some (Delimited (scan_of s e)) else boxed_size s)
+    by true = tt
+    by false = boxed-sized s
+
+text-of : (s : Judged) (simple : Simple) → simple_of s.kind ≡ Some simple → s.purpose ≡ Parsing → IsOfIf s (text_of s simple)
+text-of s simple kind parsing = told (encoding_told (told_at s (codes "encoding")))
+  where
+    by : (e : Encoding) (size : Option TextSize) (content : Option TextContent) → IsSizeIf size → content_of s simple ≡ content
+        → IsOfIf s (text_by e (replaces_at s) size (pad_of s) content)
+    by e (Some z) (Some c) sized read =
         record { simple = simple; kind = kind; parsing = parsing; size = sized; content = content-is s simple c read }
-    by None z c sized read = tt
-    by (Some e) None c sized read = tt
-    by (Some e) (Some z) None sized read = tt
+    by e None c sized read = tt
+    by e (Some z) None sized read = tt
+
+    told : (e : Option Encoding) → IsOfIf s (option_and_then (text_in s simple) e)
+    told (Some e) = by e (text_size s e) (content_of s simple) (text-sized s e) refl
+    told None = tt
 
 binary-of : (s : Judged) (simple : Simple) → s.purpose ≡ Parsing → simple_of s.kind ≡ Some simple → is_built_type s.purpose simple ≡ true
     → nat_lt 0 (binary_bits (form_of simple)) ≡ true → IsOfIf s (binary_of_type s simple)
@@ -367,24 +399,9 @@ packed-bounded s form of =
       places = places-within (form_of form.kind) (told_at s (codes "binaryDecimalVirtualPoint")) form.point of.places;
     }
 
--- a text has no more characters or bits than the greatest length
-size-few : (are_characters : Bool) (unit n : ℕ) → n ≤ most_length → n * unit ≤ most_length → IsTextSize (size_in are_characters unit n)
-size-few true unit n few bits = few
-size-few false unit n few bits = bits
-
-text-sized : (s : Judged) (form : TextForm) → IsTextOf s form → IsTextSize form.size
-text-sized s form of = by (box_units s) refl of.size
-  where
-    by : (units : Option ℕ) → box_units s ≡ units → option_map (size_in (is_in_characters s) (box_unit s)) units ≡ Some form.size
-        → IsTextSize form.size
-    by (Some n) within sized =
-        let few = units-within s n within in
-        subst (λ size. IsTextSize size) (some-is _ _ sized) (size-few (is_in_characters s) (box_unit s) n few.0 few.1)
-    by None within sized = absurd (none-some _ sized)
-
 text-bounded : (s : Judged) (form : TextForm) → ArePatternsBounded → IsTextOf s form → IsPrimitive (Text form)
 text-bounded s form patterns of =
-    record { size = text-sized s form of; content = content-bounded s of.simple form.content patterns of.content }
+    record { size = of.size; content = content-bounded s of.simple form.content patterns of.content }
 
 pub bounded : ArePatternsBounded → (s : Judged) (p : Primitive) → primitive_of s ≡ Some p → IsPrimitive p
 bounded patterns s (Integer form) is = integer-bounded s form (of-component s (Integer form) is)

@@ -46,7 +46,7 @@ constant : (s : Judged) → IsKept s → is_explicit_binary s ≡ true → is_so
 unfolding applicability_table property_table
 constant s kept explicit =
     some-length (unit_bits (told_at s (codes "lengthUnits"))) _
-    (number-told _ _ (built-at s kept 12 (codes "length") bearers.ExplicitBinaries EachNumber refl explicit _ refl refl))
+    (number-told _ _ (built-at s kept 13 (codes "length") bearers.ExplicitBinaries EachNumber refl explicit _ refl refl))
 
 -- the value that is told, or nothing
 abbrev written-in : Told → List ℕ
@@ -77,7 +77,7 @@ places s sound number = by (has_point (form_of sound.simple)) refl
     decimal : has_point (form_of sound.simple) ≡ true → is_some (places_told (told_at s (codes "binaryDecimalVirtualPoint"))) ≡ true
     decimal point =
         some-places (codes "binaryDecimalVirtualPoint") _
-        (no-flaw s sound.kept 61 (codes "binaryDecimalVirtualPoint") bearers.BinaryDecimals EveryValue refl
+        (no-flaw s sound.kept 65 (codes "binaryDecimalVirtualPoint") bearers.BinaryDecimals EveryValue refl
         (all-hold _ _ (sound.form.decimal ∙ point) number) _ refl)
         (once-at s sound.kept (codes "binaryDecimalVirtualPoint") _ refl)
 
@@ -166,11 +166,15 @@ module _ (s : Judged) (sound : IsSound s) (binary : IsSoundBinary s sound) where
       last : (a b c d : Bool) → (a || b || c || d) ≡ true → a ≡ false → b ≡ false → (c || d) ≡ true
       last a b c d x y z = grind (arith, x, y, z)
 
+      first : (a b : Bool) → a ≡ true → (a || b) ≡ true
+      first a b x = grind (arith, x)
+
       by-data : is_explicit s ≡ false → is_sized_by_data s ≡ true
       by-data other =
           sized-is s sound.form.simple
-          ∙ last (is_told s (codes "lengthKind") (codes "implicit")) (is_explicit s) (is_told s (codes "lengthKind") (codes "prefixed"))
-          (is_told s (codes "lengthKind") (codes "pattern")) binary.length.kind no-implicit other
+          ∙ first (is_told s (codes "lengthKind") (codes "prefixed") || is_told s (codes "lengthKind") (codes "pattern")) _
+          (last (is_told s (codes "lengthKind") (codes "implicit")) (is_explicit s) (is_told s (codes "lengthKind") (codes "prefixed"))
+          (is_told s (codes "lengthKind") (codes "pattern")) binary.length.kind no-implicit other)
 
       by : (b : Bool) → is_explicit s ≡ b
           → is_some (if b then nibbles_within rep (constant_length s) else if is_sized_by_data s then Some 1 else None) ≡ true

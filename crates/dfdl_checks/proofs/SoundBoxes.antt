@@ -6,11 +6,12 @@ use Rattle.dfdl_scope.specs.Scoping.{Told}
 use Rattle.dfdl_scope.specs.Table.{Row, row, Formed, Missing, property_table}
 use Rattle.dfdl_scope.specs.declared.row.Form.TheVariants as values
 use Rattle.dfdl_terms.specs.Rows.{most_length}
+use Rattle.dfdl_terms.specs.declared.row.Primitive.{Primitive}
 use Rattle.dfdl_checks.proofs.Binary.{IsSound}
 use Rattle.dfdl_checks.proofs.Built.{all-hold, built-at}
 use Rattle.dfdl_checks.proofs.Flawless.{HasBuilt}
 use Rattle.dfdl_checks.proofs.Kept.{IsKept, keeps-all}
-use Rattle.dfdl_checks.proofs.LengthKinds.{HasKind, boxed-length}
+use Rattle.dfdl_checks.proofs.LengthKinds.{boxed-length, is_boxed_kind_told}
 use Rattle.dfdl_checks.proofs.Ordered.{in-bit-order}
 use Rattle.dfdl_checks.specs.Boxes.{box_bits, box_number, box_unit, box_units, is_explicit_box, is_explicit_complex, is_implicit_box, size_for, size_of_box, units_within}
 use Rattle.dfdl_checks.specs.Encodings.{encoding_named, encoding_told}
@@ -19,9 +20,9 @@ use Rattle.dfdl_checks.specs.Lengths.{number_told}
 use Rattle.dfdl_checks.specs.Numbers.{IsTextOrBytesValue}
 use Rattle.dfdl_checks.specs.Orders.{field_order}
 use Rattle.dfdl_checks.specs.Rules.{first_breach, rules, is_delimited_boolean, is_field_out_of_range, is_number_length_not_allowed}
-use Rattle.dfdl_checks.specs.Subjects.{is_boxed, is_complex, is_explicit, is_group, is_hex_binary, is_simple, is_sized_by_data, is_string, is_text, is_text_boolean, is_text_number, is_told, told_at}
+use Rattle.dfdl_checks.specs.Subjects.{has_delimited_length, is_boxed, is_complex, is_explicit, is_group, is_hex_binary, is_simple, is_sized_by_data, is_string, is_text, is_text_boolean, is_text_number, is_told, told_at}
 use Rattle.dfdl_checks.specs.Table.{EachNumber, EveryValue, applicability_table}
-use Rattle.dfdl_checks.specs.Texts.{octets_by, octets_of}
+use Rattle.dfdl_checks.specs.Texts.{delimited_octets, octets_by, octets_of}
 use Rattle.dfdl_checks.specs.declared.applicability.Bearers.TheVariants as bearers
 use Rattle.dfdl_checks.specs.declared.purpose.Purpose.TheVariants.{Parsing}
 use Rattle.dfdl_checks.specs.declared.subject.Kind.{Kind}
@@ -37,7 +38,7 @@ number-told r t has =
 own-number : (s : Judged) → IsKept s → is_explicit_box s ≡ true → is_some (number_told (told_at s (codes "length"))) ≡ true
 unfolding applicability_table property_table
 own-number s kept explicit =
-    number-told _ _ (built-at s kept 13 (codes "length") bearers.ExplicitBoxes EachNumber refl explicit _ refl refl)
+    number-told _ _ (built-at s kept 14 (codes "length") bearers.ExplicitBoxes EachNumber refl explicit _ refl refl)
 
 -- an implicit one is that of the type
 type-number : (s : Judged) → IsKept s → is_implicit_box s ≡ true → is_some s.facts.max_length ≡ true
@@ -118,18 +119,22 @@ no-group Sequence is = grind (arith, is)
 no-group Choice is = grind (arith, is)
 no-group (PrefixNumber simple) is = refl
 
--- of a simple element whose length the data tell, a length prefix or a pattern is told
+-- of a simple element whose length the data tell, a length prefix, a pattern or a delimited length is told
 pub sized-is : (s : Judged) → is_simple s.kind ≡ true
-    → is_sized_by_data s ≡ (is_told s (codes "lengthKind") (codes "prefixed") || is_told s (codes "lengthKind") (codes "pattern"))
+    → is_sized_by_data s
+    ≡ (is_told s (codes "lengthKind") (codes "prefixed") || is_told s (codes "lengthKind") (codes "pattern") || is_told s (codes "lengthKind") (codes "delimited"))
 sized-is s simple =
-    ap (λ b. (not b && is_told s (codes "lengthKind") (codes "prefixed")) || (not b && is_told s (codes "lengthKind") (codes "pattern"))) (no-group s.kind simple)
+    ap
+    (λ b. (not b && is_told s (codes "lengthKind") (codes "prefixed")) || (not b && is_told s (codes "lengthKind") (codes "pattern"))
+    || (not b && is_told s (codes "lengthKind") (codes "delimited")))
+    (no-group s.kind simple)
 
 -- a text or bytes stand in a box
 value-boxed : (s : Judged) → (is_text s || is_hex_binary s.kind) ≡ true → is_boxed s ≡ true
 value-boxed s is = ap (λ b. b || is_complex s.kind) is
 
 -- what is told of the length of a text or of bytes
-value-length : (s : Judged) → IsKept s → (is_text s || is_hex_binary s.kind) ≡ true → HasKind s.purpose (told_at s (codes "lengthKind"))
+value-length : (s : Judged) → IsKept s → (is_text s || is_hex_binary s.kind) ≡ true → is_boxed_kind_told (told_at s (codes "lengthKind")) ≡ true
 value-length s kept is = boxed-length s kept (value-boxed s is)
 
 -- the box of a text or of bytes has units
@@ -138,8 +143,8 @@ value-units s sound is =
     some-units s sound.kept (value-boxed s is)
     (subst (λ p. (is_explicit s || p || is_implicit_box s) ≡ true) (sym (sized-is s sound.form.simple))
     (one (is_string s.kind) (is_text_number s) (is_text_boolean s) (is_hex_binary s.kind) (is_told s (codes "lengthKind") (codes "implicit"))
-    (is_explicit s) (is_told s (codes "lengthKind") (codes "prefixed")) (is_told s (codes "lengthKind") (codes "pattern")) is
-    (value-length s sound.kept is).kind not-implicit))
+    (is_explicit s) (is_told s (codes "lengthKind") (codes "prefixed")) (is_told s (codes "lengthKind") (codes "pattern"))
+    (is_told s (codes "lengthKind") (codes "delimited")) is (value-length s sound.kept is) not-implicit))
   where
     third : (a b c : Bool) → (a || b || c) ≡ false → c ≡ false
     third a b c h = grind (arith, h)
@@ -147,17 +152,24 @@ value-units s sound is =
     not-implicit : ((is_text_number s || is_text_boolean s) && is_told s (codes "lengthKind") (codes "implicit")) ≡ false
     not-implicit = third (is_number_length_not_allowed s) (is_delimited_boolean s) _ sound.kept.length_kind
 
-    one : (a b c d i e p q : Bool) → (a || b || c || d) ≡ true → (i || e || p || q) ≡ true → ((b || c) && i) ≡ false
-        → (e || (p || q) || ((a || d) && i)) ≡ true
-    one a b c d i e p q x y z = grind (arith, x, y, z)
+    one : (a b c d i e p q r : Bool) → (a || b || c || d) ≡ true → (i || e || p || q || r) ≡ true → ((b || c) && i) ≡ false
+        → (e || (p || q || r) || ((a || d) && i)) ≡ true
+    one a b c d i e p q r x y z = grind (arith, x, y, z)
 
 -- so bytes have a primitive
 pub as-octets : (s : Judged) → IsSound s → is_hex_binary s.kind ≡ true → is_some (octets_of s) ≡ true
-as-octets s sound is =
-    some-mapped (octets_by (field_order s)) (box_bits s) (some-mapped _ (box_units s) (value-units s sound (second (is_text s) (is_hex_binary s.kind) is)))
+as-octets s sound is = either (has_delimited_length s) (option_map (octets_by (field_order s)) (box_bits s)) boxed
   where
     second : (a b : Bool) → b ≡ true → (a || b) ≡ true
     second a b x = grind (arith, x)
+
+    boxed : is_some (option_map (octets_by (field_order s)) (box_bits s)) ≡ true
+    boxed =
+        some-mapped (octets_by (field_order s)) (box_bits s) (some-mapped _ (box_units s) (value-units s sound (second (is_text s) (is_hex_binary s.kind) is)))
+
+    either : (b : Bool) (o : Option Primitive) → is_some o ≡ true → is_some (if b then Some delimited_octets else o) ≡ true
+    either true o some = refl
+    either false o some = some
 
 -- the encoding of a text is one of the profile
 pub encoding-told : (name : List ℕ) (t : Told) → HasBuilt (row name (Formed values.Encoding) Missing) EveryValue t → is_some (encoding_told t) ≡ true
@@ -179,6 +191,6 @@ are-others s none is =
     let kept = keeps-all s none in
     record {
       encoding = λ text. some-encoding s kept text;
-      length_kind = (value-length s kept is).kind;
+      length_kind = value-length s kept is;
       bits_by = in-bit-order s kept;
     }

@@ -58,7 +58,7 @@ module _ (s : Judged) (kept : IsKept s) (element : is_element s.kind ≡ true) (
       ap (λ p. is_some (pattern_for p s)) purpose
       ∙ (ap (λ b. is_some (if b then pattern_told (told_at s (codes "lengthPattern")) else None)) measured
       ∙ some-pattern (codes "lengthPattern") _
-      (built-at s kept 18 (codes "lengthPattern") bearers.PatternElements EveryValue refl (all-hold _ _ element kind-told) _ refl refl))
+      (built-at s kept 19 (codes "lengthPattern") bearers.PatternElements EveryValue refl (all-hold _ _ element kind-told) _ refl refl))
 
   encoding-of : is_some (pattern_encoding s) ≡ true
   unfolding applicability_table property_table

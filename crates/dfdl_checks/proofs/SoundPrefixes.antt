@@ -44,7 +44,7 @@ unfolding applicability_table property_table
 some-type s kept prefixed =
     last (has_flaw flaws.NotCarried s) (is_separator_other s) (are_separators_unfit s) (is_base_unfit s) (is_prefixed s) _ (is_some s.prefix) prefixed
     (name-told (codes "prefixLengthType") _
-    (built-at s kept 19 (codes "prefixLengthType") bearers.PrefixedElements EveryValue refl prefixed _ refl refl)) (values-kept s kept)
+    (built-at s kept 20 (codes "prefixLengthType") bearers.PrefixedElements EveryValue refl prefixed _ refl refl)) (values-kept s kept)
   where
     last : (a b c d e f g : Bool) → e ≡ true → f ≡ true → (a || b || c || d || (e && (f && not g))) ≡ false → g ≡ true
     last a b c d e f g x y z = grind (arith, x, y, z)

@@ -1,5 +1,5 @@
 -- Texts without a breach: what their characters are read as.
-use Rattle.std.proofs.Common.{◌≡◌, refl, sym, ap, subst, ◌∙◌, ℕ, List, ◌==◌, Option, Some, None, Bool, true, false, not, if◌then◌else◌, ◌&&◌, ◌||◌, nat_lt, option_map, is_some, codes, arith}
+use Rattle.std.proofs.Common.{◌≡◌, refl, sym, ap, subst, ◌∙◌, ℕ, List, ◌==◌, Option, Some, None, Bool, true, false, not, if◌then◌else◌, ◌&&◌, ◌||◌, nat_lt, option_and_then, option_map, is_some, codes, arith}
 use Rattle.std.specs.Str.{chars}
 use Rattle.dfdl_forms.specs.Binary.{most_bits}
 use Rattle.dfdl_forms.specs.NumberForms.{are_plain, goes_with, is_base}
@@ -23,6 +23,7 @@ use Rattle.dfdl_scope.specs.declared.row.Form.TheVariants as values
 use Rattle.dfdl_terms.specs.declared.text.TextContent.{TextContent}
 use Rattle.dfdl_terms.specs.declared.text.TextContent.TheVariants.{Plain, Zoned, Truth}
 use Rattle.dfdl_terms.specs.declared.text.TextSize.{TextSize}
+use Rattle.dfdl_terms.specs.declared.text.TextSize.TheVariants.{Delimited}
 use Rattle.dfdl_checks.proofs.Binary.{IsSound}
 use Rattle.dfdl_checks.proofs.BoxBounds.{none-some, some-is}
 use Rattle.dfdl_checks.proofs.Built.{all-hold, built-at, no-flaw, once-at}
@@ -40,9 +41,9 @@ use Rattle.dfdl_checks.specs.Judged.{Judged}
 use Rattle.dfdl_checks.specs.NumberTexts.{base_of, decimal_at, form_by, grouping_at, number_form_of, pattern_at, pattern_in, pattern_of, pattern_text, rounding_of, zoned_form_of}
 use Rattle.dfdl_checks.specs.Pads.{character_told, is_malformed, is_other, is_other_told, single}
 use Rattle.dfdl_checks.specs.Rules.{are_separators_unfit, are_truth_numbers_malformed, are_truth_texts_malformed, are_unfit, is_base_unfit, is_pad_malformed, is_prefix_type_missing, is_separator_malformed, is_separator_other, is_standard_pattern_malformed, is_zoned_pattern_malformed}
-use Rattle.dfdl_checks.specs.Subjects.{is_boolean, is_characters, is_hex_binary, is_standard, is_string, is_text, is_text_boolean, is_text_number, is_told, is_truths, is_zoned, number_bits, simple_of, told_at}
+use Rattle.dfdl_checks.specs.Subjects.{has_delimited_length, is_boolean, is_characters, is_hex_binary, is_standard, is_string, is_text, is_text_boolean, is_text_number, is_told, is_truths, is_zoned, number_bits, simple_of, told_at}
 use Rattle.dfdl_checks.specs.Table.{EveryValue, applicability_table}
-use Rattle.dfdl_checks.specs.Texts.{content_of, is_replaced, number_text, pad_of, text_by, text_of, text_size}
+use Rattle.dfdl_checks.specs.Texts.{boxed_size, content_of, number_text, pad_of, replaces_at, scan_of, text_by, text_in, text_of, text_size}
 use Rattle.dfdl_checks.specs.declared.applicability.Bearers.TheVariants as bearers
 use Rattle.dfdl_checks.specs.declared.flaw.Flaw.TheVariants as flaws
 use Rattle.dfdl_checks.specs.declared.subject.Kind.{Kind}
@@ -83,7 +84,7 @@ some-pattern : (s : Judged) → IsKept s → (is_zoned s || (is_standard s && ba
 unfolding applicability_table property_table
 some-pattern s kept is =
     pattern-told (codes "textNumberPattern") _
-    (built-at s kept 47 (codes "textNumberPattern") bearers.PatternNumbers EveryValue refl is _ refl refl)
+    (built-at s kept 51 (codes "textNumberPattern") bearers.PatternNumbers EveryValue refl is _ refl refl)
 
 -- the pattern of a zoned number of the type, where it is told, has a form
 abbrev IsZonedKept : Judged → Simple → Type 0
@@ -146,7 +147,7 @@ module _ (s : Judged) (kept : IsKept s) (standard : is_standard s ≡ true) wher
   unfolding applicability_table property_table
   some-decimal =
       separator-told (codes "textStandardDecimalSeparator") (Else (codes ".")) 46 _
-      (no-flaw s kept 49 (codes "textStandardDecimalSeparator") bearers.StandardNumbers EveryValue refl standard _ refl)
+      (no-flaw s kept 53 (codes "textStandardDecimalSeparator") bearers.StandardNumbers EveryValue refl standard _ refl)
       (once-at s kept (codes "textStandardDecimalSeparator") _ refl) (neither (is_malformed (decimal_at s)) (is_malformed (grouping_at s)) written).0
       (neither (is_other_told (told_at s (codes "textStandardDecimalSeparator"))) (is_other_told (told_at s (codes "textStandardGroupingSeparator"))) others).0
 
@@ -154,7 +155,7 @@ module _ (s : Judged) (kept : IsKept s) (standard : is_standard s ≡ true) wher
   unfolding applicability_table property_table
   some-grouping =
       separator-told (codes "textStandardGroupingSeparator") (Else (codes ",")) 44 _
-      (no-flaw s kept 50 (codes "textStandardGroupingSeparator") bearers.StandardNumbers EveryValue refl standard _ refl)
+      (no-flaw s kept 54 (codes "textStandardGroupingSeparator") bearers.StandardNumbers EveryValue refl standard _ refl)
       (once-at s kept (codes "textStandardGroupingSeparator") _ refl) (neither (is_malformed (decimal_at s)) (is_malformed (grouping_at s)) written).1
       (neither (is_other_told (told_at s (codes "textStandardDecimalSeparator"))) (is_other_told (told_at s (codes "textStandardGroupingSeparator"))) others).1
 
@@ -267,18 +268,29 @@ some-content s sound text =
         (as-standard s sound.kept (all-hold _ _ (text-number s (form_of sound.simple) sound.form text string truths) (ap not zoned)))
 
 -- so a text has a primitive
-some-text : (e : Option Encoding) (replaces : Bool) (size : Option TextSize) (pad : PadForm) (content : Option TextContent) → is_some e ≡ true
+some-text : (e : Encoding) (replaces : Bool) (size : Option TextSize) (pad : PadForm) (content : Option TextContent)
     → is_some size ≡ true → is_some content ≡ true → is_some (text_by e replaces size pad content) ≡ true
-some-text (Some e) replaces (Some size) pad (Some c) x y z = refl
-some-text None replaces size pad c x y z = grind (arith, x)
-some-text (Some e) replaces None pad c x y z = grind (arith, y)
-some-text (Some e) replaces (Some size) pad None x y z = grind (arith, z)
+some-text e replaces (Some size) pad (Some c) y z = refl
+some-text e replaces None pad c y z = grind (arith, y)
+some-text e replaces (Some size) pad None y z = grind (arith, z)
 
-pub as-text : (s : Judged) (sound : IsSound s) → is_text s ≡ true → is_some (text_of s sound.simple) ≡ true
-as-text s sound text =
-    some-text (encoding_told (told_at s (codes "encoding"))) (is_replaced (told_at s (codes "encodingErrorPolicy"))) (text_size s) (pad_of s)
-    (content_of s sound.simple) (some-encoding s sound.kept text)
-    (some-mapped _ (box_units s) (value-units s sound (first (is_text s) (is_hex_binary s.kind) text))) (some-content s sound text)
+-- a text has a size: it is scanned, or stands in a box
+some-size : (s : Judged) (sound : IsSound s) (e : Encoding) → is_text s ≡ true → is_some (text_size s e) ≡ true
+some-size s sound e text =
+    either (has_delimited_length s) (boxed_size s)
+    (some-mapped _ (box_units s) (value-units s sound (first (is_text s) (is_hex_binary s.kind) text)))
   where
     first : (a b : Bool) → a ≡ true → (a || b) ≡ true
     first a b x = grind (arith, x)
+
+    either : (b : Bool) (o : Option TextSize) → is_some o ≡ true → is_some (if b then Some (Delimited (scan_of s e)) else o) ≡ true
+    either true o some = refl
+    either false o some = some
+
+pub as-text : (s : Judged) (sound : IsSound s) → is_text s ≡ true → is_some (text_of s sound.simple) ≡ true
+as-text s sound text = by (encoding_told (told_at s (codes "encoding"))) (some-encoding s sound.kept text)
+  where
+    by : (e : Option Encoding) → is_some e ≡ true → is_some (option_and_then (text_in s sound.simple) e) ≡ true
+    by (Some e) some =
+        some-text e (replaces_at s) (text_size s e) (pad_of s) (content_of s sound.simple) (some-size s sound e text) (some-content s sound text)
+    by None some = grind (arith, some)

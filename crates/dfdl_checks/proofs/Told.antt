@@ -100,7 +100,7 @@ are-values s none is = record {
   bits_by = in-bit-order s sound.kept;
   bytes_by = λ wide.
       either-word (codes "bigEndian") (codes "littleEndian") (codes "byteOrder") _
-      (built-at s sound.kept 6 (codes "byteOrder") bearers.OrderedBinaries EveryValue refl
+      (built-at s sound.kept 7 (codes "byteOrder") bearers.OrderedBinaries EveryValue refl
       (all-hold _ _ is (first-holds _ (is_least_first s) (lt-ltb 8 (value_bits s.kind) wide))) _ refl refl);
   orders = λ number least.
       third (is_binary_number s) (is_least_first s) (is_told s (codes "byteOrder") (codes "littleEndian")) number least sound.kept.orders;
@@ -129,7 +129,7 @@ are-values s none is = record {
       where
         as-integer : IsIntegerOf s form → is_told s (codes "binaryNumberRep") (codes "binary") ≡ true
         as-integer of =
-            binary-word s.purpose (told_at s (codes "binaryNumberRep")) (built-by s sound.kept 58 reps refl (is-number form of) rep_row refl refl)
+            binary-word s.purpose (told_at s (codes "binaryNumberRep")) (built-by s sound.kept 62 reps refl (is-number form of) rep_row refl refl)
             (λ parsing. none-told s (is-number form of) (of.plain parsing))
 
     packed : (form : PackedForm) → primitive_of s ≡ Some (primitives.Packed form) → IsTrue (is_told s (codes "binaryNumberRep") (rep_word form.rep))

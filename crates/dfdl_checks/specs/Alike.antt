@@ -21,6 +21,7 @@ pub record IsAlikePrefix (a b : PrefixJudged) : Type 0 where
   pub simple : a.simple ≡ b.simple
   pub place : a.place ≡ b.place
   pub chain : AreAlikeChains a.chain b.chain
+  pub scheme : a.scheme ≡ b.scheme
 
 -- the same of two that may be lacking
 abbrev pub AreAlikePrefixes : Option PrefixJudged → Option PrefixJudged → Type 0
@@ -37,4 +38,5 @@ pub record IsAlike (a b : Judged) : Type 0 where
   pub facts : a.facts ≡ b.facts
   pub root_bits_by : a.root_bits_by ≡ b.root_bits_by
   pub prefix : AreAlikePrefixes a.prefix b.prefix
+  pub scheme : a.scheme ≡ b.scheme
   pub pattern_is_refused : a.pattern_is_refused ≡ b.pattern_is_refused

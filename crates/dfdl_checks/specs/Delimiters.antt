@@ -1,5 +1,5 @@
--- The initiators and terminators of components ('Framing'), and in which representations they stand ('DFDL Data Syntax Grammar', on
--- nilValueDelimiterPolicy and emptyValueDelimiterPolicy).
+-- The initiators and terminators of components ('Framing'), in which representations they stand ('DFDL Data Syntax Grammar', on
+-- nilValueDelimiterPolicy and emptyValueDelimiterPolicy), and the separators of sequences ('Sequence Groups').
 use Rattle.std.specs.Prelude.{◌≡◌, ◌⊎◌, ℕ, List, [], ◌∷◌, Bool, true, false, not, ◌&&◌, ◌||◌, Option, Some, None, option_map, codes, if◌then◌else◌}
 use Rattle.std.specs.Str.{bytes_eq, chars}
 use Rattle.dfdl_forms.specs.declared.encoding.Encoding.{Encoding}
@@ -8,15 +8,19 @@ use Rattle.dfdl_literals.specs.Lists.{matches_nothing}
 use Rattle.dfdl_literals.specs.Readings.{literals_reading}
 use Rattle.dfdl_scope.specs.Expressions.{is_expression, literal}
 use Rattle.dfdl_scope.specs.Scoping.{Told, Value, Absent, Twice}
+use Rattle.dfdl_separators.specs.declared.policy.SeparatorPosition.{SeparatorPosition}
+use Rattle.dfdl_separators.specs.declared.policy.SeparatorPosition.TheVariants.{Prefix, Infix, Postfix}
+use Rattle.dfdl_terms.specs.declared.delimiters.Delimiters.{Delimiters}
 use Rattle.dfdl_checks.specs.Encodings.{encoding_told}
 use Rattle.dfdl_checks.specs.Judged.{Judged}
 use Rattle.dfdl_checks.specs.Nils.{lacks_literals}
-use Rattle.dfdl_checks.specs.Subjects.{is_prefix_number, is_told, told_at}
+use Rattle.dfdl_checks.specs.Subjects.{is_prefix_number, is_sequence, is_told, is_word, told_at}
 use Rattle.dfdl_checks.specs.Values.{is_empty}
 use Rattle.dfdl_checks.specs.declared.delimiters.Delimiting.{Delimiting}
 use Rattle.dfdl_checks.specs.declared.delimiters.DelimiterText.{DelimiterText}
 use Rattle.dfdl_checks.specs.declared.delimiters.DelimiterText.TheVariants.{Nothing, Literals, Malformed, Empty}
 use Rattle.dfdl_checks.specs.declared.delimiters.Markup.{Markup}
+use Rattle.dfdl_checks.specs.declared.delimiters.Separating.{Separating}
 use Rattle.dfdl_checks.specs.declared.purpose.Purpose.{Purpose}
 use Rattle.dfdl_checks.specs.declared.purpose.Purpose.TheVariants.{Parsing, Unparsing}
 
@@ -30,9 +34,13 @@ is_delimiter (Twice place) = false
 abbrev pub has_delimiter : Judged → List ℕ → Bool
 has_delimiter subject name = not (is_prefix_number subject.kind) && is_delimiter (told_at subject name)
 
--- the component has an initiator or a terminator
+-- a sequence with a separator
+abbrev pub is_separated : Judged → Bool
+is_separated subject = is_sequence subject.kind && is_delimiter (told_at subject (codes "separator"))
+
+-- the component has an initiator, a terminator or a separator
 abbrev pub is_delimited : Judged → Bool
-is_delimited subject = has_delimiter subject (codes "initiator") || has_delimiter subject (codes "terminator")
+is_delimited subject = has_delimiter subject (codes "initiator") || has_delimiter subject (codes "terminator") || is_separated subject
 
 -- what a text comes to that is read as these literals, if it is a list of some; one of none is no list of a delimiter
 abbrev pub delimiter_by : Option (List (List Piece)) → DelimiterText
@@ -53,6 +61,10 @@ delimiter_told (Twice place) = Nothing
 -- what the component's delimiter of this name comes to
 abbrev pub delimiter_at : Judged → List ℕ → DelimiterText
 delimiter_at subject name = if is_prefix_number subject.kind then Nothing else delimiter_told (told_at subject name)
+
+-- what the component's separator comes to; a sequence alone has one
+abbrev pub separator_at : Judged → DelimiterText
+separator_at subject = if is_sequence subject.kind then delimiter_told (told_at subject (codes "separator")) else Nothing
 
 -- the text is no list of literals
 abbrev pub is_malformed_text : DelimiterText → Bool
@@ -79,17 +91,20 @@ lacks_text encoding Empty = false
 abbrev pub is_delimiter_malformed : Judged → Bool
 is_delimiter_malformed subject =
     is_malformed_text (delimiter_at subject (codes "initiator")) || is_malformed_text (delimiter_at subject (codes "terminator"))
+    || is_malformed_text (separator_at subject)
 
 -- 12: a literal of a delimiter of the component can match nothing
 abbrev pub is_delimiter_empty : Judged → Bool
 is_delimiter_empty subject =
     is_empty_text (delimiter_at subject (codes "initiator")) || is_empty_text (delimiter_at subject (codes "terminator"))
+    || is_empty_text (separator_at subject)
 
 -- the component's encoding lacks a character of a delimiter
 abbrev pub is_delimiter_not_encoded : Judged → Bool
 is_delimiter_not_encoded subject =
     let encoding : Option Encoding = encoding_told (told_at subject (codes "encoding")) in
     lacks_text encoding (delimiter_at subject (codes "initiator")) || lacks_text encoding (delimiter_at subject (codes "terminator"))
+    || lacks_text encoding (separator_at subject)
 
 -- a policy of which this is told names the delimiter of this name; absent it names both
 abbrev pub is_named : List ℕ → Told → Bool
@@ -111,10 +126,14 @@ is_empty_delimited subject =
     (has_delimiter subject (codes "initiator") && is_in_empty subject (codes "initiator"))
     || (has_delimiter subject (codes "terminator") && is_in_empty subject (codes "terminator"))
 
--- the component's delimiter of this name, of these literals in this encoding; with ignoreCase ASCII letters match in both cases
+-- these literals in this encoding at the component; with ignoreCase ASCII letters match in both cases
+abbrev pub list_with : Judged → List (List Piece) → Encoding → Delimiters
+list_with subject literals encoding = record { literals = literals; encoding = encoding; fold = is_told subject (codes "ignoreCase") (codes "yes") }
+
+-- the component's delimiter of this name, of these literals in this encoding
 abbrev pub delimiting_with : Judged → List ℕ → List (List Piece) → Encoding → Delimiting
 delimiting_with subject name literals encoding = record {
-  list = record { literals = literals; encoding = encoding; fold = is_told subject (codes "ignoreCase") (codes "yes") };
+  list = list_with subject literals encoding;
   in_nil = is_in_nil subject name;
   in_empty = is_in_empty subject name;
 }
@@ -130,19 +149,47 @@ delimiting_by subject name Empty encoding = None
 abbrev pub delimiter_of : Judged → List ℕ → Option Delimiting
 delimiter_of subject name = delimiting_by subject name (delimiter_at subject name) (encoding_told (told_at subject (codes "encoding")))
 
+-- where a separator stands of which this is told: between the slots, where nothing is
+abbrev pub position_told : Told → SeparatorPosition
+position_told told = if is_word (codes "prefix") told then Prefix else if is_word (codes "postfix") told then Postfix else Infix
+
+-- the component's separator, of these literals in this encoding
+abbrev pub separating_with : Judged → List (List Piece) → Encoding → Separating
+separating_with subject literals encoding =
+    record { list = list_with subject literals encoding; position = position_told (told_at subject (codes "separatorPosition")) }
+
+-- the same, where it has literals and its encoding is told
+abbrev pub separating_by : Judged → DelimiterText → Option Encoding → Option Separating
+separating_by subject Nothing encoding = None
+separating_by subject (Literals literals) encoding = option_map (separating_with subject literals) encoding
+separating_by subject Malformed encoding = None
+separating_by subject Empty encoding = None
+
+-- the component's separator, if it has one
+abbrev pub separator_of : Judged → Option Separating
+separator_of subject = separating_by subject (separator_at subject) (encoding_told (told_at subject (codes "encoding")))
+
 -- no delimiter
 abbrev pub no_delimiters : Markup
-no_delimiters = record { initiator = None; terminator = None }
+no_delimiters = record { initiator = None; terminator = None; separator = None }
 
 -- the component's delimiters for a purpose: for unparsing none is built
 abbrev pub delimiters_for : Purpose → Judged → Markup
-delimiters_for Parsing subject = record { initiator = delimiter_of subject (codes "initiator"); terminator = delimiter_of subject (codes "terminator") }
+delimiters_for Parsing subject = record {
+  initiator = delimiter_of subject (codes "initiator");
+  terminator = delimiter_of subject (codes "terminator");
+  separator = separator_of subject;
+}
 delimiters_for Unparsing subject = no_delimiters
 
--- the component's initiator and terminator
+-- the component's initiator, terminator and separator
 abbrev pub delimiters_of : Judged → Markup
 delimiters_of subject = delimiters_for subject.purpose subject
 
 -- the component has this delimiter
 abbrev pub IsDelimiterOf : Judged → Delimiting → Type 0
 IsDelimiterOf subject delimiter = ((delimiters_of subject).initiator ≡ Some delimiter) ⊎ ((delimiters_of subject).terminator ≡ Some delimiter)
+
+-- the component has this separator
+abbrev pub IsSeparatorOf : Judged → Separating → Type 0
+IsSeparatorOf subject separator = (delimiters_of subject).separator ≡ Some separator

@@ -1,5 +1,5 @@
 -- The names of encodings ('Simple Types', on encoding).
-use Rattle.std.specs.Prelude.{ℕ, List, ◌||◌, Option, Some, None, codes, if◌then◌else◌}
+use Rattle.std.specs.Prelude.{ℕ, List, Bool, true, false, ◌||◌, Option, Some, None, codes, if◌then◌else◌}
 use Rattle.std.specs.Str.{str_eq_ignore_ascii_case}
 use Rattle.dfdl_forms.specs.declared.encoding.Encoding.{Encoding}
 use Rattle.dfdl_forms.specs.declared.encoding.Encoding.TheVariants.{Utf8, UsAscii, Iso88591, Utf16Be, Utf16Le}
@@ -32,3 +32,12 @@ smallest_unit _ = 8
 abbrev pub character_bits : Option Encoding → ℕ
 character_bits (Some encoding) = smallest_unit encoding
 character_bits None = 8
+
+-- an encoding that isn't ISO-8859-1, where one is told
+abbrev pub is_other_encoding : Option Encoding → Bool
+is_other_encoding None = false
+is_other_encoding (Some Utf8) = true
+is_other_encoding (Some UsAscii) = true
+is_other_encoding (Some Iso88591) = false
+is_other_encoding (Some Utf16Be) = true
+is_other_encoding (Some Utf16Le) = true

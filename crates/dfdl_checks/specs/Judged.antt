@@ -4,30 +4,33 @@ use Rattle.dfdl_forms.specs.declared.order.BitOrder.{BitOrder}
 use Rattle.dfdl_forms.specs.declared.simple.Simple.{Simple}
 use Rattle.dfdl_report.specs.declared.place.Place.{Place}
 use Rattle.dfdl_scope.specs.Scoping.{Element}
+use Rattle.dfdl_escape_schemes.specs.declared.named.NamedScheme.{NamedScheme}
+use Rattle.dfdl_checks.specs.declared.occurring.Bounds.{Bounds}
 use Rattle.dfdl_checks.specs.declared.purpose.Purpose.{Purpose}
 use Rattle.dfdl_checks.specs.declared.subject.Kind.{Kind}
 
--- what a component states besides its properties: of an element, whether minOccurs and maxOccurs are both 1, whether it may be
--- nil, and the text of its default value; whether an assert, a discriminator, a setVariable or a newVariableInstance stands at
+-- what a component states besides its properties: of an element, minOccurs and maxOccurs, whether it may be nil, and
+-- the text of its default value; whether an assert, a discriminator, a setVariable or a newVariableInstance stands at
 -- it; of a sequence or a choice, whether nothing is in it; and of an element of a simple type, the greatest length of its values
 pub record FactsJudged : Type 0 where
-  pub occurs_once : Bool
+  pub bounds : Bounds
   pub is_nillable : Bool
   pub default : Option (List ℕ)
   pub has_statements : Bool
   pub is_empty : Bool
   pub max_length : Option ℕ
 
--- the type of a length prefix: which simple type it comes to, if that is carried, its start tag, and the chain that its properties
--- are asked of
+-- the type of a length prefix: which simple type it comes to, if that is carried, its start tag, the chain that its properties
+-- are asked of, and what its property escapeSchemeRef names
 pub record PrefixJudged : Type 0 where
   pub simple : Option Simple
   pub place : Place
   pub chain : List Element
+  pub scheme : NamedScheme
 
 -- a component: what its rows are made for, its kind, its start tag, the chain that its properties are asked of, what else
--- it states, the order of bits of the schema's root, the type that its property prefixLengthType names, if it names one, and whether the
--- pattern of its length can't be built
+-- it states, the order of bits of the schema's root, the type that its property prefixLengthType names, if it names one, what its
+-- property escapeSchemeRef names, and whether the pattern of its length can't be built
 pub record Judged : Type 0 where
   pub purpose : Purpose
   pub kind : Kind
@@ -36,4 +39,5 @@ pub record Judged : Type 0 where
   pub facts : FactsJudged
   pub root_bits_by : BitOrder
   pub prefix : Option PrefixJudged
+  pub scheme : NamedScheme
   pub pattern_is_refused : Bool

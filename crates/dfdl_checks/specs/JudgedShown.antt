@@ -9,7 +9,7 @@ use Rattle.dfdl_checks.specs.declared.subject.Subject.{Subject}
 -- what a component states, with a text that is lent
 abbrev pub facts_judged_of : Facts → FactsJudged
 facts_judged_of facts = record {
-  occurs_once = facts.occurs_once;
+  bounds = facts.bounds;
   is_nillable = facts.is_nillable;
   default = option_copied facts.default;
   has_statements = facts.has_statements;
@@ -20,7 +20,8 @@ facts_judged_of facts = record {
 -- the type of a prefix with a chain that is lent
 abbrev pub prefix_judged_of : Option PrefixType → Option PrefixJudged
 prefix_judged_of None = None
-prefix_judged_of (Some prefix) = Some (record { simple = prefix.simple; place = prefix.place; chain = chain_of prefix.chain.now })
+prefix_judged_of (Some prefix) =
+    Some (record { simple = prefix.simple; place = prefix.place; chain = chain_of prefix.chain.now; scheme = prefix.scheme })
 
 -- a component with a chain that is lent
 abbrev pub judged_of : Subject → Judged
@@ -32,5 +33,6 @@ judged_of subject = record {
   facts = facts_judged_of subject.facts;
   root_bits_by = subject.root_bits_by;
   prefix = prefix_judged_of subject.prefix;
+  scheme = subject.scheme;
   pattern_is_refused = subject.pattern_is_refused;
 }

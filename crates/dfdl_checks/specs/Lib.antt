@@ -2,6 +2,7 @@ pub mod Judged
 pub mod JudgedShown
 pub mod Alike
 pub mod Subjects
+pub mod Occurrences
 pub mod Orders
 pub mod Encodings
 pub mod Values

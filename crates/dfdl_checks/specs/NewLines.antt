@@ -7,7 +7,7 @@ use Rattle.dfdl_forms.specs.declared.literals.Piece.{Piece}
 use Rattle.dfdl_forms.specs.declared.literals.Piece.TheVariants.{Char, Byte, NewLine, Space, Spaces, MaybeSpaces, Nothing as NoPiece}
 use Rattle.dfdl_scope.specs.Expressions.{is_expression, literal}
 use Rattle.dfdl_scope.specs.Scoping.{Told, Value, Absent, Twice}
-use Rattle.dfdl_checks.specs.Delimiters.{delimiter_at}
+use Rattle.dfdl_checks.specs.Delimiters.{delimiter_at, separator_at}
 use Rattle.dfdl_checks.specs.Judged.{Judged}
 use Rattle.dfdl_checks.specs.Subjects.{told_at}
 use Rattle.dfdl_checks.specs.declared.delimiters.DelimiterText.{DelimiterText}
@@ -36,7 +36,8 @@ breaks_line Empty = false
 
 -- a delimiter of the component has one
 abbrev pub is_line_breaking : Judged → Bool
-is_line_breaking subject = breaks_line (delimiter_at subject (codes "initiator")) || breaks_line (delimiter_at subject (codes "terminator"))
+is_line_breaking subject =
+    breaks_line (delimiter_at subject (codes "initiator")) || breaks_line (delimiter_at subject (codes "terminator")) || breaks_line (separator_at subject)
 
 -- the text is that of a line break, by the names of its characters
 abbrev pub is_new_line : List ℕ → Bool

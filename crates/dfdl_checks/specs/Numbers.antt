@@ -15,7 +15,7 @@ use Rattle.dfdl_scope.specs.Scoping.{Told, Value, Absent, Twice}
 use Rattle.dfdl_terms.specs.declared.row.Primitive.{Primitive}
 use Rattle.dfdl_terms.specs.declared.row.Primitive.TheVariants.{Integer, Packed, Truth, Octets, Text, NilOctets, Default, NilValues, Pattern}
 use Rattle.dfdl_terms.specs.declared.text.TextContent.{TextContent}
-use Rattle.dfdl_terms.specs.declared.text.TextContent.TheVariants.{Plain, Number, Zoned, Truth as TextTruth, Nil}
+use Rattle.dfdl_terms.specs.declared.text.TextContent.TheVariants.{Plain, Octets as TextOctets, Number, Zoned, Truth as TextTruth, Nil}
 use Rattle.dfdl_checks.specs.Booleans.{falsity_told, truth_told}
 use Rattle.dfdl_checks.specs.Encodings.{encoding_told}
 use Rattle.dfdl_checks.specs.Lengths.{constant_length, size_within}
@@ -150,6 +150,7 @@ primitive_of subject = primitive_of_kind subject subject.kind
 -- the type of the values that characters are read as; nil is no value, and counts as a string
 abbrev pub text_type : TextContent → Simple
 text_type Plain = String
+text_type TextOctets = HexBinary
 text_type (Number form simple) = simple
 text_type (Zoned form) = form.kind
 text_type (TextTruth form) = Boolean
@@ -185,11 +186,10 @@ pub record IsInBitOrder (subject : Judged) : Type 0 where
   pub root : told_order subject ≡ subject.root_bits_by
 
 -- the properties of a component say that its length is its own, that of its type, that of a prefix or by a pattern
-abbrev pub HasLengthKind : Judged → Type 0
-HasLengthKind subject =
-    IsTrue
-    (is_told subject (codes "lengthKind") (codes "implicit") || is_explicit subject || is_told subject (codes "lengthKind") (codes "prefixed")
-    || is_told subject (codes "lengthKind") (codes "pattern"))
+abbrev pub has_length_kind : Judged → Bool
+has_length_kind subject =
+    is_told subject (codes "lengthKind") (codes "implicit") || is_explicit subject || is_told subject (codes "lengthKind") (codes "prefixed")
+    || is_told subject (codes "lengthKind") (codes "pattern")
 
 -- the properties of a binary number or boolean say which kind of length it has, and which bits come first; where the type has
 -- more than 8 bits, which bytes come first, and where the least significant bits of a number do, that the least significant bytes
@@ -199,15 +199,15 @@ pub record IsBinaryValue (subject : Judged) : Type 0 where
       → IsTrue (is_told subject (codes "binaryNumberRep") (codes "binary"))
   pub packed : (form : PackedForm) → primitive_of subject ≡ Some (Packed form)
       → IsTrue (is_told subject (codes "binaryNumberRep") (rep_word form.rep))
-  pub length_kind : HasLengthKind subject
+  pub length_kind : IsTrue (has_length_kind subject)
   pub bits_by : IsInBitOrder subject
   pub bytes_by : 8 < value_bits subject.kind
       → IsTrue (is_told subject (codes "byteOrder") (codes "bigEndian") || is_told subject (codes "byteOrder") (codes "littleEndian"))
   pub orders : IsTrue (is_binary_number subject) → IsTrue (is_least_first subject) → IsTrue (is_told subject (codes "byteOrder") (codes "littleEndian"))
 
--- the properties of a text, or of an element of type hexBinary, say which kind of length it has, and which bits come first; and of
--- a text, which encoding its characters have
+-- the properties of a text, or of an element of type hexBinary, say which kind of length it has, one of these or a delimited one, and
+-- which bits come first; and of a text, which encoding its characters have
 pub record IsTextOrBytesValue (subject : Judged) : Type 0 where
   pub encoding : IsTrue (is_text subject) → IsSome (encoding_told (told_at subject (codes "encoding")))
-  pub length_kind : HasLengthKind subject
+  pub length_kind : IsTrue (has_length_kind subject || is_told subject (codes "lengthKind") (codes "delimited"))
   pub bits_by : IsInBitOrder subject

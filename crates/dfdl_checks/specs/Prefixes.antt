@@ -14,7 +14,7 @@ use Rattle.dfdl_terms.specs.declared.prefix.LengthUnit.TheVariants as unit
 use Rattle.dfdl_terms.specs.declared.row.Primitive.{Primitive}
 use Rattle.dfdl_terms.specs.declared.row.Primitive.TheVariants.{Integer, Packed, Truth, Octets, Text, NilOctets, Default, NilValues, Pattern}
 use Rattle.dfdl_terms.specs.declared.text.TextSize.{TextSize}
-use Rattle.dfdl_terms.specs.declared.text.TextSize.TheVariants.{Bits, Characters}
+use Rattle.dfdl_terms.specs.declared.text.TextSize.TheVariants.{Bits, Characters, Delimited}
 use Rattle.dfdl_checks.specs.Encodings.{encoding_told}
 use Rattle.dfdl_checks.specs.Judged.{FactsJudged, Judged, PrefixJudged}
 use Rattle.dfdl_checks.specs.Numbers.{primitive_of}
@@ -37,7 +37,7 @@ is_integer_type (Some simple) = is_integer (form_of simple)
 
 -- what the type of a prefix states: nothing
 abbrev pub no_facts : FactsJudged
-no_facts = record { occurs_once = true; is_nillable = false; default = None; has_statements = false; is_empty = false; max_length = None }
+no_facts = record { bounds = record { least = 1; most = Some 1 }; is_nillable = false; default = None; has_statements = false; is_empty = false; max_length = None }
 
 -- the type of the component's prefix, as the rules see it
 abbrev pub judged_prefix : Judged → PrefixJudged → Simple → Judged
@@ -49,6 +49,7 @@ judged_prefix subject prefix simple = record {
   facts = no_facts;
   root_bits_by = subject.root_bits_by;
   prefix = None;
+  scheme = prefix.scheme;
   pattern_is_refused = false;
 }
 
@@ -122,6 +123,7 @@ units_in unit.Characters encoding (Bits bits) = None
 units_in unit.Bits encoding (Characters count) = if is_of_bytes encoding then Some (8 * count) else None
 units_in unit.Bytes encoding (Characters count) = if is_of_bytes encoding then Some count else None
 units_in unit.Characters encoding (Characters count) = Some count
+units_in unit encoding (Delimited scan) = None
 
 -- how many of the units that the component's length counts are the prefix's own, where it is of this type and lies so in the data
 abbrev pub own_units : Judged → Judged → Primitive → Option ℕ

@@ -13,7 +13,7 @@ use Rattle.dfdl_terms.specs.declared.text.NilTexts.TheVariants.{Literals, Charac
 use Rattle.dfdl_terms.specs.declared.text.TextContent.TheVariants.{Nil}
 use Rattle.dfdl_terms.specs.declared.text.TextForm.{TextForm}
 use Rattle.dfdl_terms.specs.declared.text.TextSize.{TextSize}
-use Rattle.dfdl_terms.specs.declared.text.TextSize.TheVariants.{Bits, Characters}
+use Rattle.dfdl_terms.specs.declared.text.TextSize.TheVariants.{Bits, Characters, Delimited}
 use Rattle.dfdl_value.specs.declared.value.Value.{Value}
 use Rattle.dfdl_value.specs.declared.value.Value.TheVariants as values
 use Rattle.dfdl_checks.specs.Defaults.{empty_value}
@@ -69,12 +69,13 @@ nil_of subject simple primitive =
 abbrev pub is_nothing : TextSize → Bool
 is_nothing (Bits n) = n == 0
 is_nothing (Characters n) = n == 0
+is_nothing (Delimited scan) = false
 
 -- a box of this size can be empty: the data tell how long it is, or it has nothing in it
 abbrev pub can_be_empty : Judged → TextSize → Bool
 can_be_empty subject size = is_sized_by_data subject || is_nothing size
 
--- no bits in a box of this size, which stand for a value
+-- no bits in a box of this size, or up to what delimits them, which stand for a value
 abbrev pub default_in : TextSize → Value → Primitive
 default_in size value = Default (record { size = size; value = value })
 

@@ -6,6 +6,7 @@ use Rattle.dfdl_forms.specs.declared.simple.Simple.TheVariants.{Decimal, Integer
 use Rattle.dfdl_report.specs.declared.cause.SchemaCause.{SchemaCause}
 use Rattle.dfdl_report.specs.declared.cause.SchemaCause.TheVariants as causes
 use Rattle.dfdl_report.specs.declared.place.Place.{Place}
+use Rattle.dfdl_escape_schemes.specs.Marks.{is_malformed as is_malformed_scheme, is_unknown}
 use Rattle.dfdl_scope.specs.Scoping.{repeated_at}
 use Rattle.dfdl_scope.specs.Table.{names_of, property_table}
 use Rattle.dfdl_checks.specs.Booleans.{falsity_told, truth_told}
@@ -13,6 +14,7 @@ use Rattle.dfdl_checks.specs.BuiltTypes.{is_built_type}
 use Rattle.dfdl_checks.specs.Boxes.{is_box_too_long, is_implicit_box}
 use Rattle.dfdl_checks.specs.Defaults.{is_default_not_allowed}
 use Rattle.dfdl_checks.specs.Delimiters.{is_delimiter_empty, is_delimiter_malformed, is_delimiter_not_encoded}
+use Rattle.dfdl_checks.specs.Encodings.{encoding_told, is_other_encoding}
 use Rattle.dfdl_checks.specs.FillBytes.{is_fill_malformed, is_fill_other}
 use Rattle.dfdl_checks.specs.Lengths.{constant_length, size_within}
 use Rattle.dfdl_checks.specs.NewLines.{is_new_line_expression, is_new_line_other}
@@ -25,8 +27,9 @@ use Rattle.dfdl_checks.specs.Pads.{is_malformed, is_other, is_other_told, is_out
 use Rattle.dfdl_forms.specs.NumberForms.{are_plain}
 use Rattle.dfdl_forms.specs.declared.number_pattern.NumberPattern.{NumberPattern}
 use Rattle.dfdl_checks.specs.Packed.{codes_told, nibbles_within, rep_of}
+use Rattle.dfdl_checks.specs.Occurrences.{are_bounds_unfit, is_once}
 use Rattle.dfdl_checks.specs.Prefixes.{is_name_told, is_no_prefix_type, is_not_whole, prefix_subject}
-use Rattle.dfdl_checks.specs.Subjects.{is_boxed, is_element, is_choice, is_binary, is_binary_boolean, is_binary_number, is_decimal, is_explicit, is_explicit_binary, is_packed, is_prefixed, is_simple, is_standard, is_text, is_text_boolean, is_text_number, is_told, is_zoned, told_at, value_bits}
+use Rattle.dfdl_checks.specs.Subjects.{is_boxed, is_delimited_bytes, is_element, is_choice, is_binary, is_binary_boolean, is_binary_number, is_decimal, is_explicit, is_explicit_binary, is_packed, is_prefixed, is_simple, is_standard, is_text, is_text_boolean, is_text_number, is_told, is_zoned, told_at, value_bits}
 use Rattle.dfdl_checks.specs.Flaws.{has_flaw}
 use Rattle.dfdl_checks.specs.declared.flaw.Flaw.TheVariants as flaws
 use Rattle.dfdl_checks.specs.declared.purpose.Purpose.{Purpose}
@@ -42,10 +45,10 @@ has_later_type purpose (SimpleElement simple) = not (is_built_type purpose simpl
 has_later_type purpose (PrefixNumber simple) = not (is_built_type purpose simple)
 has_later_type purpose _ = false
 
--- an element that does not occur exactly once; for unparsing, one that may be nil or has a default too
+-- for unparsing, an element that does not occur exactly once, that may be nil or that has a default
 abbrev pub is_later_element : Purpose → FactsJudged → Bool
-is_later_element Parsing facts = not facts.occurs_once
-is_later_element Unparsing facts = not facts.occurs_once || facts.is_nillable || is_some facts.default
+is_later_element Parsing facts = false
+is_later_element Unparsing facts = not (is_once facts.bounds) || facts.is_nillable || is_some facts.default
 
 -- a component of a kind that is built later, whatever its properties are
 abbrev pub is_later_component : Judged → Bool
@@ -91,11 +94,15 @@ abbrev pub is_prefix_type_missing : Judged → Bool
 is_prefix_type_missing subject =
     is_prefixed subject && (is_name_told (told_at subject (codes "prefixLengthType")) && not (is_some subject.prefix))
 
+-- a text whose escape scheme is named by nothing's name
+abbrev pub is_scheme_unknown : Judged → Bool
+is_scheme_unknown subject = is_text subject && is_unknown subject.scheme
+
 -- 9: a property that applies to the component has a value that is none of the profile, or that doesn't go with the others
 abbrev pub is_value_not_carried : Judged → Bool
 is_value_not_carried subject =
     has_flaw flaws.NotCarried subject || is_separator_other subject || are_separators_unfit subject || is_base_unfit subject
-    || is_prefix_type_missing subject || is_fill_other subject || is_new_line_other subject
+    || is_prefix_type_missing subject || is_fill_other subject || is_new_line_other subject || is_scheme_unknown subject
 
 -- 10: a property that applies to the component has an expression where none may stand
 abbrev pub is_expression_not_allowed : Judged → Bool
@@ -232,11 +239,15 @@ is_separator_not_encoded subject = is_standard subject && (is_outside subject (d
 abbrev pub are_truth_texts_not_encoded : Judged → Bool
 are_truth_texts_not_encoded subject = is_text_boolean subject && are_truth_texts_outside subject
 
--- 23: the component's encoding lacks a character of its literals
+-- an element of type hexBinary of delimited length, of whose encoding another than ISO-8859-1 is told
+abbrev pub is_bytes_encoding_other : Judged → Bool
+is_bytes_encoding_other subject = is_delimited_bytes subject && is_other_encoding (encoding_told (told_at subject (codes "encoding")))
+
+-- 23: the component's encoding lacks a character of its literals, or is none of its bytes
 abbrev pub is_character_not_encoded : Judged → Bool
 is_character_not_encoded subject =
     is_pad_not_encoded subject || is_separator_not_encoded subject || are_truth_texts_not_encoded subject || is_nil_not_encoded subject
-    || is_delimiter_not_encoded subject
+    || is_delimiter_not_encoded subject || is_bytes_encoding_other subject
 
 -- 24: an implicit alignment of what is no simple element
 abbrev pub is_alignment_not_allowed : Judged → Bool
@@ -289,6 +300,10 @@ are_truths_malformed subject = are_truth_numbers_malformed subject || are_truth_
 abbrev pub is_pad_no_character : Judged → Bool
 is_pad_no_character subject = is_padded_text subject && is_other (pad_at subject)
 
+-- 42: a text whose escape scheme is malformed
+abbrev pub is_scheme_malformed : Judged → Bool
+is_scheme_malformed subject = is_text subject && is_malformed_scheme subject.scheme
+
 -- a rule: its cause, and where a component breaks it, if it does
 pub record Rule : Type 0 where
   pub cause : SchemaCause
@@ -326,6 +341,8 @@ rules =
     ∷ at_itself causes.PadCharacter is_pad_no_character
     ∷ at_itself causes.NilNotAllowed is_nil_not_allowed
     ∷ at_itself causes.DefaultNotAValue is_default_not_allowed
+    ∷ at_itself causes.OccurrenceBounds are_bounds_unfit
+    ∷ at_itself causes.EscapeScheme is_scheme_malformed
     ∷ []
 
 -- a breach of a rule

@@ -216,6 +216,14 @@ is_by_pattern subject = not (is_group subject.kind) && is_told subject (codes "l
 abbrev pub is_prefixed : Judged → Bool
 is_prefixed subject = not (is_group subject.kind) && is_told subject (codes "lengthKind") (codes "prefixed")
 
--- the data tell the length, by a prefix or by what a pattern matches in them
+-- what is no group has a delimited length
+abbrev pub has_delimited_length : Judged → Bool
+has_delimited_length subject = not (is_group subject.kind) && is_told subject (codes "lengthKind") (codes "delimited")
+
+-- the data tell the length, by a prefix, by what a pattern matches in them, or by what delimits it
 abbrev pub is_sized_by_data : Judged → Bool
-is_sized_by_data subject = is_prefixed subject || is_by_pattern subject
+is_sized_by_data subject = is_prefixed subject || is_by_pattern subject || has_delimited_length subject
+
+-- an element of type hexBinary of delimited length
+abbrev pub is_delimited_bytes : Judged → Bool
+is_delimited_bytes subject = is_hex_binary subject.kind && is_told subject (codes "lengthKind") (codes "delimited")

@@ -1,10 +1,10 @@
 -- Which properties are asked of which components, and which of their values are built. Each property of the profile that
--- is not here applies to components of later forms alone: to the least length of strings, to separators, to escapes, to elements
--- that occur otherwise than once, and to choices and their branches; but outputNewLine, which NewLines judges.
+-- is not here applies to components of later forms alone: to the least length of strings, to elements whose occurrences are counted by
+-- an expression, and to choices and their branches; but outputNewLine, which NewLines judges.
 use Rattle.std.specs.Prelude.{ℕ, List, [], ◌∷◌, Bool, true, false, codes}
 use Rattle.dfdl_checks.specs.Values.{is_among, is_number, is_within}
 use Rattle.dfdl_checks.specs.declared.applicability.Bearers.{Bearers}
-use Rattle.dfdl_checks.specs.declared.applicability.Bearers.TheVariants.{EveryComponent, FramedComponents, Elements, OtherElements, SimpleElements, NillableElements, TextNillables, RepresentedElements, BoxedElements, Strings, PaddedStrings, PaddedBooleans, PaddedNumbers, Texts, TextNumbers, TextBooleans, StandardNumbers, ZonedNumbers, PatternNumbers, LooseTexts, BinaryNumbers, BinaryBooleans, OrderedBinaries, ExplicitBinaries, ExplicitBoxes, ImplicitStrings, PrefixedElements, PackedNumbers, BinaryDecimals, PatternElements, DelimitedComponents, Groups, Sequences, EmptySequences}
+use Rattle.dfdl_checks.specs.declared.applicability.Bearers.TheVariants.{EveryComponent, FramedComponents, Elements, OtherElements, SimpleElements, NillableElements, TextNillables, RepresentedElements, BoxedElements, Strings, PaddedStrings, PaddedBooleans, PaddedNumbers, Texts, TextNumbers, TextBooleans, StandardNumbers, ZonedNumbers, PatternNumbers, LooseTexts, BinaryNumbers, BinaryBooleans, OrderedBinaries, ExplicitBinaries, ExplicitBoxes, ImplicitStrings, PrefixedElements, PackedNumbers, BinaryDecimals, PatternElements, DelimitedBytes, DelimitedComponents, Groups, Sequences, SeparatedSequences, EmptySequences, CountedElements}
 use Rattle.dfdl_checks.specs.declared.purpose.Purpose.{Purpose}
 use Rattle.dfdl_checks.specs.declared.purpose.Purpose.TheVariants.{Parsing, Unparsing}
 
@@ -49,6 +49,10 @@ applies name bearers built = applies_by name bearers built built
 abbrev pub word : List ℕ → Built
 word text = Words (text ∷ [])
 
+-- each kind of length
+abbrev pub length_kinds : Built
+length_kinds = Words (codes "implicit" ∷ codes "explicit" ∷ codes "prefixed" ∷ codes "delimited" ∷ codes "pattern" ∷ [])
+
 -- the properties, in the order of the profile. A binary number of delimited length, with a length by a pattern or with a
 -- length in characters is refused by a rule of its own, so these values, and its pattern, are no forms that come later; so is
 -- a binary boolean of delimited length or with a length in characters
@@ -58,19 +62,15 @@ applicability_table =
     ∷ applies (codes "encoding") Texts EveryValue
     ∷ applies (codes "encoding") TextNillables EveryValue
     ∷ applies (codes "encoding") PatternElements EveryValue
+    ∷ applies (codes "encoding") DelimitedBytes EveryValue
     ∷ applies (codes "encoding") DelimitedComponents EveryValue
     ∷ applies (codes "encodingErrorPolicy") Texts EveryValue
     ∷ applies (codes "byteOrder") OrderedBinaries EveryValue
     ∷ applies_by (codes "bitOrder") EveryComponent EveryValue (word (codes "mostSignificantBitFirst"))
-    ∷ applies_by (codes "lengthKind") OtherElements (Words (codes "implicit" ∷ codes "explicit" ∷ codes "prefixed" ∷ codes "pattern" ∷ []))
-    (word (codes "implicit"))
-    ∷ applies_by (codes "lengthKind") BoxedElements (Words (codes "implicit" ∷ codes "explicit" ∷ codes "prefixed" ∷ codes "pattern" ∷ []))
-    (word (codes "implicit"))
-    ∷ applies_by (codes "lengthKind") BinaryNumbers
-    (Words (codes "implicit" ∷ codes "explicit" ∷ codes "prefixed" ∷ codes "delimited" ∷ codes "pattern" ∷ []))
-    (Words (codes "implicit" ∷ codes "delimited" ∷ codes "pattern" ∷ []))
-    ∷ applies_by (codes "lengthKind") BinaryBooleans
-    (Words (codes "implicit" ∷ codes "explicit" ∷ codes "prefixed" ∷ codes "delimited" ∷ codes "pattern" ∷ [])) (word (codes "implicit"))
+    ∷ applies_by (codes "lengthKind") OtherElements length_kinds (word (codes "implicit"))
+    ∷ applies_by (codes "lengthKind") BoxedElements length_kinds (word (codes "implicit"))
+    ∷ applies_by (codes "lengthKind") BinaryNumbers length_kinds (Words (codes "implicit" ∷ codes "delimited" ∷ codes "pattern" ∷ []))
+    ∷ applies_by (codes "lengthKind") BinaryBooleans length_kinds (word (codes "implicit"))
     ∷ applies (codes "length") ExplicitBinaries EachNumber
     ∷ applies (codes "length") ExplicitBoxes EachNumber
     ∷ applies (codes "lengthUnits") ExplicitBinaries EveryValue
@@ -87,13 +87,16 @@ applicability_table =
     ∷ applies_by (codes "fillByte") FramedComponents EveryValue (word (codes "%#r00;"))
     ∷ applies_by (codes "initiator") FramedComponents EveryValue (word (codes ""))
     ∷ applies_by (codes "terminator") FramedComponents EveryValue (word (codes ""))
-    ∷ applies (codes "separator") Groups (word (codes ""))
+    ∷ applies_by (codes "separator") Sequences EveryValue (word (codes ""))
+    ∷ applies (codes "separatorPosition") SeparatedSequences EveryValue
+    ∷ applies (codes "separatorSuppressionPolicy") SeparatedSequences EveryValue
     ∷ applies (codes "initiatedContent") Groups (word (codes "no"))
     ∷ applies (codes "ignoreCase") TextBooleans EveryValue
     ∷ applies (codes "ignoreCase") TextNillables EveryValue
     ∷ applies (codes "ignoreCase") DelimitedComponents EveryValue
     ∷ applies (codes "sequenceKind") Sequences (word (codes "ordered"))
     ∷ applies (codes "hiddenGroupRef") EmptySequences NoValue
+    ∷ applies_by (codes "occursCountKind") CountedElements (word (codes "fixed")) NoValue
     ∷ applies_by (codes "textTrimKind") Texts EveryValue (word (codes "none"))
     ∷ applies_by (codes "textPadKind") Texts EveryValue (word (codes "none"))
     ∷ applies (codes "textStringJustification") Strings EveryValue
@@ -104,7 +107,7 @@ applicability_table =
     ∷ applies (codes "textNumberPadCharacter") PaddedNumbers EveryValue
     ∷ applies (codes "textOutputMinLength") LooseTexts EveryValue
     ∷ applies (codes "truncateSpecifiedLengthString") Strings EveryValue
-    ∷ applies (codes "escapeSchemeRef") Texts (word (codes ""))
+    ∷ applies_by (codes "escapeSchemeRef") Texts EveryValue (word (codes ""))
     ∷ applies (codes "textNumberRep") TextNumbers EveryValue
     ∷ applies (codes "textNumberPattern") PatternNumbers EveryValue
     ∷ applies (codes "textStandardBase") StandardNumbers EveryValue

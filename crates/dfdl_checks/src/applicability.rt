@@ -56,12 +56,18 @@ pub enum Bearers {
     BinaryDecimals,
     /// Elements whose length is by a pattern.
     PatternElements,
-    /// Components with an initiator or a terminator.
+    /// Elements of type hexBinary of delimited length.
+    DelimitedBytes,
+    /// Components with an initiator, a terminator or a separator.
     DelimitedComponents,
     /// Sequences and choices.
     Groups,
     Sequences,
+    /// Sequences with a separator.
+    SeparatedSequences,
     EmptySequences,
+    /// Elements with other bounds of occurrences than 1 and 1.
+    CountedElements,
 }
 
 /// Which values of a property are built: the others are carried later.

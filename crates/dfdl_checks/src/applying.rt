@@ -5,19 +5,20 @@ ghost use Rattle.dfdl_checks.specs.Applying as applying;
 
 use crate::applicability::Bearers;
 use crate::boxes::{is_explicit_box, is_implicit_string};
-use crate::delimiters::is_delimited;
+use crate::delimiters::{is_delimited, is_separated};
 use crate::kinds::{
     is_decimal, is_element, is_group, is_prefix_number, is_represented, is_sequence, is_simple,
     is_string, value_bits,
 };
 use crate::nils::is_nil_by_value;
 use crate::number_texts::base_of;
+use crate::occurring::is_counted;
 use crate::orders::is_least_first;
 use crate::pads::is_padded_text;
 use crate::representations::{
-    is_binary, is_binary_boolean, is_binary_number, is_boxed, is_explicit, is_explicit_binary,
-    is_nillable, is_packed, is_prefixed, is_standard, is_text, is_text_boolean, is_text_number,
-    is_word, is_zoned,
+    is_binary, is_binary_boolean, is_binary_number, is_boxed, is_delimited_bytes, is_explicit,
+    is_explicit_binary, is_nillable, is_packed, is_prefixed, is_standard, is_text, is_text_boolean,
+    is_text_number, is_word, is_zoned,
 };
 use crate::subject::Subject;
 
@@ -59,10 +60,13 @@ pub(crate) fn is_bearer(bearers: Bearers, subject: &Subject<'_, '_, '_>) -> bool
         Bearers::PatternElements => {
             is_element(kind) && is_word(subject.chain, "lengthKind", "pattern")
         }
+        Bearers::DelimitedBytes => is_delimited_bytes(subject),
         Bearers::DelimitedComponents => is_delimited(subject),
         Bearers::Groups => is_group(kind),
         Bearers::Sequences => is_sequence(kind),
+        Bearers::SeparatedSequences => is_separated(subject),
         Bearers::EmptySequences => is_sequence(kind) && subject.facts.is_empty,
+        Bearers::CountedElements => is_counted(subject),
     }
 }
 

@@ -1,21 +1,24 @@
-// The initiators and terminators of components.
-ghost use Rattle.std.specs.Prelude.{◌≡◌, IfOk, Some, false, option_map};
+// The initiators and terminators of components, and the separators of sequences.
+ghost use Rattle.std.specs.Prelude.{◌≡◌, IfOk, Some, false, codes, option_map};
 ghost use Rattle.std.specs.Str.{chars};
 ghost use Rattle.dfdl_checks.specs.Delimiters as delimiters;
 ghost use Rattle.dfdl_checks.specs.JudgedShown.{judged_of};
 ghost use Rattle.dfdl_literals.specs.Lists.{matches_nothing};
 ghost use Rattle.dfdl_literals.specs.Readings.{literals_reading};
+ghost use Rattle.dfdl_scope.specs.Scoping.{told};
+ghost use Rattle.dfdl_scope.specs.Shown.{chain_of};
 ghost use Rattle.dfdl_scope.specs.Told.{told_by};
 
 use crate::encodings::encoding_told;
-use crate::kinds::is_prefix_number;
+use crate::kinds::{is_prefix_number, is_sequence};
 use crate::nils::lacks_literals;
 use crate::purpose::Purpose;
 use crate::representations::is_word;
 use crate::subject::Subject;
 use dfdl_forms::{Encoding, Literals};
 use dfdl_literals::{LiteralFault, literals_read_as_one, read_literals};
-use dfdl_scope::{Asked, is_expression, literal, property};
+use dfdl_scope::{Asked, Component, is_expression, literal, property};
+use dfdl_separators::SeparatorPosition;
 use dfdl_terms::Delimiters;
 use std::alloc::{AllocError, Global};
 
@@ -30,13 +33,24 @@ pub struct Delimiting {
     pub in_empty: bool,
 }
 
-/// The delimiters of a component ('Framing').
+/// The separator of a sequence ('Sequence Groups').
+#[derive(Debug, Drop)]
+pub struct Separating {
+    /// Its literals.
+    pub list: Delimiters,
+    /// Where it stands.
+    pub position: SeparatorPosition,
+}
+
+/// The delimiters of a component ('Framing', 'Sequence Groups').
 #[derive(Debug, Drop)]
 pub struct Markup {
     /// The initiator, if it has one.
     pub initiator: Option<Delimiting>,
     /// The terminator, if it has one.
     pub terminator: Option<Delimiting>,
+    /// The separator, if it has one.
+    pub separator: Option<Separating>,
 }
 
 /// What is told of a delimiter.
@@ -52,12 +66,12 @@ pub enum DelimiterText {
     Empty,
 }
 
-/// The initiator and the terminator of a component: for unparsing there is none.
+/// The initiator, the terminator and the separator of a component: for unparsing there is none.
 pub fn delimiters_at(alloc: Global, subject: &Subject<'_, '_, '_>) -> Result<Markup, AllocError>
     ensures { IfOk result (λ markup. markup ≡ delimiters.delimiters_of (judged_of subject.now)) }
 {
     match subject.purpose {
-        Purpose::Parsing => both_delimiters(alloc, subject),
+        Purpose::Parsing => all_delimiters(alloc, subject),
         Purpose::Unparsing => Ok(no_delimiters()),
     }
 }
@@ -69,18 +83,21 @@ fn no_delimiters() -> Markup
     Markup {
         initiator: None,
         terminator: None,
+        separator: None,
     }
 }
 
-/// The initiator and the terminator of a component, for parsing.
-fn both_delimiters(alloc: Global, subject: &Subject<'_, '_, '_>) -> Result<Markup, AllocError>
+/// The delimiters of a component, for parsing.
+fn all_delimiters(alloc: Global, subject: &Subject<'_, '_, '_>) -> Result<Markup, AllocError>
     ensures { IfOk result (λ markup. markup ≡ delimiters.delimiters_for Purpose.Parsing (judged_of subject.now)) }
 {
     let initiator = delimiter_of(alloc, subject, "initiator")?;
     let terminator = delimiter_of(alloc, subject, "terminator")?;
+    let separator = separator_of(alloc, subject)?;
     Ok(Markup {
         initiator,
         terminator,
+        separator,
     })
 }
 
@@ -137,14 +154,77 @@ fn delimiting_with(
     ensures { result ≡ delimiters.delimiting_with (judged_of subject.now) name.now literals encoding }
 {
     Delimiting {
-        list: Delimiters {
-            literals,
-            encoding,
-            fold: is_word(subject.chain, "ignoreCase", "yes"),
-        },
+        list: list_with(subject, literals, encoding),
         in_nil: is_named(name, property(subject.chain, "nilValueDelimiterPolicy")),
         in_empty: is_in_empty(subject, name),
     }
+}
+
+/// Literals in an encoding at a component; with ignoreCase ASCII letters match in both cases.
+fn list_with(subject: &Subject<'_, '_, '_>, literals: Literals, encoding: Encoding) -> Delimiters
+    ensures { result ≡ delimiters.list_with (judged_of subject.now) literals encoding }
+{
+    Delimiters {
+        literals,
+        encoding,
+        fold: is_word(subject.chain, "ignoreCase", "yes"),
+    }
+}
+
+/// The separator of a component, if it has one.
+fn separator_of(
+    alloc: Global,
+    subject: &Subject<'_, '_, '_>,
+) -> Result<Option<Separating>, AllocError>
+    ensures { IfOk result (λ separator. separator ≡ delimiters.separator_of (judged_of subject.now)) }
+{
+    let text = separator_at(alloc, subject)?;
+    let encoding = encoding_told(property(subject.chain, "encoding"));
+    Ok(separating_by(subject, text, encoding))
+}
+
+/// A separator of a component, where it has literals and its encoding is told.
+fn separating_by(
+    subject: &Subject<'_, '_, '_>,
+    text: DelimiterText,
+    encoding: Option<Encoding>,
+) -> Option<Separating>
+    ensures { result ≡ delimiters.separating_by (judged_of subject.now) text encoding }
+{
+    match text {
+        DelimiterText::Literals(literals) => separating_in(subject, literals, encoding),
+        _ => None,
+    }
+}
+
+/// A separator of a component with literals, where its encoding is told.
+fn separating_in(
+    subject: &Subject<'_, '_, '_>,
+    literals: Literals,
+    encoding: Option<Encoding>,
+) -> Option<Separating>
+    ensures { result ≡ option_map (delimiters.separating_with (judged_of subject.now) literals) encoding }
+{
+    match encoding {
+        Some(encoding) => Some(Separating {
+            list: list_with(subject, literals, encoding),
+            position: position_told(subject.chain),
+        }),
+        None => None,
+    }
+}
+
+/// Where a separator stands: between the slots, where a chain gives nothing.
+fn position_told(chain: &Component<'_, '_>) -> SeparatorPosition
+    ensures { result ≡ delimiters.position_told (told (chain_of chain.now) (codes "separatorPosition")) }
+{
+    if is_word(chain, "separatorPosition", "prefix") {
+        return SeparatorPosition::Prefix;
+    }
+    if is_word(chain, "separatorPosition", "postfix") {
+        return SeparatorPosition::Postfix;
+    }
+    SeparatorPosition::Infix
 }
 
 /// Whether a delimiter is told: an empty value is none.
@@ -165,11 +245,20 @@ fn has_delimiter(subject: &Subject<'_, '_, '_>, name: &str) -> bool
     !is_prefix_number(subject.kind) && is_delimiter(property(subject.chain, name))
 }
 
-/// Whether a component has an initiator or a terminator.
+/// Whether it is a sequence with a separator.
+pub(crate) fn is_separated(subject: &Subject<'_, '_, '_>) -> bool
+    ensures { result ≡ delimiters.is_separated (judged_of subject.now) }
+{
+    is_sequence(subject.kind) && is_delimiter(property(subject.chain, "separator"))
+}
+
+/// Whether a component has an initiator, a terminator or a separator.
 pub(crate) fn is_delimited(subject: &Subject<'_, '_, '_>) -> bool
     ensures { result ≡ delimiters.is_delimited (judged_of subject.now) }
 {
-    has_delimiter(subject, "initiator") || has_delimiter(subject, "terminator")
+    has_delimiter(subject, "initiator")
+        || has_delimiter(subject, "terminator")
+        || is_separated(subject)
 }
 
 /// Whether a policy of which this is told names a delimiter; absent it names both.
@@ -210,6 +299,19 @@ pub(crate) fn delimiter_at(
         return Ok(DelimiterText::Nothing);
     }
     delimiter_told(alloc, property(subject.chain, name))
+}
+
+/// What the separator of a component comes to; a sequence alone has one.
+pub(crate) fn separator_at(
+    alloc: Global,
+    subject: &Subject<'_, '_, '_>,
+) -> Result<DelimiterText, AllocError>
+    ensures { IfOk result (λ text. text ≡ delimiters.separator_at (judged_of subject.now)) }
+{
+    if !is_sequence(subject.kind) {
+        return Ok(DelimiterText::Nothing);
+    }
+    delimiter_told(alloc, property(subject.chain, "separator"))
 }
 
 /// What a delimiter that is told comes to; an expression is none, nor is an empty value.
@@ -289,7 +391,12 @@ pub(crate) fn is_delimiter_malformed(
 {
     let initiator = delimiter_at(alloc, subject, "initiator")?;
     let terminator = delimiter_at(alloc, subject, "terminator")?;
-    Ok(is_malformed_text(&initiator) || is_malformed_text(&terminator))
+    let separator = separator_at(alloc, subject)?;
+    Ok(
+        is_malformed_text(&initiator)
+            || is_malformed_text(&terminator)
+            || is_malformed_text(&separator),
+    )
 }
 
 /// Whether a literal of a delimiter of a component can match nothing.
@@ -301,7 +408,8 @@ pub(crate) fn is_delimiter_empty(
 {
     let initiator = delimiter_at(alloc, subject, "initiator")?;
     let terminator = delimiter_at(alloc, subject, "terminator")?;
-    Ok(is_empty_text(&initiator) || is_empty_text(&terminator))
+    let separator = separator_at(alloc, subject)?;
+    Ok(is_empty_text(&initiator) || is_empty_text(&terminator) || is_empty_text(&separator))
 }
 
 /// Whether the encoding of a component lacks a character of a delimiter.
@@ -313,6 +421,11 @@ pub(crate) fn is_delimiter_not_encoded(
 {
     let initiator = delimiter_at(alloc, subject, "initiator")?;
     let terminator = delimiter_at(alloc, subject, "terminator")?;
+    let separator = separator_at(alloc, subject)?;
     let encoding = encoding_told(property(subject.chain, "encoding"));
-    Ok(lacks_text(encoding, &initiator) || lacks_text(encoding, &terminator))
+    Ok(
+        lacks_text(encoding, &initiator)
+            || lacks_text(encoding, &terminator)
+            || lacks_text(encoding, &separator),
+    )
 }

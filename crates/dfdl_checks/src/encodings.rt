@@ -62,3 +62,13 @@ pub(crate) fn character_bits(encoding: Option<Encoding>) -> u32
         None => 8,
     }
 }
+
+/// Whether an encoding is told that isn't ISO-8859-1.
+pub(crate) fn is_other_encoding(encoding: Option<Encoding>) -> bool
+    ensures { result ≡ encodings.is_other_encoding encoding }
+{
+    match encoding {
+        Some(Encoding::Iso88591) | None => false,
+        Some(Encoding::Utf8 | Encoding::UsAscii | Encoding::Utf16Be | Encoding::Utf16Le) => true,
+    }
+}

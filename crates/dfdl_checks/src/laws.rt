@@ -10,20 +10,22 @@ ghost use Rattle.dfdl_terms.specs.declared.text.DefaultForm.{DefaultForm};
 ghost use Rattle.dfdl_scope.specs.Scoping.{Element, told};
 ghost use Rattle.dfdl_checks.specs.Alike.{AreAlikeChains, IsAlike};
 ghost use Rattle.dfdl_checks.specs.Boxes.{is_explicit_complex, size_of_box};
-ghost use Rattle.dfdl_checks.specs.Delimiters.{IsDelimiterOf, delimiters_of, has_delimiter, no_delimiters};
+ghost use Rattle.dfdl_checks.specs.Delimiters.{IsDelimiterOf, IsSeparatorOf, delimiters_of, has_delimiter, is_separated, no_delimiters};
 ghost use Rattle.dfdl_checks.specs.Encodings.{encoding_told};
 ghost use Rattle.dfdl_checks.specs.Forms.{IsWhole};
 ghost use Rattle.dfdl_checks.specs.Framing.{framing_of};
 ghost use Rattle.dfdl_checks.specs.Judged.{Judged};
 ghost use Rattle.dfdl_checks.specs.Nils.{lacks_literals};
+ghost use Rattle.dfdl_checks.specs.Occurrences.{occurrences_of};
 ghost use Rattle.dfdl_checks.specs.Numbers.{IsBinaryValue, IsTextOrBytesValue, primitive_of, type_of};
 ghost use Rattle.dfdl_checks.specs.Pads.{has_character, is_padded_text, pad_at, single};
 ghost use Rattle.dfdl_checks.specs.Patterns.{length_pattern, pattern_encoding, pattern_prefix};
 ghost use Rattle.dfdl_checks.specs.Prefixes.{is_integer, prefix_of};
 ghost use Rattle.dfdl_checks.specs.Representations.{no_representations, representations_of};
 ghost use Rattle.dfdl_checks.specs.Rules.{breach_of_component, first_breach, rules};
-ghost use Rattle.dfdl_checks.specs.Subjects.{is_binary, is_by_pattern, is_element, is_hex_binary, is_nillable, is_prefixed, is_simple, is_text, simple_of, told_at};
+ghost use Rattle.dfdl_checks.specs.Subjects.{is_binary, is_by_pattern, is_element, is_hex_binary, is_nillable, is_prefixed, is_sequence, is_simple, is_text, simple_of, told_at};
 ghost use Rattle.dfdl_checks.specs.declared.delimiters.Delimiting.{Delimiting};
+ghost use Rattle.dfdl_checks.specs.declared.delimiters.Separating.{Separating};
 ghost use Rattle.dfdl_checks.specs.declared.prefixes.PrefixForm.{PrefixForm};
 ghost use Rattle.dfdl_checks.specs.declared.purpose.Purpose.TheVariants.{Parsing, Unparsing};
 ghost use Rattle.dfdl_checks.specs.declared.subject.Kind.TheVariants.{ComplexElement};
@@ -105,20 +107,33 @@ pub fn sound_components_have_delimiters()
         → IsSome (delimiters_of j).initiator }
     ensures terminator { (j : Judged) → first_breach rules j ≡ None → j.purpose ≡ Parsing → IsTrue (has_delimiter j (codes "terminator"))
         → IsSome (delimiters_of j).terminator }
+    ensures separator { (j : Judged) → first_breach rules j ≡ None → j.purpose ≡ Parsing → IsTrue (is_separated j)
+        → IsSome (delimiters_of j).separator }
     ensures encoded { (j : Judged) (d : Delimiting) → first_breach rules j ≡ None → IsDelimiterOf j d
+        → lacks_literals (Some d.list.encoding) d.list.literals ≡ false }
+    ensures encoded_separator { (j : Judged) (d : Separating) → first_breach rules j ≡ None → IsSeparatorOf j d
         → lacks_literals (Some d.list.encoding) d.list.literals ≡ false }
 {}
 
-/// A delimiter of a component, whether it breaks rules or not, has literals, and none of them can match nothing. For unparsing there is none.
+/// A delimiter of a component, whether it breaks rules or not, has literals, and none of them can match nothing. Sequences alone have
+/// separators. For unparsing there is no delimiter.
 pub fn delimiters_have_literals()
     ensures some { (j : Judged) (d : Delimiting) → IsDelimiterOf j d → 0 < length d.list.literals }
     ensures matching { (j : Judged) (d : Delimiting) → IsDelimiterOf j d → matches_nothing d.list.literals ≡ false }
+    ensures some_separators { (j : Judged) (d : Separating) → IsSeparatorOf j d → 0 < length d.list.literals }
+    ensures matching_separators { (j : Judged) (d : Separating) → IsSeparatorOf j d → matches_nothing d.list.literals ≡ false }
+    ensures sequences { (j : Judged) (d : Separating) → IsSeparatorOf j d → IsTrue (is_sequence j.kind) }
     ensures parsing { (j : Judged) → j.purpose ≡ Unparsing → delimiters_of j ≡ no_delimiters }
 {}
 
 /// The primitives that are built for unparsing are whole unsigned integers.
 pub fn primitives_for_unparsing_are_whole()
     ensures { (j : Judged) (p : Primitive) → j.purpose ≡ Unparsing → primitive_of j ≡ Some p → IsWhole p }
+{}
+
+/// Elements that are written occur once.
+pub fn elements_for_unparsing_occur_once()
+    ensures { (j : Judged) → j.purpose ≡ Unparsing → occurrences_of j ≡ 1 }
 {}
 
 /// A component with a box, whether it breaks rules or not, is a complex element for parsing, and the box
@@ -132,8 +147,8 @@ pub fn boxes_are_bounded()
 {}
 
 /// Components whose chains give the same, name by name, and those of the types of their prefixes, have the same breach, the same
-/// primitive, the same other representations, the same fill, the same delimiters, the same box, the same prefix, and the same pattern of
-/// their length.
+/// primitive, the same other representations, the same fill, the same delimiters, the same box, the same prefix, the same pattern of
+/// their length, and the same number of occurrences.
 pub fn alike_components_are_judged_alike()
     ensures breach { (a b : Judged) → IsAlike a b → breach_of_component a ≡ breach_of_component b }
     ensures primitive { (a b : Judged) → IsAlike a b → primitive_of a ≡ primitive_of b }
@@ -145,6 +160,7 @@ pub fn alike_components_are_judged_alike()
     ensures text { (a b : Judged) → IsAlike a b → length_pattern a ≡ length_pattern b }
     ensures encoding { (a b : Judged) → IsAlike a b → pattern_encoding a ≡ pattern_encoding b }
     ensures pattern { (a b : Judged) → IsAlike a b → pattern_prefix a ≡ pattern_prefix b }
+    ensures occurrences { (a b : Judged) → IsAlike a b → occurrences_of a ≡ occurrences_of b }
 {}
 
 /// Chains that give the same, name by name, tell the same of each property.

@@ -9,11 +9,12 @@
 //! `specs/BooleanTexts.antt`, and the characters by which texts are padded and trimmed are those of `specs/Pads.antt`.
 //! `prefix` says how the length prefix of an element lies in the data, by `specs/Prefixes.antt`, and `length_pattern` which
 //! pattern tells its length, by `specs/Patterns.antt`. `framing` says which fill stands around a component, by
-//! `specs/Framing.antt`, `delimiters_at` which initiator and terminator it has, by `specs/Delimiters.antt`, and `size_of_box` how long
-//! a complex element's box is, by `specs/Boxes.antt`.
+//! `specs/Framing.antt`, `delimiters_at` which initiator, terminator and separator it has, by `specs/Delimiters.antt`, and `size_of_box` how long
+//! a complex element's box is, by `specs/Boxes.antt`. `occurrences` says how often an element occurs, by `specs/Occurrences.antt`.
 //! `other_representations` says which representations of a simple element are tried before its normal one, by
 //! `specs/Representations.antt`, which stands on `specs/Nils.antt`, `specs/NilValues.antt` and `specs/Defaults.antt`. The chapters are
-//! 'Property Scoping and DFDL Schema Checking', 'DFDL Data Syntax Grammar', 'Framing', 'Lengths' and 'Simple Types'.
+//! 'Property Scoping and DFDL Schema Checking', 'DFDL Data Syntax Grammar', 'Framing', 'Lengths', 'Simple Types', 'Sequence Groups' and
+//! 'Arrays and Optional Elements'.
 #![tactic(auto)]
 
 mod applicability;
@@ -37,6 +38,7 @@ mod nil_values;
 mod nils;
 mod number;
 mod number_texts;
+mod occurring;
 mod orders;
 mod packed;
 mod pads;
@@ -54,9 +56,10 @@ mod values;
 mod zoned_texts;
 
 pub use boxes::size_of_box;
-pub use delimiters::{Delimiting, Markup, delimiters_at};
+pub use delimiters::{Delimiting, Markup, Separating, delimiters_at};
 pub use fill::framing;
 pub use number::primitive;
+pub use occurring::{Bounds, occurrences};
 pub use orders::bit_order;
 pub use patterns::{length_pattern, pattern_encoding};
 pub use prefixes::{PrefixForm, prefix};

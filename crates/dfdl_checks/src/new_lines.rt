@@ -5,7 +5,7 @@ ghost use Rattle.dfdl_checks.specs.JudgedShown.{judged_of};
 ghost use Rattle.dfdl_checks.specs.NewLines as lines;
 ghost use Rattle.dfdl_scope.specs.Told.{told_by};
 
-use crate::delimiters::{DelimiterText, delimiter_at};
+use crate::delimiters::{DelimiterText, delimiter_at, separator_at};
 use crate::subject::Subject;
 use dfdl_forms::{Literals, Piece};
 use dfdl_scope::{Asked, is_expression, literal, property};
@@ -53,7 +53,8 @@ fn is_line_breaking(alloc: Global, subject: &Subject<'_, '_, '_>) -> Result<bool
 {
     let initiator = delimiter_at(alloc, subject, "initiator")?;
     let terminator = delimiter_at(alloc, subject, "terminator")?;
-    Ok(breaks_line(&initiator) || breaks_line(&terminator))
+    let separator = separator_at(alloc, subject)?;
+    Ok(breaks_line(&initiator) || breaks_line(&terminator) || breaks_line(&separator))
 }
 
 /// Whether a text is that of a line break, by the names of its characters.

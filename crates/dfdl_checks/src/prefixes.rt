@@ -13,6 +13,7 @@ ghost use Rattle.dfdl_terms.specs.Rows.{IsPrimitive, most_length};
 use crate::encodings::encoding_told;
 use crate::laws::primitives_are_bounded;
 use crate::number::primitive;
+use crate::occurring::Bounds;
 use crate::purpose::Purpose;
 use crate::representations::{is_prefixed, is_word};
 use crate::subject::{Facts, Kind, PrefixType, Subject};
@@ -33,7 +34,10 @@ pub struct PrefixForm {
 
 /// What the type of a prefix states: nothing.
 const NO_FACTS: Facts<'static> = Facts {
-    occurs_once: true,
+    bounds: Bounds {
+        least: 1,
+        most: Some(1),
+    },
     is_nillable: false,
     default: None,
     has_statements: false,
@@ -120,6 +124,7 @@ fn judged_integer<'s, 'e, 'c>(
             facts: NO_FACTS,
             root_bits_by: subject.root_bits_by,
             prefix: None,
+            scheme: prefix.scheme,
             pattern_is_refused: false,
         }),
         _ => None,
@@ -246,6 +251,7 @@ fn units_in(unit: LengthUnit, encoding: Option<Encoding>, size: TextSize) -> Opt
             }
         }
         (LengthUnit::Characters, TextSize::Characters(count)) => Some(count),
+        (_, TextSize::Delimited(_)) => None,
     }
 }
 

@@ -128,9 +128,23 @@ pub(crate) fn is_prefixed(subject: &Subject<'_, '_, '_>) -> bool
     !is_group(subject.kind) && is_word(subject.chain, "lengthKind", "prefixed")
 }
 
-/// Whether the data tell the length, by a prefix or by what a pattern matches in them.
+/// Whether what is no group has a delimited length.
+pub(crate) fn has_delimited_length(subject: &Subject<'_, '_, '_>) -> bool
+    ensures { result ≡ subjects.has_delimited_length (judged_of subject.now) }
+{
+    !is_group(subject.kind) && is_word(subject.chain, "lengthKind", "delimited")
+}
+
+/// Whether the data tell the length, by a prefix, by what a pattern matches in them, or by what delimits it.
 pub(crate) fn is_sized_by_data(subject: &Subject<'_, '_, '_>) -> bool
     ensures { result ≡ subjects.is_sized_by_data (judged_of subject.now) }
 {
-    is_prefixed(subject) || is_by_pattern(subject)
+    is_prefixed(subject) || is_by_pattern(subject) || has_delimited_length(subject)
+}
+
+/// Whether it is an element of type hexBinary of delimited length.
+pub(crate) fn is_delimited_bytes(subject: &Subject<'_, '_, '_>) -> bool
+    ensures { result ≡ subjects.is_delimited_bytes (judged_of subject.now) }
+{
+    is_hex_binary(subject.kind) && is_word(subject.chain, "lengthKind", "delimited")
 }

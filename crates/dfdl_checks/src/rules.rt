@@ -17,11 +17,12 @@ use crate::length_rules::{
 };
 use crate::new_lines::{is_new_line_expression, is_new_line_other};
 use crate::nil_values::is_nil_not_allowed;
+use crate::occurring::{are_bounds_unfit, is_once};
 use crate::orders::{bit_order, is_least_first, is_same_order};
 use crate::packed::codes_told;
 use crate::prefixes::prefix_subject;
 use crate::purpose::Purpose;
-use crate::representations::{is_binary_boolean, is_binary_number, is_packed, is_word};
+use crate::representations::{is_binary_boolean, is_binary_number, is_packed, is_text, is_word};
 use crate::subject::{Breach, Facts, Kind, Subject};
 use crate::text_rules::{
     are_separators_unfit, are_truth_texts_other, is_base_unfit, is_character_not_encoded,
@@ -152,7 +153,7 @@ fn content_breach(
     representation_breach(alloc, subject)
 }
 
-/// The first rule on nil and on defaults that a component breaks.
+/// The first rule on nil, on defaults, on bounds of occurrences and on escape schemes that a component breaks.
 #[tactic(auto, unfolding(crate::specs::Rules::rules))]
 fn representation_breach(
     alloc: Global,
@@ -165,6 +166,12 @@ fn representation_breach(
     }
     if is_default_not_allowed(alloc, subject)? {
         return told_here(SchemaCause::DefaultNotAValue, subject);
+    }
+    if are_bounds_unfit(subject) {
+        return told_here(SchemaCause::OccurrenceBounds, subject);
+    }
+    if is_scheme_malformed(subject) {
+        return told_here(SchemaCause::EscapeScheme, subject);
     }
     Ok(None)
 }
@@ -233,13 +240,15 @@ fn is_whole_type(simple: Simple) -> bool
     }
 }
 
-/// Whether an element does not occur exactly once; for unparsing, whether it may be nil or has a default too.
+/// For unparsing, whether an element does not occur exactly once, may be nil or has a default.
 fn is_later_element(purpose: Purpose, facts: Facts<'_>) -> bool
     ensures { result ≡ spec.is_later_element purpose (facts_judged_of facts.entry) }
 {
     match purpose {
-        Purpose::Parsing => !facts.occurs_once,
-        Purpose::Unparsing => !facts.occurs_once || facts.is_nillable || facts.default.is_some(),
+        Purpose::Parsing => false,
+        Purpose::Unparsing => {
+            !is_once(facts.bounds) || facts.is_nillable || facts.default.is_some()
+        }
     }
 }
 
@@ -335,7 +344,24 @@ fn is_value_not_carried(alloc: Global, subject: &Subject<'_, '_, '_>) -> Result<
     if is_base_unfit(subject) || is_prefix_type_missing(subject) || is_fill_other(subject) {
         return Ok(true);
     }
-    is_new_line_other(alloc, subject)
+    if is_new_line_other(alloc, subject)? {
+        return Ok(true);
+    }
+    Ok(is_scheme_unknown(subject))
+}
+
+/// Whether it is a text whose escape scheme is named by nothing's name.
+fn is_scheme_unknown(subject: &Subject<'_, '_, '_>) -> bool
+    ensures { result ≡ spec.is_scheme_unknown (judged_of subject.now) }
+{
+    is_text(subject) && subject.scheme.is_unknown()
+}
+
+/// Whether it is a text whose escape scheme is malformed.
+fn is_scheme_malformed(subject: &Subject<'_, '_, '_>) -> bool
+    ensures { result ≡ spec.is_scheme_malformed (judged_of subject.now) }
+{
+    is_text(subject) && subject.scheme.is_malformed()
 }
 
 /// Whether a property has an expression where none may stand.

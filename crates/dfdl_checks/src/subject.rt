@@ -1,5 +1,7 @@
 // A component as the rules see it.
+use crate::occurring::Bounds;
 use crate::purpose::Purpose;
+use dfdl_escape_schemes::NamedScheme;
 use dfdl_forms::{BitOrder, Simple};
 use dfdl_report::{Place, SchemaCause};
 use dfdl_scope::Component;
@@ -22,8 +24,8 @@ pub enum Kind {
 /// What a component states besides its properties.
 #[derive(Debug, Clone, Copy)]
 pub struct Facts<'c> {
-    /// Of an element: minOccurs and maxOccurs are both 1.
-    pub occurs_once: bool,
+    /// Of an element: minOccurs and maxOccurs. Another component occurs once.
+    pub bounds: Bounds,
     /// Of an element: it may be nil.
     pub is_nillable: bool,
     /// Of an element: the text of its default value, if it has one.
@@ -46,6 +48,8 @@ pub struct PrefixType<'s, 'e, 'c> {
     pub place: Place,
     /// What its properties are asked of.
     pub chain: &'s Component<'e, 'c>,
+    /// What its property escapeSchemeRef names.
+    pub scheme: NamedScheme,
 }
 
 /// A component of a schema, with what the rules ask of it.
@@ -63,6 +67,8 @@ pub struct Subject<'s, 'e, 'c> {
     pub root_bits_by: BitOrder,
     /// The type that its property prefixLengthType names, if it names one.
     pub prefix: Option<PrefixType<'s, 'e, 'c>>,
+    /// What its property escapeSchemeRef names.
+    pub scheme: NamedScheme,
     /// The pattern of its length can't be built.
     pub pattern_is_refused: bool,
 }

@@ -13,7 +13,7 @@ pub(crate) fn applicabilities() -> &'static [Applicability]
     &APPLICABILITIES
 }
 
-static APPLICABILITIES: [Applicability; 68] = [
+static APPLICABILITIES: [Applicability; 72] = [
     Applicability {
         name: "representation",
         bearers: Bearers::RepresentedElements,
@@ -35,6 +35,12 @@ static APPLICABILITIES: [Applicability; 68] = [
     Applicability {
         name: "encoding",
         bearers: Bearers::PatternElements,
+        parsing: Built::EveryValue,
+        unparsing: Built::EveryValue,
+    },
+    Applicability {
+        name: "encoding",
+        bearers: Bearers::DelimitedBytes,
         parsing: Built::EveryValue,
         unparsing: Built::EveryValue,
     },
@@ -65,13 +71,13 @@ static APPLICABILITIES: [Applicability; 68] = [
     Applicability {
         name: "lengthKind",
         bearers: Bearers::OtherElements,
-        parsing: Built::Words(&["implicit", "explicit", "prefixed", "pattern"]),
+        parsing: Built::Words(&["implicit", "explicit", "prefixed", "delimited", "pattern"]),
         unparsing: Built::Words(&["implicit"]),
     },
     Applicability {
         name: "lengthKind",
         bearers: Bearers::BoxedElements,
-        parsing: Built::Words(&["implicit", "explicit", "prefixed", "pattern"]),
+        parsing: Built::Words(&["implicit", "explicit", "prefixed", "delimited", "pattern"]),
         unparsing: Built::Words(&["implicit"]),
     },
     Applicability {
@@ -184,9 +190,21 @@ static APPLICABILITIES: [Applicability; 68] = [
     },
     Applicability {
         name: "separator",
-        bearers: Bearers::Groups,
-        parsing: Built::Words(&[""]),
+        bearers: Bearers::Sequences,
+        parsing: Built::EveryValue,
         unparsing: Built::Words(&[""]),
+    },
+    Applicability {
+        name: "separatorPosition",
+        bearers: Bearers::SeparatedSequences,
+        parsing: Built::EveryValue,
+        unparsing: Built::EveryValue,
+    },
+    Applicability {
+        name: "separatorSuppressionPolicy",
+        bearers: Bearers::SeparatedSequences,
+        parsing: Built::EveryValue,
+        unparsing: Built::EveryValue,
     },
     Applicability {
         name: "initiatedContent",
@@ -222,6 +240,12 @@ static APPLICABILITIES: [Applicability; 68] = [
         name: "hiddenGroupRef",
         bearers: Bearers::EmptySequences,
         parsing: Built::NoValue,
+        unparsing: Built::NoValue,
+    },
+    Applicability {
+        name: "occursCountKind",
+        bearers: Bearers::CountedElements,
+        parsing: Built::Words(&["fixed"]),
         unparsing: Built::NoValue,
     },
     Applicability {
@@ -287,7 +311,7 @@ static APPLICABILITIES: [Applicability; 68] = [
     Applicability {
         name: "escapeSchemeRef",
         bearers: Bearers::Texts,
-        parsing: Built::Words(&[""]),
+        parsing: Built::EveryValue,
         unparsing: Built::Words(&[""]),
     },
     Applicability {

@@ -2,8 +2,10 @@
 ghost use Rattle.std.specs.Prelude.{◌≡◌, ◌≤◌, ◌*◌, IfOk, option_map, codes};
 ghost use Rattle.dfdl_terms.specs.Rows.{most_length};
 ghost use Rattle.dfdl_checks.specs.BooleanTexts.{truth_form_of};
+ghost use Rattle.dfdl_checks.specs.Boxes.{box_bits};
 ghost use Rattle.dfdl_checks.specs.JudgedShown.{judged_of};
 ghost use Rattle.dfdl_checks.specs.NumberTexts.{number_form_of, zoned_form_of};
+ghost use Rattle.dfdl_checks.specs.Orders.{field_order};
 ghost use Rattle.dfdl_checks.specs.Texts as texts;
 ghost use Rattle.dfdl_scope.specs.Scoping.{told};
 ghost use Rattle.dfdl_scope.specs.Shown.{chain_of};
@@ -15,13 +17,23 @@ use crate::kinds::{is_characters, is_string, is_truths};
 use crate::number_texts::number_form_of;
 use crate::orders::field_order;
 use crate::pads::{is_padded, is_trimmed, name_by, pad_at, used_where};
-use crate::representations::{is_text_number, is_word};
+use crate::representations::{has_delimited_length, is_text_number, is_word};
 use crate::subject::{Kind, Subject};
 use crate::zoned_texts::zoned_form_of;
+use dfdl_escape_schemes::EscapeMarks;
 use dfdl_forms::{Encoding, Justify, PadForm, Simple};
 use dfdl_scope::{Component, property};
-use dfdl_terms::{OctetForm, Primitive, TextContent, TextForm, TextSize};
+use dfdl_terms::{OctetForm, Primitive, ScanForm, TextContent, TextForm, TextSize};
 use std::alloc::{AllocError, Global};
+
+// No pad character is put on or taken off.
+const NO_PAD: PadForm = PadForm {
+    justify: Justify::Left,
+    pad: None,
+    trim: None,
+    truncate: false,
+    keeps_zero: false,
+};
 
 /// The values of a component as texts of the type.
 pub(crate) fn text_of(
@@ -31,11 +43,26 @@ pub(crate) fn text_of(
 ) -> Result<Option<Primitive>, AllocError>
     ensures { IfOk result (λ primitive. primitive ≡ texts.text_of (judged_of subject.now) simple) }
 {
+    match encoding_told(property(subject.chain, "encoding")) {
+        Some(encoding) => text_in(alloc, subject, simple, encoding),
+        None => Ok(None),
+    }
+}
+
+/// The same in an encoding.
+fn text_in(
+    alloc: Global,
+    subject: &Subject<'_, '_, '_>,
+    simple: Simple,
+    encoding: Encoding,
+) -> Result<Option<Primitive>, AllocError>
+    ensures { IfOk result (λ primitive. primitive ≡ texts.text_in (judged_of subject.now) simple encoding) }
+{
     let content = content_of(alloc, subject, simple)?;
     Ok(text_by(
-        encoding_told(property(subject.chain, "encoding")),
+        encoding,
         is_replaced(subject.chain),
-        text_size(subject),
+        text_size(subject, encoding),
         pad_of(subject),
         content,
     ))
@@ -43,7 +70,7 @@ pub(crate) fn text_of(
 
 /// A text in an encoding, of a size, which is read as this.
 fn text_by(
-    encoding: Option<Encoding>,
+    encoding: Encoding,
     replaces: bool,
     size: Option<TextSize>,
     pad: PadForm,
@@ -51,8 +78,8 @@ fn text_by(
 ) -> Option<Primitive>
     ensures { result ≡ texts.text_by encoding replaces size pad content }
 {
-    match (encoding, size, content) {
-        (Some(encoding), Some(size), Some(content)) => Some(Primitive::Text(TextForm {
+    match (size, content) {
+        (Some(size), Some(content)) => Some(Primitive::Text(TextForm {
             encoding,
             replaces,
             size,
@@ -131,9 +158,59 @@ fn is_replaced(chain: &Component<'_, '_>) -> bool
     !is_word(chain, "encodingErrorPolicy", "error")
 }
 
-/// How long the text of a component is, where it isn't past the greatest length.
-fn text_size(subject: &Subject<'_, '_, '_>) -> Option<TextSize>
-    ensures { result ≡ texts.text_size (judged_of subject.now) }
+/// How long the text of a component is in an encoding: as far as it is scanned, or as its box is.
+fn text_size(subject: &Subject<'_, '_, '_>, encoding: Encoding) -> Option<TextSize>
+    ensures { result ≡ texts.text_size (judged_of subject.now) encoding }
+{
+    if has_delimited_length(subject) {
+        return Some(TextSize::Delimited(scan_of(subject, encoding)));
+    }
+    boxed_size(subject)
+}
+
+/// How the text of a component of delimited length is scanned, by its escape scheme.
+fn scan_of(subject: &Subject<'_, '_, '_>, encoding: Encoding) -> ScanForm
+    ensures { result ≡ texts.scan_of (judged_of subject.now) encoding }
+{
+    let pad = pad_of(subject);
+    let lead = lead_by(pad.justify, pad.trim);
+    scan_by(
+        subject.scheme.marks(),
+        lead,
+        encoding,
+        is_replaced(subject.chain),
+    )
+}
+
+/// How a content of delimited length is scanned.
+fn scan_by(marks: EscapeMarks, lead: Option<char>, encoding: Encoding, replaces: bool) -> ScanForm
+    ensures { result ≡ texts.scan_by marks lead encoding replaces }
+{
+    ScanForm {
+        kind: marks.kind,
+        escape: marks.escape,
+        escape_escape: marks.escape_escape,
+        start: marks.start,
+        end: marks.end,
+        lead,
+        encoding,
+        replaces,
+    }
+}
+
+/// The pad character that trimming takes off at the left.
+fn lead_by(justify: Justify, trim: Option<char>) -> Option<char>
+    ensures { result ≡ texts.lead_by justify trim }
+{
+    match justify {
+        Justify::Left => None,
+        Justify::Right | Justify::Center => trim,
+    }
+}
+
+/// How long the text of a component is in its box, where that isn't past the greatest length.
+fn boxed_size(subject: &Subject<'_, '_, '_>) -> Option<TextSize>
+    ensures { result ≡ texts.boxed_size (judged_of subject.now) }
 {
     match box_units(subject) {
         Some(units) => Some(size_in(is_in_characters(subject), box_unit(subject), units)),
@@ -210,6 +287,29 @@ fn justify_told(is_number: bool, chain: &Component<'_, '_>, name: &str) -> Justi
 /// The values of a component as bytes.
 pub(crate) fn octets_of(subject: &Subject<'_, '_, '_>) -> Option<Primitive>
     ensures { result ≡ texts.octets_of (judged_of subject.now) }
+{
+    if has_delimited_length(subject) {
+        return Some(delimited_octets());
+    }
+    boxed_octets(subject)
+}
+
+/// Bytes of delimited length.
+fn delimited_octets() -> Primitive
+    ensures { result ≡ texts.delimited_octets }
+{
+    Primitive::Text(TextForm {
+        encoding: Encoding::Iso88591,
+        replaces: false,
+        size: TextSize::Delimited(scan_by(EscapeMarks::none(), None, Encoding::Iso88591, false)),
+        pad: NO_PAD,
+        content: TextContent::Octets,
+    })
+}
+
+/// The values of a component as the bytes of its box.
+fn boxed_octets(subject: &Subject<'_, '_, '_>) -> Option<Primitive>
+    ensures { result ≡ option_map (texts.octets_by (field_order (judged_of subject.now))) (box_bits (judged_of subject.now)) }
 {
     match box_bits(subject) {
         Some(bits) => Some(Primitive::Octets(OctetForm {

@@ -10,6 +10,7 @@ use crate::boolean_texts::{
     are_truth_texts_outside, false_texts, is_list_malformed, is_list_other, true_texts,
 };
 use crate::delimiters::{is_delimiter_malformed, is_delimiter_not_encoded};
+use crate::encodings::{encoding_told, is_other_encoding};
 use crate::fill_bytes::is_fill_malformed;
 use crate::kinds::is_decimal;
 use crate::nils::{is_nil_malformed, is_nil_not_encoded};
@@ -20,7 +21,7 @@ use crate::pads::{
     is_malformed, is_other, is_other_told, is_outside, is_pad_outside, is_padded_text, pad_at,
     single,
 };
-use crate::representations::{is_standard, is_text_boolean, is_zoned};
+use crate::representations::{is_delimited_bytes, is_standard, is_text_boolean, is_zoned};
 use crate::subject::{Kind, Subject};
 use crate::zoned_texts::zoned_form_of;
 use dfdl_forms::{NumberForm, NumberPattern, Rounding, Simple};
@@ -157,7 +158,7 @@ fn are_truth_texts_not_encoded(
     are_truth_texts_outside(alloc, subject)
 }
 
-/// Whether the encoding of a component lacks a character of its literals.
+/// Whether the encoding of a component lacks a character of its literals, or is none of its bytes.
 pub(crate) fn is_character_not_encoded(
     alloc: Global,
     subject: &Subject<'_, '_, '_>,
@@ -173,7 +174,18 @@ pub(crate) fn is_character_not_encoded(
     if is_nil_not_encoded(alloc, subject)? {
         return Ok(true);
     }
-    is_delimiter_not_encoded(alloc, subject)
+    if is_delimiter_not_encoded(alloc, subject)? {
+        return Ok(true);
+    }
+    Ok(is_bytes_encoding_other(subject))
+}
+
+/// Whether it is an element of type hexBinary of delimited length, of whose encoding another than ISO-8859-1 is told.
+fn is_bytes_encoding_other(subject: &Subject<'_, '_, '_>) -> bool
+    ensures { result ≡ spec.is_bytes_encoding_other (judged_of subject.now) }
+{
+    is_delimited_bytes(subject)
+        && is_other_encoding(encoding_told(property(subject.chain, "encoding")))
 }
 
 /// Whether it is a text number in base ten whose pattern, where it is told, is none.

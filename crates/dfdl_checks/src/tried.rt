@@ -229,6 +229,7 @@ fn is_nothing(size: TextSize) -> bool
 {
     match size {
         TextSize::Bits(count) | TextSize::Characters(count) => count == 0,
+        TextSize::Delimited(_) => false,
     }
 }
 
@@ -296,7 +297,7 @@ fn empty_of(
     Ok(default_in(size, value))
 }
 
-/// No bits in a box of a size, which stand for a value, if there is one.
+/// No bits in a box of a size, or up to what delimits them, which stand for a value, if there is one.
 fn default_in(size: TextSize, value: Option<Value>) -> Option<Primitive>
     ensures { result ≡ option_map (tried.default_in size) value }
 {

@@ -6,20 +6,19 @@ use Rattle.dfdl_constructs.specs.declared.role.Role.{Role}
 use Rattle.dfdl_constructs.specs.declared.role.Role.TheVariants as role
 use Rattle.dfdl_documents.specs.Documents.{SchemaDocument}
 use Rattle.dfdl_order.specs.Parts.{IsClosed}
-use Rattle.dfdl_components.specs.declared.kind.ComponentKind.TheVariants as names
 use Rattle.dfdl_components.specs.declared.site.Site.{Site}
 use Rattle.dfdl_components.specs.Globals.{site}
 use Rattle.dfdl_components.specs.Sites.{IsSite, nodes_of, role_of}
 use Rattle.dfdl_components.specs.Recursion.{count_of, number_of}
 use Rattle.dfdl_checks.specs.declared.purpose.Purpose.{Purpose}
 use Rattle.dfdl_checks.specs.declared.subject.Kind.{Kind}
+use Rattle.dfdl_checks.specs.declared.subject.Kind.TheVariants as kind
 use Rattle.dfdl_chains.specs.declared.typed.Typed.{Typed}
 use Rattle.dfdl_chains.specs.declared.typed.Typed.TheVariants.{Carried, NotCarried, Defined}
-use Rattle.dfdl_chains.specs.Chains.{listed}
-use Rattle.dfdl_chains.specs.Declarations.{referred}
+use Rattle.dfdl_chains.specs.Chains.{group_content}
 use Rattle.dfdl_chains.specs.Derivation.{type_of}
 use Rattle.dfdl_chains.specs.Everywhere.{sites_in, sites_before, all_sites}
-use Rattle.dfdl_chains.specs.Kinds.{kind_of_type, kind_by, kind_at}
+use Rattle.dfdl_chains.specs.Kinds.{kind_of_type, kind_of_content, kind_of_group, kind_by, kind_at}
 use Rattle.dfdl_chains.specs.Parts.{contents, parts_by, parts_at}
 use Rattle.dfdl_chains.proofs.Numbering.{number_below, length_all}
 use Rattle.dfdl_chains.proofs.Within.{parts_are_within}
@@ -32,7 +31,8 @@ use Rattle.dfdl_rows.specs.declared.component.Component.TheVariants.{Sequence}
 use Rattle.dfdl_rows.specs.declared.refusal.Refusal.{Refusal}
 use Rattle.dfdl_report.specs.declared.place.Place.{Place}
 use Rattle.dfdl_breaches.specs.Elements.{place_of}
-use Rattle.dfdl_compile.specs.Components.{refusal_at, component_by, reference_by, component_of, component_at, element_name, empty_number, framing_of, nil_number, part_numbers, prefix_by, prefix_number, tried_by, components_of}
+use Rattle.dfdl_compile.specs.Delimiters.{separated_by}
+use Rattle.dfdl_compile.specs.Components.{refusal_at, component_by, component_at, element_name, empty_number, framing_of, nil_number, part_numbers, prefix_by, prefix_number, separator_number, tried_by, components_of}
 
 -- a list that is made from one that is made
 pub twice : {X Y Z : Type 0} (g : Y → Z) (f : X → Y) (xs : List X) → map g (map f xs) ≡ map (λ x. g (f x)) xs
@@ -95,36 +95,47 @@ module _ (purpose : Purpose) (refused : Site → Bool) (documents : List SchemaD
   of_kind kind = component_by (element_name documents own) (primitive_by (judgement_at purpose refused documents own)) (number_of documents own)
       (framing_of documents own (judgement_at purpose refused documents own)) (judgement_at purpose refused documents own).size
       (option_map (prefix_by (prefix_number documents own)) (judgement_at purpose refused documents own).prefix)
-      (tried_by (nil_number documents own) (empty_number documents own) (judgement_at purpose refused documents own).others) kind
+      (tried_by (nil_number documents own) (empty_number documents own) (judgement_at purpose refused documents own).others)
+      (option_map (separated_by (separator_number documents own)) (judgement_at purpose refused documents own).markup.separator)
+      (judgement_at purpose refused documents own).occurs kind
 
   abbrev pub made : Role → Component
-  made role.GroupReference = reference_by (framing_of documents own (judgement_at purpose refused documents own)) (referred documents own names.Group)
   made r = of_kind (kind_by documents own r)
 
-  pub made_is : (r : Role) → r ≡ role_of documents own → component_of documents own (judgement_at purpose refused documents own) r ≡ made r
+  pub made_is : component_at purpose refused documents own ≡ made (role_of documents own)
   unfolding kind_at
-  made_is role.GroupReference is = refl
-  made_is r is = ap (λ (q : Role). of_kind (kind_by documents own q)) (sym is)
+  made_is = refl
 
   typed_fits : (t : Typed) → CanHave (of_kind (kind_of_type t)) (map (number_of documents) (contents documents t))
   typed_fits (Carried simple) = refl
   typed_fits NotCarried = refl
   typed_fits (Defined type) = refl
 
-  reference_fits : (o : Option Site) → CanHave (reference_by (framing_of documents own (judgement_at purpose refused documents own)) o) (map (number_of documents) (listed o))
-  reference_fits None = tt
-  reference_fits (Some group) = refl
+  group_fits : (k : Kind) (r : Role) → k ≡ kind_of_group r → (parts : List ℕ) → CanHave (of_kind k) parts
+  group_fits kind.Sequence r is parts = tt
+  group_fits kind.Choice r is parts = tt
+  group_fits kind.ComplexElement role.Choice is parts = absurd (cc)
+  group_fits kind.ComplexElement _ is parts = absurd (cc)
+  group_fits (kind.SimpleElement simple) role.Choice is parts = absurd (cc)
+  group_fits (kind.SimpleElement simple) _ is parts = absurd (cc)
+  group_fits kind.UncarriedElement role.Choice is parts = absurd (cc)
+  group_fits kind.UncarriedElement _ is parts = absurd (cc)
+  group_fits (kind.PrefixNumber simple) r is parts = tt
+
+  content_fits : (o : Option Site) (parts : List ℕ) → CanHave (of_kind (kind_of_content documents o)) parts
+  content_fits None parts = tt
+  content_fits (Some group) parts = group_fits (kind_of_group (role_of documents group)) (role_of documents group) refl parts
 
   role_fits : (r : Role) → CanHave (made r) (map (number_of documents) (parts_by documents own r))
   role_fits role.GlobalElement = typed_fits (type_of documents own)
   role_fits role.LocalElement = typed_fits (type_of documents own)
   role_fits role.ElementReference = typed_fits (type_of documents own)
-  role_fits role.GroupReference = reference_fits (referred documents own names.Group)
+  role_fits role.GroupReference = content_fits (group_content documents own) (map (number_of documents) (parts_by documents own role.GroupReference))
   role_fits _ = tt
 
   pub can_have : CanHave (component_at purpose refused documents own) (part_numbers documents own)
   unfolding parts_at
-  can_have = subst (λ (component : Component). CanHave component (part_numbers documents own)) (sym (made_is (role_of documents own) refl)) (role_fits (role_of documents own))
+  can_have = subst (λ (component : Component). CanHave component (part_numbers documents own)) (sym made_is) (role_fits (role_of documents own))
 
 -- the lists of the components are those of one schema
 of_one : (purpose : Purpose) (refused : Site → Bool) (documents : List SchemaDocument) → AreOfOne (components_of purpose refused documents).uses (components_of purpose refused documents).components (components_of purpose refused documents).refusals (components_of purpose refused documents).places
@@ -133,7 +144,7 @@ of_one purpose refused documents = record {
   counted = length_of (component_at purpose refused documents) (all_sites documents) ∙ sym (length_of (part_numbers documents) (all_sites documents));
   judged = length_of (refusal_at purpose refused documents) (all_sites documents) ∙ sym (length_of (part_numbers documents) (all_sites documents));
   placed = length_of (place_of documents) (all_sites documents) ∙ sym (length_of (part_numbers documents) (all_sites documents));
-  fit = λ c less. fits CanHave (component_at purpose refused documents) (part_numbers documents) (can_have purpose refused documents) (Sequence no_fill) [] (all_sites documents) c
+  fit = λ c less. fits CanHave (component_at purpose refused documents) (part_numbers documents) (can_have purpose refused documents) (Sequence no_fill None) [] (all_sites documents) c
       (omega (arith, less, length_of (part_numbers documents) (all_sites documents)));
 }
 

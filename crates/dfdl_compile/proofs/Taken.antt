@@ -1,5 +1,5 @@
 -- Each simple element is read by a primitive of its type, and the last row is the root's.
-use Rattle.std.proofs.Common.{◌≡◌, ℕ, ◌+◌, ◌<◌, Bool, true, false, List, ◌++◌, length, length-append, map, slice_get, get_or, All, Option, None, Some, option_map, unwrap_or, ap, sym, subst, ◌∙◌, refl, arith, if◌then◌else◌}
+use Rattle.std.proofs.Common.{◌≡◌, ℕ, ◌+◌, ◌<◌, ◌≤◌, Bool, true, false, List, ◌++◌, length, length-append, map, slice_get, get_or, All, Option, None, Some, option_map, unwrap_or, ap, sym, subst, ◌∙◌, refl, arith, if◌then◌else◌}
 use Rattle.std.proofs.lemmas.List.{length-map, get_or_append_left}
 use Rattle.std.proofs.lemmas.List.Elements.{All-append}
 use Rattle.std.proofs.lemmas.Option.{slice_get-map, slice_get-get_or, slice_get_within}
@@ -7,7 +7,6 @@ use Rattle.dfdl_forms.specs.declared.simple.Simple.{Simple}
 use Rattle.dfdl_constructs.specs.declared.role.Role.{Role}
 use Rattle.dfdl_constructs.specs.declared.role.Role.TheVariants as role
 use Rattle.dfdl_documents.specs.Documents.{SchemaDocument}
-use Rattle.dfdl_components.specs.declared.kind.ComponentKind.TheVariants as names
 use Rattle.dfdl_components.specs.declared.site.Site.{Site}
 use Rattle.dfdl_components.specs.Globals.{site}
 use Rattle.dfdl_components.specs.Sites.{IsSite, role_of}
@@ -18,19 +17,19 @@ use Rattle.dfdl_checks.specs.Representations.{no_representations}
 use Rattle.dfdl_checks.specs.declared.prefixes.PrefixForm.{PrefixForm}
 use Rattle.dfdl_checks.specs.declared.tried.OtherRepresentations.{OtherRepresentations}
 use Rattle.dfdl_checks.specs.declared.delimiters.Delimiting.{Delimiting}
+use Rattle.dfdl_checks.specs.declared.delimiters.Separating.{Separating}
 use Rattle.dfdl_checks.specs.declared.purpose.Purpose.{Purpose}
 use Rattle.dfdl_checks.specs.declared.purpose.Purpose.TheVariants.{Unparsing}
 use Rattle.dfdl_checks.specs.declared.subject.Kind.{Kind}
 use Rattle.dfdl_checks.specs.declared.subject.Kind.TheVariants as kind
 use Rattle.dfdl_chains.specs.declared.typed.Typed.{Typed}
 use Rattle.dfdl_chains.specs.declared.typed.Typed.TheVariants.{Carried, NotCarried, Defined}
-use Rattle.dfdl_chains.specs.Declarations.{referred}
 use Rattle.dfdl_chains.specs.Derivation.{type_of as element_type}
 use Rattle.dfdl_chains.specs.Everywhere.{all_sites, for_each}
 use Rattle.dfdl_chains.specs.Kinds.{kind_at, kind_of_type}
 use Rattle.dfdl_chains.specs.Parts.{is_component}
 use Rattle.dfdl_chains.proofs.Numbering.{number_below, length_all}
-use Rattle.dfdl_breaches.specs.Judging.{breach_at, primitive_at as judged, form_of_prefix, framing_at, judgement_at, markup_at, no_judgement, others_at, size_at}
+use Rattle.dfdl_breaches.specs.Judging.{breach_at, primitive_at as judged, form_of_prefix, framing_at, judgement_at, markup_at, no_judgement, occurrences_at, others_at, size_at}
 use Rattle.dfdl_breaches.specs.declared.judgement.Judgement.{Judgement}
 use Rattle.dfdl_breaches.proofs.Numbering.{value-at}
 use Rattle.dfdl_terms.specs.Leaves.{ReadsBy, leaf, prefixed, grouped, scoped}
@@ -43,17 +42,17 @@ use Rattle.dfdl_terms.specs.declared.representations.Representations.{Representa
 use Rattle.dfdl_terms.specs.Rows.{AreWithin, HasElementLast, IsElementRow, IsPrimitive, IsWithin, Table}
 use Rattle.dfdl_terms.specs.declared.row.Primitive.{Primitive}
 use Rattle.dfdl_terms.specs.declared.row.Row.{Row}
-use Rattle.dfdl_terms.specs.declared.row.Row.TheVariants.{Leaf, Elem, Group, Skip, Align, Initiator, Terminator, Scope, Boxed, PrefixedLeaf, PrefixedBox}
+use Rattle.dfdl_terms.specs.declared.row.Row.TheVariants.{Leaf, Elem, Group, Skip, Align, Initiator, Terminator, Separator, Scope, Boxed, PrefixedLeaf, PrefixedBox, Repeat}
 use Rattle.dfdl_rows.specs.Answers.{EndsWith}
-use Rattle.dfdl_rows.specs.Components.{Schema, HasDelimiters, HasList, HasPrimitive, HasBoxPrimitive, HasPrefixPrimitive, IsBareComponent, component_at as part_at}
+use Rattle.dfdl_rows.specs.Components.{Schema, HasDelimiters, HasList, HasPrimitive, HasBoxPrimitive, HasPrefixPrimitive, HasSeparators, IsBareComponent, component_at as part_at}
 use Rattle.dfdl_rows.specs.Framing.{has_framing}
 use Rattle.dfdl_rows.specs.Leaves.{HaveLeaves, HaveBareLeaves, IsAmong, IsLeafOf}
 use Rattle.dfdl_rows.specs.declared.component.ContentBox.TheVariants.{Unbounded}
 use Rattle.dfdl_rows.specs.declared.component.Component.{Component}
 use Rattle.dfdl_rows.specs.declared.component.Component.TheVariants.{Sequence, SimpleElement}
 use Rattle.dfdl_breaches.specs.Roots.{is_global_element}
-use Rattle.dfdl_compile.specs.Components.{box_by, reference_by, component_of, component_at, components_of, delimiters_of, empty_number, empty_primitive_at, framing_of, initiator_list_at, named_of, nil_number, nil_primitive_at, number_if, prefix_by, prefix_number, prefix_primitive_at, primitive_at, primitives_of, terminator_list_at, terminator_number, tried_by}
-use Rattle.dfdl_compile.specs.Delimiters.{delimiter_by, initiator_list_by, terminator_list_by}
+use Rattle.dfdl_compile.specs.Components.{box_by, component_at, components_of, delimiters_of, empty_number, empty_primitive_at, framing_of, initiator_list_at, named_of, nil_number, nil_primitive_at, number_if, prefix_by, prefix_number, prefix_primitive_at, primitive_at, primitives_of, separator_list_at, separator_number, terminator_list_at, terminator_number, tried_by}
+use Rattle.dfdl_compile.specs.Delimiters.{delimiter_by, initiator_list_by, separated_by, separator_list_by, terminator_list_by}
 use Rattle.dfdl_compile.specs.Primitives.{HasTypedLeaves, HasBareTypedLeaves, HasWrittenText, IsLeafOfType, IsOfType, a_byte, empty_primitive_by, nil_primitive_by, prefix_primitive_by, primitive_by, primitive_if}
 use Rattle.dfdl_compile.proofs.Fitting.{all_within, each, made, made_is, of_kind, twice}
 
@@ -68,6 +67,7 @@ judgement_if purpose refused documents own b =
       size = size_at purpose refused documents own;
       prefix = form_of_prefix purpose refused documents own;
       others = others_at purpose refused documents own;
+      occurs = occurrences_at purpose refused documents own;
     } else no_judgement
 
 -- what holds of a byte, of each primitive that is judged, of that of each prefix, and of those of each nil and each empty
@@ -171,10 +171,10 @@ tables_are purpose refused documents judgements tables told are =
 -- so are the lists of delimiters
 lists_are : (purpose : Purpose) (refused : Site → Bool) (documents : List SchemaDocument) (judgements : List Judgement) (lists : List Delimiters)
     → judgements ≡ for_each documents (judgement_at purpose refused documents)
-    → lists ≡ map initiator_list_by judgements ++ map terminator_list_by judgements
+    → lists ≡ map initiator_list_by judgements ++ (map terminator_list_by judgements ++ map separator_list_by judgements)
     → lists ≡ delimiters_of purpose refused documents
 unfolding delimiters_of
-lists_are purpose refused documents judgements lists told are = are ∙ (λ i. at_each initiator_list_by i ++ at_each terminator_list_by i)
+lists_are purpose refused documents judgements lists told are = are ∙ (λ i. at_each initiator_list_by i ++ (at_each terminator_list_by i ++ at_each separator_list_by i))
   where
     at_each : (f : Judgement → Delimiters) → map f judgements ≡ for_each documents (λ (s : Site). f (judgement_at purpose refused documents s))
     at_each f = ap (map f) told ∙ twice f (judgement_at purpose refused documents) (all_sites documents)
@@ -184,7 +184,7 @@ pub named_are : (purpose : Purpose) (refused : Site → Bool) (documents : List 
     → judgements ≡ for_each documents (judgement_at purpose refused documents)
     → tables.primitives ≡ map primitive_by judgements
     ++ (map prefix_primitive_by judgements ++ (map nil_primitive_by judgements ++ map empty_primitive_by judgements))
-    → tables.delimiters ≡ map initiator_list_by judgements ++ map terminator_list_by judgements
+    → tables.delimiters ≡ map initiator_list_by judgements ++ (map terminator_list_by judgements ++ map separator_list_by judgements)
     → tables ≡ named_of purpose refused documents
 named_are purpose refused documents judgements tables told primitives lists =
     let prims = tables_are purpose refused documents judgements tables.primitives told primitives in
@@ -260,7 +260,7 @@ module _ (purpose : Purpose) (refused : Site → Bool) (documents : List SchemaD
   count = count_primitives documents
 
   has_number : (own : Site) → IsSite documents own → HasPrimitive count (component_at purpose refused documents own)
-  has_number own within = by_role (role_of documents own)
+  has_number own within = by_kind (kind_at documents own)
     where
       own_below : number_of documents own < count
       own_below = let below = number_below documents own within in omega (arith, below)
@@ -290,10 +290,6 @@ module _ (purpose : Purpose) (refused : Site → Bool) (documents : List SchemaD
       by_box None None = tt
       by_box None (Some form) = prefix_below
 
-      by_group : (o : Option Site) → HasPrimitive count (reference_by (framing_of documents own (judgement_at purpose refused documents own)) o)
-      by_group None = tt
-      by_group (Some group) = tt
-
       by_kind : (k : Kind) → HasPrimitive count (of_kind purpose refused documents own k)
       by_kind kind.ComplexElement = by_box (judgement_at purpose refused documents own).size (judgement_at purpose refused documents own).prefix
       by_kind (kind.SimpleElement simple) = (own_below, by_prefix (judgement_at purpose refused documents own).prefix, by_others (judgement_at purpose refused documents own).others)
@@ -301,10 +297,6 @@ module _ (purpose : Purpose) (refused : Site → Bool) (documents : List SchemaD
       by_kind kind.Sequence = tt
       by_kind kind.Choice = tt
       by_kind (kind.PrefixNumber simple) = tt
-
-      by_role : (r : Role) → HasPrimitive count (component_of documents own (judgement_at purpose refused documents own) r)
-      by_role role.GroupReference = by_group (referred documents own names.Group)
-      by_role _ = by_kind (kind_at documents own)
 
   -- the primitives of each component are in the table
   pub have : (schema : Schema) (tables : List Primitive) → schema ≡ components_of purpose refused documents
@@ -316,48 +308,55 @@ module _ (purpose : Purpose) (refused : Site → Bool) (documents : List SchemaD
       (subst (λ (s : Schema). All (HasPrimitive count) s.components) (sym schema_is)
       (each (IsSite documents) (HasPrimitive count) (component_at purpose refused documents) has_number (all_sites documents) (all_within documents)))
 
-  -- the lists of its delimiters are some of two for each element
-  has_lists : (own : Site) → IsSite documents own → HasDelimiters (count_of documents + count_of documents) (component_at purpose refused documents own)
-  has_lists own within = by_role (role_of documents own)
+  -- the lists of its delimiters are some of three for each element
+  abbrev count_lists : ℕ
+  count_lists = count_of documents + (count_of documents + count_of documents)
+
+  has_lists : (own : Site) → IsSite documents own → HasDelimiters count_lists (component_at purpose refused documents own)
+  has_lists own within = by_kind (kind_at documents own)
     where
-      by_list : (number : ℕ) → number < count_of documents + count_of documents → (o : Option Delimiting)
-          → HasList (count_of documents + count_of documents) (option_map (delimiter_by number) o)
+      by_list : (number : ℕ) → number < count_lists → (o : Option Delimiting) → HasList count_lists (option_map (delimiter_by number) o)
       by_list number below None = tt
       by_list number below (Some delimiter) = below
 
-      framed : HasList (count_of documents + count_of documents) (framing_of documents own (judgement_at purpose refused documents own)).initiator
-          × HasList (count_of documents + count_of documents) (framing_of documents own (judgement_at purpose refused documents own)).terminator
-      framed =
-          let below = number_below documents own within in (
-            by_list (number_of documents own) (omega (arith, below)) (judgement_at purpose refused documents own).markup.initiator,
-            by_list (terminator_number documents own) (omega (arith, below)) (judgement_at purpose refused documents own).markup.terminator,
-          )
+      by_separator : (number : ℕ) → number < count_lists → (o : Option Separating) → HasSeparators count_lists (option_map (separated_by number) o)
+      by_separator number below None = tt
+      by_separator number below (Some separator) = below
 
-      by_group : (o : Option Site) → HasDelimiters (count_of documents + count_of documents)
-          (reference_by (framing_of documents own (judgement_at purpose refused documents own)) o)
-      by_group None = framed
-      by_group (Some group) = framed
+      initiated : HasList count_lists (framing_of documents own (judgement_at purpose refused documents own)).initiator
+      initiated =
+          let below = number_below documents own within in
+          by_list (number_of documents own) (omega (arith, below)) (judgement_at purpose refused documents own).markup.initiator
 
-      by_kind : (k : Kind) → HasDelimiters (count_of documents + count_of documents) (of_kind purpose refused documents own k)
-      by_kind kind.ComplexElement = framed
-      by_kind (kind.SimpleElement simple) = framed
-      by_kind kind.UncarriedElement = framed
-      by_kind kind.Sequence = framed
-      by_kind kind.Choice = framed
-      by_kind (kind.PrefixNumber simple) = framed
+      terminated : HasList count_lists (framing_of documents own (judgement_at purpose refused documents own)).terminator
+      terminated =
+          let below = number_below documents own within in
+          by_list (terminator_number documents own) (omega (arith, below)) (judgement_at purpose refused documents own).markup.terminator
 
-      by_role : (r : Role) → HasDelimiters (count_of documents + count_of documents) (component_of documents own (judgement_at purpose refused documents own) r)
-      by_role role.GroupReference = by_group (referred documents own names.Group)
-      by_role _ = by_kind (kind_at documents own)
+      separated : HasSeparators count_lists (option_map (separated_by (separator_number documents own)) (judgement_at purpose refused documents own).markup.separator)
+      separated =
+          let below = number_below documents own within in
+          by_separator (separator_number documents own) (omega (arith, below)) (judgement_at purpose refused documents own).markup.separator
 
-  -- there are two lists of delimiters for each element
-  length_delimiters : length (delimiters_of purpose refused documents) ≡ count_of documents + count_of documents
+      by_kind : (k : Kind) → HasDelimiters count_lists (of_kind purpose refused documents own k)
+      by_kind kind.ComplexElement = (initiated, terminated, tt)
+      by_kind (kind.SimpleElement simple) = (initiated, terminated, tt)
+      by_kind kind.UncarriedElement = (initiated, terminated, tt)
+      by_kind kind.Sequence = (initiated, terminated, separated)
+      by_kind kind.Choice = (initiated, terminated, separated)
+      by_kind (kind.PrefixNumber simple) = (initiated, terminated, separated)
+
+  -- there are three lists of delimiters for each element
+  length_delimiters : length (delimiters_of purpose refused documents) ≡ count_lists
   unfolding delimiters_of
   length_delimiters =
       let initiators = length_lists documents (initiator_list_at purpose refused documents) in
       let terminators = length_lists documents (terminator_list_at purpose refused documents) in
-      let all = length-append (for_each documents (initiator_list_at purpose refused documents)) (for_each documents (terminator_list_at purpose refused documents)) in
-      omega (arith, all, initiators, terminators)
+      let separators = length_lists documents (separator_list_at purpose refused documents) in
+      let behind = length-append (for_each documents (terminator_list_at purpose refused documents)) (for_each documents (separator_list_at purpose refused documents)) in
+      let all = length-append (for_each documents (initiator_list_at purpose refused documents))
+      (for_each documents (terminator_list_at purpose refused documents) ++ for_each documents (separator_list_at purpose refused documents)) in
+      omega (arith, all, behind, initiators, terminators, separators)
 
   -- the lists of each component are in the table
   pub have_lists : (schema : Schema) (lists : List Delimiters) → schema ≡ components_of purpose refused documents
@@ -366,22 +365,17 @@ module _ (purpose : Purpose) (refused : Site → Bool) (documents : List SchemaD
   have_lists schema lists schema_is lists_are =
       subst (λ (n : ℕ). All (HasDelimiters n) schema.components)
       (sym (ap (λ (ds : List Delimiters). length ds) lists_are ∙ length_delimiters))
-      (subst (λ (s : Schema). All (HasDelimiters (count_of documents + count_of documents)) s.components) (sym schema_is)
-      (each (IsSite documents) (HasDelimiters (count_of documents + count_of documents)) (component_at purpose refused documents) has_lists
+      (subst (λ (s : Schema). All (HasDelimiters count_lists) s.components) (sym schema_is)
+      (each (IsSite documents) (HasDelimiters count_lists) (component_at purpose refused documents) has_lists
       (all_sites documents) (all_within documents)))
 
   -- a component that is a simple element has the type of its primitive, and the primitive's number
-  typed_component : (own : Site) (name : List ℕ) (simple : Simple) (prim : ℕ) (framing : Framing) (prefix : Option Prefix) (tried : Representations)
-      → component_at purpose refused documents own ≡ SimpleElement name simple prim framing prefix tried
+  typed_component : (own : Site) (name : List ℕ) (simple : Simple) (prim : ℕ) (framing : Framing) (prefix : Option Prefix) (tried : Representations) (scanned : Bool) (occurs : ℕ)
+      → component_at purpose refused documents own ≡ SimpleElement name simple prim framing prefix tried scanned occurs
       → (type_of (primitive_at purpose refused documents own) ≡ simple) × (number_of documents own ≡ prim)
-  typed_component own name simple prim framing prefix tried = by_role (role_of documents own)
+  typed_component own name simple prim framing prefix tried scanned occurs = by_kind (kind_at documents own)
     where
-      by_group : (o : Option Site) → reference_by (framing_of documents own (judgement_at purpose refused documents own)) o ≡ SimpleElement name simple prim framing prefix tried
-          → (type_of (primitive_at purpose refused documents own) ≡ simple) × (number_of documents own ≡ prim)
-      by_group None is = absurd (cc)
-      by_group (Some group) is = absurd (cc)
-
-      by_kind : (k : Kind) → of_kind purpose refused documents own k ≡ SimpleElement name simple prim framing prefix tried
+      by_kind : (k : Kind) → of_kind purpose refused documents own k ≡ SimpleElement name simple prim framing prefix tried scanned occurs
           → (type_of (primitive_at purpose refused documents own) ≡ simple) × (number_of documents own ≡ prim)
       by_kind kind.ComplexElement is = absurd (cc)
       by_kind (kind.SimpleElement other) is = (cc, cc)
@@ -389,11 +383,6 @@ module _ (purpose : Purpose) (refused : Site → Bool) (documents : List SchemaD
       by_kind kind.Sequence is = absurd (cc)
       by_kind kind.Choice is = absurd (cc)
       by_kind (kind.PrefixNumber other) is = absurd (cc)
-
-      by_role : (r : Role) → component_of documents own (judgement_at purpose refused documents own) r ≡ SimpleElement name simple prim framing prefix tried
-          → (type_of (primitive_at purpose refused documents own) ≡ simple) × (number_of documents own ≡ prim)
-      by_role role.GroupReference is = by_group (referred documents own names.Group) is
-      by_role _ is = by_kind (kind_at documents own) is
 
   -- the primitive of an element stands at the element's number
   there : (own : Site) → IsSite documents own
@@ -414,18 +403,18 @@ module _ (purpose : Purpose) (refused : Site → Bool) (documents : List SchemaD
   -- the leaf of a simple element among the components has the element's type
   among_typed : (simple : Simple) (prim : ℕ) → IsAmong (map (component_at purpose refused documents) (all_sites documents)) simple prim
       → IsOfType simple (slice_get (primitives_of purpose refused documents) prim)
-  among_typed simple prim (number, name, framing, prefix, tried, is) =
+  among_typed simple prim (number, name, framing, prefix, tried, scanned, occurs, is) =
       let less : number < length (all_sites documents) = omega (
         arith,
-        slice_get_within (map (component_at purpose refused documents) (all_sites documents)) number (SimpleElement name simple prim framing prefix tried) is,
+        slice_get_within (map (component_at purpose refused documents) (all_sites documents)) number (SimpleElement name simple prim framing prefix tried scanned occurs) is,
         length-map (all_sites documents) (component_at purpose refused documents),
       ) in
       let own : Site = get_or (all_sites documents) number (site 0 0) in
-      let found : Some (component_at purpose refused documents own) ≡ Some (SimpleElement name simple prim framing prefix tried) =
+      let found : Some (component_at purpose refused documents own) ≡ Some (SimpleElement name simple prim framing prefix tried scanned occurs) =
       sym (slice_get-map (component_at purpose refused documents) (all_sites documents) number
       ∙ ap (option_map (component_at purpose refused documents)) (slice_get-get_or (all_sites documents) number (site 0 0) less)) ∙ is in
-      let same : component_at purpose refused documents own ≡ SimpleElement name simple prim framing prefix tried = cc in
-      let both = typed_component own name simple prim framing prefix tried same in
+      let same : component_at purpose refused documents own ≡ SimpleElement name simple prim framing prefix tried scanned occurs = cc in
+      let both = typed_component own name simple prim framing prefix tried scanned occurs same in
       subst (λ (n : ℕ). IsOfType simple (slice_get (primitives_of purpose refused documents) n)) both.1
       (subst (λ (o : Option Primitive). IsOfType simple o) (sym (there own (all_within documents number (site 0 0) less))) both.0)
 
@@ -437,11 +426,13 @@ module _ (purpose : Purpose) (refused : Site → Bool) (documents : List SchemaD
   leaf_typed simple (Some (Skip bits)) one = absurd one
   leaf_typed simple (Some (Align bits)) one = absurd one
   leaf_typed simple (Some (Initiator delimiter)) one = absurd one
-  leaf_typed simple (Some (Terminator delimiter)) one = absurd one
+  leaf_typed simple (Some (Terminator delimiter separators)) one = absurd one
+  leaf_typed simple (Some Separator) one = absurd one
   leaf_typed simple (Some (Scope list inside)) one = absurd one
   leaf_typed simple (Some (Boxed bits inside)) one = absurd one
   leaf_typed simple (Some (PrefixedLeaf prefix prim)) one = absurd one
   leaf_typed simple (Some (PrefixedBox prefix inside)) one = absurd one
+  leaf_typed simple (Some (Repeat count inside)) one = absurd one
   leaf_typed simple None one = absurd one
 
   -- what the body of a simple element reads has the element's type
@@ -470,19 +461,21 @@ module _ (purpose : Purpose) (refused : Site → Bool) (documents : List SchemaD
       (leaf_typed simple (slice_get t.rows body)
       (subst (λ (s : Schema). IsLeafOf s.components simple (slice_get t.rows body)) schema_is (leaves row name simple tried body is)))
 
--- neither fill nor a delimiter nor a box nor a length prefix is told of an element
+-- neither fill nor a delimiter nor a separator nor a box nor a length prefix is told of an element, and it occurs once
 record IsBare (documents : List SchemaDocument) (own : Site) (told : Judgement) : Type 0 where
   unframed : has_framing (framing_of documents own told) ≡ false
   unboxed : told.size ≡ None
   unprefixed : told.prefix ≡ None
+  unseparated : told.markup.separator ≡ None
+  once : told.occurs ≤ 1
 
 -- no component has any of them for unparsing
 module _ (refused : Site → Bool) (documents : List SchemaDocument)
     (none : (refused : Site → Bool) (documents : List SchemaDocument) (own : Site) → form_of_prefix Unparsing refused documents own ≡ None) where
   bare_by : (own : Site) (b : Bool) → IsBare documents own (judgement_if Unparsing refused documents own b)
   unfolding judgement_if
-  bare_by own true = record { unframed = refl; unboxed = refl; unprefixed = none refused documents own }
-  bare_by own false = record { unframed = refl; unboxed = refl; unprefixed = refl }
+  bare_by own true = record { unframed = refl; unboxed = refl; unprefixed = none refused documents own; unseparated = refl; once = omega arith }
+  bare_by own false = record { unframed = refl; unboxed = refl; unprefixed = refl; unseparated = refl; once = omega arith }
 
   bare_judgement : (own : Site) → IsBare documents own (judgement_at Unparsing refused documents own)
   unfolding judgement_at judgement_if
@@ -490,7 +483,7 @@ module _ (refused : Site → Bool) (documents : List SchemaDocument)
 
   -- without fill and delimiters, and with a box or a prefix only where the judgement has one
   bare_component : (own : Site) → IsBareComponent (component_at Unparsing refused documents own)
-  bare_component own = by_role (role_of documents own)
+  bare_component own = by_kind (kind_at documents own)
     where
       told : IsBare documents own (judgement_at Unparsing refused documents own)
       told = bare_judgement own
@@ -511,21 +504,20 @@ module _ (refused : Site → Bool) (documents : List SchemaDocument)
       unboxed = by_box (judgement_at Unparsing refused documents own).size (option_map (prefix_by (prefix_number documents own)) (judgement_at Unparsing refused documents own).prefix)
           told.unboxed unprefixed
 
-      by_group : (o : Option Site) → IsBareComponent (reference_by (framing_of documents own (judgement_at Unparsing refused documents own)) o)
-      by_group None = record { unframed = told.unframed; unboxed = refl; unprefixed = refl }
-      by_group (Some group) = record { unframed = told.unframed; unboxed = refl; unprefixed = refl }
+      by_separator : (o : Option Separating) → o ≡ None → option_map (separated_by (separator_number documents own)) o ≡ None
+      by_separator None is = refl
+      by_separator (Some separator) is = absurd (cc)
+
+      unseparated : option_map (separated_by (separator_number documents own)) (judgement_at Unparsing refused documents own).markup.separator ≡ None
+      unseparated = by_separator (judgement_at Unparsing refused documents own).markup.separator told.unseparated
 
       by_kind : (k : Kind) → IsBareComponent (of_kind Unparsing refused documents own k)
-      by_kind kind.ComplexElement = record { unframed = told.unframed; unboxed = unboxed; unprefixed = refl }
-      by_kind (kind.SimpleElement simple) = record { unframed = told.unframed; unboxed = refl; unprefixed = unprefixed }
-      by_kind kind.UncarriedElement = record { unframed = told.unframed; unboxed = refl; unprefixed = unprefixed }
-      by_kind kind.Sequence = record { unframed = told.unframed; unboxed = refl; unprefixed = refl }
-      by_kind kind.Choice = record { unframed = told.unframed; unboxed = refl; unprefixed = refl }
-      by_kind (kind.PrefixNumber simple) = record { unframed = told.unframed; unboxed = refl; unprefixed = refl }
-
-      by_role : (r : Role) → IsBareComponent (component_of documents own (judgement_at Unparsing refused documents own) r)
-      by_role role.GroupReference = by_group (referred documents own names.Group)
-      by_role _ = by_kind (kind_at documents own)
+      by_kind kind.ComplexElement = record { unframed = told.unframed; unboxed = unboxed; unprefixed = refl; unseparated = refl; once = told.once }
+      by_kind (kind.SimpleElement simple) = record { unframed = told.unframed; unboxed = refl; unprefixed = unprefixed; unseparated = refl; once = told.once }
+      by_kind kind.UncarriedElement = record { unframed = told.unframed; unboxed = refl; unprefixed = unprefixed; unseparated = refl; once = told.once }
+      by_kind kind.Sequence = record { unframed = told.unframed; unboxed = refl; unprefixed = refl; unseparated = unseparated; once = omega arith }
+      by_kind kind.Choice = record { unframed = told.unframed; unboxed = refl; unprefixed = refl; unseparated = unseparated; once = omega arith }
+      by_kind (kind.PrefixNumber simple) = record { unframed = told.unframed; unboxed = refl; unprefixed = refl; unseparated = unseparated; once = omega arith }
 
   pub bare_components : (purpose : Purpose) (schema : Schema) → purpose ≡ Unparsing → schema ≡ components_of purpose refused documents → All IsBareComponent schema.components
   unfolding components_of
@@ -549,14 +541,14 @@ global_is : (purpose : Purpose) (refused : Site → Bool) (documents : List Sche
     → component_at purpose refused documents own ≡ of_kind purpose refused documents own (kind_of_type (element_type documents own))
 global_is purpose refused documents own global =
     let is : role_of documents own ≡ role.GlobalElement = global_role (role_of documents own) global in
-    made_is purpose refused documents own (role_of documents own) refl
+    made_is purpose refused documents own
     ∙ ap (λ (r : Role). made purpose refused documents own r) is
 
 -- the component of a root's number
 at_root : (purpose : Purpose) (refused : Site → Bool) (documents : List SchemaDocument) (root : Site) → IsSite documents root
     → part_at (components_of purpose refused documents).components (number_of documents root) ≡ component_at purpose refused documents root
 unfolding components_of
-at_root purpose refused documents root within = value-at documents (component_at purpose refused documents) root (Sequence no_fill) within
+at_root purpose refused documents root within = value-at documents (component_at purpose refused documents) root (Sequence no_fill None) within
 
 -- the last row is an element, where the root is one
 pub root_element : (purpose : Purpose) (refused : Site → Bool) (documents : List SchemaDocument) (root : Site) (schema : Schema) (number : ℕ) (t : Table)

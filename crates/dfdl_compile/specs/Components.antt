@@ -3,13 +3,9 @@
 -- Model').
 use Rattle.std.specs.Prelude.{ℕ, ◌+◌, Bool, List, [], ◌++◌, map, Option, None, Some, option_map, codes}
 use Rattle.std.specs.Option.{unwrap_or}
-use Rattle.dfdl_constructs.specs.declared.role.Role.{Role}
-use Rattle.dfdl_constructs.specs.declared.role.Role.TheVariants as role
 use Rattle.dfdl_documents.specs.Documents.{SchemaDocument}
-use Rattle.dfdl_components.specs.declared.kind.ComponentKind.TheVariants as names
 use Rattle.dfdl_components.specs.declared.site.Site.{Site}
 use Rattle.dfdl_components.specs.Recursion.{count_of, number_of}
-use Rattle.dfdl_components.specs.Sites.{role_of}
 use Rattle.dfdl_checks.specs.Numbers.{type_of}
 use Rattle.dfdl_checks.specs.declared.tried.OtherRepresentations.{OtherRepresentations}
 use Rattle.dfdl_checks.specs.declared.prefixes.PrefixForm.{PrefixForm}
@@ -17,7 +13,7 @@ use Rattle.dfdl_checks.specs.declared.purpose.Purpose.{Purpose}
 use Rattle.dfdl_checks.specs.declared.subject.Breach.{Breach}
 use Rattle.dfdl_checks.specs.declared.subject.Kind.{Kind}
 use Rattle.dfdl_checks.specs.declared.subject.Kind.TheVariants as kind
-use Rattle.dfdl_chains.specs.Declarations.{attribute_of, declaration, referred}
+use Rattle.dfdl_chains.specs.Declarations.{attribute_of, declaration}
 use Rattle.dfdl_chains.specs.Everywhere.{for_each}
 use Rattle.dfdl_chains.specs.Kinds.{kind_at}
 use Rattle.dfdl_chains.specs.Parts.{parts_at}
@@ -32,12 +28,13 @@ use Rattle.dfdl_rows.specs.Components.{Schema}
 use Rattle.dfdl_rows.specs.declared.component.ContentBox.{ContentBox}
 use Rattle.dfdl_rows.specs.declared.component.ContentBox.TheVariants.{Unbounded, Sized, Prefixed}
 use Rattle.dfdl_rows.specs.declared.component.Component.{Component}
-use Rattle.dfdl_rows.specs.declared.component.Component.TheVariants.{Sequence, Reference, ComplexElement, SimpleElement}
+use Rattle.dfdl_rows.specs.declared.component.Component.TheVariants.{Sequence, ComplexElement, SimpleElement}
+use Rattle.dfdl_rows.specs.declared.component.Separated.{Separated}
 use Rattle.dfdl_rows.specs.declared.refusal.Refusal.{Refusal}
 use Rattle.dfdl_terms.specs.declared.delimiters.Delimiters.{Delimiters}
 use Rattle.dfdl_terms.specs.Tables.{Named}
-use Rattle.dfdl_compile.specs.Delimiters.{framing_by, initiator_list_by, terminator_list_by}
-use Rattle.dfdl_compile.specs.Primitives.{empty_primitive_by, nil_primitive_by, prefix_primitive_by, primitive_by}
+use Rattle.dfdl_compile.specs.Delimiters.{framing_by, initiator_list_by, separated_by, separator_list_by, terminator_list_by}
+use Rattle.dfdl_compile.specs.Primitives.{empty_primitive_by, is_scanned, nil_primitive_by, prefix_primitive_by, primitive_by}
 
 -- the local name of an element
 abbrev pub element_name : List SchemaDocument → Site → List ℕ
@@ -62,6 +59,10 @@ empty_number documents own = count_of documents + nil_number documents own
 -- order of the elements, in the same order.
 abbrev pub terminator_number : List SchemaDocument → Site → ℕ
 terminator_number documents own = count_of documents + number_of documents own
+
+-- The number of the literals of an element's separator: those of separators stand behind those of terminators, in the same order.
+abbrev pub separator_number : List SchemaDocument → Site → ℕ
+separator_number documents own = count_of documents + terminator_number documents own
 
 -- what frames the content of an element of which this is told
 abbrev pub framing_of : List SchemaDocument → Site → Judgement → Framing
@@ -93,33 +94,24 @@ box_by None (Some prefix) = Prefixed prefix
 box_by None None = Unbounded
 
 -- an element or a group, of which this is its name, how its values lie in the data, its number, what frames its content and the box
--- around it, its length prefix, and the representations that are tried before its normal one
-abbrev pub component_by : List ℕ → Primitive → ℕ → Framing → Option ℕ → Option Prefix → Representations → Kind → Component
-component_by name primitive number framing size prefix tried kind.ComplexElement = ComplexElement name framing (box_by size prefix)
-component_by name primitive number framing size prefix tried (kind.SimpleElement simple) =
-    SimpleElement name (type_of primitive) number framing prefix tried
-component_by name primitive number framing size prefix tried kind.UncarriedElement =
-    SimpleElement name (type_of primitive) number framing prefix tried
-component_by name primitive number framing size prefix tried kind.Sequence = Sequence framing
-component_by name primitive number framing size prefix tried kind.Choice = Sequence framing
-component_by name primitive number framing size prefix tried (kind.PrefixNumber simple) = Sequence framing
-
--- a group reference that is framed so stands for the group that it names
-abbrev pub reference_by : Framing → Option Site → Component
-reference_by framing None = Sequence framing
-reference_by framing (Some own) = Reference framing
-
--- what an element of the documents is, by its role and what is told of it
-abbrev pub component_of : List SchemaDocument → Site → Judgement → Role → Component
-component_of documents own judgement role.GroupReference = reference_by (framing_of documents own judgement) (referred documents own names.Group)
-component_of documents own judgement _ =
-    component_by (element_name documents own) (primitive_by judgement) (number_of documents own) (framing_of documents own judgement) judgement.size
-    (option_map (prefix_by (prefix_number documents own)) judgement.prefix)
-    (tried_by (nil_number documents own) (empty_number documents own) judgement.others) (kind_at documents own)
+-- around it, its length prefix, the representations that are tried before its normal one, its separators, and how often it occurs
+abbrev pub component_by : List ℕ → Primitive → ℕ → Framing → Option ℕ → Option Prefix → Representations → Option Separated → ℕ → Kind → Component
+component_by name primitive number framing size prefix tried separated occurs kind.ComplexElement = ComplexElement name framing (box_by size prefix) occurs
+component_by name primitive number framing size prefix tried separated occurs (kind.SimpleElement simple) =
+    SimpleElement name (type_of primitive) number framing prefix tried (is_scanned primitive) occurs
+component_by name primitive number framing size prefix tried separated occurs kind.UncarriedElement =
+    SimpleElement name (type_of primitive) number framing prefix tried (is_scanned primitive) occurs
+component_by name primitive number framing size prefix tried separated occurs kind.Sequence = Sequence framing separated
+component_by name primitive number framing size prefix tried separated occurs kind.Choice = Sequence framing separated
+component_by name primitive number framing size prefix tried separated occurs (kind.PrefixNumber simple) = Sequence framing separated
 
 -- what an element of the documents is, of which this is told
 abbrev pub component_with : List SchemaDocument → Site → Judgement → Component
-component_with documents own judgement = component_of documents own judgement (role_of documents own)
+component_with documents own judgement =
+    component_by (element_name documents own) (primitive_by judgement) (number_of documents own) (framing_of documents own judgement) judgement.size
+    (option_map (prefix_by (prefix_number documents own)) judgement.prefix)
+    (tried_by (nil_number documents own) (empty_number documents own) judgement.others)
+    (option_map (separated_by (separator_number documents own)) judgement.markup.separator) judgement.occurs (kind_at documents own)
 
 -- what an element of the documents is
 abbrev pub component_at : Purpose → (Site → Bool) → List SchemaDocument → Site → Component
@@ -178,11 +170,16 @@ initiator_list_at purpose refused documents own = initiator_list_by (judgement_a
 abbrev pub terminator_list_at : Purpose → (Site → Bool) → List SchemaDocument → Site → Delimiters
 terminator_list_at purpose refused documents own = terminator_list_by (judgement_at purpose refused documents own)
 
+-- the literals of the separator of an element of the documents
+abbrev pub separator_list_at : Purpose → (Site → Bool) → List SchemaDocument → Site → Delimiters
+separator_list_at purpose refused documents own = separator_list_by (judgement_at purpose refused documents own)
+
 -- the literals of the delimiters of the documents: those of the initiators of their elements by the elements' numbers, and behind them,
--- in the same order, those of their terminators
+-- in the same order, those of their terminators and those of their separators
 unfoldable pub delimiters_of : Purpose → (Site → Bool) → List SchemaDocument → List Delimiters
 delimiters_of purpose refused documents =
-    for_each documents (initiator_list_at purpose refused documents) ++ for_each documents (terminator_list_at purpose refused documents)
+    for_each documents (initiator_list_at purpose refused documents)
+    ++ (for_each documents (terminator_list_at purpose refused documents) ++ for_each documents (separator_list_at purpose refused documents))
 
 -- what the rows of the documents name
 abbrev pub named_of : Purpose → (Site → Bool) → List SchemaDocument → Named

@@ -1,8 +1,10 @@
--- The initiators and terminators of the components of a schema: their literals in the tables, one list of each for each element of its
--- documents, and the framing that names these by their numbers ('Framing').
+-- The initiators, terminators and separators of the components of a schema: their literals in the tables, one list of each for each
+-- element of its documents, and the framing and the separators that name these by their numbers ('Framing', 'Sequence Groups').
 use Rattle.std.specs.Prelude.{ℕ, [], false, Option, None, Some, option_map}
 use Rattle.dfdl_forms.specs.declared.encoding.Encoding.TheVariants.{Utf8}
 use Rattle.dfdl_checks.specs.declared.delimiters.Delimiting.{Delimiting}
+use Rattle.dfdl_checks.specs.declared.delimiters.Separating.{Separating}
+use Rattle.dfdl_rows.specs.declared.component.Separated.{Separated}
 use Rattle.dfdl_terms.specs.declared.delimiters.Delimiter.{Delimiter}
 use Rattle.dfdl_terms.specs.declared.delimiters.Delimiters.{Delimiters}
 use Rattle.dfdl_terms.specs.declared.framing.Framing.{Framing}
@@ -24,6 +26,19 @@ initiator_list_by judgement = list_if judgement.markup.initiator
 -- the literals of the terminator of an element of which this is told
 abbrev pub terminator_list_by : Judgement → Delimiters
 terminator_list_by judgement = list_if judgement.markup.terminator
+
+-- the literals of a separator, or the list that stands for none
+abbrev pub separator_list_if : Option Separating → Delimiters
+separator_list_if None = no_list
+separator_list_if (Some separator) = separator.list
+
+-- the same of an element of which this is told
+abbrev pub separator_list_by : Judgement → Delimiters
+separator_list_by judgement = separator_list_if judgement.markup.separator
+
+-- separators whose literals have this number
+abbrev pub separated_by : ℕ → Separating → Separated
+separated_by number separator = record { list = number; position = separator.position }
 
 -- a delimiter whose literals have this number
 abbrev pub delimiter_by : ℕ → Delimiting → Delimiter

@@ -1,6 +1,6 @@
 -- The primitives that the leaves of a schema, their length prefixes and their other representations are read by: one of each for
 -- each element of its documents ('Simple Types', 'Lengths', 'DFDL Data Syntax Grammar').
-use Rattle.std.specs.Prelude.{◌≡◌, ℕ, List, slice_get, Option, None, Some, unwrap_or}
+use Rattle.std.specs.Prelude.{◌≡◌, ℕ, Bool, true, false, List, slice_get, Option, None, Some, unwrap_or}
 use Rattle.dfdl_forms.specs.declared.order.BitOrder.TheVariants.{MostFirst}
 use Rattle.dfdl_forms.specs.declared.order.ByteOrder.TheVariants.{Big}
 use Rattle.dfdl_forms.specs.declared.simple.Simple.{Simple}
@@ -9,10 +9,12 @@ use Rattle.dfdl_terms.specs.Leaves.{ReadsBy}
 use Rattle.dfdl_terms.specs.Rows.{IsWritten, Table}
 use Rattle.dfdl_terms.specs.declared.representations.Representations.{Representations}
 use Rattle.dfdl_terms.specs.declared.row.Primitive.{Primitive}
-use Rattle.dfdl_terms.specs.declared.row.Primitive.TheVariants.{Default, Integer}
+use Rattle.dfdl_terms.specs.declared.row.Primitive.TheVariants.{Integer, Packed, Truth, Octets, Text, NilOctets, Default, NilValues, Pattern}
 use Rattle.dfdl_terms.specs.declared.row.Row.{Row}
-use Rattle.dfdl_terms.specs.declared.row.Row.TheVariants.{Leaf, Elem, Group, Skip, Align, Initiator, Terminator, Scope, Boxed, PrefixedLeaf, PrefixedBox}
+use Rattle.dfdl_terms.specs.declared.row.Row.TheVariants.{Leaf, Elem, Group, Skip, Align, Initiator, Terminator, Separator, Scope, Boxed, PrefixedLeaf, PrefixedBox, Repeat}
 use Rattle.dfdl_terms.specs.declared.text.DefaultForm.{DefaultForm}
+use Rattle.dfdl_terms.specs.declared.text.TextSize.{TextSize}
+use Rattle.dfdl_terms.specs.declared.text.TextSize.TheVariants.{Bits, Characters, Delimited}
 use Rattle.dfdl_checks.specs.Numbers.{type_of}
 use Rattle.dfdl_checks.specs.declared.prefixes.PrefixForm.{PrefixForm}
 use Rattle.dfdl_breaches.specs.declared.judgement.Judgement.{Judgement}
@@ -24,6 +26,24 @@ a_byte = Integer (record { bits = 8; bytes_by = Big; bits_by = MostFirst; point 
 -- the primitive of an element of which this is told
 abbrev pub primitive_by : Judgement → Primitive
 primitive_by judgement = unwrap_or judgement.primitive a_byte
+
+-- markup ends a content of this size
+abbrev pub is_scanned_size : TextSize → Bool
+is_scanned_size (Bits n) = false
+is_scanned_size (Characters n) = false
+is_scanned_size (Delimited scan) = true
+
+-- markup ends a content that is read by this primitive
+abbrev pub is_scanned : Primitive → Bool
+is_scanned (Integer form) = false
+is_scanned (Packed form) = false
+is_scanned (Truth form) = false
+is_scanned (Octets form) = false
+is_scanned (Text form) = is_scanned_size form.size
+is_scanned (NilOctets form) = false
+is_scanned (Default form) = is_scanned_size form.size
+is_scanned (NilValues form) = false
+is_scanned (Pattern form) = false
 
 -- the primitive of a prefix, or the one that stands for none
 abbrev pub primitive_if : Option PrefixForm → Primitive
@@ -65,11 +85,13 @@ IsLeafOfType primitives simple (Some (Group children)) = ⊥
 IsLeafOfType primitives simple (Some (Skip bits)) = ⊥
 IsLeafOfType primitives simple (Some (Align bits)) = ⊥
 IsLeafOfType primitives simple (Some (Initiator delimiter)) = ⊥
-IsLeafOfType primitives simple (Some (Terminator delimiter)) = ⊥
+IsLeafOfType primitives simple (Some (Terminator delimiter separators)) = ⊥
+IsLeafOfType primitives simple (Some Separator) = ⊥
 IsLeafOfType primitives simple (Some (Scope list inside)) = ⊥
 IsLeafOfType primitives simple (Some (Boxed bits inside)) = ⊥
 IsLeafOfType primitives simple (Some (PrefixedLeaf prefix prim)) = ⊥
 IsLeafOfType primitives simple (Some (PrefixedBox prefix inside)) = ⊥
+IsLeafOfType primitives simple (Some (Repeat count inside)) = ⊥
 IsLeafOfType primitives simple None = ⊥
 
 -- the body of each simple element is itself a leaf of a primitive of the element's type

@@ -13,15 +13,15 @@ ghost use Rattle.dfdl_compile.specs.Components as spec;
 ghost use Rattle.dfdl_compile.specs.Delimiters as delimiters;
 ghost use Rattle.dfdl_compile.specs.Primitives.{primitive_by};
 
-use crate::primitives::type_by;
+use crate::primitives::{is_scanned_by, type_by};
 use dfdl_breaches::Judgement;
-use dfdl_chains::{Numbers, declaration, kind_at, parts_at, referred};
+use dfdl_chains::{Numbers, declaration, kind_at, parts_at};
 use dfdl_checks::{Breach, Delimiting, Kind, OtherRepresentations};
-use dfdl_components::{ComponentKind, Schema, Site};
-use dfdl_constructs::{Role, plain};
+use dfdl_components::{Schema, Site};
+use dfdl_constructs::plain;
 use dfdl_order::{OrderFault, Uses};
 use dfdl_report::Place;
-use dfdl_rows::{Component, ContentBox, Refusal};
+use dfdl_rows::{Component, ContentBox, Refusal, Separated};
 use dfdl_terms::{Delimiter, Framing, Prefix, Primitive, Representations};
 use dfdl_value::TextValue;
 use std::alloc::{AllocError, Global};
@@ -98,6 +98,19 @@ fn framing_by(initiator: u32, terminator: u32, judgement: &Judgement) -> Framing
     }
 }
 
+// The separators of an element of which this is told, whose literals have this number.
+fn separated_by(number: u32, judgement: &Judgement) -> Option<Separated>
+    ensures { result ≡ option_map (delimiters.separated_by number) judgement.now.markup.separator }
+{
+    match &judgement.markup.separator {
+        Some(separator) => Some(Separated {
+            list: number,
+            position: separator.position,
+        }),
+        None => None,
+    }
+}
+
 // The box around the content of a complex element, of so many bits or with this prefix.
 fn box_by(size: Option<u64>, prefix: Option<Prefix>) -> ContentBox
     ensures { result ≡ spec.box_by size prefix }
@@ -119,24 +132,30 @@ struct Numbered {
     framing: Framing,
     prefix: Option<Prefix>,
     tried: Representations,
+    separated: Option<Separated>,
 }
 
 // An element or a group of this name, of which this is told, with what names things in the tables.
 fn component_by(name: TextValue, judgement: &Judgement, numbered: Numbered, kind: Kind) -> Component
-    ensures { result ≡ spec.component_by name (primitive_by judgement.now) numbered.prim numbered.framing judgement.now.size numbered.prefix numbered.tried kind }
+    ensures { result ≡ spec.component_by name (primitive_by judgement.now) numbered.prim numbered.framing judgement.now.size numbered.prefix numbered.tried
+        numbered.separated judgement.now.occurs kind }
 {
     let simple = type_by(judgement);
+    let is_scanned = is_scanned_by(judgement);
     let Numbered {
         prim,
         framing,
         prefix,
         tried,
+        separated,
     } = numbered;
+    let occurs = judgement.occurs;
     match kind {
         Kind::ComplexElement => Component::ComplexElement {
             name,
             framing,
             content_box: box_by(judgement.size, prefix),
+            occurs,
         },
         Kind::SimpleElement(_) => Component::SimpleElement {
             name,
@@ -145,6 +164,8 @@ fn component_by(name: TextValue, judgement: &Judgement, numbered: Numbered, kind
             framing,
             prefix,
             tried,
+            is_scanned,
+            occurs,
         },
         Kind::UncarriedElement => Component::SimpleElement {
             name,
@@ -153,20 +174,12 @@ fn component_by(name: TextValue, judgement: &Judgement, numbered: Numbered, kind
             framing,
             prefix,
             tried,
+            is_scanned,
+            occurs,
         },
-        Kind::Sequence => Component::Sequence { framing },
-        Kind::Choice => Component::Sequence { framing },
-        Kind::PrefixNumber(_) => Component::Sequence { framing },
-    }
-}
-
-// A group reference that is framed so stands for the group that it names.
-fn reference_by(framing: Framing, group: Option<Site>) -> Component
-    ensures { result ≡ spec.reference_by framing group }
-{
-    match group {
-        Some(_) => Component::Reference { framing },
-        None => Component::Sequence { framing },
+        Kind::Sequence => Component::Sequence { framing, separated },
+        Kind::Choice => Component::Sequence { framing, separated },
+        Kind::PrefixNumber(_) => Component::Sequence { framing, separated },
     }
 }
 
@@ -212,46 +225,23 @@ fn by_numbers(
     ensures prefix { IfOk result (λ found. found.prefix ≡ option_map (spec.prefix_by (spec.prefix_number schema.now site)) judgement.now.prefix) }
     ensures tried { IfOk result (λ found. found.tried
         ≡ spec.tried_by (spec.nil_number schema.now site) (spec.empty_number schema.now site) judgement.now.others) }
+    ensures separated { IfOk result (λ found. found.separated
+        ≡ option_map (delimiters.separated_by (spec.separator_number schema.now site)) judgement.now.markup.separator) }
 {
     let prim = numbers.number(schema, site);
     let prefix = one_list_behind(schema, numbers, prim)?;
     let nil = one_list_behind(schema, numbers, prefix)?;
     let empty = one_list_behind(schema, numbers, nil)?;
     let framing = framing_of(schema, numbers, site, judgement)?;
+    // Those of separators stand as far behind as those of nil representations.
+    let separator = nil;
     Ok(Numbered {
         prim,
         framing,
         prefix: prefix_by(prefix, judgement),
         tried: tried_by(nil, empty, &judgement.others),
+        separated: separated_by(separator, judgement),
     })
-}
-
-// What an element of the documents is, by its role.
-fn component_of(
-    alloc: Global,
-    schema: &Schema,
-    numbers: &Numbers,
-    site: Site,
-    role: Role,
-    judgement: &Judgement,
-) -> Result<Component, AllocError>
-    requires site { IsSite schema.now site }
-    requires numbers { AreNumbers schema.now numbers.now }
-    ensures { IfOk result (λ component. component ≡ spec.component_of schema.now site judgement.now role) }
-{
-    match role {
-        Role::GroupReference => {
-            let framing = framing_of(schema, numbers, site, judgement)?;
-            let group = referred(schema, site, ComponentKind::Group);
-            Ok(reference_by(framing, group))
-        }
-        _ => {
-            let name = element_name(alloc, schema, site)?;
-            let numbered = by_numbers(schema, numbers, site, judgement)?;
-            let kind = kind_at(schema, numbers, site);
-            Ok(component_by(name, judgement, numbered, kind))
-        }
-    }
 }
 
 // What an element of the documents is, of which this is told.
@@ -266,8 +256,10 @@ fn component_with(
     requires numbers { AreNumbers schema.now numbers.now }
     ensures { IfOk result (λ component. component ≡ spec.component_with schema.now site judgement.now) }
 {
-    let role = schema.role(site);
-    component_of(alloc, schema, numbers, site, role, judgement)
+    let name = element_name(alloc, schema, site)?;
+    let numbered = by_numbers(schema, numbers, site, judgement)?;
+    let kind = kind_at(schema, numbers, site);
+    Ok(component_by(name, judgement, numbered, kind))
 }
 
 /// What each element of the documents is.

@@ -6,10 +6,10 @@ ghost use Rattle.dfdl_compile.specs.Delimiters as delimiters;
 ghost use Rattle.dfdl_compile.specs.Primitives as spec;
 
 use dfdl_breaches::Judgement;
-use dfdl_checks::{Delimiting, PrefixForm};
+use dfdl_checks::{Delimiting, PrefixForm, Separating};
 use dfdl_forms::{BitOrder, ByteOrder, Encoding, IntForm, Literals, Simple};
 use dfdl_terms::row::default_is_written;
-use dfdl_terms::{Delimiters, Primitive, Tables, TextContent};
+use dfdl_terms::{Delimiters, Primitive, Tables, TextContent, TextSize};
 use std::alloc::{AllocError, Global};
 
 // The primitive that stands for an element without one of its own.
@@ -31,6 +31,7 @@ fn text_type(content: &TextContent) -> Simple
 {
     match content {
         TextContent::Plain => Simple::String,
+        TextContent::Octets => Simple::HexBinary,
         TextContent::Number { kind, .. } => *kind,
         TextContent::Zoned(form) => form.kind,
         TextContent::Truth(_) => Simple::Boolean,
@@ -62,6 +63,37 @@ pub(crate) fn type_by(judgement: &Judgement) -> Simple
     match &judgement.primitive {
         Some(primitive) => type_of(primitive),
         None => Simple::UnsignedByte,
+    }
+}
+
+// Whether markup ends a content of a size.
+fn is_scanned_size(size: TextSize) -> bool
+    ensures { result ≡ spec.is_scanned_size size }
+{
+    match size {
+        TextSize::Bits(_) | TextSize::Characters(_) => false,
+        TextSize::Delimited(_) => true,
+    }
+}
+
+// Whether markup ends a content that is read by a primitive.
+fn is_scanned(primitive: &Primitive) -> bool
+    ensures { result ≡ spec.is_scanned primitive.now }
+{
+    match primitive {
+        Primitive::Text(form) => is_scanned_size(form.size),
+        Primitive::Default(form) => is_scanned_size(form.size),
+        _ => false,
+    }
+}
+
+/// Whether markup ends the content of an element of which this is told.
+pub(crate) fn is_scanned_by(judgement: &Judgement) -> bool
+    ensures { result ≡ spec.is_scanned (spec.primitive_by judgement.now) }
+{
+    match &judgement.primitive {
+        Some(primitive) => is_scanned(primitive),
+        None => false,
     }
 }
 
@@ -108,6 +140,16 @@ fn list_if(alloc: Global, delimiter: Option<Delimiting>) -> Delimiters
     }
 }
 
+// The literals of a separator, or the list that stands for none.
+fn separator_list_if(alloc: Global, separator: Option<Separating>) -> Delimiters
+    ensures { result ≡ delimiters.separator_list_if separator }
+{
+    match separator {
+        Some(separator) => separator.list,
+        None => list_if(alloc, None),
+    }
+}
+
 // What some elements name: the primitives of their values, and of their prefixes and other representations, and the literals of
 // their delimiters.
 #[derive(Drop)]
@@ -118,6 +160,7 @@ struct Lists {
     empties: Vec<Primitive>,
     initiators: Vec<Delimiters>,
     terminators: Vec<Delimiters>,
+    separators: Vec<Delimiters>,
 }
 
 impl Lists {
@@ -128,6 +171,7 @@ impl Lists {
         ensures empties { result.empties.items ≡ [] }
         ensures initiators { result.initiators.items ≡ [] }
         ensures terminators { result.terminators.items ≡ [] }
+        ensures separators { result.separators.items ≡ [] }
     {
         Lists {
             own: Vec::new(alloc),
@@ -136,6 +180,7 @@ impl Lists {
             empties: Vec::new(alloc),
             initiators: Vec::new(alloc),
             terminators: Vec::new(alloc),
+            separators: Vec::new(alloc),
         }
     }
 }
@@ -148,6 +193,7 @@ fn lists_of(alloc: Global, judgements: Vec<Judgement>) -> Result<Lists, AllocErr
     ensures empties { IfOk result (λ lists. lists.empties.items ≡ map spec.empty_primitive_by judgements.items) }
     ensures initiators { IfOk result (λ lists. lists.initiators.items ≡ map delimiters.initiator_list_by judgements.items) }
     ensures terminators { IfOk result (λ lists. lists.terminators.items ≡ map delimiters.terminator_list_by judgements.items) }
+    ensures separators { IfOk result (λ lists. lists.separators.items ≡ map delimiters.separator_list_by judgements.items) }
 {
     let mut lists = Lists::new(alloc);
     for judgement in judgements {
@@ -164,18 +210,21 @@ fn lists_of(alloc: Global, judgements: Vec<Judgement>) -> Result<Lists, AllocErr
         lists.empties.push(primitive_or_byte(others.empty))?;
         lists.initiators.push(list_if(alloc, markup.initiator))?;
         lists.terminators.push(list_if(alloc, markup.terminator))?;
+        lists
+            .separators
+            .push(separator_list_if(alloc, markup.separator))?;
     }
     Ok(lists)
 }
 
 /// What the rows of elements name of which this is told: their primitives, and behind them those of their length prefixes, of their nil
-/// representations and of their empty ones; the literals of their initiators, and behind them those of their terminators.
+/// representations and of their empty ones; the literals of their initiators, and behind them those of their terminators and separators.
 pub(crate) fn tables(alloc: Global, judgements: Vec<Judgement>) -> Result<Tables, AllocError>
     ensures primitives { IfOk result (λ tables. tables.primitives ≡ map spec.primitive_by judgements.items
         ++ (map spec.prefix_primitive_by judgements.items
         ++ (map spec.nil_primitive_by judgements.items ++ map spec.empty_primitive_by judgements.items))) }
     ensures delimiters { IfOk result (λ tables. tables.delimiters ≡ map delimiters.initiator_list_by judgements.items
-        ++ map delimiters.terminator_list_by judgements.items) }
+        ++ (map delimiters.terminator_list_by judgements.items ++ map delimiters.separator_list_by judgements.items)) }
     ensures written { IfOk result (λ tables. All spec.HasWrittenText tables.primitives) }
 {
     let Lists {
@@ -185,10 +234,12 @@ pub(crate) fn tables(alloc: Global, judgements: Vec<Judgement>) -> Result<Tables
         mut empties,
         mut initiators,
         mut terminators,
+        mut separators,
     } = lists_of(alloc, judgements)?;
     nils.append(&mut empties)?;
     prefixes.append(&mut nils)?;
     own.append(&mut prefixes)?;
+    terminators.append(&mut separators)?;
     initiators.append(&mut terminators)?;
     texts_are_written(own.as_slice());
     Ok(Tables::new(own, initiators))

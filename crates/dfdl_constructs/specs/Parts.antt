@@ -127,7 +127,7 @@ define_format_parts = Single (codes "format") role.DefinedFormat ∷ []
 unfoldable pub define_escape_scheme_parts : List Part
 define_escape_scheme_parts = Single (codes "escapeScheme") role.EscapeScheme ∷ []
 
--- in a format, and in the properties of a component: properties in element form
+-- in a format, in an escape scheme, and in the properties of a component: properties in element form
 unfoldable pub properties : List Part
 properties = Many (codes "property") role.Property ∷ []
 
@@ -156,6 +156,7 @@ parts_in role.DefineFormat = define_format_parts
 parts_in role.DefineEscapeScheme = define_escape_scheme_parts
 parts_in role.DefaultFormat = properties
 parts_in role.DefinedFormat = properties
+parts_in role.EscapeScheme = properties
 parts_in role.ComponentProperties = properties
 parts_in _ = []
 
@@ -166,6 +167,7 @@ namespace_in role.DefineFormat = dfdl_namespace
 namespace_in role.DefineEscapeScheme = dfdl_namespace
 namespace_in role.DefaultFormat = dfdl_namespace
 namespace_in role.DefinedFormat = dfdl_namespace
+namespace_in role.EscapeScheme = dfdl_namespace
 namespace_in role.ComponentProperties = dfdl_namespace
 namespace_in _ = schema_namespace
 

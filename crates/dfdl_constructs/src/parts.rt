@@ -260,7 +260,10 @@ pub(crate) fn parts_in(role: Role) -> &'static [Part]
         Role::Annotations(at) => annotations(at),
         Role::DefineFormat => define_format_parts(),
         Role::DefineEscapeScheme => define_escape_scheme_parts(),
-        Role::DefaultFormat | Role::DefinedFormat | Role::ComponentProperties => properties(),
+        Role::DefaultFormat
+        | Role::DefinedFormat
+        | Role::EscapeScheme
+        | Role::ComponentProperties => properties(),
         _ => &[],
     }
 }
@@ -275,6 +278,7 @@ pub(crate) fn namespace_in(role: Role) -> &'static str
         | Role::DefineEscapeScheme
         | Role::DefaultFormat
         | Role::DefinedFormat
+        | Role::EscapeScheme
         | Role::ComponentProperties => dfdl_namespace(),
         _ => schema_namespace(),
     }

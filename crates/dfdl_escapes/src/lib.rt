@@ -30,7 +30,7 @@ pub use escaping::escape;
 pub use form::{Form, Mode, Stand};
 pub use reading::read_content;
 pub use refusal::Refusal;
-pub use scan::Scan;
+pub use scan::{Scan, first_mode};
 pub use scanned::{Glance, Scanned};
 pub use trimming::trim_content;
 

@@ -24,7 +24,8 @@ pub struct Scan {
     pub at: Stand,
 }
 
-fn first_mode(kind: EscapeKind) -> Mode
+/// Where a content is that begins, by the kind of its escape scheme.
+pub fn first_mode(kind: EscapeKind) -> Mode
     ensures { result ≡ first_mode kind }
 {
     match kind {

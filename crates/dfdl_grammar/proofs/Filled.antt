@@ -1,16 +1,17 @@
 -- Where a row is done, the elements that began in it are read.
-use Rattle.std.proofs.Common.{◌≡◌, ℕ, zero, suc, ◌+◌, ◌*◌, ◌/◌, ◌<◌, ◌≤◌, ◌⊎◌, inl, inr, refl, List, [], ◌∷◌, ◌++◌, length, take, Bool, true, false, cond, ◌-◌, nat_eq, nat_lt, Option, Some, None, All, nat_le, ap, sym, subst, ◌∙◌, arith}
+use Rattle.std.proofs.Common.{◌≡◌, ℕ, zero, suc, ◌+◌, ◌*◌, ◌/◌, ◌<◌, ◌≤◌, ◌⊎◌, inl, inr, refl, List, [], ◌∷◌, ◌++◌, length, take, Bool, true, false, cond, ◌-◌, nat_eq, nat_lt, Option, Some, None, All, nat_le, ap, sym, subst, ◌∙◌, arith, replicate}
 use Rattle.std.specs.Prelude.{slice_get}
 use Rattle.std.proofs.lemmas.Option.{get_or_from_slice_get, slice_get_within}
 use Rattle.dfdl_bits.specs.declared.window.Seen.{Seen}
 use Rattle.dfdl_report.specs.declared.cause.ParseCause.TheVariants.{LengthOutOfRange}
 use Rattle.dfdl_report.specs.declared.cause.LimitCause.TheVariants.{Nodes, Text as TextLimit}
 use Rattle.dfdl_forms.specs.declared.simple.Simple.{Simple}
+use Rattle.dfdl_terms.specs.declared.delimiters.Delimiters.{Delimiters}
 use Rattle.dfdl_terms.specs.declared.representations.Representations.{Representations}
 use Rattle.dfdl_value.specs.declared.value.Value.{Value}
 use Rattle.dfdl_terms.specs.declared.row.Primitive.{Primitive}
 use Rattle.dfdl_terms.specs.declared.row.Row.{Row}
-use Rattle.dfdl_terms.specs.declared.row.Row.TheVariants.{Leaf, Elem, Group, Skip, Align, Initiator, Terminator, Scope, Boxed, PrefixedLeaf, PrefixedBox}
+use Rattle.dfdl_terms.specs.declared.row.Row.TheVariants.{Leaf, Elem, Group, Skip, Align, Initiator, Terminator, Separator, Scope, Boxed, PrefixedLeaf, PrefixedBox, Repeat}
 use Rattle.dfdl_terms.specs.Leaves.{ReadsBy, leaf as by_leaf, prefixed as by_prefix, grouped, scoped as scoped_reads}
 use Rattle.dfdl_terms.specs.Rows.{AreWithin, IsWithin, NamesWithin, Nests, Table, named_by}
 use Rattle.dfdl_region.specs.declared.node.Content.{Content}
@@ -30,7 +31,7 @@ use Rattle.dfdl_grammar.specs.Documents.{front_at}
 use Rattle.dfdl_grammar.specs.Outcomes.{Outcome, ended, follow, spend, then_do}
 use Rattle.dfdl_grammar.specs.Leaves.{Find, Fails, Finds, FindsOctets, FindsText, content_begins, has_room, land, leaf, nil_values, program_for, read_by, reading_prim, values_in}
 use Rattle.dfdl_grammar.specs.Framing.{aligned, fill_to, has_byte, passed}
-use Rattle.dfdl_grammar.specs.Delimiters.{closes_to, opens, scoped, unscoped}
+use Rattle.dfdl_grammar.specs.Delimiters.{closes_to, lists_of, markup, opens, scoped, unscoped}
 use Rattle.dfdl_grammar.specs.Boxes.{boxed, boxed_at, bytes_up_to, pass_bytes, past_byte, rest as rest_of, unboxed}
 use Rattle.dfdl_grammar.specs.Elements.{attempted, begun, close, element, left}
 use Rattle.dfdl_grammar.specs.Prefixes.{bits_of_units, leaf_of, prefixed, prefixed_leaf, resized, size_of, sized_leaf}
@@ -43,7 +44,7 @@ use Rattle.dfdl_grammar.proofs.Going.{below-goes, tried-returns, tried-stays}
 use Rattle.dfdl_grammar.proofs.Grown.{Ends, Goes, Stays}
 use Rattle.dfdl_grammar.proofs.Prefixed.{prefixed-comes}
 use Rattle.dfdl_grammar.proofs.Represented.{IsOk, marked_by, represented-comes}
-use Rattle.dfdl_grammar.proofs.Sought.{initiator-comes, terminator-comes}
+use Rattle.dfdl_grammar.proofs.Sought.{initiator-comes, separator-comes, terminator-comes}
 
 -- a primitive of so many
 there_is : (primitives : List Primitive) (prim : ℕ) → prim < length primitives → (primitive : Primitive) × (slice_get primitives prim ≡ Some primitive)
@@ -113,58 +114,58 @@ module _ (input : Input) (table : Table) (leaves : HasLeaves table) where
   land-reads first TooFar s read here done = absurd (cc)
   land-reads first Missing s read here done = absurd (here refl)
 
-  room-reads : (nil : Option (List Value)) (primitive : Primitive) (s : State) (room : Bool)
+  room-reads : (delimiters : List Delimiters) (nil : Option (List Value)) (primitive : Primitive) (s : State) (room : Bool)
       → (cond room
-      (let reading = ask (seen_in input.bytes input.limits.window (anchor s)) (program_for nil primitive s.at s.stop) nothing in
+      (let reading = ask (seen_in input.bytes input.limits.window (anchor s)) (program_for nil (lists_of delimiters (markup s)) primitive s.at s.stop) nothing in
       spend (needs_from (anchor s) reading.tally) (land input.limits (content_begins primitive s.at) reading.reached s))
       (ended (Failed LengthOutOfRange s.at) s)).end ≡ Done
       → IsRead s (cond room
-      (let reading = ask (seen_in input.bytes input.limits.window (anchor s)) (program_for nil primitive s.at s.stop) nothing in
+      (let reading = ask (seen_in input.bytes input.limits.window (anchor s)) (program_for nil (lists_of delimiters (markup s)) primitive s.at s.stop) nothing in
       spend (needs_from (anchor s) reading.tally) (land input.limits (content_begins primitive s.at) reading.reached s))
       (ended (Failed LengthOutOfRange s.at) s)).state
-  room-reads nil primitive s true done =
-      let a : Ask Find = program_for nil primitive s.at s.stop in
+  room-reads delimiters nil primitive s true done =
+      let a : Ask Find = program_for nil (lists_of delimiters (markup s)) primitive s.at s.stop in
       let look : ℕ → Seen = seen_in input.bytes input.limits.window (anchor s) in
       land-reads (content_begins primitive s.at) (ask look a nothing).reached s
-      (λ content end is. value-for look nil primitive s.at s.stop content end is)
+      (λ content end is. value-for look nil (lists_of delimiters (markup s)) primitive s.at s.stop content end is)
       (λ missing. whole-told input.bytes input.limits.window (anchor s) a nothing missing) done
-  room-reads nil primitive s false done = absurd (cc)
+  room-reads delimiters nil primitive s false done = absurd (cc)
 
-  leaf-reads : (nil : Option (List Value)) (primitive : Primitive) → Reads (leaf input nil (Some primitive))
-  leaf-reads nil primitive s done = room-reads nil primitive s (has_room primitive s.at s.stop) done
+  leaf-reads : (delimiters : List Delimiters) (nil : Option (List Value)) (primitive : Primitive) → Reads (leaf input delimiters nil (Some primitive))
+  leaf-reads delimiters nil primitive s done = room-reads delimiters nil primitive s (has_room primitive s.at s.stop) done
 
-  leaf-fills : (nil : Option (List Value)) (primitive : Option Primitive) → Fills (leaf input nil primitive)
-  leaf-fills nil None s done = fine s
-  leaf-fills nil (Some primitive) s done = (leaf-reads nil primitive s done).fine
+  leaf-fills : (delimiters : List Delimiters) (nil : Option (List Value)) (primitive : Option Primitive) → Fills (leaf input delimiters nil primitive)
+  leaf-fills delimiters nil None s done = fine s
+  leaf-fills delimiters nil (Some primitive) s done = (leaf-reads delimiters nil primitive s done).fine
 
   -- a leaf of another size
-  of-reads : (nil : Option (List Value)) (primitive : Option Primitive) → Reads (leaf_of input nil primitive)
-  of-reads nil None s done = absurd (cc)
-  of-reads nil (Some primitive) s done = leaf-reads nil primitive s done
+  of-reads : (delimiters : List Delimiters) (nil : Option (List Value)) (primitive : Option Primitive) → Reads (leaf_of input delimiters nil primitive)
+  of-reads delimiters nil None s done = absurd (cc)
+  of-reads delimiters nil (Some primitive) s done = leaf-reads delimiters nil primitive s done
 
-  sized-reads : (nil : Option (List Value)) (primitive : Primitive) (size : TextSize) → Reads (sized_leaf input nil (Some primitive) size)
-  sized-reads nil primitive size s done = of-reads nil (resized size primitive) s done
+  sized-reads : (delimiters : List Delimiters) (nil : Option (List Value)) (primitive : Primitive) (size : TextSize) → Reads (sized_leaf input delimiters nil (Some primitive) size)
+  sized-reads delimiters nil primitive size s done = of-reads delimiters nil (resized size primitive) s done
 
-  sized-fills : (nil : Option (List Value)) (primitive : Option Primitive) (size : TextSize) → Fills (sized_leaf input nil primitive size)
-  sized-fills nil None size s done = fine s
-  sized-fills nil (Some primitive) size s done = (sized-reads nil primitive size s done).fine
+  sized-fills : (delimiters : List Delimiters) (nil : Option (List Value)) (primitive : Option Primitive) (size : TextSize) → Fills (sized_leaf input delimiters nil primitive size)
+  sized-fills delimiters nil None size s done = fine s
+  sized-fills delimiters nil (Some primitive) size s done = (sized-reads delimiters nil primitive size s done).fine
 
   -- a prefix, and what it tells the size of
-  prefixed-fills : (by : Option Primitive) (own : ℕ) (next : ℕ → State → Outcome) → ((units : ℕ) → Fills (next units)) → Fills (prefixed input by own next)
-  prefixed-fills by own next fills s =
+  prefixed-fills : (delimiters : List Delimiters) (by : Option Primitive) (own : ℕ) (next : ℕ → State → Outcome) → ((units : ℕ) → Fills (next units)) → Fills (prefixed input delimiters by own next)
+  prefixed-fills delimiters by own next fills s =
       prefixed-comes (λ (e : End) (t : State). e ≡ Done → Fine s t) s (λ cause bit done. absurd (cc)) (λ cause quantity done. absurd (cc)) next
       (λ units at done.
       let after : State = record s { at = at } in
       both s after (next units after).state (moved s at s.stop) (fills units after done))
-      input by own
+      input delimiters by own
 
-  prefixed-reads : (by : Option Primitive) (own : ℕ) (next : ℕ → State → Outcome) → ((units : ℕ) → Reads (next units)) → Reads (prefixed input by own next)
-  prefixed-reads by own next reads s =
+  prefixed-reads : (delimiters : List Delimiters) (by : Option Primitive) (own : ℕ) (next : ℕ → State → Outcome) → ((units : ℕ) → Reads (next units)) → Reads (prefixed input delimiters by own next)
+  prefixed-reads delimiters by own next reads s =
       prefixed-comes (λ (e : End) (t : State). e ≡ Done → IsRead s t) s (λ cause bit done. absurd (cc)) (λ cause quantity done. absurd (cc)) next
       (λ units at done.
       let after : State = record s { at = at } in
       read_behind s after (next units after).state (moved s at s.stop) (reads units after done))
-      input by own
+      input delimiters by own
 
   passed-fills : (to : ℕ) (reached : Reached Bool) (s : State) → (passed input.limits.window to reached s).end ≡ Done
       → Fine s (passed input.limits.window to reached s).state
@@ -354,18 +355,18 @@ module _ (input : Input) (table : Table) (leaves : HasLeaves table) where
     reads-below n fills _ less (by_leaf id prim row_is prim_is) s known done =
         let nil : Option (List Value) = nil_values table.primitives s.instead in
         let there = used_is s.instead prim known prim_is in
-        let same : below input table n id s ≡ spend one_row (leaf input nil (Some there.0) s) =
-        row-below n id (Some (Leaf prim)) less row_is s ∙ ap (λ (p : Option Primitive). spend one_row (leaf input nil p s)) there.1 in
-        subst (λ (o : Outcome). IsRead s o.state) (sym same) (leaf-reads nil there.0 s (ap (λ (o : Outcome). o.end) (sym same) ∙ done))
+        let same : below input table n id s ≡ spend one_row (leaf input table.delimiters nil (Some there.0) s) =
+        row-below n id (Some (Leaf prim)) less row_is s ∙ ap (λ (p : Option Primitive). spend one_row (leaf input table.delimiters nil p s)) there.1 in
+        subst (λ (o : Outcome). IsRead s o.state) (sym same) (leaf-reads table.delimiters nil there.0 s (ap (λ (o : Outcome). o.end) (sym same) ∙ done))
     reads-below n fills _ less (by_prefix id prim prefix row_is prim_is) s known done =
         let by : Option Primitive = slice_get table.primitives prefix.prim in
         let nil : Option (List Value) = nil_values table.primitives s.instead in
         let there = used_is s.instead prim known prim_is in
-        let same : below input table n id s ≡ spend one_row (prefixed_leaf input by prefix nil (Some there.0) s) =
-        row-below n id (Some (PrefixedLeaf prefix prim)) less row_is s ∙ ap (λ (p : Option Primitive). spend one_row (prefixed_leaf input by prefix nil p s)) there.1 in
+        let same : below input table n id s ≡ spend one_row (prefixed_leaf input table.delimiters by prefix nil (Some there.0) s) =
+        row-below n id (Some (PrefixedLeaf prefix prim)) less row_is s ∙ ap (λ (p : Option Primitive). spend one_row (prefixed_leaf input table.delimiters by prefix nil p s)) there.1 in
         subst (λ (o : Outcome). IsRead s o.state) (sym same)
-        (prefixed-reads by prefix.own (λ units after. sized_leaf input nil (Some there.0) (size_of prefix.unit units) after)
-        (λ units. sized-reads nil there.0 (size_of prefix.unit units)) s (ap (λ (o : Outcome). o.end) (sym same) ∙ done))
+        (prefixed-reads table.delimiters by prefix.own (λ units after. sized_leaf input table.delimiters nil (Some there.0) (size_of prefix.unit units) after)
+        (λ units. sized-reads table.delimiters nil there.0 (size_of prefix.unit units)) s (ap (λ (o : Outcome). o.end) (sym same) ∙ done))
     reads-below n fills _ less (grouped id at child children row_is at_is inner) s known done =
         let same : below input table n id s ≡ spend one_row (group (below input table id) children s) = row-below n id (Some (Group children)) less row_is s in
         let all : All (λ c. c < id) children = nests id (Group children) (slice_get_within table.rows id (Group children) row_is) row_is in
@@ -392,7 +393,7 @@ module _ (input : Input) (table : Table) (leaves : HasLeaves table) where
     row-fills : (id : ℕ) → FillBelow id → (r : Option Row) → slice_get table.rows id ≡ r → Fills (row input table (below input table id) id r)
     row-fills id fills None is s done = fine s
     row-fills id fills (Some (Leaf prim)) is s done =
-        leaf-fills (nil_values table.primitives s.instead) (slice_get table.primitives (read_by table.primitives s.instead prim)) s done
+        leaf-fills table.delimiters (nil_values table.primitives s.instead) (slice_get table.primitives (read_by table.primitives s.instead prim)) s done
     row-fills id fills (Some (Elem name None tried body)) is s done =
         let within : AreWithin (length table.primitives) tried = tried-within id name None tried body is in
         element-fills id true tried (below input table id body) (below-goes input table id body)
@@ -413,21 +414,25 @@ module _ (input : Input) (table : Table) (leaves : HasLeaves table) where
     row-fills id fills (Some (Initiator delimiter)) is s done =
         initiator-comes (λ (e : End) (t : State). e ≡ Done → Fine s t) s (λ over. fine s) (λ at over. moved s at s.stop) (λ cause over. absurd (cc))
         (λ cause quantity over. absurd (cc)) input table.delimiters delimiter done
-    row-fills id fills (Some (Terminator delimiter)) is s done =
+    row-fills id fills (Some (Terminator delimiter separators)) is s done =
         terminator-comes (λ (e : End) (t : State). e ≡ Done → Fine s t) s (λ over. fine s) (λ at over. moved s at s.stop) (λ cause over. absurd (cc))
-        (λ cause quantity over. absurd (cc)) input table.delimiters delimiter done
+        (λ cause quantity over. absurd (cc)) input table.delimiters delimiter separators done
+    row-fills id fills (Some Separator) is s done =
+        separator-comes (λ (e : End) (t : State). e ≡ Done → Fine s t) s (λ over. fine s) (λ at over. moved s at s.stop) (λ cause over. absurd (cc))
+        (λ cause quantity over. absurd (cc)) input table.delimiters done
     row-fills id fills (Some (Scope list body)) is s done = scoped-fills list (below input table id body) (fills id (omega arith) body) s done
     row-fills id fills (Some (Boxed bits body)) is s done =
         boxed-fills bits (below input table id body) (fills id (omega arith) body) s (nat_le (s.at + bits) s.stop) done
     row-fills id fills (Some (PrefixedLeaf prefix prim)) is s done =
         let nil : Option (List Value) = nil_values table.primitives s.instead in
         let primitive : Option Primitive = slice_get table.primitives (read_by table.primitives s.instead prim) in
-        prefixed-fills (slice_get table.primitives prefix.prim) prefix.own
-        (λ units after. sized_leaf input nil primitive (size_of prefix.unit units) after)
-        (λ units. sized-fills nil primitive (size_of prefix.unit units)) s done
+        prefixed-fills table.delimiters (slice_get table.primitives prefix.prim) prefix.own
+        (λ units after. sized_leaf input table.delimiters nil primitive (size_of prefix.unit units) after)
+        (λ units. sized-fills table.delimiters nil primitive (size_of prefix.unit units)) s done
+    row-fills id fills (Some (Repeat count body)) is s done = group-fills (below input table id) (λ i. fills id (omega arith) i) (replicate count body) s done
     row-fills id fills (Some (PrefixedBox prefix body)) is s done =
         let inner : State → Outcome = below input table id body in
-        prefixed-fills (slice_get table.primitives prefix.prim) prefix.own
+        prefixed-fills table.delimiters (slice_get table.primitives prefix.prim) prefix.own
         (λ units after. boxed input (bits_of_units prefix.unit units) inner after)
         (λ units after. boxed-fills (bits_of_units prefix.unit units) inner (fills id (omega arith) body) after
         (nat_le (after.at + bits_of_units prefix.unit units) after.stop)) s done

@@ -18,15 +18,21 @@ use Rattle.dfdl_terms.specs.declared.row.Primitive.{Primitive}
 use Rattle.dfdl_terms.specs.declared.row.Primitive.TheVariants.{Integer, Packed, Truth, Octets, Text as Characters, NilOctets, Default, NilValues, Pattern}
 use Rattle.dfdl_region.specs.declared.node.Content.{Content}
 use Rattle.dfdl_region.specs.declared.node.Content.TheVariants.{Begun}
-use Rattle.dfdl_terms.specs.declared.text.DefaultForm.{DefaultForm}
 use Rattle.dfdl_terms.specs.declared.text.NilForm.{NilForm}
 use Rattle.dfdl_terms.specs.declared.text.OctetForm.{OctetForm}
 use Rattle.dfdl_terms.specs.declared.text.PatternForm.{PatternForm}
 use Rattle.dfdl_terms.specs.declared.text.TextContent.{TextContent}
-use Rattle.dfdl_terms.specs.declared.text.TextContent.TheVariants.{Plain, Number, Zoned, Truth as TextTruth, Nil}
+use Rattle.dfdl_terms.specs.declared.text.TextContent.TheVariants.{Plain, Octets as TextOctets, Number, Zoned, Truth as TextTruth, Nil}
 use Rattle.dfdl_terms.specs.declared.text.TextForm.{TextForm}
 use Rattle.dfdl_terms.specs.declared.text.TextSize.{TextSize}
-use Rattle.dfdl_terms.specs.declared.text.TextSize.TheVariants.{Bits, Characters as Counted}
+use Rattle.dfdl_terms.specs.declared.text.TextSize.TheVariants.{Bits, Characters as Counted, Delimited}
+use Rattle.dfdl_forms.specs.declared.encoding.Encoding.TheVariants.{Iso88591}
+use Rattle.dfdl_chars.specs.Encodings.{encoded_text}
+use Rattle.dfdl_delims.specs.Lists.{Opened}
+use Rattle.dfdl_escapes.specs.Contents.{Content as DelimitedContent}
+use Rattle.dfdl_escapes.specs.Steps.{Step}
+use Rattle.dfdl_escapes.specs.Steps as steps
+use Rattle.dfdl_escapes.specs.Trims.{trimmed_content}
 use Rattle.dfdl_texts.specs.Texts.{Text as TextRead, Reads as DoesRead, HasBad, IsCut, IsBoxed, text_at}
 use Rattle.dfdl_texts.specs.declared.extent.Extent.TheVariants as extent
 use Rattle.dfdl_text_string.specs.Padding.{trimmed}
@@ -36,7 +42,8 @@ use Rattle.dfdl_looks.specs.Looks.{seen_in}
 use Rattle.dfdl_looks.specs.Tallies.{Tally, nothing, saw_byte, saw_end}
 use Rattle.dfdl_looks.proofs.Resumed.{on_seen}
 use Rattle.dfdl_looks.proofs.Sequels.{ask-then}
-use Rattle.dfdl_grammar.specs.Leaves.{Find, Fails, Finds, FindsOctets, FindsText, bits_of, bytes_spanned, content_find, default_find, field, find_in, find_of, is_no_size, nil_find, nil_octets_find, nil_value_find, is_bytes, is_text, is_value, number_find, pattern_find, octets, packed_find, program, program_for, text_begins, text_behind, text_find, text_of_size, text_sought, truth_find}
+use Rattle.dfdl_grammar.specs.Leaves.{Find, Fails, Finds, FindsOctets, FindsText, bits_of, bytes_spanned, content_find, default_by_step, default_find, default_of_size, delimited_find, field, find_in, find_of, is_no_size, nil_find, nil_octets_find, nil_value_find, is_bytes, is_text, is_value, number_find, pattern_find, octets, octets_find, packed_find, program, program_for, text_begins, text_behind, text_find, text_of_size, text_sought, truth_find, unless_broken}
+use Rattle.dfdl_grammar.specs.Delimited.{first_step, plain, scanned}
 use Rattle.dfdl_grammar.specs.Framing.{aligned}
 use Rattle.dfdl_grammar.specs.Nils.{are_nil, is_nil}
 use Rattle.std.specs.List.{list_any}
@@ -98,9 +105,15 @@ default_read bit (Text text) content n is unread = absurd (cc)
 default_read bit (TruthValue truth) content n is unread = absurd (cc)
 default_read bit (Bytes bytes) content n is unread = absurd (cc)
 
+-- the bytes of a hexBinary are no value of a number
+octets_read : (end : ℕ) (r : Option (List ℕ)) (content : Content) (n : ℕ) → octets_find end r ≡ Finds content n → content ≡ Begun → ⊥
+octets_read end (Some bytes) content n is unread = absurd (cc)
+octets_read end None content n is unread = absurd (cc)
+
 -- nor is what characters are found as
 content_read : (read : TextContent) (chars : List ℕ) (end : ℕ) (content : Content) (n : ℕ) → content_find read chars end ≡ Finds content n → content ≡ Begun → ⊥
 content_read Plain chars end content n is unread = absurd (cc)
+content_read TextOctets chars end content n is unread = octets_read end (encoded_text Iso88591 chars) content n is unread
 content_read (Number form kind) chars end content n is unread = number_read end (number_reading form kind chars) content n is unread
 content_read (Zoned form) chars end content n is unread = packed_read end (zoned_reading form chars) content n is unread
 content_read (TextTruth form) chars end content n is unread = truth_read end (truth_of form chars) content n is unread
@@ -167,12 +180,43 @@ boxed_value form bit first end look content to true is unread =
     then_value form bit look content to (text_at form.encoding form.replaces extent.Box end (first / 8)) is unread
 boxed_value form bit first end look content to false is unread = absurd (cc)
 
-sized_value : (form : TextForm) (size : TextSize) (bit stop : ℕ) (look : ℕ → Seen) (content : Content) (to : ℕ)
-    → (ask look (text_of_size form size bit stop) nothing).reached ≡ Told (Finds content to) → content ≡ Begun → ⊥
-sized_value form (Bits n) bit stop look content to is unread =
+-- so is what is found of a content that markup ends
+delimited_read : (form : TextForm) (found : DelimitedContent) (ends : Step) (content : Content) (n : ℕ)
+    → unless_broken ends (content_find form.content (plain (trimmed_content form.pad found.characters)) (8 * found.last.byte)) ≡ Finds content n
+    → content ≡ Begun → ⊥
+delimited_read form found (steps.Takes c escaped next) content n is unread =
+    content_read form.content (plain (trimmed_content form.pad found.characters)) (8 * found.last.byte) content n is unread
+delimited_read form found (steps.Passes next) content n is unread =
+    content_read form.content (plain (trimmed_content form.pad found.characters)) (8 * found.last.byte) content n is unread
+delimited_read form found (steps.Closes which) content n is unread =
+    content_read form.content (plain (trimmed_content form.pad found.characters)) (8 * found.last.byte) content n is unread
+delimited_read form found steps.RunsOut content n is unread =
+    content_read form.content (plain (trimmed_content form.pad found.characters)) (8 * found.last.byte) content n is unread
+delimited_read form found (steps.Fails cause) content n is unread = absurd (cc)
+
+delimited_value : (form : TextForm) (look : ℕ → Seen) (content : Content) (to : ℕ) (r : Reached DelimitedContent) (t : Tally)
+    → (go_on look (λ (found : DelimitedContent). Answer (delimited_find form found)) r t).reached ≡ Told (Finds content to) → content ≡ Begun → ⊥
+delimited_value form look content to (Told found) t is unread =
+    delimited_read form found found.ends content to (told_one (delimited_find form found) (Finds content to) is) unread
+delimited_value form look content to TooFar t is unread = absurd (cc)
+delimited_value form look content to Missing t is unread = absurd (cc)
+
+then_delimited : (form : TextForm) (look : ℕ → Seen) (content : Content) (to : ℕ) (a : Ask DelimitedContent)
+    → (ask look (and_then a (λ (found : DelimitedContent). Answer (delimited_find form found))) nothing).reached ≡ Told (Finds content to)
+    → content ≡ Begun → ⊥
+then_delimited form look content to a is unread =
+    let whole = ask-then look (λ (found : DelimitedContent). Answer (delimited_find form found)) a nothing in
+    delimited_value form look content to (ask look a nothing).reached (ask look a nothing).tally
+    (sym (ap (λ (r : Reading Find). r.reached) whole) ∙ is) unread
+
+sized_value : (form : TextForm) (size : TextSize) (lists : List Opened) (bit stop : ℕ) (look : ℕ → Seen) (content : Content) (to : ℕ)
+    → (ask look (text_of_size form size lists bit stop) nothing).reached ≡ Told (Finds content to) → content ≡ Begun → ⊥
+sized_value form (Bits n) lists bit stop look content to is unread =
     let first : ℕ = text_begins form.content (Bits n) bit in
     boxed_value form bit first (bit + n) look content to (nat_eq ((bit + n - first) % 8) 0) is unread
-sized_value form (Counted n) bit stop look content to is unread =
+sized_value form (Delimited scan) lists bit stop look content to is unread =
+    then_delimited form look content to (scanned lists scan bit stop) is unread
+sized_value form (Counted n) lists bit stop look content to is unread =
     then_value form bit look content to (text_at form.encoding form.replaces (extent.Characters n) stop (aligned 8 bit / 8)) is unread
 
 -- what is found of bytes that have to be nil is nil
@@ -197,11 +241,40 @@ then_nil_octets form look content to a is unread =
     (sym (ap (λ (r : Reading Find). r.reached) whole) ∙ is) unread
 
 -- and what is found of no bits is a value
-default_value : (form : DefaultForm) (bit : ℕ) (look : ℕ → Seen) (content : Content) (to : ℕ) (none : Bool)
-    → (ask look (Answer (cond none (default_find bit form.value) (Fails RequiredEmpty))) nothing).reached ≡ Told (Finds content to) → content ≡ Begun → ⊥
-default_value form bit look content to true is unread =
-    default_read bit form.value content to (told_one (default_find bit form.value) (Finds content to) is) unread
-default_value form bit look content to false is unread = absurd (cc)
+default_value : (v : Value) (bit : ℕ) (look : ℕ → Seen) (content : Content) (to : ℕ) (none : Bool)
+    → (ask look (Answer (cond none (default_find bit v) (Fails RequiredEmpty))) nothing).reached ≡ Told (Finds content to) → content ≡ Begun → ⊥
+default_value v bit look content to true is unread =
+    default_read bit v content to (told_one (default_find bit v) (Finds content to) is) unread
+default_value v bit look content to false is unread = absurd (cc)
+
+-- so is what is found of a content without bits that its first step ends
+step_read : (v : Value) (bit : ℕ) (step : Step) (content : Content) (n : ℕ) → default_by_step v bit step ≡ Finds content n → content ≡ Begun → ⊥
+step_read v bit (steps.Takes c escaped next) content n is unread = absurd (cc)
+step_read v bit (steps.Passes next) content n is unread = absurd (cc)
+step_read v bit (steps.Closes which) content n is unread = default_read bit v content n is unread
+step_read v bit steps.RunsOut content n is unread = default_read bit v content n is unread
+step_read v bit (steps.Fails cause) content n is unread = absurd (cc)
+
+step_value : (v : Value) (bit : ℕ) (look : ℕ → Seen) (content : Content) (to : ℕ) (r : Reached Step) (t : Tally)
+    → (go_on look (λ (step : Step). Answer (default_by_step v bit step)) r t).reached ≡ Told (Finds content to) → content ≡ Begun → ⊥
+step_value v bit look content to (Told step) t is unread =
+    step_read v bit step content to (told_one (default_by_step v bit step) (Finds content to) is) unread
+step_value v bit look content to TooFar t is unread = absurd (cc)
+step_value v bit look content to Missing t is unread = absurd (cc)
+
+then_step : (v : Value) (bit : ℕ) (look : ℕ → Seen) (content : Content) (to : ℕ) (a : Ask Step)
+    → (ask look (and_then a (λ (step : Step). Answer (default_by_step v bit step))) nothing).reached ≡ Told (Finds content to) → content ≡ Begun → ⊥
+then_step v bit look content to a is unread =
+    let whole = ask-then look (λ (step : Step). Answer (default_by_step v bit step)) a nothing in
+    step_value v bit look content to (ask look a nothing).reached (ask look a nothing).tally
+    (sym (ap (λ (r : Reading Find). r.reached) whole) ∙ is) unread
+
+default_sized : (v : Value) (lists : List Opened) (size : TextSize) (bit stop : ℕ) (look : ℕ → Seen) (content : Content) (to : ℕ)
+    → (ask look (default_of_size v lists size bit stop) nothing).reached ≡ Told (Finds content to) → content ≡ Begun → ⊥
+default_sized v lists (Bits n) bit stop look content to is unread = default_value v bit look content to (is_no_size (Bits n)) is unread
+default_sized v lists (Counted n) bit stop look content to is unread = default_value v bit look content to (is_no_size (Counted n)) is unread
+default_sized v lists (Delimited scan) bit stop look content to is unread =
+    then_step v (aligned 8 bit) look content to (first_step lists scan bit stop) is unread
 
 -- the number of bytes that a pattern matches is one
 pattern_value : (form : PatternForm) (first : ℕ) (look : ℕ → Seen) (content : Content) (to : ℕ) (r : Reached TextRead) (t : Tally)
@@ -222,18 +295,18 @@ then_pattern form first look content to a is unread =
     (sym (ap (λ (r : Reading Find). r.reached) whole) ∙ is) unread
 
 -- what a leaf finds is a value, if it is no bytes
-value : (look : ℕ → Seen) (primitive : Primitive) (bit stop : ℕ) (content : Content) (to : ℕ)
-    → (ask look (program primitive bit stop) nothing).reached ≡ Told (Finds content to) → content ≡ Begun → ⊥
-value look (Integer form) bit stop content to is unread = field_value look (Integer form) bit content to is unread
-value look (Packed form) bit stop content to is unread = field_value look (Packed form) bit content to is unread
-value look (Truth form) bit stop content to is unread = field_value look (Truth form) bit content to is unread
-value look (Octets form) bit stop content to is unread =
+value : (look : ℕ → Seen) (lists : List Opened) (primitive : Primitive) (bit stop : ℕ) (content : Content) (to : ℕ)
+    → (ask look (program lists primitive bit stop) nothing).reached ≡ Told (Finds content to) → content ≡ Begun → ⊥
+value look lists (Integer form) bit stop content to is unread = field_value look (Integer form) bit content to is unread
+value look lists (Packed form) bit stop content to is unread = field_value look (Packed form) bit content to is unread
+value look lists (Truth form) bit stop content to is unread = field_value look (Truth form) bit content to is unread
+value look lists (Octets form) bit stop content to is unread =
     octets_value look form bit content to (nat_eq form.bits 0) (nat_eq (form.bits % 8) 0) is unread
-value look (Characters form) bit stop content to is unread = sized_value form form.size bit stop look content to is unread
-value look (NilOctets form) bit stop content to is unread = then_nil_octets form.nil look content to (octets form.octets bit) is unread
-value look (Default form) bit stop content to is unread = default_value form bit look content to (is_no_size form.size) is unread
-value look (NilValues form) bit stop content to is unread = absurd (cc)
-value look (Pattern form) bit stop content to is unread =
+value look lists (Characters form) bit stop content to is unread = sized_value form form.size lists bit stop look content to is unread
+value look lists (NilOctets form) bit stop content to is unread = then_nil_octets form.nil look content to (octets form.octets bit) is unread
+value look lists (Default form) bit stop content to is unread = default_sized form.value lists form.size bit stop look content to is unread
+value look lists (NilValues form) bit stop content to is unread = absurd (cc)
+value look lists (Pattern form) bit stop content to is unread =
     then_pattern form bit look content to (text_sought form (aligned 8 bit) stop) is unread
 
 -- so is what has to be one of some values
@@ -250,11 +323,11 @@ nil_value_value values look content to (Told find) t is unread =
 nil_value_value values look content to TooFar t is unread = absurd (cc)
 nil_value_value values look content to Missing t is unread = absurd (cc)
 
-pub value-for : (look : ℕ → Seen) (nil : Option (List Value)) (primitive : Primitive) (bit stop : ℕ) (content : Content) (to : ℕ)
-    → (ask look (program_for nil primitive bit stop) nothing).reached ≡ Told (Finds content to) → content ≡ Begun → ⊥
-value-for look None primitive bit stop content to is unread = value look primitive bit stop content to is unread
-value-for look (Some values) primitive bit stop content to is unread =
-    let a : Ask Find = program primitive bit stop in
+pub value-for : (look : ℕ → Seen) (nil : Option (List Value)) (lists : List Opened) (primitive : Primitive) (bit stop : ℕ) (content : Content) (to : ℕ)
+    → (ask look (program_for nil lists primitive bit stop) nothing).reached ≡ Told (Finds content to) → content ≡ Begun → ⊥
+value-for look None lists primitive bit stop content to is unread = value look lists primitive bit stop content to is unread
+value-for look (Some values) lists primitive bit stop content to is unread =
+    let a : Ask Find = program lists primitive bit stop in
     let whole = ask-then look (λ (find : Find). Answer (nil_value_find values find)) a nothing in
     nil_value_value values look content to (ask look a nothing).reached (ask look a nothing).tally
     (sym (ap (λ (r : Reading Find). r.reached) whole) ∙ is) unread

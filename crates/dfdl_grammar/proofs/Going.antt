@@ -1,15 +1,16 @@
 -- What rows do is added to what was there, but for the content of the open element. So going back to a mark gives what was there.
-use Rattle.std.proofs.Common.{◌≡◌, inl, inr, ℕ, zero, suc, ◌+◌, ◌-◌, ◌*◌, ◌/◌, refl, List, [], ◌∷◌, ◌++◌, length, take, Bool, true, false, cond, nat_eq, nat_le, nat_lt, Option, Some, None, ap, sym, subst, ◌∙◌, arith, append-nil}
+use Rattle.std.proofs.Common.{◌≡◌, inl, inr, ℕ, zero, suc, ◌+◌, ◌-◌, ◌*◌, ◌/◌, refl, List, [], ◌∷◌, ◌++◌, length, take, Bool, true, false, cond, nat_eq, nat_le, nat_lt, Option, Some, None, ap, sym, subst, ◌∙◌, arith, append-nil, replicate}
 use Rattle.std.proofs.Math.Seq.{take-append_seam}
 use Rattle.std.specs.Prelude.{slice_get}
 use Rattle.dfdl_report.specs.declared.cause.LimitCause.TheVariants.{Nodes, Text as TextLimit}
 use Rattle.dfdl_report.specs.declared.cause.ParseCause.{ParseCause}
 use Rattle.dfdl_report.specs.declared.cause.ParseCause.TheVariants.{LengthOutOfRange, RequiredEmpty}
+use Rattle.dfdl_terms.specs.declared.delimiters.Delimiters.{Delimiters}
 use Rattle.dfdl_terms.specs.declared.representations.Representations.{Representations}
 use Rattle.dfdl_value.specs.declared.value.Value.{Value}
 use Rattle.dfdl_terms.specs.declared.row.Primitive.{Primitive}
 use Rattle.dfdl_terms.specs.declared.row.Row.{Row}
-use Rattle.dfdl_terms.specs.declared.row.Row.TheVariants.{Leaf, Elem, Group, Skip, Align, Initiator, Terminator, Scope, Boxed, PrefixedLeaf, PrefixedBox}
+use Rattle.dfdl_terms.specs.declared.row.Row.TheVariants.{Leaf, Elem, Group, Skip, Align, Initiator, Terminator, Separator, Scope, Boxed, PrefixedLeaf, PrefixedBox, Repeat}
 use Rattle.dfdl_terms.specs.declared.text.TextSize.{TextSize}
 use Rattle.dfdl_terms.specs.Rows.{Table}
 use Rattle.dfdl_region.specs.declared.node.Node.{Node}
@@ -29,14 +30,14 @@ use Rattle.dfdl_grammar.specs.Outcomes.{Outcome, ended, follow, spend, then_do}
 use Rattle.dfdl_grammar.specs.Marks.{back, closed, marked, outer_marks}
 use Rattle.dfdl_grammar.specs.Leaves.{Find, Fails, Finds, FindsOctets, FindsText, content_begins, has_room, land, leaf, nil_values, program_for, read_by}
 use Rattle.dfdl_grammar.specs.Framing.{aligned, fill_to, has_byte, passed}
-use Rattle.dfdl_grammar.specs.Delimiters.{closes_to, opens, scoped, unscoped}
+use Rattle.dfdl_grammar.specs.Delimiters.{closes_to, lists_of, markup, opens, scoped, unscoped}
 use Rattle.dfdl_grammar.specs.Boxes.{boxed, boxed_at, bytes_up_to, pass_bytes, past_byte, rest as rest_of, unboxed}
 use Rattle.dfdl_grammar.specs.Elements.{attempted, begun, close, element, has_elements, left}
 use Rattle.dfdl_grammar.specs.Prefixes.{bits_of_units, leaf_of, prefixed, resized, size_of, sized_leaf}
 use Rattle.dfdl_grammar.specs.Rows.{below, group, meaning, row, row_at}
 use Rattle.dfdl_grammar.proofs.Prefixed.{prefixed-comes}
 use Rattle.dfdl_grammar.proofs.Represented.{any_ok, marked_by, refused, represented-comes}
-use Rattle.dfdl_grammar.proofs.Sought.{initiator-comes, terminator-comes}
+use Rattle.dfdl_grammar.proofs.Sought.{initiator-comes, separator-comes, terminator-comes}
 use Rattle.dfdl_grammar.proofs.Grown.{content-length, other_same, front_same, begun-longer, Grown, Ends, Went, Goes, grown, still, moved, grown_twice, twice, behind, any_one, restored}
 
 module _ (input : Input) where
@@ -84,37 +85,37 @@ module _ (input : Input) where
   land-goes first TooFar s = still s.inside (land input.limits first TooFar s).end s
   land-goes first Missing s = still s.inside Done s
 
-  room-goes : (nil : Option (List Value)) (primitive : Primitive) (s : State) (room : Bool)
+  room-goes : (delimiters : List Delimiters) (nil : Option (List Value)) (primitive : Primitive) (s : State) (room : Bool)
       → (let o : Outcome = cond room
-      (let reading = ask (seen_in input.bytes input.limits.window (anchor s)) (program_for nil primitive s.at s.stop) nothing in
+      (let reading = ask (seen_in input.bytes input.limits.window (anchor s)) (program_for nil (lists_of delimiters (markup s)) primitive s.at s.stop) nothing in
       spend (needs_from (anchor s) reading.tally) (land input.limits (content_begins primitive s.at) reading.reached s))
       (ended (Failed LengthOutOfRange s.at) s) in Went s.inside s o.end o.state)
-  room-goes nil primitive s true =
-      land-goes (content_begins primitive s.at) (ask (seen_in input.bytes input.limits.window (anchor s)) (program_for nil primitive s.at s.stop) nothing).reached s
-  room-goes nil primitive s false = still s.inside (Failed LengthOutOfRange s.at) s
+  room-goes delimiters nil primitive s true =
+      land-goes (content_begins primitive s.at) (ask (seen_in input.bytes input.limits.window (anchor s)) (program_for nil (lists_of delimiters (markup s)) primitive s.at s.stop) nothing).reached s
+  room-goes delimiters nil primitive s false = still s.inside (Failed LengthOutOfRange s.at) s
 
-  leaf-goes : (nil : Option (List Value)) (primitive : Option Primitive) → Goes (leaf input nil primitive)
-  leaf-goes nil None s = still s.inside Done s
-  leaf-goes nil (Some primitive) s = room-goes nil primitive s (has_room primitive s.at s.stop)
+  leaf-goes : (delimiters : List Delimiters) (nil : Option (List Value)) (primitive : Option Primitive) → Goes (leaf input delimiters nil primitive)
+  leaf-goes delimiters nil None s = still s.inside Done s
+  leaf-goes delimiters nil (Some primitive) s = room-goes delimiters nil primitive s (has_room primitive s.at s.stop)
 
   -- a leaf of another size
-  of-goes : (nil : Option (List Value)) (primitive : Option Primitive) → Goes (leaf_of input nil primitive)
-  of-goes nil None s = still s.inside (Failed LengthOutOfRange s.at) s
-  of-goes nil (Some primitive) s = leaf-goes nil (Some primitive) s
+  of-goes : (delimiters : List Delimiters) (nil : Option (List Value)) (primitive : Option Primitive) → Goes (leaf_of input delimiters nil primitive)
+  of-goes delimiters nil None s = still s.inside (Failed LengthOutOfRange s.at) s
+  of-goes delimiters nil (Some primitive) s = leaf-goes delimiters nil (Some primitive) s
 
-  sized-goes : (nil : Option (List Value)) (primitive : Option Primitive) (size : TextSize) → Goes (sized_leaf input nil primitive size)
-  sized-goes nil None size s = still s.inside Done s
-  sized-goes nil (Some primitive) size s = of-goes nil (resized size primitive) s
+  sized-goes : (delimiters : List Delimiters) (nil : Option (List Value)) (primitive : Option Primitive) (size : TextSize) → Goes (sized_leaf input delimiters nil primitive size)
+  sized-goes delimiters nil None size s = still s.inside Done s
+  sized-goes delimiters nil (Some primitive) size s = of-goes delimiters nil (resized size primitive) s
 
   -- a prefix, and what it tells the size of
-  prefixed-goes : (by : Option Primitive) (own : ℕ) (next : ℕ → State → Outcome) → ((units : ℕ) → Goes (next units)) → Goes (prefixed input by own next)
-  prefixed-goes by own next goes s =
+  prefixed-goes : (delimiters : List Delimiters) (by : Option Primitive) (own : ℕ) (next : ℕ → State → Outcome) → ((units : ℕ) → Goes (next units)) → Goes (prefixed input delimiters by own next)
+  prefixed-goes delimiters by own next goes s =
       prefixed-comes (λ (e : End) (t : State). Went s.inside s e t) s (λ cause bit. still s.inside (Failed cause bit) s)
       (λ cause quantity. still s.inside (Stopped cause quantity) s) next
       (λ units at.
       let after : State = record s { at = at } in
       twice s.inside s after (next units after).state (next units after).end (moved s.inside s at s.stop) (goes units after))
-      input by own
+      input delimiters by own
 
   passed-goes : (to : ℕ) (reached : Reached Bool) → Goes (passed input.limits.window to reached)
   passed-goes to (Told true) s = moved s.inside s to s.stop
@@ -382,7 +383,7 @@ module _ (input : Input) where
     row-goes : (child : ℕ → State → Outcome) → ((id : ℕ) → Goes (child id)) → (id : ℕ) (r : Option Row) → Goes (row input table child id r)
     row-goes child goes id None s = still s.inside Done s
     row-goes child goes id (Some (Leaf prim)) s =
-        leaf-goes (nil_values table.primitives s.instead) (slice_get table.primitives (read_by table.primitives s.instead prim)) s
+        leaf-goes table.delimiters (nil_values table.primitives s.instead) (slice_get table.primitives (read_by table.primitives s.instead prim)) s
     row-goes child goes id (Some (Elem name simple tried body)) s = element-goes id (has_elements simple) tried (child body) (goes body) s
     row-goes child goes id (Some (Group children)) s = group-goes child goes children s
     row-goes child goes id (Some (Skip bits)) s = pass-goes (s.at + bits) s (nat_le (s.at + bits) s.at) (nat_le (s.at + bits) s.stop)
@@ -390,18 +391,22 @@ module _ (input : Input) where
     row-goes child goes id (Some (Initiator delimiter)) s =
         initiator-comes (λ (e : End) (t : State). Went s.inside s e t) s (still s.inside Done s) (λ at. moved s.inside s at s.stop)
         (λ cause. still s.inside (Failed cause s.at) s) (λ cause quantity. still s.inside (Stopped cause quantity) s) input table.delimiters delimiter
-    row-goes child goes id (Some (Terminator delimiter)) s =
+    row-goes child goes id (Some (Terminator delimiter separators)) s =
         terminator-comes (λ (e : End) (t : State). Went s.inside s e t) s (still s.inside Done s) (λ at. moved s.inside s at s.stop)
-        (λ cause. still s.inside (Failed cause s.at) s) (λ cause quantity. still s.inside (Stopped cause quantity) s) input table.delimiters delimiter
+        (λ cause. still s.inside (Failed cause s.at) s) (λ cause quantity. still s.inside (Stopped cause quantity) s) input table.delimiters delimiter separators
+    row-goes child goes id (Some Separator) s =
+        separator-comes (λ (e : End) (t : State). Went s.inside s e t) s (still s.inside Done s) (λ at. moved s.inside s at s.stop)
+        (λ cause. still s.inside (Failed cause s.at) s) (λ cause quantity. still s.inside (Stopped cause quantity) s) input table.delimiters
     row-goes child goes id (Some (Scope list body)) s = scoped-goes list (child body) (goes body) s
     row-goes child goes id (Some (Boxed bits body)) s = boxed-goes bits (child body) (goes body) s (nat_le (s.at + bits) s.stop)
     row-goes child goes id (Some (PrefixedLeaf prefix prim)) s =
         let nil : Option (List Value) = nil_values table.primitives s.instead in
         let primitive : Option Primitive = slice_get table.primitives (read_by table.primitives s.instead prim) in
-        prefixed-goes (slice_get table.primitives prefix.prim) prefix.own (λ units after. sized_leaf input nil primitive (size_of prefix.unit units) after)
-        (λ units. sized-goes nil primitive (size_of prefix.unit units)) s
+        prefixed-goes table.delimiters (slice_get table.primitives prefix.prim) prefix.own (λ units after. sized_leaf input table.delimiters nil primitive (size_of prefix.unit units) after)
+        (λ units. sized-goes table.delimiters nil primitive (size_of prefix.unit units)) s
+    row-goes child goes id (Some (Repeat count body)) s = group-goes child goes (replicate count body) s
     row-goes child goes id (Some (PrefixedBox prefix body)) s =
-        prefixed-goes (slice_get table.primitives prefix.prim) prefix.own (λ units after. boxed input (bits_of_units prefix.unit units) (child body) after)
+        prefixed-goes table.delimiters (slice_get table.primitives prefix.prim) prefix.own (λ units after. boxed input (bits_of_units prefix.unit units) (child body) after)
         (λ units after. boxed-goes (bits_of_units prefix.unit units) (child body) (goes body) after (nat_le (after.at + bits_of_units prefix.unit units) after.stop)) s
 
     below-choice : (n id : ℕ) → ((i : ℕ) → Goes (below input table n i)) → (s : State) (test : Bool)

@@ -1,5 +1,5 @@
 -- The bytes of the values of a document's elements stay there, and those of its strings stay UTF-8, whatever the rows do.
-use Rattle.std.proofs.Common.{◌≡◌, ◌⊎◌, inl, inr, ℕ, zero, suc, ◌+◌, ◌-◌, ◌*◌, ◌/◌, ◌%◌, ◌<◌, refl, List, [], ◌∷◌, ◌++◌, length, get_or, Bool, true, false, cond, leb, ltb, nat_eq, nat_le, nat_lt, Option, Some, None, Result, Ok, Err, All, ap, sym, subst, ◌∙◌, arith, IsUtf8, length-append}
+use Rattle.std.proofs.Common.{◌≡◌, ◌⊎◌, inl, inr, ℕ, zero, suc, ◌+◌, ◌-◌, ◌*◌, ◌/◌, ◌%◌, ◌<◌, refl, List, [], ◌∷◌, ◌++◌, length, get_or, Bool, true, false, cond, leb, ltb, nat_eq, nat_le, nat_lt, Option, Some, None, Result, Ok, Err, All, ap, sym, subst, ◌∙◌, arith, IsUtf8, length-append, replicate}
 use Rattle.std.proofs.lemmas.Bool.Decides.{nat_tests}
 use Rattle.std.proofs.lemmas.List.Elements.{All-append}
 use Rattle.std.proofs.lemmas.Str.{IsUtf8-nil}
@@ -19,21 +19,29 @@ use Rattle.dfdl_value.specs.declared.value.Value.{Value}
 use Rattle.dfdl_value.specs.declared.value.Value.TheVariants.{Int, Uns, Dec, Text as TextValue, Truth as TruthValue, Bytes}
 use Rattle.dfdl_report.specs.declared.cause.LimitCause.TheVariants.{Nodes, Text as TextLimit}
 use Rattle.dfdl_report.specs.declared.cause.ParseCause.TheVariants.{DataEnds, LengthOutOfRange, NotFilled, RequiredEmpty}
+use Rattle.dfdl_terms.specs.declared.delimiters.Delimiters.{Delimiters}
 use Rattle.dfdl_terms.specs.declared.representations.Representations.{Representations}
 use Rattle.dfdl_terms.specs.declared.row.Primitive.{Primitive}
 use Rattle.dfdl_terms.specs.declared.row.Primitive.TheVariants.{Integer, Packed, Truth, Octets, Text as Characters, NilOctets, Default, NilValues, Pattern}
 use Rattle.dfdl_terms.specs.declared.row.Row.{Row}
-use Rattle.dfdl_terms.specs.declared.row.Row.TheVariants.{Leaf, Elem, Group, Skip, Align, Initiator, Terminator, Scope, Boxed, PrefixedLeaf, PrefixedBox}
-use Rattle.dfdl_terms.specs.declared.text.DefaultForm.{DefaultForm}
+use Rattle.dfdl_terms.specs.declared.row.Row.TheVariants.{Leaf, Elem, Group, Skip, Align, Initiator, Terminator, Separator, Scope, Boxed, PrefixedLeaf, PrefixedBox, Repeat}
 use Rattle.dfdl_terms.specs.declared.text.NilForm.{NilForm}
 use Rattle.dfdl_terms.specs.declared.text.OctetForm.{OctetForm}
 use Rattle.dfdl_terms.specs.declared.text.PatternForm.{PatternForm}
+use Rattle.dfdl_terms.specs.declared.text.ScanForm.{ScanForm}
 use Rattle.dfdl_terms.specs.declared.text.TextContent.{TextContent}
-use Rattle.dfdl_terms.specs.declared.text.TextContent.TheVariants.{Plain, Number, Zoned, Truth as TextTruth, Nil}
+use Rattle.dfdl_terms.specs.declared.text.TextContent.TheVariants.{Plain, Octets as TextOctets, Number, Zoned, Truth as TextTruth, Nil}
 use Rattle.dfdl_terms.specs.declared.text.TextForm.{TextForm}
 use Rattle.dfdl_terms.specs.declared.text.TextSize.{TextSize}
-use Rattle.dfdl_terms.specs.declared.text.TextSize.TheVariants.{Bits, Characters as Counted}
+use Rattle.dfdl_terms.specs.declared.text.TextSize.TheVariants.{Bits, Characters as Counted, Delimited}
 use Rattle.dfdl_terms.specs.Rows.{IsPrimitive, IsWritten, Table}
+use Rattle.dfdl_forms.specs.declared.encoding.Encoding.TheVariants.{Iso88591}
+use Rattle.dfdl_chars.specs.Encodings.{encoded_text}
+use Rattle.dfdl_delims.specs.Lists.{Opened}
+use Rattle.dfdl_escapes.specs.Contents.{Content as DelimitedContent}
+use Rattle.dfdl_escapes.specs.Steps.{Step}
+use Rattle.dfdl_escapes.specs.Steps as steps
+use Rattle.dfdl_escapes.specs.Trims.{trimmed_content}
 use Rattle.dfdl_texts.specs.Texts.{Text as TextRead, Reads as DoesRead, HasBad, IsCut, IsBoxed, text_at}
 use Rattle.dfdl_texts.specs.declared.extent.Extent.{Extent}
 use Rattle.dfdl_texts.specs.declared.extent.Extent.TheVariants as extent
@@ -58,9 +66,10 @@ use Rattle.dfdl_grammar.specs.declared.instead.Instead.TheVariants.{Nothing, Nil
 use Rattle.dfdl_grammar.specs.States.{Input, State, anchor, anchor_at}
 use Rattle.dfdl_grammar.specs.Documents.{front_at}
 use Rattle.dfdl_grammar.specs.Outcomes.{Outcome, ended, follow, spend, then_do}
-use Rattle.dfdl_grammar.specs.Leaves.{Find, Fails, Finds, FindsOctets, FindsText, bits_of, bytes_spanned, content_begins, content_find, default_find, field, find_in, find_of, has_room, is_no_size, land, leaf, nil_find, nil_octets_find, nil_value_find, nil_values, is_bytes, is_text, is_value, number_find, pattern_find, octets, packed_find, program, program_for, read_by, text_begins, text_behind, text_find, text_of_size, text_sought, truth_find}
+use Rattle.dfdl_grammar.specs.Leaves.{Find, Fails, Finds, FindsOctets, FindsText, bits_of, bytes_spanned, content_begins, content_find, default_by_step, default_find, default_of_size, delimited_find, field, find_in, find_of, has_room, is_no_size, land, leaf, nil_find, nil_octets_find, nil_value_find, nil_values, is_bytes, is_text, is_value, number_find, pattern_find, octets, octets_find, packed_find, program, program_for, read_by, text_begins, text_behind, text_find, text_of_size, text_sought, truth_find, unless_broken}
+use Rattle.dfdl_grammar.specs.Delimited.{first_step, plain, scanned}
 use Rattle.dfdl_grammar.specs.Framing.{aligned, fill_to, has_byte, passed}
-use Rattle.dfdl_grammar.specs.Delimiters.{opens, scoped, unscoped}
+use Rattle.dfdl_grammar.specs.Delimiters.{lists_of, markup, opens, scoped, unscoped}
 use Rattle.dfdl_grammar.specs.Boxes.{boxed, boxed_at, bytes_up_to, pass_bytes, past_byte, rest as rest_of, unboxed}
 use Rattle.dfdl_grammar.specs.Elements.{attempted, begun, close, element, has_elements, left}
 use Rattle.dfdl_grammar.specs.Nils.{are_nil, is_nil}
@@ -73,7 +82,8 @@ use Rattle.dfdl_grammar.proofs.Grown.{Goes}
 use Rattle.dfdl_grammar.proofs.Holding.{both_have, content-has, first_has, last-bytes, rest_has, text-more, trimmed-scalars, utf8}
 use Rattle.dfdl_grammar.proofs.Prefixed.{prefixed-comes}
 use Rattle.dfdl_grammar.proofs.Represented.{any_ok, marked_by, represented-comes}
-use Rattle.dfdl_grammar.proofs.Sought.{initiator-comes, terminator-comes}
+use Rattle.dfdl_grammar.proofs.Scanned.{AreScalars, Says, plain-scalars, scanned-scalars, trimmed-content-scalars}
+use Rattle.dfdl_grammar.proofs.Sought.{initiator-comes, separator-comes, terminator-comes}
 
 -- what a leaf finds has bytes that can be held as a string's, if it is one
 abbrev IsHeld : Find → Type 0
@@ -109,8 +119,13 @@ nil-held : (end : ℕ) (nil : Bool) → IsHeld (nil_find end nil)
 nil-held end true = λ bytes. tt
 nil-held end false = tt
 
+octets-told : (end : ℕ) (r : Option (List ℕ)) → IsHeld (octets_find end r)
+octets-told end (Some bytes) = tt
+octets-told end None = tt
+
 content-held : (read : TextContent) (chars : List ℕ) (end : ℕ) → IsUtf8 (utf8_of chars) → IsHeld (content_find read chars end)
 content-held Plain chars end kept = kept
+content-held TextOctets chars end kept = octets-told end (encoded_text Iso88591 chars)
 content-held (Number form kind) chars end kept = text-number-held end (number_reading form kind chars)
 content-held (Zoned form) chars end kept = packed-held end (zoned_reading form chars)
 content-held (TextTruth form) chars end kept = truth-held end (truth_of form chars)
@@ -135,6 +150,29 @@ default-held bit (Dec d) written = λ bytes. tt
 default-held bit (TextValue text) written = written
 default-held bit (TruthValue truth) written = λ bytes. tt
 default-held bit (Bytes octets) written = tt
+
+-- a value of a content without bits that its first step ends
+step-held : (v : Value) (bit : ℕ) (step : Step) → IsWritten v → IsHeld (default_by_step v bit step)
+step-held v bit (steps.Takes c escaped next) written = tt
+step-held v bit (steps.Passes next) written = tt
+step-held v bit (steps.Closes which) written = default-held bit v written
+step-held v bit steps.RunsOut written = default-held bit v written
+step-held v bit (steps.Fails cause) written = tt
+
+-- a content that markup ends
+unbroken-held : (step : Step) (find : Find) → IsHeld find → IsHeld (unless_broken step find)
+unbroken-held (steps.Takes c escaped next) find held = held
+unbroken-held (steps.Passes next) find held = held
+unbroken-held (steps.Closes which) find held = held
+unbroken-held steps.RunsOut find held = held
+unbroken-held (steps.Fails cause) find held = tt
+
+delimited-held : (form : TextForm) (found : DelimitedContent) → AreScalars found.characters → IsHeld (delimited_find form found)
+delimited-held form found scalars =
+    let chars : List ℕ = plain (trimmed_content form.pad found.characters) in
+    unbroken-held found.ends (content_find form.content chars (8 * found.last.byte))
+    (content-held form.content chars (8 * found.last.byte)
+    (utf8 chars (plain-scalars (trimmed_content form.pad found.characters) (trimmed-content-scalars form.pad found.characters scalars))))
 
 -- bytes that have to be nil
 nil-octets-held : (form : NilForm) (find : Find) → IsHeld (nil_octets_find form find)
@@ -214,6 +252,15 @@ resized-sound (Counted n) (NilOctets form) is = tt
 resized-sound (Counted n) (Default form) is = is
 resized-sound (Counted n) (NilValues form) is = tt
 resized-sound (Counted n) (Pattern form) is = tt
+resized-sound (Delimited scan) (Integer form) is = tt
+resized-sound (Delimited scan) (Packed form) is = tt
+resized-sound (Delimited scan) (Truth form) is = tt
+resized-sound (Delimited scan) (Octets form) is = tt
+resized-sound (Delimited scan) (Characters form) is = tt
+resized-sound (Delimited scan) (NilOctets form) is = tt
+resized-sound (Delimited scan) (Default form) is = is
+resized-sound (Delimited scan) (NilValues form) is = tt
+resized-sound (Delimited scan) (Pattern form) is = tt
 
 -- whether a find is that the data end
 ends-or : (found : Find) → IsHeld found ⊎ (Fails DataEnds ≡ found → ⊥)
@@ -274,12 +321,34 @@ module _ (input : Input) (small : All (λ b. b < 256) input.bytes) where
   boxed-held size low form bit first end found true is = then-held size low form bit extent.Box end (first / 8) found is
   boxed-held size low form bit first end found false is = let same : Fails NotFilled ≡ found = cc in subst IsHeld same tt
 
-  sized-held : (window low : ℕ) (form : TextForm) (size : TextSize) (bit stop : ℕ) (found : Find)
-      → (ask (seen_in input.bytes window low) (text_of_size form size bit stop) nothing).reached ≡ Told found → IsHeld found
-  sized-held window low form (Bits n) bit stop found is =
+  -- a content that markup ends
+  content-told : (form : TextForm) (look : ℕ → Seen) (r : Reached DelimitedContent) (t : Tally) (found : Find)
+      → Says (λ (content : DelimitedContent). AreScalars content.characters) r
+      → (go_on look (λ (content : DelimitedContent). Answer (delimited_find form content)) r t).reached ≡ Told found → IsHeld found
+  content-told form look (Told content) t found scalars is =
+      subst IsHeld (told_one (delimited_find form content) found is) (delimited-held form content scalars)
+  content-told form look TooFar t found scalars is = absurd (cc)
+  content-told form look Missing t found scalars is = absurd (cc)
+
+  scan-held : (size low : ℕ) (form : TextForm) (lists : List Opened) (scan : ScanForm) (bit stop : ℕ) (found : Find)
+      → (ask (seen_in input.bytes size low)
+      (and_then (scanned lists scan bit stop) (λ (content : DelimitedContent). Answer (delimited_find form content))) nothing).reached ≡ Told found
+      → IsHeld found
+  scan-held size low form lists scan bit stop found is =
+      let look : ℕ → Seen = seen_in input.bytes size low in
+      let a : Ask DelimitedContent = scanned lists scan bit stop in
+      let whole = ask-then look (λ (content : DelimitedContent). Answer (delimited_find form content)) a nothing in
+      content-told form look (ask look a nothing).reached (ask look a nothing).tally found
+      (scanned-scalars look (shown size low) lists scan bit stop nothing)
+      (sym (ap (λ (r : Reading Find). r.reached) whole) ∙ is)
+
+  sized-held : (window low : ℕ) (form : TextForm) (size : TextSize) (lists : List Opened) (bit stop : ℕ) (found : Find)
+      → (ask (seen_in input.bytes window low) (text_of_size form size lists bit stop) nothing).reached ≡ Told found → IsHeld found
+  sized-held window low form (Bits n) lists bit stop found is =
       let first : ℕ = text_begins form.content (Bits n) bit in
       boxed-held window low form bit first (bit + n) found (nat_eq ((bit + n - first) % 8) 0) is
-  sized-held window low form (Counted n) bit stop found is =
+  sized-held window low form (Delimited scan) lists bit stop found is = scan-held window low form lists scan bit stop found is
+  sized-held window low form (Counted n) lists bit stop found is =
       then-held window low form bit (extent.Characters n) stop (aligned 8 bit / 8) found is
 
   octets-held : (size low : ℕ) (form : OctetForm) (bit : ℕ) (found : Find) (none whole : Bool)
@@ -302,11 +371,26 @@ module _ (input : Input) (small : All (λ b. b < 256) input.bytes) where
       nil-then-held look form (ask look a nothing).reached (ask look a nothing).tally found
       (sym (ap (λ (r : Reading Find). r.reached) whole) ∙ is)
 
-  no-bits-held : (look : ℕ → Seen) (form : DefaultForm) (bit : ℕ) (found : Find) (none : Bool) → IsWritten form.value
-      → (ask look (Answer (cond none (default_find bit form.value) (Fails RequiredEmpty))) nothing).reached ≡ Told found → IsHeld found
-  no-bits-held look form bit found true written is =
-      subst IsHeld (told_one (default_find bit form.value) found is) (default-held bit form.value written)
-  no-bits-held look form bit found false written is = subst IsHeld (told_one (Fails RequiredEmpty) found is) tt
+  no-bits-held : (look : ℕ → Seen) (v : Value) (bit : ℕ) (found : Find) (none : Bool) → IsWritten v
+      → (ask look (Answer (cond none (default_find bit v) (Fails RequiredEmpty))) nothing).reached ≡ Told found → IsHeld found
+  no-bits-held look v bit found true written is = subst IsHeld (told_one (default_find bit v) found is) (default-held bit v written)
+  no-bits-held look v bit found false written is = subst IsHeld (told_one (Fails RequiredEmpty) found is) tt
+
+  step-told : (look : ℕ → Seen) (v : Value) (bit : ℕ) (r : Reached Step) (t : Tally) (found : Find) → IsWritten v
+      → (go_on look (λ (step : Step). Answer (default_by_step v bit step)) r t).reached ≡ Told found → IsHeld found
+  step-told look v bit (Told step) t found written is = subst IsHeld (told_one (default_by_step v bit step) found is) (step-held v bit step written)
+  step-told look v bit TooFar t found written is = absurd (cc)
+  step-told look v bit Missing t found written is = absurd (cc)
+
+  default-size-held : (look : ℕ → Seen) (v : Value) (lists : List Opened) (size : TextSize) (bit stop : ℕ) (found : Find) → IsWritten v
+      → (ask look (default_of_size v lists size bit stop) nothing).reached ≡ Told found → IsHeld found
+  default-size-held look v lists (Bits n) bit stop found written is = no-bits-held look v bit found (is_no_size (Bits n)) written is
+  default-size-held look v lists (Counted n) bit stop found written is = no-bits-held look v bit found (is_no_size (Counted n)) written is
+  default-size-held look v lists (Delimited scan) bit stop found written is =
+      let a : Ask Step = first_step lists scan bit stop in
+      let whole = ask-then look (λ (step : Step). Answer (default_by_step v (aligned 8 bit) step)) a nothing in
+      step-told look v (aligned 8 bit) (ask look a nothing).reached (ask look a nothing).tally found written
+      (sym (ap (λ (r : Reading Find). r.reached) whole) ∙ is)
 
   pattern-then-held : (look : ℕ → Seen) (form : PatternForm) (first : ℕ) (r : Reached TextRead) (t : Tally) (found : Find)
       → (go_on look (λ (text : TextRead). Answer (pattern_find form first text)) r t).reached ≡ Told found → IsHeld found
@@ -321,19 +405,19 @@ module _ (input : Input) (small : All (λ b. b < 256) input.bytes) where
       pattern-then-held look form first (ask look a nothing).reached (ask look a nothing).tally found
       (sym (ap (λ (r : Reading Find). r.reached) whole) ∙ is)
 
-  program-held : (size low : ℕ) (primitive : Primitive) → IsSound primitive → (bit stop : ℕ) (found : Find)
-      → (ask (seen_in input.bytes size low) (program primitive bit stop) nothing).reached ≡ Told found → IsHeld found
-  program-held size low (Integer form) good bit stop found is = field-held (seen_in input.bytes size low) (Integer form) bit found is
-  program-held size low (Packed form) good bit stop found is = field-held (seen_in input.bytes size low) (Packed form) bit found is
-  program-held size low (Truth form) good bit stop found is = field-held (seen_in input.bytes size low) (Truth form) bit found is
-  program-held size low (Octets form) good bit stop found is = octets-held size low form bit found (nat_eq form.bits 0) (nat_eq (form.bits % 8) 0) is
-  program-held size low (Characters form) good bit stop found is = sized-held size low form form.size bit stop found is
-  program-held size low (NilOctets form) good bit stop found is =
+  program-held : (size low : ℕ) (lists : List Opened) (primitive : Primitive) → IsSound primitive → (bit stop : ℕ) (found : Find)
+      → (ask (seen_in input.bytes size low) (program lists primitive bit stop) nothing).reached ≡ Told found → IsHeld found
+  program-held size low lists (Integer form) good bit stop found is = field-held (seen_in input.bytes size low) (Integer form) bit found is
+  program-held size low lists (Packed form) good bit stop found is = field-held (seen_in input.bytes size low) (Packed form) bit found is
+  program-held size low lists (Truth form) good bit stop found is = field-held (seen_in input.bytes size low) (Truth form) bit found is
+  program-held size low lists (Octets form) good bit stop found is = octets-held size low form bit found (nat_eq form.bits 0) (nat_eq (form.bits % 8) 0) is
+  program-held size low lists (Characters form) good bit stop found is = sized-held size low form form.size lists bit stop found is
+  program-held size low lists (NilOctets form) good bit stop found is =
       nil-bytes-held (seen_in input.bytes size low) form.nil (octets form.octets bit) found is
-  program-held size low (Default form) good bit stop found is =
-      no-bits-held (seen_in input.bytes size low) form bit found (is_no_size form.size) good is
-  program-held size low (NilValues form) good bit stop found is = subst IsHeld (told_one (Fails RequiredEmpty) found is) tt
-  program-held size low (Pattern form) good bit stop found is =
+  program-held size low lists (Default form) good bit stop found is =
+      default-size-held (seen_in input.bytes size low) form.value lists form.size bit stop found good is
+  program-held size low lists (NilValues form) good bit stop found is = subst IsHeld (told_one (Fails RequiredEmpty) found is) tt
+  program-held size low lists (Pattern form) good bit stop found is =
       sought-held (seen_in input.bytes size low) form bit (text_sought form (aligned 8 bit) stop) found is
 
   nil-value-then-held : (look : ℕ → Seen) (values : List Value) (r : Reached Find) (t : Tally) (found : Find)
@@ -342,12 +426,12 @@ module _ (input : Input) (small : All (λ b. b < 256) input.bytes) where
   nil-value-then-held look values TooFar t found is = absurd (cc)
   nil-value-then-held look values Missing t found is = absurd (cc)
 
-  program-for-held : (size low : ℕ) (nil : Option (List Value)) (primitive : Primitive) → IsSound primitive → (bit stop : ℕ) (found : Find)
-      → (ask (seen_in input.bytes size low) (program_for nil primitive bit stop) nothing).reached ≡ Told found → IsHeld found
-  program-for-held size low None primitive good bit stop found is = program-held size low primitive good bit stop found is
-  program-for-held size low (Some values) primitive good bit stop found is =
+  program-for-held : (size low : ℕ) (nil : Option (List Value)) (lists : List Opened) (primitive : Primitive) → IsSound primitive → (bit stop : ℕ) (found : Find)
+      → (ask (seen_in input.bytes size low) (program_for nil lists primitive bit stop) nothing).reached ≡ Told found → IsHeld found
+  program-for-held size low None lists primitive good bit stop found is = program-held size low lists primitive good bit stop found is
+  program-for-held size low (Some values) lists primitive good bit stop found is =
       let look : ℕ → Seen = seen_in input.bytes size low in
-      let a : Ask Find = program primitive bit stop in
+      let a : Ask Find = program lists primitive bit stop in
       let whole = ask-then look (λ (find : Find). Answer (nil_value_find values find)) a nothing in
       nil-value-then-held look values (ask look a nothing).reached (ask look a nothing).tally found
       (sym (ap (λ (r : Reading Find). r.reached) whole) ∙ is)
@@ -386,35 +470,35 @@ module _ (input : Input) (small : All (λ b. b < 256) input.bytes) where
   land-keeps first TooFar held s has = has
   land-keeps first Missing held s has = has
 
-  room-keeps : (nil : Option (List Value)) (primitive : Primitive) → IsSound primitive → (s : State) → Has s → (room : Bool)
+  room-keeps : (delimiters : List Delimiters) (nil : Option (List Value)) (primitive : Primitive) → IsSound primitive → (s : State) → Has s → (room : Bool)
       → Has (cond room
-      (let reading = ask (seen_in input.bytes input.limits.window (anchor s)) (program_for nil primitive s.at s.stop) nothing in
+      (let reading = ask (seen_in input.bytes input.limits.window (anchor s)) (program_for nil (lists_of delimiters (markup s)) primitive s.at s.stop) nothing in
       spend (needs_from (anchor s) reading.tally) (land input.limits (content_begins primitive s.at) reading.reached s))
       (ended (Failed LengthOutOfRange s.at) s)).state
-  room-keeps nil primitive good s has true =
-      land-keeps (content_begins primitive s.at) (ask (seen_in input.bytes input.limits.window (anchor s)) (program_for nil primitive s.at s.stop) nothing).reached
-      (λ found is. program-for-held input.limits.window (anchor s) nil primitive good s.at s.stop found is) s has
-  room-keeps nil primitive good s has false = has
+  room-keeps delimiters nil primitive good s has true =
+      land-keeps (content_begins primitive s.at) (ask (seen_in input.bytes input.limits.window (anchor s)) (program_for nil (lists_of delimiters (markup s)) primitive s.at s.stop) nothing).reached
+      (λ found is. program-for-held input.limits.window (anchor s) nil (lists_of delimiters (markup s)) primitive good s.at s.stop found is) s has
+  room-keeps delimiters nil primitive good s has false = has
 
-  leaf-keeps : (nil : Option (List Value)) (primitive : Option Primitive) → IsSoundOr primitive → Keeps (leaf input nil primitive)
-  leaf-keeps nil None good s has = has
-  leaf-keeps nil (Some primitive) good s has = room-keeps nil primitive good s has (has_room primitive s.at s.stop)
+  leaf-keeps : (delimiters : List Delimiters) (nil : Option (List Value)) (primitive : Option Primitive) → IsSoundOr primitive → Keeps (leaf input delimiters nil primitive)
+  leaf-keeps delimiters nil None good s has = has
+  leaf-keeps delimiters nil (Some primitive) good s has = room-keeps delimiters nil primitive good s has (has_room primitive s.at s.stop)
 
   -- a leaf of another size
-  of-keeps : (nil : Option (List Value)) (primitive : Option Primitive) → IsSoundOr primitive → Keeps (leaf_of input nil primitive)
-  of-keeps nil None good s has = has
-  of-keeps nil (Some primitive) good s has = leaf-keeps nil (Some primitive) good s has
+  of-keeps : (delimiters : List Delimiters) (nil : Option (List Value)) (primitive : Option Primitive) → IsSoundOr primitive → Keeps (leaf_of input delimiters nil primitive)
+  of-keeps delimiters nil None good s has = has
+  of-keeps delimiters nil (Some primitive) good s has = leaf-keeps delimiters nil (Some primitive) good s has
 
-  sized-keeps : (nil : Option (List Value)) (primitive : Option Primitive) (size : TextSize) → IsSoundOr primitive
-      → Keeps (sized_leaf input nil primitive size)
-  sized-keeps nil None size good s has = has
-  sized-keeps nil (Some primitive) size good s has = of-keeps nil (resized size primitive) (resized-sound size primitive good) s has
+  sized-keeps : (delimiters : List Delimiters) (nil : Option (List Value)) (primitive : Option Primitive) (size : TextSize) → IsSoundOr primitive
+      → Keeps (sized_leaf input delimiters nil primitive size)
+  sized-keeps delimiters nil None size good s has = has
+  sized-keeps delimiters nil (Some primitive) size good s has = of-keeps delimiters nil (resized size primitive) (resized-sound size primitive good) s has
 
   -- a prefix, and what it tells the size of
-  prefixed-keeps : (by : Option Primitive) (own : ℕ) (next : ℕ → State → Outcome) → ((units : ℕ) → Keeps (next units)) → Keeps (prefixed input by own next)
-  prefixed-keeps by own next keeps s has =
+  prefixed-keeps : (delimiters : List Delimiters) (by : Option Primitive) (own : ℕ) (next : ℕ → State → Outcome) → ((units : ℕ) → Keeps (next units)) → Keeps (prefixed input delimiters by own next)
+  prefixed-keeps delimiters by own next keeps s has =
       prefixed-comes (λ (e : End) (t : State). Has t) s (λ cause bit. has) (λ cause quantity. has) next
-      (λ units at. keeps units (record s { at = at }) has) input by own
+      (λ units at. keeps units (record s { at = at }) has) input delimiters by own
 
   passed-keeps : (to : ℕ) (reached : Reached Bool) → Keeps (passed input.limits.window to reached)
   passed-keeps to (Told true) s has = has
@@ -520,7 +604,7 @@ module _ (input : Input) (small : All (λ b. b < 256) input.bytes) where
     row-keeps child keeps goes id None s has = has
     row-keeps child keeps goes id (Some (Leaf prim)) s has =
         let used : ℕ = read_by table.primitives s.instead prim in
-        leaf-keeps (nil_values table.primitives s.instead) (slice_get table.primitives used) (sound-at table.primitives used bounded) s has
+        leaf-keeps table.delimiters (nil_values table.primitives s.instead) (slice_get table.primitives used) (sound-at table.primitives used bounded) s has
     row-keeps child keeps goes id (Some (Elem name simple tried body)) s has =
         element-keeps id (has_elements simple) tried (child body) (keeps body) (goes body) s has
     row-keeps child keeps goes id (Some (Group children)) s has = group-keeps child keeps children s has
@@ -529,18 +613,21 @@ module _ (input : Input) (small : All (λ b. b < 256) input.bytes) where
         pass-keeps (aligned bits s.at) s has (nat_le (aligned bits s.at) s.at) (nat_le (aligned bits s.at) s.stop)
     row-keeps child keeps goes id (Some (Initiator delimiter)) s has =
         initiator-comes (λ (e : End) (t : State). Has t) s has (λ at. has) (λ cause. has) (λ cause quantity. has) input table.delimiters delimiter
-    row-keeps child keeps goes id (Some (Terminator delimiter)) s has =
-        terminator-comes (λ (e : End) (t : State). Has t) s has (λ at. has) (λ cause. has) (λ cause quantity. has) input table.delimiters delimiter
+    row-keeps child keeps goes id (Some (Terminator delimiter separators)) s has =
+        terminator-comes (λ (e : End) (t : State). Has t) s has (λ at. has) (λ cause. has) (λ cause quantity. has) input table.delimiters delimiter separators
+    row-keeps child keeps goes id (Some Separator) s has =
+        separator-comes (λ (e : End) (t : State). Has t) s has (λ at. has) (λ cause. has) (λ cause quantity. has) input table.delimiters
     row-keeps child keeps goes id (Some (Scope list body)) s has = scoped-keeps list (child body) (keeps body) s has
     row-keeps child keeps goes id (Some (Boxed bits body)) s has = boxed-keeps bits (child body) (keeps body) s has (nat_le (s.at + bits) s.stop)
     row-keeps child keeps goes id (Some (PrefixedLeaf prefix prim)) s has =
         let used : ℕ = read_by table.primitives s.instead prim in
         let nil : Option (List Value) = nil_values table.primitives s.instead in
         let primitive : Option Primitive = slice_get table.primitives used in
-        prefixed-keeps (slice_get table.primitives prefix.prim) prefix.own (λ units after. sized_leaf input nil primitive (size_of prefix.unit units) after)
-        (λ units. sized-keeps nil primitive (size_of prefix.unit units) (sound-at table.primitives used bounded)) s has
+        prefixed-keeps table.delimiters (slice_get table.primitives prefix.prim) prefix.own (λ units after. sized_leaf input table.delimiters nil primitive (size_of prefix.unit units) after)
+        (λ units. sized-keeps table.delimiters nil primitive (size_of prefix.unit units) (sound-at table.primitives used bounded)) s has
+    row-keeps child keeps goes id (Some (Repeat count body)) s has = group-keeps child keeps (replicate count body) s has
     row-keeps child keeps goes id (Some (PrefixedBox prefix body)) s has =
-        prefixed-keeps (slice_get table.primitives prefix.prim) prefix.own (λ units after. boxed input (bits_of_units prefix.unit units) (child body) after)
+        prefixed-keeps table.delimiters (slice_get table.primitives prefix.prim) prefix.own (λ units after. boxed input (bits_of_units prefix.unit units) (child body) after)
         (λ units after kept. boxed-keeps (bits_of_units prefix.unit units) (child body) (keeps body) after kept
         (nat_le (after.at + bits_of_units prefix.unit units) after.stop)) s has
 

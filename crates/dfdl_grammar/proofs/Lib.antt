@@ -10,4 +10,5 @@ pub mod Trees
 pub mod Fine
 pub mod Filled
 pub mod Holding
+pub mod Scanned
 pub mod Held

@@ -1,12 +1,12 @@
 -- A search for a text leaves all as it is, but for the bit that comes next.
-use Rattle.std.proofs.Common.{ℕ, ◌+◌, Bool, true, false, cond, ◌&&◌, List, ◌∷◌, [], ◌++◌, length, nat_eq, nat_lt}
+use Rattle.std.proofs.Common.{ℕ, ◌+◌, ◌-◌, Bool, true, false, cond, ◌&&◌, List, ◌∷◌, [], ◌++◌, length, nat_eq, nat_lt, Option}
 use Rattle.dfdl_bits.specs.declared.window.Seen.{Seen}
 use Rattle.dfdl_delims.specs.Lists.{Opened}
 use Rattle.dfdl_delims.specs.Longest.{Longest, Text, NoText}
 use Rattle.dfdl_report.specs.declared.cause.LimitCause.{LimitCause}
 use Rattle.dfdl_report.specs.declared.cause.LimitCause.TheVariants.{Window}
 use Rattle.dfdl_report.specs.declared.cause.ParseCause.{ParseCause}
-use Rattle.dfdl_report.specs.declared.cause.ParseCause.TheVariants.{InitiatorMissing, TerminatorMissing}
+use Rattle.dfdl_report.specs.declared.cause.ParseCause.TheVariants.{InitiatorMissing, SeparatorMissing, TerminatorMissing}
 use Rattle.dfdl_terms.specs.declared.delimiters.Delimiter.{Delimiter}
 use Rattle.dfdl_terms.specs.declared.delimiters.Delimiters.{Delimiters}
 use Rattle.dfdl_looks.specs.Asks.{Reached, Told, TooFar, Missing, ask}
@@ -14,7 +14,7 @@ use Rattle.dfdl_looks.specs.Looks.{seen_in}
 use Rattle.dfdl_looks.specs.Tallies.{nothing}
 use Rattle.dfdl_grammar.specs.declared.end.End.{End}
 use Rattle.dfdl_grammar.specs.declared.end.End.TheVariants.{Done, Failed, Stopped}
-use Rattle.dfdl_grammar.specs.Delimiters.{initiator, lists_of, markup, passed_text, seek, sought_among, stands_in, terminator}
+use Rattle.dfdl_grammar.specs.Delimiters.{initiator, lists_of, markup, numbers_of, passed_text, seek, separator, sought_among, stands_in, terminator}
 use Rattle.dfdl_grammar.specs.Framing.{aligned}
 use Rattle.dfdl_grammar.specs.Outcomes.{Outcome, ended}
 use Rattle.dfdl_grammar.specs.States.{Input, State, anchor_at}
@@ -50,7 +50,11 @@ module _ (P : End → State → Type 0) (s : State) (still : P Done s) (moves : 
     initiator-comes delimiters delimiter =
         stands-comes InitiatorMissing (lists_of delimiters (delimiter.list ∷ [])) 0 (stands_in s.instead delimiter)
 
-    pub terminator-comes : (delimiters : List Delimiters) (delimiter : Delimiter)
-        → P (terminator input delimiters delimiter s).end (terminator input delimiters delimiter s).state
-    terminator-comes delimiters delimiter =
-        stands-comes TerminatorMissing (lists_of delimiters (markup s ++ delimiter.list ∷ [])) (length (markup s)) (stands_in s.instead delimiter)
+    pub terminator-comes : (delimiters : List Delimiters) (delimiter : Delimiter) (separators : Option ℕ)
+        → P (terminator input delimiters delimiter separators s).end (terminator input delimiters delimiter separators s).state
+    terminator-comes delimiters delimiter separators =
+        stands-comes TerminatorMissing (lists_of delimiters (markup s ++ delimiter.list ∷ numbers_of separators)) (length (markup s))
+        (stands_in s.instead delimiter)
+
+    pub separator-comes : (delimiters : List Delimiters) → P (separator input delimiters s).end (separator input delimiters s).state
+    separator-comes delimiters = seek-comes SeparatorMissing (lists_of delimiters (markup s)) (length (markup s) - 1)

@@ -1,13 +1,14 @@
 -- The elements stay a tree whatever the rows do.
-use Rattle.std.proofs.Common.{◌≡◌, ℕ, zero, suc, ◌+◌, ◌-◌, ◌*◌, ◌/◌, ◌<◌, ◌≤◌, refl, List, [], ◌∷◌, ◌++◌, length, Bool, true, false, cond, nat_eq, nat_le, nat_lt, Option, Some, None, ap, sym, subst, arith, zero-add}
+use Rattle.std.proofs.Common.{◌≡◌, ℕ, zero, suc, ◌+◌, ◌-◌, ◌*◌, ◌/◌, ◌<◌, ◌≤◌, refl, List, [], ◌∷◌, ◌++◌, length, Bool, true, false, cond, nat_eq, nat_le, nat_lt, Option, Some, None, ap, sym, subst, arith, zero-add, replicate}
 use Rattle.std.specs.Prelude.{slice_get}
 use Rattle.dfdl_report.specs.declared.cause.LimitCause.TheVariants.{Nodes, Text as TextLimit}
 use Rattle.dfdl_report.specs.declared.cause.ParseCause.TheVariants.{LengthOutOfRange}
+use Rattle.dfdl_terms.specs.declared.delimiters.Delimiters.{Delimiters}
 use Rattle.dfdl_terms.specs.declared.representations.Representations.{Representations}
 use Rattle.dfdl_value.specs.declared.value.Value.{Value}
 use Rattle.dfdl_terms.specs.declared.row.Primitive.{Primitive}
 use Rattle.dfdl_terms.specs.declared.row.Row.{Row}
-use Rattle.dfdl_terms.specs.declared.row.Row.TheVariants.{Leaf, Elem, Group, Skip, Align, Initiator, Terminator, Scope, Boxed, PrefixedLeaf, PrefixedBox}
+use Rattle.dfdl_terms.specs.declared.row.Row.TheVariants.{Leaf, Elem, Group, Skip, Align, Initiator, Terminator, Separator, Scope, Boxed, PrefixedLeaf, PrefixedBox, Repeat}
 use Rattle.dfdl_terms.specs.declared.text.TextSize.{TextSize}
 use Rattle.dfdl_terms.specs.Rows.{IsElementRow, Table}
 use Rattle.dfdl_region.specs.declared.node.Node.{Node}
@@ -26,7 +27,7 @@ use Rattle.dfdl_grammar.specs.Documents.{front_at}
 use Rattle.dfdl_grammar.specs.Outcomes.{Outcome, ended, follow, spend, then_do}
 use Rattle.dfdl_grammar.specs.Leaves.{Find, Fails, Finds, FindsOctets, FindsText, content_begins, has_room, land, leaf, nil_values, program_for, read_by}
 use Rattle.dfdl_grammar.specs.Framing.{aligned, fill_to, has_byte, passed}
-use Rattle.dfdl_grammar.specs.Delimiters.{closes_to, opens, scoped, unscoped}
+use Rattle.dfdl_grammar.specs.Delimiters.{closes_to, lists_of, markup, opens, scoped, unscoped}
 use Rattle.dfdl_grammar.specs.Boxes.{boxed, boxed_at, bytes_up_to, pass_bytes, past_byte, rest as rest_of, unboxed}
 use Rattle.dfdl_grammar.specs.Elements.{attempted, begun, close, element, has_elements, left}
 use Rattle.dfdl_grammar.specs.Marks.{closed}
@@ -37,7 +38,7 @@ use Rattle.dfdl_grammar.proofs.Going.{below-goes, tried-returns, tried-stays}
 use Rattle.dfdl_grammar.proofs.Grown.{Goes, begun-longer, content-length}
 use Rattle.dfdl_grammar.proofs.Prefixed.{prefixed-comes}
 use Rattle.dfdl_grammar.proofs.Represented.{any_ok, marked_by, refused, represented-comes}
-use Rattle.dfdl_grammar.proofs.Sought.{initiator-comes, terminator-comes}
+use Rattle.dfdl_grammar.proofs.Sought.{initiator-comes, separator-comes, terminator-comes}
 
 -- the elements are a tree, and the innermost open one is among them, where there are any
 record Grows (table : Table) (s : State) : Type 0 where
@@ -145,34 +146,34 @@ module _ (input : Input) (table : Table) where
   land-keeps first TooFar s good = (good, same_length (length s.nodes))
   land-keeps first Missing s good = (good, same_length (length s.nodes))
 
-  room-keeps : (nil : Option (List Value)) (primitive : Primitive) (s : State) → Grows table s → (room : Bool)
+  room-keeps : (delimiters : List Delimiters) (nil : Option (List Value)) (primitive : Primitive) (s : State) → Grows table s → (room : Bool)
       → Follows s (cond room
-      (let reading = ask (seen_in input.bytes input.limits.window (anchor s)) (program_for nil primitive s.at s.stop) nothing in
+      (let reading = ask (seen_in input.bytes input.limits.window (anchor s)) (program_for nil (lists_of delimiters (markup s)) primitive s.at s.stop) nothing in
       spend (needs_from (anchor s) reading.tally) (land input.limits (content_begins primitive s.at) reading.reached s))
       (ended (Failed LengthOutOfRange s.at) s)).state
-  room-keeps nil primitive s good true =
-      land-keeps (content_begins primitive s.at) (ask (seen_in input.bytes input.limits.window (anchor s)) (program_for nil primitive s.at s.stop) nothing).reached s good
-  room-keeps nil primitive s good false = (good, same_length (length s.nodes))
+  room-keeps delimiters nil primitive s good true =
+      land-keeps (content_begins primitive s.at) (ask (seen_in input.bytes input.limits.window (anchor s)) (program_for nil (lists_of delimiters (markup s)) primitive s.at s.stop) nothing).reached s good
+  room-keeps delimiters nil primitive s good false = (good, same_length (length s.nodes))
 
-  leaf-keeps : (nil : Option (List Value)) (primitive : Option Primitive) → Keeps (leaf input nil primitive)
-  leaf-keeps nil None s good = (good, same_length (length s.nodes))
-  leaf-keeps nil (Some primitive) s good = room-keeps nil primitive s good (has_room primitive s.at s.stop)
+  leaf-keeps : (delimiters : List Delimiters) (nil : Option (List Value)) (primitive : Option Primitive) → Keeps (leaf input delimiters nil primitive)
+  leaf-keeps delimiters nil None s good = (good, same_length (length s.nodes))
+  leaf-keeps delimiters nil (Some primitive) s good = room-keeps delimiters nil primitive s good (has_room primitive s.at s.stop)
 
   -- a leaf of another size
-  of-keeps : (nil : Option (List Value)) (primitive : Option Primitive) → Keeps (leaf_of input nil primitive)
-  of-keeps nil None s good = (good, same_length (length s.nodes))
-  of-keeps nil (Some primitive) s good = leaf-keeps nil (Some primitive) s good
+  of-keeps : (delimiters : List Delimiters) (nil : Option (List Value)) (primitive : Option Primitive) → Keeps (leaf_of input delimiters nil primitive)
+  of-keeps delimiters nil None s good = (good, same_length (length s.nodes))
+  of-keeps delimiters nil (Some primitive) s good = leaf-keeps delimiters nil (Some primitive) s good
 
-  sized-keeps : (nil : Option (List Value)) (primitive : Option Primitive) (size : TextSize) → Keeps (sized_leaf input nil primitive size)
-  sized-keeps nil None size s good = (good, same_length (length s.nodes))
-  sized-keeps nil (Some primitive) size s good = of-keeps nil (resized size primitive) s good
+  sized-keeps : (delimiters : List Delimiters) (nil : Option (List Value)) (primitive : Option Primitive) (size : TextSize) → Keeps (sized_leaf input delimiters nil primitive size)
+  sized-keeps delimiters nil None size s good = (good, same_length (length s.nodes))
+  sized-keeps delimiters nil (Some primitive) size s good = of-keeps delimiters nil (resized size primitive) s good
 
   -- a prefix, and what it tells the size of
-  prefixed-keeps : (by : Option Primitive) (own : ℕ) (next : ℕ → State → Outcome) → ((units : ℕ) → Keeps (next units)) → Keeps (prefixed input by own next)
-  prefixed-keeps by own next keeps s good =
+  prefixed-keeps : (delimiters : List Delimiters) (by : Option Primitive) (own : ℕ) (next : ℕ → State → Outcome) → ((units : ℕ) → Keeps (next units)) → Keeps (prefixed input delimiters by own next)
+  prefixed-keeps delimiters by own next keeps s good =
       let same : Follows s s = (good, same_length (length s.nodes)) in
       prefixed-comes (λ (e : End) (t : State). Follows s t) s (λ cause bit. same) (λ cause quantity. same) next
-      (λ units at. keeps units (record s { at = at }) (alike s (record s { at = at }) good refl refl)) input by own
+      (λ units at. keeps units (record s { at = at }) (alike s (record s { at = at }) good refl refl)) input delimiters by own
 
   passed-keeps : (to : ℕ) (reached : Reached Bool) → Keeps (passed input.limits.window to reached)
   passed-keeps to (Told true) s good = (record { tree = good.tree; few = good.few; open_one = good.open_one }, same_length (length s.nodes))
@@ -326,7 +327,7 @@ module _ (input : Input) (table : Table) where
       → slice_get table.rows id ≡ r → Keeps (row input table child id r)
   row-keeps child keeps goes id None is s good = (good, same_length (length s.nodes))
   row-keeps child keeps goes id (Some (Leaf prim)) is s good =
-      leaf-keeps (nil_values table.primitives s.instead) (slice_get table.primitives (read_by table.primitives s.instead prim)) s good
+      leaf-keeps table.delimiters (nil_values table.primitives s.instead) (slice_get table.primitives (read_by table.primitives s.instead prim)) s good
   row-keeps child keeps goes id (Some (Elem name simple tried body)) is s good =
       element-keeps id (has_elements simple) tried (child body) (subst (λ (r : Option Row). IsElementRow r) (sym is) tt) (keeps body) (goes body) s good
   row-keeps child keeps goes id (Some (Group children)) is s good = group-keeps child keeps children s good
@@ -337,20 +338,26 @@ module _ (input : Input) (table : Table) where
       initiator-comes (λ (e : End) (t : State). Follows s t) s same
       (λ at. (alike s (record s { at = at }) good refl refl, same_length (length s.nodes))) (λ cause. same) (λ cause quantity. same) input
       table.delimiters delimiter
-  row-keeps child keeps goes id (Some (Terminator delimiter)) is s good =
+  row-keeps child keeps goes id (Some (Terminator delimiter separators)) is s good =
       let same : Follows s s = (good, same_length (length s.nodes)) in
       terminator-comes (λ (e : End) (t : State). Follows s t) s same
       (λ at. (alike s (record s { at = at }) good refl refl, same_length (length s.nodes))) (λ cause. same) (λ cause quantity. same) input
-      table.delimiters delimiter
+      table.delimiters delimiter separators
+  row-keeps child keeps goes id (Some Separator) is s good =
+      let same : Follows s s = (good, same_length (length s.nodes)) in
+      separator-comes (λ (e : End) (t : State). Follows s t) s same
+      (λ at. (alike s (record s { at = at }) good refl refl, same_length (length s.nodes))) (λ cause. same) (λ cause quantity. same) input
+      table.delimiters
   row-keeps child keeps goes id (Some (Scope list body)) is s good = scoped-keeps list (child body) (keeps body) s good
   row-keeps child keeps goes id (Some (Boxed bits body)) is s good = boxed-keeps bits (child body) (keeps body) s good (nat_le (s.at + bits) s.stop)
   row-keeps child keeps goes id (Some (PrefixedLeaf prefix prim)) is s good =
       let nil : Option (List Value) = nil_values table.primitives s.instead in
       let primitive : Option Primitive = slice_get table.primitives (read_by table.primitives s.instead prim) in
-      prefixed-keeps (slice_get table.primitives prefix.prim) prefix.own (λ units after. sized_leaf input nil primitive (size_of prefix.unit units) after)
-      (λ units. sized-keeps nil primitive (size_of prefix.unit units)) s good
+      prefixed-keeps table.delimiters (slice_get table.primitives prefix.prim) prefix.own (λ units after. sized_leaf input table.delimiters nil primitive (size_of prefix.unit units) after)
+      (λ units. sized-keeps table.delimiters nil primitive (size_of prefix.unit units)) s good
+  row-keeps child keeps goes id (Some (Repeat count body)) is s good = group-keeps child keeps (replicate count body) s good
   row-keeps child keeps goes id (Some (PrefixedBox prefix body)) is s good =
-      prefixed-keeps (slice_get table.primitives prefix.prim) prefix.own (λ units after. boxed input (bits_of_units prefix.unit units) (child body) after)
+      prefixed-keeps table.delimiters (slice_get table.primitives prefix.prim) prefix.own (λ units after. boxed input (bits_of_units prefix.unit units) (child body) after)
       (λ units after kept. boxed-keeps (bits_of_units prefix.unit units) (child body) (keeps body) after kept
       (nat_le (after.at + bits_of_units prefix.unit units) after.stop)) s good
 

@@ -1,9 +1,9 @@
 -- Initiators and terminators, and the lists of delimiters that are open. 'Framing'.
-use Rattle.std.specs.Prelude.{ℕ, ◌+◌, ◌/◌, Bool, true, false, ◌&&◌, nat_eq, nat_lt, List, [], ◌∷◌, ◌++◌, length, map, take, drop, get_or, if◌then◌else◌}
+use Rattle.std.specs.Prelude.{ℕ, ◌+◌, ◌-◌, ◌/◌, Bool, true, false, ◌&&◌, nat_eq, nat_lt, List, [], ◌∷◌, ◌++◌, length, map, take, drop, get_or, Option, Some, None, if◌then◌else◌}
 use Rattle.dfdl_forms.specs.declared.encoding.Encoding.TheVariants.{Utf8}
 use Rattle.dfdl_report.specs.declared.cause.LimitCause.TheVariants.{Window}
 use Rattle.dfdl_report.specs.declared.cause.ParseCause.{ParseCause}
-use Rattle.dfdl_report.specs.declared.cause.ParseCause.TheVariants.{InitiatorMissing, TerminatorMissing}
+use Rattle.dfdl_report.specs.declared.cause.ParseCause.TheVariants.{InitiatorMissing, SeparatorMissing, TerminatorMissing}
 use Rattle.dfdl_delims.specs.Deciding.{goes_on}
 use Rattle.dfdl_delims.specs.Lists.{Opened}
 use Rattle.dfdl_delims.specs.Longest.{Longest, Text, NoText, longest_at}
@@ -69,12 +69,22 @@ initiator input delimiters delimiter s =
     then seek input InitiatorMissing (lists_of delimiters (delimiter.list ∷ [])) 0 s
     else ended Done s
 
--- a terminator, where it stands in the representation that is tried: it is sought among all terminating markup, of which it is the innermost
-abbrev pub terminator : Input → List Delimiters → Delimiter → State → Outcome
-terminator input delimiters delimiter s =
+-- the number of a list, if there is one
+abbrev pub numbers_of : Option ℕ → List ℕ
+numbers_of None = []
+numbers_of (Some number) = number ∷ []
+
+-- A terminator, where it stands in the representation that is tried: it is sought among all terminating markup, that of its own component
+-- innermost. The separators of the component, if it has any, come before it.
+abbrev pub terminator : Input → List Delimiters → Delimiter → Option ℕ → State → Outcome
+terminator input delimiters delimiter separators s =
     if stands_in s.instead delimiter
-    then seek input TerminatorMissing (lists_of delimiters (markup s ++ delimiter.list ∷ [])) (length (markup s)) s
+    then seek input TerminatorMissing (lists_of delimiters (markup s ++ delimiter.list ∷ numbers_of separators)) (length (markup s)) s
     else ended Done s
+
+-- a separator of the innermost component: it is sought among all terminating markup, of which its list is the innermost
+abbrev pub separator : Input → List Delimiters → State → Outcome
+separator input delimiters s = seek input SeparatorMissing (lists_of delimiters (markup s)) (length (markup s) - 1) s
 
 -- a list is open
 abbrev pub opens : ℕ → State → State

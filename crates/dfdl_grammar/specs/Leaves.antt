@@ -18,6 +18,7 @@ use Rattle.dfdl_packed.specs.Packed.{nibbles_in, packed_reading}
 use Rattle.dfdl_packed.specs.Zoned.{zoned_reading}
 use Rattle.dfdl_packed.specs.declared.fault.PackedFault.{PackedFault}
 use Rattle.dfdl_packed.specs.declared.fault.PackedFault.TheVariants as packed
+use Rattle.dfdl_terms.specs.declared.delimiters.Delimiters.{Delimiters}
 use Rattle.dfdl_terms.specs.declared.row.Primitive.{Primitive}
 use Rattle.dfdl_terms.specs.declared.row.Primitive.TheVariants.{Integer, Packed, Truth, Octets, Text, NilOctets, Default, NilValues, Pattern}
 use Rattle.dfdl_terms.specs.declared.text.DefaultForm.{DefaultForm}
@@ -26,12 +27,20 @@ use Rattle.dfdl_terms.specs.declared.text.NilOctets.{NilOctets as NilOctetsForm}
 use Rattle.dfdl_terms.specs.declared.text.OctetForm.{OctetForm}
 use Rattle.dfdl_terms.specs.declared.text.PatternForm.{PatternForm}
 use Rattle.dfdl_terms.specs.declared.text.TextContent.{TextContent}
-use Rattle.dfdl_terms.specs.declared.text.TextContent.TheVariants.{Plain, Number, Zoned, Truth as TextTruth, Nil}
+use Rattle.dfdl_terms.specs.declared.text.ScanForm.{ScanForm}
+use Rattle.dfdl_terms.specs.declared.text.TextContent.TheVariants.{Plain, Octets as TextOctets, Number, Zoned, Truth as TextTruth, Nil}
 use Rattle.dfdl_terms.specs.declared.text.TextForm.{TextForm}
 use Rattle.dfdl_terms.specs.declared.text.TextSize.{TextSize}
-use Rattle.dfdl_terms.specs.declared.text.TextSize.TheVariants.{Bits, Characters}
+use Rattle.dfdl_terms.specs.declared.text.TextSize.TheVariants.{Bits, Characters, Delimited}
 use Rattle.dfdl_text_string.specs.Padding.{trimmed}
 use Rattle.dfdl_text_string.specs.Truths.{truth_of}
+use Rattle.dfdl_forms.specs.declared.encoding.Encoding.TheVariants.{Iso88591}
+use Rattle.dfdl_chars.specs.Encodings.{encoded_text}
+use Rattle.dfdl_delims.specs.Lists.{Opened}
+use Rattle.dfdl_escapes.specs.Contents.{Content as DelimitedContent}
+use Rattle.dfdl_escapes.specs.Steps.{Step}
+use Rattle.dfdl_escapes.specs.Steps as steps
+use Rattle.dfdl_escapes.specs.Trims.{trimmed_content}
 use Rattle.dfdl_texts.specs.Texts.{Text as TextRead, Reads, HasBad, IsCut, IsBoxed, text_at}
 use Rattle.dfdl_texts.specs.declared.extent.Extent.TheVariants as extent
 use Rattle.dfdl_region.specs.Bytes.{utf8_of}
@@ -49,6 +58,8 @@ use Rattle.dfdl_grammar.specs.declared.limits.Limits.{Limits}
 use Rattle.dfdl_grammar.specs.States.{Input, State, anchor}
 use Rattle.dfdl_grammar.specs.Outcomes.{Outcome, ended, spend}
 use Rattle.dfdl_grammar.specs.Framing.{aligned}
+use Rattle.dfdl_grammar.specs.Delimiters.{lists_of, markup}
+use Rattle.dfdl_grammar.specs.Delimited.{first_step, plain, scanned}
 use Rattle.dfdl_grammar.specs.Nils.{are_nil, is_nil}
 use Rattle.dfdl_grammar.specs.Patterns.{matched_width, most_sought}
 use Rattle.dfdl_grammar.specs.Octets.{octets_from}
@@ -69,6 +80,7 @@ bytes_spanned bit bits = (bit % 8 + bits + 7) / 8
 abbrev pub bits_of_text : TextSize → ℕ
 bits_of_text (Bits bits) = bits
 bits_of_text (Characters count) = 0
+bits_of_text (Delimited scan) = 0
 
 -- the same of a primitive
 abbrev pub bits_of : Primitive → ℕ
@@ -93,6 +105,13 @@ abbrev pub text_begins : TextContent → TextSize → ℕ → ℕ
 text_begins content (Bits zero) bit = empty_begins content bit
 text_begins content (Bits (suc bits)) bit = aligned 8 bit
 text_begins content (Characters count) bit = aligned 8 bit
+text_begins content (Delimited scan) bit = aligned 8 bit
+
+-- the bit at which an empty representation begins whose box begins at this one
+abbrev pub default_begins : TextSize → ℕ → ℕ
+default_begins (Bits bits) bit = bit
+default_begins (Characters count) bit = bit
+default_begins (Delimited scan) bit = aligned 8 bit
 
 -- the bit at which the content of a primitive begins whose box begins at this one
 abbrev pub content_begins : Primitive → ℕ → ℕ
@@ -102,14 +121,16 @@ content_begins (Truth form) bit = bit
 content_begins (Octets form) bit = bit
 content_begins (Text form) bit = text_begins form.content form.size bit
 content_begins (NilOctets form) bit = bit
-content_begins (Default form) bit = bit
+content_begins (Default form) bit = default_begins form.size bit
 content_begins (NilValues form) bit = bit
 content_begins (Pattern form) bit = bit
 
--- the bit at which the box of a text ends whose box begins at a bit; where its characters are counted it is that of the box around
+-- the bit at which the box of a text ends whose box begins at a bit; where its characters are counted, or end at markup, it is that of the
+-- box around
 abbrev pub text_ends : TextSize → ℕ → ℕ → ℕ
 text_ends (Bits bits) bit stop = bit + bits
 text_ends (Characters count) bit stop = stop
+text_ends (Delimited scan) bit stop = stop
 
 -- the same of a primitive
 abbrev pub content_ends : Primitive → ℕ → ℕ → ℕ
@@ -233,19 +254,42 @@ nil_value_find values (FindsText bytes end) = nil_find end (list_any (is_text by
 abbrev pub is_no_size : TextSize → Bool
 is_no_size (Bits bits) = nat_eq bits 0
 is_no_size (Characters count) = nat_eq count 0
+is_no_size (Delimited scan) = false
 
--- the value that a box without bits stands for; where it has any, another representation follows
-abbrev pub default_of : DefaultForm → ℕ → Ask Find
-default_of form bit = Answer (if is_no_size form.size then default_find bit form.value else Fails RequiredEmpty)
+-- what a content is found as by its first step, which stands for a value at a bit where it ends the content; where it doesn't, another
+-- representation follows
+abbrev pub default_by_step : Value → ℕ → Step → Find
+default_by_step value bit (steps.Takes c escaped next) = Fails RequiredEmpty
+default_by_step value bit (steps.Passes next) = Fails RequiredEmpty
+default_by_step value bit (steps.Closes which) = default_find bit value
+default_by_step value bit steps.RunsOut = default_find bit value
+default_by_step value bit (steps.Fails cause) = Fails RequiredEmpty
+
+-- the value that a content of this size stands for that has no bit; where it has any, another representation follows
+abbrev pub default_of_size : Value → List Opened → TextSize → ℕ → ℕ → Ask Find
+default_of_size value lists (Delimited scan) bit stop =
+    and_then (first_step lists scan bit stop) (λ step. Answer (default_by_step value (aligned 8 bit) step))
+default_of_size value lists size bit stop = Answer (if is_no_size size then default_find bit value else Fails RequiredEmpty)
+
+-- the same of an empty representation
+abbrev pub default_of : DefaultForm → List Opened → ℕ → ℕ → Ask Find
+default_of form lists bit stop = default_of_size form.value lists form.size bit stop
 
 -- the bit behind the box of a text that begins at a bit, where its characters end before this byte
 abbrev pub text_behind : TextSize → ℕ → ℕ → ℕ
 text_behind (Bits bits) bit end = bit + bits
 text_behind (Characters count) bit end = 8 * end
+text_behind (Delimited scan) bit end = 8 * end
+
+-- what the bytes of a hexBinary before this bit are found as, where its characters have them
+abbrev pub octets_find : ℕ → Option (List ℕ) → Find
+octets_find end (Some bytes) = FindsOctets bytes end
+octets_find end None = Fails BadCharacter
 
 -- what characters before this bit are found as, by what they are read as
 abbrev pub content_find : TextContent → List ℕ → ℕ → Find
 content_find Plain characters end = FindsText (utf8_of characters) end
+content_find TextOctets characters end = octets_find end (encoded_text Iso88591 characters)
 content_find (Number form kind) characters end = number_find end (number_reading form kind characters)
 content_find (Zoned form) characters end = packed_find end (zoned_reading form characters)
 content_find (TextTruth form) characters end = truth_find end (truth_of form characters)
@@ -265,10 +309,24 @@ boxed_text form bit first end =
     then and_then (text_at form.encoding form.replaces extent.Box end (first / 8)) (λ text. Answer (text_find form bit text))
     else Answer (Fails NotFilled)
 
--- a text of a size, in a box that begins at a bit, inside of one that ends at another bit
-abbrev pub text_of_size : TextForm → TextSize → ℕ → ℕ → Ask Find
-text_of_size form (Bits bits) bit stop = boxed_text form bit (text_begins form.content (Bits bits) bit) (bit + bits)
-text_of_size form (Characters count) bit stop =
+-- what is found where a content ends so, if it isn't broken
+abbrev pub unless_broken : Step → Find → Find
+unless_broken (steps.Takes c escaped next) find = find
+unless_broken (steps.Passes next) find = find
+unless_broken (steps.Closes which) find = find
+unless_broken steps.RunsOut find = find
+unless_broken (steps.Fails cause) find = Fails cause
+
+-- what a content that markup ends is found as: it is read after trimming, which leaves escaped characters, up to the byte at which it ends
+abbrev pub delimited_find : TextForm → DelimitedContent → Find
+delimited_find form content =
+    unless_broken content.ends (content_find form.content (plain (trimmed_content form.pad content.characters)) (8 * content.last.byte))
+
+-- a text of a size, in a box that begins at a bit, inside of one that ends at another bit, where texts of these lists are terminating markup
+abbrev pub text_of_size : TextForm → TextSize → List Opened → ℕ → ℕ → Ask Find
+text_of_size form (Bits bits) lists bit stop = boxed_text form bit (text_begins form.content (Bits bits) bit) (bit + bits)
+text_of_size form (Delimited scan) lists bit stop = and_then (scanned lists scan bit stop) (λ content. Answer (delimited_find form content))
+text_of_size form (Characters count) lists bit stop =
     and_then (text_at form.encoding form.replaces (extent.Characters count) stop (aligned 8 bit / 8)) (λ text. Answer (text_find form bit text))
 
 -- the bit at which a content begins, at this bit or behind it, of which a pattern matches so many bytes: one with any begins at the next
@@ -293,22 +351,24 @@ text_sought form first stop = text_at form.encoding false extent.Front (min stop
 abbrev pub sought : PatternForm → ℕ → ℕ → Ask Find
 sought form bit stop = and_then (text_sought form (aligned 8 bit) stop) (λ text. Answer (pattern_find form bit text))
 
--- what the leaf of a primitive finds whose box begins at a bit, inside of a box that ends at another bit
-abbrev pub program : Primitive → ℕ → ℕ → Ask Find
-program (Integer form) bit stop = field (Integer form) bit
-program (Packed form) bit stop = field (Packed form) bit
-program (Truth form) bit stop = field (Truth form) bit
-program (Octets form) bit stop = octets form bit
-program (Text form) bit stop = text_of_size form form.size bit stop
-program (NilOctets form) bit stop = nil_octets form bit
-program (Default form) bit stop = default_of form bit
-program (NilValues form) bit stop = Answer (Fails RequiredEmpty)
-program (Pattern form) bit stop = sought form bit stop
+-- what the leaf of a primitive finds whose box begins at a bit, inside of a box that ends at another bit, where texts of these lists are
+-- terminating markup
+abbrev pub program : List Opened → Primitive → ℕ → ℕ → Ask Find
+program lists (Integer form) bit stop = field (Integer form) bit
+program lists (Packed form) bit stop = field (Packed form) bit
+program lists (Truth form) bit stop = field (Truth form) bit
+program lists (Octets form) bit stop = octets form bit
+program lists (Text form) bit stop = text_of_size form form.size lists bit stop
+program lists (NilOctets form) bit stop = nil_octets form bit
+program lists (Default form) bit stop = default_of form lists bit stop
+program lists (NilValues form) bit stop = Answer (Fails RequiredEmpty)
+program lists (Pattern form) bit stop = sought form bit stop
 
 -- what the leaf of a primitive finds, which has to be one of some values that are nil, if there are these
-abbrev pub program_for : Option (List Value) → Primitive → ℕ → ℕ → Ask Find
-program_for None primitive bit stop = program primitive bit stop
-program_for (Some values) primitive bit stop = and_then (program primitive bit stop) (λ find. Answer (nil_value_find values find))
+abbrev pub program_for : Option (List Value) → List Opened → Primitive → ℕ → ℕ → Ask Find
+program_for None lists primitive bit stop = program lists primitive bit stop
+program_for (Some values) lists primitive bit stop =
+    and_then (program lists primitive bit stop) (λ find. Answer (nil_value_find values find))
 
 -- the values of an element that are nil, where a primitive tells them
 abbrev pub values_in : Option Primitive → Option (List Value)
@@ -360,10 +420,11 @@ land limits first Missing s = ended Done s
 
 -- the leaf of a primitive, which gives the innermost open element its content, one of the values that are nil, if there are these;
 -- its box can't pass the end of the one around it
-abbrev pub leaf : Input → Option (List Value) → Option Primitive → State → Outcome
-leaf input nil None s = ended Done s
-leaf input nil (Some primitive) s =
+abbrev pub leaf : Input → List Delimiters → Option (List Value) → Option Primitive → State → Outcome
+leaf input delimiters nil None s = ended Done s
+leaf input delimiters nil (Some primitive) s =
     if has_room primitive s.at s.stop
-    then (let reading : Reading Find = ask (seen_in input.bytes input.limits.window (anchor s)) (program_for nil primitive s.at s.stop) nothing in
+    then (let reading : Reading Find =
+    ask (seen_in input.bytes input.limits.window (anchor s)) (program_for nil (lists_of delimiters (markup s)) primitive s.at s.stop) nothing in
     spend (needs_from (anchor s) reading.tally) (land input.limits (content_begins primitive s.at) reading.reached s))
     else ended (Failed LengthOutOfRange s.at) s

@@ -2,6 +2,7 @@ pub mod States
 pub mod Outcomes
 pub mod Marks
 pub mod Framing
+pub mod Delimited
 pub mod Delimiters
 pub mod Octets
 pub mod Nils

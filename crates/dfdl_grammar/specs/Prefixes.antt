@@ -9,10 +9,11 @@ use Rattle.dfdl_report.specs.declared.cause.ParseCause.TheVariants.{LengthOutOfR
 use Rattle.dfdl_terms.specs.declared.prefix.LengthUnit.{LengthUnit}
 use Rattle.dfdl_terms.specs.declared.prefix.LengthUnit.TheVariants as unit
 use Rattle.dfdl_terms.specs.declared.prefix.Prefix.{Prefix}
+use Rattle.dfdl_terms.specs.declared.delimiters.Delimiters.{Delimiters}
 use Rattle.dfdl_terms.specs.declared.row.Primitive.{Primitive}
 use Rattle.dfdl_terms.specs.declared.row.Primitive.TheVariants.{Integer, Packed, Truth, Octets, Text, NilOctets, Default, NilValues, Pattern}
 use Rattle.dfdl_terms.specs.declared.text.TextSize.{TextSize}
-use Rattle.dfdl_terms.specs.declared.text.TextSize.TheVariants.{Bits, Characters}
+use Rattle.dfdl_terms.specs.declared.text.TextSize.TheVariants.{Bits, Characters, Delimited}
 use Rattle.dfdl_value.specs.declared.value.Value.{Value}
 use Rattle.dfdl_region.specs.declared.node.Content.{Content}
 use Rattle.dfdl_region.specs.declared.node.Content.TheVariants.{Signed, Unsigned}
@@ -24,6 +25,7 @@ use Rattle.dfdl_grammar.specs.declared.limits.Limits.{Limits}
 use Rattle.dfdl_grammar.specs.States.{Input, State, anchor}
 use Rattle.dfdl_grammar.specs.Outcomes.{Outcome, ended, spend}
 use Rattle.dfdl_grammar.specs.Leaves.{Find, Fails, Finds, FindsOctets, FindsText, content_begins, failing_bit, has_room, leaf, program}
+use Rattle.dfdl_grammar.specs.Delimiters.{lists_of, markup}
 use Rattle.dfdl_grammar.specs.Boxes.{boxed}
 
 -- So many units as the size of a content. No data have more characters than 64 bits count, so more are taken for so many.
@@ -56,16 +58,17 @@ resized size (Default form) = Some (Default (record form { size = size }))
 resized (Bits bits) (NilValues form) = None
 resized (Bits bits) (Pattern form) = None
 resized (Characters count) primitive = None
+resized (Delimited scan) primitive = None
 
 -- the leaf of a primitive with another size; a size that it can't have fails
-abbrev pub leaf_of : Input → Option (List Value) → Option Primitive → State → Outcome
-leaf_of input nil None s = ended (Failed LengthOutOfRange s.at) s
-leaf_of input nil (Some primitive) s = leaf input nil (Some primitive) s
+abbrev pub leaf_of : Input → List Delimiters → Option (List Value) → Option Primitive → State → Outcome
+leaf_of input delimiters nil None s = ended (Failed LengthOutOfRange s.at) s
+leaf_of input delimiters nil (Some primitive) s = leaf input delimiters nil (Some primitive) s
 
 -- the leaf of a primitive that has this size in place of its own
-abbrev pub sized_leaf : Input → Option (List Value) → Option Primitive → TextSize → State → Outcome
-sized_leaf input nil None size s = ended Done s
-sized_leaf input nil (Some primitive) size s = leaf_of input nil (resized size primitive) s
+abbrev pub sized_leaf : Input → List Delimiters → Option (List Value) → Option Primitive → TextSize → State → Outcome
+sized_leaf input delimiters nil None size s = ended Done s
+sized_leaf input delimiters nil (Some primitive) size s = leaf_of input delimiters nil (resized size primitive) s
 
 -- how many units are left of a whole number of them, behind those that are the prefix's own; none where that would be less than 0
 abbrev pub units_left : ℕ → ℤ → Option ℕ
@@ -93,20 +96,21 @@ land_prefix limits own first next TooFar s = ended (Stopped Window limits.window
 land_prefix limits own first next Missing s = ended Done s
 
 -- a length prefix that is read by a primitive, and what follows it, by the number of units that it tells
-abbrev pub prefixed : Input → Option Primitive → ℕ → (ℕ → State → Outcome) → State → Outcome
-prefixed input None own next s = behind_prefix s.at next s None
-prefixed input (Some primitive) own next s =
+abbrev pub prefixed : Input → List Delimiters → Option Primitive → ℕ → (ℕ → State → Outcome) → State → Outcome
+prefixed input delimiters None own next s = behind_prefix s.at next s None
+prefixed input delimiters (Some primitive) own next s =
     if has_room primitive s.at s.stop
-    then (let reading : Reading Find = ask (seen_in input.bytes input.limits.window (anchor s)) (program primitive s.at s.stop) nothing in
+    then (let reading : Reading Find =
+    ask (seen_in input.bytes input.limits.window (anchor s)) (program (lists_of delimiters (markup s)) primitive s.at s.stop) nothing in
     spend (needs_from (anchor s) reading.tally) (land_prefix input.limits own (content_begins primitive s.at) next reading.reached s))
     else ended (Failed LengthOutOfRange s.at) s
 
 -- a prefix and the leaf whose size it tells
-abbrev pub prefixed_leaf : Input → Option Primitive → Prefix → Option (List Value) → Option Primitive → State → Outcome
-prefixed_leaf input by prefix nil primitive s =
-    prefixed input by prefix.own (λ units after. sized_leaf input nil primitive (size_of prefix.unit units) after) s
+abbrev pub prefixed_leaf : Input → List Delimiters → Option Primitive → Prefix → Option (List Value) → Option Primitive → State → Outcome
+prefixed_leaf input delimiters by prefix nil primitive s =
+    prefixed input delimiters by prefix.own (λ units after. sized_leaf input delimiters nil primitive (size_of prefix.unit units) after) s
 
 -- a prefix and the box whose size it tells, with what is in it
-abbrev pub prefixed_box : Input → Option Primitive → Prefix → (State → Outcome) → State → Outcome
-prefixed_box input by prefix body s =
-    prefixed input by prefix.own (λ units after. boxed input (bits_of_units prefix.unit units) body after) s
+abbrev pub prefixed_box : Input → List Delimiters → Option Primitive → Prefix → (State → Outcome) → State → Outcome
+prefixed_box input delimiters by prefix body s =
+    prefixed input delimiters by prefix.own (λ units after. boxed input (bits_of_units prefix.unit units) body after) s

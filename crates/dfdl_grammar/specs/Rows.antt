@@ -1,7 +1,7 @@
 -- The meaning of each row, by that of the rows inside it, which stand below it. 'DFDL Data Syntax Grammar'.
-use Rattle.std.specs.Prelude.{ℕ, zero, suc, nat_eq, List, [], ◌∷◌, Option, Some, None, slice_get, if◌then◌else◌}
+use Rattle.std.specs.Prelude.{ℕ, zero, suc, nat_eq, List, [], ◌∷◌, Option, Some, None, slice_get, replicate, if◌then◌else◌}
 use Rattle.dfdl_terms.specs.declared.row.Row.{Row}
-use Rattle.dfdl_terms.specs.declared.row.Row.TheVariants.{Leaf, Elem, Group, Skip, Align, Initiator, Terminator, Scope, Boxed, PrefixedLeaf, PrefixedBox}
+use Rattle.dfdl_terms.specs.declared.row.Row.TheVariants.{Leaf, Elem, Group, Skip, Align, Initiator, Terminator, Separator, Scope, Boxed, PrefixedLeaf, PrefixedBox, Repeat}
 use Rattle.dfdl_terms.specs.Rows.{Table}
 use Rattle.dfdl_grammar.specs.declared.end.End.TheVariants.{Done}
 use Rattle.dfdl_looks.specs.Tallies.{one_row}
@@ -9,7 +9,7 @@ use Rattle.dfdl_grammar.specs.States.{Input, State}
 use Rattle.dfdl_grammar.specs.Outcomes.{Outcome, ended, spend, then_do}
 use Rattle.dfdl_grammar.specs.Leaves.{leaf, nil_values, read_by}
 use Rattle.dfdl_grammar.specs.Framing.{align, skip}
-use Rattle.dfdl_grammar.specs.Delimiters.{initiator, scoped, terminator}
+use Rattle.dfdl_grammar.specs.Delimiters.{initiator, scoped, separator, terminator}
 use Rattle.dfdl_grammar.specs.Boxes.{boxed}
 use Rattle.dfdl_grammar.specs.Elements.{element, has_elements}
 use Rattle.dfdl_grammar.specs.Prefixes.{prefixed_box, prefixed_leaf}
@@ -23,20 +23,22 @@ group child (id ∷ ids) s = then_do (child id s) (group child ids)
 abbrev pub row : Input → Table → (ℕ → State → Outcome) → ℕ → Option Row → State → Outcome
 row input table child id None s = ended Done s
 row input table child id (Some (Leaf prim)) s =
-    leaf input (nil_values table.primitives s.instead) (slice_get table.primitives (read_by table.primitives s.instead prim)) s
+    leaf input table.delimiters (nil_values table.primitives s.instead) (slice_get table.primitives (read_by table.primitives s.instead prim)) s
 row input table child id (Some (Elem name simple tried body)) s = element input id (has_elements simple) tried (child body) s
 row input table child id (Some (Group children)) s = group child children s
 row input table child id (Some (Skip bits)) s = skip input bits s
 row input table child id (Some (Align bits)) s = align input bits s
 row input table child id (Some (Initiator delimiter)) s = initiator input table.delimiters delimiter s
-row input table child id (Some (Terminator delimiter)) s = terminator input table.delimiters delimiter s
+row input table child id (Some (Terminator delimiter separators)) s = terminator input table.delimiters delimiter separators s
+row input table child id (Some Separator) s = separator input table.delimiters s
 row input table child id (Some (Scope list body)) s = scoped list (child body) s
 row input table child id (Some (Boxed bits body)) s = boxed input bits (child body) s
 row input table child id (Some (PrefixedLeaf prefix prim)) s =
-    prefixed_leaf input (slice_get table.primitives prefix.prim) prefix (nil_values table.primitives s.instead)
+    prefixed_leaf input table.delimiters (slice_get table.primitives prefix.prim) prefix (nil_values table.primitives s.instead)
     (slice_get table.primitives (read_by table.primitives s.instead prim)) s
 row input table child id (Some (PrefixedBox prefix body)) s =
-    prefixed_box input (slice_get table.primitives prefix.prim) prefix (child body) s
+    prefixed_box input table.delimiters (slice_get table.primitives prefix.prim) prefix (child body) s
+row input table child id (Some (Repeat count body)) s = group child (replicate count body) s
 
 -- the row of this number of the table, with its cost
 abbrev pub row_at : Input → Table → (ℕ → State → Outcome) → ℕ → State → Outcome

@@ -10,7 +10,8 @@
 //! - Nils: what stands for nil in the data ('DFDL Data Syntax Grammar').
 //! - Patterns: how many bytes a pattern matches in the data ('Lengths').
 //! - Framing: alignment and skips ('Framing').
-//! - Delimiters: initiators and terminators, and which are open ('Framing').
+//! - Delimiters: initiators, terminators and separators, and which are open ('Framing', 'Sequence Groups').
+//! - Delimited: contents that terminating markup ends ('Simple Types').
 //! - Boxes: a box around a content, and what the content leaves of it ('Lengths').
 //! - Prefixes: a number before a content that tells how long that is ('Lengths').
 //! - Elements: an element begins, and ends ('The DFDL Information Set').

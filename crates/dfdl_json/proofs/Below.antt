@@ -4,7 +4,7 @@ use Rattle.std.specs.List.{flat_map}
 use Rattle.std.proofs.lemmas.Bool.{cases_lt}
 use Rattle.std.proofs.lemmas.List.Elements.{All-cons, All-nil, All-append}
 use Rattle.dfdl_terms.specs.declared.row.Row.{Row}
-use Rattle.dfdl_terms.specs.declared.row.Row.TheVariants.{Leaf, Elem, Group, Skip, Align, Initiator, Terminator, Scope, Boxed, PrefixedLeaf, PrefixedBox}
+use Rattle.dfdl_terms.specs.declared.row.Row.TheVariants.{Leaf, Elem, Group, Skip, Align, Initiator, Terminator, Separator, Scope, Boxed, PrefixedLeaf, PrefixedBox, Repeat}
 use Rattle.dfdl_terms.specs.Rows.{IsElementRow, Table}
 use Rattle.dfdl_json.specs.ByRows.{below}
 use Rattle.dfdl_json.specs.Children.{declared_by, elements_in}
@@ -57,7 +57,8 @@ by_kind t row (Some (Leaf prim)) is each = record { within = All-nil (λ c. c < 
 by_kind t row (Some (Skip bits)) is each = record { within = All-nil (λ c. c < suc row); few = omega arith; elements = All-nil (λ c. IsElementRow (slice_get t.rows c)) }
 by_kind t row (Some (Align bits)) is each = record { within = All-nil (λ c. c < suc row); few = omega arith; elements = All-nil (λ c. IsElementRow (slice_get t.rows c)) }
 by_kind t row (Some (Initiator delimiter)) is each = record { within = All-nil (λ c. c < suc row); few = omega arith; elements = All-nil (λ c. IsElementRow (slice_get t.rows c)) }
-by_kind t row (Some (Terminator delimiter)) is each = record { within = All-nil (λ c. c < suc row); few = omega arith; elements = All-nil (λ c. IsElementRow (slice_get t.rows c)) }
+by_kind t row (Some (Terminator delimiter separators)) is each = record { within = All-nil (λ c. c < suc row); few = omega arith; elements = All-nil (λ c. IsElementRow (slice_get t.rows c)) }
+by_kind t row (Some Separator) is each = record { within = All-nil (λ c. c < suc row); few = omega arith; elements = All-nil (λ c. IsElementRow (slice_get t.rows c)) }
 by_kind t row (Some (PrefixedLeaf prefix prim)) is each = record { within = All-nil (λ c. c < suc row); few = omega arith; elements = All-nil (λ c. IsElementRow (slice_get t.rows c)) }
 by_kind t row (Some (Scope list body)) is each =
     let inside = one_below t row body each in
@@ -66,6 +67,9 @@ by_kind t row (Some (Boxed bits body)) is each =
     let inside = one_below t row body each in
     record { within = inside.within; few = omega (arith, inside.few); elements = inside.elements }
 by_kind t row (Some (PrefixedBox prefix body)) is each =
+    let inside = one_below t row body each in
+    record { within = inside.within; few = omega (arith, inside.few); elements = inside.elements }
+by_kind t row (Some (Repeat count body)) is each =
     let inside = one_below t row body each in
     record { within = inside.within; few = omega (arith, inside.few); elements = inside.elements }
 by_kind t row (Some (Elem name simple tried body)) is each = record {
@@ -94,11 +98,13 @@ some_by inside row (Some (Leaf prim)) = omega arith
 some_by inside row (Some (Skip bits)) = omega arith
 some_by inside row (Some (Align bits)) = omega arith
 some_by inside row (Some (Initiator delimiter)) = omega arith
-some_by inside row (Some (Terminator delimiter)) = omega arith
+some_by inside row (Some (Terminator delimiter separators)) = omega arith
+some_by inside row (Some Separator) = omega arith
 some_by inside row (Some (Scope list body)) = omega arith
 some_by inside row (Some (Boxed bits body)) = omega arith
 some_by inside row (Some (PrefixedLeaf prefix prim)) = omega arith
 some_by inside row (Some (PrefixedBox prefix body)) = omega arith
+some_by inside row (Some (Repeat count body)) = omega arith
 some_by inside row (Some (Elem name simple tried body)) = omega arith
 some_by inside row (Some (Group children)) = omega arith
 

@@ -9,7 +9,7 @@ use Rattle.dfdl_forms.specs.declared.simple.Simple.{Simple}
 use Rattle.dfdl_terms.specs.declared.representations.Representations.{Representations}
 use Rattle.dfdl_terms.specs.declared.delimiters.Delimiter.{Delimiter}
 use Rattle.dfdl_terms.specs.declared.prefix.Prefix.{Prefix}
-use Rattle.dfdl_terms.specs.declared.row.Row.TheVariants.{Leaf, Elem, Group, Skip, Align, Initiator, Terminator, Scope, Boxed, PrefixedLeaf, PrefixedBox}
+use Rattle.dfdl_terms.specs.declared.row.Row.TheVariants.{Leaf, Elem, Group, Skip, Align, Initiator, Terminator, Separator, Scope, Boxed, PrefixedLeaf, PrefixedBox, Repeat}
 use Rattle.dfdl_terms.specs.declared.event.Event.TheVariants.{Start, End}
 use Rattle.dfdl_terms.specs.Rows.{Table}
 use Rattle.dfdl_json.specs.ByRows.{below}
@@ -70,8 +70,11 @@ module _ (t : Table) (row : ℕ) (content : Data) (around : Names) where
   pub initiator_says : (delimiter : Delimiter) → slice_get t.rows row ≡ Some (Initiator delimiter) → findings t row content around ≡ []
   initiator_says delimiter is = ap (λ f. f content around) (row_is (findings_by t) (λ c a. []) t.rows row (Some (Initiator delimiter)) is)
 
-  pub terminator_says : (delimiter : Delimiter) → slice_get t.rows row ≡ Some (Terminator delimiter) → findings t row content around ≡ []
-  terminator_says delimiter is = ap (λ f. f content around) (row_is (findings_by t) (λ c a. []) t.rows row (Some (Terminator delimiter)) is)
+  pub terminator_says : (delimiter : Delimiter) (separators : Option ℕ) → slice_get t.rows row ≡ Some (Terminator delimiter separators) → findings t row content around ≡ []
+  terminator_says delimiter separators is = ap (λ f. f content around) (row_is (findings_by t) (λ c a. []) t.rows row (Some (Terminator delimiter separators)) is)
+
+  pub separator_says : slice_get t.rows row ≡ Some Separator → findings t row content around ≡ []
+  separator_says is = ap (λ f. f content around) (row_is (findings_by t) (λ c a. []) t.rows row (Some Separator) is)
 
   pub box_says : (bits body : ℕ) → slice_get t.rows row ≡ Some (Boxed bits body) → findings t row content around ≡ []
   box_says bits body is = ap (λ f. f content around) (row_is (findings_by t) (λ c a. []) t.rows row (Some (Boxed bits body)) is)
@@ -84,6 +87,9 @@ module _ (t : Table) (row : ℕ) (content : Data) (around : Names) where
 
   pub prefixed_box_says : (prefix : Prefix) (body : ℕ) → slice_get t.rows row ≡ Some (PrefixedBox prefix body) → findings t row content around ≡ []
   prefixed_box_says prefix body is = ap (λ f. f content around) (row_is (findings_by t) (λ c a. []) t.rows row (Some (PrefixedBox prefix body)) is)
+
+  pub repeat_says : (count body : ℕ) → slice_get t.rows row ≡ Some (Repeat count body) → findings t row content around ≡ []
+  repeat_says count body is = ap (λ f. f content around) (row_is (findings_by t) (λ c a. []) t.rows row (Some (Repeat count body)) is)
 
   pub group_says : (children : List ℕ) → slice_get t.rows row ≡ Some (Group children) → findings t row content around ≡ []
   group_says children is = ap (λ f. f content around) (row_is (findings_by t) (λ c a. []) t.rows row (Some (Group children)) is)

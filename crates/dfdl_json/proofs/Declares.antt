@@ -8,7 +8,7 @@ use Rattle.dfdl_terms.specs.declared.representations.Representations.{Representa
 use Rattle.dfdl_terms.specs.declared.delimiters.Delimiter.{Delimiter}
 use Rattle.dfdl_terms.specs.declared.prefix.Prefix.{Prefix}
 use Rattle.dfdl_terms.specs.declared.row.Row.{Row}
-use Rattle.dfdl_terms.specs.declared.row.Row.TheVariants.{Leaf, Elem, Group, Skip, Align, Initiator, Terminator, Scope, Boxed, PrefixedLeaf, PrefixedBox}
+use Rattle.dfdl_terms.specs.declared.row.Row.TheVariants.{Leaf, Elem, Group, Skip, Align, Initiator, Terminator, Separator, Scope, Boxed, PrefixedLeaf, PrefixedBox, Repeat}
 use Rattle.dfdl_terms.specs.Rows.{Table, ChildrenBelow}
 use Rattle.dfdl_json.specs.ByRows.{below}
 use Rattle.dfdl_json.specs.Children.{declared_by, elements_in}
@@ -31,8 +31,11 @@ module _ (t : Table) (row : ℕ) where
   pub initiator_declares : (delimiter : Delimiter) → slice_get t.rows row ≡ Some (Initiator delimiter) → elements_in t row ≡ []
   initiator_declares delimiter is = row_is declared_by [] t.rows row (Some (Initiator delimiter)) is
 
-  pub terminator_declares : (delimiter : Delimiter) → slice_get t.rows row ≡ Some (Terminator delimiter) → elements_in t row ≡ []
-  terminator_declares delimiter is = row_is declared_by [] t.rows row (Some (Terminator delimiter)) is
+  pub terminator_declares : (delimiter : Delimiter) (separators : Option ℕ) → slice_get t.rows row ≡ Some (Terminator delimiter separators) → elements_in t row ≡ []
+  terminator_declares delimiter separators is = row_is declared_by [] t.rows row (Some (Terminator delimiter separators)) is
+
+  pub separator_declares : slice_get t.rows row ≡ Some Separator → elements_in t row ≡ []
+  separator_declares is = row_is declared_by [] t.rows row (Some Separator) is
 
   pub box_declares : (bits body : ℕ) → slice_get t.rows row ≡ Some (Boxed bits body) → body < row → elements_in t row ≡ elements_in t body
   box_declares bits body is less =
@@ -49,6 +52,10 @@ module _ (t : Table) (row : ℕ) where
       → elements_in t row ≡ elements_in t body
   prefixed_box_declares prefix body is less =
       row_is declared_by [] t.rows row (Some (PrefixedBox prefix body)) is ∙ below_is declared_by [] t.rows row body less
+
+  pub repeat_declares : (count body : ℕ) → slice_get t.rows row ≡ Some (Repeat count body) → body < row → elements_in t row ≡ elements_in t body
+  repeat_declares count body is less =
+      row_is declared_by [] t.rows row (Some (Repeat count body)) is ∙ below_is declared_by [] t.rows row body less
 
   pub elem_declares : (name : List ℕ) (simple : Option Simple) (tried : Representations) (body : ℕ) → slice_get t.rows row ≡ Some (Elem name simple tried body) → elements_in t row ≡ row ∷ []
   elem_declares name simple tried body is = row_is declared_by [] t.rows row (Some (Elem name simple tried body)) is
@@ -74,8 +81,11 @@ module _ (t : Table) (row : ℕ) where
   pub initiator_steps : (delimiter : Delimiter) → slice_get t.rows row ≡ Some (Initiator delimiter) → steps_of t row ≡ 1
   initiator_steps delimiter is = row_is steps_by 0 t.rows row (Some (Initiator delimiter)) is
 
-  pub terminator_steps : (delimiter : Delimiter) → slice_get t.rows row ≡ Some (Terminator delimiter) → steps_of t row ≡ 1
-  terminator_steps delimiter is = row_is steps_by 0 t.rows row (Some (Terminator delimiter)) is
+  pub terminator_steps : (delimiter : Delimiter) (separators : Option ℕ) → slice_get t.rows row ≡ Some (Terminator delimiter separators) → steps_of t row ≡ 1
+  terminator_steps delimiter separators is = row_is steps_by 0 t.rows row (Some (Terminator delimiter separators)) is
+
+  pub separator_steps : slice_get t.rows row ≡ Some Separator → steps_of t row ≡ 1
+  separator_steps is = row_is steps_by 0 t.rows row (Some Separator) is
 
   pub box_steps : (bits body : ℕ) → slice_get t.rows row ≡ Some (Boxed bits body) → body < row → steps_of t row ≡ 1 + steps_of t body
   box_steps bits body is less =
@@ -92,6 +102,10 @@ module _ (t : Table) (row : ℕ) where
       → steps_of t row ≡ 1 + steps_of t body
   prefixed_box_steps prefix body is less =
       row_is steps_by 0 t.rows row (Some (PrefixedBox prefix body)) is ∙ ap (λ n. 1 + n) (below_is steps_by 0 t.rows row body less)
+
+  pub repeat_steps : (count body : ℕ) → slice_get t.rows row ≡ Some (Repeat count body) → body < row → steps_of t row ≡ 1 + steps_of t body
+  repeat_steps count body is less =
+      row_is steps_by 0 t.rows row (Some (Repeat count body)) is ∙ ap (λ n. 1 + n) (below_is steps_by 0 t.rows row body less)
 
   pub elem_steps : (name : List ℕ) (simple : Option Simple) (tried : Representations) (body : ℕ) → slice_get t.rows row ≡ Some (Elem name simple tried body) → body < row
       → steps_of t row ≡ 2 + steps_of t body
@@ -124,6 +138,9 @@ below_scope bound r list body is below_row = subst (λ (x : Row). ChildrenBelow 
 
 pub below_prefixed_box : (bound : ℕ) (r : Row) (prefix : Prefix) (body : ℕ) → r ≡ PrefixedBox prefix body → ChildrenBelow bound r → body < bound
 below_prefixed_box bound r prefix body is below_row = subst (λ (x : Row). ChildrenBelow bound x) is below_row
+
+pub below_repeat : (bound : ℕ) (r : Row) (count body : ℕ) → r ≡ Repeat count body → ChildrenBelow bound r → body < bound
+below_repeat bound r count body is below_row = subst (λ (x : Row). ChildrenBelow bound x) is below_row
 
 pub below_group : (bound : ℕ) (r : Row) (children : List ℕ) → r ≡ Group children → ChildrenBelow bound r → All (λ c. c < bound) children
 below_group bound r children is below_row = subst (λ (x : Row). ChildrenBelow bound x) is below_row

@@ -10,7 +10,7 @@ use Rattle.dfdl_forms.specs.declared.simple.Simple.{Simple}
 use Rattle.dfdl_value.specs.declared.value.Value.{Value}
 use Rattle.dfdl_terms.specs.declared.representations.Representations.{Representations}
 use Rattle.dfdl_terms.specs.declared.row.Row.{Row}
-use Rattle.dfdl_terms.specs.declared.row.Row.TheVariants.{Leaf, Elem, Group, Skip, Align, Initiator, Terminator, Scope, Boxed, PrefixedLeaf, PrefixedBox}
+use Rattle.dfdl_terms.specs.declared.row.Row.TheVariants.{Leaf, Elem, Group, Skip, Align, Initiator, Terminator, Separator, Scope, Boxed, PrefixedLeaf, PrefixedBox, Repeat}
 use Rattle.dfdl_terms.specs.declared.event.Event.{Event}
 use Rattle.dfdl_terms.specs.declared.event.Event.TheVariants.{Start, End}
 use Rattle.dfdl_terms.specs.Rows.{HasElementLast, IsElementRow, Nests, Table}
@@ -103,11 +103,13 @@ fits_by t nests row each (Some (Leaf prim)) is content around element none = abs
 fits_by t nests row each (Some (Skip bits)) is content around element none = absurd (subst IsElementRow is element)
 fits_by t nests row each (Some (Align bits)) is content around element none = absurd (subst IsElementRow is element)
 fits_by t nests row each (Some (Initiator delimiter)) is content around element none = absurd (subst IsElementRow is element)
-fits_by t nests row each (Some (Terminator delimiter)) is content around element none = absurd (subst IsElementRow is element)
+fits_by t nests row each (Some (Terminator delimiter separators)) is content around element none = absurd (subst IsElementRow is element)
+fits_by t nests row each (Some Separator) is content around element none = absurd (subst IsElementRow is element)
 fits_by t nests row each (Some (Scope list body)) is content around element none = absurd (subst IsElementRow is element)
 fits_by t nests row each (Some (Boxed bits body)) is content around element none = absurd (subst IsElementRow is element)
 fits_by t nests row each (Some (PrefixedLeaf prefix prim)) is content around element none = absurd (subst IsElementRow is element)
 fits_by t nests row each (Some (PrefixedBox prefix body)) is content around element none = absurd (subst IsElementRow is element)
+fits_by t nests row each (Some (Repeat count body)) is content around element none = absurd (subst IsElementRow is element)
 fits_by t nests row each (Some (Group children)) is content around element none = absurd (subst IsElementRow is element)
 fits_by t nests row each (Some (Elem name (Some kind) tried body)) is content around element none =
     let says = simple_says t row content around name kind tried body is in

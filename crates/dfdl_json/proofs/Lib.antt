@@ -10,3 +10,4 @@ mod Notes
 pub mod RowValues
 mod TextReading
 mod Typed
+mod Turned

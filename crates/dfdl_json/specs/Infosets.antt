@@ -13,7 +13,7 @@ use Rattle.dfdl_report.specs.declared.cause.InfosetCause.{InfosetCause}
 use Rattle.dfdl_report.specs.declared.cause.InfosetCause.TheVariants.{RootExpected, UnknownMember, ObjectExpected, StringExpected, NotAValue, NullNotAllowed}
 use Rattle.dfdl_terms.specs.Rows.{Table}
 use Rattle.dfdl_terms.specs.declared.row.Row.{Row}
-use Rattle.dfdl_terms.specs.declared.row.Row.TheVariants.{Leaf, Elem, Group, Skip, Align, Initiator, Terminator, Scope, Boxed, PrefixedLeaf, PrefixedBox}
+use Rattle.dfdl_terms.specs.declared.row.Row.TheVariants.{Leaf, Elem, Group, Skip, Align, Initiator, Terminator, Separator, Scope, Boxed, PrefixedLeaf, PrefixedBox, Repeat}
 use Rattle.dfdl_terms.specs.declared.event.Event.{Event}
 use Rattle.dfdl_terms.specs.declared.event.Event.TheVariants.{Start, Simple as SimpleElement, End}
 use Rattle.dfdl_json.specs.ByRows.{by_rows}
@@ -113,11 +113,13 @@ findings_by t inside row (Some (Group children)) content around = []
 findings_by t inside row (Some (Skip bits)) content around = []
 findings_by t inside row (Some (Align bits)) content around = []
 findings_by t inside row (Some (Initiator delimiter)) content around = []
-findings_by t inside row (Some (Terminator delimiter)) content around = []
+findings_by t inside row (Some (Terminator delimiter separators)) content around = []
+findings_by t inside row (Some Separator) content around = []
 findings_by t inside row (Some (Scope list body)) content around = []
 findings_by t inside row (Some (Boxed bits body)) content around = []
 findings_by t inside row (Some (PrefixedLeaf prefix prim)) content around = []
 findings_by t inside row (Some (PrefixedBox prefix body)) content around = []
+findings_by t inside row (Some (Repeat count body)) content around = []
 findings_by t inside row None content around = []
 
 -- what content says of the element of this row, which stands in elements of these names

@@ -1,10 +1,12 @@
 -- The infoset of parsed data, and its text: compact JSON and one line feed ('The DFDL Information Set').
-use Rattle.std.specs.Prelude.{ℕ, ◌+◌, nat_eq, if◌then◌else◌, List, [], ◌∷◌, ◌++◌}
-use Rattle.serde_json.specs.Data.{Data, null, string, object, Members, no_members, put}
+use Rattle.std.specs.Prelude.{ℕ, ◌+◌, nat_eq, Bool, true, false, if◌then◌else◌, List, [], ◌∷◌, ◌++◌, Option, Some}
+use Rattle.serde_json.specs.Data.{Data, null, string, array, object, Items, no_items, item, Members, no_members, put}
+use Rattle.serde_json.specs.Find.{get_member}
 use Rattle.serde_json.specs.Written.{compact_text}
 use Rattle.dfdl_value.specs.declared.value.Value.TheVariants.{Int, Uns, Dec, Truth as TruthValue, Bytes}
 use Rattle.dfdl_value.specs.Writing.{text_of}
 use Rattle.dfdl_terms.specs.Rows.{Table}
+use Rattle.dfdl_terms.specs.Arrays.{is_item}
 use Rattle.dfdl_region.specs.declared.node.Node.{Node}
 use Rattle.dfdl_region.specs.declared.node.Content.{Content}
 use Rattle.dfdl_region.specs.declared.node.Content.TheVariants.{Begun, Complex, Nil, Signed, Unsigned, Decimal, Truth, Text, Octets}
@@ -24,13 +26,29 @@ data_of bytes Nil entries = null
 data_of bytes Complex entries = object entries
 data_of bytes Begun entries = object entries
 
+-- the items of a member that is an array; any other has none
+abbrev pub items_in : Option Data → Items
+items_in (Some (array items)) = items
+items_in _ = no_items
+
+-- what an element's name has with the data of this element in front of what it has by those behind: where elements are
+-- items, an array of one more, and else this data
+abbrev pub with_element : Bool → Data → Option Data → Data
+with_element true own behind = array (item own (items_in behind))
+with_element false own behind = own
+
+-- the members that an element has with this element in it, by those that it has of the elements behind
+abbrev pub put_element : Bool → List ℕ → Data → Members → Members
+put_element items name own entries = put name (with_element items own (get_member name entries)) entries
+
 -- the members that the element of a number has of these nodes, the first of which has the number `from`: one for each
--- that stands in it, whose own members are of the nodes behind it
+-- that stands in it, or for all items of an array, whose own members are of the nodes behind it
 abbrev pub members_of : Table → List ℕ → ℕ → List Node → ℕ → Members
 members_of t bytes from [] number = no_members
 members_of t bytes from (node ∷ nodes) number =
     if nat_eq node.parent number
-    then put (name_of t node.element) (data_of bytes node.content (members_of t bytes (from + 1) nodes from)) (members_of t bytes (from + 1) nodes number)
+    then put_element (is_item t.rows node.element) (name_of t node.element)
+    (data_of bytes node.content (members_of t bytes (from + 1) nodes from)) (members_of t bytes (from + 1) nodes number)
     else members_of t bytes (from + 1) nodes number
 
 -- the infoset of nodes, the first of which is the root element, and the bytes of the document's text: an object with one

@@ -2,7 +2,7 @@
 use Rattle.std.specs.Prelude.{ℕ, ◌+◌, List, [], ◌∷◌, map, Option, None, Some}
 use Rattle.dfdl_terms.specs.Rows.{Table}
 use Rattle.dfdl_terms.specs.declared.row.Row.{Row}
-use Rattle.dfdl_terms.specs.declared.row.Row.TheVariants.{Leaf, Elem, Group, Skip, Align, Initiator, Terminator, Scope, Boxed, PrefixedLeaf, PrefixedBox}
+use Rattle.dfdl_terms.specs.declared.row.Row.TheVariants.{Leaf, Elem, Group, Skip, Align, Initiator, Terminator, Separator, Scope, Boxed, PrefixedLeaf, PrefixedBox, Repeat}
 use Rattle.dfdl_json.specs.ByRows.{by_rows}
 
 -- numbers added up
@@ -17,12 +17,14 @@ steps_by inside row (Some (Leaf prim)) = 1
 steps_by inside row (Some (Skip bits)) = 1
 steps_by inside row (Some (Align bits)) = 1
 steps_by inside row (Some (Initiator delimiter)) = 1
-steps_by inside row (Some (Terminator delimiter)) = 1
+steps_by inside row (Some (Terminator delimiter separators)) = 1
+steps_by inside row (Some Separator) = 1
 steps_by inside row (Some (PrefixedLeaf prefix prim)) = 1
 steps_by inside row (Some (Elem name simple tried body)) = 2 + inside body
 steps_by inside row (Some (Scope list body)) = 1 + inside body
 steps_by inside row (Some (Boxed bits body)) = 1 + inside body
 steps_by inside row (Some (PrefixedBox prefix body)) = 1 + inside body
+steps_by inside row (Some (Repeat count body)) = 1 + inside body
 steps_by inside row (Some (Group children)) = 1 + total (map inside children)
 
 -- how many steps the row of this number takes

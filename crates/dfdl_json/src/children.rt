@@ -52,7 +52,7 @@ pub fn elements_in(alloc: Global, terms: &Terms, id: RowId) -> Result<Vec<RowId>
     Ok(elements)
 }
 
-// An element is put behind the others, and the children of a group or the body of a scope or a box before the rows that are left.
+// An element is put behind the others, and the children of a group or the body of a scope, a box or a repetition before the rows that are left.
 fn visit(
     terms: &Terms,
     row: RowId,
@@ -75,10 +75,12 @@ fn visit(
         Some(Row::Align { .. }) => Ok(()),
         Some(Row::Initiator { .. }) => Ok(()),
         Some(Row::Terminator { .. }) => Ok(()),
+        Some(Row::Separator) => Ok(()),
         Some(Row::Scope { body, .. }) => push_all(left, &[*body]),
         Some(Row::Boxed { body, .. }) => push_all(left, &[*body]),
         Some(Row::PrefixedLeaf { .. }) => Ok(()),
         Some(Row::PrefixedBox { body, .. }) => push_all(left, &[*body]),
+        Some(Row::Repeat { body, .. }) => push_all(left, &[*body]),
         None => Ok(()),
     }
 }

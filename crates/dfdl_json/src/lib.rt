@@ -6,6 +6,7 @@
 // elements that a schema declares, by recursion on its rows. It serves 'The DFDL Information Set'.
 #![tactic(auto)]
 
+mod arrays;
 pub mod children;
 mod events;
 pub mod fault;

@@ -1,18 +1,20 @@
 // The line of the infoset of parsed data.
-ghost use Rattle.std.specs.Prelude.{◌≡◌, ◌+◌, ◌≤◌, ℕ, suc, nat_eq, IfOk, OnOk, IsUtf8, length, drop, string_bytes};
+ghost use Rattle.std.specs.Prelude.{◌≡◌, ◌+◌, ◌≤◌, ℕ, suc, true, nat_eq, IfOk, OnOk, IsUtf8, length, drop, string_bytes};
 ghost use Rattle.dfdl_value.specs.Writing.{text_of};
 ghost use Rattle.dfdl_region.specs.Bytes.{bytes_at as part_of};
 ghost use Rattle.dfdl_region.specs.Texts.{HasText, HaveTexts};
 ghost use Rattle.serde_json.specs.Data.{Members, no_members};
 ghost use Rattle.serde_json.specs.View.{view};
-ghost use Rattle.dfdl_json.specs.Inside.{HaveMembers, IsPut, put_if, shown};
+ghost use Rattle.dfdl_terms.specs.Arrays.{MarksItems, is_item, is_marked};
+ghost use Rattle.dfdl_json.specs.Inside.{HaveMembers, IsPut, all_turned, put_if, shown};
 ghost use Rattle.dfdl_json.specs.Children as children;
 ghost use Rattle.dfdl_json.specs.Lines as lines;
 
+use crate::arrays::{in_order, put_item};
 use crate::children::name_of;
 use dfdl_decimal::Fixed;
 use dfdl_region::{Content, Node};
-use dfdl_terms::Terms;
+use dfdl_terms::{Items, Terms};
 use dfdl_value::{TextValue, Value};
 use serde_json::{Map, Value as Json};
 use std::alloc::{AllocError, Global};
@@ -54,8 +56,8 @@ pub fn value_of(
     Ok(Json::Object(whole))
 }
 
-// The members of the root element, which is the first of these nodes. Those of each element are whole when the nodes
-// from it on have been put.
+// The members of the root element, which is the first of these nodes, with their arrays from the last item to the first.
+// Those of each element are whole when the nodes from it on have been put.
 fn members_of_root(
     alloc: Global,
     terms: &Terms,
@@ -64,11 +66,12 @@ fn members_of_root(
 ) -> Result<Map<String, Json>, AllocError>
     requires some { 1 ≤ length nodes.now }
     requires texts { HaveTexts nodes.now text.now }
-    ensures { IfOk result (λ members. shown members ≡ lines.members_of terms.now text.now 1 (drop 1 nodes.now) 0) }
+    ensures { IfOk result (λ members. shown members ≡ all_turned (lines.members_of terms.now text.now 1 (drop 1 nodes.now) 0)) }
 {
+    let items = Items::of(alloc, terms)?;
     let mut objects = empty_objects(alloc, nodes.len())?;
     for at in (1..nodes.len()).rev() {
-        put_node(alloc, terms, &mut objects, nodes[at], text)?;
+        put_node(alloc, terms, &items, &mut objects, nodes[at], text)?;
     }
     let Some(members) = objects.pop() else {
         unreachable!()
@@ -91,6 +94,7 @@ fn empty_objects(alloc: Global, count: usize) -> Result<Vec<Map<String, Json>>, 
 fn put_node(
     alloc: Global,
     terms: &Terms,
+    items: &Items,
     objects: &mut Vec<Map<String, Json>>,
     node: Node,
     text: &[u8],
@@ -98,8 +102,8 @@ fn put_node(
     requires some { 1 ≤ length objects.old.items }
     requires text { HasText text.now node.content }
     ensures { OnOk result ((told : ℕ → Members) (count : ℕ) → HaveMembers objects.old.items (suc count) told
-        → HaveMembers objects.new.items count (λ j. put_if (nat_eq node.parent j)
-        (children.name_of terms.now node.element) (lines.data_of text.now node.content (told count)) (told j))) }
+        → HaveMembers objects.new.items count (λ j. put_if (nat_eq node.parent j) (is_marked items.now node.element)
+        (children.name_of terms.now node.element) (lines.data_of text.now node.content (all_turned (told count))) (told j))) }
 {
     let Some(members) = objects.pop() else {
         unreachable!()
@@ -109,30 +113,49 @@ fn put_node(
         alloc,
         objects,
         node.parent,
+        items.has(node.element),
         name_of(terms, node.element),
         value,
     )
 }
 
-// Puts a member into the object of this number, if there is one.
+// Puts a member, or an item of an array, into the object of this number, if there is one.
 fn put_member(
     alloc: Global,
     objects: &mut Vec<Map<String, Json>>,
     number: u32,
+    is_item: bool,
     name: &str,
     value: Json,
 ) -> Result<(), AllocError>
-    ensures { OnOk result (IsPut number name.now (view value) objects.old.items objects.new.items) }
+    ensures { OnOk result (IsPut number is_item name.now (view value) objects.old.items objects.new.items) }
 {
     let number = number as usize;
     if number < objects.len() {
         let object = &mut objects[number];
-        return serde_json::put(object, alloc, name, value);
+        return put_value(alloc, object, is_item, name, value);
     }
     Ok(())
 }
 
-// The value of an element with these members.
+// Puts a member, or an item of an array, into an object.
+fn put_value(
+    alloc: Global,
+    object: &mut Map<String, Json>,
+    is_item: bool,
+    name: &str,
+    value: Json,
+) -> Result<(), AllocError>
+    ensures { OnOk result (shown object.new ≡ put_if true is_item name.now (view value) (shown object.old)) }
+{
+    if is_item {
+        put_item(alloc, object, name, value)
+    } else {
+        serde_json::put(object, alloc, name, value)
+    }
+}
+
+// The value of an element with these members, whose arrays are from the last item to the first.
 fn value_with(
     alloc: Global,
     content: Content,
@@ -140,7 +163,7 @@ fn value_with(
     text: &[u8],
 ) -> Result<Json, AllocError>
     requires { HasText text.now content }
-    ensures { IfOk result (λ value. view value ≡ lines.data_of text.now content (shown members)) }
+    ensures { IfOk result (λ value. view value ≡ lines.data_of text.now content (all_turned (shown members))) }
 {
     match content {
         Content::Signed(number) => Ok(Json::String(number.to_string(alloc)?)),
@@ -156,8 +179,8 @@ fn value_with(
             bytes_at(text, from, len),
         )?)),
         Content::Nil => Ok(Json::Null),
-        Content::Complex => Ok(Json::Object(members)),
-        Content::Begun => Ok(Json::Object(members)),
+        Content::Complex => Ok(Json::Object(in_order(members))),
+        Content::Begun => Ok(Json::Object(in_order(members))),
     }
 }
 

@@ -146,10 +146,12 @@ impl<'t, 'v> Reading<'t, 'v> {
             Some(Row::Align { .. }) => Ok(()),
             Some(Row::Initiator { .. }) => Ok(()),
             Some(Row::Terminator { .. }) => Ok(()),
+            Some(Row::Separator) => Ok(()),
             Some(Row::Scope { .. }) => Ok(()),
             Some(Row::Boxed { .. }) => Ok(()),
             Some(Row::PrefixedLeaf { .. }) => Ok(()),
             Some(Row::PrefixedBox { .. }) => Ok(()),
+            Some(Row::Repeat { .. }) => Ok(()),
             None => Ok(()),
         }
     }

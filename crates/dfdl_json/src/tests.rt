@@ -273,6 +273,42 @@ fn empty_values_of_a_line_are_empty_strings(rt: HostRuntime) -> Result<(), Fail>
     Ok(())
 }
 
+// The row 5 is the root element, in which `x` and `y` stand twice, one after the other.
+fn repeated(alloc: Global) -> Result<Terms, Fail> {
+    let byte = Some(Simple::UnsignedByte);
+    let rows = vec![in alloc;
+        Row::Leaf { prim: 0 },
+        element(alloc, "x", byte, 0)?,
+        element(alloc, "y", byte, 0)?,
+        group(alloc, &[RowId::new(1), RowId::new(2)])?,
+        Row::Repeat {
+            count: 2,
+            body: RowId::new(3)
+        },
+        element(alloc, "r", None, 4)?,
+    ]?;
+    let forms = vec![in alloc; form(8, Simple::UnsignedByte)]?;
+    Ok(Terms::build(alloc, rows, Tables::new(forms, Vec::new(alloc)))?)
+}
+
+#[test]
+fn items_of_a_line_are_in_arrays(rt: HostRuntime) -> Result<(), Fail> {
+    let terms = repeated(rt.alloc())?;
+    let nodes = [
+        node(5, 0, Content::Complex),
+        node(1, 0, Content::Unsigned(1)),
+        node(2, 0, Content::Unsigned(2)),
+        node(1, 0, Content::Unsigned(3)),
+        node(2, 0, Content::Nil),
+    ];
+    let line = line_of(rt.alloc(), &terms, &nodes, &[])?;
+    assert_eq!(rt;
+        line.as_str(),
+        "{\"r\":{\"x\":[\"1\",\"3\"],\"y\":[\"2\",null]}}\n"
+    );
+    Ok(())
+}
+
 #[test]
 fn a_nil_element_of_a_line_is_null(rt: HostRuntime) -> Result<(), Fail> {
     let terms = nested(rt.alloc())?;

@@ -1,5 +1,5 @@
 -- The machine goes on, a step at a time.
-use Rattle.std.proofs.Common.{◌≡◌, ℕ, ◌+◌, ◌-◌, ◌*◌, ◌/◌, ◌≤◌, max, min, nat_le, refl, List, [], ◌∷◌, length, Bool, true, false, cond, nat_lt, Option, Some, None, ap, sym, subst, ◌∙◌, arith}
+use Rattle.std.proofs.Common.{◌≡◌, ℕ, ◌+◌, ◌-◌, ◌*◌, ◌/◌, ◌≤◌, max, min, nat_le, refl, List, [], ◌∷◌, length, Bool, true, false, cond, nat_lt, Option, Some, None, ap, sym, subst, ◌∙◌, arith, replicate}
 use Rattle.std.specs.Prelude.{slice_get}
 use Rattle.dfdl_bits.specs.Window.{Held, end_of, from_byte, seen_at}
 use Rattle.dfdl_bits.specs.declared.window.Seen.{Seen}
@@ -9,10 +9,9 @@ use Rattle.dfdl_report.specs.declared.cause.ParseCause.TheVariants.{LengthOutOfR
 use Rattle.dfdl_value.specs.declared.value.Value.{Value}
 use Rattle.dfdl_terms.specs.declared.row.Primitive.{Primitive}
 use Rattle.dfdl_delims.specs.Lists.{Opened}
-use Rattle.dfdl_terms.specs.declared.delimiters.Delimiter.{Delimiter}
 use Rattle.dfdl_terms.specs.declared.delimiters.Delimiters.{Delimiters}
 use Rattle.dfdl_terms.specs.declared.row.Row.{Row}
-use Rattle.dfdl_terms.specs.declared.row.Row.TheVariants.{Leaf, Elem, Group, Skip, Align, Initiator, Terminator, Scope, Boxed, PrefixedLeaf, PrefixedBox}
+use Rattle.dfdl_terms.specs.declared.row.Row.TheVariants.{Leaf, Elem, Group, Skip, Align, Initiator, Terminator, Separator, Scope, Boxed, PrefixedLeaf, PrefixedBox, Repeat}
 use Rattle.dfdl_terms.specs.Rows.{Table}
 use Rattle.dfdl_looks.specs.Looks.{Agrees}
 use Rattle.dfdl_looks.specs.Asks.{ask}
@@ -30,7 +29,7 @@ use Rattle.dfdl_terms.specs.declared.text.TextSize.{TextSize}
 use Rattle.dfdl_grammar.specs.Leaves.{content_begins, has_room, nil_values, program, program_for, read_by}
 use Rattle.dfdl_grammar.specs.Prefixes.{resized}
 use Rattle.dfdl_grammar.specs.Framing.{aligned}
-use Rattle.dfdl_grammar.specs.Delimiters.{sought_among, stands_in}
+use Rattle.dfdl_grammar.specs.Delimiters.{lists_of, markup, sought_among, stands_in}
 use Rattle.dfdl_grammar.specs.Elements.{begun, has_elements}
 use Rattle.dfdl_parse.specs.declared.frame.Frame.{Frame}
 use Rattle.dfdl_parse.specs.declared.frame.Frame.TheVariants.{Rest, Element, Box, Scope as ScopeFrame, Trial}
@@ -42,6 +41,8 @@ use Rattle.dfdl_parse.specs.declared.frame.Focus.{Focus}
 use Rattle.dfdl_parse.specs.declared.frame.Focus.TheVariants.{Enter, Pass, PassRest, Sized, Seek, Leave}
 use Rattle.dfdl_parse.specs.declared.frame.Behind.TheVariants as behind
 use Rattle.dfdl_parse.specs.Boxing.{back_outside}
+use Rattle.dfdl_parse.specs.declared.frame.Sought.{Sought}
+use Rattle.dfdl_parse.specs.declared.frame.Sought.TheVariants as sought
 use Rattle.dfdl_parse.specs.Searches.{among, search}
 use Rattle.dfdl_parse.specs.Moves.{Machine, Move, pass, read_leaf, read_move}
 use Rattle.dfdl_parse.specs.Prefixed.{behind_units, prefix_move, read_prefix, read_resized, read_sized}
@@ -71,54 +72,54 @@ pass-keeps t held focus k s tail far = record {
 
 module _ (held : Held) (s : State) where
   -- a step that looks at a leaf
-  looked-keeps : Anchored held s → (cost : Tally) → cost.tail ≡ 0 → cost.far ≡ 0 → (nil : Option (List Value)) (primitive : Primitive) (machine : Machine) (waits : Bool)
+  looked-keeps : Anchored held s → (cost : Tally) → cost.tail ≡ 0 → cost.far ≡ 0 → (delimiters : List Delimiters) (nil : Option (List Value)) (primitive : Primitive) (machine : Machine) (waits : Bool)
       → let sight : Held = from_byte held (anchor s) in
-      Keeps held (record { tally = plus cost (needs_from (anchor s) (ask (seen_at sight) (program_for nil primitive s.at s.stop) nothing).tally); machine = machine; held = sight; waits = waits })
-  looked-keeps stands cost no_tail no_far nil primitive machine waits =
+      Keeps held (record { tally = plus cost (needs_from (anchor s) (ask (seen_at sight) (program_for nil (lists_of delimiters (markup s)) primitive s.at s.stop) nothing).tally); machine = machine; held = sight; waits = waits })
+  looked-keeps stands cost no_tail no_far delimiters nil primitive machine waits =
       let sight : Held = from_byte held (anchor s) in
       let ends : end_of sight ≡ end_of held = end_from held (anchor s) stands.base stands.end in
-      let from = program_for-from (anchor s) nil primitive s.at s.stop stands.low in
-      let here : Tally = (ask (seen_at sight) (program_for nil primitive s.at s.stop) nothing).tally in
+      let from = program_for-from (anchor s) nil (lists_of delimiters (markup s)) primitive s.at s.stop stands.low in
+      let here : Tally = (ask (seen_at sight) (program_for nil (lists_of delimiters (markup s)) primitive s.at s.stop) nothing).tally in
       record {
         slid = record { size = refl; ended = refl; end = ends; base = stands.base };
         agrees = λ whole agrees. agrees_from held whole (anchor s) stands.base stands.end agrees;
-        tail = λ on. ap (λ (n : ℕ). first_of n here.tail) no_tail ∙ (kept sight on (program_for nil primitive s.at s.stop) from nothing).0;
-        far = λ on. let most = (kept sight on (program_for nil primitive s.at s.stop) from nothing).1 in omega (arith, most, ends);
+        tail = λ on. ap (λ (n : ℕ). first_of n here.tail) no_tail ∙ (kept sight on (program_for nil (lists_of delimiters (markup s)) primitive s.at s.stop) from nothing).0;
+        far = λ on. let most = (kept sight on (program_for nil (lists_of delimiters (markup s)) primitive s.at s.stop) from nothing).1 in omega (arith, most, ends);
       }
 
-  leaf-keeps : Anchored held s → (cost : Tally) → cost.tail ≡ 0 → cost.far ≡ 0 → (limits : Limits) (focus : Focus) (nil : Option (List Value)) (primitive : Option Primitive) (k : List Frame)
-      → Keeps held (read_leaf cost limits focus held nil primitive k s)
-  leaf-keeps stands cost no_tail no_far limits focus nil None k = pass-keeps cost held (Leave Done) k s no_tail no_far
-  leaf-keeps stands cost no_tail no_far limits focus nil (Some primitive) k = by (has_room primitive s.at s.stop)
+  leaf-keeps : Anchored held s → (cost : Tally) → cost.tail ≡ 0 → cost.far ≡ 0 → (limits : Limits) (focus : Focus) (delimiters : List Delimiters) (nil : Option (List Value)) (primitive : Option Primitive) (k : List Frame)
+      → Keeps held (read_leaf cost limits focus held delimiters nil primitive k s)
+  leaf-keeps stands cost no_tail no_far limits focus delimiters nil None k = pass-keeps cost held (Leave Done) k s no_tail no_far
+  leaf-keeps stands cost no_tail no_far limits focus delimiters nil (Some primitive) k = by (has_room primitive s.at s.stop)
     where
       by : (room : Bool)
           → Keeps held (cond room
           (read_move cost limits focus (content_begins primitive s.at) (from_byte held (anchor s))
-          (ask (seen_at (from_byte held (anchor s))) (program_for nil primitive s.at s.stop) nothing) k s)
+          (ask (seen_at (from_byte held (anchor s))) (program_for nil (lists_of delimiters (markup s)) primitive s.at s.stop) nothing) k s)
           (pass cost held (Leave (Failed LengthOutOfRange s.at)) k s))
-      by true = looked-keeps stands cost no_tail no_far nil primitive _ _
+      by true = looked-keeps stands cost no_tail no_far delimiters nil primitive _ _
       by false = pass-keeps cost held _ k s no_tail no_far
 
-  resized-keeps : Anchored held s → (limits : Limits) (focus : Focus) (nil : Option (List Value)) (primitive : Option Primitive) (k : List Frame) → Keeps held (read_resized limits focus held nil primitive k s)
-  resized-keeps stands limits focus nil None k = pass-keeps nothing held _ k s refl refl
-  resized-keeps stands limits focus nil (Some primitive) k = leaf-keeps stands nothing refl refl limits focus nil (Some primitive) k
+  resized-keeps : Anchored held s → (limits : Limits) (focus : Focus) (delimiters : List Delimiters) (nil : Option (List Value)) (primitive : Option Primitive) (k : List Frame) → Keeps held (read_resized limits focus held delimiters nil primitive k s)
+  resized-keeps stands limits focus delimiters nil None k = pass-keeps nothing held _ k s refl refl
+  resized-keeps stands limits focus delimiters nil (Some primitive) k = leaf-keeps stands nothing refl refl limits focus delimiters nil (Some primitive) k
 
-  sized-keeps : Anchored held s → (limits : Limits) (prim : ℕ) (size : TextSize) (nil : Option (List Value)) (primitive : Option Primitive) (k : List Frame)
-      → Keeps held (read_sized limits held prim size nil primitive k s)
-  sized-keeps stands limits prim size nil None k = pass-keeps nothing held _ k s refl refl
-  sized-keeps stands limits prim size nil (Some primitive) k = resized-keeps stands limits (Sized prim size) nil (resized size primitive) k
+  sized-keeps : Anchored held s → (limits : Limits) (prim : ℕ) (size : TextSize) (delimiters : List Delimiters) (nil : Option (List Value)) (primitive : Option Primitive) (k : List Frame)
+      → Keeps held (read_sized limits held delimiters prim size nil primitive k s)
+  sized-keeps stands limits prim size delimiters nil None k = pass-keeps nothing held _ k s refl refl
+  sized-keeps stands limits prim size delimiters nil (Some primitive) k = resized-keeps stands limits (Sized prim size) delimiters nil (resized size primitive) k
 
-  prefix-keeps : Anchored held s → (limits : Limits) (id own : ℕ) (next : ℕ → List Frame → State → Machine) (primitive : Option Primitive) (k : List Frame)
-      → Keeps held (read_prefix limits id held own next primitive k s)
-  prefix-keeps stands limits id own next None k = pass-keeps one_row held _ k s refl refl
-  prefix-keeps stands limits id own next (Some primitive) k = by (has_room primitive s.at s.stop)
+  prefix-keeps : Anchored held s → (limits : Limits) (delimiters : List Delimiters) (id own : ℕ) (next : ℕ → List Frame → State → Machine) (primitive : Option Primitive) (k : List Frame)
+      → Keeps held (read_prefix limits id held delimiters own next primitive k s)
+  prefix-keeps stands limits delimiters id own next None k = pass-keeps one_row held _ k s refl refl
+  prefix-keeps stands limits delimiters id own next (Some primitive) k = by (has_room primitive s.at s.stop)
     where
       by : (room : Bool)
           → Keeps held (cond room
           (prefix_move limits id own (content_begins primitive s.at) next (from_byte held (anchor s))
-          (ask (seen_at (from_byte held (anchor s))) (program primitive s.at s.stop) nothing) k s)
+          (ask (seen_at (from_byte held (anchor s))) (program (lists_of delimiters (markup s)) primitive s.at s.stop) nothing) k s)
           (pass one_row held (Leave (Failed LengthOutOfRange s.at)) k s))
-      by true = looked-keeps stands one_row refl refl None primitive _ _
+      by true = looked-keeps stands one_row refl refl delimiters None primitive _ _
       by false = pass-keeps one_row held _ k s refl refl
 
   begin-keeps : (to : ℕ) (k : List Frame) (over inside : Bool)
@@ -269,17 +270,17 @@ module _ (held : Held) (s : State) where
   done-keeps (Some parts) next.Normal k = empty-found-keeps parts.tried.refuses_empty k
   done-keeps (Some parts) next.Nothing k = pass-keeps nothing held _ _ _ refl refl
 
-  delimiter-keeps : (delimiter : Delimiter) (terminates : Bool) (k : List Frame) (does_stand : Bool)
-      → Keeps held (cond does_stand (pass one_row held (Seek delimiter.list terminates) k s) (pass one_row held (Leave Done) k s))
-  delimiter-keeps delimiter terminates k true = pass-keeps one_row held _ _ _ refl refl
-  delimiter-keeps delimiter terminates k false = pass-keeps one_row held _ _ _ refl refl
+  delimiter-keeps : (what : Sought) (k : List Frame) (does_stand : Bool)
+      → Keeps held (cond does_stand (pass one_row held (Seek what) k s) (pass one_row held (Leave Done) k s))
+  delimiter-keeps what k true = pass-keeps one_row held _ _ _ refl refl
+  delimiter-keeps what k false = pass-keeps one_row held _ _ _ refl refl
 
-  seek-keeps : Anchored held (record s { at = aligned 8 s.at }) → (limits : Limits) (delimiters : List Delimiters) (list : ℕ) (terminates : Bool) (k : List Frame)
-      → Keeps held (search limits delimiters held list terminates k s)
-  seek-keeps stands limits delimiters list terminates k =
+  seek-keeps : Anchored held (record s { at = aligned 8 s.at }) → (limits : Limits) (delimiters : List Delimiters) (what : Sought) (k : List Frame)
+      → Keeps held (search limits delimiters held what k s)
+  seek-keeps stands limits delimiters what k =
       let low : ℕ = anchor_at s (aligned 8 s.at) in
       let sight : Held = from_byte held low in
-      let lists : List Opened = among delimiters list terminates s in
+      let lists : List Opened = among delimiters what s in
       let ends : end_of sight ≡ end_of held = end_from held low stands.base stands.end in
       let from = sought-from lists low s.at s.stop stands.low in
       record {
@@ -296,7 +297,7 @@ module _ (held : Held) (s : State) where
   enter-keeps : Anchored held s → (limits : Limits) (table : Table) (id : ℕ) (r : Option Row) (k : List Frame) → Keeps held (enter limits table held id r k s)
   enter-keeps stands limits table id None k = pass-keeps one_row held _ _ _ refl refl
   enter-keeps stands limits table id (Some (Leaf prim)) k =
-      leaf-keeps stands one_row refl refl limits (Enter id) (nil_values table.primitives s.instead)
+      leaf-keeps stands one_row refl refl limits (Enter id) table.delimiters (nil_values table.primitives s.instead)
       (slice_get table.primitives (read_by table.primitives s.instead prim)) k
   enter-keeps stands limits table id (Some (Elem name simple tried body)) k =
       element-keeps limits.nodes id (record { complex = has_elements simple; tried = tried; body = body }) k tried.are_several
@@ -304,8 +305,9 @@ module _ (held : Held) (s : State) where
   enter-keeps stands limits table id (Some (Skip bits)) k = begin-keeps (s.at + bits) k (nat_le (s.at + bits) s.at) (nat_le (s.at + bits) s.stop)
   enter-keeps stands limits table id (Some (Align bits)) k =
       begin-keeps (aligned bits s.at) k (nat_le (aligned bits s.at) s.at) (nat_le (aligned bits s.at) s.stop)
-  enter-keeps stands limits table id (Some (Initiator delimiter)) k = delimiter-keeps delimiter false k (stands_in s.instead delimiter)
-  enter-keeps stands limits table id (Some (Terminator delimiter)) k = delimiter-keeps delimiter true k (stands_in s.instead delimiter)
+  enter-keeps stands limits table id (Some (Initiator delimiter)) k = delimiter-keeps (sought.Initiator delimiter.list) k (stands_in s.instead delimiter)
+  enter-keeps stands limits table id (Some (Terminator delimiter separators)) k = delimiter-keeps (sought.Terminator delimiter.list separators) k (stands_in s.instead delimiter)
+  enter-keeps stands limits table id (Some Separator) k = pass-keeps one_row held _ _ _ refl refl
   enter-keeps stands limits table id (Some (Scope list body)) k = pass-keeps one_row held _ _ _ refl refl
   enter-keeps stands limits table id (Some (Boxed bits body)) k = record {
     slid = record { size = refl; ended = refl; end = refl; base = omega arith };
@@ -314,9 +316,10 @@ module _ (held : Held) (s : State) where
     far = λ on. omega arith;
   }
   enter-keeps stands limits table id (Some (PrefixedLeaf prefix prim)) k =
-      prefix-keeps stands limits id prefix.own (behind_units table.primitives prefix.unit (behind.Leaf (read_by table.primitives s.instead prim))) (slice_get table.primitives prefix.prim) k
+      prefix-keeps stands limits table.delimiters id prefix.own (behind_units table.primitives prefix.unit (behind.Leaf (read_by table.primitives s.instead prim))) (slice_get table.primitives prefix.prim) k
+  enter-keeps stands limits table id (Some (Repeat count body)) k = group-keeps id (replicate count body) k
   enter-keeps stands limits table id (Some (PrefixedBox prefix body)) k =
-      prefix-keeps stands limits id prefix.own (behind_units table.primitives prefix.unit (behind.Box body)) (slice_get table.primitives prefix.prim) k
+      prefix-keeps stands limits table.delimiters id prefix.own (behind_units table.primitives prefix.unit (behind.Box body)) (slice_get table.primitives prefix.prim) k
 
   go-keeps : (id next : ℕ) (child : Option ℕ) (k : List Frame) → Keeps held (go_on held id next child k s)
   go-keeps id next None k = pass-keeps nothing held _ _ _ refl refl
@@ -343,7 +346,7 @@ module _ (held : Held) (s : State) where
   step-keeps limits table (Enter id) k stands = enter-keeps stands limits table id (slice_get table.rows id) k
   step-keeps limits table (Pass to) k stands = fill-keeps limits to k stands
   step-keeps limits table (PassRest bit outer) k stands = rest-keeps limits bit outer k stands
-  step-keeps limits table (Sized prim size) k stands = sized-keeps stands limits prim size (nil_values table.primitives s.instead) (slice_get table.primitives prim) k
-  step-keeps limits table (Seek list terminates) k stands = seek-keeps stands limits table.delimiters list terminates k
+  step-keeps limits table (Sized prim size) k stands = sized-keeps stands limits prim size table.delimiters (nil_values table.primitives s.instead) (slice_get table.primitives prim) k
+  step-keeps limits table (Seek what) k stands = seek-keeps stands limits table.delimiters what k
   step-keeps limits table (Leave end_told) [] stands = pass-keeps nothing held _ _ _ refl refl
   step-keeps limits table (Leave end_told) (frame ∷ k) stands = leave-keeps limits table frame end_told k

@@ -1,8 +1,9 @@
 -- A step does a part of what is ahead.
-use Rattle.std.proofs.Common.{◌≡◌, ℕ, suc, ◌+◌, ◌-◌, ◌*◌, ◌/◌, ◌<◌, min, nat_le, refl, List, [], ◌∷◌, length, drop, Bool, true, false, cond, nat_lt, Option, Some, None, All, ap, sym, subst, ◌∙◌, arith}
+use Rattle.std.proofs.Common.{◌≡◌, ℕ, suc, ◌+◌, ◌-◌, ◌*◌, ◌/◌, ◌<◌, min, nat_le, refl, List, [], ◌∷◌, length, drop, Bool, true, false, cond, nat_lt, Option, Some, None, All, ap, sym, subst, ◌∙◌, arith, replicate}
 use Rattle.std.specs.Prelude.{IfSome, is_some, slice_get}
 use Rattle.std.proofs.lemmas.Bool.Decides.{nat_tests}
 use Rattle.std.proofs.lemmas.Option.{slice_get_within}
+use Rattle.std.proofs.lemmas.List.Elements.{All-replicate}
 use Rattle.dfdl_bits.specs.Window.{Held, end_of, from_byte}
 use Rattle.dfdl_bits.specs.declared.window.Seen.{Seen}
 use Rattle.dfdl_bits.specs.declared.window.Seen.TheVariants.{Byte, End as DataEnded, NotYet, Over}
@@ -13,7 +14,7 @@ use Rattle.dfdl_value.specs.declared.value.Value.{Value}
 use Rattle.dfdl_terms.specs.declared.row.Primitive.{Primitive}
 use Rattle.dfdl_grammar.specs.Leaves.{nil_values, read_by}
 use Rattle.dfdl_terms.specs.declared.row.Row.{Row}
-use Rattle.dfdl_terms.specs.declared.row.Row.TheVariants.{Leaf, Elem, Group, Skip, Align, Initiator, Terminator, Scope, Boxed, PrefixedLeaf, PrefixedBox}
+use Rattle.dfdl_terms.specs.declared.row.Row.TheVariants.{Leaf, Elem, Group, Skip, Align, Initiator, Terminator, Separator, Scope, Boxed, PrefixedLeaf, PrefixedBox, Repeat}
 use Rattle.dfdl_terms.specs.Rows.{Table, Nests}
 use Rattle.dfdl_looks.specs.Looks.{seen_in}
 use Rattle.dfdl_looks.specs.Asks.{Answer, Reading}
@@ -47,6 +48,7 @@ use Rattle.dfdl_parse.specs.declared.frame.Focus.{Focus}
 use Rattle.dfdl_parse.specs.declared.frame.Focus.TheVariants.{Enter, Pass, PassRest, Sized, Seek, Leave}
 use Rattle.dfdl_parse.specs.declared.frame.Behind.TheVariants as behind
 use Rattle.dfdl_parse.specs.Boxing.{back_outside, hides}
+use Rattle.dfdl_parse.specs.declared.frame.Sought.TheVariants as sought
 use Rattle.dfdl_parse.specs.Moves.{pass}
 use Rattle.dfdl_parse.specs.Prefixed.{behind_units}
 use Rattle.dfdl_parse.specs.Machines.{children_of, enter, enter_group, fill, fill_move, go_on, leave, pass_rest, rest_move, seen_beyond, step}
@@ -55,7 +57,7 @@ use Rattle.dfdl_parse.specs.Ahead.{finish, focused, retried, trial_of}
 use Rattle.dfdl_parse.proofs.Lists.{drop_some, drop_none, all_at}
 use Rattle.dfdl_parse.proofs.Beyond.{beyond-same}
 use Rattle.dfdl_parse.proofs.Finishes.{Anchored, Does, Fits, after_nothing, finish-spend, from_here, retried-spend, unboxed-spend}
-use Rattle.dfdl_parse.proofs.SeekSteps.{delimiter-ahead, scope-ahead, seek-ahead}
+use Rattle.dfdl_parse.proofs.SeekSteps.{delimiter-ahead, scope-ahead, seek-ahead, separator-ahead}
 use Rattle.dfdl_parse.proofs.LeafSteps.{Sees, box-ahead, leaf-of, prefix-of, sized-begin, sized-of}
 
 module _ (input : Input) (table : Table) where
@@ -131,11 +133,13 @@ module _ (input : Input) (table : Table) where
   body-below nests id parts (Some (Skip bits)) is told = absurd (cc)
   body-below nests id parts (Some (Align bits)) is told = absurd (cc)
   body-below nests id parts (Some (Initiator delimiter)) is told = absurd (cc)
-  body-below nests id parts (Some (Terminator delimiter)) is told = absurd (cc)
+  body-below nests id parts (Some (Terminator delimiter separators)) is told = absurd (cc)
+  body-below nests id parts (Some Separator) is told = absurd (cc)
   body-below nests id parts (Some (Scope list body)) is told = absurd (cc)
   body-below nests id parts (Some (Boxed bits body)) is told = absurd (cc)
   body-below nests id parts (Some (PrefixedLeaf prefix prim)) is told = absurd (cc)
   body-below nests id parts (Some (PrefixedBox prefix body)) is told = absurd (cc)
+  body-below nests id parts (Some (Repeat count body)) is told = absurd (cc)
 
   -- a representation that is done
   refused-trial : (held : Held) (marks : List Mark) (k : List Frame) (s : State)
@@ -311,7 +315,7 @@ module _ (input : Input) (table : Table) where
   leave-box held outer k s true is = after_nothing input table k (ended Done (back_outside outer s))
   leave-box held outer k s false is = after_nothing input table k (focused input table (PassRest s.at outer) s)
 
-  group-ahead : (held : Held) (id : ℕ) (children : List ℕ) (k : List Frame) (s : State) → slice_get table.rows id ≡ Some (Group children)
+  group-ahead : (held : Held) (id : ℕ) (children : List ℕ) (k : List Frame) (s : State) → children_of (slice_get table.rows id) ≡ children
       → All (λ c. c < id) children
       → Does input table (finish input table k (spend one_row (group (below input table id) children s))) (enter_group held id children k s)
   unfolding finish
@@ -320,11 +324,29 @@ module _ (input : Input) (table : Table) where
       finish-spend input table k one_row (then_do (below input table id child s) (group (below input table id) rest))
       ∙ ap (λ (o : Outcome). spend one_row (finish input table k (then_do o (group (below input table id) rest)))) (below-meaning input table id child s (all 0 child (omega arith)))
       ∙ ap (λ (rows : List ℕ). spend one_row (finish input table k (then_do (meaning input table child s) (group (below input table id) rows))))
-      (sym (ap (λ (r : Option Row). drop 1 (children_of r)) is))
+      (sym (ap (drop 1) is))
 
   -- the window shows the data at a leaf
   sees : {focus : Focus} (held : Held) (s : State) → Anchored held s → Fits held input focus s → Sees held input s
   sees held s stands fits = record { agrees = fits.agrees; size = fits.size; stands = stands }
+
+  -- the children of a row stand below it
+  children-below : Nests table.rows → (id : ℕ) (r : Option Row) → slice_get table.rows id ≡ r → All (λ c. c < id) (children_of r)
+  children-below nests id None is = λ i row less. absurd (omega arith)
+  children-below nests id (Some (Leaf prim)) is = λ i row less. absurd (omega arith)
+  children-below nests id (Some (Elem name simple tried body)) is = λ i row less. absurd (omega arith)
+  children-below nests id (Some (Group children)) is = nests id (Group children) (slice_get_within table.rows id (Group children) is) is
+  children-below nests id (Some (Skip bits)) is = λ i row less. absurd (omega arith)
+  children-below nests id (Some (Align bits)) is = λ i row less. absurd (omega arith)
+  children-below nests id (Some (Initiator delimiter)) is = λ i row less. absurd (omega arith)
+  children-below nests id (Some (Terminator delimiter separators)) is = λ i row less. absurd (omega arith)
+  children-below nests id (Some Separator) is = λ i row less. absurd (omega arith)
+  children-below nests id (Some (Scope list body)) is = λ i row less. absurd (omega arith)
+  children-below nests id (Some (Boxed bits body)) is = λ i row less. absurd (omega arith)
+  children-below nests id (Some (PrefixedLeaf prefix prim)) is = λ i row less. absurd (omega arith)
+  children-below nests id (Some (PrefixedBox prefix body)) is = λ i row less. absurd (omega arith)
+  children-below nests id (Some (Repeat count body)) is =
+      All-replicate (λ c. c < id) count body (nests id (Repeat count body) (slice_get_within table.rows id (Repeat count body) is) is)
 
   enter-ahead : Nests table.rows → (held : Held) (id : ℕ) (r : Option Row) (k : List Frame) (s : State) → slice_get table.rows id ≡ r → Fits held input (Enter id) s
       → (enter input.limits table held id r k s).waits ≡ false
@@ -337,12 +359,14 @@ module _ (input : Input) (table : Table) where
       let less : body < id = nests id (Elem name simple tried body) (slice_get_within table.rows id (Elem name simple tried body) is) is in
       element-ahead held id (record { complex = has_elements simple; tried = tried; body = body }) k s (ap parts_of is) less tried.are_several
   enter-ahead nests held id (Some (Group children)) k s is fits going =
-      group-ahead held id children k s is (nests id (Group children) (slice_get_within table.rows id (Group children) is) is)
+      group-ahead held id children k s (ap children_of is) (nests id (Group children) (slice_get_within table.rows id (Group children) is) is)
   enter-ahead nests held id (Some (Skip bits)) k s is fits going = enter-fill held (s.at + bits) k s (nat_le (s.at + bits) s.at) (nat_le (s.at + bits) s.stop)
   enter-ahead nests held id (Some (Align bits)) k s is fits going =
       enter-fill held (aligned bits s.at) k s (nat_le (aligned bits s.at) s.at) (nat_le (aligned bits s.at) s.stop)
-  enter-ahead nests held id (Some (Initiator delimiter)) k s is fits going = delimiter-ahead input table held delimiter false k s (stands_in s.instead delimiter)
-  enter-ahead nests held id (Some (Terminator delimiter)) k s is fits going = delimiter-ahead input table held delimiter true k s (stands_in s.instead delimiter)
+  enter-ahead nests held id (Some (Initiator delimiter)) k s is fits going = delimiter-ahead input table held (sought.Initiator delimiter.list) k s (stands_in s.instead delimiter)
+  enter-ahead nests held id (Some (Terminator delimiter separators)) k s is fits going =
+      delimiter-ahead input table held (sought.Terminator delimiter.list separators) k s (stands_in s.instead delimiter)
+  enter-ahead nests held id (Some Separator) k s is fits going = separator-ahead input table held k s
   enter-ahead nests held id (Some (Scope list body)) k s is fits going =
       let less : body < id = nests id (Scope list body) (slice_get_within table.rows id (Scope list body) is) is in
       scope-ahead input table held id list body k s less
@@ -354,10 +378,12 @@ module _ (input : Input) (table : Table) where
       let by : ℕ = read_by table.primitives s.instead prim in
       let nil : Option (List Value) = nil_values table.primitives s.instead in
       let primitive : Option Primitive = slice_get table.primitives by in
-      prefix-of input table id prefix.own (λ units after. sized_leaf input nil primitive (size_of prefix.unit units) after)
+      prefix-of input table id prefix.own (λ units after. sized_leaf input table.delimiters nil primitive (size_of prefix.unit units) after)
       (behind_units table.primitives prefix.unit (behind.Leaf by)) k s
       (λ units at. sized-begin input table by (size_of prefix.unit units) primitive k (record s { at = at }) refl)
       held (slice_get table.primitives prefix.prim) (sees held s fits.stands fits) going
+  enter-ahead nests held id (Some (Repeat count body)) k s is fits going =
+      group-ahead held id (replicate count body) k s (ap children_of is) (children-below nests id (Some (Repeat count body)) is)
   enter-ahead nests held id (Some (PrefixedBox prefix body)) k s is fits going =
       let less : body < id = nests id (PrefixedBox prefix body) (slice_get_within table.rows id (PrefixedBox prefix body) is) is in
       prefix-of input table id prefix.own (λ units after. boxed input (bits_of_units prefix.unit units) (below input table id body) after)
@@ -365,21 +391,6 @@ module _ (input : Input) (table : Table) where
       (λ units at. box-ahead input table id (bits_of_units prefix.unit units) body k (record s { at = at }) less
       (nat_le (at + bits_of_units prefix.unit units) s.stop))
       held (slice_get table.primitives prefix.prim) (sees held s fits.stands fits) going
-
-  -- the children of a row stand below it
-  children-below : Nests table.rows → (id : ℕ) (r : Option Row) → slice_get table.rows id ≡ r → All (λ c. c < id) (children_of r)
-  children-below nests id None is = λ i row less. absurd (omega arith)
-  children-below nests id (Some (Leaf prim)) is = λ i row less. absurd (omega arith)
-  children-below nests id (Some (Elem name simple tried body)) is = λ i row less. absurd (omega arith)
-  children-below nests id (Some (Group children)) is = nests id (Group children) (slice_get_within table.rows id (Group children) is) is
-  children-below nests id (Some (Skip bits)) is = λ i row less. absurd (omega arith)
-  children-below nests id (Some (Align bits)) is = λ i row less. absurd (omega arith)
-  children-below nests id (Some (Initiator delimiter)) is = λ i row less. absurd (omega arith)
-  children-below nests id (Some (Terminator delimiter)) is = λ i row less. absurd (omega arith)
-  children-below nests id (Some (Scope list body)) is = λ i row less. absurd (omega arith)
-  children-below nests id (Some (Boxed bits body)) is = λ i row less. absurd (omega arith)
-  children-below nests id (Some (PrefixedLeaf prefix prim)) is = λ i row less. absurd (omega arith)
-  children-below nests id (Some (PrefixedBox prefix body)) is = λ i row less. absurd (omega arith)
 
   rest-ahead : Nests table.rows → (held : Held) (id next : ℕ) (child : Option ℕ) (k : List Frame) (s : State)
       → slice_get (children_of (slice_get table.rows id)) next ≡ child
@@ -429,7 +440,7 @@ module _ (input : Input) (table : Table) where
   step-ahead nests held (PassRest bit outer) k s fits going = rest-of held bit outer k s fits going
   step-ahead nests held (Sized prim size) k s fits going =
       sized-of input table held prim size (nil_values table.primitives s.instead) (slice_get table.primitives prim) k s (sees held s fits.stands fits) going
-  step-ahead nests held (Seek list terminates) k s fits going =
-      seek-ahead input table held list terminates k s fits.agrees fits.size fits.stands going
+  step-ahead nests held (Seek what) k s fits going =
+      seek-ahead input table held what k s fits.agrees fits.size fits.stands going
   step-ahead nests held (Leave end) [] s fits going = after_nothing input table [] (ended end s)
   step-ahead nests held (Leave end) (frame ∷ k) s fits going = leave-ahead nests held frame end k s

@@ -11,11 +11,19 @@ use Rattle.dfdl_packed.specs.declared.fault.PackedFault.TheVariants as packed
 use Rattle.dfdl_text_string.specs.Truths.{truth_of}
 use Rattle.dfdl_terms.specs.declared.text.NilForm.{NilForm}
 use Rattle.dfdl_terms.specs.declared.text.PatternForm.{PatternForm}
+use Rattle.dfdl_terms.specs.declared.text.TextForm.{TextForm}
 use Rattle.dfdl_texts.specs.Texts.{Text as TextRead, Reads as DoesRead, HasBad, IsCut, IsBoxed}
 use Rattle.dfdl_terms.specs.declared.text.TextContent.{TextContent}
-use Rattle.dfdl_terms.specs.declared.text.TextContent.TheVariants.{Plain, Number, Zoned, Truth, Nil}
+use Rattle.dfdl_terms.specs.declared.text.TextContent.TheVariants.{Plain, Octets as TextOctets, Number, Zoned, Truth, Nil}
 use Rattle.dfdl_looks.specs.Asks.{Reached, Told, TooFar, Missing}
-use Rattle.dfdl_grammar.specs.Leaves.{Find, Fails, Finds, FindsOctets, FindsText, content_find, default_find, find_of, nil_find, nil_octets_find, nil_value_find, is_bytes, is_text, is_value, matched_from, number_find, pattern_find, packed_find, truth_find}
+use Rattle.dfdl_chars.specs.Encodings.{encoded_text}
+use Rattle.dfdl_forms.specs.declared.encoding.Encoding.TheVariants.{Iso88591}
+use Rattle.dfdl_escapes.specs.Contents.{Content as DelimitedContent}
+use Rattle.dfdl_escapes.specs.Steps.{Step}
+use Rattle.dfdl_escapes.specs.Steps as steps
+use Rattle.dfdl_escapes.specs.Trims.{trimmed_content}
+use Rattle.dfdl_grammar.specs.Delimited.{plain}
+use Rattle.dfdl_grammar.specs.Leaves.{Find, Fails, Finds, FindsOctets, FindsText, content_find, default_by_step, default_find, delimited_find, octets_find, unless_broken, find_of, nil_find, nil_octets_find, nil_value_find, is_bytes, is_text, is_value, matched_from, number_find, pattern_find, packed_find, truth_find}
 use Rattle.dfdl_grammar.specs.Framing.{aligned}
 use Rattle.dfdl_grammar.specs.Nils.{are_nil, is_nil}
 use Rattle.dfdl_grammar.specs.Patterns.{matched_width}
@@ -93,13 +101,39 @@ default-at P end (value.Text t) there = there
 default-at P end (value.Truth t) there = there
 default-at P end (value.Bytes b) there = there
 
+octets-at : (P : ℕ → Type 0) (end : ℕ) (bytes : Option (List ℕ)) → P end → AtEnd P (Told (octets_find end bytes))
+octets-at P end (Some bytes) there = there
+octets-at P end None there = tt
+
 -- what characters are read as ends where their box does
 pub content-at : (P : ℕ → Type 0) (content : TextContent) (characters : List ℕ) (end : ℕ) → P end → AtEnd P (Told (content_find content characters end))
 content-at P Plain characters end there = there
+content-at P TextOctets characters end there = octets-at P end (encoded_text Iso88591 characters) there
 content-at P (Number form kind) characters end there = written-at P end (number_reading form kind characters) there
 content-at P (Zoned form) characters end there = packed-at P end (zoned_reading form characters) there
 content-at P (Truth form) characters end there = truth-at P end (truth_of form characters) there
 content-at P (Nil form) characters end there = nil-at P end (is_nil form characters) there
+
+unbroken-at : (P : ℕ → Type 0) (step : Step) (find : Find) → AtEnd P (Told find) → AtEnd P (Told (unless_broken step find))
+unbroken-at P (steps.Takes c escaped next) find there = there
+unbroken-at P (steps.Passes next) find there = there
+unbroken-at P (steps.Closes which) find there = there
+unbroken-at P steps.RunsOut find there = there
+unbroken-at P (steps.Fails cause) find there = tt
+
+-- a content that markup ends is found where it ends
+pub delimited-at : (P : ℕ → Type 0) (form : TextForm) (content : DelimitedContent) → P (8 * content.last.byte) → AtEnd P (Told (delimited_find form content))
+delimited-at P form content there =
+    let characters : List ℕ = plain (trimmed_content form.pad content.characters) in
+    unbroken-at P content.ends (content_find form.content characters (8 * content.last.byte)) (content-at P form.content characters (8 * content.last.byte) there)
+
+-- a value that stands for no content is found at its bit
+pub absent-at : (P : ℕ → Type 0) (v : Value) (bit : ℕ) (step : Step) → P bit → AtEnd P (Told (default_by_step v bit step))
+absent-at P v bit (steps.Takes c escaped next) there = tt
+absent-at P v bit (steps.Passes next) there = tt
+absent-at P v bit (steps.Closes which) there = default-at P bit v there
+absent-at P v bit steps.RunsOut there = default-at P bit v there
+absent-at P v bit (steps.Fails cause) there = tt
 
 -- what is found by the code lies where it ends
 pub ends-found : (last : ℕ) (scratch : Scratch) (found : Found) → AtEnd (λ e. e ≤ 8 * last) (found_shown scratch found) → IsWithin found last

@@ -1,5 +1,5 @@
 -- Each step leaves less to be done.
-use Rattle.std.proofs.Common.{◌≡◌, ℕ, ◌+◌, ◌-◌, ◌*◌, ◌/◌, ◌<◌, ◌≤◌, min, nat_le, refl, List, [], ◌∷◌, length, Bool, true, false, cond, nat_lt, Option, Some, None, ap, arith}
+use Rattle.std.proofs.Common.{◌≡◌, ℕ, ◌+◌, ◌-◌, ◌*◌, ◌/◌, ◌<◌, ◌≤◌, min, nat_le, refl, List, [], ◌∷◌, length, Bool, true, false, cond, nat_lt, Option, Some, None, ap, arith, replicate}
 use Rattle.std.specs.Prelude.{slice_get}
 use Rattle.dfdl_bits.specs.Window.{Held, end_of, from_byte, seen_at}
 use Rattle.dfdl_bits.specs.declared.window.Seen.{Seen}
@@ -7,12 +7,12 @@ use Rattle.dfdl_bits.specs.declared.window.Seen.TheVariants.{Byte, End as DataEn
 use Rattle.dfdl_report.specs.declared.cause.LimitCause.TheVariants.{Nodes}
 use Rattle.dfdl_report.specs.declared.cause.ParseCause.TheVariants.{LengthOutOfRange}
 use Rattle.dfdl_value.specs.declared.value.Value.{Value}
+use Rattle.dfdl_terms.specs.declared.delimiters.Delimiters.{Delimiters}
 use Rattle.dfdl_terms.specs.declared.row.Primitive.{Primitive}
 use Rattle.dfdl_report.specs.declared.cause.ParseCause.{ParseCause}
 use Rattle.dfdl_delims.specs.Longest.{Longest}
-use Rattle.dfdl_terms.specs.declared.delimiters.Delimiter.{Delimiter}
 use Rattle.dfdl_terms.specs.declared.row.Row.{Row}
-use Rattle.dfdl_terms.specs.declared.row.Row.TheVariants.{Leaf, Elem, Group, Skip, Align, Initiator, Terminator, Scope, Boxed, PrefixedLeaf, PrefixedBox}
+use Rattle.dfdl_terms.specs.declared.row.Row.TheVariants.{Leaf, Elem, Group, Skip, Align, Initiator, Terminator, Separator, Scope, Boxed, PrefixedLeaf, PrefixedBox, Repeat}
 use Rattle.dfdl_terms.specs.Rows.{Table, Nests}
 use Rattle.dfdl_looks.specs.Asks.{Reached, Told, TooFar, Missing, Reading, ask}
 use Rattle.dfdl_looks.specs.Tallies.{Tally, needs_from, nothing, one_row, saw_byte}
@@ -30,7 +30,7 @@ use Rattle.dfdl_grammar.specs.Leaves.{Find, Fails, Finds, FindsOctets, FindsText
 use Rattle.dfdl_grammar.specs.Prefixes.{bits_of_units, resized, size_of, units_told}
 use Rattle.dfdl_grammar.specs.Framing.{aligned}
 use Rattle.dfdl_grammar.specs.Boxes.{boxed_at}
-use Rattle.dfdl_grammar.specs.Delimiters.{sought_among, stands_in}
+use Rattle.dfdl_grammar.specs.Delimiters.{lists_of, markup, sought_among, stands_in}
 use Rattle.dfdl_grammar.specs.Elements.{begun, has_elements}
 use Rattle.dfdl_parse.specs.declared.frame.Frame.{Frame}
 use Rattle.dfdl_parse.specs.declared.frame.Frame.TheVariants.{Rest, Element, Box, Scope as ScopeFrame, Trial}
@@ -42,6 +42,8 @@ use Rattle.dfdl_parse.specs.declared.frame.Focus.{Focus}
 use Rattle.dfdl_parse.specs.declared.frame.Focus.TheVariants.{Enter, Pass, PassRest, Sized, Seek, Leave}
 use Rattle.dfdl_parse.specs.declared.frame.Behind.TheVariants as behind
 use Rattle.dfdl_parse.specs.Boxing.{back_outside, outside}
+use Rattle.dfdl_parse.specs.declared.frame.Sought.{Sought}
+use Rattle.dfdl_parse.specs.declared.frame.Sought.TheVariants as sought
 use Rattle.dfdl_parse.specs.Searches.{among, cause_of, found_text, is_cut, place_of}
 use Rattle.dfdl_parse.specs.Moves.{Machine, Move, is_missing, landed, pass, read_leaf, read_move}
 use Rattle.dfdl_parse.specs.Prefixed.{at_end, behind_units, can_fit, landed_prefix, prefix_move, read_prefix, read_resized, read_sized, sized_begins, units_begin}
@@ -57,7 +59,7 @@ mode (Enter id) = 0
 mode (Pass to) = 2
 mode (PassRest bit outer) = 2
 mode (Sized prim size) = 2
-mode (Seek list terminates) = 2
+mode (Seek what) = 2
 mode (Leave end) = 1
 
 -- what is left to be done over some data
@@ -75,32 +77,32 @@ landed-falls limits focus first TooFar k s going = refl
 landed-falls limits focus first Missing k s going = absurd (cc)
 
 -- a leaf falls by its row, or from the focus in which it waits
-read-falls : (cost : Tally) (limits : Limits) (focus : Focus) (held : Held) (nil : Option (List Value)) (primitive : Primitive) (k : List Frame) (s : State) → 1 < 4 * cost.rows + mode focus → (room : Bool)
+read-falls : (cost : Tally) (limits : Limits) (focus : Focus) (held : Held) (delimiters : List Delimiters) (nil : Option (List Value)) (primitive : Primitive) (k : List Frame) (s : State) → 1 < 4 * cost.rows + mode focus → (room : Bool)
     → let sight : Held = from_byte held (anchor s) in
     let move : Move = cond room
-    (read_move cost limits focus (content_begins primitive s.at) sight (ask (seen_at sight) (program_for nil primitive s.at s.stop) nothing) k s)
+    (read_move cost limits focus (content_begins primitive s.at) sight (ask (seen_at sight) (program_for nil (lists_of delimiters (markup s)) primitive s.at s.stop) nothing) k s)
     (pass cost held (Leave (Failed LengthOutOfRange s.at)) k s) in
     move.waits ≡ false → Falls focus k move
-read-falls cost limits focus held nil primitive k s some true going =
-    let here : Reading Find = ask (seen_at (from_byte held (anchor s))) (program_for nil primitive s.at s.stop) nothing in
+read-falls cost limits focus held delimiters nil primitive k s some true going =
+    let here : Reading Find = ask (seen_at (from_byte held (anchor s))) (program_for nil (lists_of delimiters (markup s)) primitive s.at s.stop) nothing in
     let falls = landed-falls limits focus (content_begins primitive s.at) here.reached k s going in
     omega arith
-read-falls cost limits focus held nil primitive k s some false going = omega arith
+read-falls cost limits focus held delimiters nil primitive k s some false going = omega arith
 
-leaf-falls : (cost : Tally) (limits : Limits) (focus : Focus) (held : Held) (nil : Option (List Value)) (primitive : Option Primitive) (k : List Frame) (s : State) → 1 < 4 * cost.rows + mode focus
-    → (read_leaf cost limits focus held nil primitive k s).waits ≡ false → Falls focus k (read_leaf cost limits focus held nil primitive k s)
-leaf-falls cost limits focus held nil None k s some going = omega arith
-leaf-falls cost limits focus held nil (Some primitive) k s some going = read-falls cost limits focus held nil primitive k s some (has_room primitive s.at s.stop) going
+leaf-falls : (cost : Tally) (limits : Limits) (focus : Focus) (held : Held) (delimiters : List Delimiters) (nil : Option (List Value)) (primitive : Option Primitive) (k : List Frame) (s : State) → 1 < 4 * cost.rows + mode focus
+    → (read_leaf cost limits focus held delimiters nil primitive k s).waits ≡ false → Falls focus k (read_leaf cost limits focus held delimiters nil primitive k s)
+leaf-falls cost limits focus held delimiters nil None k s some going = omega arith
+leaf-falls cost limits focus held delimiters nil (Some primitive) k s some going = read-falls cost limits focus held delimiters nil primitive k s some (has_room primitive s.at s.stop) going
 
-resized-falls : (limits : Limits) (prim : ℕ) (size : TextSize) (held : Held) (nil : Option (List Value)) (primitive : Option Primitive) (k : List Frame) (s : State)
-    → (read_resized limits (Sized prim size) held nil primitive k s).waits ≡ false → Falls (Sized prim size) k (read_resized limits (Sized prim size) held nil primitive k s)
-resized-falls limits prim size held nil None k s going = omega arith
-resized-falls limits prim size held nil (Some primitive) k s going = leaf-falls nothing limits (Sized prim size) held nil (Some primitive) k s (omega arith) going
+resized-falls : (limits : Limits) (prim : ℕ) (size : TextSize) (held : Held) (delimiters : List Delimiters) (nil : Option (List Value)) (primitive : Option Primitive) (k : List Frame) (s : State)
+    → (read_resized limits (Sized prim size) held delimiters nil primitive k s).waits ≡ false → Falls (Sized prim size) k (read_resized limits (Sized prim size) held delimiters nil primitive k s)
+resized-falls limits prim size held delimiters nil None k s going = omega arith
+resized-falls limits prim size held delimiters nil (Some primitive) k s going = leaf-falls nothing limits (Sized prim size) held delimiters nil (Some primitive) k s (omega arith) going
 
-sized-falls : (limits : Limits) (held : Held) (prim : ℕ) (size : TextSize) (nil : Option (List Value)) (primitive : Option Primitive) (k : List Frame) (s : State)
-    → (read_sized limits held prim size nil primitive k s).waits ≡ false → Falls (Sized prim size) k (read_sized limits held prim size nil primitive k s)
-sized-falls limits held prim size nil None k s going = omega arith
-sized-falls limits held prim size nil (Some primitive) k s going = resized-falls limits prim size held nil (resized size primitive) k s going
+sized-falls : (limits : Limits) (held : Held) (prim : ℕ) (size : TextSize) (delimiters : List Delimiters) (nil : Option (List Value)) (primitive : Option Primitive) (k : List Frame) (s : State)
+    → (read_sized limits held delimiters prim size nil primitive k s).waits ≡ false → Falls (Sized prim size) k (read_sized limits held delimiters prim size nil primitive k s)
+sized-falls limits held prim size delimiters nil None k s going = omega arith
+sized-falls limits held prim size delimiters nil (Some primitive) k s going = resized-falls limits prim size held delimiters nil (resized size primitive) k s going
 
 -- what is left of a machine besides its rows
 abbrev left_of : Machine → ℕ
@@ -120,7 +122,7 @@ box-begun-falls : (bits body : ℕ) (k : List Frame) (s : State) (inside : Bool)
 box-begun-falls bits body k s true = omega arith
 box-begun-falls bits body k s false = omega arith
 
-module _ (limits : Limits) (id own : ℕ) (next : ℕ → List Frame → State → Machine) (k : List Frame)
+module _ (limits : Limits) (delimiters : List Delimiters) (id own : ℕ) (next : ℕ → List Frame → State → Machine) (k : List Frame)
     (few : (units : ℕ) (s : State) → left_of (next units k s) ≤ 2 * length k + 2) where
   units-falls : (end : ℕ) (units : Option ℕ) (s : State) → left_of (units_begin end next units k s) ≤ 2 * length k + 2
   units-falls end None s = omega arith
@@ -137,15 +139,15 @@ module _ (limits : Limits) (id own : ℕ) (next : ℕ → List Frame → State �
   prefix-in-falls : (held : Held) (primitive : Primitive) (s : State) (room : Bool)
       → let sight : Held = from_byte held (anchor s) in
       Falls (Enter id) k (cond room
-      (prefix_move limits id own (content_begins primitive s.at) next sight (ask (seen_at sight) (program primitive s.at s.stop) nothing) k s)
+      (prefix_move limits id own (content_begins primitive s.at) next sight (ask (seen_at sight) (program (lists_of delimiters (markup s)) primitive s.at s.stop) nothing) k s)
       (pass one_row held (Leave (Failed LengthOutOfRange s.at)) k s))
   prefix-in-falls held primitive s true =
-      let here : Reading Find = ask (seen_at (from_byte held (anchor s))) (program primitive s.at s.stop) nothing in
+      let here : Reading Find = ask (seen_at (from_byte held (anchor s))) (program (lists_of delimiters (markup s)) primitive s.at s.stop) nothing in
       let falls = prefix-landed-falls (content_begins primitive s.at) here.reached s in
       omega arith
   prefix-in-falls held primitive s false = omega arith
 
-  prefix-falls : (held : Held) (primitive : Option Primitive) (s : State) → Falls (Enter id) k (read_prefix limits id held own next primitive k s)
+  prefix-falls : (held : Held) (primitive : Option Primitive) (s : State) → Falls (Enter id) k (read_prefix limits id held delimiters own next primitive k s)
   prefix-falls held None s = omega arith
   prefix-falls held (Some primitive) s = prefix-in-falls held primitive s (has_room primitive s.at s.stop)
 
@@ -207,10 +209,10 @@ done-falls held id (Some parts) next.Normal k s = empty-found-falls held id next
 done-falls held id (Some parts) next.Nothing k s = omega arith
 
 -- a delimiter falls by its row, and then from the focus in which it waits
-delimiter-falls : (held : Held) (id : ℕ) (delimiter : Delimiter) (terminates : Bool) (k : List Frame) (s : State) (does_stand : Bool)
-    → Falls (Enter id) k (cond does_stand (pass one_row held (Seek delimiter.list terminates) k s) (pass one_row held (Leave Done) k s))
-delimiter-falls held id delimiter terminates k s true = omega arith
-delimiter-falls held id delimiter terminates k s false = omega arith
+delimiter-falls : (held : Held) (id : ℕ) (what : Sought) (k : List Frame) (s : State) (does_stand : Bool)
+    → Falls (Enter id) k (cond does_stand (pass one_row held (Seek what) k s) (pass one_row held (Leave Done) k s))
+delimiter-falls held id what k s true = omega arith
+delimiter-falls held id what k s false = omega arith
 
 text-falls : (window : ℕ) (focus : Focus) (cause : ParseCause) (place : ℕ) (reached : Reached Longest) (k : List Frame) (s : State) → is_cut reached ≡ false
     → 2 * length (found_text window focus cause place reached k s).stack + mode (found_text window focus cause place reached k s).focus ≡ 2 * length k + 1
@@ -259,7 +261,7 @@ enter-falls : (limits : Limits) (table : Table) (held : Held) (id : ℕ) (r : Op
     → (enter limits table held id r k s).waits ≡ false → Falls (Enter id) k (enter limits table held id r k s)
 enter-falls limits table held id None k s going = omega arith
 enter-falls limits table held id (Some (Leaf prim)) k s going =
-    leaf-falls one_row limits (Enter id) held (nil_values table.primitives s.instead)
+    leaf-falls one_row limits (Enter id) held table.delimiters (nil_values table.primitives s.instead)
     (slice_get table.primitives (read_by table.primitives s.instead prim)) k s (omega arith) going
 enter-falls limits table held id (Some (Elem name simple tried body)) k s going =
     element-falls limits.nodes held id (record { complex = has_elements simple; tried = tried; body = body }) k s tried.are_several
@@ -268,17 +270,20 @@ enter-falls limits table held id (Some (Skip bits)) k s going =
     begin-falls held id (s.at + bits) k s (nat_le (s.at + bits) s.at) (nat_le (s.at + bits) s.stop)
 enter-falls limits table held id (Some (Align bits)) k s going =
     begin-falls held id (aligned bits s.at) k s (nat_le (aligned bits s.at) s.at) (nat_le (aligned bits s.at) s.stop)
-enter-falls limits table held id (Some (Initiator delimiter)) k s going = delimiter-falls held id delimiter false k s (stands_in s.instead delimiter)
-enter-falls limits table held id (Some (Terminator delimiter)) k s going = delimiter-falls held id delimiter true k s (stands_in s.instead delimiter)
+enter-falls limits table held id (Some (Initiator delimiter)) k s going = delimiter-falls held id (sought.Initiator delimiter.list) k s (stands_in s.instead delimiter)
+enter-falls limits table held id (Some (Terminator delimiter separators)) k s going =
+    delimiter-falls held id (sought.Terminator delimiter.list separators) k s (stands_in s.instead delimiter)
+enter-falls limits table held id (Some Separator) k s going = omega arith
 enter-falls limits table held id (Some (Scope list body)) k s going = omega arith
 enter-falls limits table held id (Some (Boxed bits body)) k s going =
     let falls = box-begun-falls bits body k s (nat_le (s.at + bits) s.stop) in omega arith
 enter-falls limits table held id (Some (PrefixedLeaf prefix prim)) k s going =
-    prefix-falls limits id prefix.own (behind_units table.primitives prefix.unit (behind.Leaf (read_by table.primitives s.instead prim))) k
+    prefix-falls limits table.delimiters id prefix.own (behind_units table.primitives prefix.unit (behind.Leaf (read_by table.primitives s.instead prim))) k
     (λ units after. begun-falls (read_by table.primitives s.instead prim) (size_of prefix.unit units) (slice_get table.primitives (read_by table.primitives s.instead prim)) k after)
     held (slice_get table.primitives prefix.prim) s
+enter-falls limits table held id (Some (Repeat count body)) k s going = group-falls held id (replicate count body) k s
 enter-falls limits table held id (Some (PrefixedBox prefix body)) k s going =
-    prefix-falls limits id prefix.own (behind_units table.primitives prefix.unit (behind.Box body)) k
+    prefix-falls limits table.delimiters id prefix.own (behind_units table.primitives prefix.unit (behind.Box body)) k
     (λ units after. box-begun-falls (bits_of_units prefix.unit units) body k after (nat_le (after.at + bits_of_units prefix.unit units) after.stop))
     held (slice_get table.primitives prefix.prim) s
 
@@ -313,10 +318,10 @@ step-falls limits table held (PassRest bit outer) k s on going =
 step-falls limits table held (Pass to) k s on going =
     let low : ℕ = anchor_at s (to - 1) in
     filled-falls limits.window (from_byte held (min low (end_of held))) low to (seen_beyond held low ((to - 1) / 8)) k s going
-step-falls limits table held (Sized prim size) k s on going = sized-falls limits held prim size (nil_values table.primitives s.instead) (slice_get table.primitives prim) k s going
-step-falls limits table held (Seek list terminates) k s on going =
-    let here : Reading Longest = ask (seen_at (from_byte held (anchor_at s (aligned 8 s.at)))) (sought_among (among table.delimiters list terminates s) s.at s.stop) nothing in
-    let falls = text-falls limits.window (Seek list terminates) (cause_of terminates) (place_of terminates s) here.reached k s going in
+step-falls limits table held (Sized prim size) k s on going = sized-falls limits held prim size table.delimiters (nil_values table.primitives s.instead) (slice_get table.primitives prim) k s going
+step-falls limits table held (Seek what) k s on going =
+    let here : Reading Longest = ask (seen_at (from_byte held (anchor_at s (aligned 8 s.at)))) (sought_among (among table.delimiters what s) s.at s.stop) nothing in
+    let falls = text-falls limits.window (Seek what) (cause_of what) (place_of what s) here.reached k s going in
     omega arith
 step-falls limits table held (Leave end) [] s on going = absurd (on refl)
 step-falls limits table held (Leave end) (frame ∷ k) s on going = leave-falls limits table held frame end k s

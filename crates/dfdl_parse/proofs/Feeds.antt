@@ -111,7 +111,7 @@ over_at input table root (Enter id) k s spent ended_here same = absurd ended_her
 over_at input table root (Pass to) k s spent ended_here same = absurd ended_here
 over_at input table root (PassRest bit outer) k s spent ended_here same = absurd ended_here
 over_at input table root (Sized prim size) k s spent ended_here same = absurd ended_here
-over_at input table root (Seek list terminates) k s spent ended_here same = absurd ended_here
+over_at input table root (Seek what) k s spent ended_here same = absurd ended_here
 over_at input table root (Leave end) k s spent ended_here same =
     let is : root ≡ spend spent (ended end s) =
     same ∙ ap (λ (k : List Frame). spend spent (ahead input table (record { focus = Leave end; stack = k; state = s }))) ended_here in (

@@ -45,7 +45,7 @@ Stands held (Enter id) s = Anchored held s
 Stands held (Pass to) s = (held.base ≤ anchor_at s (to - 1)) × (anchor_at s (to - 1) ≤ (to - 1) / 8)
 Stands held (PassRest bit outer) s = (held.base ≤ anchor_at s (8 * (bit / 8))) × ((bit < s.stop) × (anchor_at s (8 * (bit / 8)) ≤ bit / 8))
 Stands held (Sized prim size) s = Anchored held s
-Stands held (Seek list terminates) s = Anchored held (record s { at = aligned 8 s.at })
+Stands held (Seek what) s = Anchored held (record s { at = aligned 8 s.at })
 Stands held (Leave end) s = Unit {0}
 
 -- the window shows the data at this state: it agrees with them, has the size of the limit, and holds the bytes that are needed

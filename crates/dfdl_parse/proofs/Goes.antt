@@ -73,9 +73,9 @@ stands_at held p (PassRest bit outer) low at =
     let few = here.1 in
     (here.0, (low.1.0, omega arith))
 stands_at held p (Sized prim size) low at = anchored_at held (state_of p) (holds held.base (Sized prim size) p.stack (state_of p) low) at
-stands_at held p (Seek list terminates) low at =
+stands_at held p (Seek what) low at =
     let s : State = state_of p in
-    let here = holds held.base (Seek list terminates) p.stack s low in
+    let here = holds held.base (Seek what) p.stack s low in
     let few = here.1 in
     record { base = here.0; end = omega arith; low = few }
 stands_at held p (Leave end) low at = tt

@@ -29,6 +29,7 @@ use Rattle.dfdl_parse.specs.declared.frame.Focus.TheVariants.{Enter, Seek, Sized
 use Rattle.dfdl_parse.specs.declared.frame.Behind.{Behind}
 use Rattle.dfdl_parse.specs.declared.frame.Behind.TheVariants as behind
 use Rattle.dfdl_parse.specs.declared.parser.Parser.{Parser}
+use Rattle.dfdl_parse.specs.declared.frame.Sought.{Sought}
 use Rattle.dfdl_parse.specs.Moves.{Move, pass, read_leaf}
 use Rattle.dfdl_parse.specs.Searches.{among, cause_of, place_of, search, search_move}
 use Rattle.dfdl_parse.specs.Machines.{enter, enter_box}
@@ -38,27 +39,27 @@ use Rattle.dfdl_parse.specs.Shown.{Becomes, HasSameLimits, limits_of, shown, sta
 
 -- a step of the parser that differs in what it has read, at the place and the window that the clause speaks of
 pub moved-at : (old mid new : Parser) (begins first : ℕ) (held there : Held) (waited : Bool) (looks : ℕ) (move : Parser → ℕ → Held → Move)
-    → mid ≡ record old { scratch = mid.scratch } → first ≡ begins → there ≡ held
+    → mid ≡ record old { scratch = mid.scratch; candidates = mid.candidates } → first ≡ begins → there ≡ held
     → Moved (move mid first there) waited mid.far new there looks
-    → Moved (move (record old { scratch = mid.scratch }) begins held) waited old.far new there looks
+    → Moved (move (record old { scratch = mid.scratch; candidates = mid.candidates }) begins held) waited old.far new there looks
 moved-at old mid new begins first held there waited looks move same at is moved =
-    let one : Moved (move (record old { scratch = mid.scratch }) first there) waited old.far new there looks =
+    let one : Moved (move (record old { scratch = mid.scratch; candidates = mid.candidates }) first there) waited old.far new there looks =
     subst (λ (p : Parser). Moved (move p first there) waited p.far new there looks) same moved in
-    let two : Moved (move (record old { scratch = mid.scratch }) begins there) waited old.far new there looks =
-    subst (λ (n : ℕ). Moved (move (record old { scratch = mid.scratch }) n there) waited old.far new there looks) at one in
-    subst (λ (h : Held). Moved (move (record old { scratch = mid.scratch }) begins h) waited old.far new there looks) is two
+    let two : Moved (move (record old { scratch = mid.scratch; candidates = mid.candidates }) begins there) waited old.far new there looks =
+    subst (λ (n : ℕ). Moved (move (record old { scratch = mid.scratch; candidates = mid.candidates }) n there) waited old.far new there looks) at one in
+    subst (λ (h : Held). Moved (move (record old { scratch = mid.scratch; candidates = mid.candidates }) begins h) waited old.far new there looks) is two
 
 -- a leaf that has the size that was told
-pub sized-moved : (limits : Limits) (held : Held) (nil : Option (List Value)) (focus : Focus) (prim : ℕ) (size : TextSize) (primitives : List Primitive) (first primitive : Primitive) (k : List Frame) (s : State)
+pub sized-moved : (limits : Limits) (held : Held) (delimiters : List Delimiters) (nil : Option (List Value)) (focus : Focus) (prim : ℕ) (size : TextSize) (primitives : List Primitive) (first primitive : Primitive) (k : List Frame) (s : State)
     (waited : Bool) (far : ℕ) (new : Parser) (now_held : Held) (looks : ℕ) → focus ≡ Sized prim size → slice_get primitives prim ≡ Some first → resized size first ≡ Some primitive
-    → Moved (read_leaf nothing limits focus held nil (Some primitive) k s) waited far new now_held looks
-    → Moved (read_sized limits held prim size nil (slice_get primitives prim) k s) waited far new now_held looks
-sized-moved limits held nil focus prim size primitives first primitive k s waited far new now_held looks at is sized moved =
-    let one : Moved (read_leaf nothing limits (Sized prim size) held nil (Some primitive) k s) waited far new now_held looks =
-    subst (λ (f : Focus). Moved (read_leaf nothing limits f held nil (Some primitive) k s) waited far new now_held looks) at moved in
-    let two : Moved (read_resized limits (Sized prim size) held nil (resized size first) k s) waited far new now_held looks =
-    subst (λ (p : Option Primitive). Moved (read_resized limits (Sized prim size) held nil p k s) waited far new now_held looks) (sym sized) one in
-    subst (λ (p : Option Primitive). Moved (read_sized limits held prim size nil p k s) waited far new now_held looks) (sym is) two
+    → Moved (read_leaf nothing limits focus held delimiters nil (Some primitive) k s) waited far new now_held looks
+    → Moved (read_sized limits held delimiters prim size nil (slice_get primitives prim) k s) waited far new now_held looks
+sized-moved limits held delimiters nil focus prim size primitives first primitive k s waited far new now_held looks at is sized moved =
+    let one : Moved (read_leaf nothing limits (Sized prim size) held delimiters nil (Some primitive) k s) waited far new now_held looks =
+    subst (λ (f : Focus). Moved (read_leaf nothing limits f held delimiters nil (Some primitive) k s) waited far new now_held looks) at moved in
+    let two : Moved (read_resized limits (Sized prim size) held delimiters nil (resized size first) k s) waited far new now_held looks =
+    subst (λ (p : Option Primitive). Moved (read_resized limits (Sized prim size) held delimiters nil p k s) waited far new now_held looks) (sym sized) one in
+    subst (λ (p : Option Primitive). Moved (read_sized limits held delimiters prim size nil p k s) waited far new now_held looks) (sym is) two
 
 -- a leaf behind a prefix
 pub leaf-becomes : (old new : Parser) (primitives : List Primitive) (unit : LengthUnit) (b : Behind) (prim units : ℕ) → b ≡ behind.Leaf prim
@@ -108,13 +109,13 @@ module _ (limits : Limits) (table : Table) (held : Held) (id : ℕ) (r : Row) (k
     (at : slice_get table.rows id ≡ Some r) where
   -- a leaf is entered
   pub leaf-entered : (focus : Focus) (prim : ℕ) (waited : Bool) (now_held : Held) (looks : ℕ) → r ≡ Leaf prim → focus ≡ Enter id
-      → Moved (read_leaf one_row limits focus held (nil_values table.primitives s.instead)
+      → Moved (read_leaf one_row limits focus held table.delimiters (nil_values table.primitives s.instead)
       (slice_get table.primitives (read_by table.primitives s.instead prim)) k s) waited far new now_held looks
       → Moved (enter limits table held id (slice_get table.rows id) k s) waited far new now_held looks
   leaf-entered focus prim waited now_held looks is enters moved =
       let row_is : slice_get table.rows id ≡ Some (Leaf prim) = at ∙ ap (λ (x : Row). Some x) is in
       subst (λ (o : Option Row). Moved (enter limits table held id o k s) waited far new now_held looks) (sym row_is)
-      (subst (λ (f : Focus). Moved (read_leaf one_row limits f held (nil_values table.primitives s.instead)
+      (subst (λ (f : Focus). Moved (read_leaf one_row limits f held table.delimiters (nil_values table.primitives s.instead)
       (slice_get table.primitives (read_by table.primitives s.instead prim)) k s) waited far new now_held looks) enters moved)
 
   -- a box is entered
@@ -135,17 +136,17 @@ module _ (limits : Limits) (table : Table) (held : Held) (id : ℕ) (r : Row) (k
       (subst (λ (n : ℕ). Moved (pass one_row held (Enter body) (ScopeFrame (length s.lists) ∷ k) (opens list s)) false far new held n) (sym none) moved)
 
 -- a text is sought, over the window and at the state that the clause speaks of
-pub sought-moved : (old mid new : Parser) (delimiters : List Delimiters) (held there : Held) (list : ℕ) (terminates waited : Bool) (looks : ℕ)
-    → mid ≡ record old { candidates = mid.candidates } → there ≡ from_byte held (anchor_at (state_of old) (aligned 8 old.at)) → old.focus ≡ Seek list terminates
-    → Moved (search_move there.size mid.focus (cause_of terminates) (place_of terminates (state_of mid)) there
-    (ask (seen_at there) (sought_among (among delimiters list terminates (state_of old)) old.at old.stop) nothing) mid.stack (state_of mid)) waited mid.far new there looks
-    → Moved (search (limits_of old held) delimiters held list terminates old.stack (state_of old)) waited old.far new there looks
-sought-moved old mid new delimiters held there list terminates waited looks same is seeks moved =
+pub sought-moved : (old mid new : Parser) (delimiters : List Delimiters) (held there : Held) (what : Sought) (waited : Bool) (looks : ℕ)
+    → mid ≡ record old { candidates = mid.candidates } → there ≡ from_byte held (anchor_at (state_of old) (aligned 8 old.at)) → old.focus ≡ Seek what
+    → Moved (search_move there.size mid.focus (cause_of what) (place_of what (state_of mid)) there
+    (ask (seen_at there) (sought_among (among delimiters what (state_of old)) old.at old.stop) nothing) mid.stack (state_of mid)) waited mid.far new there looks
+    → Moved (search (limits_of old held) delimiters held what old.stack (state_of old)) waited old.far new there looks
+sought-moved old mid new delimiters held there what waited looks same is seeks moved =
     let s : State = state_of old in
-    let asks : Ask Longest = sought_among (among delimiters list terminates s) old.at old.stop in
-    let one : Moved (search_move there.size old.focus (cause_of terminates) (place_of terminates s) there (ask (seen_at there) asks nothing) old.stack s) waited old.far new there looks =
-    subst (λ (p : Parser). Moved (search_move there.size p.focus (cause_of terminates) (place_of terminates (state_of p)) there
+    let asks : Ask Longest = sought_among (among delimiters what s) old.at old.stop in
+    let one : Moved (search_move there.size old.focus (cause_of what) (place_of what s) there (ask (seen_at there) asks nothing) old.stack s) waited old.far new there looks =
+    subst (λ (p : Parser). Moved (search_move there.size p.focus (cause_of what) (place_of what (state_of p)) there
     (ask (seen_at there) asks nothing) p.stack (state_of p)) waited p.far new there looks) same moved in
-    let two : Moved (search_move there.size (Seek list terminates) (cause_of terminates) (place_of terminates s) there (ask (seen_at there) asks nothing) old.stack s) waited old.far new there looks =
-    subst (λ (f : Focus). Moved (search_move there.size f (cause_of terminates) (place_of terminates s) there (ask (seen_at there) asks nothing) old.stack s) waited old.far new there looks) seeks one in
-    subst (λ (h : Held). Moved (search_move h.size (Seek list terminates) (cause_of terminates) (place_of terminates s) h (ask (seen_at h) asks nothing) old.stack s) waited old.far new there looks) is two
+    let two : Moved (search_move there.size (Seek what) (cause_of what) (place_of what s) there (ask (seen_at there) asks nothing) old.stack s) waited old.far new there looks =
+    subst (λ (f : Focus). Moved (search_move there.size f (cause_of what) (place_of what s) there (ask (seen_at there) asks nothing) old.stack s) waited old.far new there looks) seeks one in
+    subst (λ (h : Held). Moved (search_move h.size (Seek what) (cause_of what) (place_of what s) h (ask (seen_at h) asks nothing) old.stack s) waited old.far new there looks) is two

@@ -11,7 +11,7 @@ use Rattle.dfdl_value.specs.declared.value.Value.{Value}
 use Rattle.dfdl_terms.specs.declared.row.Primitive.{Primitive}
 use Rattle.dfdl_terms.specs.declared.row.Primitive.TheVariants.{Integer, Packed, Truth, Octets, Text, NilOctets, Default, NilValues, Pattern}
 use Rattle.dfdl_terms.specs.declared.text.TextSize.{TextSize}
-use Rattle.dfdl_terms.specs.declared.text.TextSize.TheVariants.{Bits, Characters}
+use Rattle.dfdl_terms.specs.declared.text.TextSize.TheVariants.{Bits, Characters, Delimited}
 use Rattle.dfdl_terms.specs.Rows.{Table}
 use Rattle.dfdl_looks.specs.Looks.{Agrees, seen_in}
 use Rattle.dfdl_looks.specs.Asks.{Reached, Told, TooFar, Missing, Reading, ask}
@@ -20,6 +20,7 @@ use Rattle.dfdl_looks.proofs.Resumed.{asked}
 use Rattle.dfdl_grammar.specs.declared.end.End.TheVariants.{Done, Failed}
 use Rattle.dfdl_grammar.specs.States.{Input, State, anchor}
 use Rattle.dfdl_grammar.specs.Outcomes.{Outcome, ended, spend, then_do}
+use Rattle.dfdl_grammar.specs.Delimiters.{lists_of, markup}
 use Rattle.dfdl_grammar.specs.Leaves.{Find, Fails, Finds, FindsOctets, FindsText, content_begins, content_ends, has_room, land, leaf, nil_values, program, program_for}
 use Rattle.dfdl_grammar.specs.Prefixes.{behind_prefix, is_size, land_prefix, leaf_of, prefixed, resized, sized_leaf, units_told}
 use Rattle.dfdl_grammar.specs.Boxes.{boxed_at, rest, unboxed}
@@ -62,27 +63,27 @@ module _ (input : Input) (table : Table) where
 
   -- the reading of a leaf over the data is its reading over the window
   leaf-reads : (held : Held) (nil : Option (List Value)) (primitive : Primitive) (s : State) → Sees held input s
-      → ((ask (seen_at (from_byte held (anchor s))) (program_for nil primitive s.at s.stop) nothing).reached ≡ Missing → ⊥)
-      → ask (seen_at (from_byte held (anchor s))) (program_for nil primitive s.at s.stop) nothing
-      ≡ ask (seen_in input.bytes input.limits.window (anchor s)) (program_for nil primitive s.at s.stop) nothing
+      → ((ask (seen_at (from_byte held (anchor s))) (program_for nil (lists_of table.delimiters (markup s)) primitive s.at s.stop) nothing).reached ≡ Missing → ⊥)
+      → ask (seen_at (from_byte held (anchor s))) (program_for nil (lists_of table.delimiters (markup s)) primitive s.at s.stop) nothing
+      ≡ ask (seen_in input.bytes input.limits.window (anchor s)) (program_for nil (lists_of table.delimiters (markup s)) primitive s.at s.stop) nothing
   leaf-reads held nil primitive s sees here =
       asked (from_byte held (anchor s)) input.bytes (agrees_from held input.bytes (anchor s) sees.stands.base sees.stands.end sees.agrees)
-      (program_for nil primitive s.at s.stop) (program_for-from (anchor s) nil primitive s.at s.stop sees.stands.low) nothing here
-      ∙ ap (λ (size : ℕ). ask (seen_in input.bytes size (anchor s)) (program_for nil primitive s.at s.stop) nothing) sees.size
+      (program_for nil (lists_of table.delimiters (markup s)) primitive s.at s.stop) (program_for-from (anchor s) nil (lists_of table.delimiters (markup s)) primitive s.at s.stop sees.stands.low) nothing here
+      ∙ ap (λ (size : ℕ). ask (seen_in input.bytes size (anchor s)) (program_for nil (lists_of table.delimiters (markup s)) primitive s.at s.stop) nothing) sees.size
 
   -- a leaf that has room, and one that hasn't
   leaf-ahead : (cost : Tally) (focus : Focus) (held : Held) (nil : Option (List Value)) (primitive : Primitive) (k : List Frame) (s : State) → Sees held input s → (room : Bool)
       → let sight : Held = from_byte held (anchor s) in
       let move : Move = cond room
-      (read_move cost input.limits focus (content_begins primitive s.at) sight (ask (seen_at sight) (program_for nil primitive s.at s.stop) nothing) k s)
+      (read_move cost input.limits focus (content_begins primitive s.at) sight (ask (seen_at sight) (program_for nil (lists_of table.delimiters (markup s)) primitive s.at s.stop) nothing) k s)
       (pass cost held (Leave (Failed LengthOutOfRange s.at)) k s) in
-      let whole : Reading Find = ask (seen_in input.bytes input.limits.window (anchor s)) (program_for nil primitive s.at s.stop) nothing in
+      let whole : Reading Find = ask (seen_in input.bytes input.limits.window (anchor s)) (program_for nil (lists_of table.delimiters (markup s)) primitive s.at s.stop) nothing in
       move.waits ≡ false
       → Does input table (finish input table k (spend cost (cond room
       (spend (needs_from (anchor s) whole.tally) (land input.limits (content_begins primitive s.at) whole.reached s))
       (ended (Failed LengthOutOfRange s.at) s)))) move
   leaf-ahead cost focus held nil primitive k s sees true going =
-      let here : Reading Find = ask (seen_at (from_byte held (anchor s))) (program_for nil primitive s.at s.stop) nothing in
+      let here : Reading Find = ask (seen_at (from_byte held (anchor s))) (program_for nil (lists_of table.delimiters (markup s)) primitive s.at s.stop) nothing in
       let same = leaf-reads held nil primitive s sees (found here.reached going) in
       let first : ℕ = content_begins primitive s.at in
       let spent : Tally = needs_from (anchor s) here.tally in
@@ -93,39 +94,40 @@ module _ (input : Input) (table : Table) where
   leaf-ahead cost focus held nil primitive k s sees false going = finish-spend input table k cost (ended (Failed LengthOutOfRange s.at) s)
 
   pub leaf-of : (cost : Tally) (focus : Focus) (held : Held) (nil : Option (List Value)) (primitive : Option Primitive) (k : List Frame) (s : State) → Sees held input s
-      → (read_leaf cost input.limits focus held nil primitive k s).waits ≡ false
-      → Does input table (finish input table k (spend cost (leaf input nil primitive s))) (read_leaf cost input.limits focus held nil primitive k s)
+      → (read_leaf cost input.limits focus held table.delimiters nil primitive k s).waits ≡ false
+      → Does input table (finish input table k (spend cost (leaf input table.delimiters nil primitive s))) (read_leaf cost input.limits focus held table.delimiters nil primitive k s)
   leaf-of cost focus held nil None k s sees going = finish-spend input table k cost (ended Done s)
   leaf-of cost focus held nil (Some primitive) k s sees going = leaf-ahead cost focus held nil primitive k s sees (has_room primitive s.at s.stop) going
 
   -- a leaf whose size was told
   resized-of : (focus : Focus) (held : Held) (nil : Option (List Value)) (primitive : Option Primitive) (k : List Frame) (s : State) → Sees held input s
-      → (read_resized input.limits focus held nil primitive k s).waits ≡ false
-      → Does input table (finish input table k (leaf_of input nil primitive s)) (read_resized input.limits focus held nil primitive k s)
+      → (read_resized input.limits focus held table.delimiters nil primitive k s).waits ≡ false
+      → Does input table (finish input table k (leaf_of input table.delimiters nil primitive s)) (read_resized input.limits focus held table.delimiters nil primitive k s)
   resized-of focus held nil None k s sees going = after_nothing input table k (ended (Failed LengthOutOfRange s.at) s)
   resized-of focus held nil (Some primitive) k s sees going =
-      ap (finish input table k) (sym (spend-nothing (leaf input nil (Some primitive) s)))
+      ap (finish input table k) (sym (spend-nothing (leaf input table.delimiters nil (Some primitive) s)))
       ∙ leaf-of nothing focus held nil (Some primitive) k s sees going
 
   pub sized-of : (held : Held) (prim : ℕ) (size : TextSize) (nil : Option (List Value)) (primitive : Option Primitive) (k : List Frame) (s : State) → Sees held input s
-      → (read_sized input.limits held prim size nil primitive k s).waits ≡ false
-      → Does input table (finish input table k (sized_leaf input nil primitive size s)) (read_sized input.limits held prim size nil primitive k s)
+      → (read_sized input.limits held table.delimiters prim size nil primitive k s).waits ≡ false
+      → Does input table (finish input table k (sized_leaf input table.delimiters nil primitive size s)) (read_sized input.limits held table.delimiters prim size nil primitive k s)
   sized-of held prim size nil None k s sees going = after_nothing input table k (ended Done s)
   sized-of held prim size nil (Some primitive) k s sees going = resized-of (Sized prim size) held nil (resized size primitive) k s sees going
 
   -- a leaf that would pass the end of the box fails where it begins, whether it can have that size or not
   too-long : (nil : Option (List Value)) (s : State) (bits : ℕ) → nat_le (s.at + bits) s.stop ≡ false → (test : Bool) (primitive : Primitive)
       → (test ≡ true → content_ends primitive s.at s.stop ≡ s.at + bits)
-      → leaf_of input nil (cond test (Some primitive) None) s ≡ ended (Failed LengthOutOfRange s.at) s
+      → leaf_of input table.delimiters nil (cond test (Some primitive) None) s ≡ ended (Failed LengthOutOfRange s.at) s
   too-long nil s bits over true primitive ends =
-      let whole : Reading Find = ask (seen_in input.bytes input.limits.window (anchor s)) (program_for nil primitive s.at s.stop) nothing in
+      let whole : Reading Find = ask (seen_in input.bytes input.limits.window (anchor s)) (program_for nil (lists_of table.delimiters (markup s)) primitive s.at s.stop) nothing in
       ap (λ (room : Bool). cond room (spend (needs_from (anchor s) whole.tally) (land input.limits (content_begins primitive s.at) whole.reached s)) (ended (Failed LengthOutOfRange s.at) s))
       (no-room primitive s.at bits s.stop (ends refl) over)
   too-long nil s bits over false primitive ends = refl
 
   sized-too-long : (nil : Option (List Value)) (s : State) (size : TextSize) (primitive : Primitive) → can_fit size s.at s.stop ≡ false
-      → leaf_of input nil (resized size primitive) s ≡ ended (Failed LengthOutOfRange s.at) s
+      → leaf_of input table.delimiters nil (resized size primitive) s ≡ ended (Failed LengthOutOfRange s.at) s
   sized-too-long nil s (Characters count) primitive over = absurd (cc)
+  sized-too-long nil s (Delimited scan) primitive over = absurd (cc)
   sized-too-long nil s (Bits bits) (Integer form) over =
       too-long nil s bits over (is_size (most_bits (form_of form.kind)) bits) (Integer (record form { bits = bits })) (λ can. refl)
   sized-too-long nil s (Bits bits) (Packed form) over =
@@ -145,14 +147,14 @@ module _ (input : Input) (table : Table) where
 
   sized-fits : (prim : ℕ) (size : TextSize) (primitive : Primitive) (k : List Frame) (s : State) → slice_get table.primitives prim ≡ Some primitive
       → (fits : Bool) → can_fit size s.at s.stop ≡ fits
-      → finish input table k (sized_leaf input (nil_values table.primitives s.instead) (Some primitive) size s)
+      → finish input table k (sized_leaf input table.delimiters (nil_values table.primitives s.instead) (Some primitive) size s)
       ≡ ahead input table (cond fits (record { focus = Sized prim size; stack = k; state = s }) (at_end (Failed LengthOutOfRange s.at) k s))
   sized-fits prim size primitive k s is true fit =
-      ap (λ (p : Option Primitive). finish input table k (sized_leaf input (nil_values table.primitives s.instead) p size s)) (sym is)
+      ap (λ (p : Option Primitive). finish input table k (sized_leaf input table.delimiters (nil_values table.primitives s.instead) p size s)) (sym is)
   sized-fits prim size primitive k s is false fit = ap (finish input table k) (sized-too-long (nil_values table.primitives s.instead) s size primitive fit)
 
   pub sized-begin : (prim : ℕ) (size : TextSize) (primitive : Option Primitive) (k : List Frame) (s : State) → slice_get table.primitives prim ≡ primitive
-      → finish input table k (sized_leaf input (nil_values table.primitives s.instead) primitive size s) ≡ ahead input table (sized_begins primitive prim size k s)
+      → finish input table k (sized_leaf input table.delimiters (nil_values table.primitives s.instead) primitive size s) ≡ ahead input table (sized_begins primitive prim size k s)
   sized-begin prim size None k s is = refl
   sized-begin prim size (Some primitive) k s is = sized-fits prim size primitive k s is (can_fit size s.at s.stop) refl
 
@@ -191,15 +193,15 @@ module _ (input : Input) (table : Table) where
     prefix-ahead : (held : Held) (primitive : Primitive) → Sees held input s → (room : Bool)
         → let sight : Held = from_byte held (anchor s) in
         let move : Move = cond room
-        (prefix_move input.limits id own (content_begins primitive s.at) next sight (ask (seen_at sight) (program primitive s.at s.stop) nothing) k s)
+        (prefix_move input.limits id own (content_begins primitive s.at) next sight (ask (seen_at sight) (program (lists_of table.delimiters (markup s)) primitive s.at s.stop) nothing) k s)
         (pass one_row held (Leave (Failed LengthOutOfRange s.at)) k s) in
-        let whole : Reading Find = ask (seen_in input.bytes input.limits.window (anchor s)) (program primitive s.at s.stop) nothing in
+        let whole : Reading Find = ask (seen_in input.bytes input.limits.window (anchor s)) (program (lists_of table.delimiters (markup s)) primitive s.at s.stop) nothing in
         move.waits ≡ false
         → Does input table (finish input table k (spend one_row (cond room
         (spend (needs_from (anchor s) whole.tally) (land_prefix input.limits own (content_begins primitive s.at) follow whole.reached s))
         (ended (Failed LengthOutOfRange s.at) s)))) move
     prefix-ahead held primitive sees true going =
-        let here : Reading Find = ask (seen_at (from_byte held (anchor s))) (program primitive s.at s.stop) nothing in
+        let here : Reading Find = ask (seen_at (from_byte held (anchor s))) (program (lists_of table.delimiters (markup s)) primitive s.at s.stop) nothing in
         let same = leaf-reads held None primitive s sees (found here.reached going) in
         let first : ℕ = content_begins primitive s.at in
         let spent : Tally = needs_from (anchor s) here.tally in
@@ -211,7 +213,7 @@ module _ (input : Input) (table : Table) where
     prefix-ahead held primitive sees false going = finish-spend input table k one_row (ended (Failed LengthOutOfRange s.at) s)
 
     pub prefix-of : (held : Held) (primitive : Option Primitive) → Sees held input s
-        → (read_prefix input.limits id held own next primitive k s).waits ≡ false
-        → Does input table (finish input table k (spend one_row (prefixed input primitive own follow s))) (read_prefix input.limits id held own next primitive k s)
+        → (read_prefix input.limits id held table.delimiters own next primitive k s).waits ≡ false
+        → Does input table (finish input table k (spend one_row (prefixed input table.delimiters primitive own follow s))) (read_prefix input.limits id held table.delimiters own next primitive k s)
     prefix-of held None sees going = finish-spend input table k one_row (ended (Failed LengthOutOfRange s.at) s)
     prefix-of held (Some primitive) sees going = prefix-ahead held primitive sees (has_room primitive s.at s.stop) going

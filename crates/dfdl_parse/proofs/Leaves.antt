@@ -4,6 +4,7 @@ use Rattle.std.proofs.lemmas.List.{append-nil}
 use Rattle.dfdl_bits.specs.Window.{Held, end_of, seen_at}
 use Rattle.dfdl_bits.specs.declared.window.Seen.{Seen}
 use Rattle.dfdl_bits.specs.declared.window.Seen.TheVariants.{Byte, End, NotYet, Over}
+use Rattle.dfdl_delims.specs.Lists.{Opened}
 use Rattle.dfdl_terms.specs.declared.row.Primitive.{Primitive}
 use Rattle.dfdl_report.specs.declared.cause.ParseCause.TheVariants.{DataEnds}
 use Rattle.dfdl_looks.specs.Asks.{Ask, Answer, ask, look_at, Reading, Told}
@@ -107,16 +108,16 @@ none-piece Past scratch is = tt
 none-piece NotCome scratch is = tt
 
 -- the program of a number or boolean is its field
-pub number-field : (primitive : Primitive) (bit stop : ℕ) → IsNumber primitive → program primitive bit stop ≡ field primitive bit
-number-field (Integer form) bit stop is = refl
-number-field (Packed form) bit stop is = refl
-number-field (Truth form) bit stop is = refl
-number-field (Octets form) bit stop is = absurd is
-number-field (Text form) bit stop is = absurd is
-number-field (NilOctets form) bit stop is = absurd is
-number-field (Default form) bit stop is = absurd is
-number-field (NilValues form) bit stop is = absurd is
-number-field (Pattern form) bit stop is = absurd is
+pub number-field : (lists : List Opened) (primitive : Primitive) (bit stop : ℕ) → IsNumber primitive → program lists primitive bit stop ≡ field primitive bit
+number-field lists (Integer form) bit stop is = refl
+number-field lists (Packed form) bit stop is = refl
+number-field lists (Truth form) bit stop is = refl
+number-field lists (Octets form) bit stop is = absurd is
+number-field lists (Text form) bit stop is = absurd is
+number-field lists (NilOctets form) bit stop is = absurd is
+number-field lists (Default form) bit stop is = absurd is
+number-field lists (NilValues form) bit stop is = absurd is
+number-field lists (Pattern form) bit stop is = absurd is
 
 module _ (look : ℕ → Seen) (primitive : Primitive) (bit : ℕ) (bytes : List ℕ)
     (seen : (i : ℕ) → i < length bytes → look (bit / 8 + i) ≡ Byte (get_or bytes i 0)) where

@@ -4,6 +4,9 @@ pub mod Beyond
 pub mod Ends
 pub mod Leaves
 pub mod HexBinaries
+pub mod Scans
+pub mod Made
+pub mod DelimitedReadings
 pub mod StringReadings
 pub mod NilReadings
 pub mod PatternReadings

@@ -10,6 +10,11 @@ use Rattle.dfdl_packed.specs.Packed.{nibbles_in, packed_reading}
 use Rattle.dfdl_value.specs.declared.value.Value.{Value}
 use Rattle.dfdl_terms.specs.declared.row.Primitive.{Primitive}
 use Rattle.dfdl_terms.specs.declared.row.Primitive.TheVariants.{Integer, Packed, Truth, Octets, Text, NilOctets, Default, NilValues, Pattern}
+use Rattle.dfdl_delims.specs.Lists.{Opened}
+use Rattle.dfdl_grammar.specs.Delimited.{first_step}
+use Rattle.dfdl_escapes.specs.Steps.{Step}
+use Rattle.dfdl_terms.specs.declared.text.TextSize.{TextSize}
+use Rattle.dfdl_terms.specs.declared.text.TextSize.TheVariants.{Bits, Characters, Delimited}
 use Rattle.dfdl_terms.specs.declared.text.NilForm.{NilForm}
 use Rattle.dfdl_terms.specs.declared.text.OctetForm.{OctetForm}
 use Rattle.dfdl_terms.specs.declared.text.PatternForm.{PatternForm}
@@ -19,9 +24,11 @@ use Rattle.dfdl_looks.specs.Tallies.{Tally, nothing, saw_byte, saw_end}
 use Rattle.dfdl_looks.proofs.Resumed.{on_seen}
 use Rattle.dfdl_looks.proofs.Sequels.{ask-then}
 use Rattle.dfdl_looks.proofs.Waiting.{far-grows}
-use Rattle.dfdl_grammar.specs.Leaves.{Find, Fails, FindsOctets, bytes_spanned, default_find, field, find_in, has_room, is_no_size, nil_octets_find, nil_value_find, octets, pattern_find, program, program_for, text_sought}
+use Rattle.dfdl_grammar.specs.Leaves.{Find, Fails, FindsOctets, bytes_spanned, default_by_step, default_find, default_of_size, field, find_in, has_room, is_no_size, nil_octets_find, nil_value_find, octets, pattern_find, program, program_for, text_sought}
 use Rattle.dfdl_grammar.specs.Framing.{aligned}
-use Rattle.dfdl_parse.proofs.Ends.{AtEnd, default-at, nil_octets-at, nil_value-at, number-at, packed-at, pattern-at, truth-at}
+use Rattle.dfdl_parse.proofs.Made.{made-ends}
+use Rattle.dfdl_parse.proofs.Scans.{any}
+use Rattle.dfdl_parse.proofs.Ends.{AtEnd, absent-at, default-at, nil_octets-at, nil_value-at, number-at, packed-at, pattern-at, truth-at}
 use Rattle.dfdl_parse.proofs.StringReadings.{string-lies}
 
 module _ (look : ℕ → Seen) (last : ℕ) where
@@ -111,54 +118,62 @@ module _ (look : ℕ → Seen) (last bit : ℕ) (come : bit ≤ 8 * last) (lies 
   default-lies true value = default-at (λ e. e ≤ 8 * last) bit value come
   default-lies false value = tt
 
-  program-lies : (primitive : Primitive) (stop : ℕ) → has_room primitive bit stop ≡ true → Lies (ask look (program primitive bit stop) nothing).reached
-  program-lies (Integer form) stop room =
+  absent-lies : (lists : List Opened) (stop : ℕ) (value : Value) (size : TextSize) → Lies (ask look (default_of_size value lists size bit stop) nothing).reached
+  absent-lies lists stop value (Bits bits) = default-lies (is_no_size (Bits bits)) value
+  absent-lies lists stop value (Characters count) = default-lies (is_no_size (Characters count)) value
+  absent-lies lists stop value (Delimited scan) =
+      made-ends look (default_by_step value (aligned 8 bit)) (λ e. e ≤ 8 * last) (λ (step : Step). Unit {0})
+      (λ step always. absent-at (λ e. e ≤ 8 * last) value (aligned 8 bit) step (omega arith))
+      (first_step lists scan bit stop) nothing (any look (ask look (first_step lists scan bit stop) nothing).reached)
+
+  program-lies : (lists : List Opened) (primitive : Primitive) (stop : ℕ) → has_room primitive bit stop ≡ true → Lies (ask look (program lists primitive bit stop) nothing).reached
+  program-lies lists (Integer form) stop room =
       run-lies (bytes_spanned bit form.bits) (bit / 8) (find_in (Integer form) bit) nothing (omega arith)
       (λ bytes far. number-at (λ e. e ≤ 8 * last) (bit + form.bits) (integer_reading form (field_of form bytes (bit % 8))) (spans form.bits far))
-  program-lies (Packed form) stop room =
+  program-lies lists (Packed form) stop room =
       run-lies (bytes_spanned bit (4 * form.nibbles)) (bit / 8) (find_in (Packed form) bit) nothing (omega arith)
       (λ bytes far. packed-at (λ e. e ≤ 8 * last) (bit + 4 * form.nibbles) (packed_reading form (nibbles_in form bytes (bit % 8))) (spans (4 * form.nibbles) far))
-  program-lies (Truth form) stop room =
+  program-lies lists (Truth form) stop room =
       run-lies (bytes_spanned bit form.bits) (bit / 8) (find_in (Truth form) bit) nothing (omega arith)
       (λ bytes far. truth-at (λ e. e ≤ 8 * last) (bit + form.bits) (truth_reading form (truth_field_of form bytes (bit % 8))) (spans form.bits far))
-  program-lies (Octets form) stop room = octets-lie form nothing
-  program-lies (Text form) stop room = string-lies look last form bit come lies stop room
-  program-lies (NilOctets form) stop room =
+  program-lies lists (Octets form) stop room = octets-lie form nothing
+  program-lies lists (Text form) stop room = string-lies look last form lists bit come lies stop room
+  program-lies lists (NilOctets form) stop room =
       let bytes : Ask Find = octets form.octets bit in
       subst (λ (r : Reading Find). Lies r.reached) (sym (ask-then look (λ find. Answer (nil_octets_find form.nil find)) bytes nothing))
       (nil-lies form.nil (ask look bytes nothing).reached (ask look bytes nothing).tally (octets-lie form.octets nothing))
-  program-lies (NilValues form) stop room = tt
-  program-lies (Pattern form) stop room =
+  program-lies lists (NilValues form) stop room = tt
+  program-lies lists (Pattern form) stop room =
       let text : Ask TextRead = text_sought form (aligned 8 bit) stop in
       subst (λ (r : Reading Find). Lies r.reached) (sym (ask-then look (λ text. Answer (pattern_find form bit text)) text nothing))
       (found-pattern-lies form (ask look text nothing).reached (ask look text nothing).tally)
-  program-lies (Default form) stop room = default-lies (is_no_size form.size) form.value
+  program-lies lists (Default form) stop room = absent-lies lists stop form.value form.size
 
   nil-value-lies : (values : List Value) (r : Reached Find) (u : Tally) → Lies r → Lies (go_on look (λ find. Answer (nil_value_find values find)) r u).reached
   nil-value-lies values (Told find) u there = nil_value-at (λ e. e ≤ 8 * last) values find there
   nil-value-lies values TooFar u there = tt
   nil-value-lies values Missing u there = tt
 
-  pub program_for-lies : (nil : Option (List Value)) (primitive : Primitive) (stop : ℕ) → has_room primitive bit stop ≡ true
-      → Lies (ask look (program_for nil primitive bit stop) nothing).reached
-  program_for-lies None primitive stop room = program-lies primitive stop room
-  program_for-lies (Some values) primitive stop room =
-      let a : Ask Find = program primitive bit stop in
+  pub program_for-lies : (nil : Option (List Value)) (lists : List Opened) (primitive : Primitive) (stop : ℕ) → has_room primitive bit stop ≡ true
+      → Lies (ask look (program_for nil lists primitive bit stop) nothing).reached
+  program_for-lies None lists primitive stop room = program-lies lists primitive stop room
+  program_for-lies (Some values) lists primitive stop room =
+      let a : Ask Find = program lists primitive bit stop in
       subst (λ (r : Reading Find). Lies r.reached) (sym (ask-then look (λ find. Answer (nil_value_find values find)) a nothing))
-      (nil-value-lies values (ask look a nothing).reached (ask look a nothing).tally (program-lies primitive stop room))
+      (nil-value-lies values (ask look a nothing).reached (ask look a nothing).tally (program-lies lists primitive stop room))
 
 -- a leaf that begins before a byte before which all looks are, too, finds a content that ends before it
-found-by : (look : ℕ → Seen) (last bit stop : ℕ) → bit ≤ 8 * last → (nil : Option (List Value)) (primitive : Primitive) → has_room primitive bit stop ≡ true
-    → (r : Reached Find) → (ask look (program_for nil primitive bit stop) nothing).reached ≡ r → (ask look (program_for nil primitive bit stop) nothing).tally.far ≤ last
+found-by : (look : ℕ → Seen) (last bit stop : ℕ) → bit ≤ 8 * last → (nil : Option (List Value)) (lists : List Opened) (primitive : Primitive) → has_room primitive bit stop ≡ true
+    → (r : Reached Find) → (ask look (program_for nil lists primitive bit stop) nothing).reached ≡ r → (ask look (program_for nil lists primitive bit stop) nothing).tally.far ≤ last
     → AtEnd (λ end. end ≤ 8 * last) r
-found-by look last bit stop come nil primitive room (Told found) is few =
+found-by look last bit stop come nil lists primitive room (Told found) is few =
     subst (λ (r : Reached Find). AtEnd (λ end. end ≤ 8 * last) r)
-    (ask-before look last (program_for nil primitive bit stop) nothing found is few)
-    (program_for-lies (before look last) last bit come (λ j byte from seen. before-lies look last j byte seen) nil primitive stop room)
-found-by look last bit stop come nil primitive room TooFar is few = tt
-found-by look last bit stop come nil primitive room Missing is few = tt
+    (ask-before look last (program_for nil lists primitive bit stop) nothing found is few)
+    (program_for-lies (before look last) last bit come (λ j byte from seen. before-lies look last j byte seen) nil lists primitive stop room)
+found-by look last bit stop come nil lists primitive room TooFar is few = tt
+found-by look last bit stop come nil lists primitive room Missing is few = tt
 
-pub found-lies : (look : ℕ → Seen) (last bit stop : ℕ) → bit ≤ 8 * last → (nil : Option (List Value)) (primitive : Primitive) → has_room primitive bit stop ≡ true
-    → (ask look (program_for nil primitive bit stop) nothing).tally.far ≤ last
-    → AtEnd (λ end. end ≤ 8 * last) (ask look (program_for nil primitive bit stop) nothing).reached
-found-lies look last bit stop come nil primitive room few = found-by look last bit stop come nil primitive room _ refl few
+pub found-lies : (look : ℕ → Seen) (last bit stop : ℕ) → bit ≤ 8 * last → (nil : Option (List Value)) (lists : List Opened) (primitive : Primitive) → has_room primitive bit stop ≡ true
+    → (ask look (program_for nil lists primitive bit stop) nothing).tally.far ≤ last
+    → AtEnd (λ end. end ≤ 8 * last) (ask look (program_for nil lists primitive bit stop) nothing).reached
+found-lies look last bit stop come nil lists primitive room few = found-by look last bit stop come nil lists primitive room _ refl few

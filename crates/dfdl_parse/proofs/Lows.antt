@@ -1,5 +1,5 @@
 -- A step leaves the bytes that are needed behind it.
-use Rattle.std.proofs.Common.{◌≡◌, ℕ, ◌+◌, ◌-◌, ◌*◌, ◌/◌, ◌<◌, ◌≤◌, min, nat_eq, nat_le, nat_lt, ◌&&◌, refl, subst, List, [], ◌∷◌, length, Bool, true, false, cond, Option, Some, None, arith}
+use Rattle.std.proofs.Common.{◌≡◌, ℕ, ◌+◌, ◌-◌, ◌*◌, ◌/◌, ◌<◌, ◌≤◌, min, nat_eq, nat_le, nat_lt, ◌&&◌, refl, subst, List, [], ◌∷◌, length, Bool, true, false, cond, Option, Some, None, arith, replicate}
 use Rattle.std.specs.Prelude.{slice_get}
 use Rattle.std.proofs.lemmas.Bool.Decides.{nat_tests}
 use Rattle.dfdl_bits.specs.Window.{Held, end_of, from_byte, seen_at}
@@ -9,11 +9,11 @@ use Rattle.dfdl_report.specs.declared.cause.ParseCause.{ParseCause}
 use Rattle.dfdl_report.specs.declared.cause.ParseCause.TheVariants.{LengthOutOfRange}
 use Rattle.dfdl_report.specs.declared.cause.LimitCause.TheVariants.{Nodes, Text as TextLimit}
 use Rattle.dfdl_value.specs.declared.value.Value.{Value}
+use Rattle.dfdl_terms.specs.declared.delimiters.Delimiters.{Delimiters}
 use Rattle.dfdl_terms.specs.declared.row.Primitive.{Primitive}
 use Rattle.dfdl_delims.specs.Longest.{Longest, Text, NoText}
-use Rattle.dfdl_terms.specs.declared.delimiters.Delimiter.{Delimiter}
 use Rattle.dfdl_terms.specs.declared.row.Row.{Row}
-use Rattle.dfdl_terms.specs.declared.row.Row.TheVariants.{Leaf, Elem, Group, Skip, Align, Initiator, Terminator, Scope, Boxed, PrefixedLeaf, PrefixedBox}
+use Rattle.dfdl_terms.specs.declared.row.Row.TheVariants.{Leaf, Elem, Group, Skip, Align, Initiator, Terminator, Separator, Scope, Boxed, PrefixedLeaf, PrefixedBox, Repeat}
 use Rattle.dfdl_terms.specs.Rows.{Table}
 use Rattle.dfdl_looks.specs.Asks.{Reached, Told, TooFar, Missing, ask}
 use Rattle.dfdl_looks.specs.Tallies.{Tally, needs_from, nothing, one_row, saw_byte}
@@ -31,7 +31,7 @@ use Rattle.dfdl_grammar.specs.Prefixes.{bits_of_units, resized, size_of, units_t
 use Rattle.dfdl_grammar.specs.Leaves.{Find, Fails, Finds, FindsOctets, FindsText, content_begins, has_room, nil_values, program, program_for, read_by}
 use Rattle.dfdl_grammar.specs.Framing.{aligned}
 use Rattle.dfdl_grammar.specs.Boxes.{boxed_at}
-use Rattle.dfdl_grammar.specs.Delimiters.{opens, sought_among, stands_in}
+use Rattle.dfdl_grammar.specs.Delimiters.{lists_of, markup, opens, sought_among, stands_in}
 use Rattle.dfdl_grammar.specs.Elements.{begun, has_elements}
 use Rattle.dfdl_parse.specs.declared.frame.Frame.{Frame}
 use Rattle.dfdl_parse.specs.declared.frame.Frame.TheVariants.{Rest, Element, Box, Scope as ScopeFrame, Trial}
@@ -43,6 +43,8 @@ use Rattle.dfdl_parse.specs.declared.frame.Focus.{Focus}
 use Rattle.dfdl_parse.specs.declared.frame.Focus.TheVariants.{Enter, Pass, PassRest, Sized, Seek, Leave}
 use Rattle.dfdl_parse.specs.declared.frame.Behind.TheVariants as behind
 use Rattle.dfdl_parse.specs.Boxing.{back_outside, outside}
+use Rattle.dfdl_parse.specs.declared.frame.Sought.{Sought}
+use Rattle.dfdl_parse.specs.declared.frame.Sought.TheVariants as sought
 use Rattle.dfdl_parse.specs.Searches.{among, cause_of, found_text, place_of}
 use Rattle.dfdl_parse.specs.Moves.{Machine, Move, landed, pass, read_leaf, read_move}
 use Rattle.dfdl_parse.specs.Prefixed.{at_end, behind_units, can_fit, landed_prefix, prefix_move, read_prefix, read_resized, read_sized, sized_begins, units_begin}
@@ -142,13 +144,13 @@ one-text-low : (cause : ParseCause) (bits low : ℕ) (k : List Frame) (s : State
 one-text-low cause bits low k s base opens true = (omega arith, later low s.at (aligned 8 s.at + bits) k s.marks (omega arith) opens)
 one-text-low cause bits low k s base opens false = opens
 
-text-low : (window list : ℕ) (terminates : Bool) (low : ℕ) (reached : Reached Longest) (k : List Frame) (s : State) → low ≤ aligned 8 s.at / 8 → AreOpen low s.at k s.marks
-    → IsLowFrom low (found_text window (Seek list terminates) (cause_of terminates) (place_of terminates s) reached k s)
-text-low window list terminates low (Told (Text which bits)) k s base opens =
-    one-text-low (cause_of terminates) bits low k s base opens (nat_eq which (place_of terminates s) && nat_lt 0 bits)
-text-low window list terminates low (Told NoText) k s base opens = opens
-text-low window list terminates low TooFar k s base opens = tt
-text-low window list terminates low Missing k s base opens = (base, opens)
+text-low : (window : ℕ) (what : Sought) (low : ℕ) (reached : Reached Longest) (k : List Frame) (s : State) → low ≤ aligned 8 s.at / 8 → AreOpen low s.at k s.marks
+    → IsLowFrom low (found_text window (Seek what) (cause_of what) (place_of what s) reached k s)
+text-low window what low (Told (Text which bits)) k s base opens =
+    one-text-low (cause_of what) bits low k s base opens (nat_eq which (place_of what s) && nat_lt 0 bits)
+text-low window what low (Told NoText) k s base opens = opens
+text-low window what low TooFar k s base opens = tt
+text-low window what low Missing k s base opens = (base, opens)
 
 -- one representation of an element
 attempt-low : (cost : Tally) (most : ℕ) (held : Held) (id : ℕ) (parts : Parts) (instead : Instead) (k : List Frame) (s : State)
@@ -193,50 +195,50 @@ retry-low most held id (Some parts) next.Normal cause bit k s opens =
 retry-low most held id (Some parts) next.Nothing cause bit k s opens = closed-open held.base s.at id next.Nothing k s.marks opens
 
 module _ (held : Held) (s : State) where
-  read-low : (cost : Tally) (limits : Limits) (focus : Focus) (nil : Option (List Value)) (primitive : Primitive) (k : List Frame) → Anchored held s → NeedsFrom (anchor s) focus k s
+  read-low : (cost : Tally) (limits : Limits) (focus : Focus) (delimiters : List Delimiters) (nil : Option (List Value)) (primitive : Primitive) (k : List Frame) → Anchored held s → NeedsFrom (anchor s) focus k s
       → AreOpen held.base s.at k s.marks → (room : Bool)
       → IsLow (cond room
       (read_move cost limits focus (content_begins primitive s.at) (from_byte held (anchor s))
-      (ask (seen_at (from_byte held (anchor s))) (program_for nil primitive s.at s.stop) nothing) k s)
+      (ask (seen_at (from_byte held (anchor s))) (program_for nil (lists_of delimiters (markup s)) primitive s.at s.stop) nothing) k s)
       (pass cost held (Leave (Failed LengthOutOfRange s.at)) k s))
-  read-low cost limits focus nil primitive k stands stays opens true =
+  read-low cost limits focus delimiters nil primitive k stands stays opens true =
       landed-low limits focus (content_begins primitive s.at) (anchor s)
-      (ask (seen_at (from_byte held (anchor s))) (program_for nil primitive s.at s.stop) nothing).reached k s stands.low (risen held.base s.at s.at k s.marks opens)
-      (program_for-ends (seen_at (from_byte held (anchor s))) nil primitive s.at s.stop nothing) stays
-  read-low cost limits focus nil primitive k stands stays opens false = opens
+      (ask (seen_at (from_byte held (anchor s))) (program_for nil (lists_of delimiters (markup s)) primitive s.at s.stop) nothing).reached k s stands.low (risen held.base s.at s.at k s.marks opens)
+      (program_for-ends (seen_at (from_byte held (anchor s))) nil (lists_of delimiters (markup s)) primitive s.at s.stop nothing) stays
+  read-low cost limits focus delimiters nil primitive k stands stays opens false = opens
 
-  leaf-low : (cost : Tally) (limits : Limits) (focus : Focus) (nil : Option (List Value)) (primitive : Option Primitive) (k : List Frame) → Anchored held s → NeedsFrom (anchor s) focus k s
-      → held.base ≤ s.at / 8 → AreOpen held.base s.at k s.marks → IsLow (read_leaf cost limits focus held nil primitive k s)
-  leaf-low cost limits focus nil None k stands stays low opens = (low, opens)
-  leaf-low cost limits focus nil (Some primitive) k stands stays low opens = read-low cost limits focus nil primitive k stands stays opens (has_room primitive s.at s.stop)
+  leaf-low : (cost : Tally) (limits : Limits) (focus : Focus) (delimiters : List Delimiters) (nil : Option (List Value)) (primitive : Option Primitive) (k : List Frame) → Anchored held s → NeedsFrom (anchor s) focus k s
+      → held.base ≤ s.at / 8 → AreOpen held.base s.at k s.marks → IsLow (read_leaf cost limits focus held delimiters nil primitive k s)
+  leaf-low cost limits focus delimiters nil None k stands stays low opens = (low, opens)
+  leaf-low cost limits focus delimiters nil (Some primitive) k stands stays low opens = read-low cost limits focus delimiters nil primitive k stands stays opens (has_room primitive s.at s.stop)
 
-  resized-low : (limits : Limits) (prim : ℕ) (size : TextSize) (nil : Option (List Value)) (primitive : Option Primitive) (k : List Frame) → Anchored held s → held.base ≤ s.at / 8
-      → AreOpen held.base s.at k s.marks → IsLow (read_resized limits (Sized prim size) held nil primitive k s)
-  resized-low limits prim size nil None k stands low opens = opens
-  resized-low limits prim size nil (Some primitive) k stands low opens =
-      leaf-low nothing limits (Sized prim size) nil (Some primitive) k stands (stands.low, risen held.base s.at s.at k s.marks opens) low opens
+  resized-low : (limits : Limits) (prim : ℕ) (size : TextSize) (delimiters : List Delimiters) (nil : Option (List Value)) (primitive : Option Primitive) (k : List Frame) → Anchored held s → held.base ≤ s.at / 8
+      → AreOpen held.base s.at k s.marks → IsLow (read_resized limits (Sized prim size) held delimiters nil primitive k s)
+  resized-low limits prim size delimiters nil None k stands low opens = opens
+  resized-low limits prim size delimiters nil (Some primitive) k stands low opens =
+      leaf-low nothing limits (Sized prim size) delimiters nil (Some primitive) k stands (stands.low, risen held.base s.at s.at k s.marks opens) low opens
 
-  told-low : (limits : Limits) (prim : ℕ) (size : TextSize) (nil : Option (List Value)) (primitive : Option Primitive) (k : List Frame) → Anchored held s → held.base ≤ s.at / 8
-      → AreOpen held.base s.at k s.marks → IsLow (read_sized limits held prim size nil primitive k s)
-  told-low limits prim size nil None k stands low opens = (low, opens)
-  told-low limits prim size nil (Some primitive) k stands low opens = resized-low limits prim size nil (resized size primitive) k stands low opens
+  told-low : (limits : Limits) (prim : ℕ) (size : TextSize) (delimiters : List Delimiters) (nil : Option (List Value)) (primitive : Option Primitive) (k : List Frame) → Anchored held s → held.base ≤ s.at / 8
+      → AreOpen held.base s.at k s.marks → IsLow (read_sized limits held delimiters prim size nil primitive k s)
+  told-low limits prim size delimiters nil None k stands low opens = (low, opens)
+  told-low limits prim size delimiters nil (Some primitive) k stands low opens = resized-low limits prim size delimiters nil (resized size primitive) k stands low opens
 
-  prefix-low : (limits : Limits) (id own : ℕ) (next : ℕ → List Frame → State → Machine) (primitive : Option Primitive) (k : List Frame) → Anchored held s
+  prefix-low : (limits : Limits) (delimiters : List Delimiters) (id own : ℕ) (next : ℕ → List Frame → State → Machine) (primitive : Option Primitive) (k : List Frame) → Anchored held s
       → AreOpen held.base s.at k s.marks
       → ((units : ℕ) (after : State) → anchor s ≤ after.at / 8 → AreOpen (anchor s) after.at k after.marks → IsLowFrom (anchor s) (next units k after))
-      → IsLow (read_prefix limits id held own next primitive k s)
-  prefix-low limits id own next None k stands opens follows = opens
-  prefix-low limits id own next (Some primitive) k stands opens follows = by (has_room primitive s.at s.stop)
+      → IsLow (read_prefix limits id held delimiters own next primitive k s)
+  prefix-low limits delimiters id own next None k stands opens follows = opens
+  prefix-low limits delimiters id own next (Some primitive) k stands opens follows = by (has_room primitive s.at s.stop)
     where
       by : (room : Bool)
           → IsLow (cond room
           (prefix_move limits id own (content_begins primitive s.at) next (from_byte held (anchor s))
-          (ask (seen_at (from_byte held (anchor s))) (program primitive s.at s.stop) nothing) k s)
+          (ask (seen_at (from_byte held (anchor s))) (program (lists_of delimiters (markup s)) primitive s.at s.stop) nothing) k s)
           (pass one_row held (Leave (Failed LengthOutOfRange s.at)) k s))
       by true =
           prefix-landed-low limits id own next k (anchor s) follows (content_begins primitive s.at)
-          (ask (seen_at (from_byte held (anchor s))) (program primitive s.at s.stop) nothing).reached s stands.low (risen held.base s.at s.at k s.marks opens)
-          (program_for-ends (seen_at (from_byte held (anchor s))) None primitive s.at s.stop nothing)
+          (ask (seen_at (from_byte held (anchor s))) (program (lists_of delimiters (markup s)) primitive s.at s.stop) nothing).reached s stands.low (risen held.base s.at s.at k s.marks opens)
+          (program_for-ends (seen_at (from_byte held (anchor s))) None (lists_of delimiters (markup s)) primitive s.at s.stop nothing)
       by false = opens
 
   begin-low : (to : ℕ) (k : List Frame) → held.base ≤ s.at / 8 → AreOpen held.base s.at k s.marks → (over inside : Bool) → nat_le to s.at ≡ over
@@ -275,16 +277,16 @@ module _ (held : Held) (s : State) where
   done-low id (Some parts) next.Nothing k low opens = (low, closed-open held.base s.at id next.Nothing k s.marks opens)
 
   -- a delimiter begins
-  delimiter-low : (delimiter : Delimiter) (terminates : Bool) (k : List Frame) → held.base ≤ s.at / 8 → AreOpen held.base s.at k s.marks → (does_stand : Bool)
-      → IsLow (cond does_stand (pass one_row held (Seek delimiter.list terminates) k s) (pass one_row held (Leave Done) k s))
-  delimiter-low delimiter terminates k low opens true = (omega arith, opens)
-  delimiter-low delimiter terminates k low opens false = (low, opens)
+  delimiter-low : (what : Sought) (k : List Frame) → held.base ≤ s.at / 8 → AreOpen held.base s.at k s.marks → (does_stand : Bool)
+      → IsLow (cond does_stand (pass one_row held (Seek what) k s) (pass one_row held (Leave Done) k s))
+  delimiter-low what k low opens true = (omega arith, opens)
+  delimiter-low what k low opens false = (low, opens)
 
   enter-low : (limits : Limits) (table : Table) (id : ℕ) (r : Option Row) (k : List Frame) → Anchored held s → held.base ≤ s.at / 8
       → AreOpen held.base s.at k s.marks → IsLow (enter limits table held id r k s)
   enter-low limits table id None k stands low opens = (low, opens)
   enter-low limits table id (Some (Leaf prim)) k stands low opens =
-      leaf-low one_row limits (Enter id) (nil_values table.primitives s.instead)
+      leaf-low one_row limits (Enter id) table.delimiters (nil_values table.primitives s.instead)
       (slice_get table.primitives (read_by table.primitives s.instead prim)) k stands (stands.low, risen held.base s.at s.at k s.marks opens) low opens
   enter-low limits table id (Some (Elem name simple tried body)) k stands low opens =
       element-low limits.nodes id (record { complex = has_elements simple; tried = tried; body = body }) k low opens tried.are_several
@@ -293,16 +295,18 @@ module _ (held : Held) (s : State) where
       begin-low (s.at + bits) k low opens (nat_le (s.at + bits) s.at) (nat_le (s.at + bits) s.stop) refl
   enter-low limits table id (Some (Align bits)) k stands low opens =
       begin-low (aligned bits s.at) k low opens (nat_le (aligned bits s.at) s.at) (nat_le (aligned bits s.at) s.stop) refl
-  enter-low limits table id (Some (Initiator delimiter)) k stands low opens = delimiter-low delimiter false k low opens (stands_in s.instead delimiter)
-  enter-low limits table id (Some (Terminator delimiter)) k stands low opens = delimiter-low delimiter true k low opens (stands_in s.instead delimiter)
+  enter-low limits table id (Some (Initiator delimiter)) k stands low opens = delimiter-low (sought.Initiator delimiter.list) k low opens (stands_in s.instead delimiter)
+  enter-low limits table id (Some (Terminator delimiter separators)) k stands low opens = delimiter-low (sought.Terminator delimiter.list separators) k low opens (stands_in s.instead delimiter)
+  enter-low limits table id (Some Separator) k stands low opens = (omega arith, opens)
   enter-low limits table id (Some (Scope list body)) k stands low opens = (low, opens)
   enter-low limits table id (Some (Boxed bits body)) k stands low opens = box-begun-low held.base bits body k s low opens (nat_le (s.at + bits) s.stop)
   enter-low limits table id (Some (PrefixedLeaf prefix prim)) k stands low opens =
       let by : ℕ = read_by table.primitives s.instead prim in
-      prefix-low limits id prefix.own (behind_units table.primitives prefix.unit (behind.Leaf by)) (slice_get table.primitives prefix.prim) k stands opens
+      prefix-low limits table.delimiters id prefix.own (behind_units table.primitives prefix.unit (behind.Leaf by)) (slice_get table.primitives prefix.prim) k stands opens
       (λ units after is still. sized-low (anchor s) by (size_of prefix.unit units) (slice_get table.primitives by) k after is still)
+  enter-low limits table id (Some (Repeat count body)) k stands low opens = group-low id (replicate count body) k low opens
   enter-low limits table id (Some (PrefixedBox prefix body)) k stands low opens =
-      prefix-low limits id prefix.own (behind_units table.primitives prefix.unit (behind.Box body)) (slice_get table.primitives prefix.prim) k stands opens
+      prefix-low limits table.delimiters id prefix.own (behind_units table.primitives prefix.unit (behind.Box body)) (slice_get table.primitives prefix.prim) k stands opens
       (λ units after is still. box-begun-low (anchor s) (bits_of_units prefix.unit units) body k after is still (nat_le (after.at + bits_of_units prefix.unit units) after.stop))
 
   go-low : (id next : ℕ) (child : Option ℕ) (k : List Frame) → held.base ≤ s.at / 8 → AreOpen held.base s.at k s.marks → IsLow (go_on held id next child k s)
@@ -350,11 +354,11 @@ module _ (held : Held) (s : State) where
       let few : low ≤ (to - 1) / 8 = stands.1 in
       filled-low limits.window (from_byte held (min low (end_of held))) low to (seen_beyond held low ((to - 1) / 8)) k s (omega arith) needs.1.0
       (given-up (to - 1) k needs.1.1)
-  step-low limits table (Sized prim size) k stands needs = told-low limits prim size (nil_values table.primitives s.instead) (slice_get table.primitives prim) k stands needs.0 needs.1
-  step-low limits table (Seek list terminates) k stands needs =
+  step-low limits table (Sized prim size) k stands needs = told-low limits prim size table.delimiters (nil_values table.primitives s.instead) (slice_get table.primitives prim) k stands needs.0 needs.1
+  step-low limits table (Seek what) k stands needs =
       let low : ℕ = anchor_at s (aligned 8 s.at) in
-      text-low limits.window list terminates low
-      (ask (seen_at (from_byte held low)) (sought_among (among table.delimiters list terminates s) s.at s.stop) nothing).reached k s stands.low
+      text-low limits.window what low
+      (ask (seen_at (from_byte held low)) (sought_among (among table.delimiters what s) s.at s.stop) nothing).reached k s stands.low
       (risen held.base s.at (aligned 8 s.at) k s.marks needs.1)
   step-low limits table (Leave told) [] stands needs = needs
   step-low limits table (Leave told) (frame ∷ k) stands needs = leave-low limits table frame told k needs

@@ -147,6 +147,6 @@ holds base (PassRest bit outer) k s needs =
     let less = needs.1.1.0 in
     (held-high base s.at (8 * (bit / 8)) k s.marks needs.1.1.1 (omega arith), held-before base s.at (8 * (bit / 8)) k s.marks needs.1.1.1 (omega arith))
 holds base (Sized prim size) k s needs = (held-high base s.at s.at k s.marks needs.1 needs.0, held-before base s.at s.at k s.marks needs.1 (omega arith))
-holds base (Seek list terminates) k s needs =
+holds base (Seek what) k s needs =
     (held-high base s.at (aligned 8 s.at) k s.marks needs.1 needs.0, held-before base s.at (aligned 8 s.at) k s.marks needs.1 (omega arith))
 holds base (Leave end) k s needs = behind_holds base end k s needs

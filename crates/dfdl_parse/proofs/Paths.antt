@@ -1,11 +1,12 @@
 -- A path by the numbers that lead outwards.
-use Rattle.std.proofs.Common.{◌≡◌, ℕ, zero, suc, ◌-◌, ◌<◌, ◌≤◌, ◌⊎◌, inl, inr, List, [], ◌∷◌, ◌++◌, codes, ap, sym, ◌∙◌, arith, append_assoc}
+use Rattle.std.proofs.Common.{◌≡◌, ℕ, zero, suc, ◌-◌, ◌<◌, ◌≤◌, ◌⊎◌, inl, inr, List, [], ◌∷◌, ◌++◌, codes, ap, sym, ◌∙◌, arith, append_assoc, Bool, true, false, cond, Option, Some, decimal}
 use Rattle.std.specs.Prelude.{slice_get}
 use Rattle.std.proofs.lemmas.List.{append-nil}
 use Rattle.dfdl_terms.specs.Rows.{Table}
+use Rattle.dfdl_terms.specs.Arrays.{MarksItems, is_marked}
 use Rattle.dfdl_region.specs.declared.node.Node.{Node}
-use Rattle.dfdl_grammar.specs.Paths.{node_name, outer_of, path_within}
-use Rattle.dfdl_parse.specs.Named.{named, step_to}
+use Rattle.dfdl_grammar.specs.Paths.{node_name, outer_of, path_within, place_of, place_text, step_to}
+use Rattle.dfdl_parse.specs.Named.{named}
 
 module _ (table : Table) (nodes : List Node) where
   -- a number more at the end is the first name
@@ -45,12 +46,37 @@ module _ (table : Table) (nodes : List Node) where
   unfolding named
   none-named text numbers none = ap (λ (ns : List ℕ). text ++ named table nodes ns) none ∙ append-nil text
 
-  -- a name put behind the text is the last one no more
-  pub put-name : (text : List ℕ) (numbers : List ℕ) (number : ℕ)
-      → ((text ++ codes "/") ++ node_name table (slice_get nodes number)) ++ named table nodes numbers ≡ text ++ named table nodes (numbers ++ number ∷ [])
-  put-name text numbers number =
+  -- a step put behind the text is the last one no more
+  pub put-step : (text : List ℕ) (numbers : List ℕ) (number : ℕ)
+      → (((text ++ codes "/") ++ node_name table (slice_get nodes number)) ++ place_text table nodes number (slice_get nodes number)) ++ named table nodes numbers
+      ≡ text ++ named table nodes (numbers ++ number ∷ [])
+  put-step text numbers number =
       let name : List ℕ = node_name table (slice_get nodes number) in
+      let place : List ℕ = place_text table nodes number (slice_get nodes number) in
       let rest : List ℕ = named table nodes numbers in
-      append_assoc (text ++ codes "/") name rest ∙ append_assoc text (codes "/") (name ++ rest)
-      ∙ ap (λ (t : List ℕ). text ++ t) (sym (append_assoc (codes "/") name rest))
-      ∙ ap (λ (t : List ℕ). text ++ t) (sym (named-last numbers number))
+      ap (λ (t : List ℕ). t ++ rest) (append_assoc (text ++ codes "/") name place ∙ append_assoc text (codes "/") (name ++ place))
+      ∙ (append_assoc text (step_to table nodes number) rest
+      ∙ ap (λ (t : List ℕ). text ++ t) (sym (named-last numbers number)))
+
+  -- the place of an item, put behind a text in three pieces
+  pub put-place : (marks : List Bool) (number place : ℕ) (node : Node) (text one two three digits : List ℕ) → MarksItems table.rows marks
+      → slice_get nodes number ≡ Some node → is_marked marks node.element ≡ true → place ≡ place_of nodes number node → digits ≡ decimal place
+      → one ≡ text ++ codes "[" → two ≡ one ++ digits → three ≡ two ++ codes "]"
+      → three ≡ text ++ place_text table nodes number (slice_get nodes number)
+  put-place marks number place node text one two three digits marked is has place_is digits_are first second third =
+      third
+      ∙ (ap (λ (t : List ℕ). t ++ codes "]") (second ∙ (ap (λ (t : List ℕ). t ++ digits) first ∙ append_assoc text (codes "[") digits))
+      ∙ (append_assoc text (codes "[" ++ digits) (codes "]")
+      ∙ ap (λ (t : List ℕ). text ++ t) (append_assoc (codes "[") digits (codes "]")
+      ∙ (ap (λ (ds : List ℕ). codes "[" ++ (ds ++ codes "]")) (digits_are ∙ ap decimal place_is)
+      ∙ (ap (λ (b : Bool). cond b (codes "[" ++ (decimal (place_of nodes number node) ++ codes "]")) []) (sym has ∙ marked node.element)
+      ∙ ap (place_text table nodes number) (sym is))))))
+
+  -- no other element has a place
+  pub put-none : (marks : List Bool) (number : ℕ) (node : Node) (text : List ℕ) → MarksItems table.rows marks
+      → slice_get nodes number ≡ Some node → is_marked marks node.element ≡ false
+      → text ≡ text ++ place_text table nodes number (slice_get nodes number)
+  put-none marks number node text marked is has =
+      sym (append-nil text)
+      ∙ ap (λ (t : List ℕ). text ++ t) (ap (λ (b : Bool). cond b (codes "[" ++ (decimal (place_of nodes number node) ++ codes "]")) []) (sym has ∙ marked node.element)
+      ∙ ap (place_text table nodes number) (sym is))

@@ -180,7 +180,7 @@ done_at (Enter id) k is = absurd (cc)
 done_at (Pass to) k is = absurd (cc)
 done_at (PassRest bit outer) k is = absurd (cc)
 done_at (Sized prim size) k is = absurd (cc)
-done_at (Seek list terminates) k is = absurd (cc)
+done_at (Seek what) k is = absurd (cc)
 done_at (Leave Done) [] is = (refl, refl)
 done_at (Leave (Failed cause bit)) [] is = absurd (cc)
 done_at (Leave (Stopped cause quantity)) [] is = absurd (cc)
@@ -275,7 +275,7 @@ ended_reaches last held (Enter id) k s over_here reaches = absurd over_here
 ended_reaches last held (Pass to) k s over_here reaches = absurd over_here
 ended_reaches last held (PassRest bit outer) k s over_here reaches = absurd over_here
 ended_reaches last held (Sized prim size) k s over_here reaches = absurd over_here
-ended_reaches last held (Seek list terminates) k s over_here reaches = absurd over_here
+ended_reaches last held (Seek what) k s over_here reaches = absurd over_here
 ended_reaches last held (Leave told) k s over_here reaches = reaches
 
 -- before a piece the window holds what it holds
@@ -284,7 +284,7 @@ reaches_now s (Enter id) sound = sound.at
 reaches_now s (Pass to) sound = sound.at
 reaches_now s (PassRest bit outer) sound = sound.at
 reaches_now s (Sized prim size) sound = sound.at
-reaches_now s (Seek list terminates) sound = sound.at
+reaches_now s (Seek what) sound = sound.at
 reaches_now s (Leave told) sound = (omega arith, sound.at)
 
 -- and comes to no byte behind those, or behind the last that it looks at
@@ -327,7 +327,7 @@ module _ (old mid : Session) (sight : Held) (piece : List ℕ) (ready : IsReady 
   reaches_more last (Pass to) s at = at
   reaches_more last (PassRest bit outer) s at = at
   reaches_more last (Sized prim size) s at = at
-  reaches_more last (Seek list terminates) s at = at
+  reaches_more last (Seek what) s at = at
   reaches_more last (Leave told) s reaches = (subst (λ (h : Held). h.base ≤ last) (sym is) reaches.0, reaches.1)
 
   pub ran_reaches : (before : ℕ) → before ≡ end_of old.sight → HasEnded mid.parser.focus mid.parser.stack

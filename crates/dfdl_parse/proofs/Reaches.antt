@@ -1,5 +1,5 @@
 -- A step gives up no byte behind those that it has looked at, and comes to no bit behind them.
-use Rattle.std.proofs.Common.{◌≡◌, ℕ, ◌+◌, ◌-◌, ◌*◌, ◌/◌, ◌<◌, ◌≤◌, ◌⊎◌, inl, inr, max, min, nat_eq, nat_le, nat_lt, ◌&&◌, refl, List, [], ◌∷◌, length, Bool, true, false, cond, leb, Option, Some, None, ap, sym, subst, ◌∙◌, arith}
+use Rattle.std.proofs.Common.{◌≡◌, ℕ, ◌+◌, ◌-◌, ◌*◌, ◌/◌, ◌<◌, ◌≤◌, ◌⊎◌, inl, inr, max, min, nat_eq, nat_le, nat_lt, ◌&&◌, refl, List, [], ◌∷◌, length, Bool, true, false, cond, leb, Option, Some, None, ap, sym, subst, ◌∙◌, arith, replicate}
 use Rattle.std.specs.Prelude.{slice_get}
 use Rattle.std.proofs.lemmas.Bool.Decides.{nat_tests}
 use Rattle.dfdl_bits.specs.Window.{Held, end_of, from_byte, seen_at}
@@ -11,11 +11,10 @@ use Rattle.dfdl_report.specs.declared.cause.LimitCause.TheVariants.{Nodes, Text 
 use Rattle.dfdl_value.specs.declared.value.Value.{Value}
 use Rattle.dfdl_delims.specs.Lists.{Opened}
 use Rattle.dfdl_delims.specs.Longest.{Longest, Text, NoText}
-use Rattle.dfdl_terms.specs.declared.delimiters.Delimiter.{Delimiter}
 use Rattle.dfdl_terms.specs.declared.delimiters.Delimiters.{Delimiters}
 use Rattle.dfdl_terms.specs.declared.row.Primitive.{Primitive}
 use Rattle.dfdl_terms.specs.declared.row.Row.{Row}
-use Rattle.dfdl_terms.specs.declared.row.Row.TheVariants.{Leaf, Elem, Group, Skip, Align, Initiator, Terminator, Scope, Boxed, PrefixedLeaf, PrefixedBox}
+use Rattle.dfdl_terms.specs.declared.row.Row.TheVariants.{Leaf, Elem, Group, Skip, Align, Initiator, Terminator, Separator, Scope, Boxed, PrefixedLeaf, PrefixedBox, Repeat}
 use Rattle.dfdl_terms.specs.Rows.{Table}
 use Rattle.dfdl_terms.specs.declared.prefix.LengthUnit.{LengthUnit}
 use Rattle.dfdl_terms.specs.declared.text.TextSize.{TextSize}
@@ -34,7 +33,7 @@ use Rattle.dfdl_grammar.specs.Marks.{back, back_among, closed, marked}
 use Rattle.dfdl_grammar.specs.Prefixes.{bits_of_units, resized, size_of, units_told}
 use Rattle.dfdl_grammar.specs.Leaves.{Find, Fails, Finds, FindsOctets, FindsText, content_begins, has_room, nil_values, program, program_for, read_by}
 use Rattle.dfdl_grammar.specs.Framing.{aligned}
-use Rattle.dfdl_grammar.specs.Delimiters.{opens, sought_among, stands_in}
+use Rattle.dfdl_grammar.specs.Delimiters.{lists_of, markup, opens, sought_among, stands_in}
 use Rattle.dfdl_grammar.specs.Boxes.{boxed_at}
 use Rattle.dfdl_grammar.specs.Elements.{begun, has_elements}
 use Rattle.dfdl_parse.specs.declared.frame.Frame.{Frame}
@@ -48,6 +47,8 @@ use Rattle.dfdl_parse.specs.declared.frame.Focus.TheVariants.{Enter, Pass, PassR
 use Rattle.dfdl_parse.specs.declared.frame.Behind.{Behind}
 use Rattle.dfdl_parse.specs.declared.frame.Behind.TheVariants as behind
 use Rattle.dfdl_parse.specs.Boxing.{back_outside, outside}
+use Rattle.dfdl_parse.specs.declared.frame.Sought.{Sought}
+use Rattle.dfdl_parse.specs.declared.frame.Sought.TheVariants as sought
 use Rattle.dfdl_parse.specs.Searches.{among, cause_of, found_text, is_cut, place_of, search}
 use Rattle.dfdl_parse.specs.Moves.{Machine, Move, landed, pass, read_leaf, read_move}
 use Rattle.dfdl_parse.specs.Prefixed.{at_end, behind_units, box_begins, can_fit, landed_prefix, prefix_move, read_prefix, read_resized, read_sized, sized_begins, units_begin}
@@ -145,7 +146,7 @@ both m held (Enter id) s base at = at
 both m held (Pass to) s base at = at
 both m held (PassRest bit outer) s base at = at
 both m held (Sized prim size) s base at = at
-both m held (Seek list terminates) s base at = at
+both m held (Seek what) s base at = at
 both m held (Leave end) s base at = (base, at)
 
 -- a look is too far by its place
@@ -236,62 +237,62 @@ module _ (m : ℕ) (held : Held) (base : held.base ≤ m) where
 
   module _ (s : State) (at : s.at ≤ 8 * m) where
     -- a leaf, by where what it finds ends
-    look-reaches : Anchored held s → (cost : Tally) (nil : Option (List Value)) (primitive : Primitive) → has_room primitive s.at s.stop ≡ true
+    look-reaches : Anchored held s → (cost : Tally) (delimiters : List Delimiters) (nil : Option (List Value)) (primitive : Primitive) → has_room primitive s.at s.stop ≡ true
         → (machine : Reached Find → Machine) → ((last : ℕ) (r : Reached Find) → s.at ≤ 8 * last → AtEnd (λ end. end ≤ 8 * last) r → (machine r).state.at ≤ 8 * last)
-        → let reading : Reading Find = ask (seen_at (from_byte held (anchor s))) (program_for nil primitive s.at s.stop) nothing in
+        → let reading : Reading Find = ask (seen_at (from_byte held (anchor s))) (program_for nil (lists_of delimiters (markup s)) primitive s.at s.stop) nothing in
         Reaches (max m (plus cost reading.tally).far) (from_byte held (anchor s)) (machine reading.reached).focus (machine reading.reached).state
-    look-reaches stands cost nil primitive room machine ends =
+    look-reaches stands cost delimiters nil primitive room machine ends =
         let sight : Held = from_byte held (anchor s) in
-        let reading : Reading Find = ask (seen_at sight) (program_for nil primitive s.at s.stop) nothing in
+        let reading : Reading Find = ask (seen_at sight) (program_for nil (lists_of delimiters (markup s)) primitive s.at s.stop) nothing in
         let last : ℕ = max m (plus cost reading.tally).far in
         let low = stands.low in
         both last sight (machine reading.reached).focus (machine reading.reached).state (omega arith)
-        (ends last reading.reached (omega arith) (found-lies (seen_at sight) last s.at s.stop (omega arith) nil primitive room (omega arith)))
+        (ends last reading.reached (omega arith) (found-lies (seen_at sight) last s.at s.stop (omega arith) nil (lists_of delimiters (markup s)) primitive room (omega arith)))
 
-    room-reaches : Anchored held s → (cost : Tally) (limits : Limits) (focus : Focus) (nil : Option (List Value)) (primitive : Primitive) (k : List Frame)
+    room-reaches : Anchored held s → (cost : Tally) (limits : Limits) (focus : Focus) (delimiters : List Delimiters) (nil : Option (List Value)) (primitive : Primitive) (k : List Frame)
         → (room : Bool) → has_room primitive s.at s.stop ≡ room
         → Within m (cond room
         (read_move cost limits focus (content_begins primitive s.at) (from_byte held (anchor s))
-        (ask (seen_at (from_byte held (anchor s))) (program_for nil primitive s.at s.stop) nothing) k s)
+        (ask (seen_at (from_byte held (anchor s))) (program_for nil (lists_of delimiters (markup s)) primitive s.at s.stop) nothing) k s)
         (pass cost held (Leave (Failed LengthOutOfRange s.at)) k s))
-    room-reaches stands cost limits focus nil primitive k true has =
-        look-reaches stands cost nil primitive has (λ r. landed limits focus (content_begins primitive s.at) r k s)
+    room-reaches stands cost limits focus delimiters nil primitive k true has =
+        look-reaches stands cost delimiters nil primitive has (λ r. landed limits focus (content_begins primitive s.at) r k s)
         (λ last r before there. landed-at limits focus (content_begins primitive s.at) last k s r before there)
-    room-reaches stands cost limits focus nil primitive k false has = pass-reaches cost (Leave (Failed LengthOutOfRange s.at)) k s at
+    room-reaches stands cost limits focus delimiters nil primitive k false has = pass-reaches cost (Leave (Failed LengthOutOfRange s.at)) k s at
 
-    leaf-reaches : Anchored held s → (cost : Tally) (limits : Limits) (focus : Focus) (nil : Option (List Value)) (primitive : Option Primitive) (k : List Frame)
-        → Within m (read_leaf cost limits focus held nil primitive k s)
-    leaf-reaches stands cost limits focus nil None k = pass-reaches cost (Leave Done) k s at
-    leaf-reaches stands cost limits focus nil (Some primitive) k = room-reaches stands cost limits focus nil primitive k (has_room primitive s.at s.stop) refl
+    leaf-reaches : Anchored held s → (cost : Tally) (limits : Limits) (focus : Focus) (delimiters : List Delimiters) (nil : Option (List Value)) (primitive : Option Primitive) (k : List Frame)
+        → Within m (read_leaf cost limits focus held delimiters nil primitive k s)
+    leaf-reaches stands cost limits focus delimiters nil None k = pass-reaches cost (Leave Done) k s at
+    leaf-reaches stands cost limits focus delimiters nil (Some primitive) k = room-reaches stands cost limits focus delimiters nil primitive k (has_room primitive s.at s.stop) refl
 
-    resized-reaches : Anchored held s → (limits : Limits) (focus : Focus) (nil : Option (List Value)) (primitive : Option Primitive) (k : List Frame)
-        → Within m (read_resized limits focus held nil primitive k s)
-    resized-reaches stands limits focus nil None k = pass-reaches nothing (Leave (Failed LengthOutOfRange s.at)) k s at
-    resized-reaches stands limits focus nil (Some primitive) k = leaf-reaches stands nothing limits focus nil (Some primitive) k
+    resized-reaches : Anchored held s → (limits : Limits) (focus : Focus) (delimiters : List Delimiters) (nil : Option (List Value)) (primitive : Option Primitive) (k : List Frame)
+        → Within m (read_resized limits focus held delimiters nil primitive k s)
+    resized-reaches stands limits focus delimiters nil None k = pass-reaches nothing (Leave (Failed LengthOutOfRange s.at)) k s at
+    resized-reaches stands limits focus delimiters nil (Some primitive) k = leaf-reaches stands nothing limits focus delimiters nil (Some primitive) k
 
-    pub told-reaches : Anchored held s → (limits : Limits) (prim : ℕ) (size : TextSize) (nil : Option (List Value)) (primitive : Option Primitive) (k : List Frame)
-        → Within m (read_sized limits held prim size nil primitive k s)
-    told-reaches stands limits prim size nil None k = pass-reaches nothing (Leave Done) k s at
-    told-reaches stands limits prim size nil (Some primitive) k = resized-reaches stands limits (Sized prim size) nil (resized size primitive) k
+    pub told-reaches : Anchored held s → (limits : Limits) (prim : ℕ) (size : TextSize) (delimiters : List Delimiters) (nil : Option (List Value)) (primitive : Option Primitive) (k : List Frame)
+        → Within m (read_sized limits held delimiters prim size nil primitive k s)
+    told-reaches stands limits prim size delimiters nil None k = pass-reaches nothing (Leave Done) k s at
+    told-reaches stands limits prim size delimiters nil (Some primitive) k = resized-reaches stands limits (Sized prim size) delimiters nil (resized size primitive) k
 
-    prefix-room-reaches : Anchored held s → (limits : Limits) (id own : ℕ) (next : ℕ → List Frame → State → Machine) (primitive : Primitive) (k : List Frame)
+    prefix-room-reaches : Anchored held s → (limits : Limits) (delimiters : List Delimiters) (id own : ℕ) (next : ℕ → List Frame → State → Machine) (primitive : Primitive) (k : List Frame)
         → ((last units : ℕ) (after : State) → after.at ≤ last → (next units k after).state.at ≤ last)
         → (room : Bool) → has_room primitive s.at s.stop ≡ room
         → Within m (cond room
         (prefix_move limits id own (content_begins primitive s.at) next (from_byte held (anchor s))
-        (ask (seen_at (from_byte held (anchor s))) (program primitive s.at s.stop) nothing) k s)
+        (ask (seen_at (from_byte held (anchor s))) (program (lists_of delimiters (markup s)) primitive s.at s.stop) nothing) k s)
         (pass one_row held (Leave (Failed LengthOutOfRange s.at)) k s))
-    prefix-room-reaches stands limits id own next primitive k follows true has =
-        look-reaches stands one_row None primitive has (λ r. landed_prefix limits id own (content_begins primitive s.at) next r k s)
+    prefix-room-reaches stands limits delimiters id own next primitive k follows true has =
+        look-reaches stands one_row delimiters None primitive has (λ r. landed_prefix limits id own (content_begins primitive s.at) next r k s)
         (λ last r before there. prefix-landed-at limits id own next k (8 * last) (follows (8 * last)) (content_begins primitive s.at) r s before there)
-    prefix-room-reaches stands limits id own next primitive k follows false has = pass-reaches one_row (Leave (Failed LengthOutOfRange s.at)) k s at
+    prefix-room-reaches stands limits delimiters id own next primitive k follows false has = pass-reaches one_row (Leave (Failed LengthOutOfRange s.at)) k s at
 
-    prefix-reaches : Anchored held s → (limits : Limits) (id own : ℕ) (next : ℕ → List Frame → State → Machine) (primitive : Option Primitive) (k : List Frame)
+    prefix-reaches : Anchored held s → (limits : Limits) (delimiters : List Delimiters) (id own : ℕ) (next : ℕ → List Frame → State → Machine) (primitive : Option Primitive) (k : List Frame)
         → ((last units : ℕ) (after : State) → after.at ≤ last → (next units k after).state.at ≤ last)
-        → Within m (read_prefix limits id held own next primitive k s)
-    prefix-reaches stands limits id own next None k follows = pass-reaches one_row (Leave (Failed LengthOutOfRange s.at)) k s at
-    prefix-reaches stands limits id own next (Some primitive) k follows =
-        prefix-room-reaches stands limits id own next primitive k follows (has_room primitive s.at s.stop) refl
+        → Within m (read_prefix limits id held delimiters own next primitive k s)
+    prefix-reaches stands limits delimiters id own next None k follows = pass-reaches one_row (Leave (Failed LengthOutOfRange s.at)) k s at
+    prefix-reaches stands limits delimiters id own next (Some primitive) k follows =
+        prefix-room-reaches stands limits delimiters id own next primitive k follows (has_room primitive s.at s.stop) refl
 
     begin-reaches : (to : ℕ) (k : List Frame) (over inside : Bool)
         → Within m (cond over (pass one_row held (Leave Done) k s)
@@ -306,10 +307,10 @@ module _ (m : ℕ) (held : Held) (base : held.base ≤ m) where
     element-reaches most id parts k false = attempt-reaches two_rows most id parts Nothing k s at (nat_lt (length s.nodes) most)
 
     -- a delimiter begins, and is sought
-    delimiter-reaches : (delimiter : Delimiter) (terminates : Bool) (k : List Frame) (stands : Bool)
-        → Within m (cond stands (pass one_row held (Seek delimiter.list terminates) k s) (pass one_row held (Leave Done) k s))
-    delimiter-reaches delimiter terminates k true = pass-reaches one_row (Seek delimiter.list terminates) k s at
-    delimiter-reaches delimiter terminates k false = pass-reaches one_row (Leave Done) k s at
+    delimiter-reaches : (what : Sought) (k : List Frame) (stands : Bool)
+        → Within m (cond stands (pass one_row held (Seek what) k s) (pass one_row held (Leave Done) k s))
+    delimiter-reaches what k true = pass-reaches one_row (Seek what) k s at
+    delimiter-reaches what k false = pass-reaches one_row (Leave Done) k s at
 
     group-reaches : (id : ℕ) (children : List ℕ) (k : List Frame) → Within m (enter_group held id children k s)
     group-reaches id [] k = pass-reaches one_row (Leave Done) k s at
@@ -318,22 +319,24 @@ module _ (m : ℕ) (held : Held) (base : held.base ≤ m) where
     pub enter-reaches : Anchored held s → (limits : Limits) (table : Table) (id : ℕ) (r : Option Row) (k : List Frame) → Within m (enter limits table held id r k s)
     enter-reaches stands limits table id None k = pass-reaches one_row (Leave Done) k s at
     enter-reaches stands limits table id (Some (Leaf prim)) k =
-        leaf-reaches stands one_row limits (Enter id) (nil_values table.primitives s.instead) (slice_get table.primitives (read_by table.primitives s.instead prim)) k
+        leaf-reaches stands one_row limits (Enter id) table.delimiters (nil_values table.primitives s.instead) (slice_get table.primitives (read_by table.primitives s.instead prim)) k
     enter-reaches stands limits table id (Some (Elem name simple tried body)) k =
         element-reaches limits.nodes id (record { complex = has_elements simple; tried = tried; body = body }) k tried.are_several
     enter-reaches stands limits table id (Some (Group children)) k = group-reaches id children k
     enter-reaches stands limits table id (Some (Skip bits)) k = begin-reaches (s.at + bits) k (nat_le (s.at + bits) s.at) (nat_le (s.at + bits) s.stop)
     enter-reaches stands limits table id (Some (Align bits)) k = begin-reaches (aligned bits s.at) k (nat_le (aligned bits s.at) s.at) (nat_le (aligned bits s.at) s.stop)
-    enter-reaches stands limits table id (Some (Initiator delimiter)) k = delimiter-reaches delimiter false k (stands_in s.instead delimiter)
-    enter-reaches stands limits table id (Some (Terminator delimiter)) k = delimiter-reaches delimiter true k (stands_in s.instead delimiter)
+    enter-reaches stands limits table id (Some (Initiator delimiter)) k = delimiter-reaches (sought.Initiator delimiter.list) k (stands_in s.instead delimiter)
+    enter-reaches stands limits table id (Some (Terminator delimiter separators)) k = delimiter-reaches (sought.Terminator delimiter.list separators) k (stands_in s.instead delimiter)
+    enter-reaches stands limits table id (Some Separator) k = pass-reaches one_row (Seek sought.Separator) k s at
     enter-reaches stands limits table id (Some (Scope list body)) k = pass-reaches one_row (Enter body) (ScopeFrame (length s.lists) ∷ k) (opens list s) at
     enter-reaches stands limits table id (Some (Boxed bits body)) k = both (max m 0) held (box_begins bits body k s).focus (box_begins bits body k s).state (omega arith) (let there = box-at (8 * m) bits body k s at in omega arith)
     enter-reaches stands limits table id (Some (PrefixedLeaf prefix prim)) k =
         let what : Behind = behind.Leaf (read_by table.primitives s.instead prim) in
-        prefix-reaches stands limits id prefix.own (behind_units table.primitives prefix.unit what) (slice_get table.primitives prefix.prim) k
+        prefix-reaches stands limits table.delimiters id prefix.own (behind_units table.primitives prefix.unit what) (slice_get table.primitives prefix.prim) k
         (λ last units after before. behind-at last table prefix.unit what units k after before)
+    enter-reaches stands limits table id (Some (Repeat count body)) k = group-reaches id (replicate count body) k
     enter-reaches stands limits table id (Some (PrefixedBox prefix body)) k =
-        prefix-reaches stands limits id prefix.own (behind_units table.primitives prefix.unit (behind.Box body)) (slice_get table.primitives prefix.prim) k
+        prefix-reaches stands limits table.delimiters id prefix.own (behind_units table.primitives prefix.unit (behind.Box body)) (slice_get table.primitives prefix.prim) k
         (λ last units after before. behind-at last table prefix.unit (behind.Box body) units k after before)
 
     go-reaches : (id next : ℕ) (child : Option ℕ) (k : List Frame) → Within m (go_on held id next child k s)
@@ -400,15 +403,15 @@ module _ (m : ℕ) (held : Held) (s : State) (at : s.at ≤ 8 * m) where
   found-reaches window place last focus cause sight k TooFar base before ends waits = (base, before)
   found-reaches window place last focus cause sight k Missing base before ends waits = waits refl
 
-  pub search-reaches : Anchored held (record s { at = aligned 8 s.at }) → (limits : Limits) (delimiters : List Delimiters) (list : ℕ) (terminates : Bool) (k : List Frame)
-      → Within m (search limits delimiters held list terminates k s)
-  search-reaches stands limits delimiters list terminates k =
+  pub search-reaches : Anchored held (record s { at = aligned 8 s.at }) → (limits : Limits) (delimiters : List Delimiters) (what : Sought) (k : List Frame)
+      → Within m (search limits delimiters held what k s)
+  search-reaches stands limits delimiters what k =
       let sight : Held = from_byte held (anchor_at s (aligned 8 s.at)) in
-      let lists : List Opened = among delimiters list terminates s in
+      let lists : List Opened = among delimiters what s in
       let reading : Reading Longest = ask (seen_at sight) (sought_among lists s.at s.stop) nothing in
       let last : ℕ = max m reading.tally.far in
       let low = stands.low in
-      found-reaches limits.window (place_of terminates s) last (Seek list terminates) (cause_of terminates) sight k reading.reached (omega arith) (omega arith)
+      found-reaches limits.window (place_of what s) last (Seek what) (cause_of what) sight k reading.reached (omega arith) (omega arith)
       (sought-lies (seen_at sight) last lists s.at s.stop (omega arith) (omega arith)) (λ cut. omega arith)
 
 pub step-reaches : (m : ℕ) (held : Held) (s : State) → 0 < held.size → (limits : Limits) (table : Table) (focus : Focus) (k : List Frame) → Stands held focus s
@@ -420,8 +423,8 @@ step-reaches m held s some limits table (Pass to) k stands needs at = fill-reach
 step-reaches m held s some limits table (PassRest bit outer) k stands needs at = rest-reaches m held s at some limits bit outer held.base k needs.1.1.1 stands.1.1
 step-reaches m held s some limits table (Sized prim size) k stands needs at =
     let low : held.base ≤ s.at / 8 = needs.0 in
-    told-reaches m held (omega arith) s at stands limits prim size (nil_values table.primitives s.instead) (slice_get table.primitives prim) k
-step-reaches m held s some limits table (Seek list terminates) k stands needs at = search-reaches m held s at stands limits table.delimiters list terminates k
+    told-reaches m held (omega arith) s at stands limits prim size table.delimiters (nil_values table.primitives s.instead) (slice_get table.primitives prim) k
+step-reaches m held s some limits table (Seek what) k stands needs at = search-reaches m held s at stands limits table.delimiters what k
 step-reaches m held s some limits table (Leave told) [] stands needs reaches = both (max m 0) held (Leave told) s (let low = reaches.0 in omega arith) (let at = reaches.1 in omega arith)
 step-reaches m held s some limits table (Leave told) (frame ∷ k) stands needs reaches =
     leave-reaches m held reaches.0 s reaches.1 limits table frame told k (holds held.base (Leave told) (frame ∷ k) s needs)
@@ -432,7 +435,7 @@ further m n held (Enter id) s less at = omega arith
 further m n held (Pass to) s less at = omega arith
 further m n held (PassRest bit outer) s less at = omega arith
 further m n held (Sized prim size) s less at = omega arith
-further m n held (Seek list terminates) s less at = omega arith
+further m n held (Seek what) s less at = omega arith
 further m n held (Leave end) s less reaches = let low = reaches.0 in let at = reaches.1 in (omega arith, omega arith)
 
 -- a step that waits leaves what is done next
@@ -442,6 +445,6 @@ waiting-reaches table last held after s limits (Enter id) k waits at = at
 waiting-reaches table last held after s limits (Pass to) k waits at = at
 waiting-reaches table last held after s limits (PassRest bit outer) k waits at = at
 waiting-reaches table last held after s limits (Sized prim size) k waits at = at
-waiting-reaches table last held after s limits (Seek list terminates) k waits at = at
+waiting-reaches table last held after s limits (Seek what) k waits at = at
 waiting-reaches table last held after s limits (Leave told) [] waits reaches = absurd (cc)
 waiting-reaches table last held after s limits (Leave told) (frame ∷ k) waits reaches = absurd (leave-on table held s limits frame told k waits)

@@ -1,5 +1,5 @@
 -- A step names no lists but those of the tables.
-use Rattle.std.proofs.Common.{◌≡◌, ℕ, zero, suc, ◌+◌, ◌-◌, ◌*◌, ◌/◌, ◌<◌, min, ◌&&◌, nat_eq, nat_le, nat_lt, refl, List, [], ◌∷◌, length, map, Bool, true, false, cond, Option, Some, None, All, sym, subst, arith}
+use Rattle.std.proofs.Common.{◌≡◌, ℕ, zero, suc, ◌+◌, ◌-◌, ◌*◌, ◌/◌, ◌<◌, min, ◌&&◌, nat_eq, nat_le, nat_lt, refl, List, [], ◌∷◌, length, map, Bool, true, false, cond, Option, Some, None, All, sym, subst, arith, replicate}
 use Rattle.std.specs.Prelude.{slice_get}
 use Rattle.std.proofs.lemmas.List.Elements.{All-append, All-take}
 use Rattle.std.proofs.lemmas.Option.{get_or_from_slice_get, slice_get_within}
@@ -12,12 +12,12 @@ use Rattle.dfdl_report.specs.declared.cause.ParseCause.TheVariants.{LengthOutOfR
 use Rattle.dfdl_value.specs.declared.value.Value.{Value}
 use Rattle.dfdl_delims.specs.Registers.{Holds}
 use Rattle.dfdl_delims.specs.Longest.{Longest, Text, NoText}
-use Rattle.dfdl_terms.specs.declared.delimiters.Delimiter.{Delimiter}
+use Rattle.dfdl_terms.specs.declared.delimiters.Delimiters.{Delimiters}
 use Rattle.dfdl_terms.specs.declared.row.Primitive.{Primitive}
 use Rattle.dfdl_terms.specs.declared.row.Row.{Row}
-use Rattle.dfdl_terms.specs.declared.row.Row.TheVariants.{Leaf, Elem, Group, Skip, Align, Initiator, Terminator, Scope, Boxed, PrefixedLeaf, PrefixedBox}
+use Rattle.dfdl_terms.specs.declared.row.Row.TheVariants.{Leaf, Elem, Group, Skip, Align, Initiator, Terminator, Separator, Scope, Boxed, PrefixedLeaf, PrefixedBox, Repeat}
 use Rattle.dfdl_terms.specs.declared.text.TextSize.{TextSize}
-use Rattle.dfdl_terms.specs.Rows.{NamesWithin, Table, named_by}
+use Rattle.dfdl_terms.specs.Rows.{IsWithin, NamesWithin, Table, named_by}
 use Rattle.dfdl_looks.specs.Asks.{Reached, Told, TooFar, Missing, ask}
 use Rattle.dfdl_looks.specs.Tallies.{Tally, needs_from, nothing, one_row, saw_byte}
 use Rattle.dfdl_grammar.specs.declared.end.End.{End}
@@ -31,7 +31,7 @@ use Rattle.dfdl_grammar.specs.Outcomes.{Outcome, ended}
 use Rattle.dfdl_grammar.specs.Marks.{back, back_among, closed, marked}
 use Rattle.dfdl_grammar.specs.Leaves.{Find, Fails, Finds, FindsOctets, FindsText, content_begins, has_room, nil_values, program, program_for, read_by}
 use Rattle.dfdl_grammar.specs.Framing.{aligned}
-use Rattle.dfdl_grammar.specs.Delimiters.{opened, sought_among, stands_in}
+use Rattle.dfdl_grammar.specs.Delimiters.{lists_of, markup, numbers_of, opened, sought_among, stands_in}
 use Rattle.dfdl_grammar.specs.Boxes.{boxed_at}
 use Rattle.dfdl_grammar.specs.Elements.{begun, has_elements}
 use Rattle.dfdl_grammar.specs.Prefixes.{bits_of_units, resized, size_of, units_told}
@@ -46,11 +46,13 @@ use Rattle.dfdl_parse.specs.declared.frame.Focus.TheVariants.{Enter, Pass, PassR
 use Rattle.dfdl_parse.specs.declared.frame.Behind.TheVariants as behind
 use Rattle.dfdl_parse.specs.declared.parser.Parser.{Parser}
 use Rattle.dfdl_parse.specs.Boxing.{back_outside, outside}
+use Rattle.dfdl_parse.specs.declared.frame.Sought.{Sought}
+use Rattle.dfdl_parse.specs.declared.frame.Sought.TheVariants as sought
 use Rattle.dfdl_parse.specs.Moves.{Machine, Move, landed, pass, read_leaf, read_move}
 use Rattle.dfdl_parse.specs.Prefixed.{at_end, behind_units, can_fit, landed_prefix, prefix_move, read_prefix, read_resized, read_sized, sized_begins, units_begin}
 use Rattle.dfdl_parse.specs.Machines.{children_of, enter, enter_group, fill_move, go_on, leave, rest_move, seen_beyond, step}
 use Rattle.dfdl_parse.specs.Registered.{IsRegistered, ListsWithin, SeeksWithin}
-use Rattle.dfdl_parse.specs.Searches.{among, cause_of, found_text, place_of}
+use Rattle.dfdl_parse.specs.Searches.{among, cause_of, found_text, place_of, put_behind}
 use Rattle.dfdl_parse.specs.Shown.{HasSameLimits, limits_of, state_of}
 use Rattle.dfdl_parse.specs.Steps.{Moved}
 use Rattle.dfdl_parse.specs.Trials.{attempt, parts_of, refused, retry, trial_done, try_empty, try_nil, try_normal, two_rows}
@@ -88,30 +90,30 @@ module _ (count : ℕ) where
   landed-names limits focus first TooFar k s seeks lists = left_at _ k s lists
   landed-names limits focus first Missing k s seeks lists = record { sought = seeks; open_lists = lists }
 
-  leaf-names : (cost : Tally) (limits : Limits) (focus : Focus) (held : Held) (nil : Option (List Value)) (primitive : Option Primitive) (k : List Frame) (s : State)
-      → SeeksWithin count focus → All IsOne s.lists → Names (read_leaf cost limits focus held nil primitive k s)
-  leaf-names cost limits focus held nil None k s seeks lists = left_at Done k s lists
-  leaf-names cost limits focus held nil (Some primitive) k s seeks lists = by (has_room primitive s.at s.stop)
+  leaf-names : (cost : Tally) (limits : Limits) (focus : Focus) (held : Held) (delimiters : List Delimiters) (nil : Option (List Value)) (primitive : Option Primitive) (k : List Frame) (s : State)
+      → SeeksWithin count focus → All IsOne s.lists → Names (read_leaf cost limits focus held delimiters nil primitive k s)
+  leaf-names cost limits focus held delimiters nil None k s seeks lists = left_at Done k s lists
+  leaf-names cost limits focus held delimiters nil (Some primitive) k s seeks lists = by (has_room primitive s.at s.stop)
     where
       by : (room : Bool)
           → Names (cond room
           (read_move cost limits focus (content_begins primitive s.at) (from_byte held (anchor s))
-          (ask (seen_at (from_byte held (anchor s))) (program_for nil primitive s.at s.stop) nothing) k s)
+          (ask (seen_at (from_byte held (anchor s))) (program_for nil (lists_of delimiters (markup s)) primitive s.at s.stop) nothing) k s)
           (pass cost held (Leave (Failed LengthOutOfRange s.at)) k s))
       by true =
           landed-names limits focus (content_begins primitive s.at)
-          (ask (seen_at (from_byte held (anchor s))) (program_for nil primitive s.at s.stop) nothing).reached k s seeks lists
+          (ask (seen_at (from_byte held (anchor s))) (program_for nil (lists_of delimiters (markup s)) primitive s.at s.stop) nothing).reached k s seeks lists
       by false = left_at _ k s lists
 
-  resized-names : (limits : Limits) (prim : ℕ) (size : TextSize) (held : Held) (nil : Option (List Value)) (primitive : Option Primitive) (k : List Frame) (s : State)
-      → All IsOne s.lists → Names (read_resized limits (Sized prim size) held nil primitive k s)
-  resized-names limits prim size held nil None k s lists = left_at _ k s lists
-  resized-names limits prim size held nil (Some primitive) k s lists = leaf-names nothing limits (Sized prim size) held nil (Some primitive) k s tt lists
+  resized-names : (limits : Limits) (prim : ℕ) (size : TextSize) (held : Held) (delimiters : List Delimiters) (nil : Option (List Value)) (primitive : Option Primitive) (k : List Frame) (s : State)
+      → All IsOne s.lists → Names (read_resized limits (Sized prim size) held delimiters nil primitive k s)
+  resized-names limits prim size held delimiters nil None k s lists = left_at _ k s lists
+  resized-names limits prim size held delimiters nil (Some primitive) k s lists = leaf-names nothing limits (Sized prim size) held delimiters nil (Some primitive) k s tt lists
 
-  sized-names : (limits : Limits) (prim : ℕ) (size : TextSize) (held : Held) (nil : Option (List Value)) (primitive : Option Primitive) (k : List Frame) (s : State)
-      → All IsOne s.lists → Names (read_sized limits held prim size nil primitive k s)
-  sized-names limits prim size held nil None k s lists = left_at _ k s lists
-  sized-names limits prim size held nil (Some primitive) k s lists = resized-names limits prim size held nil (resized size primitive) k s lists
+  sized-names : (limits : Limits) (prim : ℕ) (size : TextSize) (held : Held) (delimiters : List Delimiters) (nil : Option (List Value)) (primitive : Option Primitive) (k : List Frame) (s : State)
+      → All IsOne s.lists → Names (read_sized limits held delimiters prim size nil primitive k s)
+  sized-names limits prim size held delimiters nil None k s lists = left_at _ k s lists
+  sized-names limits prim size held delimiters nil (Some primitive) k s lists = resized-names limits prim size held delimiters nil (resized size primitive) k s lists
 
   -- what stands behind a prefix
   begun-names : (prim : ℕ) (size : TextSize) (primitive : Option Primitive) (k : List Frame) (s : State) → All IsOne s.lists
@@ -130,7 +132,7 @@ module _ (count : ℕ) where
   box-names bits body k s lists true = record { sought = tt; open_lists = lists }
   box-names bits body k s lists false = left_at _ k s lists
 
-  module _ (limits : Limits) (id own : ℕ) (next : ℕ → List Frame → State → Machine) (k : List Frame)
+  module _ (limits : Limits) (delimiters : List Delimiters) (id own : ℕ) (next : ℕ → List Frame → State → Machine) (k : List Frame)
       (follows : (units : ℕ) (s : State) → All IsOne s.lists → ListsWithin count (next units k s)) where
     units-names : (end : ℕ) (units : Option ℕ) (s : State) → All IsOne s.lists → ListsWithin count (units_begin end next units k s)
     units-names end None s lists = left_at _ k s lists
@@ -145,17 +147,17 @@ module _ (count : ℕ) where
     prefix-landed-names first TooFar s lists = left_at _ k s lists
     prefix-landed-names first Missing s lists = record { sought = tt; open_lists = lists }
 
-    prefix-names : (held : Held) (primitive : Option Primitive) (s : State) → All IsOne s.lists → Names (read_prefix limits id held own next primitive k s)
+    prefix-names : (held : Held) (primitive : Option Primitive) (s : State) → All IsOne s.lists → Names (read_prefix limits id held delimiters own next primitive k s)
     prefix-names held None s lists = left_at _ k s lists
     prefix-names held (Some primitive) s lists = by (has_room primitive s.at s.stop)
       where
         by : (room : Bool)
             → Names (cond room
             (prefix_move limits id own (content_begins primitive s.at) next (from_byte held (anchor s))
-            (ask (seen_at (from_byte held (anchor s))) (program primitive s.at s.stop) nothing) k s)
+            (ask (seen_at (from_byte held (anchor s))) (program (lists_of delimiters (markup s)) primitive s.at s.stop) nothing) k s)
             (pass one_row held (Leave (Failed LengthOutOfRange s.at)) k s))
         by true =
-            prefix-landed-names (content_begins primitive s.at) (ask (seen_at (from_byte held (anchor s))) (program primitive s.at s.stop) nothing).reached s lists
+            prefix-landed-names (content_begins primitive s.at) (ask (seen_at (from_byte held (anchor s))) (program (lists_of delimiters (markup s)) primitive s.at s.stop) nothing).reached s lists
         by false = left_at _ k s lists
 
   -- one representation of an element
@@ -243,11 +245,23 @@ module _ (count : ℕ) where
   rested-names window sight low bit outer NotYet k s lists = record { sought = tt; open_lists = lists }
   rested-names window sight low bit outer Over k s lists = left_at _ k s lists
 
+  -- the lists that are put behind those that are open
+  no-names : All IsOne []
+  no-names i d few = absurd (omega arith)
+
+  one-name : (list : ℕ) → list < count → All IsOne (list ∷ [])
+  one-name list less zero d few = less
+  one-name list less (suc i) d few = absurd (omega arith)
+
+  both-names : (list : ℕ) (other : Option ℕ) → list < count → IsWithin count other → All IsOne (list ∷ numbers_of other)
+  both-names list None less within = one-name list less
+  both-names list (Some number) less within = All-append IsOne (list ∷ []) (number ∷ []) (one-name list less) (one-name number within)
+
   -- a delimiter
-  delimiter-names : (held : Held) (delimiter : Delimiter) (terminates : Bool) (k : List Frame) (s : State) → delimiter.list < count → All IsOne s.lists → (does_stand : Bool)
-      → Names (cond does_stand (pass one_row held (Seek delimiter.list terminates) k s) (pass one_row held (Leave Done) k s))
-  delimiter-names held delimiter terminates k s less lists true = record { sought = less; open_lists = lists }
-  delimiter-names held delimiter terminates k s less lists false = left_at Done k s lists
+  delimiter-names : (held : Held) (what : Sought) (k : List Frame) (s : State) → All IsOne (put_behind what) → All IsOne s.lists → (does_stand : Bool)
+      → Names (cond does_stand (pass one_row held (Seek what) k s) (pass one_row held (Leave Done) k s))
+  delimiter-names held what k s less lists true = record { sought = less; open_lists = lists }
+  delimiter-names held what k s less lists false = left_at Done k s lists
 
   one-text-names : (cause : ParseCause) (bits : ℕ) (k : List Frame) (s : State) → All IsOne s.lists → (is : Bool)
       → (let o : Outcome = cond is (ended Done (record s { at = aligned 8 s.at + bits })) (ended (Failed cause s.at) s) in
@@ -255,13 +269,13 @@ module _ (count : ℕ) where
   one-text-names cause bits k s lists true = left_at Done k _ lists
   one-text-names cause bits k s lists false = left_at _ k s lists
 
-  text-names : (window list : ℕ) (terminates : Bool) (reached : Reached Longest) (k : List Frame) (s : State) → list < count → All IsOne s.lists
-      → ListsWithin count (found_text window (Seek list terminates) (cause_of terminates) (place_of terminates s) reached k s)
-  text-names window list terminates (Told (Text which bits)) k s less lists =
-      one-text-names (cause_of terminates) bits k s lists (nat_eq which (place_of terminates s) && nat_lt 0 bits)
-  text-names window list terminates (Told NoText) k s less lists = left_at _ k s lists
-  text-names window list terminates TooFar k s less lists = left_at _ k s lists
-  text-names window list terminates Missing k s less lists = record { sought = less; open_lists = lists }
+  text-names : (window : ℕ) (what : Sought) (reached : Reached Longest) (k : List Frame) (s : State) → All IsOne (put_behind what) → All IsOne s.lists
+      → ListsWithin count (found_text window (Seek what) (cause_of what) (place_of what s) reached k s)
+  text-names window what (Told (Text which bits)) k s less lists =
+      one-text-names (cause_of what) bits k s lists (nat_eq which (place_of what s) && nat_lt 0 bits)
+  text-names window what (Told NoText) k s less lists = left_at _ k s lists
+  text-names window what TooFar k s less lists = left_at _ k s lists
+  text-names window what Missing k s less lists = record { sought = less; open_lists = lists }
 
   group-names : (held : Held) (id : ℕ) (children : List ℕ) (k : List Frame) (s : State) → All IsOne s.lists → Names (enter_group held id children k s)
   group-names held id [] k s lists = left_at Done k s lists
@@ -298,7 +312,7 @@ module _ (limits : Limits) (table : Table) (held : Held) (named : All (NamesWith
       → Names count (enter limits table held id r k s)
   enter-names id None k s is lists = left_at count Done k s lists
   enter-names id (Some (Leaf prim)) k s is lists =
-      leaf-names count one_row limits (Enter id) held (nil_values table.primitives s.instead)
+      leaf-names count one_row limits (Enter id) held table.delimiters (nil_values table.primitives s.instead)
       (slice_get table.primitives (read_by table.primitives s.instead prim)) k s tt lists
   enter-names id (Some (Elem name simple tried body)) k s is lists =
       element-names count limits.nodes held id (record { complex = has_elements simple; tried = tried; body = body }) k s lists tried.are_several
@@ -307,25 +321,26 @@ module _ (limits : Limits) (table : Table) (held : Held) (named : All (NamesWith
   enter-names id (Some (Align bits)) k s is lists =
       begin-names count held (aligned bits s.at) k s lists (nat_le (aligned bits s.at) s.at) (nat_le (aligned bits s.at) s.stop)
   enter-names id (Some (Initiator delimiter)) k s is lists =
-      delimiter-names count held delimiter false k s (named-at table named id (Initiator delimiter) is) lists (stands_in s.instead delimiter)
-  enter-names id (Some (Terminator delimiter)) k s is lists =
-      delimiter-names count held delimiter true k s (named-at table named id (Terminator delimiter) is) lists (stands_in s.instead delimiter)
+      delimiter-names count held (sought.Initiator delimiter.list) k s (one-name count delimiter.list (named-at table named id (Initiator delimiter) is)) lists
+      (stands_in s.instead delimiter)
+  enter-names id (Some (Terminator delimiter separators)) k s is lists =
+      let within = named-at table named id (Terminator delimiter separators) is in
+      delimiter-names count held (sought.Terminator delimiter.list separators) k s (both-names count delimiter.list separators within.0 within.1) lists
+      (stands_in s.instead delimiter)
+  enter-names id (Some Separator) k s is lists = record { sought = no-names count; open_lists = lists }
   enter-names id (Some (Scope list body)) k s is lists = record {
     sought = tt;
-    open_lists = All-append (IsOne count) s.lists (list ∷ []) lists (one (named-at table named id (Scope list body) is));
+    open_lists = All-append (IsOne count) s.lists (list ∷ []) lists (one-name count list (named-at table named id (Scope list body) is));
   }
-    where
-      one : list < count → All (IsOne count) (list ∷ [])
-      one less zero d few = less
-      one less (suc i) d few = absurd (omega arith)
   enter-names id (Some (Boxed bits body)) k s is lists = box-names count bits body k s lists (nat_le (s.at + bits) s.stop)
   enter-names id (Some (PrefixedLeaf prefix prim)) k s is lists =
       let by : ℕ = read_by table.primitives s.instead prim in
-      prefix-names count limits id prefix.own (behind_units table.primitives prefix.unit (behind.Leaf by)) k
+      prefix-names count limits table.delimiters id prefix.own (behind_units table.primitives prefix.unit (behind.Leaf by)) k
       (λ units after still. begun-names count by (size_of prefix.unit units) (slice_get table.primitives by) k after still)
       held (slice_get table.primitives prefix.prim) s lists
+  enter-names id (Some (Repeat times body)) k s is lists = group-names count held id (replicate times body) k s lists
   enter-names id (Some (PrefixedBox prefix body)) k s is lists =
-      prefix-names count limits id prefix.own (behind_units table.primitives prefix.unit (behind.Box body)) k
+      prefix-names count limits table.delimiters id prefix.own (behind_units table.primitives prefix.unit (behind.Box body)) k
       (λ units after still. box-names count (bits_of_units prefix.unit units) body k after still (nat_le (after.at + bits_of_units prefix.unit units) after.stop))
       held (slice_get table.primitives prefix.prim) s lists
 
@@ -339,10 +354,10 @@ module _ (limits : Limits) (table : Table) (held : Held) (named : All (NamesWith
       let low : ℕ = anchor_at s (8 * (bit / 8)) in
       rested-names count limits.window (from_byte held (min low (end_of held))) low bit outer (seen_beyond held low (bit / 8)) k s within.open_lists
   step-names (Sized prim size) k s within =
-      sized-names count limits prim size held (nil_values table.primitives s.instead) (slice_get table.primitives prim) k s within.open_lists
-  step-names (Seek list terminates) k s within =
-      text-names count limits.window list terminates
-      (ask (seen_at (from_byte held (anchor_at s (aligned 8 s.at)))) (sought_among (among table.delimiters list terminates s) s.at s.stop) nothing).reached k s
+      sized-names count limits prim size held table.delimiters (nil_values table.primitives s.instead) (slice_get table.primitives prim) k s within.open_lists
+  step-names (Seek what) k s within =
+      text-names count limits.window what
+      (ask (seen_at (from_byte held (anchor_at s (aligned 8 s.at)))) (sought_among (among table.delimiters what s) s.at s.stop) nothing).reached k s
       within.sought within.open_lists
   step-names (Leave end) [] s within = within
   step-names (Leave end) (frame ∷ k) s within = leave-names count limits table held frame end k s within.open_lists

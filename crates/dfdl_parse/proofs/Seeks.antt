@@ -2,7 +2,7 @@
 use Rattle.std.proofs.Common.{◌≡◌, ℕ, zero, suc, ◌+◌, ◌-◌, ◌*◌, ◌/◌, ◌<◌, ◌≤◌, List, [], ◌∷◌, ◌++◌, drop, length, map, min, get_or, Bool, true, false, cond, Option, Some, None, All, refl, ap, subst, ◌∙◌, arith, length-append}
 use Rattle.std.specs.Prelude.{slice_get}
 use Rattle.std.proofs.Math.Seq.{drop-append_seam}
-use Rattle.std.proofs.lemmas.List.{drop-append-le}
+use Rattle.std.proofs.lemmas.List.{append-nil, drop-append-le}
 use Rattle.std.proofs.lemmas.List.Elements.{All-append, All-drop}
 use Rattle.std.proofs.lemmas.Option.{slice_get-get_or}
 use Rattle.dfdl_bits.specs.Window.{Held, end_of, seen_at}
@@ -19,10 +19,12 @@ use Rattle.dfdl_delims.specs.Lists.{Opened, innermost}
 use Rattle.dfdl_delims.specs.Longest.{Longest, Text, NoText, better, found_shown, longest_from}
 use Rattle.dfdl_delims.proofs.Deciders.{begins_here}
 use Rattle.dfdl_terms.specs.declared.delimiters.Delimiters.{Delimiters}
-use Rattle.dfdl_grammar.specs.Delimiters.{lists_of, markup, no_literals, opened, sought_among}
+use Rattle.dfdl_grammar.specs.Delimiters.{lists_of, markup, no_literals, numbers_of, opened, sought_among}
 use Rattle.dfdl_grammar.specs.Framing.{aligned}
 use Rattle.dfdl_grammar.specs.States.{State}
-use Rattle.dfdl_parse.specs.Searches.{EndsWithin, among, first_open}
+use Rattle.dfdl_parse.specs.declared.frame.Sought.{Sought}
+use Rattle.dfdl_parse.specs.declared.frame.Sought.TheVariants.{Initiator, Terminator, Separator}
+use Rattle.dfdl_parse.specs.Searches.{EndsWithin, among, first_open, numbers_among, put_behind}
 use Rattle.dfdl_parse.proofs.Programs.{lower}
 
 -- each look of a search is at its first byte or behind it
@@ -118,11 +120,6 @@ lists-named delimiters (n ∷ numbers) all =
     sizes [] = refl
     sizes (d ∷ ds) = ap suc (sizes ds)
 
--- the numbers of the lists among whose texts one of a list is sought
-abbrev pub numbers_of : Bool → ℕ → State → List ℕ
-numbers_of false list s = list ∷ []
-numbers_of true list s = markup s ++ list ∷ []
-
 -- they stand behind those that are left out, where the list is put behind all
 drop-few : (hidden : ℕ) (lists : List ℕ) → drop (min hidden (length lists)) lists ≡ drop hidden lists
 drop-few zero lists = let none : min 0 (length lists) ≡ 0 = omega arith in ap (λ (n : ℕ). drop n lists) none
@@ -131,34 +128,28 @@ drop-few (suc hidden) (m ∷ lists) =
     let more : min (suc hidden) (suc (length lists)) ≡ suc (min hidden (length lists)) = omega arith in
     ap (λ (n : ℕ). drop n (m ∷ lists)) more ∙ drop-few hidden lists
 
-pub numbers-are : (terminates : Bool) (list : ℕ) (s : State) → drop (first_open terminates s) (s.lists ++ list ∷ []) ≡ numbers_of terminates list s
-numbers-are false list s = drop-append_seam s.lists (list ∷ [])
-numbers-are true list s =
-    drop-append-le (min s.hidden (length s.lists)) s.lists (list ∷ []) (omega arith)
-    ∙ ap (λ (ns : List ℕ). ns ++ list ∷ []) (drop-few s.hidden s.lists)
+pub numbers-are : (what : Sought) (s : State) → drop (first_open what s) (s.lists ++ put_behind what) ≡ numbers_among what s
+numbers-are (Initiator list) s = drop-append_seam s.lists (list ∷ [])
+numbers-are (Terminator list separators) s =
+    drop-append-le (min s.hidden (length s.lists)) s.lists (list ∷ numbers_of separators) (omega arith)
+    ∙ ap (λ (ns : List ℕ). ns ++ list ∷ numbers_of separators) (drop-few s.hidden s.lists)
+numbers-are Separator s =
+    drop-append-le (min s.hidden (length s.lists)) s.lists [] (omega arith)
+    ∙ append-nil (drop (min s.hidden (length s.lists)) s.lists) ∙ drop-few s.hidden s.lists
 
--- the lists that they name
-among-are : (delimiters : List Delimiters) (list : ℕ) (terminates : Bool) (s : State)
-    → lists_of delimiters (numbers_of terminates list s) ≡ among delimiters list terminates s
-among-are delimiters list false s = refl
-among-are delimiters list true s = refl
+numbers-within : (count : ℕ) (what : Sought) (s : State) → All (λ n. n < count) (put_behind what) → All (λ n. n < count) s.lists
+    → All (λ n. n < count) (numbers_among what s)
+numbers-within count (Initiator list) s less all = less
+numbers-within count (Terminator list separators) s less all =
+    All-append (λ n. n < count) (markup s) (list ∷ numbers_of separators) (All-drop (λ n. n < count) s.hidden s.lists all) less
+numbers-within count Separator s less all = All-drop (λ n. n < count) s.hidden s.lists all
 
-one_within : (count list : ℕ) → list < count → All (λ n. n < count) (list ∷ [])
-one_within count list less zero d few = less
-one_within count list less (suc i) d few = absurd (omega arith)
-
-numbers-within : (count list : ℕ) (terminates : Bool) (s : State) → list < count → All (λ n. n < count) s.lists
-    → All (λ n. n < count) (numbers_of terminates list s)
-numbers-within count list false s less all = one_within count list less
-numbers-within count list true s less all =
-    All-append (λ n. n < count) (markup s) (list ∷ []) (All-drop (λ n. n < count) s.hidden s.lists all) (one_within count list less)
-
-pub names-open : (delimiters : List Delimiters) (list : ℕ) (terminates : Bool) (s : State) (from : ℕ) (lists numbers : List ℕ) → list < length delimiters
-    → All (λ n. n < length delimiters) s.lists → from ≡ first_open terminates s → lists ≡ s.lists ++ list ∷ [] → numbers ≡ drop from lists
-    → map (slice_get (map opened delimiters)) numbers ≡ map Some (among delimiters list terminates s)
-names-open delimiters list terminates s from lists numbers less all first put are =
-    let same : numbers ≡ numbers_of terminates list s =
-    are ∙ ap (λ (ls : List ℕ). drop from ls) put ∙ ap (λ (n : ℕ). drop n (s.lists ++ list ∷ [])) first ∙ numbers-are terminates list s in
+pub names-open : (delimiters : List Delimiters) (what : Sought) (s : State) (from : ℕ) (lists numbers : List ℕ)
+    → All (λ n. n < length delimiters) (put_behind what) → All (λ n. n < length delimiters) s.lists → from ≡ first_open what s
+    → lists ≡ s.lists ++ put_behind what → numbers ≡ drop from lists
+    → map (slice_get (map opened delimiters)) numbers ≡ map Some (among delimiters what s)
+names-open delimiters what s from lists numbers less all first put are =
+    let same : numbers ≡ numbers_among what s =
+    are ∙ ap (λ (ls : List ℕ). drop from ls) put ∙ ap (λ (n : ℕ). drop n (s.lists ++ put_behind what)) first ∙ numbers-are what s in
     ap (λ (ns : List ℕ). map (slice_get (map opened delimiters)) ns) same
-    ∙ lists-named delimiters (numbers_of terminates list s) (numbers-within (length delimiters) list terminates s less all)
-    ∙ ap (λ (os : List Opened). map Some os) (among-are delimiters list terminates s)
+    ∙ lists-named delimiters (numbers_among what s) (numbers-within (length delimiters) what s less all)

@@ -1,5 +1,5 @@
 -- A step that waits.
-use Rattle.std.proofs.Common.{◌≡◌, ℕ, zero, suc, ◌+◌, ◌-◌, ◌*◌, ◌/◌, ◌<◌, ◌≤◌, max, min, nat_le, refl, List, [], ◌∷◌, length, Bool, true, false, cond, nat_lt, Option, Some, None, ap, sym, subst, ◌∙◌, arith}
+use Rattle.std.proofs.Common.{◌≡◌, ℕ, zero, suc, ◌+◌, ◌-◌, ◌*◌, ◌/◌, ◌<◌, ◌≤◌, max, min, nat_le, refl, List, [], ◌∷◌, length, Bool, true, false, cond, nat_lt, Option, Some, None, ap, sym, subst, ◌∙◌, arith, replicate}
 use Rattle.std.specs.Prelude.{slice_get}
 use Rattle.dfdl_bits.specs.Window.{Held, end_of, room_of, from_byte, seen_at}
 use Rattle.dfdl_bits.specs.declared.window.Seen.{Seen}
@@ -9,9 +9,8 @@ use Rattle.dfdl_report.specs.declared.cause.ParseCause.TheVariants.{DataEnds, Le
 use Rattle.dfdl_value.specs.declared.value.Value.{Value}
 use Rattle.dfdl_terms.specs.declared.row.Primitive.{Primitive}
 use Rattle.dfdl_delims.specs.Longest.{Longest}
-use Rattle.dfdl_terms.specs.declared.delimiters.Delimiter.{Delimiter}
 use Rattle.dfdl_terms.specs.declared.row.Row.{Row}
-use Rattle.dfdl_terms.specs.declared.row.Row.TheVariants.{Leaf, Elem, Group, Skip, Align, Initiator, Terminator, Scope, Boxed, PrefixedLeaf, PrefixedBox}
+use Rattle.dfdl_terms.specs.declared.row.Row.TheVariants.{Leaf, Elem, Group, Skip, Align, Initiator, Terminator, Separator, Scope, Boxed, PrefixedLeaf, PrefixedBox, Repeat}
 use Rattle.dfdl_terms.specs.Rows.{Table}
 use Rattle.dfdl_looks.specs.Looks.{seen_in}
 use Rattle.dfdl_looks.specs.Asks.{Reached, Told, TooFar, Missing, Reading, ask}
@@ -31,7 +30,7 @@ use Rattle.dfdl_grammar.specs.Leaves.{Find, content_begins, has_room, land, leaf
 use Rattle.dfdl_grammar.specs.Prefixes.{bits_of_units, land_prefix, leaf_of, prefixed, resized, size_of, sized_leaf}
 use Rattle.dfdl_grammar.specs.Boxes.{boxed}
 use Rattle.dfdl_grammar.specs.Framing.{aligned, fill_to}
-use Rattle.dfdl_grammar.specs.Delimiters.{sought_among, stands_in}
+use Rattle.dfdl_grammar.specs.Delimiters.{lists_of, markup, sought_among, stands_in}
 use Rattle.dfdl_grammar.specs.Elements.{begun, has_elements}
 use Rattle.dfdl_grammar.specs.Rows.{below, meaning, row}
 use Rattle.dfdl_grammar.proofs.Spending.{spend-spend, spend-nothing}
@@ -45,6 +44,8 @@ use Rattle.dfdl_parse.specs.declared.frame.Focus.{Focus}
 use Rattle.dfdl_parse.specs.declared.frame.Focus.TheVariants.{Enter, Pass, PassRest, Sized, Seek, Leave}
 use Rattle.dfdl_parse.specs.declared.frame.Behind.TheVariants as behind
 use Rattle.dfdl_parse.specs.Boxing.{back_outside, hides}
+use Rattle.dfdl_parse.specs.declared.frame.Sought.{Sought}
+use Rattle.dfdl_parse.specs.declared.frame.Sought.TheVariants as sought
 use Rattle.dfdl_parse.specs.Searches.{among, cause_of, found_text, place_of, search}
 use Rattle.dfdl_parse.specs.Moves.{Machine, Move, is_missing, landed, pass, read_leaf, read_move}
 use Rattle.dfdl_parse.specs.Prefixed.{behind_units, landed_prefix, prefix_move, read_prefix, read_resized, read_sized}
@@ -88,28 +89,28 @@ beside_second (suc n) t a b c none some = absurd (omega arith)
 module _ (table : Table) (held : Held) (s : State) where
   -- what a leaf reads over whole data
   abbrev whole_of : Input → Option (List Value) → Primitive → Reading Find
-  whole_of input nil primitive = ask (seen_in input.bytes input.limits.window (anchor s)) (program_for nil primitive s.at s.stop) nothing
+  whole_of input nil primitive = ask (seen_in input.bytes input.limits.window (anchor s)) (program_for nil (lists_of table.delimiters (markup s)) primitive s.at s.stop) nothing
 
   -- the outcome of a look at a leaf that was in vain, behind a cost that missed nothing, whatever is made of it
   look-lost : (input : Input) (cost : Tally) → cost.tail ≡ 0 → (nil : Option (List Value)) (primitive : Primitive) (k : List Frame) (o : Outcome) → Sees held input s → length input.bytes ≡ end_of held
-      → (ask (seen_at (from_byte held (anchor s))) (program_for nil primitive s.at s.stop) nothing).reached ≡ Missing → held.ended ≡ false
+      → (ask (seen_at (from_byte held (anchor s))) (program_for nil (lists_of table.delimiters (markup s)) primitive s.at s.stop) nothing).reached ≡ Missing → held.ended ≡ false
       → ((finish input table k (spend cost (spend (needs_from (anchor s) (whole_of input nil primitive).tally) o))).tally.tail
-      ≡ (ask (seen_at (from_byte held (anchor s))) (program_for nil primitive s.at s.stop) nothing).tally.looks)
+      ≡ (ask (seen_at (from_byte held (anchor s))) (program_for nil (lists_of table.delimiters (markup s)) primitive s.at s.stop) nothing).tally.looks)
       × ((end_of held < (finish input table k (spend cost (spend (needs_from (anchor s) (whole_of input nil primitive).tally) o))).tally.far)
       × (length (from_byte held (anchor s)).bytes
       ≡ end_of held - (finish input table k (spend cost (spend (needs_from (anchor s) (whole_of input nil primitive).tally) o))).tally.anchor))
   look-lost input cost no_tail nil primitive k o sees all missing on =
       let sight : Held = from_byte held (anchor s) in
-      let here : Reading Find = ask (seen_at sight) (program_for nil primitive s.at s.stop) nothing in
+      let here : Reading Find = ask (seen_at sight) (program_for nil (lists_of table.delimiters (markup s)) primitive s.at s.stop) nothing in
       let whole : Reading Find = whole_of input nil primitive in
       let ends : end_of sight ≡ end_of held = end_from held (anchor s) sees.stands.base sees.stands.end in
       let told = missed sight input.bytes (agrees_from held input.bytes (anchor s) sees.stands.base sees.stands.end sees.agrees) (all ∙ sym ends) on
-      (program_for nil primitive s.at s.stop) (program_for-from (anchor s) nil primitive s.at s.stop sees.stands.low) nothing refl missing in
-      let same : ask (seen_in input.bytes held.size (anchor s)) (program_for nil primitive s.at s.stop) nothing ≡ whole =
-      ap (λ (size : ℕ). ask (seen_in input.bytes size (anchor s)) (program_for nil primitive s.at s.stop) nothing) sees.size in
+      (program_for nil (lists_of table.delimiters (markup s)) primitive s.at s.stop) (program_for-from (anchor s) nil (lists_of table.delimiters (markup s)) primitive s.at s.stop sees.stands.low) nothing refl missing in
+      let same : ask (seen_in input.bytes held.size (anchor s)) (program_for nil (lists_of table.delimiters (markup s)) primitive s.at s.stop) nothing ≡ whole =
+      ap (λ (size : ℕ). ask (seen_in input.bytes size (anchor s)) (program_for nil (lists_of table.delimiters (markup s)) primitive s.at s.stop) nothing) sees.size in
       let tail : whole.tally.tail ≡ here.tally.looks = ap (λ (r : Reading Find). r.tally.tail) (sym same) ∙ told.0 in
       let far : length input.bytes < whole.tally.far = subst (λ (r : Reading Find). length input.bytes < r.tally.far) same told.1 in
-      let some : 0 < here.tally.looks = counted (seen_at sight) (program_for nil primitive s.at s.stop) nothing missing in
+      let some : 0 < here.tally.looks = counted (seen_at sight) (program_for nil (lists_of table.delimiters (markup s)) primitive s.at s.stop) nothing missing in
       let rest : Outcome = finish input table k o in
       let spent : Tally = needs_from (anchor s) whole.tally in
       let is : finish input table k (spend cost (spend spent o)) ≡ spend (plus cost spent) rest =
@@ -134,17 +135,17 @@ module _ (table : Table) (held : Held) (s : State) where
       → machine ≡ record { focus = focus; stack = k; state = s }
       → ((input : Input) → Fits held input focus s → Sees held input s) → (made : Input → Outcome)
       → ((input : Input) → from_here input table focus k s ≡ finish input table k (spend cost (spend (needs_from (anchor s) (whole_of input nil primitive).tally) (made input))))
-      → (ask (seen_at (from_byte held (anchor s))) (program_for nil primitive s.at s.stop) nothing).reached ≡ Missing
+      → (ask (seen_at (from_byte held (anchor s))) (program_for nil (lists_of table.delimiters (markup s)) primitive s.at s.stop) nothing).reached ≡ Missing
       → Waits table held focus k s (record {
-        tally = plus cost (needs_from (anchor s) (ask (seen_at (from_byte held (anchor s))) (program_for nil primitive s.at s.stop) nothing).tally);
+        tally = plus cost (needs_from (anchor s) (ask (seen_at (from_byte held (anchor s))) (program_for nil (lists_of table.delimiters (markup s)) primitive s.at s.stop) nothing).tally);
         machine = machine;
         held = from_byte held (anchor s);
         waits = waits;
       })
   look-waits cost no_tail no_looks focus nil primitive k machine waits stays sees made is missing =
       let sight : Held = from_byte held (anchor s) in
-      let here : Reading Find = ask (seen_at sight) (program_for nil primitive s.at s.stop) nothing in
-      let stands = waits_while sight (program_for nil primitive s.at s.stop) nothing missing in
+      let here : Reading Find = ask (seen_at sight) (program_for nil (lists_of table.delimiters (markup s)) primitive s.at s.stop) nothing in
+      let stands = waits_while sight (program_for nil (lists_of table.delimiters (markup s)) primitive s.at s.stop) nothing missing in
       let short : length sight.bytes < sight.size = stands.1 in
       record {
         machine = stays;
@@ -174,26 +175,26 @@ module _ (table : Table) (held : Held) (s : State) where
       → slice_get table.rows id ≡ Some (Leaf prim) → (room : Bool) → has_room primitive s.at s.stop ≡ room
       → let sight : Held = from_byte held (anchor s) in
       let move : Move = cond room
-      (read_move one_row limits (Enter id) (content_begins primitive s.at) sight (ask (seen_at sight) (program_for nil primitive s.at s.stop) nothing) k s)
+      (read_move one_row limits (Enter id) (content_begins primitive s.at) sight (ask (seen_at sight) (program_for nil (lists_of table.delimiters (markup s)) primitive s.at s.stop) nothing) k s)
       (pass one_row held (Leave (Failed LengthOutOfRange s.at)) k s) in
       move.waits ≡ true → Waits table held (Enter id) k s move
   unfolding meaning
   read-waits limits id prim primitive k is at false has waits = absurd (cc)
   read-waits limits id prim primitive k is at true has waits =
-      let here : Reading Find = ask (seen_at (from_byte held (anchor s))) (program_for nil primitive s.at s.stop) nothing in
+      let here : Reading Find = ask (seen_at (from_byte held (anchor s))) (program_for nil (lists_of table.delimiters (markup s)) primitive s.at s.stop) nothing in
       let missing : here.reached ≡ Missing = is_lost here.reached waits in
       look-waits one_row refl refl (Enter id) nil primitive k _ _
       (ap (λ (r : Reached Find). landed limits (Enter id) (content_begins primitive s.at) r k s) missing)
       (λ input fits. record { agrees = fits.agrees; size = fits.size; stands = fits.stands }) (λ input. read_over input primitive)
       (λ input. ap (λ (r : Option Row). finish input table k (spend one_row (row input table (below input table id) id r s))) at
-      ∙ ap (λ (p : Option Primitive). finish input table k (spend one_row (leaf input nil p s))) is
+      ∙ ap (λ (p : Option Primitive). finish input table k (spend one_row (leaf input table.delimiters nil p s))) is
       ∙ ap (λ (b : Bool). finish input table k (spend one_row (cond b (spend (needs_from (anchor s) (whole_of input nil primitive).tally) (read_over input primitive))
       (ended (Failed LengthOutOfRange s.at) s)))) has)
       missing
 
   leaf-waits : (limits : Limits) (id prim : ℕ) (primitive : Option Primitive) (k : List Frame) → slice_get table.primitives (read_by table.primitives s.instead prim) ≡ primitive
-      → slice_get table.rows id ≡ Some (Leaf prim) → (read_leaf one_row limits (Enter id) held nil primitive k s).waits ≡ true
-      → Waits table held (Enter id) k s (read_leaf one_row limits (Enter id) held nil primitive k s)
+      → slice_get table.rows id ≡ Some (Leaf prim) → (read_leaf one_row limits (Enter id) held table.delimiters nil primitive k s).waits ≡ true
+      → Waits table held (Enter id) k s (read_leaf one_row limits (Enter id) held table.delimiters nil primitive k s)
   leaf-waits limits id prim None k is at waits = absurd (cc)
   leaf-waits limits id prim (Some primitive) k is at waits = read-waits limits id prim primitive k is at (has_room primitive s.at s.stop) refl waits
 
@@ -202,48 +203,48 @@ module _ (table : Table) (held : Held) (s : State) where
       → resized size first ≡ Some primitive → (room : Bool) → has_room primitive s.at s.stop ≡ room
       → let sight : Held = from_byte held (anchor s) in
       let move : Move = cond room
-      (read_move nothing limits (Sized prim size) (content_begins primitive s.at) sight (ask (seen_at sight) (program_for nil primitive s.at s.stop) nothing) k s)
+      (read_move nothing limits (Sized prim size) (content_begins primitive s.at) sight (ask (seen_at sight) (program_for nil (lists_of table.delimiters (markup s)) primitive s.at s.stop) nothing) k s)
       (pass nothing held (Leave (Failed LengthOutOfRange s.at)) k s) in
       move.waits ≡ true → Waits table held (Sized prim size) k s move
   sized-room-waits limits prim size first primitive k is sized false has waits = absurd (cc)
   sized-room-waits limits prim size first primitive k is sized true has waits =
-      let here : Reading Find = ask (seen_at (from_byte held (anchor s))) (program_for nil primitive s.at s.stop) nothing in
+      let here : Reading Find = ask (seen_at (from_byte held (anchor s))) (program_for nil (lists_of table.delimiters (markup s)) primitive s.at s.stop) nothing in
       let missing : here.reached ≡ Missing = is_lost here.reached waits in
       look-waits nothing refl refl (Sized prim size) nil primitive k _ _
       (ap (λ (r : Reached Find). landed limits (Sized prim size) (content_begins primitive s.at) r k s) missing)
       (λ input fits. record { agrees = fits.agrees; size = fits.size; stands = fits.stands }) (λ input. read_over input primitive)
-      (λ input. ap (λ (p : Option Primitive). finish input table k (sized_leaf input nil p size s)) is
-      ∙ ap (λ (p : Option Primitive). finish input table k (leaf_of input nil p s)) sized
+      (λ input. ap (λ (p : Option Primitive). finish input table k (sized_leaf input table.delimiters nil p size s)) is
+      ∙ ap (λ (p : Option Primitive). finish input table k (leaf_of input table.delimiters nil p s)) sized
       ∙ ap (λ (b : Bool). finish input table k (cond b (spend (needs_from (anchor s) (whole_of input nil primitive).tally) (read_over input primitive))
       (ended (Failed LengthOutOfRange s.at) s))) has
       ∙ ap (finish input table k) (sym (spend-nothing (spend (needs_from (anchor s) (whole_of input nil primitive).tally) (read_over input primitive)))))
       missing
 
   resized-waits : (limits : Limits) (prim : ℕ) (size : TextSize) (first : Primitive) (primitive : Option Primitive) (k : List Frame) → slice_get table.primitives prim ≡ Some first
-      → resized size first ≡ primitive → (read_resized limits (Sized prim size) held nil primitive k s).waits ≡ true
-      → Waits table held (Sized prim size) k s (read_resized limits (Sized prim size) held nil primitive k s)
+      → resized size first ≡ primitive → (read_resized limits (Sized prim size) held table.delimiters nil primitive k s).waits ≡ true
+      → Waits table held (Sized prim size) k s (read_resized limits (Sized prim size) held table.delimiters nil primitive k s)
   resized-waits limits prim size first None k is sized waits = absurd (cc)
   resized-waits limits prim size first (Some primitive) k is sized waits =
       sized-room-waits limits prim size first primitive k is sized (has_room primitive s.at s.stop) refl waits
 
   sized-waits : (limits : Limits) (prim : ℕ) (size : TextSize) (primitive : Option Primitive) (k : List Frame) → slice_get table.primitives prim ≡ primitive
-      → (read_sized limits held prim size nil primitive k s).waits ≡ true
-      → Waits table held (Sized prim size) k s (read_sized limits held prim size nil primitive k s)
+      → (read_sized limits held table.delimiters prim size nil primitive k s).waits ≡ true
+      → Waits table held (Sized prim size) k s (read_sized limits held table.delimiters prim size nil primitive k s)
   sized-waits limits prim size None k is waits = absurd (cc)
   sized-waits limits prim size (Some primitive) k is waits = resized-waits limits prim size primitive (resized size primitive) k is refl waits
 
   -- a prefix, where this is what its row means
   module _ (limits : Limits) (id own : ℕ) (follow : Input → ℕ → State → Outcome) (next : ℕ → List Frame → State → Machine) (k : List Frame) (by : Option Primitive)
-      (means : (input : Input) → from_here input table (Enter id) k s ≡ finish input table k (spend one_row (prefixed input by own (follow input) s))) where
+      (means : (input : Input) → from_here input table (Enter id) k s ≡ finish input table k (spend one_row (prefixed input table.delimiters by own (follow input) s))) where
     prefix-room-waits : (primitive : Primitive) → by ≡ Some primitive → (room : Bool) → has_room primitive s.at s.stop ≡ room
         → let sight : Held = from_byte held (anchor s) in
         let move : Move = cond room
-        (prefix_move limits id own (content_begins primitive s.at) next sight (ask (seen_at sight) (program primitive s.at s.stop) nothing) k s)
+        (prefix_move limits id own (content_begins primitive s.at) next sight (ask (seen_at sight) (program (lists_of table.delimiters (markup s)) primitive s.at s.stop) nothing) k s)
         (pass one_row held (Leave (Failed LengthOutOfRange s.at)) k s) in
         move.waits ≡ true → Waits table held (Enter id) k s move
     prefix-room-waits primitive is false has waits = absurd (cc)
     prefix-room-waits primitive is true has waits =
-        let here : Reading Find = ask (seen_at (from_byte held (anchor s))) (program primitive s.at s.stop) nothing in
+        let here : Reading Find = ask (seen_at (from_byte held (anchor s))) (program (lists_of table.delimiters (markup s)) primitive s.at s.stop) nothing in
         let missing : here.reached ≡ Missing = is_lost here.reached waits in
         let first : ℕ = content_begins primitive s.at in
         look-waits one_row refl refl (Enter id) None primitive k _ _
@@ -251,14 +252,14 @@ module _ (table : Table) (held : Held) (s : State) where
         (λ input fits. record { agrees = fits.agrees; size = fits.size; stands = fits.stands })
         (λ input. land_prefix input.limits own first (follow input) (whole_of input None primitive).reached s)
         (λ input. means input
-        ∙ ap (λ (p : Option Primitive). finish input table k (spend one_row (prefixed input p own (follow input) s))) is
+        ∙ ap (λ (p : Option Primitive). finish input table k (spend one_row (prefixed input table.delimiters p own (follow input) s))) is
         ∙ ap (λ (b : Bool). finish input table k (spend one_row (cond b
         (spend (needs_from (anchor s) (whole_of input None primitive).tally) (land_prefix input.limits own first (follow input) (whole_of input None primitive).reached s))
         (ended (Failed LengthOutOfRange s.at) s)))) has)
         missing
 
-    prefix-waits : (primitive : Option Primitive) → by ≡ primitive → (read_prefix limits id held own next primitive k s).waits ≡ true
-        → Waits table held (Enter id) k s (read_prefix limits id held own next primitive k s)
+    prefix-waits : (primitive : Option Primitive) → by ≡ primitive → (read_prefix limits id held table.delimiters own next primitive k s).waits ≡ true
+        → Waits table held (Enter id) k s (read_prefix limits id held table.delimiters own next primitive k s)
     prefix-waits None is waits = absurd (cc)
     prefix-waits (Some primitive) is waits = prefix-room-waits primitive is (has_room primitive s.at s.stop) refl waits
 
@@ -408,24 +409,24 @@ module _ (table : Table) (held : Held) (s : State) where
   done-on (Some parts) next.Normal k waits = empty-found-on parts.tried.refuses_empty k waits
   done-on (Some parts) next.Nothing k waits = absurd (cc)
 
-  delimiter-on : (delimiter : Delimiter) (terminates : Bool) (k : List Frame) (does_stand : Bool)
-      → (cond does_stand (pass one_row held (Seek delimiter.list terminates) k s) (pass one_row held (Leave Done) k s)).waits ≡ true → ⊥
-  delimiter-on delimiter terminates k true waits = absurd (cc)
-  delimiter-on delimiter terminates k false waits = absurd (cc)
+  delimiter-on : (what : Sought) (k : List Frame) (does_stand : Bool)
+      → (cond does_stand (pass one_row held (Seek what) k s) (pass one_row held (Leave Done) k s)).waits ≡ true → ⊥
+  delimiter-on what k true waits = absurd (cc)
+  delimiter-on what k false waits = absurd (cc)
 
   -- a search that waits
-  seek-waits : (limits : Limits) (list : ℕ) (terminates : Bool) (k : List Frame) → (search limits table.delimiters held list terminates k s).waits ≡ true
-      → Waits table held (Seek list terminates) k s (search limits table.delimiters held list terminates k s)
-  seek-waits limits list terminates k waits =
+  seek-waits : (limits : Limits) (what : Sought) (k : List Frame) → (search limits table.delimiters held what k s).waits ≡ true
+      → Waits table held (Seek what) k s (search limits table.delimiters held what k s)
+  seek-waits limits what k waits =
       let here : Reading Longest =
-      ask (seen_at (from_byte held (anchor_at s (aligned 8 s.at)))) (sought_among (among table.delimiters list terminates s) s.at s.stop) nothing in
+      ask (seen_at (from_byte held (anchor_at s (aligned 8 s.at)))) (sought_among (among table.delimiters what s) s.at s.stop) nothing in
       let missing : here.reached ≡ Missing = text_lost here.reached waits in
-      let stands = seek-room table.delimiters held list terminates s missing in
+      let stands = seek-room table.delimiters held what s missing in
       record {
-        machine = ap (λ (r : Reached Longest). found_text limits.window (Seek list terminates) (cause_of terminates) (place_of terminates s) r k s) missing;
+        machine = ap (λ (r : Reached Longest). found_text limits.window (Seek what) (cause_of what) (place_of what s) r k s) missing;
         on = stands.0;
         room = stands.1;
-        missed = λ input fits all. seek-lost input table held list terminates k s fits.agrees fits.size fits.stands all stands.0 missing;
+        missed = λ input fits all. seek-lost input table held what k s fits.agrees fits.size fits.stands all stands.0 missing;
       }
 
   group-on : (id : ℕ) (children : List ℕ) (k : List Frame) → (enter_group held id children k s).waits ≡ true → ⊥
@@ -444,16 +445,18 @@ module _ (table : Table) (held : Held) (s : State) where
   enter-waits limits id (Some (Align bits)) k at waits =
       absurd (begin-on (aligned bits s.at) k (nat_le (aligned bits s.at) s.at) (nat_le (aligned bits s.at) s.stop) waits)
   enter-waits limits id (Some (Group children)) k at waits = absurd (group-on id children k waits)
-  enter-waits limits id (Some (Initiator delimiter)) k at waits = absurd (delimiter-on delimiter false k (stands_in s.instead delimiter) waits)
-  enter-waits limits id (Some (Terminator delimiter)) k at waits = absurd (delimiter-on delimiter true k (stands_in s.instead delimiter) waits)
+  enter-waits limits id (Some (Initiator delimiter)) k at waits = absurd (delimiter-on (sought.Initiator delimiter.list) k (stands_in s.instead delimiter) waits)
+  enter-waits limits id (Some (Terminator delimiter separators)) k at waits = absurd (delimiter-on (sought.Terminator delimiter.list separators) k (stands_in s.instead delimiter) waits)
+  enter-waits limits id (Some Separator) k at waits = absurd (cc)
   enter-waits limits id (Some (Scope list body)) k at waits = absurd (cc)
   enter-waits limits id (Some (Boxed bits body)) k at waits = absurd (cc)
   enter-waits limits id (Some (PrefixedLeaf prefix prim)) k at waits =
       let by : Option Primitive = slice_get table.primitives prefix.prim in
-      prefix-waits limits id prefix.own (λ input units after. sized_leaf input nil (slice_get table.primitives (read_by table.primitives s.instead prim)) (size_of prefix.unit units) after)
+      prefix-waits limits id prefix.own (λ input units after. sized_leaf input table.delimiters nil (slice_get table.primitives (read_by table.primitives s.instead prim)) (size_of prefix.unit units) after)
       (behind_units table.primitives prefix.unit (behind.Leaf (read_by table.primitives s.instead prim))) k by
       (λ input. ap (λ (r : Option Row). finish input table k (spend one_row (row input table (below input table id) id r s))) at)
       by refl waits
+  enter-waits limits id (Some (Repeat count body)) k at waits = absurd (group-on id (replicate count body) k waits)
   enter-waits limits id (Some (PrefixedBox prefix body)) k at waits =
       let by : Option Primitive = slice_get table.primitives prefix.prim in
       prefix-waits limits id prefix.own (λ input units after. boxed input (bits_of_units prefix.unit units) (below input table id body) after)
@@ -488,6 +491,6 @@ module _ (table : Table) (held : Held) (s : State) where
   step-waits limits (Pass to) k waits = fill-waits limits to k waits
   step-waits limits (PassRest bit outer) k waits = rest-waits limits bit outer k waits
   step-waits limits (Sized prim size) k waits = sized-waits limits prim size (slice_get table.primitives prim) k refl waits
-  step-waits limits (Seek list terminates) k waits = seek-waits limits list terminates k waits
+  step-waits limits (Seek what) k waits = seek-waits limits what k waits
   step-waits limits (Leave told) [] waits = absurd (cc)
   step-waits limits (Leave told) (frame ∷ k) waits = absurd (leave-on limits frame told k waits)

@@ -21,7 +21,7 @@ use Rattle.dfdl_parse.specs.declared.frame.Focus.{Focus}
 use Rattle.dfdl_parse.specs.declared.frame.Focus.TheVariants.{Enter, Pass, PassRest, Sized, Seek, Leave}
 use Rattle.dfdl_parse.specs.Moves.{Machine}
 use Rattle.dfdl_parse.specs.Machines.{children_of}
-use Rattle.dfdl_parse.specs.Searches.{sought}
+use Rattle.dfdl_parse.specs.Searches.{sought_text}
 use Rattle.dfdl_parse.specs.Trials.{parts_of}
 
 -- one representation of an element by its row
@@ -54,8 +54,8 @@ focused input table (Enter id) s = meaning input table id s
 focused input table (Pass to) s = fill_to input to s
 focused input table (PassRest bit outer) s =
     let passed : Outcome = pass_bytes input (bytes_up_to s.stop (bit / 8)) (bit / 8) s in unboxed passed.end outer.stop outer.hidden passed
-focused input table (Sized prim size) s = sized_leaf input (nil_values table.primitives s.instead) (slice_get table.primitives prim) size s
-focused input table (Seek list terminates) s = sought input table.delimiters list terminates s
+focused input table (Sized prim size) s = sized_leaf input table.delimiters (nil_values table.primitives s.instead) (slice_get table.primitives prim) size s
+focused input table (Seek what) s = sought_text input table.delimiters what s
 focused input table (Leave end) s = ended end s
 
 -- the outcome of the whole

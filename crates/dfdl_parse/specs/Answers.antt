@@ -21,5 +21,5 @@ answer_at (Enter id) k = Open
 answer_at (Pass to) k = Open
 answer_at (PassRest bit outer) k = Open
 answer_at (Sized prim size) k = Open
-answer_at (Seek list terminates) k = Open
+answer_at (Seek what) k = Open
 answer_at (Leave end) k = if is_none k then answer_of end else Open

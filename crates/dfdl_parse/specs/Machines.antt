@@ -1,12 +1,12 @@
 -- One step of the machine.
-use Rattle.std.specs.Prelude.{◌≡◌, ℕ, ◌+◌, ◌-◌, ◌*◌, ◌/◌, min, nat_le, Bool, true, false, List, [], ◌∷◌, length, Option, Some, None, slice_get, if◌then◌else◌}
+use Rattle.std.specs.Prelude.{◌≡◌, ℕ, ◌+◌, ◌-◌, ◌*◌, ◌/◌, min, nat_le, Bool, true, false, List, [], ◌∷◌, length, Option, Some, None, slice_get, if◌then◌else◌, replicate}
 use Rattle.dfdl_bits.specs.Window.{Held, end_of, from_byte, seen_at}
 use Rattle.dfdl_bits.specs.declared.window.Seen.{Seen}
 use Rattle.dfdl_bits.specs.declared.window.Seen.TheVariants.{Byte, End as DataEnded, NotYet, Over}
 use Rattle.dfdl_report.specs.declared.cause.LimitCause.TheVariants.{Window}
 use Rattle.dfdl_report.specs.declared.cause.ParseCause.TheVariants.{DataEnds, LengthOutOfRange}
 use Rattle.dfdl_terms.specs.declared.row.Row.{Row}
-use Rattle.dfdl_terms.specs.declared.row.Row.TheVariants.{Leaf, Elem, Group, Skip, Align, Initiator, Terminator, Scope, Boxed, PrefixedLeaf, PrefixedBox}
+use Rattle.dfdl_terms.specs.declared.row.Row.TheVariants.{Leaf, Elem, Group, Skip, Align, Initiator, Terminator, Separator, Scope, Boxed, PrefixedLeaf, PrefixedBox, Repeat}
 use Rattle.dfdl_terms.specs.Rows.{Table}
 use Rattle.dfdl_looks.specs.Tallies.{needs_from, nothing, one_row, saw_byte, saw_end, saw_none}
 use Rattle.dfdl_grammar.specs.declared.end.End.{End}
@@ -23,13 +23,14 @@ use Rattle.dfdl_parse.specs.declared.frame.Outside.{Outside}
 use Rattle.dfdl_parse.specs.declared.frame.Focus.{Focus}
 use Rattle.dfdl_parse.specs.declared.frame.Focus.TheVariants.{Enter, Pass, PassRest, Sized, Seek, Leave}
 use Rattle.dfdl_parse.specs.declared.frame.Behind.TheVariants as behind
+use Rattle.dfdl_parse.specs.declared.frame.Sought.TheVariants as sought
 use Rattle.dfdl_parse.specs.Moves.{Move, pass, read_leaf}
 use Rattle.dfdl_parse.specs.Trials.{enter_element, parts_of, retry, trial_done}
 use Rattle.dfdl_parse.specs.Boxing.{back_outside, hides}
 use Rattle.dfdl_parse.specs.Searches.{enter_delimiter, search}
 use Rattle.dfdl_parse.specs.Prefixed.{behind_units, box_begins, read_prefix, read_sized}
 
--- the rows of a group
+-- the rows of a group, or the row of a repetition so many times
 abbrev pub children_of : Option Row → List ℕ
 children_of None = []
 children_of (Some (Leaf prim)) = []
@@ -38,11 +39,13 @@ children_of (Some (Group children)) = children
 children_of (Some (Skip bits)) = []
 children_of (Some (Align bits)) = []
 children_of (Some (Initiator delimiter)) = []
-children_of (Some (Terminator delimiter)) = []
+children_of (Some (Terminator delimiter separators)) = []
+children_of (Some Separator) = []
 children_of (Some (Scope list body)) = []
 children_of (Some (Boxed bits body)) = []
 children_of (Some (PrefixedLeaf prefix prim)) = []
 children_of (Some (PrefixedBox prefix body)) = []
+children_of (Some (Repeat count body)) = replicate count body
 
 -- fill up to a bit begins, where there is any; it can't pass the end of the box
 abbrev pub enter_fill : Held → ℕ → List Frame → State → Move
@@ -124,21 +127,24 @@ enter_group held id (child ∷ rest) k s = pass one_row held (Enter child) (Rest
 abbrev pub enter : Limits → Table → Held → ℕ → Option Row → List Frame → State → Move
 enter limits table held id None k s = pass one_row held (Leave Done) k s
 enter limits table held id (Some (Leaf prim)) k s =
-    read_leaf one_row limits (Enter id) held (nil_values table.primitives s.instead) (slice_get table.primitives (read_by table.primitives s.instead prim)) k s
+    read_leaf one_row limits (Enter id) held table.delimiters (nil_values table.primitives s.instead)
+    (slice_get table.primitives (read_by table.primitives s.instead prim)) k s
 enter limits table held id (Some (Elem name simple tried body)) k s =
     enter_element limits.nodes held id (record { complex = has_elements simple; tried = tried; body = body }) k s
 enter limits table held id (Some (Group children)) k s = enter_group held id children k s
 enter limits table held id (Some (Skip bits)) k s = enter_fill held (s.at + bits) k s
 enter limits table held id (Some (Align bits)) k s = enter_fill held (aligned bits s.at) k s
-enter limits table held id (Some (Initiator delimiter)) k s = enter_delimiter held delimiter false k s
-enter limits table held id (Some (Terminator delimiter)) k s = enter_delimiter held delimiter true k s
+enter limits table held id (Some (Initiator delimiter)) k s = enter_delimiter held delimiter (sought.Initiator delimiter.list) k s
+enter limits table held id (Some (Terminator delimiter separators)) k s = enter_delimiter held delimiter (sought.Terminator delimiter.list separators) k s
+enter limits table held id (Some Separator) k s = pass one_row held (Seek sought.Separator) k s
 enter limits table held id (Some (Scope list body)) k s = pass one_row held (Enter body) (ScopeFrame (length s.lists) ∷ k) (opens list s)
 enter limits table held id (Some (Boxed bits body)) k s = enter_box held bits body k s
 enter limits table held id (Some (PrefixedLeaf prefix prim)) k s =
-    read_prefix limits id held prefix.own (behind_units table.primitives prefix.unit (behind.Leaf (read_by table.primitives s.instead prim)))
+    read_prefix limits id held table.delimiters prefix.own (behind_units table.primitives prefix.unit (behind.Leaf (read_by table.primitives s.instead prim)))
     (slice_get table.primitives prefix.prim) k s
+enter limits table held id (Some (Repeat count body)) k s = enter_group held id (replicate count body) k s
 enter limits table held id (Some (PrefixedBox prefix body)) k s =
-    read_prefix limits id held prefix.own (behind_units table.primitives prefix.unit (behind.Box body)) (slice_get table.primitives prefix.prim) k s
+    read_prefix limits id held table.delimiters prefix.own (behind_units table.primitives prefix.unit (behind.Box body)) (slice_get table.primitives prefix.prim) k s
 
 -- a group goes on with its next child, or ends
 abbrev pub go_on : Held → ℕ → ℕ → Option ℕ → List Frame → State → Move
@@ -173,8 +179,8 @@ step limits table held (Enter id) k s = enter limits table held id (slice_get ta
 step limits table held (Pass to) k s = fill limits held to k s
 step limits table held (PassRest bit outer) k s = pass_rest limits held bit outer k s
 step limits table held (Sized prim size) k s =
-    read_sized limits held prim size (nil_values table.primitives s.instead) (slice_get table.primitives prim) k s
-step limits table held (Seek list terminates) k s = search limits table.delimiters held list terminates k s
+    read_sized limits held table.delimiters prim size (nil_values table.primitives s.instead) (slice_get table.primitives prim) k s
+step limits table held (Seek what) k s = search limits table.delimiters held what k s
 step limits table held (Leave end) [] s = pass nothing held (Leave end) [] s
 step limits table held (Leave end) (frame ∷ k) s = leave limits table held frame end k s
 
@@ -184,7 +190,7 @@ HasEnded (Enter id) k = ⊥
 HasEnded (Pass to) k = ⊥
 HasEnded (PassRest bit outer) k = ⊥
 HasEnded (Sized prim size) k = ⊥
-HasEnded (Seek list terminates) k = ⊥
+HasEnded (Seek what) k = ⊥
 HasEnded (Leave end) k = k ≡ []
 
 -- whether there are no frames

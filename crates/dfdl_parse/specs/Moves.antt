@@ -3,6 +3,7 @@ use Rattle.std.specs.Prelude.{ℕ, Bool, true, false, List, Option, Some, None, 
 use Rattle.dfdl_bits.specs.Window.{Held, from_byte, seen_at}
 use Rattle.dfdl_report.specs.declared.cause.ParseCause.TheVariants.{LengthOutOfRange}
 use Rattle.dfdl_value.specs.declared.value.Value.{Value}
+use Rattle.dfdl_terms.specs.declared.delimiters.Delimiters.{Delimiters}
 use Rattle.dfdl_terms.specs.declared.row.Primitive.{Primitive}
 use Rattle.dfdl_looks.specs.Asks.{Reached, Told, TooFar, Missing, Reading, ask}
 use Rattle.dfdl_looks.specs.Tallies.{Tally, needs_from, nothing, plus}
@@ -10,6 +11,7 @@ use Rattle.dfdl_grammar.specs.declared.end.End.TheVariants.{Done, Failed}
 use Rattle.dfdl_grammar.specs.declared.limits.Limits.{Limits}
 use Rattle.dfdl_grammar.specs.States.{State, anchor}
 use Rattle.dfdl_grammar.specs.Outcomes.{Outcome}
+use Rattle.dfdl_grammar.specs.Delimiters.{lists_of, markup}
 use Rattle.dfdl_grammar.specs.Leaves.{Find, content_begins, has_room, land, program_for}
 use Rattle.dfdl_parse.specs.declared.frame.Frame.{Frame}
 use Rattle.dfdl_parse.specs.declared.frame.Focus.{Focus}
@@ -55,11 +57,12 @@ read_move cost limits focus first sight reading k s = record {
 }
 
 -- a leaf, which has to be one of some values that are nil, if there are these, and which gives up the bytes that are no longer needed;
--- its box can't pass the end of the one around it
-abbrev pub read_leaf : Tally → Limits → Focus → Held → Option (List Value) → Option Primitive → List Frame → State → Move
-read_leaf cost limits focus held nil None k s = pass cost held (Leave Done) k s
-read_leaf cost limits focus held nil (Some primitive) k s =
+-- its box can't pass the end of the one around it, and the texts of the open lists of the tables are terminating markup
+abbrev pub read_leaf : Tally → Limits → Focus → Held → List Delimiters → Option (List Value) → Option Primitive → List Frame → State → Move
+read_leaf cost limits focus held delimiters nil None k s = pass cost held (Leave Done) k s
+read_leaf cost limits focus held delimiters nil (Some primitive) k s =
     if has_room primitive s.at s.stop
     then (let sight : Held = from_byte held (anchor s) in
-    read_move cost limits focus (content_begins primitive s.at) sight (ask (seen_at sight) (program_for nil primitive s.at s.stop) nothing) k s)
+    read_move cost limits focus (content_begins primitive s.at) sight
+    (ask (seen_at sight) (program_for nil (lists_of delimiters (markup s)) primitive s.at s.stop) nothing) k s)
     else pass cost held (Leave (Failed LengthOutOfRange s.at)) k s

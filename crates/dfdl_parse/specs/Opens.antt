@@ -35,7 +35,7 @@ NeedsFrom base (Enter id) k s = (base ≤ s.at / 8) × AreOpen base s.at k s.mar
 NeedsFrom base (Pass to) k s = (base ≤ (to - 1) / 8) × ((s.at < to) × AreOpen base s.at k s.marks)
 NeedsFrom base (PassRest bit outer) k s = (base ≤ bit / 8) × ((bit < s.stop) × ((s.at ≤ bit) × AreOpen base s.at k s.marks))
 NeedsFrom base (Sized prim size) k s = (base ≤ s.at / 8) × AreOpen base s.at k s.marks
-NeedsFrom base (Seek list terminates) k s = (base ≤ aligned 8 s.at / 8) × AreOpen base s.at k s.marks
+NeedsFrom base (Seek what) k s = (base ≤ aligned 8 s.at / 8) × AreOpen base s.at k s.marks
 NeedsFrom base (Leave end) k s = NeedsBehind base end k s
 
 -- the innermost mark is at this bit or before it
@@ -59,5 +59,5 @@ Holds base (Enter id) s = IsHeld base s.at s
 Holds base (Pass to) s = IsHeld base (to - 1) s
 Holds base (PassRest bit outer) s = IsHeld base (8 * (bit / 8)) s
 Holds base (Sized prim size) s = IsHeld base s.at s
-Holds base (Seek list terminates) s = IsHeld base (aligned 8 s.at) s
+Holds base (Seek what) s = IsHeld base (aligned 8 s.at) s
 Holds base (Leave end) s = GoesBack end s

@@ -5,9 +5,10 @@ use Rattle.dfdl_report.specs.declared.cause.LimitCause.TheVariants.{Window}
 use Rattle.dfdl_report.specs.declared.cause.ParseCause.TheVariants.{LengthOutOfRange}
 use Rattle.dfdl_terms.specs.declared.prefix.LengthUnit.{LengthUnit}
 use Rattle.dfdl_value.specs.declared.value.Value.{Value}
+use Rattle.dfdl_terms.specs.declared.delimiters.Delimiters.{Delimiters}
 use Rattle.dfdl_terms.specs.declared.row.Primitive.{Primitive}
 use Rattle.dfdl_terms.specs.declared.text.TextSize.{TextSize}
-use Rattle.dfdl_terms.specs.declared.text.TextSize.TheVariants.{Bits, Characters}
+use Rattle.dfdl_terms.specs.declared.text.TextSize.TheVariants.{Bits, Characters, Delimited}
 use Rattle.dfdl_looks.specs.Asks.{Reached, Told, TooFar, Missing, Reading, ask}
 use Rattle.dfdl_looks.specs.Tallies.{needs_from, nothing, one_row, plus}
 use Rattle.dfdl_grammar.specs.declared.end.End.{End}
@@ -16,6 +17,7 @@ use Rattle.dfdl_grammar.specs.declared.limits.Limits.{Limits}
 use Rattle.dfdl_grammar.specs.States.{State, anchor}
 use Rattle.dfdl_grammar.specs.Leaves.{Find, Fails, Finds, FindsOctets, FindsText, content_begins, failing_bit, has_room, program}
 use Rattle.dfdl_grammar.specs.Boxes.{boxed_at}
+use Rattle.dfdl_grammar.specs.Delimiters.{lists_of, markup}
 use Rattle.dfdl_grammar.specs.Prefixes.{bits_of_units, resized, size_of, units_told}
 use Rattle.dfdl_parse.specs.declared.frame.Frame.{Frame}
 use Rattle.dfdl_parse.specs.declared.frame.Frame.TheVariants.{Box}
@@ -34,6 +36,7 @@ at_end end k s = record { focus = Leave end; stack = k; state = s }
 abbrev pub can_fit : TextSize → ℕ → ℕ → Bool
 can_fit (Bits bits) at stop = nat_le (at + bits) stop
 can_fit (Characters count) at stop = true
+can_fit (Delimited scan) at stop = true
 
 -- a leaf of a size that was told begins; it can't pass the end of the box
 abbrev pub sized_begins : Option Primitive → ℕ → TextSize → List Frame → State → Machine
@@ -77,20 +80,21 @@ prefix_move limits id own first next sight reading k s = record {
 }
 
 -- a prefix, which gives up the bytes that are no longer needed; its box can't pass the end of the one around it
-abbrev pub read_prefix : Limits → ℕ → Held → ℕ → (ℕ → List Frame → State → Machine) → Option Primitive → List Frame → State → Move
-read_prefix limits id held own next None k s = pass one_row held (Leave (Failed LengthOutOfRange s.at)) k s
-read_prefix limits id held own next (Some primitive) k s =
+abbrev pub read_prefix : Limits → ℕ → Held → List Delimiters → ℕ → (ℕ → List Frame → State → Machine) → Option Primitive → List Frame → State → Move
+read_prefix limits id held delimiters own next None k s = pass one_row held (Leave (Failed LengthOutOfRange s.at)) k s
+read_prefix limits id held delimiters own next (Some primitive) k s =
     if has_room primitive s.at s.stop
     then (let sight : Held = from_byte held (anchor s) in
-    prefix_move limits id own (content_begins primitive s.at) next sight (ask (seen_at sight) (program primitive s.at s.stop) nothing) k s)
+    prefix_move limits id own (content_begins primitive s.at) next sight
+    (ask (seen_at sight) (program (lists_of delimiters (markup s)) primitive s.at s.stop) nothing) k s)
     else pass one_row held (Leave (Failed LengthOutOfRange s.at)) k s
 
 -- the leaf of a primitive that can have the size that was told
-abbrev pub read_resized : Limits → Focus → Held → Option (List Value) → Option Primitive → List Frame → State → Move
-read_resized limits focus held nil None k s = pass nothing held (Leave (Failed LengthOutOfRange s.at)) k s
-read_resized limits focus held nil (Some primitive) k s = read_leaf nothing limits focus held nil (Some primitive) k s
+abbrev pub read_resized : Limits → Focus → Held → List Delimiters → Option (List Value) → Option Primitive → List Frame → State → Move
+read_resized limits focus held delimiters nil None k s = pass nothing held (Leave (Failed LengthOutOfRange s.at)) k s
+read_resized limits focus held delimiters nil (Some primitive) k s = read_leaf nothing limits focus held delimiters nil (Some primitive) k s
 
 -- the leaf of a primitive that has this size in place of its own
-abbrev pub read_sized : Limits → Held → ℕ → TextSize → Option (List Value) → Option Primitive → List Frame → State → Move
-read_sized limits held prim size nil None k s = pass nothing held (Leave Done) k s
-read_sized limits held prim size nil (Some primitive) k s = read_resized limits (Sized prim size) held nil (resized size primitive) k s
+abbrev pub read_sized : Limits → Held → List Delimiters → ℕ → TextSize → Option (List Value) → Option Primitive → List Frame → State → Move
+read_sized limits held delimiters prim size nil None k s = pass nothing held (Leave Done) k s
+read_sized limits held delimiters prim size nil (Some primitive) k s = read_resized limits (Sized prim size) held delimiters nil (resized size primitive) k s

@@ -23,7 +23,7 @@ Reaches last held (Enter id) s = s.at ≤ 8 * last
 Reaches last held (Pass to) s = s.at ≤ 8 * last
 Reaches last held (PassRest bit outer) s = s.at ≤ 8 * last
 Reaches last held (Sized prim size) s = s.at ≤ 8 * last
-Reaches last held (Seek list terminates) s = s.at ≤ 8 * last
+Reaches last held (Seek what) s = s.at ≤ 8 * last
 Reaches last held (Leave end) s = (held.base ≤ last) × (s.at ≤ 8 * last)
 
 -- The machine has gone on in so many looks, and stands in the work on any data as before.

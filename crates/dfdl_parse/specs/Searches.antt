@@ -1,12 +1,12 @@
 -- The step of a search for a delimiter.
-use Rattle.std.specs.Prelude.{ℕ, ◌+◌, ◌*◌, ◌≤◌, min, Bool, true, false, List, [], ◌∷◌, ◌++◌, length, if◌then◌else◌}
+use Rattle.std.specs.Prelude.{ℕ, ◌+◌, ◌-◌, ◌*◌, ◌≤◌, min, Bool, true, false, List, [], ◌∷◌, ◌++◌, length, if◌then◌else◌}
 use Rattle.dfdl_bits.specs.Window.{Held, from_byte, seen_at}
 use Rattle.dfdl_delims.specs.declared.found.Found.{Found}
 use Rattle.dfdl_delims.specs.declared.found.Found.TheVariants.{Match, None as NoMatch, NotYet, Over}
 use Rattle.dfdl_delims.specs.Lists.{Opened}
 use Rattle.dfdl_delims.specs.Longest.{Longest}
 use Rattle.dfdl_report.specs.declared.cause.ParseCause.{ParseCause}
-use Rattle.dfdl_report.specs.declared.cause.ParseCause.TheVariants.{InitiatorMissing, TerminatorMissing}
+use Rattle.dfdl_report.specs.declared.cause.ParseCause.TheVariants.{InitiatorMissing, SeparatorMissing, TerminatorMissing}
 use Rattle.dfdl_terms.specs.declared.delimiters.Delimiter.{Delimiter}
 use Rattle.dfdl_terms.specs.declared.delimiters.Delimiters.{Delimiters}
 use Rattle.dfdl_looks.specs.Asks.{Reached, Told, TooFar, Missing, Reading, ask}
@@ -16,40 +16,56 @@ use Rattle.dfdl_grammar.specs.declared.limits.Limits.{Limits}
 use Rattle.dfdl_grammar.specs.States.{Input, State, anchor_at}
 use Rattle.dfdl_grammar.specs.Outcomes.{Outcome}
 use Rattle.dfdl_grammar.specs.Framing.{aligned}
-use Rattle.dfdl_grammar.specs.Delimiters.{lists_of, markup, passed_text, seek, sought_among, stands_in}
+use Rattle.dfdl_grammar.specs.Delimiters.{lists_of, markup, numbers_of, passed_text, seek, sought_among, stands_in}
 use Rattle.dfdl_parse.specs.declared.frame.Frame.{Frame}
 use Rattle.dfdl_parse.specs.declared.frame.Focus.{Focus}
 use Rattle.dfdl_parse.specs.declared.frame.Focus.TheVariants.{Seek, Leave}
+use Rattle.dfdl_parse.specs.declared.frame.Sought.{Sought}
+use Rattle.dfdl_parse.specs.declared.frame.Sought.TheVariants.{Initiator, Terminator, Separator}
 use Rattle.dfdl_parse.specs.Moves.{Machine, Move, pass}
 
--- the lists among whose texts one of this list is sought, as a terminator or as an initiator
-abbrev pub among : List Delimiters → ℕ → Bool → State → List Opened
-among delimiters list false s = lists_of delimiters (list ∷ [])
-among delimiters list true s = lists_of delimiters (markup s ++ list ∷ [])
+-- the lists that are put behind the open ones for a search
+abbrev pub put_behind : Sought → List ℕ
+put_behind (Initiator list) = list ∷ []
+put_behind (Terminator list separators) = list ∷ numbers_of separators
+put_behind Separator = []
 
--- how many open lists stand before the first of them, where the one that is sought is put behind all
-abbrev pub first_open : Bool → State → ℕ
-first_open false s = length s.lists
-first_open true s = min s.hidden (length s.lists)
+-- the numbers of the lists among whose texts a delimiter is sought
+abbrev pub numbers_among : Sought → State → List ℕ
+numbers_among (Initiator list) s = list ∷ []
+numbers_among (Terminator list separators) s = markup s ++ list ∷ numbers_of separators
+numbers_among Separator s = markup s
 
--- the place of the list among them
-abbrev pub place_of : Bool → State → ℕ
-place_of false s = 0
-place_of true s = length (markup s)
+-- these lists
+abbrev pub among : List Delimiters → Sought → State → List Opened
+among delimiters sought s = lists_of delimiters (numbers_among sought s)
+
+-- how many open lists stand before the first of them, where some are put behind all
+abbrev pub first_open : Sought → State → ℕ
+first_open (Initiator list) s = length s.lists
+first_open (Terminator list separators) s = min s.hidden (length s.lists)
+first_open Separator s = min s.hidden (length s.lists)
+
+-- the place among them of the list of which a text is sought
+abbrev pub place_of : Sought → State → ℕ
+place_of (Initiator list) s = 0
+place_of (Terminator list separators) s = length (markup s)
+place_of Separator s = length (markup s) - 1
 
 -- why it fails where there is none
-abbrev pub cause_of : Bool → ParseCause
-cause_of false = InitiatorMissing
-cause_of true = TerminatorMissing
+abbrev pub cause_of : Sought → ParseCause
+cause_of (Initiator list) = InitiatorMissing
+cause_of (Terminator list separators) = TerminatorMissing
+cause_of Separator = SeparatorMissing
 
--- a terminator or an initiator of this list, as it is in the data
-abbrev pub sought : Input → List Delimiters → ℕ → Bool → State → Outcome
-sought input delimiters list terminates s = seek input (cause_of terminates) (among delimiters list terminates s) (place_of terminates s) s
+-- a delimiter that is sought, as it is in the data
+abbrev pub sought_text : Input → List Delimiters → Sought → State → Outcome
+sought_text input delimiters sought s = seek input (cause_of sought) (among delimiters sought s) (place_of sought s) s
 
 -- a delimiter begins: it is sought, where it stands in the representation that is tried
-abbrev pub enter_delimiter : Held → Delimiter → Bool → List Frame → State → Move
-enter_delimiter held delimiter terminates k s =
-    if stands_in s.instead delimiter then pass one_row held (Seek delimiter.list terminates) k s else pass one_row held (Leave Done) k s
+abbrev pub enter_delimiter : Held → Delimiter → Sought → List Frame → State → Move
+enter_delimiter held delimiter sought k s =
+    if stands_in s.instead delimiter then pass one_row held (Seek sought) k s else pass one_row held (Leave Done) k s
 
 -- whether a byte of a text hasn't come
 abbrev pub is_cut : Reached Longest → Bool
@@ -77,11 +93,11 @@ search_move window focus cause place sight reading k s = record {
 }
 
 -- a search, which gives up the bytes that are no longer needed at the next whole byte
-abbrev pub search : Limits → List Delimiters → Held → ℕ → Bool → List Frame → State → Move
-search limits delimiters held list terminates k s =
+abbrev pub search : Limits → List Delimiters → Held → Sought → List Frame → State → Move
+search limits delimiters held sought k s =
     let sight : Held = from_byte held (anchor_at s (aligned 8 s.at)) in
-    search_move limits.window (Seek list terminates) (cause_of terminates) (place_of terminates s) sight
-    (ask (seen_at sight) (sought_among (among delimiters list terminates s) s.at s.stop) nothing) k s
+    search_move limits.window (Seek sought) (cause_of sought) (place_of sought s) sight
+    (ask (seen_at sight) (sought_among (among delimiters sought s) s.at s.stop) nothing) k s
 
 -- a text that is found at a bit ends before this byte
 abbrev pub EndsWithin : Found → ℕ → ℕ → Type 0

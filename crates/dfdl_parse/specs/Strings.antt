@@ -7,6 +7,12 @@ use Rattle.dfdl_texts.specs.declared.found.Found.{Found}
 use Rattle.dfdl_texts.specs.declared.found.Found.TheVariants.{Reads, HasBad, IsCut, IsBoxed, TooFar as Past, NotYet}
 use Rattle.dfdl_grammar.specs.Leaves.{Find, text_find}
 
+-- what is made of what a reading comes to
+abbrev pub made_of : {F : Type 0} → (F → Find) → Reached F → Reached Find
+made_of find (Told told) = Told (find told)
+made_of find TooFar = TooFar
+made_of find Missing = Missing
+
 -- what a string comes to whose box begins at a bit, by what its text comes to
 abbrev pub text_reached : TextForm → ℕ → Reached Text → Reached Find
 text_reached form bit (Told text) = Told (text_find form bit text)

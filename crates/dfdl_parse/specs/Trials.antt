@@ -4,7 +4,7 @@ use Rattle.dfdl_bits.specs.Window.{Held}
 use Rattle.dfdl_report.specs.declared.cause.LimitCause.TheVariants.{Nodes}
 use Rattle.dfdl_report.specs.declared.cause.ParseCause.TheVariants.{RequiredEmpty}
 use Rattle.dfdl_terms.specs.declared.row.Row.{Row}
-use Rattle.dfdl_terms.specs.declared.row.Row.TheVariants.{Leaf, Elem, Group, Skip, Align, Initiator, Terminator, Scope, Boxed, PrefixedLeaf, PrefixedBox}
+use Rattle.dfdl_terms.specs.declared.row.Row.TheVariants.{Leaf, Elem, Group, Skip, Align, Initiator, Terminator, Separator, Scope, Boxed, PrefixedLeaf, PrefixedBox, Repeat}
 use Rattle.dfdl_looks.specs.Tallies.{Tally, nothing, one_row, plus}
 use Rattle.dfdl_grammar.specs.declared.end.End.{End}
 use Rattle.dfdl_grammar.specs.declared.end.End.TheVariants.{Done, Failed, Stopped}
@@ -31,11 +31,13 @@ parts_of (Some (Group children)) = None
 parts_of (Some (Skip bits)) = None
 parts_of (Some (Align bits)) = None
 parts_of (Some (Initiator delimiter)) = None
-parts_of (Some (Terminator delimiter)) = None
+parts_of (Some (Terminator delimiter separators)) = None
+parts_of (Some Separator) = None
 parts_of (Some (Scope list body)) = None
 parts_of (Some (Boxed bits body)) = None
 parts_of (Some (PrefixedLeaf prefix prim)) = None
 parts_of (Some (PrefixedBox prefix body)) = None
+parts_of (Some (Repeat count body)) = None
 
 -- the cost of an element's row and of its first representation
 abbrev pub two_rows : Tally

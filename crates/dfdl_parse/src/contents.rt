@@ -2,14 +2,17 @@
 ghost use Rattle.std.specs.Prelude.{◌≡◌, ◌-◌, ◌≤◌, IfOk, take, drop, length};
 ghost use Rattle.std.specs.Result.{result_ok};
 ghost use Rattle.dfdl_terms.specs.Rows.{IsTextContent};
-ghost use Rattle.dfdl_grammar.specs.Leaves.{content_find, nil_find, number_find, truth_find};
+ghost use Rattle.dfdl_chars.specs.Encodings.{encoded_text};
+ghost use Rattle.dfdl_forms.specs.declared.encoding.Encoding.TheVariants.{Iso88591};
+ghost use Rattle.dfdl_grammar.specs.Leaves.{content_find, nil_find, number_find, octets_find, truth_find};
 ghost use Rattle.dfdl_grammar.specs.Nils.{is_nil};
 ghost use Rattle.dfdl_looks.specs.Asks.{Told};
 ghost use Rattle.dfdl_parse.specs.declared.leaf.Scratch.{Scratch as AnyScratch};
 ghost use Rattle.dfdl_parse.specs.Steps.{HasPiece, IsPlain, found_shown};
 
 use crate::leaf::{Found, Scratch, found_of, packed_found};
-use crate::nils::{is_nil, nil_found};
+use crate::nils::{is_nil, nil_found, put_encoded};
+use dfdl_forms::Encoding;
 use dfdl_number_text::NumberFault;
 use dfdl_packed::read_zoned;
 use dfdl_region::Content;
@@ -35,6 +38,10 @@ pub(crate) fn content_found(
 {
     match content {
         TextContent::Plain => Ok(Found::Text { from, to, end }),
+        TextContent::Octets => {
+            let found = octets_found(scratch, from, to, end)?;
+            Ok(found)
+        }
         TextContent::Number { form, kind } => {
             let characters = &scratch.characters[from..to];
             let read = dfdl_number_text::read(form, *kind, characters);
@@ -52,6 +59,28 @@ pub(crate) fn content_found(
             let found = nil_content(form, scratch, from, to, end)?;
             Ok(found)
         }
+    }
+}
+
+// What the characters of the scratch from one on and before another are found as that are the bytes of a hexBinary, each by
+// ISO-8859-1.
+fn octets_found(
+    scratch: &mut Scratch,
+    from: usize,
+    to: usize,
+    end: u64,
+) -> Result<Found, AllocError>
+    requires piece { (from ≤ to) × (to ≤ length scratch.old.characters.items) }
+    ensures shown { IfOk result (λ found. found_shown scratch.new found
+        ≡ Told (octets_find end (encoded_text Iso88591 (take (to - from) (drop from scratch.old.characters.items))))) }
+    ensures piece { IfOk result (λ found. (after : AnyScratch) → HasPiece found after) }
+{
+    let characters = &scratch.characters[from..to];
+    let has_bytes = put_encoded(Encoding::Iso88591, characters, &mut scratch.octets)?;
+    if has_bytes {
+        Ok(Found::Octets { end })
+    } else {
+        Ok(Found::Fails(ParseCause::BadCharacter))
     }
 }
 

@@ -1,54 +1,98 @@
 // The value that a box without bits stands for.
-ghost use Rattle.std.specs.Prelude.{◌≡◌, ℕ, ◌*◌, ◌≤◌, IfOk, OnOk};
-ghost use Rattle.dfdl_bits.specs.declared.window.Seen.{Seen};
-ghost use Rattle.dfdl_grammar.specs.Leaves.{default_find, default_of, is_no_size};
+ghost use Rattle.std.specs.Prelude.{◌≡◌, ℕ, ◌-◌, ◌*◌, ◌/◌, ◌^◌, ◌≤◌, IfOk, OnOk, List, if◌then◌else◌, nat_eq};
+ghost use Rattle.dfdl_bits.specs.Window.{end_of, seen_at};
+ghost use Rattle.dfdl_delims.specs.Lists.{Opened};
+ghost use Rattle.dfdl_delims.specs.Opening.{Opens};
+ghost use Rattle.dfdl_grammar.specs.Leaves.{Fails, default_find, default_of};
+ghost use Rattle.dfdl_report.specs.declared.cause.ParseCause.TheVariants.{RequiredEmpty};
 ghost use Rattle.dfdl_looks.specs.Asks.{Told, ask};
 ghost use Rattle.dfdl_looks.specs.Tallies.{nothing};
 ghost use Rattle.dfdl_parse.specs.Steps.{Answers, HasPiece, IsWithin, found_shown};
 ghost use Rattle.dfdl_parse.specs.Views.{default_of as sized};
 
+use crate::delimited::read_absent;
 use crate::leaf::{Found, Glance, Scratch};
+use dfdl_bits::{Steps, Window};
+use dfdl_delims::{Candidates, OpenLists};
 use dfdl_region::Content;
 use dfdl_report::ParseCause;
 use dfdl_terms::{DefaultForm, TextSize};
 use dfdl_value::Value;
 use std::alloc::AllocError;
+use std::sync::ledger::Ledger;
 
-/// Reads a box of a size that begins at a bit, by its size alone: without bits it stands for a value. The bytes of a string
-/// or hexBinary stand in the scratch then.
-pub(crate) fn read_default(
+/// Reads a box of a size that begins at a bit, inside of a box that ends at another bit: without a content it stands for a value. The
+/// bytes of a string or hexBinary stand in the scratch then.
+pub(crate) fn read_default<L: Ledger>(
     form: &DefaultForm,
     size: TextSize,
+    lists: OpenLists<'_>,
     bit: u64,
+    stop: u64,
+    sight: &Window,
     scratch: &mut Scratch,
+    candidates: &mut Candidates,
+    steps: &mut Steps<L>,
 ) -> Result<Glance, AllocError>
-    ensures answers { IfOk result (λ g. (look : ℕ → Seen) (looks : ℕ) → looks ≡ 0
-        → Answers (ask look (default_of (sized form.now size) bit) nothing) scratch.new g looks) }
-    ensures within { IfOk result (λ g. (last : ℕ) → bit ≤ 8 * last → IsWithin g.found last) }
+    requires base { sight.now.base ≤ bit / 8 }
+    requires at { bit ≤ 8 * end_of sight.now }
+    requires bound { end_of sight.now ≤ 2 ^ 60 }
+    ensures answers { IfOk result (λ g. (opened : List Opened) → Opens lists.entry opened
+        → Answers (ask (seen_at sight.now) (default_of (sized form.now size) opened bit stop) nothing) scratch.new g (steps.new - steps.old)) }
+    ensures steps { steps.old ≤ steps.new }
+    ensures within { IfOk result (λ g. IsWithin g.found (end_of sight.now)) }
     ensures pieces { IfOk result (λ g. HasPiece g.found scratch.new) }
 {
-    if !is_no_size(size) {
-        return Ok(Glance {
-            found: Found::Fails(ParseCause::RequiredEmpty),
-            far: 0,
-        });
-    }
-    let found = default_found(&form.value, bit, scratch)?;
-    Ok(Glance { found, far: 0 })
-}
-
-// Whether there is no bit in a box of a size.
-fn is_no_size(size: TextSize) -> bool
-    ensures { result ≡ is_no_size size }
-{
     match size {
-        TextSize::Bits(bits) => bits == 0,
-        TextSize::Characters(count) => count == 0,
+        TextSize::Bits(bits) => {
+            let found = none_found(&form.value, bits, bit, scratch)?;
+            Ok(Glance { found, far: 0 })
+        }
+        TextSize::Characters(count) => {
+            let found = none_found(&form.value, count, bit, scratch)?;
+            Ok(Glance { found, far: 0 })
+        }
+        TextSize::Delimited(scan) => {
+            let glance = read_absent(
+                &form.value,
+                scan,
+                lists,
+                bit,
+                stop,
+                sight,
+                scratch,
+                candidates,
+                steps,
+            )?;
+            Ok(glance)
+        }
     }
 }
 
-// What a value is found as in a box without bits, at a bit.
-fn default_found(value: &Value, bit: u64, scratch: &mut Scratch) -> Result<Found, AllocError>
+// What a box of so many bits or characters at a bit is found as: of none of them it stands for a value.
+fn none_found(
+    value: &Value,
+    count: u64,
+    bit: u64,
+    scratch: &mut Scratch,
+) -> Result<Found, AllocError>
+    ensures shown { IfOk result (λ found. found_shown scratch.new found ≡ Told (if nat_eq count 0 then default_find bit value.now else Fails RequiredEmpty)) }
+    ensures within { IfOk result (λ found. (last : ℕ) → bit ≤ 8 * last → IsWithin found last) }
+    ensures piece { IfOk result (λ found. HasPiece found scratch.new) }
+{
+    if count != 0 {
+        return Ok(Found::Fails(ParseCause::RequiredEmpty));
+    }
+    let found = default_found(value, bit, scratch)?;
+    Ok(found)
+}
+
+/// What a value is found as in a box without bits, at a bit.
+pub(crate) fn default_found(
+    value: &Value,
+    bit: u64,
+    scratch: &mut Scratch,
+) -> Result<Found, AllocError>
     ensures shown { IfOk result (λ found. found_shown scratch.new found ≡ Told (default_find bit value.now)) }
     ensures within { IfOk result (λ found. (last : ℕ) → bit ≤ 8 * last → IsWithin found last) }
     ensures piece { IfOk result (λ found. HasPiece found scratch.new) }

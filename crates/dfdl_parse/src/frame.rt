@@ -45,6 +45,17 @@ pub(crate) struct Parts {
     pub(crate) body: RowId,
 }
 
+/// A delimiter that is sought ('Framing', 'Sequence Groups').
+#[derive(Debug, Clone, Copy, PartialEq, Eq)]
+pub enum Sought {
+    /// A text of this list of the tables, as an initiator.
+    Initiator { list: u32 },
+    /// A text of this list of the tables, as a terminator, of a component that may have separators of the other one.
+    Terminator { list: u32, separator: Option<u32> },
+    /// A text of the innermost list that is open, as a separator.
+    Separator,
+}
+
 /// What stands behind a length prefix.
 #[derive(Debug, Clone, Copy, PartialEq, Eq)]
 pub(crate) enum Behind {
@@ -65,8 +76,8 @@ pub enum Focus {
     PassRest { bit: u64, outer: Outside },
     /// The leaf of the primitive of this number in the tables is read, with this size.
     Sized { prim: u32, size: TextSize },
-    /// A text of this list of the tables is sought, as a terminator or as an initiator.
-    Seek { list: u32, terminates: bool },
+    /// A delimiter is sought.
+    Seek { sought: Sought },
     /// A row has ended.
     Leave(End),
 }

@@ -1,5 +1,5 @@
 // A leaf is read, and what it comes to is taken.
-ghost use Rattle.std.specs.Prelude.{◌≡◌, ℕ, ◌+◌, ◌-◌, ◌*◌, ◌/◌, ◌^◌, ◌≤◌, Some, true, IfOk, OnOk, slice_get, take, drop, length};
+ghost use Rattle.std.specs.Prelude.{◌≡◌, ℕ, ◌+◌, ◌-◌, ◌*◌, ◌/◌, ◌^◌, ◌≤◌, Some, true, IfOk, List, OnOk, slice_get, take, drop, length};
 ghost use Rattle.dfdl_bits.specs.Window.{Held, end_of, from_byte, seen_at};
 ghost use Rattle.dfdl_region.specs.Bytes.{utf8_of};
 ghost use Rattle.dfdl_report.specs.declared.cause.LimitCause.TheVariants.{Text};
@@ -7,6 +7,8 @@ ghost use Rattle.dfdl_region.specs.Nodes.{with_content};
 ghost use Rattle.dfdl_grammar.specs.declared.end.End.{End as AnyEnd};
 ghost use Rattle.dfdl_grammar.specs.declared.end.End.TheVariants.{Done};
 ghost use Rattle.dfdl_grammar.specs.Outcomes.{ended};
+ghost use Rattle.dfdl_terms.specs.declared.delimiters.Delimiters.{Delimiters};
+ghost use Rattle.dfdl_grammar.specs.Delimiters.{lists_of, markup};
 ghost use Rattle.dfdl_grammar.specs.Leaves.{Find, content_begins, failing_bit, has_room, hold, nil_values, program_for, read_by, values_in};
 ghost use Rattle.dfdl_looks.specs.Asks.{Reading, ask};
 ghost use Rattle.dfdl_looks.specs.Tallies.{Tally, nothing};
@@ -14,6 +16,7 @@ ghost use Rattle.dfdl_grammar.specs.States.{anchor};
 ghost use Rattle.dfdl_parse.specs.Opens.{IsHeld};
 ghost use Rattle.dfdl_parse.specs.Moves.{read_leaf, read_move};
 ghost use Rattle.dfdl_parse.specs.Steps.{Answers, HasPiece, IsFree, IsWithin, Moved};
+ghost use Rattle.dfdl_parse.specs.Registered.{HasOpen, IsRegistered};
 ghost use Rattle.dfdl_parse.specs.Shown.{Comes, HasSameLimits, limits_of, state_of};
 ghost use Rattle.dfdl_parse.specs.Views.{IsSound, primitive_of, wanted as wanted_of};
 
@@ -22,6 +25,7 @@ use crate::leaf::{Found, Glance, read_wanted};
 use crate::parser::Parser;
 use crate::view::{Leaf, Wanted, content_begins, has_room};
 use dfdl_bits::{Steps, Window};
+use dfdl_delims::OpenLists;
 use dfdl_grammar::{End, Instead};
 use dfdl_region::Content;
 use dfdl_report::{LimitCause, ParseCause};
@@ -40,8 +44,9 @@ impl Parser {
     ) -> Result<bool, AllocError>
         requires base { IsHeld sight.old.base self.old.at (state_of self.old) }
         requires at { self.old.at ≤ 8 * end_of sight.old }
+        requires registered { IsRegistered terms.now self.old }
         ensures moved { IfOk result (λ waits. (cost : Tally) → IsFree cost → Moved
-            (read_leaf cost (limits_of self.old sight.old) self.old.focus sight.old (nil_values terms.now.primitives self.old.instead)
+            (read_leaf cost (limits_of self.old sight.old) self.old.focus sight.old terms.now.delimiters (nil_values terms.now.primitives self.old.instead)
             (slice_get terms.now.primitives (read_by terms.now.primitives self.old.instead prim)) self.old.stack (state_of self.old))
             waits self.old.far self.new sight.new (steps.new - steps.old)) }
         ensures steps { steps.old ≤ steps.new }
@@ -98,8 +103,8 @@ impl Parser {
         requires base { IsHeld sight.old.base self.old.at (state_of self.old) }
         requires at { self.old.at ≤ 8 * end_of sight.old }
         requires sound { IsSound (primitive_of leaf) }
-        ensures moved { IfOk result (λ waits. (cost : Tally) → IsFree cost → Moved
-            (read_leaf cost (limits_of self.old sight.old) self.old.focus sight.old (wanted_of wanted.entry) (Some (primitive_of leaf.entry)) self.old.stack (state_of self.old))
+        ensures moved { IfOk result (λ waits. (cost : Tally) (delimiters : List Delimiters) → IsFree cost → HasOpen delimiters self.old → Moved
+            (read_leaf cost (limits_of self.old sight.old) self.old.focus sight.old delimiters (wanted_of wanted.entry) (Some (primitive_of leaf.entry)) self.old.stack (state_of self.old))
             waits self.old.far self.new sight.new (steps.new - steps.old)) }
         ensures steps { steps.old ≤ steps.new }
         ensures most { OnOk result (HasSameLimits self.old self.new) }
@@ -126,9 +131,10 @@ impl Parser {
         requires at { self.old.at ≤ 8 * end_of sight.old }
         requires sound { IsSound (primitive_of leaf) }
         requires room { has_room (primitive_of leaf) self.old.at self.old.stop ≡ true }
-        ensures moved { IfOk result (λ waits. (cost : Tally) → IsFree cost → Moved
+        ensures moved { IfOk result (λ waits. (cost : Tally) (delimiters : List Delimiters) → IsFree cost → HasOpen delimiters self.old → Moved
             (read_move cost (limits_of self.old sight.old) self.old.focus (content_begins (primitive_of leaf.entry) self.old.at) (from_byte sight.old (anchor (state_of self.old)))
-            (ask (seen_at (from_byte sight.old (anchor (state_of self.old)))) (program_for (wanted_of wanted.entry) (primitive_of leaf.entry) self.old.at self.old.stop) nothing)
+            (ask (seen_at (from_byte sight.old (anchor (state_of self.old))))
+            (program_for (wanted_of wanted.entry) (lists_of delimiters (markup (state_of self.old))) (primitive_of leaf.entry) self.old.at self.old.stop) nothing)
             self.old.stack (state_of self.old))
             waits self.old.far self.new sight.new (steps.new - steps.old)) }
         ensures steps { steps.old ≤ steps.new }
@@ -154,24 +160,31 @@ impl Parser {
         requires at { self.old.at ≤ 8 * end_of sight.old }
         requires sound { IsSound (primitive_of leaf) }
         requires room { has_room (primitive_of leaf) self.old.at self.old.stop ≡ true }
-        ensures answers { IfOk result (λ g. Answers
-            (ask (seen_at sight.new) (program_for (wanted_of wanted.entry) (primitive_of leaf.entry) self.old.at self.old.stop) nothing) self.new.scratch g (steps.new - steps.old)) }
+        ensures answers { IfOk result (λ g. (delimiters : List Delimiters) → HasOpen delimiters self.old → Answers
+            (ask (seen_at sight.new) (program_for (wanted_of wanted.entry) (lists_of delimiters (markup (state_of self.old))) (primitive_of leaf.entry) self.old.at self.old.stop) nothing)
+            self.new.scratch g (steps.new - steps.old)) }
         ensures held { sight.new ≡ from_byte sight.old (anchor (state_of self.old)) }
         ensures end { end_of sight.new ≡ end_of sight.old }
         ensures steps { steps.old ≤ steps.new }
         ensures within { IfOk result (λ g. IsWithin g.found (end_of sight.new)) }
         ensures pieces { IfOk result (λ g. HasPiece g.found self.new.scratch) }
-        ensures same { self.new ≡ record self.old { scratch = self.new.scratch } }
+        ensures same { self.new ≡ record self.old { scratch = self.new.scratch; candidates = self.new.candidates } }
     {
         let _end = sight.end();
         sight.drop_before(self.anchor_at(self.at));
+        let lists = OpenLists {
+            markup: &self.markup,
+            numbers: self.lists.from(self.hidden),
+        };
         let glance = read_wanted(
             wanted,
             leaf,
+            lists,
             self.at,
             self.stop,
             sight,
             &mut self.scratch,
+            &mut self.candidates,
             steps,
         )?;
         Ok(glance)

@@ -1,6 +1,8 @@
 // The content of a leaf, by looks at the bytes that its bits lie in.
-ghost use Rattle.std.specs.Prelude.{◌≡◌, ℕ, ◌+◌, ◌-◌, ◌*◌, ◌/◌, ◌%◌, ◌^◌, ◌<◌, ◌≤◌, [], IfOk, Some, length, true};
+ghost use Rattle.std.specs.Prelude.{◌≡◌, ℕ, ◌+◌, ◌-◌, ◌*◌, ◌/◌, ◌%◌, ◌^◌, ◌<◌, ◌≤◌, [], IfOk, List, Some, length, true};
 ghost use Rattle.dfdl_bits.specs.Window.{end_of, seen_at};
+ghost use Rattle.dfdl_delims.specs.Lists.{Opened};
+ghost use Rattle.dfdl_delims.specs.Opening.{Opens};
 ghost use Rattle.dfdl_forms.specs.BinaryNumbers.{IsIntForm, IsPackedForm, IsTruthForm};
 ghost use Rattle.dfdl_terms.specs.declared.row.Primitive.TheVariants.{Integer, Packed, Truth};
 ghost use Rattle.dfdl_grammar.specs.Leaves.{bits_of, bytes_spanned, find_in, find_of, has_room, packed_find, program, program_for};
@@ -19,6 +21,8 @@ use crate::patterns::read_pattern;
 use crate::strings::read_string;
 use crate::view::{Leaf, Wanted, number_bits};
 use dfdl_bits::{Seen, Steps, Window, number_at};
+use dfdl_delims::{Candidates, OpenLists};
+use dfdl_escapes::Character;
 use dfdl_forms::{BitTruthForm, Form, IntForm, PackedForm};
 use dfdl_int_binary::{read, read_truth};
 use dfdl_packed::PackedFault;
@@ -33,6 +37,8 @@ use std::sync::ledger::Ledger;
 pub(crate) struct Scratch {
     /// the characters of a string, before they are trimmed, or those in which a pattern is sought
     pub(crate) characters: Vec<char>,
+    /// the characters of a content that markup ends, each escaped or not
+    pub(crate) content: Vec<Character>,
     /// the bytes of a hexBinary, of a default, or of characters that may be nil
     pub(crate) octets: Vec<u8>,
     /// the places of a text that a literal can end at
@@ -51,6 +57,7 @@ impl Scratch {
     {
         Scratch {
             characters: Vec::new(alloc),
+            content: Vec::new(alloc),
             octets: Vec::new(alloc),
             places: Vec::new(alloc),
             text: String::new(alloc),
@@ -85,14 +92,16 @@ pub(crate) struct Glance {
     pub(crate) far: u64,
 }
 
-/// Reads a leaf whose box begins at bit `bit`, inside of a box that ends at bit `stop`. The characters of a string and the
-/// bytes of a hexBinary stand in the scratch then. A fault is want of memory for these. Chapter 'Simple Types'.
+/// Reads a leaf whose box begins at bit `bit`, inside of a box that ends at bit `stop`; the texts of the open lists are terminating
+/// markup. The characters of a string and the bytes of a hexBinary stand in the scratch then. A fault is want of memory for these. Chapter 'Simple Types'.
 pub(crate) fn read_leaf<L: Ledger>(
     leaf: Leaf<'_>,
+    lists: OpenLists<'_>,
     bit: u64,
     stop: u64,
     sight: &Window,
     scratch: &mut Scratch,
+    candidates: &mut Candidates,
     steps: &mut Steps<L>,
 ) -> Result<Glance, AllocError>
     requires base { sight.now.base ≤ bit / 8 }
@@ -100,7 +109,8 @@ pub(crate) fn read_leaf<L: Ledger>(
     requires bound { end_of sight.now ≤ 2 ^ 60 }
     requires sound { IsSound (primitive_of leaf) }
     requires room { has_room (primitive_of leaf) bit stop ≡ true }
-    ensures answers { IfOk result (λ g. Answers (ask (seen_at sight.now) (program (primitive_of leaf.entry) bit stop) nothing) scratch.new g (steps.new - steps.old)) }
+    ensures answers { IfOk result (λ g. (opened : List Opened) → Opens lists.entry opened
+        → Answers (ask (seen_at sight.now) (program opened (primitive_of leaf.entry) bit stop) nothing) scratch.new g (steps.new - steps.old)) }
     ensures steps { steps.old ≤ steps.new }
     ensures within { IfOk result (λ g. IsWithin g.found (end_of sight.now)) }
     ensures pieces { IfOk result (λ g. HasPiece g.found scratch.new) }
@@ -114,7 +124,9 @@ pub(crate) fn read_leaf<L: Ledger>(
             Ok(glance)
         }
         Leaf::Text { form, size } => {
-            let glance = read_string(form, size, bit, stop, sight, scratch, steps)?;
+            let glance = read_string(
+                form, size, lists, bit, stop, sight, scratch, candidates, steps,
+            )?;
             Ok(glance)
         }
         Leaf::NilOctets { form, bits } => {
@@ -122,7 +134,9 @@ pub(crate) fn read_leaf<L: Ledger>(
             Ok(glance)
         }
         Leaf::Default { form, size } => {
-            let glance = read_default(form, size, bit, scratch)?;
+            let glance = read_default(
+                form, size, lists, bit, stop, sight, scratch, candidates, steps,
+            )?;
             Ok(glance)
         }
         Leaf::NilValues(_) => Ok(Glance {
@@ -140,10 +154,12 @@ pub(crate) fn read_leaf<L: Ledger>(
 pub(crate) fn read_wanted<L: Ledger>(
     wanted: Wanted<'_>,
     leaf: Leaf<'_>,
+    lists: OpenLists<'_>,
     bit: u64,
     stop: u64,
     sight: &Window,
     scratch: &mut Scratch,
+    candidates: &mut Candidates,
     steps: &mut Steps<L>,
 ) -> Result<Glance, AllocError>
     requires base { sight.now.base ≤ bit / 8 }
@@ -151,12 +167,13 @@ pub(crate) fn read_wanted<L: Ledger>(
     requires bound { end_of sight.now ≤ 2 ^ 60 }
     requires sound { IsSound (primitive_of leaf) }
     requires room { has_room (primitive_of leaf) bit stop ≡ true }
-    ensures answers { IfOk result (λ g. Answers (ask (seen_at sight.now) (program_for (wanted_of wanted.entry) (primitive_of leaf.entry) bit stop) nothing) scratch.new g (steps.new - steps.old)) }
+    ensures answers { IfOk result (λ g. (opened : List Opened) → Opens lists.entry opened
+        → Answers (ask (seen_at sight.now) (program_for (wanted_of wanted.entry) opened (primitive_of leaf.entry) bit stop) nothing) scratch.new g (steps.new - steps.old)) }
     ensures steps { steps.old ≤ steps.new }
     ensures within { IfOk result (λ g. IsWithin g.found (end_of sight.now)) }
     ensures pieces { IfOk result (λ g. HasPiece g.found scratch.new) }
 {
-    let glance = read_leaf(leaf, bit, stop, sight, scratch, steps)?;
+    let glance = read_leaf(leaf, lists, bit, stop, sight, scratch, candidates, steps)?;
     match wanted {
         Wanted::Any => Ok(glance),
         Wanted::OneOf(values) => {
@@ -176,7 +193,7 @@ fn read_number<L: Ledger>(leaf: Leaf<'_>, bit: u64, sight: &Window, steps: &mut 
     requires bound { end_of sight.now ≤ 2 ^ 60 }
     requires sound { IsSound (primitive_of leaf) }
     requires number { IsNumber (primitive_of leaf) }
-    ensures answers { (stop : ℕ) (scratch : AnyScratch) → Answers (ask (seen_at sight.now) (program (primitive_of leaf.entry) bit stop) nothing) scratch result (steps.new - steps.old) }
+    ensures answers { (opened : List Opened) (stop : ℕ) (scratch : AnyScratch) → Answers (ask (seen_at sight.now) (program opened (primitive_of leaf.entry) bit stop) nothing) scratch result (steps.new - steps.old) }
     ensures steps { steps.old ≤ steps.new }
     ensures within { IsWithin result.found (end_of sight.now) }
     ensures piece { (scratch : AnyScratch) → HasPiece result.found scratch }

@@ -1,5 +1,5 @@
 // A row has ended, and what stands on the stack takes its end.
-ghost use Rattle.std.specs.Prelude.{◌≡◌, ◌^◌, ◌<◌, ◌≤◌, false, IfSome, OnOk, slice_get};
+ghost use Rattle.std.specs.Prelude.{replicate, ◌≡◌, ◌^◌, ◌<◌, ◌≤◌, false, IfSome, OnOk, slice_get};
 ghost use Rattle.dfdl_bits.specs.Window.{Held};
 ghost use Rattle.dfdl_grammar.specs.declared.end.End.TheVariants.{Done};
 ghost use Rattle.dfdl_grammar.specs.Elements.{left};
@@ -151,7 +151,7 @@ impl Parser {
     }
 }
 
-// The child of this place in a group.
+// The child of this place in a group or a repetition.
 fn child_of(terms: &Terms, group: RowId, place: usize) -> Option<RowId>
     ensures child { result ≡ slice_get (children_of (slice_get terms.now.rows group)) place }
     ensures few { IfSome result (λ _. place < 2 ^ 63) }
@@ -167,9 +167,23 @@ fn child_of(terms: &Terms, group: RowId, place: usize) -> Option<RowId>
         Row::Align { .. } => None,
         Row::Initiator { .. } => None,
         Row::Terminator { .. } => None,
+        Row::Separator => None,
         Row::Scope { .. } => None,
         Row::Boxed { .. } => None,
         Row::PrefixedLeaf { .. } => None,
         Row::PrefixedBox { .. } => None,
+        Row::Repeat { count, body } => repeated(*count, *body, place),
+    }
+}
+
+// The row of this place where a row stands so many times.
+fn repeated(count: u32, body: RowId, place: usize) -> Option<RowId>
+    ensures child { result ≡ slice_get (replicate count body) place }
+    ensures few { IfSome result (λ _. place < 2 ^ 63) }
+{
+    if place < count as usize {
+        Some(body)
+    } else {
+        None
     }
 }

@@ -8,6 +8,7 @@
 mod boxes;
 mod contents;
 mod defaults;
+mod delimited;
 pub mod frame;
 mod framing;
 mod landing;

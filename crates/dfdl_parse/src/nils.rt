@@ -124,9 +124,9 @@ fn are_nil(form: &NilForm, bytes: &[u8], places: &mut Vec<bool>) -> Result<bool,
     }
 }
 
-// Puts the bytes of characters into a list, in place of what it has, where the encoding has each of them, and answers
-// whether it has.
-fn put_encoded(
+/// Puts the bytes of characters into a list, in place of what it has, where the encoding has each of them, and answers
+/// whether it has.
+pub(crate) fn put_encoded(
     encoding: Encoding,
     characters: &[char],
     into: &mut Vec<u8>,

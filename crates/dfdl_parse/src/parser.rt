@@ -1,5 +1,5 @@
 // The machine: what is done next, the stack, and the state.
-ghost use Rattle.std.specs.Prelude.{◌≡◌, length, ◌+◌, ◌-◌, ◌*◌, ◌/◌, ◌^◌, ◌<◌, ◌≤◌, ◌↔◌, ◌∷◌, [], ℕ, List, true, false, IfOk, IfSome, OnOk, IsTrue, Some, slice_get};
+ghost use Rattle.std.specs.Prelude.{replicate, ◌≡◌, length, ◌+◌, ◌-◌, ◌*◌, ◌/◌, ◌^◌, ◌<◌, ◌≤◌, ◌↔◌, ◌∷◌, [], ℕ, List, true, false, IfOk, IfSome, OnOk, IsTrue, Some, slice_get};
 ghost use Rattle.dfdl_bits.specs.Window.{Held, end_of};
 ghost use Rattle.dfdl_grammar.specs.declared.end.End.{End as AnyEnd};
 ghost use Rattle.dfdl_grammar.specs.declared.end.End.TheVariants.{Done};
@@ -13,7 +13,7 @@ ghost use Rattle.dfdl_parse.specs.Steps.{Moved};
 ghost use Rattle.dfdl_parse.specs.Registered.{IsRegistered};
 ghost use Rattle.dfdl_parse.specs.Shown.{HasSameLimits, limits_of, state_of};
 
-use crate::frame::{Behind, Focus, Frame, Parts};
+use crate::frame::{Behind, Focus, Frame, Parts, Sought};
 use crate::framing::{aligned, last_bit, last_byte, look_beyond};
 use crate::leaf::Scratch;
 use crate::marks::Marks;
@@ -180,8 +180,8 @@ impl Parser {
                 let waits = self.read_sized(terms, prim, size, sight, steps)?;
                 Ok(waits)
             }
-            Focus::Seek { list, terminates } => {
-                let waits = self.seek(terms, list, terminates, sight, steps)?;
+            Focus::Seek { sought } => {
+                let waits = self.seek(terms, sought, sight, steps)?;
                 Ok(waits)
             }
             Focus::Leave(end) => {
@@ -202,6 +202,7 @@ impl Parser {
         requires focus { self.old.focus ≡ Focus.Enter id }
         requires base { IsHeld sight.old.base self.old.at (state_of self.old) }
         requires at { self.old.at ≤ 8 * end_of sight.old }
+        requires registered { IsRegistered terms.now self.old }
         ensures moved { IfOk result (λ waits. Moved
             (enter (limits_of self.old sight.old) terms.now sight.old id (slice_get terms.now.rows id) self.old.stack (state_of self.old))
             waits self.old.far self.new sight.new (steps.new - steps.old)) }
@@ -247,11 +248,20 @@ impl Parser {
                 Ok(false)
             }
             Row::Initiator { delimiter } => {
-                self.begin_delimiter(*delimiter, false);
+                self.begin_initiator(*delimiter);
                 Ok(false)
             }
-            Row::Terminator { delimiter } => {
-                self.begin_delimiter(*delimiter, true);
+            Row::Terminator {
+                delimiter,
+                separator,
+            } => {
+                self.begin_terminator(*delimiter, *separator);
+                Ok(false)
+            }
+            Row::Separator => {
+                self.focus = Focus::Seek {
+                    sought: Sought::Separator,
+                };
                 Ok(false)
             }
             Row::Scope { list, body } => {
@@ -272,6 +282,10 @@ impl Parser {
                 let behind = Behind::Box(*body);
                 let waits = self.begin_prefix(terms, id, prefix, behind, sight, steps)?;
                 Ok(waits)
+            }
+            Row::Repeat { count, body } => {
+                self.first_time(id, *count, *body)?;
+                Ok(false)
             }
         }
     }
@@ -358,6 +372,22 @@ impl Parser {
                 self.stack.push(Frame::Rest { group: id, next: 1 })?;
                 self.focus = Focus::Enter(*child);
             }
+        }
+        Ok(())
+    }
+
+    // A row that stands so many times begins: its first time is done next, if there is one.
+    fn first_time(&mut self, id: RowId, count: u32, body: RowId) -> Result<(), AllocError>
+        ensures moved { (held : Held) → OnOk result (Moved
+            (enter_group held id (replicate count body) self.old.stack (state_of self.old)) false self.old.far self.new held 0) }
+        ensures most { OnOk result (HasSameLimits self.old self.new) }
+        ensures at { OnOk result (self.new.at ≡ self.old.at) }
+    {
+        if count == 0 {
+            self.focus = Focus::Leave(End::Done);
+        } else {
+            self.stack.push(Frame::Rest { group: id, next: 1 })?;
+            self.focus = Focus::Enter(body);
         }
         Ok(())
     }

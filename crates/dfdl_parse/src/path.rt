@@ -1,13 +1,16 @@
 // The path of an element, from the innermost name outwards.
-ghost use Rattle.std.specs.Prelude.{◌≡◌, ◌<◌, ◌≤◌, ◌++◌, ℕ, List, length, IfOk, IfSome, OnOk, codes, slice_get, string_bytes};
-ghost use Rattle.dfdl_grammar.specs.Paths.{node_name, outer_of, path_of, path_within};
+ghost use Rattle.std.specs.Prelude.{◌≡◌, ◌<◌, ◌≤◌, ◌++◌, ℕ, List, length, IfOk, IfSome, OnOk, Some, codes, slice_get, string_bytes};
+ghost use Rattle.dfdl_terms.specs.Rows.{Table};
+ghost use Rattle.dfdl_terms.specs.Arrays.{MarksItems};
+ghost use Rattle.dfdl_grammar.specs.Paths.{node_name, outer_of, path_of, path_within, place_of, place_text, stand_together, step_to};
 ghost use Rattle.dfdl_parse.specs.Named.{named};
 
 use dfdl_region::Node;
-use dfdl_terms::{Row, Terms};
+use dfdl_terms::{Items, Row, Terms};
 use std::alloc::{AllocError, Global};
 
-/// The path of the element of this number: the names from the root element down to it, each behind a `/`.
+/// The path of the element of this number: the names from the root element down to it, each behind a `/`, and behind the name
+/// of an item its place in its array, counted from 1, in brackets.
 pub(crate) fn path_of(
     alloc: Global,
     terms: &Terms,
@@ -25,16 +28,19 @@ pub(crate) fn path_of(
         left -= 1;
     }
     numbers.push(inner)?;
-    written(alloc, terms, nodes, numbers)
+    let items = Items::of(alloc, terms)?;
+    written(alloc, terms, &items, nodes, numbers)
 }
 
-// The names of the elements of these numbers from the last one on, each behind a `/`.
+// The steps of a path to the elements of these numbers, from the last one on.
 fn written(
     alloc: Global,
     terms: &Terms,
+    items: &Items,
     nodes: &[Node],
     numbers: Vec<u32>,
 ) -> Result<String, AllocError>
+    requires { MarksItems terms.now.rows items.now }
     ensures { IfOk result (λ text. string_bytes text ≡ named terms.now nodes.now numbers.items) }
 {
     let mut numbers = numbers;
@@ -45,6 +51,7 @@ fn written(
             Some(number) => {
                 text.push_str("/")?;
                 push_name(&mut text, terms, nodes, number)?;
+                push_place(alloc, &mut text, items, nodes, number)?;
             }
         }
     }
@@ -76,11 +83,56 @@ fn push_name(
         Row::Align { .. } => Ok(()),
         Row::Initiator { .. } => Ok(()),
         Row::Terminator { .. } => Ok(()),
+        Row::Separator => Ok(()),
         Row::Scope { .. } => Ok(()),
         Row::Boxed { .. } => Ok(()),
         Row::PrefixedLeaf { .. } => Ok(()),
         Row::PrefixedBox { .. } => Ok(()),
+        Row::Repeat { .. } => Ok(()),
     }
+}
+
+// Puts the place of an item in its array behind a text, in brackets; of no other element.
+fn push_place(
+    alloc: Global,
+    text: &mut String,
+    items: &Items,
+    nodes: &[Node],
+    number: u32,
+) -> Result<(), AllocError>
+    ensures { OnOk result ((t : Table) → MarksItems t.rows items.now
+        → string_bytes text.new ≡ string_bytes text.old ++ place_text t nodes.now number (slice_get nodes.now number)) }
+{
+    let Some(node) = nodes.get(number as usize) else {
+        return Ok(());
+    };
+    if items.has(node.element) {
+        text.push_str("[")?;
+        text.push_str(place_of(nodes, number, node).to_string(alloc)?.as_str())?;
+        text.push_str("]")?;
+    }
+    Ok(())
+}
+
+// How many elements of an element's row there are in the element that it stands in, up to and with it.
+fn place_of(nodes: &[Node], number: u32, node: &Node) -> u64
+    requires { number < length nodes.now }
+    ensures { result ≡ place_of nodes.now number node.now }
+{
+    let mut place = 0;
+    for at in 0..number as usize + 1 {
+        if stand_together(node, &nodes[at]) {
+            place += 1;
+        }
+    }
+    place
+}
+
+// Whether two elements are of the same row, in the same element.
+fn stand_together(one: &Node, other: &Node) -> bool
+    ensures { result ≡ stand_together one.now other.now }
+{
+    one.element.number() == other.element.number() && one.parent == other.parent
 }
 
 // The number of the element that an element stands in.

@@ -2,6 +2,7 @@
 ghost use Rattle.std.specs.Prelude.{◌≡◌, ℕ, ◌+◌, ◌-◌, ◌*◌, ◌/◌, ◌^◌, ◌<◌, ◌≤◌, Some, true, false, IfOk, IfSome, IfNone, OnOk, length, slice_get};
 ghost use Rattle.dfdl_bits.specs.Window.{Held, end_of, from_byte, seen_at};
 ghost use Rattle.dfdl_terms.specs.declared.row.Primitive.{Primitive as AnyPrimitive};
+ghost use Rattle.dfdl_grammar.specs.Delimiters.{lists_of, markup};
 ghost use Rattle.dfdl_grammar.specs.Leaves.{Find, content_begins, has_room, nil_values, program};
 ghost use Rattle.dfdl_grammar.specs.Prefixes.{bits_of_units, size_of, units_left, units_told};
 ghost use Rattle.dfdl_looks.specs.Asks.{Reading, ask};
@@ -10,6 +11,7 @@ ghost use Rattle.dfdl_grammar.specs.States.{anchor};
 ghost use Rattle.dfdl_parse.specs.Opens.{IsHeld};
 ghost use Rattle.dfdl_parse.specs.Prefixed.{behind_units, can_fit, prefix_move, read_prefix, read_sized, sized_begins, units_begin};
 ghost use Rattle.dfdl_parse.specs.Steps.{Answers, IsWithin, Moved};
+ghost use Rattle.dfdl_parse.specs.Registered.{IsRegistered};
 ghost use Rattle.dfdl_parse.specs.Shown.{Becomes, HasSameLimits, limits_of, state_of};
 ghost use Rattle.dfdl_parse.specs.Views.{IsSound, primitive_of};
 
@@ -41,9 +43,10 @@ impl Parser {
         requires focus { self.old.focus ≡ Focus.Enter id }
         requires base { IsHeld sight.old.base self.old.at (state_of self.old) }
         requires at { self.old.at ≤ 8 * end_of sight.old }
+        requires registered { IsRegistered terms.now self.old }
         requires by { prefix.now.prim < length terms.now.primitives }
         ensures moved { IfOk result (λ waits. Moved
-            (read_prefix (limits_of self.old sight.old) id sight.old prefix.now.own (behind_units terms.now.primitives prefix.now.unit behind)
+            (read_prefix (limits_of self.old sight.old) id sight.old terms.now.delimiters prefix.now.own (behind_units terms.now.primitives prefix.now.unit behind)
             (slice_get terms.now.primitives prefix.now.prim) self.old.stack (state_of self.old))
             waits self.old.far self.new sight.new (steps.new - steps.old)) }
         ensures steps { steps.old ≤ steps.new }
@@ -73,12 +76,14 @@ impl Parser {
     ) -> Result<bool, AllocError>
         requires base { IsHeld sight.old.base self.old.at (state_of self.old) }
         requires at { self.old.at ≤ 8 * end_of sight.old }
+        requires registered { IsRegistered terms.now self.old }
         requires sound { IsSound (primitive_of leaf) }
         requires room { has_room (primitive_of leaf) self.old.at self.old.stop ≡ true }
         ensures moved { IfOk result (λ waits. (id : ℕ) → self.old.focus ≡ Focus.Enter id → Moved
             (prefix_move (limits_of self.old sight.old) id prefix.own (content_begins (primitive_of leaf.entry) self.old.at)
             (behind_units terms.now.primitives prefix.unit behind) (from_byte sight.old (anchor (state_of self.old)))
-            (ask (seen_at (from_byte sight.old (anchor (state_of self.old)))) (program (primitive_of leaf.entry) self.old.at self.old.stop) nothing)
+            (ask (seen_at (from_byte sight.old (anchor (state_of self.old))))
+            (program (lists_of terms.now.delimiters (markup (state_of self.old))) (primitive_of leaf.entry) self.old.at self.old.stop) nothing)
             self.old.stack (state_of self.old))
             waits self.old.far self.new sight.new (steps.new - steps.old)) }
         ensures steps { steps.old ≤ steps.new }
@@ -223,8 +228,9 @@ impl Parser {
         requires focus { self.old.focus ≡ Focus.Sized prim size }
         requires base { IsHeld sight.old.base self.old.at (state_of self.old) }
         requires at { self.old.at ≤ 8 * end_of sight.old }
+        requires registered { IsRegistered terms.now self.old }
         ensures moved { IfOk result (λ waits. Moved
-            (read_sized (limits_of self.old sight.old) sight.old prim size (nil_values terms.now.primitives self.old.instead) (slice_get terms.now.primitives prim) self.old.stack (state_of self.old))
+            (read_sized (limits_of self.old sight.old) sight.old terms.now.delimiters prim size (nil_values terms.now.primitives self.old.instead) (slice_get terms.now.primitives prim) self.old.stack (state_of self.old))
             waits self.old.far self.new sight.new (steps.new - steps.old)) }
         ensures steps { steps.old ≤ steps.new }
         ensures most { OnOk result (HasSameLimits self.old self.new) }

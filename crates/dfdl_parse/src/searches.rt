@@ -1,20 +1,21 @@
 // A delimiter begins, and is sought.
-ghost use Rattle.std.specs.Prelude.{◌≡◌, ℕ, ◌+◌, ◌-◌, ◌*◌, ◌/◌, ◌≤◌, ◌<◌, false, true, IfOk, OnOk, length};
+ghost use Rattle.std.specs.Prelude.{◌≡◌, ℕ, ◌+◌, ◌-◌, ◌*◌, ◌/◌, ◌≤◌, ◌<◌, ◌++◌, ◌∷◌, false, IfOk, OnOk, All, length};
 ghost use Rattle.dfdl_bits.specs.Window.{Held, end_of, seen_at};
 ghost use Rattle.dfdl_looks.specs.Asks.{Reading, ask};
 ghost use Rattle.dfdl_looks.specs.Tallies.{nothing};
 ghost use Rattle.dfdl_delims.specs.Longest.{Answers, Longest};
-ghost use Rattle.dfdl_grammar.specs.Delimiters.{sought_among, stands_in};
+ghost use Rattle.dfdl_grammar.specs.Delimiters.{numbers_of, sought_among, stands_in};
 ghost use Rattle.dfdl_grammar.specs.Framing.{aligned};
 ghost use Rattle.dfdl_parse.specs.Opens.{IsHeld};
 ghost use Rattle.dfdl_parse.specs.Registered.{IsRegistered};
-ghost use Rattle.dfdl_parse.specs.Searches.{EndsWithin, among, cause_of, enter_delimiter, first_open, place_of, search, search_move};
+ghost use Rattle.dfdl_parse.specs.Searches.{EndsWithin, among, cause_of, enter_delimiter, first_open, place_of, put_behind, search, search_move};
 ghost use Rattle.dfdl_parse.specs.Steps.{Moved};
 ghost use Rattle.dfdl_parse.specs.Shown.{HasSameLimits, limits_of, state_of};
 
-use crate::frame::Focus;
+use crate::frame::{Focus, Sought};
 use crate::framing::aligned;
 use crate::parser::Parser;
+use crate::scopes::Scopes;
 use dfdl_bits::{Steps, Window};
 use dfdl_delims::longest::longest;
 use dfdl_delims::{Found, Glance, OpenLists};
@@ -25,38 +26,67 @@ use std::alloc::AllocError;
 use std::sync::ledger::Ledger;
 
 impl Parser {
-    // A delimiter begins: it is sought next, where it stands in the representation that is tried.
-    pub(crate) fn begin_delimiter(&mut self, delimiter: Delimiter, terminates: bool)
+    // An initiator begins.
+    pub(crate) fn begin_initiator(&mut self, delimiter: Delimiter)
         ensures moved { (held : Held) → Moved
-            (enter_delimiter held delimiter terminates self.old.stack (state_of self.old)) false self.old.far self.new held 0 }
+            (enter_delimiter held delimiter (Sought.Initiator delimiter.list) self.old.stack (state_of self.old))
+            false self.old.far self.new held 0 }
+        ensures most { HasSameLimits self.old self.new }
+        ensures at { self.new.at ≡ self.old.at }
+    {
+        self.begin_delimiter(
+            delimiter,
+            Sought::Initiator {
+                list: delimiter.list,
+            },
+        );
+    }
+
+    // A terminator begins, of a component that may have separators of this list.
+    pub(crate) fn begin_terminator(&mut self, delimiter: Delimiter, separator: Option<u32>)
+        ensures moved { (held : Held) → Moved
+            (enter_delimiter held delimiter (Sought.Terminator delimiter.list separator) self.old.stack (state_of self.old))
+            false self.old.far self.new held 0 }
+        ensures most { HasSameLimits self.old self.new }
+        ensures at { self.new.at ≡ self.old.at }
+    {
+        self.begin_delimiter(
+            delimiter,
+            Sought::Terminator {
+                list: delimiter.list,
+                separator,
+            },
+        );
+    }
+
+    // A delimiter begins: it is sought next, where it stands in the representation that is tried.
+    fn begin_delimiter(&mut self, delimiter: Delimiter, sought: Sought)
+        ensures moved { (held : Held) → Moved
+            (enter_delimiter held delimiter sought self.old.stack (state_of self.old)) false self.old.far self.new held 0 }
         ensures most { HasSameLimits self.old self.new }
         ensures at { self.new.at ≡ self.old.at }
     {
         if stands_in(self.instead, delimiter) {
-            self.focus = Focus::Seek {
-                list: delimiter.list,
-                terminates,
-            };
+            self.focus = Focus::Seek { sought };
         } else {
             self.focus = Focus::Leave(End::Done);
         }
     }
 
-    // A text of a list is sought at the next whole byte.
+    // A delimiter is sought at the next whole byte.
     pub(crate) fn seek<L: Ledger>(
         &mut self,
         terms: &Terms,
-        list: u32,
-        terminates: bool,
+        sought: Sought,
         sight: &mut Window,
         steps: &mut Steps<L>,
     ) -> Result<bool, AllocError>
-        requires focus { self.old.focus ≡ Focus.Seek list terminates }
+        requires focus { self.old.focus ≡ Focus.Seek sought }
         requires base { IsHeld sight.old.base (aligned 8 self.old.at) (state_of self.old) }
         requires at { self.old.at ≤ 8 * end_of sight.old }
         requires registered { IsRegistered terms.now self.old }
         ensures moved { IfOk result (λ waits. Moved
-            (search (limits_of self.old sight.old) terms.now.delimiters sight.old list terminates self.old.stack (state_of self.old))
+            (search (limits_of self.old sight.old) terms.now.delimiters sight.old sought self.old.stack (state_of self.old))
             waits self.old.far self.new sight.new (steps.new - steps.old)) }
         ensures steps { steps.old ≤ steps.new }
         ensures most { OnOk result (HasSameLimits self.old self.new) }
@@ -65,16 +95,15 @@ impl Parser {
         let _end = sight.end();
         let bit = aligned(8, self.at);
         sight.drop_before(self.anchor_at(bit));
-        let glance = self.glance_at_text(terms, list, terminates, bit, sight, steps)?;
-        Ok(self.pass_text(terminates, glance, bit, sight))
+        let glance = self.glance_at_text(terms, sought, bit, sight, steps)?;
+        Ok(self.pass_text(sought, glance, bit, sight))
     }
 
     // The longest text is found at a bit that is a whole byte. What it comes to isn't taken.
     fn glance_at_text<L: Ledger>(
         &mut self,
         terms: &Terms,
-        list: u32,
-        terminates: bool,
+        sought: Sought,
         bit: u64,
         sight: &Window,
         steps: &mut Steps<L>,
@@ -83,9 +112,9 @@ impl Parser {
         requires base { sight.now.base ≤ bit / 8 }
         requires at { self.old.at ≤ 8 * end_of sight.now }
         requires registered { IsRegistered terms.now self.old }
-        requires named { list < length terms.now.delimiters }
+        requires named { All (λ n. n < length terms.now.delimiters) (put_behind sought) }
         ensures answers { IfOk result (λ glance. Answers
-            (ask (seen_at sight.now) (sought_among (among terms.now.delimiters list terminates (state_of self.old)) self.old.at self.old.stop) nothing)
+            (ask (seen_at sight.now) (sought_among (among terms.now.delimiters sought (state_of self.old)) self.old.at self.old.stop) nothing)
             glance (steps.new - steps.old)) }
         ensures within { IfOk result (λ glance. EndsWithin glance.found bit (end_of sight.now)) }
         ensures steps { steps.old ≤ steps.new }
@@ -93,8 +122,8 @@ impl Parser {
     {
         let _tables = terms.tables();
         let count = self.lists.len();
-        let from = self.first_open(terminates);
-        self.lists.push(list)?;
+        let from = self.first_open(sought);
+        put_behind(&mut self.lists, sought)?;
         let lists = OpenLists {
             markup: &self.markup,
             numbers: self.lists.from(from),
@@ -106,32 +135,32 @@ impl Parser {
     }
 
     // How many of the open lists stand before those among whose texts one is sought.
-    fn first_open(&self, terminates: bool) -> usize
-        ensures { result ≡ first_open terminates (state_of self.now) }
+    fn first_open(&self, sought: Sought) -> usize
+        ensures { result ≡ first_open sought (state_of self.now) }
     {
         let count = self.lists.len();
-        if terminates {
-            self.hidden.min(count)
-        } else {
-            count
+        match sought {
+            Sought::Initiator { .. } => count,
+            Sought::Terminator { .. } => self.hidden.min(count),
+            Sought::Separator => self.hidden.min(count),
         }
     }
 
     // What a search has found at a bit that is a whole byte is taken.
-    fn pass_text(&mut self, terminates: bool, glance: Glance, bit: u64, sight: &Window) -> bool
+    fn pass_text(&mut self, sought: Sought, glance: Glance, bit: u64, sight: &Window) -> bool
         requires within { EndsWithin glance.found bit (end_of sight.now) }
         ensures moved { (held : Held) (looks : ℕ) (reading : Reading Longest) → Answers reading glance looks → bit ≡ aligned 8 self.old.at
-            → Moved (search_move sight.now.size self.old.focus (cause_of terminates) (place_of terminates (state_of self.old)) held reading
+            → Moved (search_move sight.now.size self.old.focus (cause_of sought) (place_of sought (state_of self.old)) held reading
             self.old.stack (state_of self.old)) result self.old.far self.new held looks }
         ensures most { HasSameLimits self.old self.new }
         ensures at { self.old.at ≤ 8 * end_of sight.now → self.new.at ≤ 8 * end_of sight.now }
     {
         let _end = sight.end();
-        let cause = cause_of(terminates);
+        let cause = cause_of(sought);
         match glance.found {
             Found::NotYet => return true,
             Found::Match { which, bits } => {
-                if which == self.place_of(terminates) && 0 < bits {
+                if which == self.place_of(sought) && 0 < bits {
                     self.at = bit + bits;
                     self.focus = Focus::Leave(End::Done);
                 } else {
@@ -146,25 +175,48 @@ impl Parser {
     }
 
     // The place of the list that is sought among those whose texts are found.
-    fn place_of(&self, terminates: bool) -> usize
-        ensures { result ≡ place_of terminates (state_of self.now) }
+    fn place_of(&self, sought: Sought) -> usize
+        ensures { result ≡ place_of sought (state_of self.now) }
     {
-        if terminates {
-            self.lists.from(self.hidden).len()
-        } else {
-            0
+        let open = self.lists.from(self.hidden).len();
+        match sought {
+            Sought::Initiator { .. } => 0,
+            Sought::Terminator { .. } => open,
+            Sought::Separator => open.saturating_sub(1),
         }
     }
 }
 
-// Why a search fails that finds no text.
-fn cause_of(terminates: bool) -> ParseCause
-    ensures { result ≡ cause_of terminates }
+// Puts the lists that are sought too behind those that are open.
+fn put_behind(lists: &mut Scopes, sought: Sought) -> Result<(), AllocError>
+    ensures { OnOk result (lists.new ≡ lists.old ++ put_behind sought) }
 {
-    if terminates {
-        ParseCause::TerminatorMissing
-    } else {
-        ParseCause::InitiatorMissing
+    match sought {
+        Sought::Initiator { list } => lists.push(list),
+        Sought::Terminator { list, separator } => put_both(lists, list, separator),
+        Sought::Separator => Ok(()),
+    }
+}
+
+// Puts a list, and another one, if there is one, behind those that are open.
+fn put_both(lists: &mut Scopes, list: u32, other: Option<u32>) -> Result<(), AllocError>
+    ensures { OnOk result (lists.new ≡ lists.old ++ list ∷ numbers_of other) }
+{
+    lists.push(list)?;
+    match other {
+        Some(number) => lists.push(number),
+        None => Ok(()),
+    }
+}
+
+// Why a search fails that finds no text.
+fn cause_of(sought: Sought) -> ParseCause
+    ensures { result ≡ cause_of sought }
+{
+    match sought {
+        Sought::Initiator { .. } => ParseCause::InitiatorMissing,
+        Sought::Terminator { .. } => ParseCause::TerminatorMissing,
+        Sought::Separator => ParseCause::SeparatorMissing,
     }
 }
 

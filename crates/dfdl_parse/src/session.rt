@@ -235,7 +235,8 @@ impl<'t> Session<'t> {
         self.parser.inside
     }
 
-    /// The path of the innermost element that is open: its names from the root element down, each behind a `/`.
+    /// The path of the innermost element that is open: its names from the root element down, each behind a `/`, and behind the
+    /// name of an item its place in its array, counted from 1, in brackets.
     pub fn path(&self, alloc: Global) -> Result<String, AllocError>
         ensures { IfOk result (λ text. string_bytes text
             ≡ path_of self.now.terms.now self.now.parser.region.nodes self.now.parser.inside) }

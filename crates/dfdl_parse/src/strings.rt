@@ -1,6 +1,8 @@
 // The characters of a text.
-ghost use Rattle.std.specs.Prelude.{◌≡◌, ℕ, ◌+◌, ◌-◌, ◌*◌, ◌/◌, ◌^◌, ◌<◌, ◌≤◌, IfOk, true};
+ghost use Rattle.std.specs.Prelude.{◌≡◌, ℕ, ◌+◌, ◌-◌, ◌*◌, ◌/◌, ◌^◌, ◌<◌, ◌≤◌, IfOk, List, true};
 ghost use Rattle.dfdl_bits.specs.Window.{end_of, seen_at};
+ghost use Rattle.dfdl_delims.specs.Lists.{Opened};
+ghost use Rattle.dfdl_delims.specs.Opening.{Opens};
 ghost use Rattle.dfdl_terms.specs.declared.row.Primitive.TheVariants.{Text};
 ghost use Rattle.dfdl_terms.specs.Rows.{IsTextContent};
 ghost use Rattle.dfdl_grammar.specs.Leaves.{bits_of_text, has_room, text_behind, text_find, text_of_size};
@@ -13,10 +15,12 @@ ghost use Rattle.dfdl_parse.specs.Strings.{EndsBefore, text_reached};
 ghost use Rattle.dfdl_parse.specs.Views.{text_of};
 
 use crate::contents::content_found;
+use crate::delimited::read_delimited;
 use crate::framing::aligned;
 use crate::leaf::{Found, Glance, Scratch};
 use crate::view::text_begins;
 use dfdl_bits::{Steps, Window};
+use dfdl_delims::{Candidates, OpenLists};
 use dfdl_report::ParseCause;
 use dfdl_terms::{TextForm, TextSize};
 use dfdl_text_string::trim;
@@ -24,15 +28,17 @@ use dfdl_texts::{Extent, Found as TextFound, read_text};
 use std::alloc::AllocError;
 use std::sync::ledger::Ledger;
 
-/// Reads a text of a size whose box begins at a bit, inside of a box that ends at another bit. Its characters stand in the
-/// scratch then, before they are trimmed.
+/// Reads a text of a size whose box begins at a bit, inside of a box that ends at another bit; the texts of the open lists are
+/// terminating markup. Its characters stand in the scratch then.
 pub(crate) fn read_string<L: Ledger>(
     form: &TextForm,
     size: TextSize,
+    lists: OpenLists<'_>,
     bit: u64,
     stop: u64,
     sight: &Window,
     scratch: &mut Scratch,
+    candidates: &mut Candidates,
     steps: &mut Steps<L>,
 ) -> Result<Glance, AllocError>
     requires base { sight.now.base ≤ bit / 8 }
@@ -40,7 +46,8 @@ pub(crate) fn read_string<L: Ledger>(
     requires bound { end_of sight.now ≤ 2 ^ 60 }
     requires content { IsTextContent form.now.content }
     requires room { has_room (Text (text_of form.now size)) bit stop ≡ true }
-    ensures answers { IfOk result (λ g. Answers (ask (seen_at sight.now) (text_of_size (text_of form.now size) size bit stop) nothing) scratch.new g (steps.new - steps.old)) }
+    ensures answers { IfOk result (λ g. (opened : List Opened) → Opens lists.entry opened
+        → Answers (ask (seen_at sight.now) (text_of_size (text_of form.now size) size opened bit stop) nothing) scratch.new g (steps.new - steps.old)) }
     ensures steps { steps.old ≤ steps.new }
     ensures within { IfOk result (λ g. IsWithin g.found (end_of sight.now)) }
     ensures pieces { IfOk result (λ g. HasPiece g.found scratch.new) }
@@ -80,6 +87,12 @@ pub(crate) fn read_string<L: Ledger>(
                 sight,
                 scratch,
                 steps,
+            )?;
+            Ok(glance)
+        }
+        TextSize::Delimited(scan) => {
+            let glance = read_delimited(
+                form, scan, lists, bit, stop, sight, scratch, candidates, steps,
             )?;
             Ok(glance)
         }
@@ -165,5 +178,6 @@ fn text_behind(size: TextSize, bit: u64, end: u64) -> u64
     match size {
         TextSize::Bits(bits) => bit + bits,
         TextSize::Characters(_) => 8 * end,
+        TextSize::Delimited(_) => 8 * end,
     }
 }

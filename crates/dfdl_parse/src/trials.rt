@@ -285,9 +285,11 @@ pub(crate) fn parts_of(terms: &Terms, id: RowId) -> Option<Parts>
         Row::Align { .. } => None,
         Row::Initiator { .. } => None,
         Row::Terminator { .. } => None,
+        Row::Separator => None,
         Row::Scope { .. } => None,
         Row::Boxed { .. } => None,
         Row::PrefixedLeaf { .. } => None,
         Row::PrefixedBox { .. } => None,
+        Row::Repeat { .. } => None,
     }
 }

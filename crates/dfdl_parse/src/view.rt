@@ -3,7 +3,7 @@ ghost use Rattle.std.specs.Prelude.{◌≡◌, ◌*◌, ◌^◌, ◌≤◌, Some
 ghost use Rattle.dfdl_forms.specs.BinaryNumbers.{IsIntForm, IsPackedForm, IsTruthForm};
 ghost use Rattle.dfdl_terms.specs.declared.row.Primitive.TheVariants.{Integer, Packed, Truth, Octets, NilOctets as PlacedNil};
 ghost use Rattle.dfdl_terms.specs.Rows.{IsPrimitive};
-ghost use Rattle.dfdl_grammar.specs.Leaves.{bits_of, content_begins, content_ends, empty_begins, has_room, text_begins, text_ends};
+ghost use Rattle.dfdl_grammar.specs.Leaves.{bits_of, content_begins, content_ends, default_begins, empty_begins, has_room, text_begins, text_ends};
 ghost use Rattle.dfdl_grammar.specs.Prefixes.{resized};
 ghost use Rattle.dfdl_parse.specs.Steps.{IsNumber};
 ghost use Rattle.dfdl_parse.specs.Views.{IsSound, primitive_of};
@@ -121,7 +121,7 @@ pub(crate) fn content_begins(leaf: Leaf<'_>, bit: u64) -> u64
         Leaf::Octets(_) => bit,
         Leaf::Text { form, size } => text_begins(&form.content, size, bit),
         Leaf::NilOctets { .. } => bit,
-        Leaf::Default { .. } => bit,
+        Leaf::Default { size, .. } => default_begins(size, bit),
         Leaf::NilValues(_) => bit,
         Leaf::Pattern(_) => bit,
     }
@@ -136,6 +136,19 @@ pub(crate) fn text_begins(content: &TextContent, size: TextSize, bit: u64) -> u6
         TextSize::Bits(0) => empty_begins(content, bit),
         TextSize::Bits(_) => aligned(8, bit),
         TextSize::Characters(_) => aligned(8, bit),
+        TextSize::Delimited(_) => aligned(8, bit),
+    }
+}
+
+// The bit at which an empty representation begins whose box begins at this one.
+fn default_begins(size: TextSize, bit: u64) -> u64
+    requires { bit ≤ 2 ^ 63 }
+    ensures begin { result ≡ default_begins size bit }
+{
+    match size {
+        TextSize::Bits(_) => bit,
+        TextSize::Characters(_) => bit,
+        TextSize::Delimited(_) => aligned(8, bit),
     }
 }
 
@@ -147,6 +160,7 @@ fn empty_begins(content: &TextContent, bit: u64) -> u64
 {
     match content {
         TextContent::Plain => bit,
+        TextContent::Octets => aligned(8, bit),
         TextContent::Number { .. } => aligned(8, bit),
         TextContent::Zoned(_) => aligned(8, bit),
         TextContent::Truth(_) => aligned(8, bit),
@@ -181,6 +195,7 @@ fn text_ends(size: TextSize, bit: u64, stop: u64) -> Option<u64>
     match size {
         TextSize::Bits(bits) => bit.checked_add(bits),
         TextSize::Characters(_) => Some(stop),
+        TextSize::Delimited(_) => Some(stop),
     }
 }
 
@@ -217,6 +232,7 @@ fn integer_in_box<'p>(form: IntForm, size: TextSize) -> Option<Leaf<'p>>
             None => None,
         },
         TextSize::Characters(_) => None,
+        TextSize::Delimited(_) => None,
     }
 }
 
@@ -232,6 +248,7 @@ fn packed_in_box<'p>(form: PackedForm, size: TextSize) -> Option<Leaf<'p>>
             None => None,
         },
         TextSize::Characters(_) => None,
+        TextSize::Delimited(_) => None,
     }
 }
 
@@ -247,6 +264,7 @@ fn truth_in_box<'p>(form: BitTruthForm, size: TextSize) -> Option<Leaf<'p>>
             None => None,
         },
         TextSize::Characters(_) => None,
+        TextSize::Delimited(_) => None,
     }
 }
 
@@ -262,6 +280,7 @@ fn octets_in_box<'p>(form: OctetForm, size: TextSize) -> Option<Leaf<'p>>
             bits_by: form.bits_by,
         })),
         TextSize::Characters(_) => None,
+        TextSize::Delimited(_) => None,
     }
 }
 
@@ -274,5 +293,6 @@ fn nil_in_box<'p>(form: &'p NilOctets, size: TextSize) -> Option<Leaf<'p>>
     match size {
         TextSize::Bits(bits) => Some(Leaf::NilOctets { form, bits }),
         TextSize::Characters(_) => None,
+        TextSize::Delimited(_) => None,
     }
 }

@@ -1,17 +1,17 @@
 -- How a row is laid, by its kind.
-use Rattle.std.proofs.Common.{◌≡◌, ℕ, ◌+◌, ◌<◌, List, [], ◌∷◌, ◌++◌, All, map, None, Some, slice_get, refl, ap, ◌∙◌, arith}
+use Rattle.std.proofs.Common.{◌≡◌, ℕ, ◌+◌, ◌<◌, List, [], ◌∷◌, ◌++◌, All, map, None, Some, slice_get, refl, ap, ◌∙◌, arith, Option}
 use Rattle.std.proofs.lemmas.List.Elements.{All-head, All-tail}
 use Rattle.dfdl_forms.specs.declared.simple.Simple.{Simple as SimpleType}
 use Rattle.dfdl_terms.specs.declared.representations.Representations.{Representations}
 use Rattle.dfdl_terms.specs.Rows.{Table}
 use Rattle.dfdl_terms.specs.declared.delimiters.Delimiter.{Delimiter}
 use Rattle.dfdl_terms.specs.declared.prefix.Prefix.{Prefix}
-use Rattle.dfdl_terms.specs.declared.row.Row.TheVariants.{Leaf, Elem, Group, Skip, Align, Initiator, Terminator, Scope, Boxed, PrefixedLeaf, PrefixedBox}
+use Rattle.dfdl_terms.specs.declared.row.Row.TheVariants.{Leaf, Elem, Group, Skip, Align, Initiator, Terminator, Separator, Scope, Boxed, PrefixedLeaf, PrefixedBox, Repeat}
 use Rattle.dfdl_json.specs.ByRows.{below}
 use Rattle.dfdl_json.specs.Paths.{Names}
 use Rattle.dfdl_json.specs.Steps.{steps_of, total}
 use Rattle.dfdl_json.proofs.RowValues.{row_is, below_is}
-use Rattle.dfdl_json.proofs.Declares.{elem_steps, group_steps}
+use Rattle.dfdl_json.proofs.Declares.{elem_steps, group_steps, repeat_steps}
 use Rattle.dfdl_json.proofs.Below.{some_steps}
 use Rattle.dfdl_pieces.specs.Laying.{Laying, Takes, begins, begun_laying, form_at, in_turn, laying, laying_by, value_for, value_laying}
 use Rattle.dfdl_pieces.specs.Unparsing.{left, steps_left}
@@ -55,8 +55,11 @@ module _ (t : Table) (row : ℕ) (around : Names) (more : Laying) where
   pub laid_initiator : (delimiter : Delimiter) → slice_get t.rows row ≡ Some (Initiator delimiter) → laying t row around more ≡ more
   laid_initiator delimiter is = ap (λ (h : Names → Laying → Laying). h around more) (row_is (laying_by t) (λ a m. m) t.rows row (Some (Initiator delimiter)) is)
 
-  pub laid_terminator : (delimiter : Delimiter) → slice_get t.rows row ≡ Some (Terminator delimiter) → laying t row around more ≡ more
-  laid_terminator delimiter is = ap (λ (h : Names → Laying → Laying). h around more) (row_is (laying_by t) (λ a m. m) t.rows row (Some (Terminator delimiter)) is)
+  pub laid_terminator : (delimiter : Delimiter) (separators : Option ℕ) → slice_get t.rows row ≡ Some (Terminator delimiter separators) → laying t row around more ≡ more
+  laid_terminator delimiter separators is = ap (λ (h : Names → Laying → Laying). h around more) (row_is (laying_by t) (λ a m. m) t.rows row (Some (Terminator delimiter separators)) is)
+
+  pub laid_separator : slice_get t.rows row ≡ Some Separator → laying t row around more ≡ more
+  laid_separator is = ap (λ (h : Names → Laying → Laying). h around more) (row_is (laying_by t) (λ a m. m) t.rows row (Some Separator) is)
 
   pub laid_boxed : (bits body : ℕ) → slice_get t.rows row ≡ Some (Boxed bits body) → laying t row around more ≡ more
   laid_boxed bits body is = ap (λ (h : Names → Laying → Laying). h around more) (row_is (laying_by t) (λ a m. m) t.rows row (Some (Boxed bits body)) is)
@@ -71,6 +74,12 @@ module _ (t : Table) (row : ℕ) (around : Names) (more : Laying) where
   pub laid_prefixed_box : (prefix : Prefix) (body : ℕ) → slice_get t.rows row ≡ Some (PrefixedBox prefix body) → laying t row around more ≡ more
   laid_prefixed_box prefix body is =
       ap (λ (h : Names → Laying → Laying). h around more) (row_is (laying_by t) (λ a m. m) t.rows row (Some (PrefixedBox prefix body)) is)
+
+  pub laid_repeat : (count body : ℕ) → slice_get t.rows row ≡ Some (Repeat count body) → body < row
+      → laying t row around more ≡ in_turn (laying t) (body ∷ []) around more
+  laid_repeat count body is less =
+      ap (λ (h : Names → Laying → Laying). h around more)
+      (row_is (laying_by t) (λ a m. m) t.rows row (Some (Repeat count body)) is ∙ below_is (laying_by t) (λ a m. m) t.rows row body less)
 
   pub laid_no_row : slice_get t.rows row ≡ None → laying t row around more ≡ more
   laid_no_row is = ap (λ (h : Names → Laying → Laying). h around more) (row_is (laying_by t) (λ a m. m) t.rows row None is)
@@ -92,6 +101,10 @@ module _ (t : Table) (row : ℕ) (tasks now : List Task) where
   pub group_less : (children : List ℕ) → slice_get t.rows row ≡ Some (Group children) → All (λ c. c < row) children → now ≡ map Lay children ++ tasks
       → steps_left t now < steps_of t row + steps_left t tasks
   group_less children is below_row are = rw are (omega (arith, group_steps t row children is below_row, steps_turn t children tasks))
+
+  pub repeat_less : (count body : ℕ) → slice_get t.rows row ≡ Some (Repeat count body) → body < row → now ≡ map Lay (body ∷ []) ++ tasks
+      → steps_left t now < steps_of t row + steps_left t tasks
+  repeat_less count body is less are = rw are (omega (arith, repeat_steps t row count body is less))
 
   pub complex_less : (name : List ℕ) (tried : Representations) (body : ℕ) → slice_get t.rows row ≡ Some (Elem name None tried body) → body < row
       → steps_left t now < 2 + steps_of t body + steps_left t tasks → steps_left t now < steps_of t row + steps_left t tasks

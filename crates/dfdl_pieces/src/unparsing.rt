@@ -172,10 +172,12 @@ impl<'t> Unparser<'t> {
             Some(Row::Align { .. }) => Ok(None),
             Some(Row::Initiator { .. }) => Ok(None),
             Some(Row::Terminator { .. }) => Ok(None),
+            Some(Row::Separator) => Ok(None),
             Some(Row::Scope { .. }) => Ok(None),
             Some(Row::Boxed { .. }) => Ok(None),
             Some(Row::PrefixedLeaf { .. }) => Ok(None),
             Some(Row::PrefixedBox { .. }) => Ok(None),
+            Some(Row::Repeat { body, .. }) => self.lay_group(&[*body]),
             None => Ok(None),
         }
     }

@@ -16,3 +16,4 @@ mod trim;
 pub use default::default_format;
 pub use joined::{format_parts, formats};
 pub use own::{format_properties, own_properties};
+pub use trim::trimmed;

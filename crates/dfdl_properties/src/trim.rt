@@ -38,7 +38,7 @@ fn without_trailing_white(text: &str) -> &str
 }
 
 /// The text without the white space around it.
-pub(crate) fn trimmed(text: &str) -> &str
+pub fn trimmed(text: &str) -> &str
     ensures { result.now ≡ trimmed text.now }
 {
     without_trailing_white(without_leading_white(text))

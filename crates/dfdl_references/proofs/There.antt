@@ -13,7 +13,7 @@ use Rattle.dfdl_components.specs.Sites.{IsSite, nodes_of}
 use Rattle.dfdl_properties.specs.Forms.{is_one, is_written_property}
 use Rattle.dfdl_references.proofs.Found.{document-there, or-site, or-zero, passed}
 use Rattle.dfdl_references.specs.References.{default_of, first_found, format_after, format_of}
-use Rattle.dfdl_references.specs.Writers.{default_writer, explicit_writer, format_own_writer, format_writer, is_called, own_writer, property_in, writer_in, writer_in_annotation, writer_in_annotations, writer_in_information, writer_of, writer_within}
+use Rattle.dfdl_references.specs.Writers.{by_default_writer, default_writer, explicit_writer, format_own_writer, format_writer, is_called, own_writer, property_in, writer_in, writer_in_annotation, writer_in_annotations, writer_in_information, writer_of, writer_within}
 
 -- there is such an element, where it has an attribute
 attribute-there : (nodes : List Node) (e : ℕ) (test : Attribute → Bool) → is_some (value_among test (node_at nodes e).attributes) ≡ true → e < length nodes
@@ -111,3 +111,10 @@ module _ (documents : List SchemaDocument) (name : List ℕ) where
 pub writer_there : (documents : List SchemaDocument) (chain : List Site) (name : List ℕ) (o : Option Site) → o ≡ writer_of documents chain name → IfSome o (IsSite documents)
 writer_there documents chain name None is = tt
 writer_there documents chain name (Some writer) is = of-chain documents name chain writer (sym is)
+
+-- where it is written by default
+pub default_writer_there : (documents : List SchemaDocument) (chain : List Site) (name : List ℕ) (o : Option Site) → o ≡ by_default_writer documents chain name
+    → IfSome o (IsSite documents)
+default_writer_there documents chain name None is = tt
+default_writer_there documents chain name (Some writer) is =
+    among (IsSite documents) (default_writer documents name) (of-default documents name) chain writer (sym is)

@@ -1,3 +1,4 @@
 pub mod References
 pub mod Writers
 pub mod Agreeing
+pub mod Schemes

@@ -73,8 +73,12 @@ explicit_writer documents name own =
 abbrev pub default_writer : List SchemaDocument → List ℕ → Site → Option Site
 default_writer documents name own = option_and_then (format_writer documents name) (default_of documents own.document)
 
+-- where the property of a chain of components is written by default: by the first default format that does
+abbrev pub by_default_writer : List SchemaDocument → List Site → List ℕ → Option Site
+by_default_writer documents chain name = first_found (default_writer documents name) chain
+
 -- where the property of a chain of components is written: explicitly by the first that does, else by default by the first
 -- that does
 abbrev pub writer_of : List SchemaDocument → List Site → List ℕ → Option Site
 writer_of documents chain name =
-    option_or (first_found (explicit_writer documents name) chain) (first_found (default_writer documents name) chain)
+    option_or (first_found (explicit_writer documents name) chain) (by_default_writer documents chain name)

@@ -1,5 +1,5 @@
 // What the children of annotations are.
-ghost use Rattle.std.specs.Prelude.{◌≡◌};
+ghost use Rattle.std.specs.Prelude.{◌≡◌, ◌<◌, length, IsTrue};
 ghost use Rattle.dfdl_constructs.specs.Roles.{AreRoles};
 ghost use Rattle.dfdl_properties.specs.Forms.{is_one, is_written_property};
 ghost use Rattle.dfdl_properties.specs.Own.{is_annotation, is_component_properties, is_dfdl_information};
@@ -43,7 +43,8 @@ pub(crate) fn is_annotation(tree: &Tree, roles: &Roles, child: u32) -> bool
 /// Whether a child is a `dfdl:property`.
 pub(crate) fn is_written_property(tree: &Tree, roles: &Roles, child: u32) -> bool
     requires { AreRoles tree.now roles.now }
-    ensures { result ≡ is_one tree.now is_written_property child }
+    ensures value { result ≡ is_one tree.now is_written_property child }
+    ensures within { IsTrue result → child < length tree.now }
 {
     child < tree.count() && matches!(roles.of(child), Role::Property)
 }

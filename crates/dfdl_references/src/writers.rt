@@ -115,6 +115,25 @@ fn first_by_default(schema: &Schema, chain: &[Site], name: &str) -> Option<Site>
     None
 }
 
+// Where the property of components is written by default.
+fn find_default_writer(schema: &Schema, chain: &[Site], name: &str) -> Option<Site>
+    requires { All (IsSite schema.now) chain.now }
+    ensures { result ≡ spec.by_default_writer schema.now chain.now name.now }
+{
+    first_by_default(schema, chain, name)
+}
+
+/// Where the property of a chain is written by default: by the first default format of the documents of these elements that
+/// does.
+#[tactic(auto, using(crate::proofs::There::default_writer_there))]
+pub fn by_default_writer(schema: &Schema, chain: &[Site], name: &str) -> Option<Site>
+    requires { All (IsSite schema.now) chain.now }
+    ensures writer { result ≡ spec.by_default_writer schema.now chain.now name.now }
+    ensures within { IfSome result (IsSite schema.now) }
+{
+    find_default_writer(schema, chain, name)
+}
+
 // Where the property of a chain is written.
 fn find_writer(schema: &Schema, chain: &[Site], name: &str) -> Option<Site>
     requires { All (IsSite schema.now) chain.now }

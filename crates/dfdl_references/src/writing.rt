@@ -1,5 +1,5 @@
 // Where the elements of one document write properties.
-ghost use Rattle.std.specs.Prelude.{◌≡◌, ◌<◌, length};
+ghost use Rattle.std.specs.Prelude.{◌≡◌, ◌<◌, length, IfSome};
 ghost use Rattle.dfdl_constructs.specs.Roles.{AreRoles};
 ghost use Rattle.dfdl_references.specs.Writers as spec;
 
@@ -20,11 +20,12 @@ fn is_called(tree: &Tree, element: u32, name: &str) -> bool
     }
 }
 
-// The first `dfdl:property` in an element that has this name.
-fn property_in(tree: &Tree, roles: &Roles, element: u32, name: &str) -> Option<u32>
+/// The first `dfdl:property` in an element that has this name.
+pub(crate) fn property_in(tree: &Tree, roles: &Roles, element: u32, name: &str) -> Option<u32>
     requires roles { AreRoles tree.now roles.now }
     requires within { element < length tree.now }
-    ensures { result ≡ spec.property_in tree.now name.now element }
+    ensures property { result ≡ spec.property_in tree.now name.now element }
+    ensures within { IfSome result (λ child. child < length tree.now) }
 {
     for child in tree.children(element) {
         if is_written_property(tree, roles, *child) && is_called(tree, *child, name) {

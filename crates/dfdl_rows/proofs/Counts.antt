@@ -2,7 +2,7 @@
 use Rattle.std.proofs.Common.{◌≡◌, ℕ, ◌+◌, ◌-◌, ◌^◌, List, [], ◌∷◌, length, map, min, sym, refl, arith}
 use Rattle.dfdl_order.specs.Parts.{uses_of}
 use Rattle.dfdl_order.specs.Folds.{value_by}
-use Rattle.dfdl_rows.specs.Components.{Schema, component_at}
+use Rattle.dfdl_rows.specs.Components.{Schema, component_at, slots_at}
 use Rattle.dfdl_rows.specs.Depths.{greatest, own_depth, depth_from, depth_of}
 use Rattle.dfdl_rows.specs.Sizes.{total, own_size, size_from, size_of}
 use Rattle.dfdl_rows.specs.Saturated.{saturated, saturated_depth_from, saturated_size_from}
@@ -25,6 +25,6 @@ pub depth_is : (s : Schema) (c : ℕ) → value_by s.uses (saturated_depth_from 
 depth_is s c = sym (over_image (uses_of s.uses) (depth_from s.components) 0 (saturated_depth_from s.components) 0 saturated
     (λ c vs. capped_greatest (2 ^ 64 - 1) (own_depth (component_at s.components c)) vs) refl (length s.uses) c)
 
-pub size_is : (s : Schema) (c : ℕ) → value_by s.uses (saturated_size_from s.components) 0 c ≡ saturated (size_of s c)
-size_is s c = sym (over_image (uses_of s.uses) (size_from s.components) 0 (saturated_size_from s.components) 0 saturated
-    (λ c vs. capped_total (2 ^ 64 - 1) (own_size (component_at s.components c)) vs) refl (length s.uses) c)
+pub size_is : (s : Schema) (c : ℕ) → value_by s.uses (saturated_size_from s) 0 c ≡ saturated (size_of s c)
+size_is s c = sym (over_image (uses_of s.uses) (size_from s) 0 (saturated_size_from s) 0 saturated
+    (λ c vs. capped_total (2 ^ 64 - 1) (own_size (component_at s.components c) (slots_at s c)) vs) refl (length s.uses) c)

@@ -9,7 +9,7 @@ use Rattle.dfdl_rows.specs.Components.{Schema, component_at, place_at}
 use Rattle.dfdl_rows.specs.Refusals.{Names, Looked, Behind, Ends, Look, go_on, in_order, at_component, own_refusal, unless_refused, look_at, first_refusal, refusal_in}
 use Rattle.dfdl_rows.specs.Looking.{is_element, is_plain, AreReady, HasNames, IsAdded, IsStep, refusal_behind}
 use Rattle.dfdl_rows.specs.declared.component.Component.{Component}
-use Rattle.dfdl_rows.specs.declared.component.Component.TheVariants.{Sequence, Reference, ComplexElement, SimpleElement}
+use Rattle.dfdl_rows.specs.declared.component.Component.TheVariants.{Sequence, ComplexElement, SimpleElement}
 use Rattle.dfdl_rows.specs.declared.component.ContentBox.TheVariants.{Unbounded}
 use Rattle.dfdl_rows.specs.declared.refusal.Refusal.{Refusal}
 use Rattle.dfdl_rows.proofs.Looks.{in_order_append, look_step, idle_look}
@@ -81,10 +81,9 @@ module _ (s : Schema) (idle : List Bool) (known : List (Option Refusal)) (c : �
   plain none = looked ∙ ap (λ (o : Option Refusal). unless_refused o (at_component (component_at s.components c) (place_at s.places c) parts) old) none
 
   at_plain : (component : Component) (place : Place) → is_plain component ≡ true → at_component component place parts old ≡ parts old
-  at_plain (Sequence framing) place is = refl
-  at_plain (Reference framing) place is = refl
-  at_plain (ComplexElement name framing box) place is = absurd (cc)
-  at_plain (SimpleElement name simple prim framing prefix tried) place is = absurd (cc)
+  at_plain (Sequence framing separated) place is = refl
+  at_plain (ComplexElement name framing box occurs) place is = absurd (cc)
+  at_plain (SimpleElement name simple prim framing prefix tried scanned occurs) place is = absurd (cc)
 
   pub group_step : (after : List ℕ) → own_refusal s.refusals c ≡ None → is_plain (component_at s.components c) ≡ true → HasNames has old
       → after ≡ uses_of s.uses c ++ ts → IsStep s (c ∷ ts) old after has None
@@ -108,10 +107,9 @@ inside_first s order is c within element none =
   where
     first_at : (component : Component) (place : Place) → is_element component ≡ true
         → refusal_in (at_component component place (in_order (map (look_at s) (uses_of s.uses c))) []) ≡ refusal_behind s (uses_of s.uses c) []
-    first_at (Sequence framing) place is_one = absurd (cc)
-    first_at (Reference framing) place is_one = absurd (cc)
-    first_at (ComplexElement name framing box) place is_one = first_inside (in_order (map (look_at s) (uses_of s.uses c)) []) name []
-    first_at (SimpleElement name simple prim framing prefix tried) place is_one = first_inside (in_order (map (look_at s) (uses_of s.uses c)) []) name []
+    first_at (Sequence framing separated) place is_one = absurd (cc)
+    first_at (ComplexElement name framing box occurs) place is_one = first_inside (in_order (map (look_at s) (uses_of s.uses c)) []) name []
+    first_at (SimpleElement name simple prim framing prefix tried scanned occurs) place is_one = first_inside (in_order (map (look_at s) (uses_of s.uses c)) []) name []
 
 -- that of an element that is refused by itself is its own
 pub own_first : (s : Schema) (order : Places) → IsOrder s.uses order → (c : ℕ) → c < length s.uses
@@ -125,7 +123,7 @@ own_first s order is c within (Some refusal) own some =
 pub named_step : (s : Schema) (idle : List Bool) (known : List (Option Refusal)) (c : ℕ) (ts : List ℕ) → AreReady s idle known (c ∷ ts)
     → (old : Names) (has : Bor (List ℕ) → Bool) (component : Component) (name key : List ℕ) (place : Place) (inside found : Option Refusal)
     → own_refusal s.refusals c ≡ None → component ≡ component_at s.components c
-    → ((p : Place) (look : Look) → at_component component p look ≡ at_component (ComplexElement name no_fill Unbounded) p look) → is_element component ≡ true
+    → ((p : Place) (look : Look) → at_component component p look ≡ at_component (ComplexElement name no_fill Unbounded 1) p look) → is_element component ≡ true
     → place ≡ place_at s.places c → inside ≡ get_or known c None → key ≡ name
     → IsAdded old key place inside has found → IsStep s (c ∷ ts) old ts has found
 named_step s idle known c ts ready old has component name key place inside found none component_is as_complex element place_is inside_is key_is added =
@@ -135,7 +133,7 @@ named_step s idle known c ts ready old has component name key place inside found
     let known_is : inside ≡ refusal_in (look []) =
     inside_is ∙ (ready.are_known.each c within (ready.before 0 c (omega arith)) is_one
     ∙ inside_first s ready.order ready.are_known.is_order c within is_one none) in
-    by_looked s idle known c ts ready old has found (at_component (ComplexElement name no_fill Unbounded) place look old)
+    by_looked s idle known c ts ready old has found (at_component (ComplexElement name no_fill Unbounded 1) place look old)
     (plain s idle known c ts ready old has none
     ∙ (ap (λ (k : Component). at_component k (place_at s.places c) look old) (sym component_is)
     ∙ (ap (λ (p : Place). at_component component p look old) (sym place_is)

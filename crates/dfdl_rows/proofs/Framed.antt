@@ -8,49 +8,49 @@ use Rattle.dfdl_terms.specs.declared.row.Row.TheVariants.{Group, Skip, Align, In
 use Rattle.dfdl_rows.specs.Framing.{has_framing, skip_rows, align_rows, initiator_rows, terminator_rows, rows_before, rows_behind, in_group, framed, framed_row, framing_size}
 
 -- the rows where something frames a content
-abbrev pub filled : Framing → ℕ → ℕ → List Row
-filled f content first = rows_before f ++ (rows_behind f ++ Group (in_group f content first) ∷ [])
+abbrev pub filled : Framing → Option ℕ → ℕ → ℕ → List Row
+filled f separators content first = rows_before f ++ (rows_behind f separators ++ Group (in_group f separators content first) ∷ [])
 
 -- with something that frames it and without
-pub framed_cases : (f : Framing) (content first : ℕ) (P : List Row → ℕ → ℕ → Type 0)
+pub framed_cases : (f : Framing) (separators : Option ℕ) (content first : ℕ) (P : List Row → ℕ → ℕ → Type 0)
     → (has_framing f ≡ false → P [] content 0)
-    → (has_framing f ≡ true → P (filled f content first) (first + length (rows_before f) + length (rows_behind f)) (length (rows_before f) + length (rows_behind f) + 1))
-    → P (framed f content first) (framed_row f content first) (framing_size f)
+    → (has_framing f ≡ true → P (filled f separators content first) (first + length (rows_before f) + length (rows_behind f separators)) (length (rows_before f) + length (rows_behind f separators) + 1))
+    → P (framed f separators content first) (framed_row f separators content first) (framing_size f separators)
 unfolding framed framed_row framing_size
-framed_cases f content first P none some =
-    (elim (has_framing f) as (λ (b : Bool). has_framing f ≡ b → P (if b then filled f content first else [])
-    (if b then first + length (rows_before f) + length (rows_behind f) else content) (if b then length (rows_before f) + length (rows_behind f) + 1 else 0)) [
+framed_cases f separators content first P none some =
+    (elim (has_framing f) as (λ (b : Bool). has_framing f ≡ b → P (if b then filled f separators content first else [])
+    (if b then first + length (rows_before f) + length (rows_behind f separators) else content) (if b then length (rows_before f) + length (rows_behind f separators) + 1 else 0)) [
       | true ↦ some
       | false ↦ none
     ]) refl
 
-pub unframed : (f : Framing) (content first : ℕ) → has_framing f ≡ false → framed f content first ≡ []
+pub unframed : (f : Framing) (separators : Option ℕ) (content first : ℕ) → has_framing f ≡ false → framed f separators content first ≡ []
 unfolding framed
-unframed f content first none = ap (λ (b : Bool). if b then filled f content first else []) none
+unframed f separators content first none = ap (λ (b : Bool). if b then filled f separators content first else []) none
 
-pub unframed_row : (f : Framing) (content first : ℕ) → has_framing f ≡ false → framed_row f content first ≡ content
+pub unframed_row : (f : Framing) (separators : Option ℕ) (content first : ℕ) → has_framing f ≡ false → framed_row f separators content first ≡ content
 unfolding framed_row
-unframed_row f content first none = ap (λ (b : Bool). if b then first + length (rows_before f) + length (rows_behind f) else content) none
+unframed_row f separators content first none = ap (λ (b : Bool). if b then first + length (rows_before f) + length (rows_behind f separators) else content) none
 
-length_filled : (f : Framing) (content first : ℕ) → length (filled f content first) ≡ length (rows_before f) + length (rows_behind f) + 1
-length_filled f content first =
-    let group : List Row = Group (in_group f content first) ∷ [] in
-    let whole : length (filled f content first) ≡ length (rows_before f) + length (rows_behind f ++ Group (in_group f content first) ∷ [])
-    = length-append (rows_before f) (rows_behind f ++ Group (in_group f content first) ∷ []) in
-    let rest : length (rows_behind f ++ Group (in_group f content first) ∷ []) ≡ length (rows_behind f) + 1
-    = length-append (rows_behind f) (Group (in_group f content first) ∷ []) in
+length_filled : (f : Framing) (separators : Option ℕ) (content first : ℕ) → length (filled f separators content first) ≡ length (rows_before f) + length (rows_behind f separators) + 1
+length_filled f separators content first =
+    let group : List Row = Group (in_group f separators content first) ∷ [] in
+    let whole : length (filled f separators content first) ≡ length (rows_before f) + length (rows_behind f separators ++ Group (in_group f separators content first) ∷ [])
+    = length-append (rows_before f) (rows_behind f separators ++ Group (in_group f separators content first) ∷ []) in
+    let rest : length (rows_behind f separators ++ Group (in_group f separators content first) ∷ []) ≡ length (rows_behind f separators) + 1
+    = length-append (rows_behind f separators) (Group (in_group f separators content first) ∷ []) in
     omega (arith, whole, rest)
 
-pub length_framed : (f : Framing) (content first : ℕ) → length (framed f content first) ≡ framing_size f
-length_framed f content first = framed_cases f content first (λ rows whole size. length rows ≡ size) (λ none. refl) (λ some. length_filled f content first)
+pub length_framed : (f : Framing) (separators : Option ℕ) (content first : ℕ) → length (framed f separators content first) ≡ framing_size f separators
+length_framed f separators content first = framed_cases f separators content first (λ rows whole size. length rows ≡ size) (λ none. refl) (λ some. length_filled f separators content first)
 
 -- the row of the whole is the last one, that of the content where nothing frames it
-pub framed_end : (f : Framing) (content first : ℕ) → content + 1 ≡ first → framed_row f content first + 1 ≡ first + framing_size f
-framed_end f content first is = framed_cases f content first (λ rows whole size. whole + 1 ≡ first + size)
+pub framed_end : (f : Framing) (separators : Option ℕ) (content first : ℕ) → content + 1 ≡ first → framed_row f separators content first + 1 ≡ first + framing_size f separators
+framed_end f separators content first is = framed_cases f separators content first (λ rows whole size. whole + 1 ≡ first + size)
     (λ none. omega (arith, is)) (λ some. omega arith)
 
-pub framed_below : (f : Framing) (content first : ℕ) → content < first → framed_row f content first < first + framing_size f
-framed_below f content first less = framed_cases f content first (λ rows whole size. whole < first + size)
+pub framed_below : (f : Framing) (separators : Option ℕ) (content first : ℕ) → content < first → framed_row f separators content first < first + framing_size f separators
+framed_below f separators content first less = framed_cases f separators content first (λ rows whole size. whole < first + size)
     (λ none. omega (arith, less)) (λ some. omega arith)
 
 -- what holds of fill and of groups, and of the delimiters that there are
@@ -71,22 +71,23 @@ module _ (P : Row → Type 0) (skips : (bits : ℕ) → P (Skip bits)) (aligns :
   initiator_all None holds = All-nil P
   initiator_all (Some own) holds = All-cons P (Initiator own) [] (holds own refl) (All-nil P)
 
-  terminator_all : (d : Option Delimiter) → ((own : Delimiter) → d ≡ Some own → P (Terminator own)) → All P (terminator_rows d)
-  terminator_all None holds = All-nil P
-  terminator_all (Some own) holds = All-cons P (Terminator own) [] (holds own refl) (All-nil P)
+  terminator_all : (d : Option Delimiter) (separators : Option ℕ) → ((own : Delimiter) → d ≡ Some own → P (Terminator own separators))
+      → All P (terminator_rows d separators)
+  terminator_all None separators holds = All-nil P
+  terminator_all (Some own) separators holds = All-cons P (Terminator own separators) [] (holds own refl) (All-nil P)
 
-  module _ (f : Framing) (initiators : (own : Delimiter) → f.initiator ≡ Some own → P (Initiator own))
-      (terminators : (own : Delimiter) → f.terminator ≡ Some own → P (Terminator own)) where
+  module _ (f : Framing) (separators : Option ℕ) (initiators : (own : Delimiter) → f.initiator ≡ Some own → P (Initiator own))
+      (terminators : (own : Delimiter) → f.terminator ≡ Some own → P (Terminator own separators)) where
     pub before_all : All P (rows_before f)
     before_all =
         All-append P (skip_rows f.leading_skip) (align_rows f.alignment ++ initiator_rows f.initiator) (skip_all f.leading_skip)
         (All-append P (align_rows f.alignment) (initiator_rows f.initiator) (align_all f.alignment) (initiator_all f.initiator initiators))
 
-    pub behind_all : All P (rows_behind f)
-    behind_all = All-append P (terminator_rows f.terminator) (skip_rows f.trailing_skip) (terminator_all f.terminator terminators) (skip_all f.trailing_skip)
+    pub behind_all : All P (rows_behind f separators)
+    behind_all = All-append P (terminator_rows f.terminator separators) (skip_rows f.trailing_skip) (terminator_all f.terminator separators terminators) (skip_all f.trailing_skip)
 
-    pub framed_all : ((children : List ℕ) → P (Group children)) → (content first : ℕ) → All P (framed f content first)
-    framed_all groups content first = framed_cases f content first (λ rows whole size. All P rows) (λ none. All-nil P)
-        (λ some. All-append P (rows_before f) (rows_behind f ++ Group (in_group f content first) ∷ []) before_all
-        (All-append P (rows_behind f) (Group (in_group f content first) ∷ []) behind_all
-        (All-cons P (Group (in_group f content first)) [] (groups (in_group f content first)) (All-nil P))))
+    pub framed_all : ((children : List ℕ) → P (Group children)) → (content first : ℕ) → All P (framed f separators content first)
+    framed_all groups content first = framed_cases f separators content first (λ rows whole size. All P rows) (λ none. All-nil P)
+        (λ some. All-append P (rows_before f) (rows_behind f separators ++ Group (in_group f separators content first) ∷ []) before_all
+        (All-append P (rows_behind f separators) (Group (in_group f separators content first) ∷ []) behind_all
+        (All-cons P (Group (in_group f separators content first)) [] (groups (in_group f separators content first)) (All-nil P))))

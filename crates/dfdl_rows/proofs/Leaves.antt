@@ -1,26 +1,29 @@
 -- What holds of the body of each simple element among the rows of components, wherever the rows begin.
-use Rattle.std.proofs.Common.{◌≡◌, ℕ, zero, suc, ◌+◌, ◌-◌, ◌<◌, List, [], ◌∷◌, ◌++◌, length, map, slice_get, get_or, All, Option, None, Some, sym, ap, subst, ◌∙◌, arith, inl, inr}
+use Rattle.std.proofs.Common.{◌≡◌, ℕ, zero, suc, ◌+◌, ◌-◌, ◌<◌, Bool, List, [], ◌∷◌, ◌++◌, length, map, slice_get, get_or, All, Option, None, Some, sym, ap, subst, ◌∙◌, arith, append_assoc, inl, inr}
 use Rattle.std.proofs.lemmas.Bool.{cases_lt}
-use Rattle.std.proofs.lemmas.List.Elements.{All-tail, All-cons, All-nil}
+use Rattle.std.proofs.lemmas.List.Elements.{All-tail, All-cons, All-nil, All-append}
 use Rattle.std.proofs.lemmas.Option.{slice_get_within, slice_get-get_or, get_or_from_slice_get}
 use Rattle.dfdl_forms.specs.declared.simple.Simple.{Simple}
 use Rattle.dfdl_order.specs.Parts.{uses_of}
 use Rattle.dfdl_terms.specs.declared.representations.Representations.{Representations}
-use Rattle.dfdl_terms.specs.Leaves.{ReadsBy, leaf, prefixed}
+use Rattle.dfdl_terms.specs.Leaves.{ReadsBy, leaf, prefixed, scoped as scope}
 use Rattle.dfdl_terms.specs.declared.framing.Framing.{Framing}
 use Rattle.dfdl_terms.specs.declared.prefix.Prefix.{Prefix}
 use Rattle.dfdl_terms.specs.declared.row.Row.{Row}
-use Rattle.dfdl_terms.specs.declared.row.Row.TheVariants.{Elem, Group}
+use Rattle.dfdl_terms.specs.declared.row.Row.TheVariants.{Elem, Group, Scope}
 use Rattle.dfdl_terms.specs.Framing.{no_fill}
-use Rattle.dfdl_rows.specs.Components.{Schema, component_at, AreOfOne, HasOrder, IsBareComponent}
+use Rattle.dfdl_rows.specs.Components.{Schema, component_at, slots_at, AreOfOne, HasOrder, IsBareComponent}
 use Rattle.dfdl_rows.specs.declared.component.Component.{Component}
-use Rattle.dfdl_rows.specs.declared.component.Component.TheVariants.{Sequence, Reference, ComplexElement, SimpleElement}
+use Rattle.dfdl_rows.specs.declared.component.Component.TheVariants.{Sequence, ComplexElement, SimpleElement}
 use Rattle.dfdl_rows.specs.Framing.{framed, framed_row}
-use Rattle.dfdl_rows.specs.RowLists.{Numbered, leaf_row, boxed_rows, scoped, own_rows, in_turn, last_rows, rows_at, rows_of}
+use Rattle.dfdl_rows.specs.Scopes.{list_of, scanned_list, scope_rows, scoped_row, scope_size}
+use Rattle.dfdl_rows.specs.Slots.{laid_of, separator_list, slots_size}
+use Rattle.dfdl_rows.specs.RowLists.{Numbered, leaf_row, boxed_rows, element_rows, scoped, sequence_rows, own_rows, in_turn, last_rows, rows_at, rows_of}
 use Rattle.dfdl_rows.specs.Leaves.{IsAmong, IsLeafOf, HaveLeaves, HaveBareLeaves}
 use Rattle.dfdl_rows.proofs.Framed.{unframed_row, framed_all}
 use Rattle.dfdl_rows.proofs.Boxed.{leaf_holds, boxed_all}
-use Rattle.dfdl_rows.proofs.Scoped.{scoped_all}
+use Rattle.dfdl_rows.proofs.Scoped.{none_scanned, scoped_all}
+use Rattle.dfdl_rows.proofs.Slotted.{laid_all}
 use Rattle.dfdl_rows.proofs.Placed.{left, right, nothing_there, Sits, sits_left, sits_right, sits_first, sits_tail, framed_reads}
 use Rattle.dfdl_rows.proofs.Parts.{by_parts}
 use Rattle.dfdl_rows.proofs.RowsOf.{rows_step}
@@ -47,14 +50,19 @@ only_last (row ∷ rows) last zero name simple tried body all is =
     absurd (all 0 row (omega arith) name simple tried body same)
 only_last (row ∷ rows) last (suc i) name simple tried body all is = only_last rows last i name simple tried body (All-tail IsNotSimple row rows all) is
 
-framed_not_simple : (f : Framing) (content first : ℕ) → All IsNotSimple (framed f content first)
-framed_not_simple f content first = framed_all IsNotSimple (λ bits name simple tried body is. absurd (cc)) (λ bits name simple tried body is. absurd (cc))
-    f (λ own there name simple tried body is. absurd (cc)) (λ own there name simple tried body is. absurd (cc))
+framed_not_simple : (f : Framing) (separators : Option ℕ) (content first : ℕ) → All IsNotSimple (framed f separators content first)
+framed_not_simple f separators content first = framed_all IsNotSimple (λ bits name simple tried body is. absurd (cc)) (λ bits name simple tried body is. absurd (cc))
+    f separators (λ own there name simple tried body is. absurd (cc)) (λ own there name simple tried body is. absurd (cc))
     (λ children name simple tried body is. absurd (cc)) content first
 
-scoped_not_simple : (f : Framing) (around : ℕ → ℕ → List Row) → ((content first : ℕ) → All IsNotSimple (around content first))
-    → (content first : ℕ) → All IsNotSimple (scoped f.terminator around content first)
-scoped_not_simple f around = scoped_all IsNotSimple f.terminator around (λ own row there name simple tried body is. absurd (cc))
+scoped_not_simple : (list : Option ℕ) (around : ℕ → ℕ → List Row) → ((content first : ℕ) → All IsNotSimple (around content first))
+    → (content first : ℕ) → All IsNotSimple (scoped list around content first)
+scoped_not_simple list around = scoped_all IsNotSimple list around (λ own row there name simple tried body is. absurd (cc))
+
+sequence_not_simple : (f : Framing) (separators : Option ℕ) (content first : ℕ) → All IsNotSimple (sequence_rows f separators content first)
+sequence_not_simple f separators =
+    scoped_not_simple separators (scoped (list_of f.terminator) (framed f separators))
+    (scoped_not_simple (list_of f.terminator) (framed f separators) (framed_not_simple f separators))
 
 leaf_not_simple : (prefix : Option Prefix) (prim : ℕ) → IsNotSimple (leaf_row prefix prim)
 leaf_not_simple prefix prim = leaf_holds IsNotSimple prefix prim (λ name simple tried body is. absurd (cc)) (λ own has name simple tried body is. absurd (cc))
@@ -65,11 +73,29 @@ leaf_reads : (rows : List Row) (IsOne : ℕ → Type 0) (id prim : ℕ) (prefix 
 leaf_reads rows IsOne id prim None is one = leaf id prim is one
 leaf_reads rows IsOne id prim (Some prefix) is one = prefixed id prim prefix is one
 
+-- the rows around the content of a simple element that stand before its own: that of its scope, and those that frame it
+abbrev pub scoped_frame : Bool → Framing → ℕ → List Row
+scoped_frame scanned f content = scoped (scanned_list scanned f.terminator) (framed f None) content (content + 1)
+
+-- the number of the row that stands for all of them
+abbrev pub scoped_whole : Bool → Framing → ℕ → ℕ
+scoped_whole scanned f content =
+    framed_row f None (scoped_row (scanned_list scanned f.terminator) content (content + 1)) (content + 1 + scope_size (scanned_list scanned f.terminator))
+
+-- a scope around a content, and what frames it, read what the content does
+scoped_reads : (rows : List Row) (IsOne : ℕ → Type 0) (f : Framing) (list : Option ℕ) (content first : ℕ) → Sits rows first (scoped list (framed f None) content first)
+    → ReadsBy rows IsOne content → ReadsBy rows IsOne (framed_row f None (scoped_row list content first) (first + scope_size list))
+scoped_reads rows IsOne f None content first sits reads = framed_reads rows IsOne f None content (first + 0)
+    (subst (λ (n : ℕ). Sits rows n (framed f None content (first + 0))) (omega arith) sits) reads
+scoped_reads rows IsOne f (Some list) content first sits reads =
+    framed_reads rows IsOne f None first (first + 1) (sits_tail rows first (Scope list content) (framed f None first (first + 1)) sits)
+    (scope first list content (sits_first rows first (Scope list content) (framed f None first (first + 1)) sits) reads)
+
 -- among all rows, this holds of the body of a simple element of the components
 module _ (components : List Component) (all : List Row) (Q : Simple → ℕ → Type 0)
-    (holds : (number content prim : ℕ) (name : List ℕ) (simple : Simple) (f : Framing) (prefix : Option Prefix) (tried : Representations)
-    → slice_get components number ≡ Some (SimpleElement name simple prim f prefix tried) → slice_get all content ≡ Some (leaf_row prefix prim)
-    → Sits all (content + 1) (framed f content (content + 1)) → Q simple (framed_row f content (content + 1))) where
+    (holds : (number content prim : ℕ) (name : List ℕ) (simple : Simple) (f : Framing) (prefix : Option Prefix) (tried : Representations) (scanned : Bool) (occurs : ℕ)
+    → slice_get components number ≡ Some (SimpleElement name simple prim f prefix tried scanned occurs) → slice_get all content ≡ Some (leaf_row prefix prim)
+    → Sits all (content + 1) (scoped_frame scanned f content) → Q simple (scoped_whole scanned f content)) where
   -- it holds of each simple element of the rows, where these stand among all rows
   abbrev pub BodiesFrom : ℕ → List Row → Type 0
   BodiesFrom first rows = Sits all first rows → (i : ℕ) (name : List ℕ) (simple : Simple) (tried : Representations) (body : ℕ)
@@ -96,41 +122,57 @@ module _ (components : List Component) (all : List Row) (Q : Simple → ℕ → 
       bodies_append first (f p first) (in_turn (map f ps) (first + length (f p first))) (each 0 p (omega arith) first)
       (turn_bodies f ps (All-tail (λ (q : ℕ). HasBodies (f q)) p ps each) (first + length (f p first)))
 
-  own_bodies : (component : Component) (lasts : List ℕ) (first number : ℕ) → slice_get components number ≡ Some component
-      → BodiesFrom first (own_rows component lasts first)
-  own_bodies (Sequence f) lasts first number there = bodies_none first (Group lasts ∷ scoped f.terminator (framed f) first (first + 1))
-      (All-cons IsNotSimple (Group lasts) (scoped f.terminator (framed f) first (first + 1)) (λ name simple tried body is. absurd (cc))
-      (scoped_not_simple f (framed f) (framed_not_simple f) first (first + 1)))
-  own_bodies (Reference f) lasts first number there = bodies_none first (scoped f.terminator (framed f) (get_or lasts 0 0) first)
-      (scoped_not_simple f (framed f) (framed_not_simple f) (get_or lasts 0 0) first)
-  own_bodies (ComplexElement own f box) lasts first number there =
-      bodies_none first (scoped f.terminator (boxed_rows own f box) (get_or lasts 0 0) first)
-      (scoped_not_simple f (boxed_rows own f box)
+  own_bodies : (component : Component) (slots : List ℕ) (lasts : List ℕ) (first number : ℕ) → slice_get components number ≡ Some component
+      → BodiesFrom first (own_rows component slots lasts first)
+  own_bodies (Sequence f separated) slots lasts first number there =
+      let size : ℕ = slots_size separated slots in
+      let own : List Row = (laid_of separated slots lasts first).rows in
+      let children : List ℕ = (laid_of separated slots lasts first).children in
+      let others : List Row = sequence_rows f (separator_list separated) (first + size) (first + size + 1) in
+      bodies_none first (own ++ Group children ∷ others)
+      (All-append IsNotSimple own (Group children ∷ others)
+      (laid_all IsNotSimple (λ name simple tried body is. absurd (cc)) (λ children name simple tried body is. absurd (cc))
+      (λ count body name simple tried other is. absurd (cc)) separated slots lasts first)
+      (All-cons IsNotSimple (Group children) others (λ name simple tried body is. absurd (cc))
+      (sequence_not_simple f (separator_list separated) (first + size) (first + size + 1))))
+  own_bodies (ComplexElement own f box occurs) slots lasts first number there =
+      bodies_none first (scoped (list_of f.terminator) (boxed_rows own f box) (get_or lasts 0 0) first)
+      (scoped_not_simple (list_of f.terminator) (boxed_rows own f box)
       (boxed_all IsNotSimple own f box (λ bits row name simple tried body is. absurd (cc)) (λ prefix row there name simple tried body is. absurd (cc))
-      (framed_not_simple f) (λ row name simple tried body is. absurd (cc)))
+      (framed_not_simple f None) (λ row name simple tried body is. absurd (cc)))
       (get_or lasts 0 0) first)
-  own_bodies (SimpleElement own kind prim f prefix trials) lasts first number there = λ sits i name simple tried body is.
-      let same : Elem own (Some kind) trials (framed_row f first (first + 1)) ≡ Elem name (Some simple) tried body
-      = only_last (leaf_row prefix prim ∷ framed f first (first + 1)) (Elem own (Some kind) trials (framed_row f first (first + 1))) i name simple tried body
-      (All-cons IsNotSimple (leaf_row prefix prim) (framed f first (first + 1)) (leaf_not_simple prefix prim) (framed_not_simple f first (first + 1))) is in
+  own_bodies (SimpleElement own kind prim f prefix trials scanned occurs) slots lasts first number there = λ sits i name simple tried body is.
+      let list : Option ℕ = scanned_list scanned f.terminator in
+      let whole : ℕ = scoped_whole scanned f first in
+      let last : Row = Elem own (Some kind) trials (scoped_whole scanned f first) in
+      let rows : List Row = leaf_row prefix prim ∷ scoped_frame scanned f first in
+      let regrouped : leaf_row prefix prim ∷ scoped list (element_rows own (Some kind) trials f) first (first + 1) ≡ rows ++ last ∷ []
+      = ap (λ (others : List Row). leaf_row prefix prim ∷ others)
+      (sym (append_assoc (scope_rows list first) (framed f None (scoped_row list first (first + 1)) (first + 1 + scope_size list)) (last ∷ []))) in
+      let there_is : slice_get (rows ++ last ∷ []) i ≡ Some (Elem name (Some simple) tried body)
+      = ap (λ (others : List Row). slice_get others i) (sym regrouped) ∙ is in
+      let all_sit : Sits all first (rows ++ last ∷ []) = subst (Sits all first) regrouped sits in
+      let same : last ≡ Elem name (Some simple) tried body
+      = only_last rows last i name simple tried body
+      (All-cons IsNotSimple (leaf_row prefix prim) (scoped_frame scanned f first) (leaf_not_simple prefix prim)
+      (scoped_not_simple list (framed f None) (framed_not_simple f None) first (first + 1))) there_is in
       let kinds : kind ≡ simple = cc in
-      let bodies : framed_row f first (first + 1) ≡ body = cc in
-      let behind : Sits all (first + 1) (framed f first (first + 1))
-      = sits_left all (first + 1) (framed f first (first + 1)) (Elem own (Some kind) trials (framed_row f first (first + 1)) ∷ [])
-      (sits_tail all first (leaf_row prefix prim) (framed f first (first + 1) ++ Elem own (Some kind) trials (framed_row f first (first + 1)) ∷ []) sits) in
+      let bodies : scoped_whole scanned f first ≡ body = cc in
+      let behind : Sits all (first + 1) (scoped_frame scanned f first)
+      = sits_left all (first + 1) (scoped_frame scanned f first) (last ∷ []) (sits_tail all first (leaf_row prefix prim) (scoped_frame scanned f first ++ last ∷ []) all_sit) in
       subst (λ (k : Simple). Q k body) kinds (subst (λ (n : ℕ). Q kind n) bodies
-      (holds number first prim own kind f prefix trials there
-      (sits_first all first (leaf_row prefix prim) (framed f first (first + 1) ++ Elem own (Some kind) trials (framed_row f first (first + 1)) ∷ []) sits) behind))
+      (holds number first prim own kind f prefix trials scanned occurs there
+      (sits_first all first (leaf_row prefix prim) (scoped_frame scanned f first ++ last ∷ []) all_sit) behind))
 
 -- the rows of each component of a schema
 module _ (s : Schema) (ordered : HasOrder s.uses) (one : AreOfOne s.uses s.components s.refusals s.places) where
   there : (c : ℕ) → c < length s.uses → slice_get s.components c ≡ Some (component_at s.components c)
-  there c within = slice_get-get_or s.components c (Sequence no_fill) (omega (arith, within, one.counted))
+  there c within = slice_get-get_or s.components c (Sequence no_fill None) (omega (arith, within, one.counted))
 
   bodies_at : (all : List Row) (Q : Simple → ℕ → Type 0)
-      → ((number content prim : ℕ) (name : List ℕ) (simple : Simple) (f : Framing) (prefix : Option Prefix) (tried : Representations)
-      → slice_get s.components number ≡ Some (SimpleElement name simple prim f prefix tried) → slice_get all content ≡ Some (leaf_row prefix prim)
-      → Sits all (content + 1) (framed f content (content + 1)) → Q simple (framed_row f content (content + 1)))
+      → ((number content prim : ℕ) (name : List ℕ) (simple : Simple) (f : Framing) (prefix : Option Prefix) (tried : Representations) (scanned : Bool) (occurs : ℕ)
+      → slice_get s.components number ≡ Some (SimpleElement name simple prim f prefix tried scanned occurs) → slice_get all content ≡ Some (leaf_row prefix prim)
+      → Sits all (content + 1) (scoped_frame scanned f content) → Q simple (scoped_whole scanned f content))
       → (c : ℕ) → c < length s.uses → (first : ℕ) → Sits all first (rows_at s c first) → (i : ℕ) (name : List ℕ) (simple : Simple) (tried : Representations) (body : ℕ)
       → slice_get (rows_at s c first) i ≡ Some (Elem name (Some simple) tried body) → Q simple body
   bodies_at all Q holds = by_parts s.uses ordered.0 ordered.1 (λ c. HasBodies s.components all Q holds (rows_at s c))
@@ -138,9 +180,9 @@ module _ (s : Schema) (ordered : HasOrder s.uses) (one : AreOfOne s.uses s.compo
       let turn : List Row = in_turn (map (rows_at s) (uses_of s.uses c)) first in
       let lasts : List ℕ = last_rows (map (rows_at s) (uses_of s.uses c)) first in
       subst (λ (rows : Numbered). BodiesFrom s.components all Q holds first (rows first)) (sym (rows_step s ordered c within))
-      (bodies_append s.components all Q holds first turn (own_rows (component_at s.components c) lasts (first + length turn))
+      (bodies_append s.components all Q holds first turn (own_rows (component_at s.components c) (slots_at s c) lasts (first + length turn))
       (turn_bodies s.components all Q holds (rows_at s) (uses_of s.uses c) each first)
-      (own_bodies s.components all Q holds (component_at s.components c) lasts (first + length turn) c (there c within))))
+      (own_bodies s.components all Q holds (component_at s.components c) (slots_at s c) lasts (first + length turn) c (there c within))))
 
   -- the rows of a root among themselves
   root_sits : (rows : List Row) → Sits rows 0 rows
@@ -151,9 +193,9 @@ module _ (s : Schema) (ordered : HasOrder s.uses) (one : AreOfOne s.uses s.compo
   pub rows_have_leaves : (root : ℕ) → root < length s.uses → HaveLeaves s.components (rows_of s root)
   rows_have_leaves root within =
       bodies_at (rows_of s root) (λ simple body. ReadsBy (rows_of s root) (IsAmong s.components simple) body)
-      (λ number content prim name simple f prefix tried component is sits.
-      framed_reads (rows_of s root) (IsAmong s.components simple) f content (content + 1) sits
-      (leaf_reads (rows_of s root) (IsAmong s.components simple) content prim prefix is (number, name, f, prefix, tried, component)))
+      (λ number content prim name simple f prefix tried scanned occurs component is sits.
+      scoped_reads (rows_of s root) (IsAmong s.components simple) f (scanned_list scanned f.terminator) content (content + 1) sits
+      (leaf_reads (rows_of s root) (IsAmong s.components simple) content prim prefix is (number, name, f, prefix, tried, scanned, occurs, component)))
       root within 0 (root_sits (rows_of s root))
 
   -- where there is neither fill nor a delimiter nor a box nor a prefix, the component of a number has none
@@ -165,11 +207,12 @@ module _ (s : Schema) (ordered : HasOrder s.uses) (one : AreOfOne s.uses s.compo
   pub rows_have_bare_leaves : All IsBareComponent s.components → (root : ℕ) → root < length s.uses → HaveBareLeaves s.components (rows_of s root)
   rows_have_bare_leaves bare root within =
       bodies_at (rows_of s root) (λ simple body. IsLeafOf s.components simple (slice_get (rows_of s root) body))
-      (λ number content prim name simple f prefix tried component is sits.
-      let content_is : framed_row f content (content + 1) ≡ content
-      = unframed_row f content (content + 1) (bare_at bare number (SimpleElement name simple prim f prefix tried) component).unframed in
-      let leaf_is : leaf_row prefix prim ≡ leaf_row None prim
-      = ap (λ (own : Option Prefix). leaf_row own prim) (bare_at bare number (SimpleElement name simple prim f prefix tried) component).unprefixed in
+      (λ number content prim name simple f prefix tried scanned occurs component is sits.
+      let own = bare_at bare number (SimpleElement name simple prim f prefix tried scanned occurs) component in
+      let content_is : scoped_whole scanned f content ≡ content
+      = ap (λ (list : Option ℕ). framed_row f None (scoped_row list content (content + 1)) (content + 1 + scope_size list)) (none_scanned scanned f own.unframed)
+      ∙ unframed_row f None content (content + 1 + 0) own.unframed in
+      let leaf_is : leaf_row prefix prim ≡ leaf_row None prim = ap (λ (own : Option Prefix). leaf_row own prim) own.unprefixed in
       subst (λ (n : ℕ). IsLeafOf s.components simple (slice_get (rows_of s root) n)) (sym content_is)
-      (subst (IsLeafOf s.components simple) (sym (is ∙ ap (λ (row : Row). Some row) leaf_is)) (number, name, f, prefix, tried, component)))
+      (subst (IsLeafOf s.components simple) (sym (is ∙ ap (λ (row : Row). Some row) leaf_is)) (number, name, f, prefix, tried, scanned, occurs, component)))
       root within 0 (root_sits (rows_of s root))

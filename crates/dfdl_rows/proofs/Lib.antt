@@ -7,10 +7,11 @@ mod Placed
 mod Counts
 mod Tables
 mod RowsOf
+mod Slotted
 mod Walks
 mod Looks
 mod Named
 mod Elements
+mod Nests
 mod Nesting
 mod Leaves
-mod Leading

@@ -8,7 +8,7 @@ use Rattle.dfdl_rows.specs.Components.{Schema, component_at, place_at}
 use Rattle.dfdl_rows.specs.Refusals.{Names, Behind, Ends, Look, go_on, in_order, at_component, own_refusal, unless_refused, look_from, no_look, look_at}
 use Rattle.dfdl_rows.specs.Looking.{is_plain, are_all, idle_from, idle_of, looks_from, looks_of, looks_left}
 use Rattle.dfdl_rows.specs.declared.component.Component.{Component}
-use Rattle.dfdl_rows.specs.declared.component.Component.TheVariants.{Sequence, Reference, ComplexElement, SimpleElement}
+use Rattle.dfdl_rows.specs.declared.component.Component.TheVariants.{Sequence, ComplexElement, SimpleElement}
 use Rattle.dfdl_rows.specs.declared.refusal.Refusal.{Refusal}
 use Rattle.dfdl_rows.proofs.Parts.{by_parts}
 
@@ -52,10 +52,9 @@ module _ (s : Schema) (order : Places) (is : IsOrder s.uses order) where
   idle_at : (own : Option Refusal) (component : Component) (place : Place) (parts : Look) (b : Bool) (names : Names)
       → (is_none own && (is_plain component && b)) ≡ true
       → (unless_refused own (at_component component place parts) names ≡ parts names) × (b ≡ true)
-  idle_at None (Sequence framing) place parts b names are = (refl, are)
-  idle_at None (Reference framing) place parts b names are = (refl, are)
-  idle_at None (ComplexElement name framing box) place parts b names are = absurd (cc)
-  idle_at None (SimpleElement name simple prim framing prefix tried) place parts b names are = absurd (cc)
+  idle_at None (Sequence framing separated) place parts b names are = (refl, are)
+  idle_at None (ComplexElement name framing box occurs) place parts b names are = absurd (cc)
+  idle_at None (SimpleElement name simple prim framing prefix tried scanned occurs) place parts b names are = absurd (cc)
   idle_at (Some refusal) component place parts b names are = absurd (cc)
 
   idle_next : (c : ℕ) → c < length s.uses → All IsIdle (uses_of s.uses c) → IsIdle c

@@ -1,62 +1,37 @@
 -- The rows of a component nest, name what is there, are plain where there is neither fill nor a delimiter nor a box nor a prefix, and end
 -- with the component's own.
-use Rattle.std.proofs.Common.{◌≡◌, ℕ, zero, suc, ◌+◌, ◌-◌, ◌<◌, ◌≤◌, false, List, [], ◌∷◌, ◌++◌, length, map, get_or, slice_get, All, Option, None, Some, sym, ap, subst, ◌∙◌, refl, arith, append_assoc, length-append}
+use Rattle.std.proofs.Common.{◌≡◌, ℕ, zero, suc, ◌+◌, ◌-◌, ◌<◌, ◌≤◌, Bool, true, false, if◌then◌else◌, List, [], ◌∷◌, ◌++◌, length, map, get_or, slice_get, All, Option, None, Some, sym, ap, subst, ◌∙◌, refl, arith, append_assoc, length-append}
+use Rattle.std.proofs.lemmas.List.{length-map}
 use Rattle.std.proofs.lemmas.List.Elements.{All-nil, All-tail, All-cons, All-append, All-get_or}
 use Rattle.std.proofs.lemmas.Option.{slice_get_within}
 use Rattle.dfdl_forms.specs.declared.simple.Simple.{Simple}
 use Rattle.dfdl_order.specs.Parts.{uses_of}
 use Rattle.dfdl_terms.specs.declared.representations.Representations.{Representations}
 use Rattle.dfdl_terms.specs.Tables.{Named}
-use Rattle.dfdl_terms.specs.declared.delimiters.Delimiter.{Delimiter}
 use Rattle.dfdl_terms.specs.declared.framing.Framing.{Framing}
 use Rattle.dfdl_terms.specs.declared.row.Row.{Row}
 use Rattle.dfdl_terms.specs.declared.row.Row.TheVariants.{Elem, Group, Scope, Boxed, PrefixedBox}
-use Rattle.dfdl_terms.specs.Rows.{ChildrenBelow, Nests, NamesWithin, IsPlainRow, HasPlainRows}
+use Rattle.dfdl_terms.specs.Rows.{ChildrenBelow, Nests, NamesWithin, IsPlainRow, IsWithin, HasPlainRows}
 use Rattle.dfdl_terms.specs.Framing.{no_fill}
-use Rattle.dfdl_rows.specs.Components.{Schema, component_at, CanHave, AreOfOne, HasOrder, HasPrimitive, HasBoxPrimitive, HasPrefixPrimitive, HasList, HasDelimiters, IsBareComponent, no_trials}
+use Rattle.dfdl_rows.specs.Components.{Schema, component_at, slots_at, CanHave, AreOfOne, HasOrder, HasPrimitive, HasBoxPrimitive, HasPrefixPrimitive, HasList, HasSeparators, HasDelimiters, IsBareComponent, no_trials, occurs_in}
+use Rattle.dfdl_rows.specs.Slots.{laid_of, separator_list, slots_of, slots_of_sequence, slots_size}
+use Rattle.dfdl_rows.specs.declared.component.Separated.{Separated}
 use Rattle.dfdl_rows.specs.declared.component.Component.{Component}
-use Rattle.dfdl_rows.specs.declared.component.Component.TheVariants.{Sequence, Reference, ComplexElement, SimpleElement}
+use Rattle.dfdl_rows.specs.declared.component.Component.TheVariants.{Sequence, ComplexElement, SimpleElement}
 use Rattle.dfdl_rows.specs.declared.component.ContentBox.{ContentBox}
 use Rattle.dfdl_rows.specs.declared.component.ContentBox.TheVariants.{Unbounded, Sized, Prefixed}
 use Rattle.dfdl_rows.specs.Boxes.{box_rows, boxed_row, box_size}
-use Rattle.dfdl_rows.specs.RowLists.{Numbered, leaf_row, element_rows, boxed_rows, scoped, own_rows, in_turn, last_rows, rows_at, rows_of}
+use Rattle.dfdl_rows.specs.RowLists.{Numbered, leaf_row, element_rows, boxed_rows, scoped, sequence_rows, own_rows, in_turn, last_rows, rows_at, rows_of}
 use Rattle.dfdl_rows.specs.Answers.{EndsWith}
-use Rattle.dfdl_rows.specs.Scopes.{scope_rows, scoped_row, scope_size}
+use Rattle.dfdl_rows.specs.Scopes.{list_of, scanned_list, scope_rows, scoped_row, scope_size}
 use Rattle.dfdl_rows.specs.Framing.{has_framing, rows_before, rows_behind, numbers, in_group, framed, framed_row}
 use Rattle.dfdl_rows.proofs.Framed.{framed_cases, unframed, length_framed, framed_end, framed_below, before_all, behind_all, framed_all}
 use Rattle.dfdl_rows.proofs.Boxed.{length_box, box_end, box_below, leaf_holds, element_all, boxed_all}
-use Rattle.dfdl_rows.proofs.Scoped.{length_scope, scope_end, scope_below, scoped_all, no_terminator}
+use Rattle.dfdl_rows.proofs.Scoped.{length_scope, scope_end, scope_below, scoped_all, no_terminator, none_scanned, listed, scanned_holds}
+use Rattle.dfdl_rows.proofs.Nests.{NestsFrom, nests_none, nests_cons, nests_append}
+use Rattle.dfdl_rows.proofs.Slotted.{laid_all, laid_nests, length_laid, none_laid}
 use Rattle.dfdl_rows.proofs.Parts.{by_parts, parts_within}
 use Rattle.dfdl_rows.proofs.RowsOf.{rows_step, length_rows, length_lasts, some_rows}
-
--- rows that begin at a number have their children below them
-unfoldable pub NestsFrom : ℕ → List Row → Type 0
-NestsFrom first rows = (i : ℕ) (row : Row) → slice_get rows i ≡ Some row → ChildrenBelow (first + i) row
-
-nests_none : (first : ℕ) → NestsFrom first []
-unfolding NestsFrom
-nests_none first i row is = absurd (let less = slice_get_within [] i row is in omega arith)
-
-nests_cons : (first : ℕ) (row : Row) (rows : List Row) → ChildrenBelow first row → NestsFrom (first + 1) rows → NestsFrom first (row ∷ rows)
-unfolding NestsFrom
-nests_cons first row rows here behind zero other is =
-    let same : row ≡ other = cc in
-    subst (λ (r : Row). ChildrenBelow (first + 0) r) same (subst (λ (n : ℕ). ChildrenBelow n row) (omega arith) here)
-nests_cons first row rows here behind (suc i) other is = subst (λ (n : ℕ). ChildrenBelow n other) (omega arith) (behind i other is)
-
-nests_first : (first : ℕ) (row : Row) (rows : List Row) → NestsFrom first (row ∷ rows) → ChildrenBelow first row
-unfolding NestsFrom
-nests_first first row rows all = subst (λ (n : ℕ). ChildrenBelow n row) (omega arith) (all 0 row refl)
-
-nests_tail : (first : ℕ) (row : Row) (rows : List Row) → NestsFrom first (row ∷ rows) → NestsFrom (first + 1) rows
-unfolding NestsFrom
-nests_tail first row rows all i other is = subst (λ (n : ℕ). ChildrenBelow n other) (omega arith) (all (suc i) other is)
-
-nests_append : (xs ys : List Row) (first : ℕ) → NestsFrom first xs → NestsFrom (first + length xs) ys → NestsFrom first (xs ++ ys)
-nests_append [] ys first here behind = subst (λ (n : ℕ). NestsFrom n ys) (omega arith) behind
-nests_append (x ∷ xs) ys first here behind =
-    nests_cons first x (xs ++ ys) (nests_first first x xs here)
-    (nests_append xs ys (first + 1) (nests_tail first x xs here) (subst (λ (n : ℕ). NestsFrom n ys) (omega arith) behind))
 
 -- wherever rows begin, they nest and there is one
 pub record IsNested (rows : Numbered) : Type 0 where
@@ -92,32 +67,34 @@ numbers_below (row ∷ rows) first bound few = All-cons (λ n. n < bound) first 
     (numbers_below rows (first + 1) bound (omega (arith, few)))
 
 -- a content with what frames it
-module _ (f : Framing) (content first : ℕ) (low : content < first) where
-  group_below : All (λ n. n < first + length (rows_before f) + length (rows_behind f)) (in_group f content first)
-  group_below = All-append (λ n. n < first + length (rows_before f) + length (rows_behind f)) (numbers (rows_before f) first)
-      (content ∷ numbers (rows_behind f) (first + length (rows_before f)))
-      (numbers_below (rows_before f) first (first + length (rows_before f) + length (rows_behind f)) (omega arith))
-      (All-cons (λ n. n < first + length (rows_before f) + length (rows_behind f)) content (numbers (rows_behind f) (first + length (rows_before f)))
+module _ (f : Framing) (separators : Option ℕ) (content first : ℕ) (low : content < first) where
+  group_below : All (λ n. n < first + length (rows_before f) + length (rows_behind f separators)) (in_group f separators content first)
+  group_below = All-append (λ n. n < first + length (rows_before f) + length (rows_behind f separators)) (numbers (rows_before f) first)
+      (content ∷ numbers (rows_behind f separators) (first + length (rows_before f)))
+      (numbers_below (rows_before f) first (first + length (rows_before f) + length (rows_behind f separators)) (omega arith))
+      (All-cons (λ n. n < first + length (rows_before f) + length (rows_behind f separators)) content (numbers (rows_behind f separators) (first + length (rows_before f)))
       (omega (arith, low))
-      (numbers_below (rows_behind f) (first + length (rows_before f)) (first + length (rows_before f) + length (rows_behind f)) (omega arith)))
+      (numbers_below (rows_behind f separators) (first + length (rows_before f)) (first + length (rows_before f) + length (rows_behind f separators)) (omega arith)))
 
-  nests_framed : NestsFrom first (framed f content first)
-  nests_framed = framed_cases f content first (λ rows whole size. NestsFrom first rows) (λ none. nests_none first)
+  nests_framed : NestsFrom first (framed f separators content first)
+  nests_framed = framed_cases f separators content first (λ rows whole size. NestsFrom first rows) (λ none. nests_none first)
       (λ some.
-      nests_append (rows_before f) (rows_behind f ++ Group (in_group f content first) ∷ []) first
-      (nests_flat (rows_before f) first (before_all (λ row. (n : ℕ) → ChildrenBelow n row) (λ bits n. tt) (λ bits n. tt) f (λ own is n. tt) (λ own is n. tt)))
-      (nests_append (rows_behind f) (Group (in_group f content first) ∷ []) (first + length (rows_before f))
-      (nests_flat (rows_behind f) (first + length (rows_before f)) (behind_all (λ row. (n : ℕ) → ChildrenBelow n row) (λ bits n. tt) (λ bits n. tt) f (λ own is n. tt) (λ own is n. tt)))
-      (nests_cons (first + length (rows_before f) + length (rows_behind f)) (Group (in_group f content first)) [] group_below
-      (nests_none (first + length (rows_before f) + length (rows_behind f) + 1)))))
+      nests_append (rows_before f) (rows_behind f separators ++ Group (in_group f separators content first) ∷ []) first
+      (nests_flat (rows_before f) first (before_all (λ row. (n : ℕ) → ChildrenBelow n row) (λ bits n. tt) (λ bits n. tt) f separators (λ own is n. tt) (λ own is n. tt)))
+      (nests_append (rows_behind f separators) (Group (in_group f separators content first) ∷ []) (first + length (rows_before f))
+      (nests_flat (rows_behind f separators) (first + length (rows_before f)) (behind_all (λ row. (n : ℕ) → ChildrenBelow n row) (λ bits n. tt) (λ bits n. tt) f separators (λ own is n. tt) (λ own is n. tt)))
+      (nests_cons (first + length (rows_before f) + length (rows_behind f separators)) (Group (in_group f separators content first)) [] group_below
+      (nests_none (first + length (rows_before f) + length (rows_behind f separators) + 1)))))
 
-  -- the row of an element behind them
-  nests_element : (name : List ℕ) (simple : Option Simple) (tried : Representations) → NestsFrom first (element_rows name simple tried f content first)
-  nests_element name simple tried =
-      let below : framed_row f content first < first + length (framed f content first) = omega (arith, framed_below f content first low, length_framed f content first) in
-      nests_append (framed f content first) (Elem name simple tried (framed_row f content first) ∷ []) first nests_framed
-      (nests_cons (first + length (framed f content first)) (Elem name simple tried (framed_row f content first)) [] below
-      (nests_none (first + length (framed f content first) + 1)))
+-- the row of an element behind them
+nests_element : (f : Framing) (content first : ℕ) → content < first → (name : List ℕ) (simple : Option Simple) (tried : Representations)
+    → NestsFrom first (element_rows name simple tried f content first)
+nests_element f content first low name simple tried =
+    let below : framed_row f None content first < first + length (framed f None content first)
+    = omega (arith, framed_below f None content first low, length_framed f None content first) in
+    nests_append (framed f None content first) (Elem name simple tried (framed_row f None content first) ∷ []) first (nests_framed f None content first low)
+    (nests_cons (first + length (framed f None content first)) (Elem name simple tried (framed_row f None content first)) [] below
+    (nests_none (first + length (framed f None content first) + 1)))
 
 -- a content in its box
 nests_box : (box : ContentBox) (content first : ℕ) → content < first → NestsFrom first (box_rows box content)
@@ -133,11 +110,11 @@ nests_boxed name f box content first low =
     (nests_element f (boxed_row box content first) (first + box_size box) (box_below box content first low) name None no_trials))
 
 -- a content in its scope, and what is around both
-nests_scope : (t : Option Delimiter) (content first : ℕ) → content < first → NestsFrom first (scope_rows t content)
+nests_scope : (t : Option ℕ) (content first : ℕ) → content < first → NestsFrom first (scope_rows t content)
 nests_scope None content first low = nests_none first
-nests_scope (Some own) content first low = nests_cons first (Scope own.list content) [] low (nests_none (first + 1))
+nests_scope (Some list) content first low = nests_cons first (Scope list content) [] low (nests_none (first + 1))
 
-nests_scoped : (t : Option Delimiter) (around : ℕ → ℕ → List Row) → ((content first : ℕ) → content < first → NestsFrom first (around content first))
+nests_scoped : (t : Option ℕ) (around : ℕ → ℕ → List Row) → ((content first : ℕ) → content < first → NestsFrom first (around content first))
     → (content first : ℕ) → content < first → NestsFrom first (scoped t around content first)
 nests_scoped t around nests content first low =
     let others : List Row = around (scoped_row t content first) (first + scope_size t) in
@@ -145,19 +122,41 @@ nests_scoped t around nests content first low =
     (subst (λ (n : ℕ). NestsFrom (first + n) others) (sym (length_scope t content))
     (nests (scoped_row t content first) (first + scope_size t) (scope_below t content first low)))
 
-own_nest : (component : Component) (ps lasts : List ℕ) (first : ℕ) → CanHave component ps → length lasts ≡ length ps → All (λ n. n < first) lasts
-    → NestsFrom first (own_rows component lasts first)
-own_nest (Sequence f) ps lasts first can long below =
-    nests_cons first (Group lasts) (scoped f.terminator (framed f) first (first + 1)) below
-    (nests_scoped f.terminator (framed f) (nests_framed f) first (first + 1) (omega arith))
-own_nest (Reference f) ps lasts first can long below =
-    nests_scoped f.terminator (framed f) (nests_framed f) (get_or lasts 0 0) first (below 0 0 (omega (arith, can, long)))
-own_nest (ComplexElement name f box) ps lasts first can long below =
-    nests_scoped f.terminator (boxed_rows name f box) (nests_boxed name f box) (get_or lasts 0 0) first (below 0 0 (omega (arith, can, long)))
-own_nest (SimpleElement name simple prim f prefix tried) ps lasts first can long below =
-    nests_cons first (leaf_row prefix prim) (element_rows name (Some simple) tried f first (first + 1))
+nests_sequence : (f : Framing) (separators : Option ℕ) (content first : ℕ) → content < first → NestsFrom first (sequence_rows f separators content first)
+nests_sequence f separators =
+    nests_scoped separators (scoped (list_of f.terminator) (framed f separators))
+    (nests_scoped (list_of f.terminator) (framed f separators) (nests_framed f separators))
+
+-- the group of a sequence, with its separators and what repeats its parts
+nests_slots : (f : Framing) (separated : Option Separated) (slots lasts : List ℕ) (first : ℕ) → length slots ≡ length lasts → All (λ n. n < first) lasts
+    → NestsFrom first (own_rows (Sequence f separated) slots lasts first)
+nests_slots f separated slots lasts first long below =
+    let own : List Row = (laid_of separated slots lasts first).rows in
+    let children : List ℕ = (laid_of separated slots lasts first).children in
+    let size : ℕ = slots_size separated slots in
+    let others : List Row = sequence_rows f (separator_list separated) (first + size) (first + size + 1) in
+    let nest = laid_nests separated slots lasts first long below in
+    let count : length own ≡ slots_size separated slots = length_laid separated slots lasts first in
+    nests_append own (Group children ∷ others) first nest.nests
+    (nests_cons (first + length own) (Group children) others nest.below
+    (subst (λ (n : ℕ). NestsFrom (first + n + 1) others) (sym count)
+    (nests_sequence f (separator_list separated) (first + size) (first + size + 1) (omega arith))))
+
+own_nest : (component : Component) (slots ps lasts : List ℕ) (first : ℕ) → CanHave component ps → length lasts ≡ length ps → length slots ≡ length ps
+    → All (λ n. n < first) lasts → NestsFrom first (own_rows component slots lasts first)
+own_nest (Sequence f separated) slots ps lasts first can long many below = nests_slots f separated slots lasts first (omega (arith, long, many)) below
+own_nest (ComplexElement name f box occurs) slots ps lasts first can long many below =
+    nests_scoped (list_of f.terminator) (boxed_rows name f box) (nests_boxed name f box) (get_or lasts 0 0) first (below 0 0 (omega (arith, can, long)))
+own_nest (SimpleElement name simple prim f prefix tried scanned occurs) slots ps lasts first can long many below =
+    let list : Option ℕ = scanned_list scanned f.terminator in
+    nests_cons first (leaf_row prefix prim) (scoped list (element_rows name (Some simple) tried f) first (first + 1))
     (leaf_holds (ChildrenBelow first) prefix prim tt (λ own is. tt))
-    (nests_element f first (first + 1) (omega arith) name (Some simple) tried)
+    (nests_scoped list (element_rows name (Some simple) tried f) (λ content from low. nests_element f content from low name (Some simple) tried)
+    first (first + 1) (omega arith))
+
+-- each part has its slots
+length_slots : (s : Schema) (c : ℕ) → length (slots_at s c) ≡ length (uses_of s.uses c)
+length_slots s c = length-map (uses_of s.uses c) (λ p. slots_of (component_at s.components p) (uses_of s.uses p))
 
 module _ (s : Schema) (ordered : HasOrder s.uses) (one : AreOfOne s.uses s.components s.refusals s.places) where
   nested : (c : ℕ) → c < length s.uses → IsNested (rows_at s c)
@@ -168,10 +167,10 @@ module _ (s : Schema) (ordered : HasOrder s.uses) (one : AreOfOne s.uses s.compo
             let turn : List Row = in_turn (map (rows_at s) (uses_of s.uses c)) first in
             let lasts : List ℕ = last_rows (map (rows_at s) (uses_of s.uses c)) first in
             subst (λ (rows : Numbered). NestsFrom first (rows first)) (sym (rows_step s ordered c within))
-            (nests_append turn (own_rows (component_at s.components c) lasts (first + length turn)) first (nests_turn (rows_at s) (uses_of s.uses c) all first)
-            (own_nest (component_at s.components c) (uses_of s.uses c) lasts (first + length turn) (one.fit c within)
-            (length_lasts (rows_at s) (uses_of s.uses c) first) (lasts_below (rows_at s) (uses_of s.uses c) all first (first + length turn) (omega arith))));
-        some = λ first. omega (arith, length_rows s ordered c within first, some_rows s ordered one c within);
+            (nests_append turn (own_rows (component_at s.components c) (slots_at s c) lasts (first + length turn)) first (nests_turn (rows_at s) (uses_of s.uses c) all first)
+            (own_nest (component_at s.components c) (slots_at s c) (uses_of s.uses c) lasts (first + length turn) (one.fit c within)
+            (length_lasts (rows_at s) (uses_of s.uses c) first) (length_slots s c) (lasts_below (rows_at s) (uses_of s.uses c) all first (first + length turn) (omega arith))));
+        some = λ first. omega (arith, length_rows s ordered c within first, some_rows s ordered c within);
       })
 
   pub rows_nest : (root : ℕ) → root < length s.uses → Nests (rows_of s root)
@@ -193,85 +192,144 @@ turn_all P f (p ∷ ps) all first =
 
 -- what holds of the rows of each component's own
 rows_all : (s : Schema) → HasOrder s.uses → (P : Row → Type 0)
-    → ((c : ℕ) → c < length s.uses → (lasts : List ℕ) (first : ℕ) → All P (own_rows (component_at s.components c) lasts first))
+    → ((c : ℕ) → c < length s.uses → (lasts : List ℕ) (first : ℕ) → All P (own_rows (component_at s.components c) (slots_at s c) lasts first))
     → (c : ℕ) → c < length s.uses → IsAll P (rows_at s c)
 rows_all s ordered P own = by_parts s.uses ordered.0 ordered.1 (λ c. IsAll P (rows_at s c))
     (λ c within all first.
     let turn : List Row = in_turn (map (rows_at s) (uses_of s.uses c)) first in
     let lasts : List ℕ = last_rows (map (rows_at s) (uses_of s.uses c)) first in
     subst (λ (rows : Numbered). All P (rows first)) (sym (rows_step s ordered c within))
-    (All-append P turn (own_rows (component_at s.components c) lasts (first + length turn)) (turn_all P (rows_at s) (uses_of s.uses c) all first)
+    (All-append P turn (own_rows (component_at s.components c) (slots_at s c) lasts (first + length turn)) (turn_all P (rows_at s) (uses_of s.uses c) all first)
     (own c within lasts (first + length turn))))
 
 -- what rows name is there
-module _ (named : Named) (f : Framing) (has : HasList (length named.delimiters) f.initiator × HasList (length named.delimiters) f.terminator) where
-  framed_named : (content first : ℕ) → All (NamesWithin named) (framed f content first)
-  framed_named = framed_all (NamesWithin named) (λ bits. tt) (λ bits. tt) f (λ own is. subst (HasList (length named.delimiters)) is has.0)
-      (λ own is. subst (HasList (length named.delimiters)) is has.1) (λ children. tt)
+module _ (named : Named) (f : Framing) (separators : Option ℕ)
+    (has : HasList (length named.delimiters) f.initiator × HasList (length named.delimiters) f.terminator)
+    (within : IsWithin (length named.delimiters) separators) where
+  framed_named : (content first : ℕ) → All (NamesWithin named) (framed f separators content first)
+  framed_named = framed_all (NamesWithin named) (λ bits. tt) (λ bits. tt) f separators (λ own is. subst (HasList (length named.delimiters)) is has.0)
+      (λ own is. (subst (HasList (length named.delimiters)) is has.1, within)) (λ children. tt)
 
   scoped_named : (around : ℕ → ℕ → List Row) → ((content first : ℕ) → All (NamesWithin named) (around content first))
-      → (content first : ℕ) → All (NamesWithin named) (scoped f.terminator around content first)
-  scoped_named around = scoped_all (NamesWithin named) f.terminator around (λ own body is. subst (HasList (length named.delimiters)) is has.1)
+      → (content first : ℕ) → All (NamesWithin named) (scoped (list_of f.terminator) around content first)
+  scoped_named around =
+      scoped_all (NamesWithin named) (list_of f.terminator) around
+      (λ list body is. listed (λ n. n < length named.delimiters) f.terminator list is (λ own there. subst (HasList (length named.delimiters)) there has.1))
 
-own_named : (named : Named) (component : Component) (lasts : List ℕ) (first : ℕ) → HasPrimitive (length named.primitives) component
-    → HasDelimiters (length named.delimiters) component → All (NamesWithin named) (own_rows component lasts first)
-own_named named (Sequence f) lasts first has lists =
-    All-cons (NamesWithin named) (Group lasts) (scoped f.terminator (framed f) first (first + 1)) tt
-    (scoped_named named f lists (framed f) (framed_named named f lists) first (first + 1))
-own_named named (Reference f) lasts first has lists = scoped_named named f lists (framed f) (framed_named named f lists) (get_or lasts 0 0) first
-own_named named (ComplexElement name f box) lasts first has lists =
-    scoped_named named f lists (boxed_rows name f box)
+  sequence_named : (content first : ℕ) → All (NamesWithin named) (sequence_rows f separators content first)
+  sequence_named =
+      scoped_all (NamesWithin named) separators (scoped (list_of f.terminator) (framed f separators))
+      (λ list body is. subst (IsWithin (length named.delimiters)) is within)
+      (scoped_named (framed f separators) framed_named)
+
+-- the list of a sequence's separators is there
+separators_within : (count : ℕ) (separated : Option Separated) → HasSeparators count separated → IsWithin count (separator_list separated)
+separators_within count None has = tt
+separators_within count (Some own) has = has
+
+own_named : (named : Named) (component : Component) (slots : List ℕ) (lasts : List ℕ) (first : ℕ) → HasPrimitive (length named.primitives) component
+    → HasDelimiters (length named.delimiters) component → All (NamesWithin named) (own_rows component slots lasts first)
+own_named named (Sequence f separated) slots lasts first has lists =
+    let size : ℕ = slots_size separated slots in
+    let own : List Row = (laid_of separated slots lasts first).rows in
+    let children : List ℕ = (laid_of separated slots lasts first).children in
+    let within : IsWithin (length named.delimiters) (separator_list separated) = separators_within (length named.delimiters) separated lists.2 in
+    All-append (NamesWithin named) own (Group children ∷ sequence_rows f (separator_list separated) (first + size) (first + size + 1))
+    (laid_all (NamesWithin named) tt (λ own. tt) (λ count body. tt) separated slots lasts first)
+    (All-cons (NamesWithin named) (Group children) (sequence_rows f (separator_list separated) (first + size) (first + size + 1)) tt
+    (sequence_named named f (separator_list separated) (lists.0, lists.1) within (first + size) (first + size + 1)))
+own_named named (ComplexElement name f box occurs) slots lasts first has lists =
+    scoped_named named f None (lists.0, lists.1) tt (boxed_rows name f box)
     (boxed_all (NamesWithin named) name f box (λ bits body. tt) (λ own body is. subst (HasBoxPrimitive (length named.primitives)) is has)
-    (framed_named named f lists) (λ body. (tt, tt)))
+    (framed_named named f None (lists.0, lists.1) tt) (λ body. (tt, tt)))
     (get_or lasts 0 0) first
-own_named named (SimpleElement name simple prim f prefix tried) lasts first has lists =
-    All-cons (NamesWithin named) (leaf_row prefix prim) (element_rows name (Some simple) tried f first (first + 1))
+own_named named (SimpleElement name simple prim f prefix tried scanned occurs) slots lasts first has lists =
+    let list : Option ℕ = scanned_list scanned f.terminator in
+    All-cons (NamesWithin named) (leaf_row prefix prim) (scoped list (element_rows name (Some simple) tried f) first (first + 1))
     (leaf_holds (NamesWithin named) prefix prim has.0 (λ own is. (subst (HasPrefixPrimitive (length named.primitives)) is has.1, has.0)))
-    (element_all (NamesWithin named) name (Some simple) tried f first (first + 1) (framed_named named f lists first (first + 1)) has.2)
+    (scoped_all (NamesWithin named) list (element_rows name (Some simple) tried f)
+    (λ n body is. scanned_holds (λ n. n < length named.delimiters) scanned f.terminator n is (λ own there. subst (HasList (length named.delimiters)) there lists.1))
+    (λ content from. element_all (NamesWithin named) name (Some simple) tried f content from (framed_named named f None (lists.0, lists.1) tt content from) has.2)
+    first (first + 1))
 
 -- each row is plain where there is neither fill nor a delimiter nor a box nor a prefix
 module _ (f : Framing) (none : has_framing f ≡ false) where
-  unframed_plain : (content first : ℕ) → All IsPlainRow (framed f content first)
-  unframed_plain content first = subst (All IsPlainRow) (sym (unframed f content first none)) (All-nil IsPlainRow)
+  unframed_plain : (content first : ℕ) → All IsPlainRow (framed f None content first)
+  unframed_plain content first = subst (All IsPlainRow) (sym (unframed f None content first none)) (All-nil IsPlainRow)
 
-  no_scope : (own : Delimiter) → f.terminator ≡ Some own → ⊥
-  no_scope own is = absurd (let there = no_terminator f none in cc)
+  no_scope : (list : ℕ) → list_of f.terminator ≡ Some list → ⊥
+  no_scope list is = absurd (let there = no_terminator f none in cc)
 
   unscoped_plain : (around : ℕ → ℕ → List Row) → ((content first : ℕ) → All IsPlainRow (around content first))
-      → (content first : ℕ) → All IsPlainRow (scoped f.terminator around content first)
-  unscoped_plain around = scoped_all IsPlainRow f.terminator around (λ own body is. no_scope own is)
+      → (content first : ℕ) → All IsPlainRow (scoped (list_of f.terminator) around content first)
+  unscoped_plain around = scoped_all IsPlainRow (list_of f.terminator) around (λ list body is. no_scope list is)
 
   element_plain : (name : List ℕ) (simple : Option Simple) (tried : Representations) (content first : ℕ)
       → All IsPlainRow (element_rows name simple tried f content first)
   element_plain name simple tried content first = element_all IsPlainRow name simple tried f content first (unframed_plain content first) tt
 
-own_bare : (component : Component) (lasts : List ℕ) (first : ℕ) → IsBareComponent component → All IsPlainRow (own_rows component lasts first)
-own_bare (Sequence f) lasts first bare =
-    All-cons IsPlainRow (Group lasts) (scoped f.terminator (framed f) first (first + 1)) tt
-    (unscoped_plain f bare.unframed (framed f) (unframed_plain f bare.unframed) first (first + 1))
-own_bare (Reference f) lasts first bare = unscoped_plain f bare.unframed (framed f) (unframed_plain f bare.unframed) (get_or lasts 0 0) first
-own_bare (ComplexElement name f Unbounded) lasts first bare =
+own_bare : (component : Component) (slots lasts : List ℕ) (first : ℕ) → IsBareComponent component → All (λ n. n ≤ 1) slots
+    → All IsPlainRow (own_rows component slots lasts first)
+own_bare (Sequence f None) slots lasts first bare few =
+    let size : ℕ = slots_size None slots in
+    let others : List Row = Group (laid_of None slots lasts first).children ∷ sequence_rows f None (first + size) (first + size + 1) in
+    subst (λ (own : List Row). All IsPlainRow (own ++ others)) (sym (none_laid slots lasts first few))
+    (All-cons IsPlainRow (Group (laid_of None slots lasts first).children) (sequence_rows f None (first + size) (first + size + 1)) tt
+    (unscoped_plain f bare.unframed (framed f None) (unframed_plain f bare.unframed) (first + size) (first + size + 1 + 0)))
+own_bare (Sequence f (Some own)) slots lasts first bare few = absurd (let none = bare.unseparated in cc)
+own_bare (ComplexElement name f Unbounded occurs) slots lasts first bare few =
     unscoped_plain f bare.unframed (boxed_rows name f Unbounded) (λ content n. element_plain f bare.unframed name None no_trials content (n + 0))
     (get_or lasts 0 0) first
-own_bare (ComplexElement name f (Sized bits)) lasts first bare = absurd (let none = bare.unboxed in cc)
-own_bare (ComplexElement name f (Prefixed prefix)) lasts first bare = absurd (let none = bare.unboxed in cc)
-own_bare (SimpleElement name simple prim f prefix tried) lasts first bare =
-    All-cons IsPlainRow (leaf_row prefix prim) (element_rows name (Some simple) tried f first (first + 1))
+own_bare (ComplexElement name f (Sized bits) occurs) slots lasts first bare few = absurd (let none = bare.unboxed in cc)
+own_bare (ComplexElement name f (Prefixed prefix) occurs) slots lasts first bare few = absurd (let none = bare.unboxed in cc)
+own_bare (SimpleElement name simple prim f prefix tried scanned occurs) slots lasts first bare few =
+    let list : Option ℕ = scanned_list scanned f.terminator in
+    All-cons IsPlainRow (leaf_row prefix prim) (scoped list (element_rows name (Some simple) tried f) first (first + 1))
     (leaf_holds IsPlainRow prefix prim tt (λ own is. absurd (let none = bare.unprefixed in cc)))
-    (element_plain f bare.unframed name (Some simple) tried first (first + 1))
+    (scoped_all IsPlainRow list (element_rows name (Some simple) tried f)
+    (λ n body is. absurd (let none = none_scanned scanned f bare.unframed in cc)) (element_plain f bare.unframed name (Some simple) tried)
+    first (first + 1))
+
+-- each part has one slot or none
+once_sequence : (f : Framing) (parts : List ℕ) → slots_of_sequence f parts ≤ 1
+once_sequence f [] = by (has_framing f)
+  where
+    by : (b : Bool) → (if b then 1 else 0) ≤ 1
+    by true = omega arith
+    by false = omega arith
+once_sequence f (part ∷ parts) = omega arith
+
+once_slots : (component : Component) (parts : List ℕ) → occurs_in component ≤ 1 → slots_of component parts ≤ 1
+once_slots (Sequence f separated) parts few = once_sequence f parts
+once_slots (ComplexElement name f box occurs) parts few = few
+once_slots (SimpleElement name simple prim f prefix tried scanned occurs) parts few = few
+
+bare_once : (components : List Component) (p : ℕ) → All IsBareComponent components → occurs_in (component_at components p) ≤ 1
+bare_once [] p bare = omega arith
+bare_once (k ∷ components) zero bare = (bare 0 k (omega arith)).once
+bare_once (k ∷ components) (suc p) bare = bare_once components p (All-tail IsBareComponent k components bare)
+
+slots_once : (s : Schema) → All IsBareComponent s.components → (c : ℕ) → All (λ n. n ≤ 1) (slots_at s c)
+slots_once s bare c = all (uses_of s.uses c)
+  where
+    all : (ps : List ℕ) → All (λ n. n ≤ 1) (map (λ p. slots_of (component_at s.components p) (uses_of s.uses p)) ps)
+    all [] = All-nil (λ n. n ≤ 1)
+    all (p ∷ ps) =
+        All-cons (λ n. n ≤ 1) (slots_of (component_at s.components p) (uses_of s.uses p)) (map (λ p. slots_of (component_at s.components p) (uses_of s.uses p)) ps)
+        (once_slots (component_at s.components p) (uses_of s.uses p) (bare_once s.components p bare)) (all ps)
 
 module _ (s : Schema) (ordered : HasOrder s.uses) (one : AreOfOne s.uses s.components s.refusals s.places) where
   pub rows_named : (named : Named) → All (HasPrimitive (length named.primitives)) s.components → All (HasDelimiters (length named.delimiters)) s.components
       → (c : ℕ) → c < length s.uses → IsAll (NamesWithin named) (rows_at s c)
   rows_named named has lists = rows_all s ordered (NamesWithin named)
-      (λ c within lasts first. own_named named (component_at s.components c) lasts first
-      (All-get_or (HasPrimitive (length named.primitives)) s.components c (Sequence no_fill) (omega (arith, within, one.counted)) has)
-      (All-get_or (HasDelimiters (length named.delimiters)) s.components c (Sequence no_fill) (omega (arith, within, one.counted)) lists))
+      (λ c within lasts first. own_named named (component_at s.components c) (slots_at s c) lasts first
+      (All-get_or (HasPrimitive (length named.primitives)) s.components c (Sequence no_fill None) (omega (arith, within, one.counted)) has)
+      (All-get_or (HasDelimiters (length named.delimiters)) s.components c (Sequence no_fill None) (omega (arith, within, one.counted)) lists))
 
   pub rows_bare : All IsBareComponent s.components → (root : ℕ) → root < length s.uses → HasPlainRows (rows_of s root)
   rows_bare bare root within = rows_all s ordered IsPlainRow
-      (λ c within lasts first. own_bare (component_at s.components c) lasts first
-      (All-get_or IsBareComponent s.components c (Sequence no_fill) (omega (arith, within, one.counted)) bare))
+      (λ c within lasts first. own_bare (component_at s.components c) (slots_at s c) lasts first
+      (All-get_or IsBareComponent s.components c (Sequence no_fill None) (omega (arith, within, one.counted)) bare) (slots_once s bare c))
       root within 0
 
 -- an element's own row is the last one
@@ -295,15 +353,15 @@ IsLast name simple tried rows = slice_get rows (length rows - 1) ≡ Some (Elem 
 element_last : (before : List Row) (f : Framing) (content first : ℕ) (name : List ℕ) (simple : Option Simple) (tried : Representations) → first ≡ length before → content + 1 ≡ first
     → IsLast name simple tried (before ++ element_rows name simple tried f content first)
 element_last before f content first name simple tried begins is =
-    let row : Row = Elem name simple tried (framed_row f content first) in
-    let regrouped : before ++ (framed f content first ++ row ∷ []) ≡ (before ++ framed f content first) ++ row ∷ [] = sym (append_assoc before (framed f content first) (row ∷ [])) in
-    let count : length (before ++ (framed f content first ++ row ∷ [])) ≡ length before + length (framed f content first ++ row ∷ [])
-    = length-append before (framed f content first ++ row ∷ []) in
-    let rest : length (framed f content first ++ row ∷ []) ≡ length (framed f content first) + 1 = length-append (framed f content first) (row ∷ []) in
-    let same : framed_row f content first ≡ length (before ++ (framed f content first ++ row ∷ [])) - 2
-    = omega (arith, begins, count, rest, framed_end f content first is, length_framed f content first) in
+    let row : Row = Elem name simple tried (framed_row f None content first) in
+    let regrouped : before ++ (framed f None content first ++ row ∷ []) ≡ (before ++ framed f None content first) ++ row ∷ [] = sym (append_assoc before (framed f None content first) (row ∷ [])) in
+    let count : length (before ++ (framed f None content first ++ row ∷ [])) ≡ length before + length (framed f None content first ++ row ∷ [])
+    = length-append before (framed f None content first ++ row ∷ []) in
+    let rest : length (framed f None content first ++ row ∷ []) ≡ length (framed f None content first) + 1 = length-append (framed f None content first) (row ∷ []) in
+    let same : framed_row f None content first ≡ length (before ++ (framed f None content first ++ row ∷ [])) - 2
+    = omega (arith, begins, count, rest, framed_end f None content first is, length_framed f None content first) in
     ap (λ (rows : List Row). slice_get rows (length rows - 1)) regrouped
-    ∙ (last_of (before ++ framed f content first) row ∙ ap (λ (n : ℕ). Some (Elem name simple tried n)) same)
+    ∙ (last_of (before ++ framed f None content first) row ∙ ap (λ (n : ℕ). Some (Elem name simple tried n)) same)
 
 module _ (name : List ℕ) (f : Framing) (box : ContentBox) (before : List Row) (content first : ℕ) (begins : first ≡ length before) (is : content + 1 ≡ first) where
   boxed_last : IsLast name None no_trials (before ++ boxed_rows name f box content first)
@@ -314,13 +372,13 @@ module _ (name : List ℕ) (f : Framing) (box : ContentBox) (before : List Row) 
       (omega (arith, begins, length-append before (box_rows box content), length_box box content)) (box_end box content first is))
 
 complex_last : (name : List ℕ) (f : Framing) (box : ContentBox) (before : List Row) (content first : ℕ) → first ≡ length before → content + 1 ≡ first
-    → IsLast name None no_trials (before ++ scoped f.terminator (boxed_rows name f box) content first)
+    → IsLast name None no_trials (before ++ scoped (list_of f.terminator) (boxed_rows name f box) content first)
 complex_last name f box before content first begins is =
-    let others : List Row = boxed_rows name f box (scoped_row f.terminator content first) (first + scope_size f.terminator) in
-    subst (IsLast name None no_trials) (append_assoc before (scope_rows f.terminator content) others)
-    (boxed_last name f box (before ++ scope_rows f.terminator content) (scoped_row f.terminator content first) (first + scope_size f.terminator)
-    (omega (arith, begins, length-append before (scope_rows f.terminator content), length_scope f.terminator content))
-    (scope_end f.terminator content first is))
+    let others : List Row = boxed_rows name f box (scoped_row (list_of f.terminator) content first) (first + scope_size (list_of f.terminator)) in
+    subst (IsLast name None no_trials) (append_assoc before (scope_rows (list_of f.terminator) content) others)
+    (boxed_last name f box (before ++ scope_rows (list_of f.terminator) content) (scoped_row (list_of f.terminator) content first) (first + scope_size (list_of f.terminator))
+    (omega (arith, begins, length-append before (scope_rows (list_of f.terminator) content), length_scope (list_of f.terminator) content))
+    (scope_end (list_of f.terminator) content first is))
 
 turn_some : (f : ℕ → Numbered) (ps : List ℕ) → length ps ≡ 1 → All (λ p. 0 < length (f p 0)) ps → 0 < length (in_turn (map f ps) 0)
 turn_some f [] one all = absurd (omega (arith, one))
@@ -328,24 +386,29 @@ turn_some f (p ∷ ps) one all =
     let here : 0 < length (f p 0) = all 0 p (omega arith) in
     omega (arith, here, length-append (f p 0) (in_turn (map f ps) (0 + length (f p 0))))
 
-own_last : (component : Component) (f : ℕ → Numbered) (ps : List ℕ) → CanHave component ps → All (λ p. 0 < length (f p 0)) ps
-    → EndsWith component (in_turn (map f ps) 0 ++ own_rows component (last_rows (map f ps) 0) (0 + length (in_turn (map f ps) 0)))
-own_last (Sequence framing) f ps can some = tt
-own_last (Reference framing) f ps can some = tt
-own_last (ComplexElement name framing box) f ps can some =
+own_last : (component : Component) (slots : List ℕ) (f : ℕ → Numbered) (ps : List ℕ) → CanHave component ps → All (λ p. 0 < length (f p 0)) ps
+    → EndsWith component (in_turn (map f ps) 0 ++ own_rows component slots (last_rows (map f ps) 0) (0 + length (in_turn (map f ps) 0)))
+own_last (Sequence framing separated) slots f ps can some = tt
+own_last (ComplexElement name framing box occurs) slots f ps can some =
     complex_last name framing box (in_turn (map f ps) 0) (get_or (last_rows (map f ps) 0) 0 0) (0 + length (in_turn (map f ps) 0)) (omega arith)
     (omega (arith, one_part f ps can, turn_some f ps can some))
-own_last (SimpleElement name simple prim framing prefix tried) f ps can some =
+own_last (SimpleElement name simple prim framing prefix tried scanned occurs) slots f ps can some =
     let turn : List Row = in_turn (map f ps) 0 in
     let first : ℕ = 0 + length (in_turn (map f ps) 0) in
-    let own : List Row = element_rows name (Some simple) tried framing first (first + 1) in
-    let regrouped : turn ++ (leaf_row prefix prim ∷ own) ≡ (turn ++ leaf_row prefix prim ∷ []) ++ own = sym (append_assoc turn (leaf_row prefix prim ∷ []) own) in
+    let list : Option ℕ = scanned_list scanned framing.terminator in
+    let whole : ℕ = scoped_row list first (first + 1) in
+    let behind : ℕ = first + 1 + scope_size list in
+    let own : List Row = element_rows name (Some simple) tried framing (scoped_row list first (first + 1)) (first + 1 + scope_size list) in
+    let before : List Row = turn ++ (leaf_row prefix prim ∷ scope_rows list first) in
+    let regrouped : turn ++ (leaf_row prefix prim ∷ (scope_rows list first ++ own)) ≡ before ++ own
+    = sym (append_assoc turn (leaf_row prefix prim ∷ scope_rows list first) own) in
     subst (IsLast name (Some simple) tried) (sym regrouped)
-    (element_last (turn ++ leaf_row prefix prim ∷ []) framing first (first + 1) name (Some simple) tried (omega (arith, length-append turn (leaf_row prefix prim ∷ []))) refl)
+    (element_last before framing whole behind name (Some simple) tried
+    (omega (arith, length-append turn (leaf_row prefix prim ∷ scope_rows list first), length_scope list first)) (scope_end list first (first + 1) refl))
 
 pub rows_end : (s : Schema) → HasOrder s.uses → AreOfOne s.uses s.components s.refusals s.places → (root : ℕ) → root < length s.uses
     → EndsWith (component_at s.components root) (rows_of s root)
 rows_end s ordered one root within =
     subst (λ (rows : Numbered). EndsWith (component_at s.components root) (rows 0)) (sym (rows_step s ordered root within))
-    (own_last (component_at s.components root) (rows_at s) (uses_of s.uses root) (one.fit root within)
+    (own_last (component_at s.components root) (slots_at s root) (rows_at s) (uses_of s.uses root) (one.fit root within)
     (λ k d less. (nested s ordered one (get_or (uses_of s.uses root) k d) (parts_within s.uses ordered.0 ordered.1 root within k d less)).some 0))

@@ -1,5 +1,5 @@
 -- The rows that frame a content are pushed, a row at a time.
-use Rattle.std.proofs.Common.{◌≡◌, ℕ, ◌+◌, ◌<◌, Bool, true, false, if◌then◌else◌, List, [], ◌∷◌, ◌++◌, length, sym, ap, ◌∙◌, arith, append_assoc, length-append}
+use Rattle.std.proofs.Common.{Option, ◌≡◌, ℕ, ◌+◌, ◌<◌, Bool, true, false, if◌then◌else◌, List, [], ◌∷◌, ◌++◌, length, sym, ap, ◌∙◌, arith, append_assoc, length-append}
 use Rattle.std.proofs.lemmas.List.{append-nil}
 use Rattle.dfdl_terms.specs.declared.framing.Framing.{Framing}
 use Rattle.dfdl_terms.specs.declared.row.Row.{Row}
@@ -8,29 +8,29 @@ use Rattle.dfdl_rows.specs.Framing.{has_framing, skip_rows, align_rows, initiato
 use Rattle.dfdl_rows.proofs.Framed.{filled, unframed}
 
 -- where nothing frames a content
-pub none_size : (f : Framing) → has_framing f ≡ false → 0 ≡ framing_size f
+pub none_size : (f : Framing) (separators : Option ℕ) → has_framing f ≡ false → 0 ≡ framing_size f separators
 unfolding framing_size
-none_size f none = sym (ap (λ (b : Bool). if b then length (rows_before f) + length (rows_behind f) + 1 else 0) none)
+none_size f separators none = sym (ap (λ (b : Bool). if b then length (rows_before f) + length (rows_behind f separators) + 1 else 0) none)
 
-pub none_pushed : (f : Framing) (content first : ℕ) (rows : List Row) → has_framing f ≡ false → rows ≡ rows ++ framed f content first
-none_pushed f content first rows none = sym (append-nil rows) ∙ ap (λ (own : List Row). rows ++ own) (sym (unframed f content first none))
+pub none_pushed : (f : Framing) (separators : Option ℕ) (content first : ℕ) (rows : List Row) → has_framing f ≡ false → rows ≡ rows ++ framed f separators content first
+none_pushed f separators content first rows none = sym (append-nil rows) ∙ ap (λ (own : List Row). rows ++ own) (sym (unframed f separators content first none))
 
 -- where something does
-framed_is : (f : Framing) (content first : ℕ) → has_framing f ≡ true → framed f content first ≡ filled f content first
+framed_is : (f : Framing) (separators : Option ℕ) (content first : ℕ) → has_framing f ≡ true → framed f separators content first ≡ filled f separators content first
 unfolding framed
-framed_is f content first some = ap (λ (b : Bool). if b then filled f content first else []) some
+framed_is f separators content first some = ap (λ (b : Bool). if b then filled f separators content first else []) some
 
-row_is : (f : Framing) (content first : ℕ) → has_framing f ≡ true → framed_row f content first ≡ first + length (rows_before f) + length (rows_behind f)
+row_is : (f : Framing) (separators : Option ℕ) (content first : ℕ) → has_framing f ≡ true → framed_row f separators content first ≡ first + length (rows_before f) + length (rows_behind f separators)
 unfolding framed_row
-row_is f content first some = ap (λ (b : Bool). if b then first + length (rows_before f) + length (rows_behind f) else content) some
+row_is f separators content first some = ap (λ (b : Bool). if b then first + length (rows_before f) + length (rows_behind f separators) else content) some
 
-size_is : (f : Framing) → has_framing f ≡ true → framing_size f ≡ length (rows_before f) + length (rows_behind f) + 1
+size_is : (f : Framing) (separators : Option ℕ) → has_framing f ≡ true → framing_size f separators ≡ length (rows_before f) + length (rows_behind f separators) + 1
 unfolding framing_size
-size_is f some = ap (λ (b : Bool). if b then length (rows_before f) + length (rows_behind f) + 1 else 0) some
+size_is f separators some = ap (λ (b : Bool). if b then length (rows_before f) + length (rows_behind f separators) + 1 else 0) some
 
-pub some_size : (f : Framing) (before behind : ℕ) → has_framing f ≡ true → before ≡ length (rows_before f) → behind ≡ length (rows_behind f)
-    → before + behind + 1 ≡ framing_size f
-some_size f before behind some befores behinds = omega (arith, befores, behinds, size_is f some)
+pub some_size : (f : Framing) (separators : Option ℕ) (before behind : ℕ) → has_framing f ≡ true → before ≡ length (rows_before f) → behind ≡ length (rows_behind f separators)
+    → before + behind + 1 ≡ framing_size f separators
+some_size f separators before behind some befores behinds = omega (arith, befores, behinds, size_is f separators some)
 
 pub before_size : (f : Framing) (leading align initiator : ℕ) → leading ≡ length (skip_rows f.leading_skip) → align ≡ length (align_rows f.alignment)
     → initiator ≡ length (initiator_rows f.initiator) → leading + align + initiator ≡ length (rows_before f)
@@ -41,11 +41,11 @@ before_size f leading align initiator leads aligns begins =
     = length-append (skip_rows f.leading_skip) (align_rows f.alignment ++ initiator_rows f.initiator) in
     omega (arith, leads, aligns, begins, rest, whole)
 
-pub behind_size : (f : Framing) (terminator trailing : ℕ) → terminator ≡ length (terminator_rows f.terminator) → trailing ≡ length (skip_rows f.trailing_skip)
-    → terminator + trailing ≡ length (rows_behind f)
-behind_size f terminator trailing ends trails =
-    let whole : length (rows_behind f) ≡ length (terminator_rows f.terminator) + length (skip_rows f.trailing_skip)
-    = length-append (terminator_rows f.terminator) (skip_rows f.trailing_skip) in
+pub behind_size : (f : Framing) (separators : Option ℕ) (terminator trailing : ℕ) → terminator ≡ length (terminator_rows f.terminator separators) → trailing ≡ length (skip_rows f.trailing_skip)
+    → terminator + trailing ≡ length (rows_behind f separators)
+behind_size f separators terminator trailing ends trails =
+    let whole : length (rows_behind f separators) ≡ length (terminator_rows f.terminator separators) + length (skip_rows f.trailing_skip)
+    = length-append (terminator_rows f.terminator separators) (skip_rows f.trailing_skip) in
     omega (arith, ends, trails, whole)
 
 numbers_append : (xs ys : List Row) (first : ℕ) → numbers (xs ++ ys) first ≡ numbers xs first ++ numbers ys (first + length xs)
@@ -73,43 +73,43 @@ module _ (rows xs ys next : List Row) (next_is : next ≡ rows ++ xs) where
       ∙ ap (λ (ns : List ℕ). g ++ ns) (sym (numbers_append xs ys (length rows))))))
 
 -- the rows before a content, and those behind it
-pub before_few : (f : Framing) (most : ℕ) (rows : List Row) → has_framing f ≡ true → length rows + framing_size f < most
+pub before_few : (f : Framing) (separators : Option ℕ) (most : ℕ) (rows : List Row) → has_framing f ≡ true → length rows + framing_size f separators < most
     → length rows + length (rows_before f) < most
-before_few f most rows some few = omega (arith, few, size_is f some)
+before_few f separators most rows some few = omega (arith, few, size_is f separators some)
 
-module _ (f : Framing) (content most : ℕ) (rows before : List Row) (some : has_framing f ≡ true) (few : length rows + framing_size f < most)
+module _ (f : Framing) (separators : Option ℕ) (content most : ℕ) (rows before : List Row) (some : has_framing f ≡ true) (few : length rows + framing_size f separators < most)
     (before_is : before ≡ rows ++ rows_before f) where
   before_long : length before ≡ length rows + length (rows_before f)
   before_long = ap (λ (rs : List Row). length rs) before_is ∙ length-append rows (rows_before f)
 
-  pub behind_few : length before + length (rows_behind f) < most
-  behind_few = omega (arith, few, size_is f some, before_long)
+  pub behind_few : length before + length (rows_behind f separators) < most
+  behind_few = omega (arith, few, size_is f separators some, before_long)
 
-  module _ (behind : List Row) (behind_is : behind ≡ before ++ rows_behind f) where
-    behind_long : length behind ≡ length before + length (rows_behind f)
-    behind_long = ap (λ (rs : List Row). length rs) behind_is ∙ length-append before (rows_behind f)
+  module _ (behind : List Row) (behind_is : behind ≡ before ++ rows_behind f separators) where
+    behind_long : length behind ≡ length before + length (rows_behind f separators)
+    behind_long = ap (λ (rs : List Row). length rs) behind_is ∙ length-append before (rows_behind f separators)
 
     pub whole_few : length behind < most
-    whole_few = omega (arith, few, size_is f some, before_long, behind_long)
+    whole_few = omega (arith, few, size_is f separators some, before_long, behind_long)
 
-    pub whole_row : (whole : ℕ) → whole ≡ length behind → whole ≡ framed_row f content (length rows)
+    pub whole_row : (whole : ℕ) → whole ≡ length behind → whole ≡ framed_row f separators content (length rows)
     whole_row whole is =
-        let ends : length behind ≡ length rows + length (rows_before f) + length (rows_behind f) = omega (arith, before_long, behind_long) in
-        is ∙ (ends ∙ sym (row_is f content (length rows) some))
+        let ends : length behind ≡ length rows + length (rows_before f) + length (rows_behind f separators) = omega (arith, before_long, behind_long) in
+        is ∙ (ends ∙ sym (row_is f separators content (length rows) some))
 
     -- the group's rows after each step
     module _ (g h k : List ℕ) (g_is : g ≡ numbers (rows_before f) (length rows)) (h_is : h ≡ g ++ content ∷ [])
-        (k_is : k ≡ h ++ numbers (rows_behind f) (length before)) where
-      group_is : k ≡ in_group f content (length rows)
+        (k_is : k ≡ h ++ numbers (rows_behind f separators) (length before)) where
+      group_is : k ≡ in_group f separators content (length rows)
       group_is =
-          k_is ∙ (ap (λ (ns : List ℕ). ns ++ numbers (rows_behind f) (length before)) (h_is ∙ ap (λ (ns : List ℕ). ns ++ content ∷ []) g_is)
-          ∙ (append_assoc (numbers (rows_before f) (length rows)) (content ∷ []) (numbers (rows_behind f) (length before))
-          ∙ ap (λ (n : ℕ). numbers (rows_before f) (length rows) ++ content ∷ numbers (rows_behind f) n) before_long))
+          k_is ∙ (ap (λ (ns : List ℕ). ns ++ numbers (rows_behind f separators) (length before)) (h_is ∙ ap (λ (ns : List ℕ). ns ++ content ∷ []) g_is)
+          ∙ (append_assoc (numbers (rows_before f) (length rows)) (content ∷ []) (numbers (rows_behind f separators) (length before))
+          ∙ ap (λ (n : ℕ). numbers (rows_before f) (length rows) ++ content ∷ numbers (rows_behind f separators) n) before_long))
 
-      pub whole_rows : (all : List Row) → all ≡ behind ++ Group k ∷ [] → all ≡ rows ++ framed f content (length rows)
+      pub whole_rows : (all : List Row) → all ≡ behind ++ Group k ∷ [] → all ≡ rows ++ framed f separators content (length rows)
       whole_rows all is =
-          is ∙ (ap (λ (rs : List Row). rs ++ Group k ∷ []) (behind_is ∙ ap (λ (rs : List Row). rs ++ rows_behind f) before_is)
-          ∙ (append_assoc (rows ++ rows_before f) (rows_behind f) (Group k ∷ [])
-          ∙ (append_assoc rows (rows_before f) (rows_behind f ++ Group k ∷ [])
-          ∙ (ap (λ (ns : List ℕ). rows ++ (rows_before f ++ (rows_behind f ++ Group ns ∷ []))) group_is
-          ∙ ap (λ (own : List Row). rows ++ own) (sym (framed_is f content (length rows) some))))))
+          is ∙ (ap (λ (rs : List Row). rs ++ Group k ∷ []) (behind_is ∙ ap (λ (rs : List Row). rs ++ rows_behind f separators) before_is)
+          ∙ (append_assoc (rows ++ rows_before f) (rows_behind f separators) (Group k ∷ [])
+          ∙ (append_assoc rows (rows_before f) (rows_behind f separators ++ Group k ∷ [])
+          ∙ (ap (λ (ns : List ℕ). rows ++ (rows_before f ++ (rows_behind f separators ++ Group ns ∷ []))) group_is
+          ∙ ap (λ (own : List Row). rows ++ own) (sym (framed_is f separators content (length rows) some))))))

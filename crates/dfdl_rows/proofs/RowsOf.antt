@@ -1,45 +1,66 @@
 -- The rows of a component by those of its parts: how many they are, and that there is one.
-use Rattle.std.proofs.Common.{◌≡◌, ℕ, ◌+◌, ◌<◌, List, [], ◌∷◌, ◌++◌, length, map, get_or, Some, All, sym, ap, subst, refl, arith, length-append}
+use Rattle.std.proofs.Common.{◌≡◌, ℕ, ◌+◌, ◌<◌, Bool, true, false, if◌then◌else◌, List, [], ◌∷◌, ◌++◌, length, map, get_or, Option, None, Some, All, sym, ap, subst, ◌∙◌, refl, arith, append_assoc, length-append}
 use Rattle.std.proofs.lemmas.List.Elements.{All-tail}
 use Rattle.dfdl_order.specs.Parts.{uses_of}
 use Rattle.dfdl_order.proofs.Over.{value_step}
+use Rattle.dfdl_terms.specs.declared.framing.Framing.{Framing}
 use Rattle.dfdl_terms.specs.declared.row.Row.{Row}
-use Rattle.dfdl_rows.specs.Components.{Schema, component_at, CanHave, AreOfOne, HasOrder}
+use Rattle.dfdl_terms.specs.declared.row.Row.TheVariants.{Group}
+use Rattle.dfdl_rows.specs.Components.{Schema, component_at, slots_at, HasOrder}
 use Rattle.dfdl_rows.specs.declared.component.Component.{Component}
-use Rattle.dfdl_rows.specs.declared.component.Component.TheVariants.{Sequence, Reference, ComplexElement, SimpleElement}
+use Rattle.dfdl_rows.specs.declared.component.Component.TheVariants.{Sequence, ComplexElement, SimpleElement}
 use Rattle.dfdl_rows.specs.Sizes.{total, own_size, size_from, size_of}
 use Rattle.dfdl_rows.specs.Boxes.{box_size}
 use Rattle.dfdl_rows.specs.Framing.{framed, framing_size}
-use Rattle.dfdl_rows.specs.RowLists.{Numbered, boxed_rows, own_rows, in_turn, last_rows, rows_from, no_rows, rows_at}
+use Rattle.dfdl_rows.specs.Scopes.{list_of, scanned_list, scope_size}
+use Rattle.dfdl_rows.specs.Slots.{laid_of, separator_list, slots_size}
+use Rattle.dfdl_rows.specs.declared.component.Separated.{Separated}
+use Rattle.dfdl_rows.specs.RowLists.{Numbered, boxed_rows, element_rows, scoped, sequence_rows, own_rows, in_turn, last_rows, rows_from, no_rows, rows_at}
 use Rattle.dfdl_rows.proofs.Framed.{length_framed}
 use Rattle.dfdl_rows.proofs.Boxed.{length_boxed, length_element}
 use Rattle.dfdl_rows.proofs.Scoped.{length_scoped}
+use Rattle.dfdl_rows.proofs.Slotted.{length_laid}
 use Rattle.dfdl_rows.proofs.Parts.{by_parts}
 
-pub rows_step : (s : Schema) → HasOrder s.uses → (c : ℕ) → c < length s.uses → rows_at s c ≡ rows_from s.components c (map (rows_at s) (uses_of s.uses c))
-rows_step s ordered c within = value_step s.uses ordered.0 (rows_from s.components) no_rows ordered.1 c within
+pub rows_step : (s : Schema) → HasOrder s.uses → (c : ℕ) → c < length s.uses → rows_at s c ≡ rows_from s c (map (rows_at s) (uses_of s.uses c))
+rows_step s ordered c within = value_step s.uses ordered.0 (rows_from s) no_rows ordered.1 c within
 
-pub size_step : (s : Schema) → HasOrder s.uses → (c : ℕ) → c < length s.uses → size_of s c ≡ size_from s.components c (map (size_of s) (uses_of s.uses c))
-size_step s ordered c within = value_step s.uses ordered.0 (size_from s.components) 0 ordered.1 c within
+pub size_step : (s : Schema) → HasOrder s.uses → (c : ℕ) → c < length s.uses → size_of s c ≡ size_from s c (map (size_of s) (uses_of s.uses c))
+size_step s ordered c within = value_step s.uses ordered.0 (size_from s) 0 ordered.1 c within
 
 -- as many last rows as parts
 pub length_lasts : (f : ℕ → Numbered) (ps : List ℕ) (first : ℕ) → length (last_rows (map f ps) first) ≡ length ps
 length_lasts f [] first = refl
 length_lasts f (p ∷ ps) first = omega (arith, length_lasts f ps (first + length (f p first)))
 
-pub length_own : (component : Component) (parts : List ℕ) (first : ℕ) → length (own_rows component parts first) ≡ own_size component
-length_own (Sequence framing) parts first =
-    omega (arith, length_scoped framing.terminator (framed framing) (framing_size framing) (length_framed framing) first (first + 1))
-length_own (Reference framing) parts first =
-    length_scoped framing.terminator (framed framing) (framing_size framing) (length_framed framing) (get_or parts 0 0) first
-length_own (ComplexElement name framing box) parts first =
+length_sequence : (f : Framing) (separators : Option ℕ) (content first : ℕ)
+    → length (sequence_rows f separators content first) ≡ scope_size separators + (scope_size (list_of f.terminator) + framing_size f separators)
+length_sequence f separators =
+    length_scoped separators (scoped (list_of f.terminator) (framed f separators)) (scope_size (list_of f.terminator) + framing_size f separators)
+    (length_scoped (list_of f.terminator) (framed f separators) (framing_size f separators) (length_framed f separators))
+
+pub length_own : (component : Component) (slots : List ℕ) (parts : List ℕ) (first : ℕ) → length (own_rows component slots parts first) ≡ own_size component slots
+length_own (Sequence framing separated) slots parts first =
+    let size : ℕ = slots_size separated slots in
+    let others : List Row = sequence_rows framing (separator_list separated) (first + size) (first + size + 1) in
     omega (
       arith,
-      length_scoped framing.terminator (boxed_rows name framing box) (1 + box_size box + framing_size framing) (length_boxed name framing box)
+      length-append (laid_of separated slots parts first).rows (Group (laid_of separated slots parts first).children ∷ others),
+      length_laid separated slots parts first,
+      length_sequence framing (separator_list separated) (first + size) (first + size + 1),
+    )
+length_own (ComplexElement name framing box occurs) slots parts first =
+    omega (
+      arith,
+      length_scoped (list_of framing.terminator) (boxed_rows name framing box) (1 + box_size box + framing_size framing None) (length_boxed name framing box)
           (get_or parts 0 0) first,
     )
-length_own (SimpleElement name simple prim framing prefix tried) parts first =
-    omega (arith, length_element name (Some simple) tried framing first (first + 1))
+length_own (SimpleElement name simple prim framing prefix tried scanned occurs) slots parts first =
+    omega (
+      arith,
+      length_scoped (scanned_list scanned framing.terminator) (element_rows name (Some simple) tried framing) (1 + framing_size framing None)
+          (length_element name (Some simple) tried framing) first (first + 1),
+    )
 
 -- so many rows, wherever they begin
 abbrev pub IsLong : Numbered → ℕ → Type 0
@@ -57,27 +78,48 @@ pub length_rows : (s : Schema) → HasOrder s.uses → (c : ℕ) → c < length 
 length_rows s ordered = by_parts s.uses ordered.0 ordered.1 (λ c. IsLong (rows_at s c) (size_of s c))
     (λ c within all first.
     let turn : List Row = in_turn (map (rows_at s) (uses_of s.uses c)) first in
-    let own : List Row = own_rows (component_at s.components c) (last_rows (map (rows_at s) (uses_of s.uses c)) first) (first + length (in_turn (map (rows_at s) (uses_of s.uses c)) first)) in
+    let own : List Row = own_rows (component_at s.components c) (slots_at s c) (last_rows (map (rows_at s) (uses_of s.uses c)) first) (first + length (in_turn (map (rows_at s) (uses_of s.uses c)) first)) in
     let whole : length (rows_at s c first) ≡ length (turn ++ own) = ap (λ (rows : Numbered). length (rows first)) (rows_step s ordered c within) in
     let parts : length turn ≡ total (map (size_of s) (uses_of s.uses c)) = length_turn (rows_at s) (size_of s) (uses_of s.uses c) all first in
-    let last : length own ≡ own_size (component_at s.components c)
-    = length_own (component_at s.components c) (last_rows (map (rows_at s) (uses_of s.uses c)) first) (first + length (in_turn (map (rows_at s) (uses_of s.uses c)) first)) in
-    let sum : size_of s c ≡ own_size (component_at s.components c) + total (map (size_of s) (uses_of s.uses c)) = size_step s ordered c within in
+    let last : length own ≡ own_size (component_at s.components c) (slots_at s c)
+    = length_own (component_at s.components c) (slots_at s c) (last_rows (map (rows_at s) (uses_of s.uses c)) first) (first + length (in_turn (map (rows_at s) (uses_of s.uses c)) first)) in
+    let sum : size_of s c ≡ own_size (component_at s.components c) (slots_at s c) + total (map (size_of s) (uses_of s.uses c)) = size_step s ordered c within in
     omega (arith, whole, length-append turn own, parts, last, sum))
 
-some_of_one : (size : ℕ → ℕ) (ps : List ℕ) → length ps ≡ 1 → All (λ p. 0 < size p) ps → 0 < total (map size ps)
-some_of_one size [] one all = absurd (omega (arith, one))
-some_of_one size (p ∷ ps) one all =
-    let here : 0 < size p = all 0 p (omega arith) in
-    omega (arith, here)
-
-some_own : (size : ℕ → ℕ) (component : Component) (ps : List ℕ) → CanHave component ps → All (λ p. 0 < size p) ps → 0 < own_size component + total (map size ps)
-some_own size (Sequence framing) ps can all = omega arith
-some_own size (Reference framing) ps can all = let some : 0 < total (map size ps) = some_of_one size ps can all in omega (arith, some)
-some_own size (ComplexElement name framing box) ps can all = omega arith
-some_own size (SimpleElement name simple prim framing prefix tried) ps can all = omega arith
+some_own : (component : Component) (slots : List ℕ) (parts : ℕ) → 0 < own_size component slots + parts
+some_own (Sequence framing separated) slots parts = omega arith
+some_own (ComplexElement name framing box occurs) slots parts = omega arith
+some_own (SimpleElement name simple prim framing prefix tried scanned occurs) slots parts = omega arith
 
 -- each component has a row
-pub some_rows : (s : Schema) → HasOrder s.uses → AreOfOne s.uses s.components s.refusals s.places → (c : ℕ) → c < length s.uses → 0 < size_of s c
-some_rows s ordered one = by_parts s.uses ordered.0 ordered.1 (λ c. 0 < size_of s c)
-    (λ c within all. subst (λ n. 0 < n) (sym (size_step s ordered c within)) (some_own (size_of s) (component_at s.components c) (uses_of s.uses c) (one.fit c within) all))
+pub some_rows : (s : Schema) → HasOrder s.uses → (c : ℕ) → c < length s.uses → 0 < size_of s c
+some_rows s ordered c within =
+    subst (λ n. 0 < n) (sym (size_step s ordered c within))
+    (some_own (component_at s.components c) (slots_at s c) (total (map (size_of s) (uses_of s.uses c))))
+
+-- the rows of a sequence are added: those of its separators and those that repeat its parts, that of its group, and those around it
+module _ (f : Framing) (separated : Option Separated) (slots parts : List ℕ) (rows next : List Row)
+    (next_is : next ≡ rows ++ ((laid_of separated slots parts (length rows)).rows ++ Group (laid_of separated slots parts (length rows)).children ∷ [])) where
+  next_long : length next ≡ length rows + slots_size separated slots + 1
+  next_long =
+      let own : List Row = (laid_of separated slots parts (length rows)).rows in
+      let children : List ℕ = (laid_of separated slots parts (length rows)).children in
+      let whole : length next ≡ length (rows ++ (own ++ Group children ∷ [])) = ap (λ (rs : List Row). length rs) next_is in
+      omega (arith, whole, length-append rows (own ++ Group children ∷ []), length-append own (Group children ∷ []), length_laid separated slots parts (length rows))
+
+  pub around_few : (most : ℕ) → length rows + own_size (Sequence f separated) slots < most
+      → length next + scope_size (separator_list separated) + scope_size (list_of f.terminator) + framing_size f (separator_list separated) < most
+  around_few most few = omega (arith, few, next_long)
+
+  pub sequence_whole : (content : ℕ) (all : List Row) → content ≡ length rows + slots_size separated slots
+      → all ≡ next ++ sequence_rows f (separator_list separated) content (length next) → all ≡ rows ++ own_rows (Sequence f separated) slots parts (length rows)
+  sequence_whole content all content_is all_is =
+      let own : List Row = (laid_of separated slots parts (length rows)).rows in
+      let group : Row = Group (laid_of separated slots parts (length rows)).children in
+      let size : ℕ = slots_size separated slots in
+      let others : List Row = sequence_rows f (separator_list separated) (length rows + slots_size separated slots) (length rows + slots_size separated slots + 1) in
+      all_is
+      ∙ (ap (λ (n : ℕ). next ++ sequence_rows f (separator_list separated) n (length next)) content_is
+      ∙ (ap (λ (n : ℕ). next ++ sequence_rows f (separator_list separated) (length rows + slots_size separated slots) n) next_long
+      ∙ (ap (λ (rs : List Row). rs ++ others) next_is
+      ∙ (append_assoc rows (own ++ group ∷ []) others ∙ ap (λ (rs : List Row). rows ++ rs) (append_assoc own (group ∷ []) others)))))

@@ -1,12 +1,12 @@
 -- A task of the walk is done, or others stand in its place that come to the same.
-use Rattle.std.proofs.Common.{◌≡◌, ℕ, suc, ◌+◌, ◌-◌, ◌<◌, ◌≤◌, List, [], ◌∷◌, ◌++◌, length, map, get_or, take, drop, All, sym, ap, subst, ◌∙◌, refl, arith, append_assoc, drop-cons, length-append, Result, Ok, Err, OnOk}
+use Rattle.std.proofs.Common.{◌≡◌, ℕ, suc, ◌+◌, ◌-◌, ◌<◌, ◌≤◌, Bool, List, [], ◌∷◌, ◌++◌, length, map, get_or, take, drop, All, sym, ap, subst, ◌∙◌, refl, arith, append_assoc, drop-cons, length-append, Result, Ok, Err, OnOk}
 use Rattle.std.proofs.lemmas.List.{append-nil}
 use Rattle.std.proofs.lemmas.List.Elements.{All-tail, All-cons}
 use Rattle.std.proofs.Math.Seq.{take-append_seam, drop-append_seam}
 use Rattle.dfdl_order.specs.Parts.{uses_of}
 use Rattle.dfdl_order.proofs.Over.{value_step}
 use Rattle.dfdl_terms.specs.declared.row.Row.{Row}
-use Rattle.dfdl_rows.specs.Components.{Schema, component_at, HasOrder}
+use Rattle.dfdl_rows.specs.Components.{Schema, component_at, slots_at, HasOrder}
 use Rattle.dfdl_rows.specs.declared.component.Component.{Component}
 use Rattle.dfdl_rows.specs.Sizes.{total, own_size, size_of}
 use Rattle.dfdl_rows.specs.RowLists.{Numbered, own_rows, in_turn, last_rows, rows_at, rows_of}
@@ -14,8 +14,7 @@ use Rattle.dfdl_rows.specs.Walk.{Made, made, with_rows, entered, kept, closed, d
 use Rattle.dfdl_rows.specs.declared.walk.Task.{Task}
 use Rattle.dfdl_rows.specs.declared.walk.Task.TheVariants.{Enter, Close}
 use Rattle.dfdl_rows.proofs.RowsOf.{rows_step, length_own, length_rows, length_lasts}
-use Rattle.dfdl_rows.specs.Ends.{IsLed, AreEnds}
-use Rattle.dfdl_rows.proofs.Leading.{parts_led}
+use Rattle.dfdl_rows.proofs.Parts.{parts_within}
 
 -- first tasks and then others
 pub done_first : (s : Schema) (t : Task) (ts : List Task) (m : Made) → all_done s (t ∷ ts) m ≡ all_done s ts (done s t m)
@@ -64,14 +63,14 @@ module _ (s : Schema) (ordered : HasOrder s.uses) (c : ℕ) (within : c < length
       let ps : List Numbered = map (rows_at s) (uses_of s.uses c) in
       let t : List Row = in_turn (map (rows_at s) (uses_of s.uses c)) (length rows) in
       let es : List ℕ = last_rows (map (rows_at s) (uses_of s.uses c)) (length rows) in
-      let whole : rows_at s c (length rows) ≡ t ++ own_rows (component_at s.components c) es (length rows + length t)
+      let whole : rows_at s c (length rows) ≡ t ++ own_rows (component_at s.components c) (slots_at s c) es (length rows + length t)
       = ap (λ (f : Numbered). f (length rows)) (rows_step s ordered c within) in
       let final : List Row → Made = λ own. made ((rows ++ t) ++ own) (lasts ++ (length ((rows ++ t) ++ own) - 1) ∷ []) in
-      ap (λ (k : ℕ). with_rows after (take k (lasts ++ es)) (own_rows (component_at s.components c) (drop k (lasts ++ es)) (length (rows ++ t)))) kept_is
-      ∙ (ap (λ (ls : List ℕ). with_rows after ls (own_rows (component_at s.components c) (drop (length lasts) (lasts ++ es)) (length (rows ++ t)))) (take-append_seam lasts es)
-      ∙ (ap (λ (ls : List ℕ). with_rows after lasts (own_rows (component_at s.components c) ls (length (rows ++ t)))) (drop-append_seam lasts es)
-      ∙ (ap (λ (k : ℕ). with_rows after lasts (own_rows (component_at s.components c) es k)) (length-append rows t)
-      ∙ (ap (λ (rs : List Row). made rs (lasts ++ (length rs - 1) ∷ [])) (append_assoc rows t (own_rows (component_at s.components c) es (length rows + length t)))
+      ap (λ (k : ℕ). with_rows after (take k (lasts ++ es)) (own_rows (component_at s.components c) (slots_at s c) (drop k (lasts ++ es)) (length (rows ++ t)))) kept_is
+      ∙ (ap (λ (ls : List ℕ). with_rows after ls (own_rows (component_at s.components c) (slots_at s c) (drop (length lasts) (lasts ++ es)) (length (rows ++ t)))) (take-append_seam lasts es)
+      ∙ (ap (λ (ls : List ℕ). with_rows after lasts (own_rows (component_at s.components c) (slots_at s c) ls (length (rows ++ t)))) (drop-append_seam lasts es)
+      ∙ (ap (λ (k : ℕ). with_rows after lasts (own_rows (component_at s.components c) (slots_at s c) es k)) (length-append rows t)
+      ∙ (ap (λ (rs : List Row). made rs (lasts ++ (length rs - 1) ∷ [])) (append_assoc rows t (own_rows (component_at s.components c) (slots_at s c) es (length rows + length t)))
       ∙ ap (λ (rs : List Row). made (rows ++ rs) (lasts ++ (length (rows ++ rs) - 1) ∷ [])) (sym whole)))))
 
   pub enter_same : (ts : List Task) → all_done s (map Enter (uses_of s.uses c) ++ Close c ∷ ts) (made rows lasts) ≡ all_done s (Enter c ∷ ts) (made rows lasts)
@@ -86,7 +85,7 @@ grows_by rows more = omega (arith, length-append rows more)
 
 done_grows : (s : Schema) (t : Task) (m : Made) → length m.rows ≤ length (done s t m).rows
 done_grows s (Enter c) m = grows_by m.rows (rows_at s c (length m.rows))
-done_grows s (Close c) m = grows_by m.rows (own_rows (component_at s.components c) (drop (kept s c m.lasts) m.lasts) (length m.rows))
+done_grows s (Close c) m = grows_by m.rows (own_rows (component_at s.components c) (slots_at s c) (drop (kept s c m.lasts) m.lasts) (length m.rows))
 
 -- no row is taken back
 pub all_done_grows : (s : Schema) (ts : List Task) (m : Made) → length m.rows ≤ length (all_done s ts m).rows
@@ -115,64 +114,39 @@ front_more f parts k at now old base is less now_is old_is =
     ∙ (ap (λ (ts : List Task). f (get_or parts k 0) ∷ ts) (old_is ∙ ap (λ (n : ℕ). map f (drop n parts) ++ base) is)
     ∙ ap (λ (ps : List ℕ). map f ps ++ base) (sym (drop-cons parts k 0 less)))
 
--- components that others lead to, in their place
-module _ (s : Schema) (ends : List ℕ) (ts : List Task) where
-  ends_done : (ps : List ℕ) (m : Made) → All (λ p. IsLed s p (get_or ends p 0)) ps
-      → all_done s (map (λ p. Enter (get_or ends p 0)) ps ++ ts) m ≡ all_done s (map Enter ps ++ ts) m
-  ends_done [] m all = refl
-  ends_done (p ∷ ps) m all =
-      let here : IsLed s p (get_or ends p 0) = all 0 p (omega arith) in
-      done_first s (Enter (get_or ends p 0)) (map (λ p. Enter (get_or ends p 0)) ps ++ ts) m
-      ∙ (ap (λ (rows : List Row). all_done s (map (λ p. Enter (get_or ends p 0)) ps ++ ts) (with_rows m m.lasts rows)) (here.rows (length m.rows))
-      ∙ (ends_done ps (entered s p m) (All-tail (λ (q : ℕ). IsLed s q (get_or ends q 0)) p ps all)
-      ∙ sym (done_first s (Enter p) (map Enter ps ++ ts) m)))
-
-  ends_steps : (ps : List ℕ) → All (λ p. IsLed s p (get_or ends p 0)) ps → steps_left s (map (λ p. Enter (get_or ends p 0)) ps ++ ts) ≤ steps_left s (map Enter ps ++ ts)
-  ends_steps [] all = omega arith
-  ends_steps (p ∷ ps) all =
-      let here : IsLed s p (get_or ends p 0) = all 0 p (omega arith) in
-      omega (arith, here.steps, ends_steps ps (All-tail (λ (q : ℕ). IsLed s q (get_or ends q 0)) p ps all))
-
-  ends_within : (ps : List ℕ) → All (λ p. IsLed s p (get_or ends p 0)) ps → All (λ t. component_of t < length s.uses) ts
-      → All (λ t. component_of t < length s.uses) (map (λ p. Enter (get_or ends p 0)) ps ++ ts)
-  ends_within [] all others = others
-  ends_within (p ∷ ps) all others =
-      let here : IsLed s p (get_or ends p 0) = all 0 p (omega arith) in
-      All-cons (λ (t : Task). component_of t < length s.uses) (Enter (get_or ends p 0)) (map (λ p. Enter (get_or ends p 0)) ps ++ ts) here.within
-      (ends_within ps (All-tail (λ (q : ℕ). IsLed s q (get_or ends q 0)) p ps all) others)
-
 -- what follows where a call went well
 pub on_ok : {A E : Type 0} (result : Result A E) (P Q : Type 0) → OnOk result P → (P → Q) → OnOk result Q
 on_ok (Ok v) P Q holds follows = follows holds
 on_ok (Err e) P Q holds follows = tt
 
+enter_within : (s : Schema) (ps : List ℕ) (ts : List Task) → All (λ p. p < length s.uses) ps → All (λ t. component_of t < length s.uses) ts
+    → All (λ t. component_of t < length s.uses) (map Enter ps ++ ts)
+enter_within s [] ts all others = others
+enter_within s (p ∷ ps) ts all others =
+    All-cons (λ (t : Task). component_of t < length s.uses) (Enter p) (map Enter ps ++ ts) (all 0 p (omega arith))
+    (enter_within s ps ts (All-tail (λ (q : ℕ). q < length s.uses) p ps all) others)
+
 -- a task to enter a component, and those that are put in its place
-module _ (s : Schema) (ordered : HasOrder s.uses) (ends : List ℕ) (are : AreEnds s ends) (task : Task) (c : ℕ) (is : task ≡ Enter c) (ts new : List Task)
-    (all : All (λ t. component_of t < length s.uses) (task ∷ ts)) (new_is : new ≡ map (λ p. Enter (get_or ends p 0)) (uses_of s.uses c) ++ Close c ∷ ts) where
+module _ (s : Schema) (ordered : HasOrder s.uses) (task : Task) (c : ℕ) (is : task ≡ Enter c) (ts new : List Task)
+    (all : All (λ t. component_of t < length s.uses) (task ∷ ts)) (new_is : new ≡ map Enter (uses_of s.uses c) ++ Close c ∷ ts) where
   inside : c < length s.uses
   inside = subst (λ (t : Task). component_of t < length s.uses) is (all 0 task (omega arith))
-
-  parts : All (λ p. IsLed s p (get_or ends p 0)) (uses_of s.uses c)
-  parts = parts_led s ordered ends are c inside
 
   pub entered_same : (rows : List Row) (lasts : List ℕ) → all_done s new (made rows lasts) ≡ all_done s (task ∷ ts) (made rows lasts)
   entered_same rows lasts =
       ap (λ (others : List Task). all_done s others (made rows lasts)) new_is
-      ∙ (ends_done s ends (Close c ∷ ts) (uses_of s.uses c) (made rows lasts) parts
       ∙ (enter_same s ordered c inside rows lasts ts
-      ∙ ap (λ (t : Task). all_done s (t ∷ ts) (made rows lasts)) (sym is)))
+      ∙ ap (λ (t : Task). all_done s (t ∷ ts) (made rows lasts)) (sym is))
 
   pub entered_within : All (λ t. component_of t < length s.uses) new
   entered_within =
       subst (λ (others : List Task). All (λ t. component_of t < length s.uses) others) (sym new_is)
-      (ends_within s ends (Close c ∷ ts) (uses_of s.uses c) parts
+      (enter_within s (uses_of s.uses c) (Close c ∷ ts) (parts_within s.uses ordered.0 ordered.1 c inside)
       (All-cons (λ (t : Task). component_of t < length s.uses) (Close c) ts inside (All-tail (λ (t : Task). component_of t < length s.uses) task ts all)))
 
   pub entered_less : steps_left s new < steps_left s (task ∷ ts)
   entered_less =
-      let fewer : steps_left s new ≤ steps_left s (map Enter (uses_of s.uses c) ++ Close c ∷ ts)
-      = subst (λ (others : List Task). steps_left s others ≤ steps_left s (map Enter (uses_of s.uses c) ++ Close c ∷ ts)) (sym new_is)
-      (ends_steps s ends (Close c ∷ ts) (uses_of s.uses c) parts) in
+      let fewer : steps_left s new ≡ steps_left s (map Enter (uses_of s.uses c) ++ Close c ∷ ts) = ap (steps_left s) new_is in
       let whole : steps_left s (Enter c ∷ ts) ≡ steps_left s (task ∷ ts) = ap (λ (t : Task). steps_left s (t ∷ ts)) (sym is) in
       omega (arith, fewer, whole, enter_less s ordered c inside ts)
 
@@ -189,13 +163,15 @@ closed_few s task c ts m most is few =
     omega (arith, whole, few, all_done_grows s ts (closed s c m))
 
 -- there is room for the rows of a component's own
-pub closed_room : (s : Schema) (c : ℕ) (component : Component) (m : Made) (most : ℕ) → component ≡ component_at s.components c
-    → length (closed s c m).rows < most → length m.rows + own_size component < most
-closed_room s c component m most is few =
+pub closed_room : (s : Schema) (c : ℕ) (component : Component) (slots : List ℕ) (m : Made) (most : ℕ) → component ≡ component_at s.components c
+    → slots ≡ slots_at s c → length (closed s c m).rows < most → length m.rows + own_size component slots < most
+closed_room s c component slots m most is slots_are few =
     let parts : List ℕ = drop (kept s c m.lasts) m.lasts in
-    let whole : length (closed s c m).rows ≡ length m.rows + length (own_rows (component_at s.components c) parts (length m.rows))
-    = length-append m.rows (own_rows (component_at s.components c) parts (length m.rows)) in
-    omega (arith, whole, few, length_own (component_at s.components c) parts (length m.rows), ap own_size is)
+    let whole : length (closed s c m).rows ≡ length m.rows + length (own_rows (component_at s.components c) (slots_at s c) parts (length m.rows))
+    = length-append m.rows (own_rows (component_at s.components c) (slots_at s c) parts (length m.rows)) in
+    let size : own_size component slots ≡ own_size (component_at s.components c) (slots_at s c)
+    = ap (λ (k : Component). own_size k slots) is ∙ ap (own_size (component_at s.components c)) slots_are in
+    omega (arith, whole, few, length_own (component_at s.components c) (slots_at s c) parts (length m.rows), size)
 
 pub others_within : (n : ℕ) (task : Task) (ts : List Task) → All (λ t. component_of t < n) (task ∷ ts) → All (λ t. component_of t < n) ts
 others_within n task ts all = All-tail (λ (t : Task). component_of t < n) task ts all

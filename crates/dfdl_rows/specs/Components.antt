@@ -1,5 +1,5 @@
 -- The components of a schema: what each one is, and which components it has as its parts ('DFDL Schema Component Model').
-use Rattle.std.specs.Prelude.{◌≡◌, ℕ, ◌<◌, List, [], length, get_or, Option, None, Some, false}
+use Rattle.std.specs.Prelude.{◌≡◌, ℕ, ◌<◌, ◌≤◌, Bool, List, [], length, map, get_or, Option, None, Some, false}
 use Rattle.dfdl_report.specs.declared.place.Place.{Place}
 use Rattle.dfdl_terms.specs.declared.delimiters.Delimiter.{Delimiter}
 use Rattle.dfdl_terms.specs.declared.framing.Framing.{Framing}
@@ -9,10 +9,12 @@ use Rattle.dfdl_terms.specs.Framing.{no_fill}
 use Rattle.dfdl_terms.specs.Rows.{AreWithin}
 use Rattle.dfdl_order.specs.Parts.{uses_of, IsOrder, Places}
 use Rattle.dfdl_rows.specs.declared.component.Component.{Component}
-use Rattle.dfdl_rows.specs.declared.component.Component.TheVariants.{Sequence, Reference, ComplexElement, SimpleElement}
+use Rattle.dfdl_rows.specs.declared.component.Component.TheVariants.{Sequence, ComplexElement, SimpleElement}
+use Rattle.dfdl_rows.specs.declared.component.Separated.{Separated}
 use Rattle.dfdl_rows.specs.declared.component.ContentBox.{ContentBox}
 use Rattle.dfdl_rows.specs.declared.component.ContentBox.TheVariants.{Unbounded, Sized, Prefixed}
 use Rattle.dfdl_rows.specs.Framing.{has_framing}
+use Rattle.dfdl_rows.specs.Slots.{slots_of}
 use Rattle.dfdl_rows.specs.declared.refusal.Refusal.{Refusal}
 
 -- no representation is tried before the normal one
@@ -28,19 +30,17 @@ pub record Schema : Type 0 where
 
 -- what a component is
 abbrev pub component_at : List Component → ℕ → Component
-component_at components c = get_or components c (Sequence no_fill)
+component_at components c = get_or components c (Sequence no_fill None)
 
 -- where a component begins
 abbrev pub place_at : List Place → ℕ → Place
 place_at places c = get_or places c (record { document = 0; at = 0 })
 
--- a component of this kind can have these parts: a complex element its content, a reference what it stands for, and a
--- simple element none
+-- a component of this kind can have these parts: a complex element its content, and a simple element none
 abbrev pub CanHave : Component → List ℕ → Type 0
-CanHave (Sequence framing) parts = Unit {0}
-CanHave (Reference framing) parts = length parts ≡ 1
-CanHave (ComplexElement name framing box) parts = length parts ≡ 1
-CanHave (SimpleElement name simple prim framing prefix tried) parts = parts ≡ []
+CanHave (Sequence framing separated) parts = Unit {0}
+CanHave (ComplexElement name framing box occurs) parts = length parts ≡ 1
+CanHave (SimpleElement name simple prim framing prefix tried scanned occurs) parts = parts ≡ []
 
 -- the lists are those of one schema
 pub record AreOfOne (uses : List (List ℕ)) (components : List Component) (refusals : List (Option Refusal)) (places : List Place) : Type 0 where
@@ -67,43 +67,64 @@ HasBoxPrimitive count (Prefixed prefix) = prefix.prim < count
 -- the primitives of a component are some of so many: those of a simple element, whose representations are tried by some too,
 -- and those of length prefixes
 abbrev pub HasPrimitive : ℕ → Component → Type 0
-HasPrimitive count (Sequence framing) = Unit {0}
-HasPrimitive count (Reference framing) = Unit {0}
-HasPrimitive count (ComplexElement name framing box) = HasBoxPrimitive count box
-HasPrimitive count (SimpleElement name simple prim framing prefix tried) = (prim < count) × HasPrefixPrimitive count prefix × AreWithin count tried
+HasPrimitive count (Sequence framing separated) = Unit {0}
+HasPrimitive count (ComplexElement name framing box occurs) = HasBoxPrimitive count box
+HasPrimitive count (SimpleElement name simple prim framing prefix tried scanned occurs) = (prim < count) × HasPrefixPrimitive count prefix × AreWithin count tried
 
 -- what frames the content of a component
 abbrev pub framing_in : Component → Framing
-framing_in (Sequence framing) = framing
-framing_in (Reference framing) = framing
-framing_in (ComplexElement name framing box) = framing
-framing_in (SimpleElement name simple prim framing prefix tried) = framing
+framing_in (Sequence framing separated) = framing
+framing_in (ComplexElement name framing box occurs) = framing
+framing_in (SimpleElement name simple prim framing prefix tried scanned occurs) = framing
 
 -- the list of a delimiter, where there is one, is one of so many
 abbrev pub HasList : ℕ → Option Delimiter → Type 0
 HasList count None = Unit {0}
 HasList count (Some delimiter) = delimiter.list < count
 
--- the lists of a component's initiator and terminator are some of so many
+-- the separators in the content of a component, where it is a sequence with some
+abbrev pub separated_in : Component → Option Separated
+separated_in (Sequence framing separated) = separated
+separated_in (ComplexElement name framing box occurs) = None
+separated_in (SimpleElement name simple prim framing prefix tried scanned occurs) = None
+
+-- the list of separators, where there are some, is one of so many
+abbrev pub HasSeparators : ℕ → Option Separated → Type 0
+HasSeparators count None = Unit {0}
+HasSeparators count (Some separated) = separated.list < count
+
+-- the lists of a component's initiator, terminator and separators are some of so many
 abbrev pub HasDelimiters : ℕ → Component → Type 0
-HasDelimiters count component = HasList count (framing_in component).initiator × HasList count (framing_in component).terminator
+HasDelimiters count component =
+    HasList count (framing_in component).initiator × HasList count (framing_in component).terminator × HasSeparators count (separated_in component)
 
 -- the box around the content of a component
 abbrev pub box_in : Component → ContentBox
-box_in (Sequence framing) = Unbounded
-box_in (Reference framing) = Unbounded
-box_in (ComplexElement name framing box) = box
-box_in (SimpleElement name simple prim framing prefix tried) = Unbounded
+box_in (Sequence framing separated) = Unbounded
+box_in (ComplexElement name framing box occurs) = box
+box_in (SimpleElement name simple prim framing prefix tried scanned occurs) = Unbounded
 
 -- the length prefix before the content of a simple element, where there is one
 abbrev pub prefix_in : Component → Option Prefix
-prefix_in (Sequence framing) = None
-prefix_in (Reference framing) = None
-prefix_in (ComplexElement name framing box) = None
-prefix_in (SimpleElement name simple prim framing prefix tried) = prefix
+prefix_in (Sequence framing separated) = None
+prefix_in (ComplexElement name framing box occurs) = None
+prefix_in (SimpleElement name simple prim framing prefix tried scanned occurs) = prefix
 
--- there is neither fill nor a delimiter nor a box around the content of a component, and no length prefix before it
+-- how often a component occurs where it stands in a sequence
+abbrev pub occurs_in : Component → ℕ
+occurs_in (Sequence framing separated) = 1
+occurs_in (ComplexElement name framing box occurs) = occurs
+occurs_in (SimpleElement name simple prim framing prefix tried scanned occurs) = occurs
+
+-- there is neither fill nor a delimiter nor a box around the content of a component, no separator in it, and no length prefix before it,
+-- and it occurs no more than once
 pub record IsBareComponent (component : Component) : Type 0 where
   pub unframed : has_framing (framing_in component) ≡ false
   pub unboxed : box_in component ≡ Unbounded
   pub unprefixed : prefix_in component ≡ None
+  pub unseparated : separated_in component ≡ None
+  pub once : occurs_in component ≤ 1
+
+-- how many slots each part of a component has in it, in schema order
+abbrev pub slots_at : Schema → ℕ → List ℕ
+slots_at s c = map (λ p. slots_of (component_at s.components p) (uses_of s.uses p)) (uses_of s.uses c)

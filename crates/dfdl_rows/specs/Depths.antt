@@ -3,14 +3,13 @@ use Rattle.std.specs.Prelude.{ℕ, ◌+◌, List, [], ◌∷◌, max}
 use Rattle.dfdl_order.specs.Folds.{value_by}
 use Rattle.dfdl_rows.specs.Components.{Schema, component_at}
 use Rattle.dfdl_rows.specs.declared.component.Component.{Component}
-use Rattle.dfdl_rows.specs.declared.component.Component.TheVariants.{Sequence, Reference, ComplexElement, SimpleElement}
+use Rattle.dfdl_rows.specs.declared.component.Component.TheVariants.{Sequence, ComplexElement, SimpleElement}
 
 -- one for an element
 abbrev pub own_depth : Component → ℕ
-own_depth (Sequence framing) = 0
-own_depth (Reference framing) = 0
-own_depth (ComplexElement name framing box) = 1
-own_depth (SimpleElement name simple prim framing prefix tried) = 1
+own_depth (Sequence framing separated) = 0
+own_depth (ComplexElement name framing box occurs) = 1
+own_depth (SimpleElement name simple prim framing prefix tried scanned occurs) = 1
 
 -- the greatest of some numbers
 abbrev pub greatest : List ℕ → ℕ

@@ -1,5 +1,6 @@
--- The rows around the content of a component: those of fill, of its initiator and of its terminator. They and the content's row are one
--- group, in the order of the data; what there is none of has no row ('Framing').
+-- The rows around the content of a component: those of fill, of its initiator and of its terminator, which has the number of the list of
+-- the separators that stand in the content, if some do. They and the content's row are one group, in the order of the data; what there is
+-- none of has no row ('Framing').
 use Rattle.std.specs.Prelude.{ℕ, ◌+◌, Bool, ◌||◌, nat_lt, List, [], ◌∷◌, ◌++◌, length, Option, None, Some, is_some, if◌then◌else◌}
 use Rattle.dfdl_terms.specs.declared.delimiters.Delimiter.{Delimiter}
 use Rattle.dfdl_terms.specs.declared.framing.Framing.{Framing}
@@ -24,18 +25,18 @@ abbrev pub initiator_rows : Option Delimiter → List Row
 initiator_rows None = []
 initiator_rows (Some delimiter) = Initiator delimiter ∷ []
 
--- a terminator, where there is one
-abbrev pub terminator_rows : Option Delimiter → List Row
-terminator_rows None = []
-terminator_rows (Some delimiter) = Terminator delimiter ∷ []
+-- a terminator, where there is one, behind a content with separators of this list, or with none
+abbrev pub terminator_rows : Option Delimiter → Option ℕ → List Row
+terminator_rows None separators = []
+terminator_rows (Some delimiter) separators = Terminator delimiter separators ∷ []
 
 -- the rows before a content, in the order of the data
 abbrev pub rows_before : Framing → List Row
 rows_before f = skip_rows f.leading_skip ++ (align_rows f.alignment ++ initiator_rows f.initiator)
 
 -- the rows behind a content, in the order of the data
-abbrev pub rows_behind : Framing → List Row
-rows_behind f = terminator_rows f.terminator ++ skip_rows f.trailing_skip
+abbrev pub rows_behind : Framing → Option ℕ → List Row
+rows_behind f separators = terminator_rows f.terminator separators ++ skip_rows f.trailing_skip
 
 -- the numbers of rows of which the first one has this number
 abbrev pub numbers : List Row → ℕ → List ℕ
@@ -43,20 +44,20 @@ numbers [] first = []
 numbers (row ∷ rows) first = first ∷ numbers rows (first + 1)
 
 -- the rows around a content and the row of the content in the order of the data, where those around it are numbered from a number on
-abbrev pub in_group : Framing → ℕ → ℕ → List ℕ
-in_group f content first =
-    numbers (rows_before f) first ++ content ∷ numbers (rows_behind f) (first + length (rows_before f))
+abbrev pub in_group : Framing → Option ℕ → ℕ → ℕ → List ℕ
+in_group f separators content first =
+    numbers (rows_before f) first ++ content ∷ numbers (rows_behind f separators) (first + length (rows_before f))
 
 -- the rows that frame the row of a content, numbered from a number on: those before it and behind it, and the group of all
-unfoldable pub framed : Framing → ℕ → ℕ → List Row
-framed f content first =
-    if has_framing f then rows_before f ++ (rows_behind f ++ Group (in_group f content first) ∷ []) else []
+unfoldable pub framed : Framing → Option ℕ → ℕ → ℕ → List Row
+framed f separators content first =
+    if has_framing f then rows_before f ++ (rows_behind f separators ++ Group (in_group f separators content first) ∷ []) else []
 
 -- the number of the row that stands for the content with what frames it
-unfoldable pub framed_row : Framing → ℕ → ℕ → ℕ
-framed_row f content first =
-    if has_framing f then first + length (rows_before f) + length (rows_behind f) else content
+unfoldable pub framed_row : Framing → Option ℕ → ℕ → ℕ → ℕ
+framed_row f separators content first =
+    if has_framing f then first + length (rows_before f) + length (rows_behind f separators) else content
 
 -- how many rows frame a content
-unfoldable pub framing_size : Framing → ℕ
-framing_size f = if has_framing f then length (rows_before f) + length (rows_behind f) + 1 else 0
+unfoldable pub framing_size : Framing → Option ℕ → ℕ
+framing_size f separators = if has_framing f then length (rows_before f) + length (rows_behind f separators) + 1 else 0

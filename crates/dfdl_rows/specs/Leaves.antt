@@ -1,12 +1,12 @@
 -- Where the values of the simple elements of rows are read.
-use Rattle.std.specs.Prelude.{◌≡◌, ℕ, List, Option, None, Some, slice_get}
+use Rattle.std.specs.Prelude.{◌≡◌, ℕ, Bool, List, Option, None, Some, slice_get}
 use Rattle.dfdl_forms.specs.declared.simple.Simple.{Simple}
 use Rattle.dfdl_terms.specs.declared.representations.Representations.{Representations}
 use Rattle.dfdl_terms.specs.Leaves.{ReadsBy}
 use Rattle.dfdl_terms.specs.declared.framing.Framing.{Framing}
 use Rattle.dfdl_terms.specs.declared.prefix.Prefix.{Prefix}
 use Rattle.dfdl_terms.specs.declared.row.Row.{Row}
-use Rattle.dfdl_terms.specs.declared.row.Row.TheVariants.{Leaf, Elem, Group, Skip, Align, Initiator, Terminator, Scope, Boxed, PrefixedLeaf, PrefixedBox}
+use Rattle.dfdl_terms.specs.declared.row.Row.TheVariants.{Leaf, Elem, Group, Skip, Align, Initiator, Terminator, Separator, Scope, Boxed, PrefixedLeaf, PrefixedBox, Repeat}
 use Rattle.dfdl_rows.specs.declared.component.Component.{Component}
 use Rattle.dfdl_rows.specs.declared.component.Component.TheVariants.{SimpleElement}
 
@@ -14,7 +14,7 @@ use Rattle.dfdl_rows.specs.declared.component.Component.TheVariants.{SimpleEleme
 abbrev pub IsAmong : List Component → Simple → ℕ → Type 0
 IsAmong components simple prim =
     (number : ℕ) × (name : List ℕ) × (framing : Framing) × (prefix : Option Prefix) × (tried : Representations)
-    × (slice_get components number ≡ Some (SimpleElement name simple prim framing prefix tried))
+    × (scanned : Bool) × (occurs : ℕ) × (slice_get components number ≡ Some (SimpleElement name simple prim framing prefix tried scanned occurs))
 
 -- the body of each simple element reads a value by the primitive of a component of its type
 abbrev pub HaveLeaves : List Component → List Row → Type 0
@@ -29,11 +29,13 @@ IsLeafOf components simple (Some (Group children)) = ⊥
 IsLeafOf components simple (Some (Skip bits)) = ⊥
 IsLeafOf components simple (Some (Align bits)) = ⊥
 IsLeafOf components simple (Some (Initiator delimiter)) = ⊥
-IsLeafOf components simple (Some (Terminator delimiter)) = ⊥
+IsLeafOf components simple (Some (Terminator delimiter separators)) = ⊥
+IsLeafOf components simple (Some Separator) = ⊥
 IsLeafOf components simple (Some (Scope list body)) = ⊥
 IsLeafOf components simple (Some (Boxed bits body)) = ⊥
 IsLeafOf components simple (Some (PrefixedLeaf prefix prim)) = ⊥
 IsLeafOf components simple (Some (PrefixedBox prefix body)) = ⊥
+IsLeafOf components simple (Some (Repeat count body)) = ⊥
 IsLeafOf components simple None = ⊥
 
 -- the body of each simple element is itself the leaf of a component of its type

@@ -1,5 +1,6 @@
 pub mod Framing
 pub mod Scopes
+pub mod Slots
 pub mod Boxes
 pub mod Components
 pub mod Refusals
@@ -10,5 +11,4 @@ pub mod RowLists
 pub mod Leaves
 pub mod Answers
 pub mod Saturated
-pub mod Ends
 pub mod Walk

@@ -9,22 +9,20 @@ use Rattle.dfdl_rows.specs.Components.{Schema, component_at}
 use Rattle.dfdl_rows.specs.Sizes.{total}
 use Rattle.dfdl_rows.specs.Refusals.{Names, in_order, is_among, look_at, own_refusal, first_refusal, refusal_in}
 use Rattle.dfdl_rows.specs.declared.component.Component.{Component}
-use Rattle.dfdl_rows.specs.declared.component.Component.TheVariants.{Sequence, Reference, ComplexElement, SimpleElement}
+use Rattle.dfdl_rows.specs.declared.component.Component.TheVariants.{Sequence, ComplexElement, SimpleElement}
 use Rattle.dfdl_rows.specs.declared.refusal.Refusal.{Refusal}
 
 -- a component is an element
 abbrev pub is_element : Component → Bool
-is_element (Sequence framing) = false
-is_element (Reference framing) = false
-is_element (ComplexElement name framing box) = true
-is_element (SimpleElement name simple prim framing prefix tried) = true
+is_element (Sequence framing separated) = false
+is_element (ComplexElement name framing box occurs) = true
+is_element (SimpleElement name simple prim framing prefix tried scanned occurs) = true
 
 -- a component is none
 abbrev pub is_plain : Component → Bool
-is_plain (Sequence framing) = true
-is_plain (Reference framing) = true
-is_plain (ComplexElement name framing box) = false
-is_plain (SimpleElement name simple prim framing prefix tried) = false
+is_plain (Sequence framing separated) = true
+is_plain (ComplexElement name framing box occurs) = false
+is_plain (SimpleElement name simple prim framing prefix tried scanned occurs) = false
 
 -- all of these
 abbrev pub are_all : List Bool → Bool

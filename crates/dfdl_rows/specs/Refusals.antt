@@ -9,7 +9,7 @@ use Rattle.dfdl_report.specs.declared.place.Place.{Place}
 use Rattle.dfdl_order.specs.Folds.{value_by}
 use Rattle.dfdl_rows.specs.Components.{Schema, component_at, place_at}
 use Rattle.dfdl_rows.specs.declared.component.Component.{Component}
-use Rattle.dfdl_rows.specs.declared.component.Component.TheVariants.{Sequence, Reference, ComplexElement, SimpleElement}
+use Rattle.dfdl_rows.specs.declared.component.Component.TheVariants.{Sequence, ComplexElement, SimpleElement}
 use Rattle.dfdl_rows.specs.declared.refusal.Refusal.{Refusal}
 
 -- the local names of the elements so far that stand in one complex element
@@ -52,10 +52,9 @@ at_element place name inside names =
 
 -- a component that isn't refused by itself, where its parts are looked at so
 abbrev pub at_component : Component → Place → Look → Look
-at_component (Sequence framing) place parts = parts
-at_component (Reference framing) place parts = parts
-at_component (ComplexElement name framing box) place parts = at_element place name parts
-at_component (SimpleElement name simple prim framing prefix tried) place parts = at_element place name parts
+at_component (Sequence framing separated) place parts = parts
+at_component (ComplexElement name framing box occurs) place parts = at_element place name parts
+at_component (SimpleElement name simple prim framing prefix tried scanned occurs) place parts = at_element place name parts
 
 -- the refusal of a component's own
 abbrev pub own_refusal : List (Option Refusal) → ℕ → Option Refusal

@@ -1,21 +1,21 @@
 -- The rows of components: children first, in schema order, the component's own row last, once for each use ('DFDL Data
 -- Syntax Grammar').
-use Rattle.std.specs.Prelude.{ℕ, ◌+◌, ◌-◌, List, [], ◌∷◌, ◌++◌, length, get_or, Option, None, Some}
+use Rattle.std.specs.Prelude.{ℕ, ◌+◌, ◌-◌, Bool, List, [], ◌∷◌, ◌++◌, length, get_or, Option, None, Some}
 use Rattle.dfdl_forms.specs.declared.simple.Simple.{Simple}
 use Rattle.dfdl_order.specs.Folds.{value_by}
-use Rattle.dfdl_terms.specs.declared.delimiters.Delimiter.{Delimiter}
 use Rattle.dfdl_terms.specs.declared.framing.Framing.{Framing}
 use Rattle.dfdl_terms.specs.declared.prefix.Prefix.{Prefix}
 use Rattle.dfdl_terms.specs.declared.representations.Representations.{Representations}
 use Rattle.dfdl_terms.specs.declared.row.Row.{Row}
 use Rattle.dfdl_terms.specs.declared.row.Row.TheVariants.{Leaf, Elem, Group, PrefixedLeaf}
-use Rattle.dfdl_rows.specs.Components.{Schema, component_at, no_trials}
+use Rattle.dfdl_rows.specs.Components.{Schema, component_at, no_trials, slots_at}
 use Rattle.dfdl_rows.specs.Boxes.{box_rows, boxed_row, box_size}
 use Rattle.dfdl_rows.specs.Framing.{framed, framed_row}
-use Rattle.dfdl_rows.specs.Scopes.{scope_rows, scoped_row, scope_size}
+use Rattle.dfdl_rows.specs.Scopes.{list_of, scanned_list, scope_rows, scoped_row, scope_size}
+use Rattle.dfdl_rows.specs.Slots.{laid_of, separator_list, slots_size}
 use Rattle.dfdl_rows.specs.declared.component.ContentBox.{ContentBox}
 use Rattle.dfdl_rows.specs.declared.component.Component.{Component}
-use Rattle.dfdl_rows.specs.declared.component.Component.TheVariants.{Sequence, Reference, ComplexElement, SimpleElement}
+use Rattle.dfdl_rows.specs.declared.component.Component.TheVariants.{Sequence, ComplexElement, SimpleElement}
 
 -- rows that are numbered from any number on
 abbrev pub Numbered : Type 0
@@ -30,29 +30,37 @@ leaf_row (Some prefix) prim = PrefixedLeaf prefix prim
 -- the rows of an element around the row of its content, from a number on: those that frame it, and its own
 abbrev pub element_rows : List ℕ → Option Simple → Representations → Framing → ℕ → ℕ → List Row
 element_rows name simple tried framing content first =
-    framed framing content first ++ Elem name simple tried (framed_row framing content first) ∷ []
+    framed framing None content first ++ Elem name simple tried (framed_row framing None content first) ∷ []
 
 -- the rows of a complex element around the row of its content, from a number on: that of a box, then those of an element
 abbrev pub boxed_rows : List ℕ → Framing → ContentBox → ℕ → ℕ → List Row
 boxed_rows name framing box content first =
     box_rows box content ++ element_rows name None no_trials framing (boxed_row box content first) (first + box_size box)
 
--- rows around the row of a content, from a number on: that of the scope of a terminator, and others, which are around both
-abbrev pub scoped : Option Delimiter → (ℕ → ℕ → List Row) → ℕ → ℕ → List Row
-scoped terminator around content first =
-    scope_rows terminator content ++ around (scoped_row terminator content first) (first + scope_size terminator)
+-- rows around the row of a content, from a number on: that of the scope of a list, and others, which are around both
+abbrev pub scoped : Option ℕ → (ℕ → ℕ → List Row) → ℕ → ℕ → List Row
+scoped list around content first =
+    scope_rows list content ++ around (scoped_row list content first) (first + scope_size list)
 
--- the rows of a component's own, from a number on, where these are the last rows of its parts: that of its content, which is a
--- part's for a reference and a complex element, that of the scope of its terminator around it, for a complex element that of a box
--- around this, then those that frame it, and for an element its own; there is no scope around the content of a simple element, since
--- none of today's ends at a delimiter
-abbrev pub own_rows : Component → List ℕ → ℕ → List Row
-own_rows (Sequence framing) parts first = Group parts ∷ scoped framing.terminator (framed framing) first (first + 1)
-own_rows (Reference framing) parts first = scoped framing.terminator (framed framing) (get_or parts 0 0) first
-own_rows (ComplexElement name framing box) parts first =
-    scoped framing.terminator (boxed_rows name framing box) (get_or parts 0 0) first
-own_rows (SimpleElement name simple prim framing prefix tried) parts first =
-    leaf_row prefix prim ∷ element_rows name (Some simple) tried framing first (first + 1)
+-- the rows of a sequence around the row of its group, from a number on: that of the scope of its separators, that of the scope of its
+-- terminator, and those that frame it
+abbrev pub sequence_rows : Framing → Option ℕ → ℕ → ℕ → List Row
+sequence_rows framing separators = scoped separators (scoped (list_of framing.terminator) (framed framing separators))
+
+-- the rows of a component's own, from a number on, where these are the last rows of its parts, which have so many slots: that of its
+-- separators, those that repeat parts, and that of its content, which is a group for a sequence, and a part's for a complex element; those of the scopes of its
+-- separators and of its terminator around it, the latter for a simple element only where markup ends its content, for a complex element
+-- that of a box around this, then those that frame it, and for an element its own
+abbrev pub own_rows : Component → List ℕ → List ℕ → ℕ → List Row
+own_rows (Sequence framing separated) slots parts first =
+    (laid_of separated slots parts first).rows
+    ++ Group (laid_of separated slots parts first).children
+    ∷ sequence_rows framing (separator_list separated) (first + slots_size separated slots) (first + slots_size separated slots + 1)
+own_rows (ComplexElement name framing box occurs) slots parts first =
+    scoped (list_of framing.terminator) (boxed_rows name framing box) (get_or parts 0 0) first
+own_rows (SimpleElement name simple prim framing prefix tried scanned occurs) slots parts first =
+    leaf_row prefix prim
+    ∷ scoped (scanned_list scanned framing.terminator) (element_rows name (Some simple) tried framing) first (first + 1)
 
 -- the rows of parts, one part after the other
 abbrev pub in_turn : List Numbered → Numbered
@@ -65,9 +73,10 @@ last_rows [] first = []
 last_rows (rows ∷ others) first = (first + length (rows first) - 1) ∷ last_rows others (first + length (rows first))
 
 -- the rows of a component's parts, and its own behind them
-abbrev pub rows_from : List Component → ℕ → List Numbered → Numbered
-rows_from components c parts first =
-    in_turn parts first ++ own_rows (component_at components c) (last_rows parts first) (first + length (in_turn parts first))
+abbrev pub rows_from : Schema → ℕ → List Numbered → Numbered
+rows_from s c parts first =
+    in_turn parts first
+    ++ own_rows (component_at s.components c) (slots_at s c) (last_rows parts first) (first + length (in_turn parts first))
 
 -- no rows, wherever they begin
 abbrev pub no_rows : Numbered
@@ -75,7 +84,7 @@ no_rows first = []
 
 -- the rows of a component, numbered from a number on
 abbrev pub rows_at : Schema → ℕ → Numbered
-rows_at s c = value_by s.uses (rows_from s.components) no_rows c
+rows_at s c = value_by s.uses (rows_from s) no_rows c
 
 -- the rows of a root
 abbrev pub rows_of : Schema → ℕ → List Row

@@ -3,7 +3,7 @@ use Rattle.std.specs.Prelude.{ℕ, ◌+◌, ◌-◌, List, [], ◌∷◌, ◌++�
 use Rattle.dfdl_order.specs.Parts.{uses_of}
 use Rattle.dfdl_order.specs.Folds.{value_by}
 use Rattle.dfdl_terms.specs.declared.row.Row.{Row}
-use Rattle.dfdl_rows.specs.Components.{Schema, component_at}
+use Rattle.dfdl_rows.specs.Components.{Schema, component_at, slots_at}
 use Rattle.dfdl_rows.specs.Sizes.{total}
 use Rattle.dfdl_rows.specs.RowLists.{rows_at, own_rows}
 use Rattle.dfdl_rows.specs.declared.walk.Task.{Task}
@@ -33,7 +33,7 @@ kept s c lasts = length lasts - length (uses_of s.uses c)
 -- the rows of a component's own are added, behind those of its parts
 abbrev pub closed : Schema → ℕ → Made → Made
 closed s c m = with_rows m (take (kept s c m.lasts) m.lasts)
-    (own_rows (component_at s.components c) (drop (kept s c m.lasts) m.lasts) (length m.rows))
+    (own_rows (component_at s.components c) (slots_at s c) (drop (kept s c m.lasts) m.lasts) (length m.rows))
 
 -- a task is done
 abbrev pub done : Schema → Task → Made → Made

@@ -1,4 +1,5 @@
 use dfdl_forms::Simple;
+use dfdl_separators::SeparatorPosition;
 use dfdl_terms::{Framing, Prefix, Representations};
 use dfdl_value::TextValue;
 
@@ -13,6 +14,15 @@ pub enum ContentBox {
     Prefixed(Prefix),
 }
 
+/// The separators of a sequence ('Sequence Groups').
+#[derive(Debug, Clone, Copy, PartialEq, Eq)]
+pub struct Separated {
+    /// The number in the tables of their list.
+    pub list: u32,
+    /// Where they stand.
+    pub position: SeparatorPosition,
+}
+
 /// What a schema component is, with what its own rows need. Its parts are other components.
 #[derive(Debug, Drop)]
 pub enum Component {
@@ -20,12 +30,8 @@ pub enum Component {
     Sequence {
         /// What frames its group.
         framing: Framing,
-    },
-    /// A component that stands for its one part: an element reference for its element, a group reference for its
-    /// group, a global group for its sequence.
-    Reference {
-        /// What frames the row of its part.
-        framing: Framing,
+        /// Its separators, if it has some.
+        separated: Option<Separated>,
     },
     /// An element whose one part is its content.
     ComplexElement {
@@ -35,6 +41,8 @@ pub enum Component {
         framing: Framing,
         /// The box around its content.
         content_box: ContentBox,
+        /// How often it occurs where it stands in a sequence ('Arrays and Optional Elements').
+        occurs: u32,
     },
     /// An element without parts.
     SimpleElement {
@@ -49,5 +57,9 @@ pub enum Component {
         prefix: Option<Prefix>,
         /// The representations that are tried before its normal one ('DFDL Data Syntax Grammar').
         tried: Representations,
+        /// Markup ends its content ('Lengths', on lengthKind delimited).
+        is_scanned: bool,
+        /// How often it occurs where it stands in a sequence ('Arrays and Optional Elements').
+        occurs: u32,
     },
 }

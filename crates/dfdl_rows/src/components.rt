@@ -1,15 +1,19 @@
 // The components of a schema, with an order of them.
-ghost use Rattle.std.specs.Prelude.{◌≡◌, ◌<◌, ◌↔◌, length, All, IsTrue, false};
+ghost use Rattle.std.specs.Prelude.{◌≡◌, ◌<◌, ◌↔◌, length, All, IfOk, IsTrue, false};
 ghost use Rattle.dfdl_order.specs.Parts.{uses_of, IsOrder};
 ghost use Rattle.dfdl_terms.specs.Rows.{AreWithin, IsWithin};
-ghost use Rattle.dfdl_rows.specs.Components.{AreOfOne, CanHave, HasOrder, component_at, framing_in, place_at};
+ghost use Rattle.dfdl_rows.specs.Components.{AreOfOne, CanHave, HasOrder, component_at, framing_in, place_at, separated_in, slots_at};
 ghost use Rattle.dfdl_rows.specs.Refusals.{own_refusal};
-ghost use Rattle.dfdl_rows.specs.Components.{HasPrimitive, HasBoxPrimitive, HasPrefixPrimitive, HasDelimiters, HasList};
+ghost use Rattle.dfdl_rows.specs.Components.{HasPrimitive, HasBoxPrimitive, HasPrefixPrimitive, HasDelimiters, HasList, HasSeparators};
+ghost use Rattle.dfdl_rows.specs.Slots as slots;
 
+use crate::component::Separated;
+use crate::framing::has_framing;
 use crate::{Component, ContentBox, Refusal};
 use dfdl_order::{Order, Uses};
 use dfdl_report::Place;
 use dfdl_terms::{Delimiter, Framing, Prefix, Representations};
+use std::alloc::{AllocError, Global};
 use std::marker::Model;
 
 /// The components of a schema by number: the parts of each one in schema order, what it is, the refusal
@@ -98,6 +102,18 @@ impl Components {
         self.uses.of(number)
     }
 
+    /// How many slots each part of a component has in it.
+    pub(crate) fn slots(&self, alloc: Global, number: u32) -> Result<Vec<u32>, AllocError>
+        requires { number < length self.now.uses }
+        ensures { IfOk result (λ made. made.items ≡ slots_at self.now number) }
+    {
+        let mut slots = Vec::new(alloc);
+        for part in self.parts(number) {
+            slots.push(slots_of(self.component(*part), self.parts(*part)))?;
+        }
+        Ok(slots)
+    }
+
     /// The refusal of a component's own.
     pub(crate) fn refusal(&self, number: u32) -> Option<Refusal>
         requires { number < length self.now.uses }
@@ -138,6 +154,28 @@ pub fn are_of_one(
     true
 }
 
+// How many slots a component with these parts has in the sequence that it stands in.
+fn slots_of(component: &Component, parts: &[u32]) -> u32
+    ensures { result ≡ slots.slots_of component.now parts.now }
+{
+    match component {
+        Component::Sequence { framing, .. } => slots_of_sequence(*framing, parts),
+        Component::ComplexElement { occurs, .. } => *occurs,
+        Component::SimpleElement { occurs, .. } => *occurs,
+    }
+}
+
+// The same of a sequence with this framing.
+fn slots_of_sequence(framing: Framing, parts: &[u32]) -> u32
+    ensures { result ≡ slots.slots_of_sequence framing parts.now }
+{
+    if parts.is_empty() && !has_framing(framing) {
+        0
+    } else {
+        1
+    }
+}
+
 // Whether a component of this kind can have these parts.
 fn can_have(component: &Component, parts: &[u32]) -> bool
     ensures can { IsTrue result → CanHave component.now parts.now }
@@ -145,7 +183,6 @@ fn can_have(component: &Component, parts: &[u32]) -> bool
 {
     match component {
         Component::Sequence { .. } => true,
-        Component::Reference { .. } => parts.len() == 1,
         Component::ComplexElement { .. } => parts.len() == 1,
         Component::SimpleElement { .. } => parts.is_empty(),
     }
@@ -167,7 +204,6 @@ fn has_primitive(component: &Component, count: u32) -> bool
 {
     match component {
         Component::Sequence { .. } => true,
-        Component::Reference { .. } => true,
         Component::ComplexElement { content_box, .. } => has_box_primitive(*content_box, count),
         Component::SimpleElement {
             prim,
@@ -220,7 +256,7 @@ fn has_prefix_primitive(prefix: Option<Prefix>, count: u32) -> bool
     }
 }
 
-/// Whether the lists of each component's initiator and terminator are some of so many.
+/// Whether the lists of each component's initiator, terminator and separators are some of so many.
 pub fn have_delimiters(components: &[Component], count: u32) -> bool
     ensures have { IsTrue result → All (HasDelimiters count) components.now }
     ensures other { result ≡ false → All (HasDelimiters count) components.now → ⊥ }
@@ -230,12 +266,35 @@ pub fn have_delimiters(components: &[Component], count: u32) -> bool
         .all(|component| has_delimiters(component, count))
 }
 
-// Whether the lists of a component's initiator and terminator are some of so many.
+// Whether the lists of a component's initiator, terminator and separators are some of so many.
 fn has_delimiters(component: &Component, count: u32) -> bool
     ensures { IsTrue result ↔ HasDelimiters count component.now }
 {
     let framing = framing_in(component);
-    has_list(framing.initiator, count) && has_list(framing.terminator, count)
+    has_list(framing.initiator, count)
+        && has_list(framing.terminator, count)
+        && has_separators(separated_in(component), count)
+}
+
+// The separators in the content of a component, where it is a sequence with some.
+fn separated_in(component: &Component) -> Option<Separated>
+    ensures { result ≡ separated_in component.now }
+{
+    match component {
+        Component::Sequence { separated, .. } => *separated,
+        Component::ComplexElement { .. } => None,
+        Component::SimpleElement { .. } => None,
+    }
+}
+
+// Whether the list of separators, where there are some, is one of so many.
+fn has_separators(separated: Option<Separated>, count: u32) -> bool
+    ensures { IsTrue result ↔ HasSeparators count separated }
+{
+    match separated {
+        Some(own) => own.list < count,
+        None => true,
+    }
 }
 
 // What frames the content of a component.
@@ -243,8 +302,7 @@ fn framing_in(component: &Component) -> Framing
     ensures { result ≡ framing_in component.now }
 {
     match component {
-        Component::Sequence { framing } => *framing,
-        Component::Reference { framing } => *framing,
+        Component::Sequence { framing, .. } => *framing,
         Component::ComplexElement { framing, .. } => *framing,
         Component::SimpleElement { framing, .. } => *framing,
     }

@@ -12,7 +12,6 @@ fn own_depth(component: &Component) -> u64
 {
     match component {
         Component::Sequence { .. } => 0,
-        Component::Reference { .. } => 0,
         Component::ComplexElement { .. } => 1,
         Component::SimpleElement { .. } => 1,
     }

@@ -32,13 +32,12 @@ fn align_size(bits: u32) -> u64
     if bits > 1 { 1 } else { 0 }
 }
 
-// How many rows an initiator or a terminator is.
-fn delimiter_size(delimiter: Option<Delimiter>) -> u64
-    ensures initiator { result ≡ length (spec.initiator_rows delimiter) }
-    ensures terminator { result ≡ length (spec.terminator_rows delimiter) }
+// How many rows an initiator is.
+fn initiator_size(initiator: Option<Delimiter>) -> u64
+    ensures size { result ≡ length (spec.initiator_rows initiator) }
     ensures few { result ≤ 1 }
 {
-    match delimiter {
+    match initiator {
         Some(_) => 1,
         None => 0,
     }
@@ -50,26 +49,38 @@ fn size_before(framing: Framing) -> u64
     ensures few { result ≤ 3 }
 {
     let fill = skip_size(framing.leading_skip) + align_size(framing.alignment);
-    fill + delimiter_size(framing.initiator)
+    fill + initiator_size(framing.initiator)
+}
+
+// How many rows a terminator is behind a content with separators of a list, or with none.
+fn terminator_size(terminator: Option<Delimiter>, separators: Option<u32>) -> u64
+    ensures size { result ≡ length (spec.terminator_rows terminator separators) }
+    ensures few { result ≤ 1 }
+{
+    let _ = separators;
+    match terminator {
+        Some(_) => 1,
+        None => 0,
+    }
 }
 
 // How many rows stand behind a content.
-fn size_behind(framing: Framing) -> u64
-    ensures size { result ≡ length (spec.rows_behind framing) }
+fn size_behind(framing: Framing, separators: Option<u32>) -> u64
+    ensures size { result ≡ length (spec.rows_behind framing separators) }
     ensures few { result ≤ 2 }
 {
-    delimiter_size(framing.terminator) + skip_size(framing.trailing_skip)
+    terminator_size(framing.terminator, separators) + skip_size(framing.trailing_skip)
 }
 
 /// How many rows frame a content.
-pub(crate) fn framing_size(framing: Framing) -> u64
-    ensures size { result ≡ spec.framing_size framing }
+pub(crate) fn framing_size(framing: Framing, separators: Option<u32>) -> u64
+    ensures size { result ≡ spec.framing_size framing separators }
     ensures few { result ≤ 6 }
 {
     if !has_framing(framing) {
         return 0;
     }
-    size_before(framing) + size_behind(framing) + 1
+    size_before(framing) + size_behind(framing, separators) + 1
 }
 
 // Adds a row to the rows, and its number to those of a group.
@@ -126,19 +137,27 @@ fn push_initiator(
     }
 }
 
-// Adds a terminator, where there is one.
+// Adds a terminator, where there is one, behind a content with separators of a list, or with none.
 fn push_terminator(
     rows: &mut Vec<Row>,
     group: &mut Vec<RowId>,
     terminator: Option<Delimiter>,
+    separator: Option<u32>,
 ) -> Result<(), AllocError>
     requires { length rows.old.items < 2 ^ 32 }
-    ensures rows { OnOk result (rows.new.items ≡ rows.old.items ++ spec.terminator_rows terminator) }
+    ensures rows { OnOk result (rows.new.items ≡ rows.old.items ++ spec.terminator_rows terminator separator) }
     ensures group { OnOk result (group.new.items
-        ≡ group.old.items ++ spec.numbers (spec.terminator_rows terminator) (length rows.old.items)) }
+        ≡ group.old.items ++ spec.numbers (spec.terminator_rows terminator separator) (length rows.old.items)) }
 {
     match terminator {
-        Some(delimiter) => push_row(rows, group, Row::Terminator { delimiter }),
+        Some(delimiter) => push_row(
+            rows,
+            group,
+            Row::Terminator {
+                delimiter,
+                separator,
+            },
+        ),
         None => Ok(()),
     }
 }
@@ -165,27 +184,29 @@ fn push_behind(
     rows: &mut Vec<Row>,
     group: &mut Vec<RowId>,
     framing: Framing,
+    separators: Option<u32>,
 ) -> Result<(), AllocError>
-    requires { length rows.old.items + length (spec.rows_behind framing) < 2 ^ 32 }
-    ensures rows { OnOk result (rows.new.items ≡ rows.old.items ++ spec.rows_behind framing) }
+    requires { length rows.old.items + length (spec.rows_behind framing separators) < 2 ^ 32 }
+    ensures rows { OnOk result (rows.new.items ≡ rows.old.items ++ spec.rows_behind framing separators) }
     ensures group { OnOk result (group.new.items
-        ≡ group.old.items ++ spec.numbers (spec.rows_behind framing) (length rows.old.items)) }
+        ≡ group.old.items ++ spec.numbers (spec.rows_behind framing separators) (length rows.old.items)) }
 {
-    push_terminator(rows, group, framing.terminator)?;
+    push_terminator(rows, group, framing.terminator, separators)?;
     push_skip(rows, group, framing.trailing_skip)?;
     Ok(())
 }
 
-/// Adds the rows that frame the row of a content, and gives the row that stands for all of them.
+/// Adds the rows that frame the row of a content with separators of a list, or with none, and gives the row that stands for all of them.
 pub(crate) fn push_framed(
     alloc: Global,
     rows: &mut Vec<Row>,
     framing: Framing,
+    separators: Option<u32>,
     content: RowId,
 ) -> Result<RowId, AllocError>
-    requires { length rows.old.items + spec.framing_size framing < 2 ^ 32 }
-    ensures rows { OnOk result (rows.new.items ≡ rows.old.items ++ spec.framed framing content (length rows.old.items)) }
-    ensures whole { IfOk result (λ whole. whole ≡ spec.framed_row framing content (length rows.old.items)) }
+    requires { length rows.old.items + spec.framing_size framing separators < 2 ^ 32 }
+    ensures rows { OnOk result (rows.new.items ≡ rows.old.items ++ spec.framed framing separators content (length rows.old.items)) }
+    ensures whole { IfOk result (λ whole. whole ≡ spec.framed_row framing separators content (length rows.old.items)) }
 {
     if !has_framing(framing) {
         return Ok(content);
@@ -193,7 +214,7 @@ pub(crate) fn push_framed(
     let mut group = Vec::new(alloc);
     push_before(rows, &mut group, framing)?;
     group.push(content)?;
-    push_behind(rows, &mut group, framing)?;
+    push_behind(rows, &mut group, framing, separators)?;
     let whole = RowId::new(rows.len() as u32);
     rows.push(Row::Group {
         children: RowList::new(group),

@@ -10,19 +10,32 @@ use dfdl_value::TextValue;
 use std::alloc::{AllocError, Global};
 use std::test::Fail;
 
-// A root with fill over a group reference, a sequence and an element with fill.
+// A root with fill over two sequences in one another and an element with fill.
 fn filled(alloc: Global) -> Result<Gathered, RowsFault> {
     let mut gathered = Gathered::new(alloc);
     let root = Component::ComplexElement {
         name: TextValue::from_str(alloc, "r")?,
         framing: fill(8, 16, 0),
         content_box: ContentBox::Unbounded,
+        occurs: 1,
     };
     gathered.push(root, &[1])?;
     let framing = fill(0, 32, 4);
-    gathered.push(Component::Reference { framing }, &[2])?;
+    gathered.push(
+        Component::Sequence {
+            framing,
+            separated: None,
+        },
+        &[2],
+    )?;
     let framing = fill(3, 1, 0);
-    gathered.push(Component::Sequence { framing }, &[3])?;
+    gathered.push(
+        Component::Sequence {
+            framing,
+            separated: None,
+        },
+        &[3],
+    )?;
     let element = Component::SimpleElement {
         name: TextValue::from_str(alloc, "a")?,
         simple: Simple::Int,
@@ -30,6 +43,8 @@ fn filled(alloc: Global) -> Result<Gathered, RowsFault> {
         framing: fill(1, 8, 2),
         prefix: None,
         tried: NORMAL_ALONE,
+        is_scanned: false,
+        occurs: 1,
     };
     gathered.push(element, &[])?;
     Ok(gathered)
@@ -43,8 +58,8 @@ fn puts_fill_around_each_kind_of_content(rt: HostRuntime) -> Result<(), Fail> {
     if components.count() == 0 {
         return Err(Fail::new("no components"));
     }
-    let rows = rows_of(alloc, &components, 0, 2, 16)?;
-    let expected: [(&str, &[u64]); 16] = [
+    let rows = rows_of(alloc, &components, 0, 2, 17)?;
+    let expected: [(&str, &[u64]); 17] = [
         ("leaf", &[0]),
         ("skip", &[1]),
         ("align", &[8]),
@@ -54,13 +69,14 @@ fn puts_fill_around_each_kind_of_content(rt: HostRuntime) -> Result<(), Fail> {
         ("group", &[5]),
         ("skip", &[3]),
         ("group", &[7, 6]),
+        ("group", &[8]),
         ("align", &[32]),
         ("skip", &[4]),
-        ("group", &[9, 8, 10]),
+        ("group", &[10, 9, 11]),
         ("skip", &[8]),
         ("align", &[16]),
-        ("group", &[12, 13, 11]),
-        ("element", &[14]),
+        ("group", &[13, 14, 12]),
+        ("element", &[15]),
     ];
     assert_eq!(rt; are_shown(alloc, &rows, &expected)?, true);
     Ok(())
@@ -69,10 +85,10 @@ fn puts_fill_around_each_kind_of_content(rt: HostRuntime) -> Result<(), Fail> {
 #[test]
 fn counts_the_rows_of_fill(rt: HostRuntime) -> Result<(), Fail> {
     let alloc = rt.alloc();
-    assert_eq!(rt; count_of(alloc, filled(alloc)?, 2, 16), Ok(16));
+    assert_eq!(rt; count_of(alloc, filled(alloc)?, 2, 17), Ok(17));
     assert_eq!(rt;
-        count_of(alloc, filled(alloc)?, 2, 15),
-        limit(LimitCause::Rows, 15)
+        count_of(alloc, filled(alloc)?, 2, 16),
+        limit(LimitCause::Rows, 16)
     );
     Ok(())
 }
@@ -84,6 +100,7 @@ fn boxed(alloc: Global) -> Result<Gathered, RowsFault> {
         name: TextValue::from_str(alloc, "r")?,
         framing: Framing::none(),
         content_box: ContentBox::Sized(8589934592),
+        occurs: 1,
     };
     gathered.push(root, &[1])?;
     gathered.push(bare_sequence(), &[2])?;
@@ -91,6 +108,7 @@ fn boxed(alloc: Global) -> Result<Gathered, RowsFault> {
         name: TextValue::from_str(alloc, "c")?,
         framing: fill(8, 1, 4),
         content_box: ContentBox::Sized(64),
+        occurs: 1,
     };
     gathered.push(inner, &[3])?;
     gathered.push(bare_sequence(), &[4])?;
@@ -161,6 +179,8 @@ fn ended_simple(alloc: Global, list: u32) -> Result<Component, AllocError> {
         framing: ended_by(list),
         prefix: None,
         tried: NORMAL_ALONE,
+        is_scanned: false,
+        occurs: 1,
     })
 }
 
@@ -171,6 +191,7 @@ fn delimited(alloc: Global) -> Result<Gathered, RowsFault> {
         name: TextValue::from_str(alloc, "r")?,
         framing: ended_by(0),
         content_box: ContentBox::Sized(64),
+        occurs: 1,
     };
     gathered.push(root, &[1])?;
     let framing = Framing {
@@ -180,7 +201,13 @@ fn delimited(alloc: Global) -> Result<Gathered, RowsFault> {
         terminator: delimiter(2),
         trailing_skip: 4,
     };
-    gathered.push(Component::Sequence { framing }, &[2])?;
+    gathered.push(
+        Component::Sequence {
+            framing,
+            separated: None,
+        },
+        &[2],
+    )?;
     gathered.push(ended_simple(alloc, 3)?, &[])?;
     Ok(gathered)
 }

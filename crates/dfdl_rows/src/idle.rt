@@ -10,7 +10,7 @@ fn is_plain(component: &Component) -> bool
     ensures { result ≡ spec.is_plain component.now }
 {
     match component {
-        Component::Sequence { .. } | Component::Reference { .. } => true,
+        Component::Sequence { .. } => true,
         Component::ComplexElement { .. } | Component::SimpleElement { .. } => false,
     }
 }

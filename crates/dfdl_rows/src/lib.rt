@@ -10,7 +10,6 @@ mod boxes;
 mod component;
 mod components;
 mod depths;
-mod ends;
 mod fault;
 mod framing;
 mod idle;
@@ -20,18 +19,23 @@ mod refusals;
 mod rows;
 mod scopes;
 mod sizes;
+mod slots;
 mod walk;
 
-pub use component::{Component, ContentBox};
+pub use component::{Component, ContentBox, Separated};
 pub use components::{Components, are_of_one, have_delimiters, have_primitives};
 pub use fault::RowsFault;
 pub use refusal::Refusal;
 pub use rows::{rows_of, terms_of};
 
 #[cfg(test)]
+mod array_tests;
+#[cfg(test)]
 mod framing_tests;
 #[cfg(test)]
 mod prefix_tests;
+#[cfg(test)]
+mod separator_tests;
 #[cfg(test)]
 mod tests;
 #[cfg(test)]

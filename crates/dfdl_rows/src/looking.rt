@@ -122,10 +122,6 @@ impl<'c> Looking<'c> {
                 push_all(&mut self.tasks, components.parts(number))?;
                 Ok(None)
             }
-            Component::Reference { .. } => {
-                push_all(&mut self.tasks, components.parts(number))?;
-                Ok(None)
-            }
             Component::ComplexElement { name, .. } => {
                 let inside = known.refusals[number as usize];
                 let place = components.place(number);

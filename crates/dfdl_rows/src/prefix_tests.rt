@@ -20,6 +20,8 @@ fn simple_with(alloc: Global, framing: Framing, prefix: Prefix) -> Result<Compon
         framing,
         prefix: Some(prefix),
         tried: NORMAL_ALONE,
+        is_scanned: false,
+        occurs: 1,
     })
 }
 
@@ -29,6 +31,7 @@ fn complex_with(alloc: Global, framing: Framing, prefix: Prefix) -> Result<Compo
         name: TextValue::from_str(alloc, "r")?,
         framing,
         content_box: ContentBox::Prefixed(prefix),
+        occurs: 1,
     })
 }
 

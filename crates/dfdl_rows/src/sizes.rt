@@ -1,29 +1,50 @@
 // How many rows components have, for each component once.
-ghost use Rattle.std.specs.Prelude.{◌≡◌, ◌<◌, ◌+◌, ℕ, length, map, All, get_or, IfOk};
+ghost use Rattle.std.specs.Prelude.{◌≡◌, ◌<◌, ◌≤◌, ◌+◌, ℕ, length, map, All, get_or, IfOk};
 ghost use Rattle.dfdl_rows.specs.Sizes as sizes;
 ghost use Rattle.dfdl_rows.specs.Saturated.{saturated};
 
 use crate::boxes::box_size;
+use crate::component::Separated;
 use crate::framing::framing_size;
-use crate::scopes::scope_size;
+use crate::scopes::{list_of, scanned_list, scope_size};
+use crate::slots::{separator_list, slots_size};
 use crate::{Component, Components};
+use dfdl_terms::Framing;
 use std::alloc::{AllocError, Global};
 
-// The rows of a component that are not its parts', those of a scope, of a box and of what frames its content among them.
-fn own_size(component: &Component) -> u64
-    ensures { result ≡ sizes.own_size component.now }
+// The rows of a sequence that are not its parts', which have so many slots, as far as 64 bits count.
+fn sequence_size(framing: Framing, separated: Option<Separated>, slots: &[u32]) -> u64
+    ensures { result ≡ saturated (sizes.own_size (Component.Sequence framing separated) slots.now) }
+{
+    let separators = separator_list(separated);
+    let scopes = scope_size(separators) + scope_size(list_of(framing.terminator));
+    let around = 1 + scopes + framing_size(framing, separators);
+    slots_size(separated, slots).saturating_add(around)
+}
+
+// The rows of a component that are not its parts', which have so many slots, as far as 64 bits count: those of separators, of scopes,
+// of a box and of what frames its content among them, and those that repeat its parts.
+fn own_size(component: &Component, slots: &[u32]) -> u64
+    ensures { result ≡ saturated (sizes.own_size component.now slots.now) }
 {
     match component {
-        Component::Sequence { framing } => 1
-            + scope_size(framing.terminator)
-            + framing_size(*framing),
-        Component::Reference { framing } => scope_size(framing.terminator) + framing_size(*framing),
+        Component::Sequence { framing, separated } => sequence_size(*framing, *separated, slots),
         Component::ComplexElement {
             framing,
             content_box,
             ..
-        } => 1 + scope_size(framing.terminator) + box_size(*content_box) + framing_size(*framing),
-        Component::SimpleElement { framing, .. } => 2 + framing_size(*framing),
+        } => {
+            let scope = scope_size(list_of(framing.terminator));
+            1 + scope + box_size(*content_box) + framing_size(*framing, None)
+        }
+        Component::SimpleElement {
+            framing,
+            is_scanned,
+            ..
+        } => {
+            let scope = scope_size(scanned_list(*is_scanned, framing.terminator));
+            2 + scope + framing_size(*framing, None)
+        }
     }
 }
 
@@ -40,12 +61,12 @@ fn total(parts: &[u32], known: &[u64]) -> u64
 }
 
 // The number of a component's rows, where it is known for its parts, as far as 64 bits count.
-fn size_at(component: &Component, parts: &[u32], known: &[u64]) -> u64
+fn size_at(component: &Component, slots: &[u32], parts: &[u32], known: &[u64]) -> u64
     requires { All (λ p. p < length known.now) parts.now }
-    ensures { result ≡ saturated (sizes.own_size component.now
+    ensures { result ≡ saturated (sizes.own_size component.now slots.now
         + sizes.total (map (λ p. get_or known.now p 0) parts.now)) }
 {
-    own_size(component).saturating_add(total(parts, known))
+    own_size(component, slots).saturating_add(total(parts, known))
 }
 
 // The number of each component's rows, as far as 64 bits count.
@@ -57,7 +78,13 @@ fn sizes(alloc: Global, components: &Components) -> Result<Vec<u64>, AllocError>
     let mut known = vec![in alloc; 0u64; components.count() as usize]?;
     for number in components.order().list() {
         let component = components.component(*number);
-        let size = size_at(component, components.parts(*number), known.as_slice());
+        let slots = components.slots(alloc, *number)?;
+        let size = size_at(
+            component,
+            slots.as_slice(),
+            components.parts(*number),
+            known.as_slice(),
+        );
         known[*number as usize] = size;
     }
     Ok(known)

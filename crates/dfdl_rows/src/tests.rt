@@ -93,6 +93,7 @@ pub(super) fn fill(leading_skip: u32, alignment: u32, trailing_skip: u32) -> Fra
 pub(super) fn bare_sequence() -> Component {
     Component::Sequence {
         framing: Framing::none(),
+        separated: None,
     }
 }
 
@@ -117,6 +118,8 @@ pub(super) fn named(alloc: Global, name: &str) -> Result<Component, AllocError> 
         framing: Framing::none(),
         prefix: None,
         tried: NORMAL_ALONE,
+        is_scanned: false,
+        occurs: 1,
     })
 }
 
@@ -126,21 +129,16 @@ pub(super) fn complex(alloc: Global) -> Result<Component, AllocError> {
         name: TextValue::from_str(alloc, "r")?,
         framing: Framing::none(),
         content_box: ContentBox::Unbounded,
+        occurs: 1,
     })
 }
 
-// A root whose content has two elements: one by a reference that stands before the other.
+// A root whose content has two elements, the one of the greater number first.
 fn used_twice(alloc: Global) -> Result<Gathered, RowsFault> {
     let mut gathered = Gathered::new(alloc);
     gathered.push(complex(alloc)?, &[1])?;
     gathered.push(bare_sequence(), &[3, 2])?;
     gathered.push(simple(alloc)?, &[])?;
-    gathered.push(
-        Component::Reference {
-            framing: Framing::none(),
-        },
-        &[4],
-    )?;
     gathered.push(named(alloc, "b")?, &[])?;
     Ok(gathered)
 }
@@ -336,9 +334,21 @@ fn shown(alloc: Global, row: &Row) -> Result<(&'static str, Vec<u64>), AllocErro
             numbers.push(u64::from(delimiter.list))?;
             "initiator"
         }
-        Row::Terminator { delimiter } => {
+        Row::Terminator {
+            delimiter,
+            separator,
+        } => {
             numbers.push(u64::from(delimiter.list))?;
+            if let Some(list) = separator {
+                numbers.push(u64::from(*list))?;
+            }
             "terminator"
+        }
+        Row::Separator => "separator",
+        Row::Repeat { count, body } => {
+            numbers.push(u64::from(*count))?;
+            numbers.push(u64::from(body.number()))?;
+            "repeat"
         }
         Row::Scope { list, body } => {
             numbers.push(u64::from(*list))?;

@@ -16,6 +16,8 @@ fn simple_with(alloc: Global, name: &str, tried: Representations) -> Result<Comp
         framing: Framing::none(),
         prefix: None,
         tried,
+        is_scanned: false,
+        occurs: 1,
     })
 }
 

@@ -2,22 +2,22 @@
 ghost use Rattle.std.specs.Prelude.{◌≡◌, ◌<◌, ◌≤◌, ◌+◌, ◌^◌, ◌++◌, ◌∷◌, [], length, map, All, get_or, IfOk, OnOk};
 ghost use Rattle.dfdl_order.specs.Parts.{uses_of};
 ghost use Rattle.dfdl_rows.specs.Components.{HasOrder};
-ghost use Rattle.dfdl_rows.specs.Ends.{AreEnds};
-ghost use Rattle.dfdl_rows.specs.Framing.{framed, framing_size};
+ghost use Rattle.dfdl_rows.specs.Framing.{framing_size};
 ghost use Rattle.dfdl_rows.specs.RowLists as lists;
+ghost use Rattle.dfdl_rows.specs.Scopes as scopes;
 ghost use Rattle.dfdl_rows.specs.Scopes.{scope_size};
 ghost use Rattle.dfdl_rows.specs.Sizes.{own_size, size_of};
 ghost use Rattle.dfdl_rows.specs.Walk.{made, closed, all_done, component_of, steps_left};
-ghost use Rattle.dfdl_terms.specs.declared.row.Row.TheVariants.{Elem, Group};
+ghost use Rattle.dfdl_terms.specs.declared.row.Row.TheVariants.{Elem};
 ghost use Rattle.dfdl_rows.specs.declared.walk.Task.TheVariants.{Enter, Close};
 
 use crate::boxes::push_boxed;
-use crate::ends::ends;
 use crate::framing::push_framed;
-use crate::scopes::push_scoped;
+use crate::scopes::{list_of, push_scoped, scanned_list};
+use crate::slots::{push_sequence, separator_list};
 use crate::{Component, Components};
 use dfdl_forms::Simple;
-use dfdl_terms::{Framing, Prefix, Representations, Row, RowId, RowList};
+use dfdl_terms::{Framing, Prefix, Representations, Row, RowId};
 use dfdl_value::TextValue;
 use std::alloc::{AllocError, Global};
 use std::collections::VecDeque;
@@ -63,20 +63,14 @@ pub(crate) fn all_rows(
         rows: Vec::new(alloc),
         lasts: Vec::new(alloc),
     };
-    walk.run(alloc, components, ends(alloc, components)?.as_slice())?;
+    walk.run(alloc, components)?;
     Ok(walk.rows)
 }
 
 impl Walk {
     // Does all that is to be done.
-    fn run(
-        &mut self,
-        alloc: Global,
-        components: &Components,
-        ends: &[u32],
-    ) -> Result<(), AllocError>
+    fn run(&mut self, alloc: Global, components: &Components) -> Result<(), AllocError>
         requires ordered { HasOrder components.now.uses }
-        requires ends { AreEnds components.now ends.now }
         requires within { All (λ t. component_of t < length components.now.uses) self.old.tasks.items }
         requires few { length (all_done components.now self.old.tasks.items
             (made self.old.rows.items self.old.lasts.items)).rows < 2 ^ 32 }
@@ -84,7 +78,7 @@ impl Walk {
             ≡ all_done components.now self.old.tasks.items (made self.old.rows.items self.old.lasts.items)) }
     {
         while let Some(task) = self.tasks.pop_front() {
-            self.perform(alloc, components, ends, task)?;
+            self.perform(alloc, components, task)?;
         }
         Ok(())
     }
@@ -94,11 +88,9 @@ impl Walk {
         &mut self,
         alloc: Global,
         components: &Components,
-        ends: &[u32],
         task: Task,
     ) -> Result<(), AllocError>
         requires ordered { HasOrder components.now.uses }
-        requires ends { AreEnds components.now ends.now }
         requires within { All (λ t. component_of t < length components.now.uses) (task ∷ self.old.tasks.items) }
         requires few { length (all_done components.now (task ∷ self.old.tasks.items)
             (made self.old.rows.items self.old.lasts.items)).rows < 2 ^ 32 }
@@ -111,7 +103,7 @@ impl Walk {
             < steps_left components.now (task ∷ self.old.tasks.items)) }
     {
         match task {
-            Task::Enter(number) => enter(&mut self.tasks, components, ends, number),
+            Task::Enter(number) => enter(&mut self.tasks, components, number),
             Task::Close(number) => close(
                 alloc,
                 components,
@@ -123,31 +115,23 @@ impl Walk {
     }
 }
 
-// Puts the components that the parts of one lead to before the other tasks, and behind them its own rows.
-fn enter(
-    tasks: &mut VecDeque<Task>,
-    components: &Components,
-    ends: &[u32],
-    number: u32,
-) -> Result<(), AllocError>
-    requires within { number < length components.now.uses }
-    requires ends { AreEnds components.now ends.now }
+// Puts the parts of a component before the other tasks, and behind them its own rows.
+fn enter(tasks: &mut VecDeque<Task>, components: &Components, number: u32) -> Result<(), AllocError>
+    requires { number < length components.now.uses }
     ensures { OnOk result (tasks.new.items
-        ≡ map (λ p. Enter (get_or ends.now p 0)) (uses_of components.now.uses number) ++ Close number ∷ tasks.old.items) }
+        ≡ map Enter (uses_of components.now.uses number) ++ Close number ∷ tasks.old.items) }
 {
     tasks.push_front(Task::Close(number))?;
-    enter_all(tasks, components.parts(number), ends)
+    enter_all(tasks, components.parts(number))
 }
 
-// Puts the components that these lead to before the other tasks.
-fn enter_all(tasks: &mut VecDeque<Task>, parts: &[u32], ends: &[u32]) -> Result<(), AllocError>
-    requires { All (λ p. p < length ends.now) parts.now }
-    ensures { OnOk result (tasks.new.items
-        ≡ map (λ p. Enter (get_or ends.now p 0)) parts.now ++ tasks.old.items) }
+// Puts these components before the other tasks.
+fn enter_all(tasks: &mut VecDeque<Task>, parts: &[u32]) -> Result<(), AllocError>
+    ensures { OnOk result (tasks.new.items ≡ map Enter parts.now ++ tasks.old.items) }
 {
     for at in (0..parts.len()).rev() {
-        let end = ends[parts[at] as usize];
-        tasks.push_front(Task::Enter(end))?;
+        let part = parts[at];
+        tasks.push_front(Task::Enter(part))?;
     }
     Ok(())
 }
@@ -166,38 +150,45 @@ fn close(
         ≡ closed components.now number (made rows.old.items lasts.old.items)) }
 {
     let kept = lasts.len().saturating_sub(components.parts(number).len());
-    push_own(alloc, rows, components.component(number), &lasts[kept..])?;
+    let slots = components.slots(alloc, number)?;
+    push_own(
+        alloc,
+        rows,
+        components.component(number),
+        slots.as_slice(),
+        &lasts[kept..],
+    )?;
     lasts.truncate(kept);
     lasts.push(RowId::new(rows.len().saturating_sub(1) as u32))?;
     Ok(())
 }
 
-// Adds the rows of a component's own, where these are the last rows of its parts.
+// Adds the rows of a component's own, where these are the last rows of its parts, which have so many slots.
 fn push_own(
     alloc: Global,
     rows: &mut Vec<Row>,
     component: &Component,
+    slots: &[u32],
     parts: &[RowId],
 ) -> Result<(), AllocError>
-    requires { length rows.old.items + own_size component.now < 2 ^ 32 }
+    requires { length rows.old.items + own_size component.now slots.now < 2 ^ 32 }
     ensures { OnOk result (rows.new.items
-        ≡ rows.old.items ++ lists.own_rows component.now parts.now (length rows.old.items)) }
+        ≡ rows.old.items ++ lists.own_rows component.now slots.now parts.now (length rows.old.items)) }
 {
     match component {
-        Component::Sequence { framing } => {
-            let content = RowId::new(rows.len() as u32);
-            push_group(alloc, rows, parts)?;
-            push_around(alloc, rows, *framing, content)
+        Component::Sequence { framing, separated } => {
+            let content = push_sequence(alloc, rows, *separated, slots, parts)?;
+            push_around(alloc, rows, *framing, separator_list(*separated), content)
         }
-        Component::Reference { framing } => push_around(alloc, rows, *framing, first_of(parts)),
         Component::ComplexElement {
             name,
             framing,
             content_box,
+            ..
         } => {
-            let scoped = push_scoped(rows, framing.terminator, first_of(parts))?;
+            let scoped = push_scoped(rows, list_of(framing.terminator), first_of(parts))?;
             let boxed = push_boxed(rows, *content_box, scoped)?;
-            let body = push_framed(alloc, rows, *framing, boxed)?;
+            let body = push_framed(alloc, rows, *framing, None, boxed)?;
             push_element(alloc, rows, name, None, NO_TRIALS, body)
         }
         Component::SimpleElement {
@@ -207,28 +198,35 @@ fn push_own(
             framing,
             prefix,
             tried,
+            is_scanned,
+            ..
         } => {
             let content = RowId::new(rows.len() as u32);
             rows.push(leaf_row(*prefix, *prim))?;
-            let body = push_framed(alloc, rows, *framing, content)?;
+            let list = scanned_list(*is_scanned, framing.terminator);
+            let scoped = push_scoped(rows, list, content)?;
+            let body = push_framed(alloc, rows, *framing, None, scoped)?;
             push_element(alloc, rows, name, Some(*simple), *tried, body)
         }
     }
 }
 
-// Adds the rows around the row of the content of a sequence or a reference: its scope, and what frames it.
+// Adds the rows around the row of the group of a sequence: the scopes of its separators and of its terminator, and what frames it.
 fn push_around(
     alloc: Global,
     rows: &mut Vec<Row>,
     framing: Framing,
+    separators: Option<u32>,
     content: RowId,
 ) -> Result<(), AllocError>
-    requires { length rows.old.items + scope_size framing.terminator + framing_size framing < 2 ^ 32 }
+    requires { length rows.old.items + scope_size separators + scope_size (scopes.list_of framing.terminator)
+        + framing_size framing separators < 2 ^ 32 }
     ensures { OnOk result (rows.new.items
-        ≡ rows.old.items ++ lists.scoped framing.terminator (framed framing) content (length rows.old.items)) }
+        ≡ rows.old.items ++ lists.sequence_rows framing separators content (length rows.old.items)) }
 {
-    let scoped = push_scoped(rows, framing.terminator, content)?;
-    push_framed(alloc, rows, framing, scoped)?;
+    let inner = push_scoped(rows, separators, content)?;
+    let outer = push_scoped(rows, list_of(framing.terminator), inner)?;
+    push_framed(alloc, rows, framing, separators, outer)?;
     Ok(())
 }
 
@@ -260,15 +258,6 @@ fn push_element(
         tried,
         body,
     })?;
-    Ok(())
-}
-
-// Adds the row of a sequence.
-fn push_group(alloc: Global, rows: &mut Vec<Row>, parts: &[RowId]) -> Result<(), AllocError>
-    ensures { OnOk result (rows.new.items ≡ rows.old.items ++ Group parts.now ∷ []) }
-{
-    let children = RowList::new(Vec::from_slice(alloc, parts)?);
-    rows.push(Row::Group { children })?;
     Ok(())
 }
 

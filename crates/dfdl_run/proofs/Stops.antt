@@ -1,9 +1,9 @@
 -- A document stops by a limit on data alone.
-use Rattle.std.proofs.Common.{ℕ, zero, suc, ◌+◌, ◌-◌, ◌*◌, ◌/◌, nat_eq, nat_le, nat_lt, ◌&&◌, true, false, Bool, if◌then◌else◌, List, [], ◌∷◌, ◌++◌, length, Option, None, Some, slice_get}
+use Rattle.std.proofs.Common.{ℕ, zero, suc, ◌+◌, ◌-◌, ◌*◌, ◌/◌, nat_eq, nat_le, nat_lt, ◌&&◌, true, false, Bool, if◌then◌else◌, List, [], ◌∷◌, ◌++◌, length, Option, None, Some, slice_get, replicate}
 use Rattle.dfdl_report.specs.declared.cause.LimitCause.{LimitCause}
 use Rattle.dfdl_report.specs.declared.cause.LimitCause.TheVariants.{Window, Nodes, Text}
 use Rattle.dfdl_report.specs.declared.cause.ParseCause.{ParseCause}
-use Rattle.dfdl_report.specs.declared.cause.ParseCause.TheVariants.{LengthOutOfRange, InitiatorMissing, TerminatorMissing}
+use Rattle.dfdl_report.specs.declared.cause.ParseCause.TheVariants.{LengthOutOfRange, InitiatorMissing, SeparatorMissing, TerminatorMissing}
 use Rattle.dfdl_looks.specs.Asks.{Reached, Told, TooFar, Missing, ask}
 use Rattle.dfdl_looks.specs.Looks.{seen_in}
 use Rattle.dfdl_looks.specs.Tallies.{needs_from, nothing}
@@ -17,7 +17,7 @@ use Rattle.dfdl_terms.specs.declared.row.Primitive.{Primitive}
 use Rattle.dfdl_terms.specs.declared.representations.Representations.{Representations}
 use Rattle.dfdl_terms.specs.declared.row.Row.{Row}
 use Rattle.dfdl_terms.specs.declared.text.TextSize.{TextSize}
-use Rattle.dfdl_terms.specs.declared.row.Row.TheVariants.{Leaf, Elem, Group, Skip, Align, Initiator, Terminator, Scope, Boxed, PrefixedLeaf, PrefixedBox}
+use Rattle.dfdl_terms.specs.declared.row.Row.TheVariants.{Leaf, Elem, Group, Skip, Align, Initiator, Terminator, Separator, Scope, Boxed, PrefixedLeaf, PrefixedBox, Repeat}
 use Rattle.dfdl_region.specs.declared.node.Content.{Content}
 use Rattle.dfdl_region.specs.declared.node.Content.TheVariants as content
 use Rattle.dfdl_region.specs.Nodes.{with_content}
@@ -31,7 +31,7 @@ use Rattle.dfdl_grammar.specs.States.{Input, State, anchor, anchor_at}
 use Rattle.dfdl_grammar.specs.Outcomes.{Outcome, ended, follow, spend, then_do}
 use Rattle.dfdl_grammar.specs.Leaves.{Find, Fails, Finds, FindsOctets, FindsText, content_begins, has_room, land, leaf, nil_values, program, program_for, read_by}
 use Rattle.dfdl_grammar.specs.Framing.{aligned, fill_to, has_byte, pass_to, passed}
-use Rattle.dfdl_grammar.specs.Delimiters.{initiator, lists_of, markup, opens, passed_text, scoped, seek, sought_among, stands_in, terminator, unscoped}
+use Rattle.dfdl_grammar.specs.Delimiters.{initiator, lists_of, markup, numbers_of, opens, passed_text, scoped, seek, separator, sought_among, stands_in, terminator, unscoped}
 use Rattle.dfdl_grammar.specs.Boxes.{boxed_at, bytes_up_to, pass_bytes, past_byte, rest as rest_of, unboxed}
 use Rattle.dfdl_grammar.specs.Elements.{attempted, begun, close, has_elements}
 use Rattle.dfdl_grammar.specs.Marks.{back, marked}
@@ -72,19 +72,20 @@ land-stops limits first (Told (FindsText bytes end)) s =
 land-stops limits first TooFar s = tt
 land-stops limits first Missing s = tt
 
-room-stops : (input : Input) (nil : Option (List Value)) (primitive : Primitive) (s : State) (room : Bool)
+room-stops : (input : Input) (delimiters : List Delimiters) (nil : Option (List Value)) (primitive : Primitive) (s : State) (room : Bool)
     → StopsByData (let whole : Outcome = (if room then
-    (let reading = ask (seen_in input.bytes input.limits.window (anchor s)) (program_for nil primitive s.at s.stop) nothing in
+    (let reading = ask (seen_in input.bytes input.limits.window (anchor s)) (program_for nil (lists_of delimiters (markup s)) primitive s.at s.stop) nothing in
     spend (needs_from (anchor s) reading.tally) (land input.limits (content_begins primitive s.at) reading.reached s))
     else ended (Failed LengthOutOfRange s.at) s) in whole.end)
-room-stops input nil primitive s true =
+room-stops input delimiters nil primitive s true =
     land-stops input.limits (content_begins primitive s.at)
-    (ask (seen_in input.bytes input.limits.window (anchor s)) (program_for nil primitive s.at s.stop) nothing).reached s
-room-stops input nil primitive s false = tt
+    (ask (seen_in input.bytes input.limits.window (anchor s)) (program_for nil (lists_of delimiters (markup s)) primitive s.at s.stop) nothing).reached s
+room-stops input delimiters nil primitive s false = tt
 
-leaf-stops : (input : Input) (nil : Option (List Value)) (primitive : Option Primitive) (s : State) → StopsByData (leaf input nil primitive s).end
-leaf-stops input nil None s = tt
-leaf-stops input nil (Some primitive) s = room-stops input nil primitive s (has_room primitive s.at s.stop)
+leaf-stops : (input : Input) (delimiters : List Delimiters) (nil : Option (List Value)) (primitive : Option Primitive) (s : State)
+    → StopsByData (leaf input delimiters nil primitive s).end
+leaf-stops input delimiters nil None s = tt
+leaf-stops input delimiters nil (Some primitive) s = room-stops input delimiters nil primitive s (has_room primitive s.at s.stop)
 
 passed-stops : (window to : ℕ) (reached : Reached Bool) (s : State) → StopsByData (passed window to reached s).end
 passed-stops window to (Told true) s = tt
@@ -226,10 +227,14 @@ initiator-stops : (input : Input) (delimiters : List Delimiters) (delimiter : De
 initiator-stops input delimiters delimiter s =
     standing-stops input InitiatorMissing (lists_of delimiters (delimiter.list ∷ [])) 0 s (stands_in s.instead delimiter)
 
-terminator-stops : (input : Input) (delimiters : List Delimiters) (delimiter : Delimiter) (s : State)
-    → StopsByData (terminator input delimiters delimiter s).end
-terminator-stops input delimiters delimiter s =
-    standing-stops input TerminatorMissing (lists_of delimiters (markup s ++ delimiter.list ∷ [])) (length (markup s)) s (stands_in s.instead delimiter)
+terminator-stops : (input : Input) (delimiters : List Delimiters) (delimiter : Delimiter) (separators : Option ℕ) (s : State)
+    → StopsByData (terminator input delimiters delimiter separators s).end
+terminator-stops input delimiters delimiter separators s =
+    standing-stops input TerminatorMissing (lists_of delimiters (markup s ++ delimiter.list ∷ numbers_of separators)) (length (markup s)) s
+    (stands_in s.instead delimiter)
+
+separator-stops : (input : Input) (delimiters : List Delimiters) (s : State) → StopsByData (separator input delimiters s).end
+separator-stops input delimiters s = seek-stops input SeparatorMissing (lists_of delimiters (markup s)) (length (markup s) - 1) s
 
 unscoped-stops : (end : End) (count : ℕ) (o : Outcome) → StopsByData o.end → StopsByData (unscoped end count o).end
 unscoped-stops Done count o own = own
@@ -269,52 +274,55 @@ land-prefix-stops limits own first next each (Told (FindsText bytes end)) s = tt
 land-prefix-stops limits own first next each TooFar s = tt
 land-prefix-stops limits own first next each Missing s = tt
 
-prefix-room-stops : (input : Input) (primitive : Primitive) (own : ℕ) (next : ℕ → State → Outcome)
+prefix-room-stops : (input : Input) (delimiters : List Delimiters) (primitive : Primitive) (own : ℕ) (next : ℕ → State → Outcome)
     → ((units : ℕ) (s : State) → StopsByData (next units s).end) → (s : State) (room : Bool)
     → StopsByData (let whole : Outcome = (if room then
-    (let reading = ask (seen_in input.bytes input.limits.window (anchor s)) (program primitive s.at s.stop) nothing in
+    (let reading = ask (seen_in input.bytes input.limits.window (anchor s)) (program (lists_of delimiters (markup s)) primitive s.at s.stop) nothing in
     spend (needs_from (anchor s) reading.tally) (land_prefix input.limits own (content_begins primitive s.at) next reading.reached s))
     else ended (Failed LengthOutOfRange s.at) s) in whole.end)
-prefix-room-stops input primitive own next each s true =
+prefix-room-stops input delimiters primitive own next each s true =
     land-prefix-stops input.limits own (content_begins primitive s.at) next each
-    (ask (seen_in input.bytes input.limits.window (anchor s)) (program primitive s.at s.stop) nothing).reached s
-prefix-room-stops input primitive own next each s false = tt
+    (ask (seen_in input.bytes input.limits.window (anchor s)) (program (lists_of delimiters (markup s)) primitive s.at s.stop) nothing).reached s
+prefix-room-stops input delimiters primitive own next each s false = tt
 
-prefixed-stops : (input : Input) (primitive : Option Primitive) (own : ℕ) (next : ℕ → State → Outcome)
-    → ((units : ℕ) (s : State) → StopsByData (next units s).end) → (s : State) → StopsByData (prefixed input primitive own next s).end
-prefixed-stops input None own next each s = tt
-prefixed-stops input (Some primitive) own next each s = prefix-room-stops input primitive own next each s (has_room primitive s.at s.stop)
+prefixed-stops : (input : Input) (delimiters : List Delimiters) (primitive : Option Primitive) (own : ℕ) (next : ℕ → State → Outcome)
+    → ((units : ℕ) (s : State) → StopsByData (next units s).end) → (s : State) → StopsByData (prefixed input delimiters primitive own next s).end
+prefixed-stops input delimiters None own next each s = tt
+prefixed-stops input delimiters (Some primitive) own next each s = prefix-room-stops input delimiters primitive own next each s (has_room primitive s.at s.stop)
 
-resized-stops : (input : Input) (nil : Option (List Value)) (primitive : Option Primitive) (s : State) → StopsByData (leaf_of input nil primitive s).end
-resized-stops input nil None s = tt
-resized-stops input nil (Some primitive) s = leaf-stops input nil (Some primitive) s
+resized-stops : (input : Input) (delimiters : List Delimiters) (nil : Option (List Value)) (primitive : Option Primitive) (s : State)
+    → StopsByData (leaf_of input delimiters nil primitive s).end
+resized-stops input delimiters nil None s = tt
+resized-stops input delimiters nil (Some primitive) s = leaf-stops input delimiters nil (Some primitive) s
 
-sized-stops : (input : Input) (nil : Option (List Value)) (primitive : Option Primitive) (size : TextSize) (s : State)
-    → StopsByData (sized_leaf input nil primitive size s).end
-sized-stops input nil None size s = tt
-sized-stops input nil (Some primitive) size s = resized-stops input nil (resized size primitive) s
+sized-stops : (input : Input) (delimiters : List Delimiters) (nil : Option (List Value)) (primitive : Option Primitive) (size : TextSize) (s : State)
+    → StopsByData (sized_leaf input delimiters nil primitive size s).end
+sized-stops input delimiters nil None size s = tt
+sized-stops input delimiters nil (Some primitive) size s = resized-stops input delimiters nil (resized size primitive) s
 
 row-stops : (input : Input) (table : Table) (child : ℕ → State → Outcome) → ((id : ℕ) (s : State) → StopsByData (child id s).end)
     → (id : ℕ) (o : Option Row) (s : State) → StopsByData (row input table child id o s).end
 row-stops input table child each id None s = tt
 row-stops input table child each id (Some (Leaf prim)) s =
-    leaf-stops input (nil_values table.primitives s.instead) (slice_get table.primitives (read_by table.primitives s.instead prim)) s
+    leaf-stops input table.delimiters (nil_values table.primitives s.instead) (slice_get table.primitives (read_by table.primitives s.instead prim)) s
 row-stops input table child each id (Some (Elem name simple tried body)) s =
     represented-stops tried (attempted input id (has_elements simple) (child body)) (attempted-stops input id (has_elements simple) (child body) (each body)) s
 row-stops input table child each id (Some (Group children)) s = group-stops child each children s
+row-stops input table child each id (Some (Repeat count body)) s = group-stops child each (replicate count body) s
 row-stops input table child each id (Some (Skip bits)) s = pass-stops input (s.at + bits) s
 row-stops input table child each id (Some (Align bits)) s = pass-stops input (aligned bits s.at) s
 row-stops input table child each id (Some (Initiator delimiter)) s = initiator-stops input table.delimiters delimiter s
-row-stops input table child each id (Some (Terminator delimiter)) s = terminator-stops input table.delimiters delimiter s
+row-stops input table child each id (Some (Terminator delimiter separators)) s = terminator-stops input table.delimiters delimiter separators s
+row-stops input table child each id (Some Separator) s = separator-stops input table.delimiters s
 row-stops input table child each id (Some (Scope list body)) s = scoped-stops list (child body) (each body) s
 row-stops input table child each id (Some (Boxed bits body)) s =
     boxed-stops input bits (child body) (each body) s (nat_le (s.at + bits) s.stop)
 row-stops input table child each id (Some (PrefixedLeaf prefix prim)) s =
-    prefixed-stops input (slice_get table.primitives prefix.prim) prefix.own _
-    (λ units t. sized-stops input (nil_values table.primitives s.instead) (slice_get table.primitives (read_by table.primitives s.instead prim))
+    prefixed-stops input table.delimiters (slice_get table.primitives prefix.prim) prefix.own _
+    (λ units t. sized-stops input table.delimiters (nil_values table.primitives s.instead) (slice_get table.primitives (read_by table.primitives s.instead prim))
     (size_of prefix.unit units) t) s
 row-stops input table child each id (Some (PrefixedBox prefix body)) s =
-    prefixed-stops input (slice_get table.primitives prefix.prim) prefix.own _
+    prefixed-stops input table.delimiters (slice_get table.primitives prefix.prim) prefix.own _
     (λ units t. boxed-stops input (bits_of_units prefix.unit units) (child body) (each body) t
     (nat_le (t.at + bits_of_units prefix.unit units) t.stop)) s
 

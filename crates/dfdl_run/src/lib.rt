@@ -25,6 +25,3 @@ pub use deciding::MOST_INPUT;
 pub use dfdl_suspend::{Chooser, FirstReady};
 pub use loading::MOST_SCHEMA;
 pub use stop::Stop;
-
-#[cfg(test)]
-mod tests;

@@ -7,15 +7,15 @@ use Rattle.dfdl_value.specs.declared.value.Value.{Value}
 use Rattle.dfdl_value.specs.declared.value.Value.TheVariants as value
 use Rattle.dfdl_terms.specs.declared.representations.Representations.{Representations}
 use Rattle.dfdl_terms.specs.declared.text.TextContent.{TextContent}
-use Rattle.dfdl_terms.specs.declared.text.TextContent.TheVariants.{Plain, Number, Zoned, Truth as TextTruth, Nil}
+use Rattle.dfdl_terms.specs.declared.text.TextContent.TheVariants.{Plain, Octets as TextOctets, Number, Zoned, Truth as TextTruth, Nil}
 use Rattle.dfdl_terms.specs.declared.text.DefaultForm.{DefaultForm}
 use Rattle.dfdl_terms.specs.declared.text.TextForm.{TextForm}
 use Rattle.dfdl_terms.specs.declared.text.TextSize.{TextSize}
-use Rattle.dfdl_terms.specs.declared.text.TextSize.TheVariants.{Bits, Characters}
+use Rattle.dfdl_terms.specs.declared.text.TextSize.TheVariants.{Bits, Characters, Delimited}
 use Rattle.dfdl_terms.specs.declared.row.Primitive.{Primitive}
 use Rattle.dfdl_terms.specs.declared.row.Primitive.TheVariants.{Integer, Packed, Truth, Octets, Text, NilOctets, Default, NilValues, Pattern}
 use Rattle.dfdl_terms.specs.declared.row.Row.{Row}
-use Rattle.dfdl_terms.specs.declared.row.Row.TheVariants.{Leaf, Elem, Group, Skip, Align, Initiator, Terminator, Scope, Boxed, PrefixedLeaf, PrefixedBox}
+use Rattle.dfdl_terms.specs.declared.row.Row.TheVariants.{Leaf, Elem, Group, Skip, Align, Initiator, Terminator, Separator, Scope, Boxed, PrefixedLeaf, PrefixedBox, Repeat}
 use Rattle.dfdl_terms.specs.declared.delimiters.Delimiters.{Delimiters}
 use Rattle.dfdl_terms.specs.Tables.{Named}
 
@@ -45,11 +45,13 @@ ChildrenBelow bound (Group children) = All (λ c. c < bound) children
 ChildrenBelow bound (Skip bits) = Unit {0}
 ChildrenBelow bound (Align bits) = Unit {0}
 ChildrenBelow bound (Initiator delimiter) = Unit {0}
-ChildrenBelow bound (Terminator delimiter) = Unit {0}
+ChildrenBelow bound (Terminator delimiter separators) = Unit {0}
+ChildrenBelow bound Separator = Unit {0}
 ChildrenBelow bound (Scope list body) = body < bound
 ChildrenBelow bound (Boxed bits body) = body < bound
 ChildrenBelow bound (PrefixedLeaf prefix prim) = Unit {0}
 ChildrenBelow bound (PrefixedBox prefix body) = body < bound
+ChildrenBelow bound (Repeat count body) = body < bound
 
 -- each child is below its row, for the first so many rows
 abbrev pub NestsBelow : ℕ → List Row → Type 0
@@ -66,10 +68,10 @@ pub record IsFirstBad (rows : List Row) (at : ℕ) : Type 0 where
   pub bad : ChildrenBelow at row → ⊥
   pub before : NestsBelow at rows
 
--- the primitive is one of so many, where there is one
+-- the number is one of so many, where there is one
 abbrev pub IsWithin : ℕ → Option ℕ → Type 0
-IsWithin primitives None = Unit {0}
-IsWithin primitives (Some prim) = prim < primitives
+IsWithin count None = Unit {0}
+IsWithin count (Some number) = number < count
 
 -- the primitives of the representations that are tried are some of so many
 abbrev pub AreWithin : ℕ → Representations → Type 0
@@ -83,11 +85,13 @@ NamesWithin named (Group children) = Unit {0}
 NamesWithin named (Skip bits) = Unit {0}
 NamesWithin named (Align bits) = Unit {0}
 NamesWithin named (Initiator delimiter) = delimiter.list < length named.delimiters
-NamesWithin named (Terminator delimiter) = delimiter.list < length named.delimiters
+NamesWithin named (Terminator delimiter separators) = (delimiter.list < length named.delimiters) × IsWithin (length named.delimiters) separators
+NamesWithin named Separator = Unit {0}
 NamesWithin named (Scope list body) = list < length named.delimiters
 NamesWithin named (Boxed bits body) = Unit {0}
 NamesWithin named (PrefixedLeaf prefix prim) = (prefix.prim < length named.primitives) × (prim < length named.primitives)
 NamesWithin named (PrefixedBox prefix body) = prefix.prim < length named.primitives
+NamesWithin named (Repeat count body) = Unit {0}
 
 -- the greatest constant length, in bits (profile)
 abbrev pub most_length : ℕ
@@ -97,10 +101,12 @@ most_length = 8589934592
 abbrev pub IsTextSize : TextSize → Type 0
 IsTextSize (Bits n) = n ≤ most_length
 IsTextSize (Characters n) = n ≤ most_length
+IsTextSize (Delimited scan) = Unit {0}
 
 -- the form of what characters are read as keeps its bounds
 abbrev pub IsTextContent : TextContent → Type 0
 IsTextContent Plain = Unit {0}
+IsTextContent TextOctets = Unit {0}
 IsTextContent (Number form kind) = IsNumberForm form
 IsTextContent (Zoned form) = IsZonedForm form
 IsTextContent (TextTruth form) = Unit {0}
@@ -145,11 +151,13 @@ IsElementRow (Some (Group children)) = ⊥
 IsElementRow (Some (Skip bits)) = ⊥
 IsElementRow (Some (Align bits)) = ⊥
 IsElementRow (Some (Initiator delimiter)) = ⊥
-IsElementRow (Some (Terminator delimiter)) = ⊥
+IsElementRow (Some (Terminator delimiter separators)) = ⊥
+IsElementRow (Some Separator) = ⊥
 IsElementRow (Some (Scope list body)) = ⊥
 IsElementRow (Some (Boxed bits body)) = ⊥
 IsElementRow (Some (PrefixedLeaf prefix prim)) = ⊥
 IsElementRow (Some (PrefixedBox prefix body)) = ⊥
+IsElementRow (Some (Repeat count body)) = ⊥
 IsElementRow None = ⊥
 
 -- the last row is an element
@@ -172,11 +180,13 @@ IsPlainRow (Group children) = Unit {0}
 IsPlainRow (Skip bits) = ⊥
 IsPlainRow (Align bits) = ⊥
 IsPlainRow (Initiator delimiter) = ⊥
-IsPlainRow (Terminator delimiter) = ⊥
+IsPlainRow (Terminator delimiter separators) = ⊥
+IsPlainRow Separator = ⊥
 IsPlainRow (Scope list body) = ⊥
 IsPlainRow (Boxed bits body) = ⊥
 IsPlainRow (PrefixedLeaf prefix prim) = ⊥
 IsPlainRow (PrefixedBox prefix body) = ⊥
+IsPlainRow (Repeat count body) = ⊥
 
 -- each row is of the content alone
 abbrev pub HasPlainRows : List Row → Type 0

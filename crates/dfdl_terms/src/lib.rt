@@ -4,6 +4,7 @@
 // numbers, each below its own; the last row is the root element's. `specs/Rows.antt` says which rows can be a schema's.
 #![tactic(auto)]
 
+pub mod arrays;
 pub mod delimiters;
 pub mod event;
 pub mod framing;
@@ -14,6 +15,7 @@ pub mod terms;
 pub mod text;
 pub mod value_list;
 
+pub use arrays::Items;
 pub use delimiters::{Delimiter, Delimiters};
 pub use event::Event;
 pub use framing::Framing;
@@ -22,7 +24,7 @@ pub use representations::Representations;
 pub use row::{Primitive, Row, RowId, RowList, Tables};
 pub use terms::{TermFault, Terms};
 pub use text::{
-    DefaultForm, NilForm, NilOctets, NilTexts, NilValues, OctetForm, PatternForm, TextContent,
-    TextForm, TextSize,
+    DefaultForm, NilForm, NilOctets, NilTexts, NilValues, OctetForm, PatternForm, ScanForm,
+    TextContent, TextForm, TextSize,
 };
 pub use value_list::ValueList;

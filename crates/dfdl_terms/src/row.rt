@@ -133,10 +133,13 @@ pub enum Row {
     Initiator {
         delimiter: Delimiter,
     },
-    /// Passes over a text of a terminator ('Framing').
+    /// Passes over a text of a terminator, of a component that may have separators of this list of the tables ('Framing').
     Terminator {
         delimiter: Delimiter,
+        separator: Option<u32>,
     },
+    /// Passes over a text of the innermost list that is open, as a separator ('Sequence Groups').
+    Separator,
     /// A row inside of which a text of this list of the tables ends a content ('Framing').
     Scope {
         list: u32,
@@ -157,6 +160,11 @@ pub enum Row {
     /// over ('Lengths').
     PrefixedBox {
         prefix: Prefix,
+        body: RowId,
+    },
+    /// A row so many times, one after the other ('Arrays and Optional Elements').
+    Repeat {
+        count: u32,
         body: RowId,
     },
 }

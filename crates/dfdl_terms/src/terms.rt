@@ -70,10 +70,12 @@ fn has_children_below(row: &Row, bound: RowId) -> bool
         Row::Align { .. } => true,
         Row::Initiator { .. } => true,
         Row::Terminator { .. } => true,
+        Row::Separator => true,
         Row::Scope { body, .. } => body.number() < bound.number(),
         Row::Boxed { body, .. } => body.number() < bound.number(),
         Row::PrefixedLeaf { .. } => true,
         Row::PrefixedBox { body, .. } => body.number() < bound.number(),
+        Row::Repeat { body, .. } => body.number() < bound.number(),
     }
 }
 

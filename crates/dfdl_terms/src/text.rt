@@ -1,7 +1,9 @@
 ghost use Rattle.dfdl_terms.specs.Rows.{IsWritten};
 
 use crate::value_list::ValueList;
-use dfdl_forms::{BitOrder, Encoding, Literals, NumberForm, PadForm, Simple, TruthForm, ZonedForm};
+use dfdl_forms::{
+    BitOrder, Encoding, EscapeKind, Literals, NumberForm, PadForm, Simple, TruthForm, ZonedForm,
+};
 use dfdl_length_patterns::LengthPattern;
 use dfdl_value::Value;
 
@@ -55,7 +57,7 @@ pub struct PatternForm {
 /// The empty representation of an element: a box without any bit, which stands for a value ('DFDL Data Syntax Grammar').
 #[derive(Debug, Drop)]
 pub struct DefaultForm {
-    /// How long the box is.
+    /// How long the box is, or how a content is scanned that has to end where it begins.
     pub size: TextSize,
     pub value: Value,
 }
@@ -69,6 +71,21 @@ pub fn text_is_written(value: &Value)
     }
 }
 
+/// How a content is scanned that terminating markup ends: the characters of its escape scheme, the pad character that trimming
+/// takes off at the left, if there is one, its encoding, and whether a place at which no character can be decoded is read as
+/// U+FFFD ('Simple Types', on escape schemes).
+#[derive(Debug, Clone, Copy, PartialEq, Eq)]
+pub struct ScanForm {
+    pub kind: EscapeKind,
+    pub escape: Option<char>,
+    pub escape_escape: Option<char>,
+    pub start: Option<char>,
+    pub end: Option<char>,
+    pub lead: Option<char>,
+    pub encoding: Encoding,
+    pub replaces: bool,
+}
+
 /// How long a content is in the data ('Lengths').
 #[derive(Debug, Clone, Copy, PartialEq, Eq)]
 pub enum TextSize {
@@ -76,6 +93,8 @@ pub enum TextSize {
     Bits(u64),
     /// It has so many characters.
     Characters(u64),
+    /// It is scanned so up to terminating markup, or up to the end of the box or of the data (lengthKind delimited).
+    Delimited(ScanForm),
 }
 
 /// What the characters of a text are read as ('Simple Types').
@@ -83,6 +102,8 @@ pub enum TextSize {
 pub enum TextContent {
     /// The value of a string, as they are.
     Plain,
+    /// The value of a hexBinary: each is the byte that it is encoded as in ISO-8859-1.
+    Octets,
     /// A number of a type, by a number pattern or by the digits of a base.
     Number { form: NumberForm, kind: Simple },
     /// A zoned number.

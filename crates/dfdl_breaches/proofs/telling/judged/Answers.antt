@@ -7,7 +7,9 @@ use Rattle.dfdl_breaches.specs.Builds.{never}
 use Rattle.dfdl_breaches.specs.BuildsShown.{IsToldBy, with_refused}
 use Rattle.dfdl_breaches.specs.Elements.{element_at}
 use Rattle.dfdl_breaches.specs.JudgementShown.{judgement_of}
+use Rattle.dfdl_breaches.specs.Schemes.{scheme_of}
 use Rattle.dfdl_breaches.proofs.Keeping.{same_judged}
+use Rattle.dfdl_breaches.proofs.NamedSchemes.{of_chain}
 use Rattle.dfdl_breaches.proofs.telling.judged.Goals as goal
 
 pub returns : goal.returns
@@ -24,8 +26,12 @@ returns g c =
       facts = facts_judged_of c.facts_at.result;
       root_bits_by = c.args.bits_by;
       prefix = prefix_judged_of c.lent.result;
+      scheme = c.in_ok-scheme.scheme;
       pattern_is_refused = false;
     })
     c.kind_at.ensures c.place.ensures.document c.place.ensures.at (c.in_ok-chain.ensures ∙ ap (map (element_at c.args.schema.now)) c.requires.chain)
-    c.facts_at.ensures c.requires.order (c.lent.ensures ∙ c.in_ok-prefix.ensures) refl)
+    c.facts_at.ensures c.requires.order (c.lent.ensures ∙ c.in_ok-prefix.ensures)
+    (of_chain c.args.schema.now c.args.sites.now (chain_of c.in_ok-chain.chain) c.in_ok-scheme.scheme c.in_ok-scheme.ensures c.in_ok-chain.ensures
+    ∙ ap (scheme_of c.args.schema.now) c.requires.chain)
+    refl)
     c.judge.ensures

@@ -4,6 +4,7 @@ use Rattle.dfdl_checks.specs.Boxes.{size_of_box}
 use Rattle.dfdl_checks.specs.Delimiters.{delimiters_of}
 use Rattle.dfdl_checks.specs.Framing.{framing_of}
 use Rattle.dfdl_checks.specs.Numbers.{primitive_of}
+use Rattle.dfdl_checks.specs.Occurrences.{occurrences_of}
 use Rattle.dfdl_checks.specs.Patterns.{length_pattern, pattern_encoding, pattern_prefix}
 use Rattle.dfdl_checks.specs.Prefixes.{prefix_of}
 use Rattle.dfdl_checks.specs.Representations.{representations_of}
@@ -39,3 +40,6 @@ returns-clause-encoding c = λ a b alike. ap pattern_encoding (same-component a 
 
 pub returns-clause-pattern : goal.returns-clause-pattern
 returns-clause-pattern c = λ a b alike. ap pattern_prefix (same-component a b alike)
+
+pub returns-clause-occurrences : goal.returns-clause-occurrences
+returns-clause-occurrences c = λ a b alike. ap occurrences_of (same-component a b alike)

@@ -1,4 +1,4 @@
-use Rattle.dfdl_json.proofs.Declares.{there, on_ok, below_elem, below_group, elem_visited, elem_less, group_visited, group_less, bare_visited, bare_less, leaf_declares, leaf_steps, skip_declares, skip_steps, align_declares, align_steps, initiator_declares, initiator_steps, terminator_declares, terminator_steps, below_scope, scope_declares, scope_steps, below_box, box_declares, box_steps, body_visited, body_less, prefixed_leaf_declares, prefixed_leaf_steps, below_prefixed_box, prefixed_box_declares, prefixed_box_steps, no_row_declares, no_row_steps}
+use Rattle.dfdl_json.proofs.Declares.{there, on_ok, below_elem, below_group, elem_visited, elem_less, group_visited, group_less, bare_visited, bare_less, leaf_declares, leaf_steps, skip_declares, skip_steps, align_declares, align_steps, initiator_declares, initiator_steps, terminator_declares, separator_declares, terminator_steps, separator_steps, below_scope, scope_declares, scope_steps, below_box, box_declares, box_steps, body_visited, body_less, prefixed_leaf_declares, prefixed_leaf_steps, below_prefixed_box, prefixed_box_declares, prefixed_box_steps, below_repeat, repeat_declares, repeat_steps, no_row_declares, no_row_steps}
 use Rattle.std.proofs.Common.{sym, ◌∙◌, ap, [], ◌++◌}
 use Rattle.dfdl_json.proofs.children.visit.Goals as goal
 
@@ -54,11 +54,19 @@ returns-in-Some-Initiator-clause-less c =
 
 pub returns-in-Some-Terminator-clause-same : goal.returns-in-Some-Terminator-clause-same
 returns-in-Some-Terminator-clause-same c =
-    bare_visited c.args.terms.now c.args.row _ _ (terminator_declares c.args.terms.now c.args.row _ (there _ _ _ c.in-Some-Terminator.ensures.row c.in-Some-Terminator.field-0-is))
+    bare_visited c.args.terms.now c.args.row _ _ (terminator_declares c.args.terms.now c.args.row _ _ (there _ _ _ c.in-Some-Terminator.ensures.row c.in-Some-Terminator.field-0-is))
 
 pub returns-in-Some-Terminator-clause-less : goal.returns-in-Some-Terminator-clause-less
 returns-in-Some-Terminator-clause-less c =
-    bare_less c.args.terms.now c.args.row [] _ (terminator_steps c.args.terms.now c.args.row _ (there _ _ _ c.in-Some-Terminator.ensures.row c.in-Some-Terminator.field-0-is))
+    bare_less c.args.terms.now c.args.row [] _ (terminator_steps c.args.terms.now c.args.row _ _ (there _ _ _ c.in-Some-Terminator.ensures.row c.in-Some-Terminator.field-0-is))
+
+pub returns-in-Some-Separator-clause-same : goal.returns-in-Some-Separator-clause-same
+returns-in-Some-Separator-clause-same c =
+    bare_visited c.args.terms.now c.args.row _ _ (separator_declares c.args.terms.now c.args.row (there _ _ _ c.in-Some-Separator.ensures.row c.in-Some-Separator.field-0-is))
+
+pub returns-in-Some-Separator-clause-less : goal.returns-in-Some-Separator-clause-less
+returns-in-Some-Separator-clause-less c =
+    bare_less c.args.terms.now c.args.row [] _ (separator_steps c.args.terms.now c.args.row (there _ _ _ c.in-Some-Separator.ensures.row c.in-Some-Separator.field-0-is))
 
 pub returns-in-Some-Boxed-clause-same : goal.returns-in-Some-Boxed-clause-same
 returns-in-Some-Boxed-clause-same c = on_ok c.push_all-in-Some-Boxed.result _ _ c.push_all-in-Some-Boxed.ensures
@@ -83,6 +91,18 @@ returns-in-Some-Scope-clause-less c = on_ok c.push_all-in-Some-Scope.result _ _ 
     (body_less c.args.terms.now c.args.row [] _ c.in-Some-Scope.body _
     (scope_steps c.args.terms.now c.args.row _ _ (there _ _ _ c.in-Some-Scope.ensures.row c.in-Some-Scope.field-0-is)
     (below_scope _ _ _ _ c.in-Some-Scope.field-0-is c.in-Some-Scope.ensures.nests)))
+
+pub returns-in-Some-Repeat-clause-same : goal.returns-in-Some-Repeat-clause-same
+returns-in-Some-Repeat-clause-same c = on_ok c.push_all-in-Some-Repeat.result _ _ c.push_all-in-Some-Repeat.ensures
+    (body_visited c.args.terms.now c.args.row c.args.elements.now.items _ c.in-Some-Repeat.body _
+    (repeat_declares c.args.terms.now c.args.row _ _ (there _ _ _ c.in-Some-Repeat.ensures.row c.in-Some-Repeat.field-0-is)
+    (below_repeat _ _ _ _ c.in-Some-Repeat.field-0-is c.in-Some-Repeat.ensures.nests)))
+
+pub returns-in-Some-Repeat-clause-less : goal.returns-in-Some-Repeat-clause-less
+returns-in-Some-Repeat-clause-less c = on_ok c.push_all-in-Some-Repeat.result _ _ c.push_all-in-Some-Repeat.ensures
+    (body_less c.args.terms.now c.args.row [] _ c.in-Some-Repeat.body _
+    (repeat_steps c.args.terms.now c.args.row _ _ (there _ _ _ c.in-Some-Repeat.ensures.row c.in-Some-Repeat.field-0-is)
+    (below_repeat _ _ _ _ c.in-Some-Repeat.field-0-is c.in-Some-Repeat.ensures.nests)))
 
 pub returns-in-Some-PrefixedLeaf-clause-same : goal.returns-in-Some-PrefixedLeaf-clause-same
 returns-in-Some-PrefixedLeaf-clause-same c =

@@ -1,4 +1,5 @@
 use Rattle.std.proofs.Common.{◌-◌, drop, arith}
+use Rattle.dfdl_json.specs.Inside.{all_turned}
 use Rattle.dfdl_json.specs.Lines.{members_of}
 use Rattle.dfdl_json.proofs.Inner.{counted_up, node_put}
 use Rattle.dfdl_json.proofs.lines.members_of_root.Goals as goal
@@ -13,6 +14,6 @@ loop-at-preserved c =
     record {
       some = omega (arith, c.loop-at-test.true);
       within = omega (arith, before.within);
-      objects = node_put t text nodes at c.index-nodes-at.result c.put_node.new.objects.items before.some before.within c.index-nodes-at.is
-          (c.in_ok-put_node.ensures (λ j. members_of t text at (drop at nodes) j) (at - 1) (counted_up c.loop-at.objects.items at (λ j. members_of t text at (drop at nodes) j) before.some before.objects));
+      objects = node_put t text nodes c.in_ok-items.items at c.index-nodes-at.result c.put_node.new.objects.items before.some before.within c.index-nodes-at.is c.in_ok-items.ensures
+          (c.in_ok-put_node.ensures (λ j. all_turned (members_of t text at (drop at nodes) j)) (at - 1) (counted_up c.loop-at.objects.items at (λ j. all_turned (members_of t text at (drop at nodes) j)) before.some before.objects));
     }

@@ -9,24 +9,24 @@ use Rattle.dfdl_parse.proofs.Leaves.{cut_read, none-piece, none-within, number-f
 use Rattle.dfdl_parse.proofs.leaf.read_number.Goals as goal
 
 pub returns-then-run-count-clause-answers : goal.returns-then-run-count-clause-answers
-returns-then-run-count-clause-answers g c stop scratch =
+returns-then-run-count-clause-answers g c opened stop scratch =
     let primitive = primitive_of c.args.leaf in
     let look = seen_at c.args.sight.now in
     let looks : ℕ = c.cut.new.steps - c.args.steps.now in
     let fewer : length c.run-run.result.now < bytes_spanned c.args.bit (bits_of primitive) = omega arith in
     subst (λ (p : Ask Find). Answers (ask look p nothing) scratch c.cut.result looks)
-    (sym (number-field primitive c.args.bit stop c.requires.number))
+    (sym (number-field opened primitive c.args.bit stop c.requires.number))
     (cut_read look primitive c.args.bit c.run-run.result.now c.run-run.ensures.seen fewer c.cut.result c.cut.ensures.cut looks (omega arith) scratch)
 
 pub returns-clause-answers : goal.returns-clause-answers
-returns-clause-answers g c stop scratch =
+returns-clause-answers g c opened stop scratch =
     let primitive = primitive_of c.args.leaf in
     let look = seen_at c.args.sight.now in
     let looks : ℕ = c.run-run.new.steps - c.args.steps.now in
     let all : bytes_spanned c.args.bit (bits_of primitive) ≡ length c.run-run.result.now = omega arith in
     let some : 1 ≤ bits_of primitive = omega (arith, c.number_bits.ensures.some) in
     subst (λ (p : Ask Find). Answers (ask look p nothing) scratch (record { found = c.found_in-found.result; far = c.args.bit / 8 + c.spanned-count.result }) looks)
-    (sym (number-field primitive c.args.bit stop c.requires.number))
+    (sym (number-field opened primitive c.args.bit stop c.requires.number))
     (whole_read look primitive c.args.bit c.run-run.result.now c.run-run.ensures.seen some all scratch
     c.found_in-found.result (c.found_in-found.ensures.found scratch) (c.args.bit / 8 + c.spanned-count.result) (omega arith) looks (omega arith))
 

@@ -10,12 +10,12 @@ use Rattle.dfdl_parse.proofs.NilReadings.{nil_value_read}
 use Rattle.dfdl_parse.proofs.leaf.read_wanted.Goals as goal
 
 pub returns-in_ok-found-in-OneOf-clause-answers : goal.returns-in_ok-found-in-OneOf-clause-answers
-returns-in_ok-found-in-OneOf-clause-answers g c =
+returns-in_ok-found-in-OneOf-clause-answers g c opened opens =
     let look = seen_at c.args.sight.now in
     let primitive = primitive_of c.args.leaf in
     let looks : ℕ = c.read_leaf.new.steps - c.args.steps.now in
     let after = c.nil_value_found.new.scratch in
-    subst (λ (w : Wanted). Answers (ask look (program_for (wanted w) primitive c.args.bit c.args.stop) nothing) after
+    subst (λ (w : Wanted). Answers (ask look (program_for (wanted w) opened primitive c.args.bit c.args.stop) nothing) after
     (record { found = c.in_ok-found-in-OneOf.found; far = c.in_ok-glance.glance.far }) looks) (sym c.in-OneOf.is)
-    (nil_value_read look c.in-OneOf.values.now (program primitive c.args.bit c.args.stop) c.read_leaf.new.scratch after c.in_ok-glance.glance looks
-    c.in_ok-found-in-OneOf.found c.in_ok-glance.ensures.answers (c.in_ok-found-in-OneOf.ensures.found after))
+    (nil_value_read look c.in-OneOf.values.now (program opened primitive c.args.bit c.args.stop) c.read_leaf.new.scratch after c.in_ok-glance.glance looks
+    c.in_ok-found-in-OneOf.found (c.in_ok-glance.ensures.answers opened opens) (c.in_ok-found-in-OneOf.ensures.found after))

@@ -6,12 +6,12 @@ use Rattle.dfdl_rows.proofs.sizes.sizes.Goals as goal
 
 pub loop-number-preserved : goal.loop-number-preserved
 loop-number-preserved c =
-    known_more ℕ c.args.components.now.uses (saturated_size_from c.args.components.now.components) 0 c.list-number-items.result.now c.loop-number.number-index
+    known_more ℕ c.args.components.now.uses (saturated_size_from c.args.components.now) 0 c.list-number-items.result.now c.loop-number.number-index
     c.loop-number.known.items c.size_at-size.result c.loop-number.invariant c.loop-number-test.true
-    (rw (← c.parts.ensures.parts, ← c.component-component.ensures.component, ← c.as_slice.ensures.value) c.size_at-size.ensures)
+    (rw (← c.in_ok-slots.ensures, ← c.as_slice.ensures.value, ← c.as_slice-in-loop-number.ensures.value, ← c.parts.ensures.parts, ← c.component-component.ensures.component) c.size_at-size.ensures)
 
 pub returns-clause-known : goal.returns-clause-known
 returns-clause-known c = λ n within.
-    known_all ℕ c.args.components.now.uses (saturated_size_from c.args.components.now.components) 0 c.list-number-items.result.now c.loop-number.number-index
+    known_all ℕ c.args.components.now.uses (saturated_size_from c.args.components.now) 0 c.list-number-items.result.now c.loop-number.number-index
     c.loop-number.known.items c.loop-number.invariant c.loop-number-test.false n within
     ∙ size_is c.args.components.now n

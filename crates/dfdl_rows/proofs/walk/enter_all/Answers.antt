@@ -1,4 +1,4 @@
-use Rattle.std.proofs.Common.{ℕ, ◌-◌, get_or, arith}
+use Rattle.std.proofs.Common.{◌-◌, arith}
 use Rattle.dfdl_rows.specs.declared.walk.Task.TheVariants.{Enter}
 use Rattle.dfdl_rows.proofs.Walks.{front_more}
 use Rattle.dfdl_rows.proofs.walk.enter_all.Goals as goal
@@ -6,6 +6,6 @@ use Rattle.dfdl_rows.proofs.walk.enter_all.Goals as goal
 pub loop-at-preserved : goal.loop-at-preserved
 loop-at-preserved c = record {
   within = omega (arith, c.loop-at.invariant.within);
-  same = front_more (λ (p : ℕ). Enter (get_or c.args.ends.now p 0)) c.args.parts.now (c.loop-at.at - 1) c.loop-at.at c.push_front.new.self.items c.loop-at.tasks.items
+  same = front_more Enter c.args.parts.now (c.loop-at.at - 1) c.loop-at.at c.push_front.new.self.items c.loop-at.tasks.items
       c.args.tasks.now.items (omega (arith, c.loop-at-test.true)) (omega (arith, c.loop-at-test.true, c.loop-at.invariant.within)) c.in_ok-push_front.ensures.items c.loop-at.invariant.same;
 }

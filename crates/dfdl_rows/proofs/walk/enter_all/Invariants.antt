@@ -1,9 +1,9 @@
-use Rattle.std.proofs.Common.{◌≡◌, ◌≤◌, ◌++◌, length, map, get_or, drop}
+use Rattle.std.proofs.Common.{◌≡◌, ◌≤◌, ◌++◌, length, map, drop}
 use Rattle.dfdl_rows.specs.declared.walk.Task.TheVariants.{Enter}
 use Rattle.dfdl_rows.proofs.walk.enter_all.Given as goal
 
 abbrev pub invariant-loop-at : goal.invariant-loop-at
 invariant-loop-at l = record {
   within : l.at ≤ length l.parts;
-  same : l.tasks.items ≡ map (λ p. Enter (get_or l.ends p 0)) (drop l.at l.parts) ++ l.fn.tasks.items;
+  same : l.tasks.items ≡ map Enter (drop l.at l.parts) ++ l.fn.tasks.items;
 }

@@ -6,7 +6,7 @@ use Rattle.dfdl_json.specs.Found.{noted}
 use Rattle.dfdl_json.specs.Infosets.{simple_findings, complex_findings, findings, value_in}
 use Rattle.dfdl_json.specs.Reading.{coming, data_at}
 use Rattle.dfdl_json.proofs.Declares.{there, on_ok, on_ok_four, below_elem}
-use Rattle.dfdl_json.proofs.Contents.{left_same, simple_less, complex_less, simple_comes, complex_comes, bare_comes, leaf_says, group_says, skip_says, align_says, initiator_says, terminator_says, scope_says, box_says, prefixed_leaf_says, prefixed_box_says, no_row_says, less_left}
+use Rattle.dfdl_json.proofs.Contents.{left_same, simple_less, complex_less, simple_comes, complex_comes, bare_comes, leaf_says, group_says, skip_says, align_says, initiator_says, terminator_says, separator_says, scope_says, repeat_says, box_says, prefixed_leaf_says, prefixed_box_says, no_row_says, less_left}
 use Rattle.dfdl_json.proofs.reading.Reading.read_content.Goals as goal
 
 pub returns-in-Some-clause-same : goal.returns-in-Some-clause-same
@@ -89,10 +89,19 @@ pub returns-in-Some-Terminator-clause-same : goal.returns-in-Some-Terminator-cla
 returns-in-Some-Terminator-clause-same c =
     bare_comes c.args.terms.now c.args.row (view c.args.content.now) c.args.self.now.around c.args.self.now.found c.args.self.now.tasks.items
     (data_at c.args.self.now.contents.items)
-    (terminator_says c.args.terms.now c.args.row (view c.args.content.now) c.args.self.now.around _ (there _ _ _ c.in-Some-Terminator.ensures.row c.in-Some-Terminator.field-0-is))
+    (terminator_says c.args.terms.now c.args.row (view c.args.content.now) c.args.self.now.around _ _ (there _ _ _ c.in-Some-Terminator.ensures.row c.in-Some-Terminator.field-0-is))
 
 pub returns-in-Some-Terminator-clause-less : goal.returns-in-Some-Terminator-clause-less
 returns-in-Some-Terminator-clause-less c = less_left c.args.terms.now c.args.row c.args.self.now.tasks.items
+
+pub returns-in-Some-Separator-clause-same : goal.returns-in-Some-Separator-clause-same
+returns-in-Some-Separator-clause-same c =
+    bare_comes c.args.terms.now c.args.row (view c.args.content.now) c.args.self.now.around c.args.self.now.found c.args.self.now.tasks.items
+    (data_at c.args.self.now.contents.items)
+    (separator_says c.args.terms.now c.args.row (view c.args.content.now) c.args.self.now.around (there _ _ _ c.in-Some-Separator.ensures.row c.in-Some-Separator.field-0-is))
+
+pub returns-in-Some-Separator-clause-less : goal.returns-in-Some-Separator-clause-less
+returns-in-Some-Separator-clause-less c = less_left c.args.terms.now c.args.row c.args.self.now.tasks.items
 
 pub returns-in-Some-Boxed-clause-same : goal.returns-in-Some-Boxed-clause-same
 returns-in-Some-Boxed-clause-same c =
@@ -111,6 +120,15 @@ returns-in-Some-Scope-clause-same c =
 
 pub returns-in-Some-Scope-clause-less : goal.returns-in-Some-Scope-clause-less
 returns-in-Some-Scope-clause-less c = less_left c.args.terms.now c.args.row c.args.self.now.tasks.items
+
+pub returns-in-Some-Repeat-clause-same : goal.returns-in-Some-Repeat-clause-same
+returns-in-Some-Repeat-clause-same c =
+    bare_comes c.args.terms.now c.args.row (view c.args.content.now) c.args.self.now.around c.args.self.now.found c.args.self.now.tasks.items
+    (data_at c.args.self.now.contents.items)
+    (repeat_says c.args.terms.now c.args.row (view c.args.content.now) c.args.self.now.around _ _ (there _ _ _ c.in-Some-Repeat.ensures.row c.in-Some-Repeat.field-0-is))
+
+pub returns-in-Some-Repeat-clause-less : goal.returns-in-Some-Repeat-clause-less
+returns-in-Some-Repeat-clause-less c = less_left c.args.terms.now c.args.row c.args.self.now.tasks.items
 
 pub returns-in-Some-PrefixedLeaf-clause-same : goal.returns-in-Some-PrefixedLeaf-clause-same
 returns-in-Some-PrefixedLeaf-clause-same c =

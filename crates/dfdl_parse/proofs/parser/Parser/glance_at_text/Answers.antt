@@ -17,7 +17,7 @@ pub returns-clause-answers : goal.returns-clause-answers
 returns-clause-answers g c =
     let s : State = state_of c.args.self.now in
     let delimiters = c.args.terms.now.delimiters in
-    let lists : List Opened = among delimiters c.args.list c.args.terminates s in
+    let lists : List Opened = among delimiters c.args.sought s in
     subst (λ (k : ℕ). Answers (ask (seen_at c.args.sight.now) (longest_at (goes_on lists) lists c.args.self.now.stop k) nothing)
     c.in_ok-glance.glance (c.longest-answer.new.steps - c.args.steps.now))
     (ap (λ (n : ℕ). n / 8) c.requires.bit)
@@ -25,13 +25,13 @@ returns-clause-answers g c =
     (record {
       all = map opened delimiters;
       holds = c.requires.registered.holds;
-      named = names-open delimiters c.args.list c.args.terminates s c.first_open-from.result c.push.new.self c.from.result.now c.requires.named
-          c.requires.registered.within.open_lists c.first_open-from.ensures c.in_ok-push.ensures c.from.ensures;
+      named = names-open delimiters c.args.sought s c.first_open-from.result c.put_behind.new.lists c.from.result.now c.requires.named
+          c.requires.registered.within.open_lists c.first_open-from.ensures c.in_ok-put_behind.ensures c.from.ensures;
     }) (decided lists))
 
 pub returns-clause-within : goal.returns-clause-within
 returns-clause-within g c =
     let s : State = state_of c.args.self.now in
-    let lists : List Opened = among c.args.terms.now.delimiters c.args.list c.args.terminates s in
+    let lists : List Opened = among c.args.terms.now.delimiters c.args.sought s in
     ends-within c.args.sight.now lists c.args.self.now.at c.args.bit c.args.self.now.stop c.in_ok-glance.glance.found c.requires.bit c.requires.base
     c.requires.at (returns-clause-answers g c).reached

@@ -1,11 +1,11 @@
-use Rattle.std.proofs.Common.{◌∙◌, ◌∷◌, ◌++◌, ◌+◌, Some, None, ap, sym, refl, map}
-use Rattle.dfdl_json.proofs.Declares.{there, below_elem, below_group}
+use Rattle.std.proofs.Common.{◌∙◌, ◌∷◌, [], ◌++◌, ◌+◌, Some, None, ap, sym, refl, map}
+use Rattle.dfdl_json.proofs.Declares.{there, below_elem, below_group, below_repeat}
 use Rattle.dfdl_terms.specs.declared.row.Row.TheVariants.{Elem}
 use Rattle.dfdl_pieces.specs.declared.unparsing.Task.TheVariants.{Lay}
 use Rattle.dfdl_pieces.specs.Laying.{Takes, begins, begun_laying, form_at, laying, value_for, value_laying}
 use Rattle.dfdl_pieces.specs.Unparsing.{left, outcome, steps_left}
 use Rattle.dfdl_json.specs.Steps.{steps_of}
-use Rattle.dfdl_pieces.proofs.Layings.{laid_simple, laid_complex, laid_group, laid_leaf, laid_skip, laid_align, laid_initiator, laid_terminator, laid_scope, laid_boxed, laid_prefixed_leaf, laid_prefixed_box, laid_no_row, same_less, group_less, complex_less}
+use Rattle.dfdl_pieces.proofs.Layings.{laid_simple, laid_complex, laid_group, laid_leaf, laid_skip, laid_align, laid_initiator, laid_terminator, laid_separator, laid_scope, laid_boxed, laid_prefixed_leaf, laid_prefixed_box, laid_repeat, laid_no_row, same_less, group_less, repeat_less, complex_less}
 use Rattle.dfdl_pieces.proofs.Moving.{if_ok, if_ok_both, if_ok_any, is_less, less_too, moves_too, moves_same, moves_group}
 use Rattle.dfdl_pieces.proofs.unparsing.Unparser.lay.Goals as goal
 
@@ -79,6 +79,28 @@ returns-in-Some-Group-clause-less c =
     (group_less t c.args.row old.tasks.items c.lay_group.new.self.tasks.items c.in-Some-Group.children (there _ _ _ c.in-Some-Group.ensures.row c.in-Some-Group.field-0-is)
     (below_group _ _ _ c.in-Some-Group.field-0-is c.in-Some-Group.ensures.nests) (tasks ∙ ap (λ rows. map Lay rows ++ old.tasks.items) c.as_slice.ensures)))
 
+pub returns-in-Some-Repeat-clause-moves : goal.returns-in-Some-Repeat-clause-moves
+returns-in-Some-Repeat-clause-moves c =
+    let old = c.args.self.now in
+    let t = c.args.terms.now in
+    let body = c.in-Some-Repeat.body in
+    let more = left t old.tasks.items old.around in
+    if_ok_both c.lay_group-in-Some-Repeat.result _ _ _ c.lay_group-in-Some-Repeat.ensures.none c.lay_group-in-Some-Repeat.ensures.tasks
+    (λ missing none tasks. moves_group t c.args.events.now old c.lay_group-in-Some-Repeat.new.self (laying t c.args.row old.around more) (body ∷ []) missing none
+    (laid_repeat t c.args.row old.around more _ body (there _ _ _ c.in-Some-Repeat.ensures.row c.in-Some-Repeat.field-0-is)
+    (below_repeat _ _ _ _ c.in-Some-Repeat.field-0-is c.in-Some-Repeat.ensures.nests))
+    tasks c.lay_group-in-Some-Repeat.ensures.names c.lay_group-in-Some-Repeat.ensures.at c.lay_group-in-Some-Repeat.ensures.pieces)
+
+pub returns-in-Some-Repeat-clause-less : goal.returns-in-Some-Repeat-clause-less
+returns-in-Some-Repeat-clause-less c =
+    let t = c.args.terms.now in
+    let old = c.args.self.now in
+    if_ok c.lay_group-in-Some-Repeat.result _ _ c.lay_group-in-Some-Repeat.ensures.tasks
+    (λ missing tasks. is_less t (steps_of t c.args.row + steps_left t old.tasks.items) c.lay_group-in-Some-Repeat.new.self missing
+    (repeat_less t c.args.row old.tasks.items c.lay_group-in-Some-Repeat.new.self.tasks.items _ c.in-Some-Repeat.body
+    (there _ _ _ c.in-Some-Repeat.ensures.row c.in-Some-Repeat.field-0-is)
+    (below_repeat _ _ _ _ c.in-Some-Repeat.field-0-is c.in-Some-Repeat.ensures.nests) tasks))
+
 pub returns-in-Some-Leaf-clause-moves : goal.returns-in-Some-Leaf-clause-moves
 returns-in-Some-Leaf-clause-moves c =
     let old = c.args.self.now in
@@ -119,10 +141,19 @@ pub returns-in-Some-Terminator-clause-moves : goal.returns-in-Some-Terminator-cl
 returns-in-Some-Terminator-clause-moves c =
     let old = c.args.self.now in
     let t = c.args.terms.now in
-    ap (outcome old c.args.events.now) (sym (laid_terminator t c.args.row old.around (left t old.tasks.items old.around) _ (there _ _ _ c.in-Some-Terminator.ensures.row c.in-Some-Terminator.field-0-is)))
+    ap (outcome old c.args.events.now) (sym (laid_terminator t c.args.row old.around (left t old.tasks.items old.around) _ _ (there _ _ _ c.in-Some-Terminator.ensures.row c.in-Some-Terminator.field-0-is)))
 
 pub returns-in-Some-Terminator-clause-less : goal.returns-in-Some-Terminator-clause-less
 returns-in-Some-Terminator-clause-less c = same_less c.args.terms.now c.args.row c.args.self.now.tasks.items c.args.self.now.tasks.items refl
+
+pub returns-in-Some-Separator-clause-moves : goal.returns-in-Some-Separator-clause-moves
+returns-in-Some-Separator-clause-moves c =
+    let old = c.args.self.now in
+    let t = c.args.terms.now in
+    ap (outcome old c.args.events.now) (sym (laid_separator t c.args.row old.around (left t old.tasks.items old.around) (there _ _ _ c.in-Some-Separator.ensures.row c.in-Some-Separator.field-0-is)))
+
+pub returns-in-Some-Separator-clause-less : goal.returns-in-Some-Separator-clause-less
+returns-in-Some-Separator-clause-less c = same_less c.args.terms.now c.args.row c.args.self.now.tasks.items c.args.self.now.tasks.items refl
 
 pub returns-in-Some-Boxed-clause-moves : goal.returns-in-Some-Boxed-clause-moves
 returns-in-Some-Boxed-clause-moves c =

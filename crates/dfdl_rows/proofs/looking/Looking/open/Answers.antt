@@ -22,24 +22,6 @@ returns-in_ok-push_all-in-Sequence-clause-less c =
     let less = parts_less c.args.components.now c.requires.ready.order c.requires.ready.are_known.is_order c.args.number (c.requires.ready.within 0 c.args.number (omega arith)) c.args.self.now.tasks.items in
     omega (arith, less, ap (looks_left c.args.components.now) is)
 
-pub returns-in_ok-push_all-in-Reference-clause-step : goal.returns-in_ok-push_all-in-Reference-clause-step
-returns-in_ok-push_all-in-Reference-clause-step c = λ names has.
-    group_step _ _ _ c.args.number _ c.requires.ready names _ _ c.requires.unrefused
-    (ap is_plain (sym c.component.ensures.component ∙ c.in-Reference.is)) has
-    (c.in_ok-push_all-in-Reference.ensures ∙ ap (λ (ps : List ℕ). ps ++ c.args.self.now.tasks.items) c.parts-in-Reference.ensures.parts)
-
-pub returns-in_ok-push_all-in-Reference-clause-ready : goal.returns-in_ok-push_all-in-Reference-clause-ready
-returns-in_ok-push_all-in-Reference-clause-ready c =
-    subst (λ (ts : List ℕ). AreReady c.args.components.now c.args.known.idle.now c.args.known.refusals.now ts)
-    (sym (c.in_ok-push_all-in-Reference.ensures ∙ ap (λ (ps : List ℕ). ps ++ c.args.self.now.tasks.items) c.parts-in-Reference.ensures.parts))
-    (parts_ready _ _ _ _ _ c.requires.ready)
-
-pub returns-in_ok-push_all-in-Reference-clause-less : goal.returns-in_ok-push_all-in-Reference-clause-less
-returns-in_ok-push_all-in-Reference-clause-less c =
-    let is = c.in_ok-push_all-in-Reference.ensures ∙ ap (λ (ps : List ℕ). ps ++ c.args.self.now.tasks.items) c.parts-in-Reference.ensures.parts in
-    let less = parts_less c.args.components.now c.requires.ready.order c.requires.ready.are_known.is_order c.args.number (c.requires.ready.within 0 c.args.number (omega arith)) c.args.self.now.tasks.items in
-    omega (arith, less, ap (looks_left c.args.components.now) is)
-
 pub returns-in_ok-found-in-ComplexElement-clause-step : goal.returns-in_ok-found-in-ComplexElement-clause-step
 returns-in_ok-found-in-ComplexElement-clause-step c = λ names has.
     named_step _ _ _ c.args.number _ c.requires.ready names _ _ _ _ _ (get_or c.args.known.refusals.now c.args.number None) _ c.requires.unrefused

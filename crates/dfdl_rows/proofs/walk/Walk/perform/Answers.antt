@@ -10,17 +10,17 @@ close-requires-clause-few c =
 
 pub returns-in-Enter-clause-same : goal.returns-in-Enter-clause-same
 returns-in-Enter-clause-same c = on_ok c.enter.result _ _ c.enter.ensures
-    (λ new_is. entered_same c.args.components.now c.requires.ordered c.args.ends.now c.requires.ends c.args.task c.in-Enter.number c.in-Enter.is c.args.self.now.tasks.items c.enter.new.tasks.items
+    (λ new_is. entered_same c.args.components.now c.requires.ordered c.args.task c.in-Enter.number c.in-Enter.is c.args.self.now.tasks.items c.enter.new.tasks.items
     c.requires.within new_is c.args.self.now.rows.items c.args.self.now.lasts.items)
 
 pub returns-in-Enter-clause-within : goal.returns-in-Enter-clause-within
 returns-in-Enter-clause-within c = on_ok c.enter.result _ _ c.enter.ensures
-    (λ new_is. entered_within c.args.components.now c.requires.ordered c.args.ends.now c.requires.ends c.args.task c.in-Enter.number c.in-Enter.is c.args.self.now.tasks.items c.enter.new.tasks.items
+    (λ new_is. entered_within c.args.components.now c.requires.ordered c.args.task c.in-Enter.number c.in-Enter.is c.args.self.now.tasks.items c.enter.new.tasks.items
     c.requires.within new_is)
 
 pub returns-in-Enter-clause-less : goal.returns-in-Enter-clause-less
 returns-in-Enter-clause-less c = on_ok c.enter.result _ _ c.enter.ensures
-    (λ new_is. entered_less c.args.components.now c.requires.ordered c.args.ends.now c.requires.ends c.args.task c.in-Enter.number c.in-Enter.is c.args.self.now.tasks.items c.enter.new.tasks.items
+    (λ new_is. entered_less c.args.components.now c.requires.ordered c.args.task c.in-Enter.number c.in-Enter.is c.args.self.now.tasks.items c.enter.new.tasks.items
     c.requires.within new_is)
 
 pub returns-in-Close-clause-same : goal.returns-in-Close-clause-same

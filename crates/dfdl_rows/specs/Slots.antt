@@ -1,0 +1,152 @@
+-- The slots of a sequence, the separators at them, and the rows that repeat elements there ('Sequence Groups', 'Arrays and Optional
+-- Elements').
+use Rattle.std.specs.Prelude.{ℕ, ◌+◌, ◌-◌, Bool, true, false, ◌&&◌, ◌||◌, nat_lt, List, [], ◌∷◌, ◌++◌, length, get_or, Option, None, Some, option_map, if◌then◌else◌}
+use Rattle.dfdl_separators.specs.declared.policy.SeparatorPosition.{SeparatorPosition}
+use Rattle.dfdl_separators.specs.declared.policy.SeparatorPosition.TheVariants.{Prefix, Infix, Postfix}
+use Rattle.dfdl_terms.specs.declared.framing.Framing.{Framing}
+use Rattle.dfdl_terms.specs.declared.row.Row.{Row}
+use Rattle.dfdl_terms.specs.declared.row.Row.TheVariants.{Group, Repeat, Separator}
+use Rattle.dfdl_rows.specs.Framing.{has_framing}
+use Rattle.dfdl_rows.specs.declared.component.Component.{Component}
+use Rattle.dfdl_rows.specs.declared.component.Component.TheVariants.{Sequence, ComplexElement, SimpleElement}
+use Rattle.dfdl_rows.specs.declared.component.Separated.{Separated}
+
+-- how many slots a sequence with this framing and these parts has in the one that it stands in: one, unless nothing stands in it and
+-- nothing frames it
+abbrev pub slots_of_sequence : Framing → List ℕ → ℕ
+slots_of_sequence framing [] = if has_framing framing then 1 else 0
+slots_of_sequence framing (part ∷ parts) = 1
+
+-- how many slots a component with these parts has in the sequence that it stands in: an element as many as it occurs
+abbrev pub slots_of : Component → List ℕ → ℕ
+slots_of (Sequence framing separated) parts = slots_of_sequence framing parts
+slots_of (ComplexElement name framing box occurs) parts = occurs
+slots_of (SimpleElement name simple prim framing prefix tried scanned occurs) parts = occurs
+
+-- how many slots parts have together
+abbrev pub count_slots : List ℕ → ℕ
+count_slots [] = 0
+count_slots (n ∷ slots) = n + count_slots slots
+
+-- so many slots need separators: between them they need some where there are two
+abbrev pub need_separators : SeparatorPosition → ℕ → Bool
+need_separators Prefix count = nat_lt 0 count
+need_separators Infix count = nat_lt 1 count
+need_separators Postfix count = nat_lt 0 count
+
+-- a slot begins with a separator, where a slot came before it or none did
+abbrev pub begins : SeparatorPosition → Bool → Bool
+begins Prefix taken = true
+begins Infix taken = taken
+begins Postfix taken = false
+
+-- a slot ends with a separator
+abbrev pub ends : SeparatorPosition → Bool
+ends Prefix = false
+ends Infix = false
+ends Postfix = true
+
+-- the row of this number, where it stands there
+abbrev pub row_if : Bool → ℕ → List ℕ
+row_if stands row = if stands then row ∷ [] else []
+
+-- the row of a part, which is a slot or isn't, with the separators at it
+abbrev pub with_separators : SeparatorPosition → ℕ → Bool → Bool → ℕ → List ℕ
+with_separators position separator taken slot part =
+    row_if (slot && begins position taken) separator ++ part ∷ row_if (slot && ends position) separator
+
+-- where the separators of a sequence stand, if it has some and its parts, with so many slots, need one
+abbrev pub needed : Option Separated → List ℕ → Option SeparatorPosition
+needed None slots = None
+needed (Some own) slots = if need_separators own.position (count_slots slots) then Some own.position else None
+
+-- the row of separators, where there are some
+abbrev pub separator_rows : Option SeparatorPosition → List Row
+separator_rows None = []
+separator_rows (Some position) = Separator ∷ []
+
+-- The rows that repeat the row of a part with so many slots, from a number on: with its separator where there are separators. Between
+-- slots the separator stands before each but the first.
+abbrev pub repeating_rows : Option SeparatorPosition → ℕ → ℕ → ℕ → ℕ → List Row
+repeating_rows None separator slots part first = Repeat slots part ∷ []
+repeating_rows (Some Prefix) separator slots part first = Group (separator ∷ part ∷ []) ∷ Repeat slots first ∷ []
+repeating_rows (Some Infix) separator slots part first = Group (separator ∷ part ∷ []) ∷ Repeat (slots - 1) first ∷ []
+repeating_rows (Some Postfix) separator slots part first = Group (part ∷ separator ∷ []) ∷ Repeat slots first ∷ []
+
+-- the rows of the sequence's group that stand for such a part
+abbrev pub repeated : Option SeparatorPosition → ℕ → Bool → ℕ → ℕ → List ℕ
+repeated None separator taken part first = first ∷ []
+repeated (Some Prefix) separator taken part first = (first + 1) ∷ []
+repeated (Some Infix) separator taken part first = row_if taken separator ++ (part ∷ (first + 1) ∷ [])
+repeated (Some Postfix) separator taken part first = (first + 1) ∷ []
+
+-- the rows of the sequence's group that stand for a part with one slot or none
+abbrev pub single : Option SeparatorPosition → ℕ → Bool → Bool → ℕ → List ℕ
+single None separator taken slot part = part ∷ []
+single (Some position) separator taken slot part = with_separators position separator taken slot part
+
+-- the rows that repeat a part, where it has more slots than one
+abbrev pub part_rows : Option SeparatorPosition → ℕ → ℕ → ℕ → ℕ → List Row
+part_rows way separator slots part first = if nat_lt 1 slots then repeating_rows way separator slots part first else []
+
+-- the rows of the sequence's group that stand for a part, where rows that repeat it have this number on
+abbrev pub part_children : Option SeparatorPosition → ℕ → Bool → ℕ → ℕ → ℕ → List ℕ
+part_children way separator taken slots part first =
+    if nat_lt 1 slots then repeated way separator taken part first else single way separator taken (nat_lt 0 slots) part
+
+-- what is made of some parts of a sequence: the rows of its separators and those that repeat parts, the rows of its group, and whether
+-- one of the parts had a slot
+pub record Laid : Type 0 where
+  pub rows : List Row
+  pub children : List ℕ
+  pub taken : Bool
+
+-- the same, from its parts
+abbrev pub laid : List Row → List ℕ → Bool → Laid
+laid rows children taken = record { rows = rows; children = children; taken = taken }
+
+-- a part with so many slots comes behind others, where the rows have a number on; the first is that of the separators
+abbrev pub with_part : Option SeparatorPosition → ℕ → ℕ → ℕ → Laid → Laid
+with_part way first slots part a =
+    laid (a.rows ++ part_rows way first slots part (first + length a.rows)) (a.children ++ part_children way first a.taken slots part (first + length a.rows))
+    (a.taken || nat_lt 0 slots)
+
+-- so do the parts from one on
+unfoldable pub lay : Option SeparatorPosition → ℕ → List ℕ → List ℕ → ℕ → Laid → Laid
+lay way first parts [] at a = a
+lay way first parts (n ∷ slots) at a = lay way first parts slots (at + 1) (with_part way first n (get_or parts at 0) a)
+
+-- what is made of all parts of a sequence, which have so many slots
+abbrev pub all_laid : Option SeparatorPosition → List ℕ → List ℕ → ℕ → Laid
+all_laid way slots parts first = lay way first parts slots 0 (laid (separator_rows way) [] false)
+
+-- the same, where the sequence has these separators, if it has some
+abbrev pub laid_of : Option Separated → List ℕ → List ℕ → ℕ → Laid
+laid_of separated slots parts first = all_laid (needed separated slots) slots parts first
+
+-- how many rows the separators are
+abbrev pub separator_size : Option SeparatorPosition → ℕ
+separator_size None = 0
+separator_size (Some position) = 1
+
+-- how many rows repeat a part
+abbrev pub repeating_size : Option SeparatorPosition → ℕ
+repeating_size None = 1
+repeating_size (Some position) = 2
+
+-- how many rows repeat a part with so many slots
+abbrev pub part_size : Option SeparatorPosition → ℕ → ℕ
+part_size way slots = if nat_lt 1 slots then repeating_size way else 0
+
+-- how many rows repeat the parts
+abbrev pub parts_size : Option SeparatorPosition → List ℕ → ℕ
+parts_size way [] = 0
+parts_size way (n ∷ slots) = part_size way n + parts_size way slots
+
+-- how many rows the separators are and those that repeat parts
+abbrev pub slots_size : Option Separated → List ℕ → ℕ
+slots_size separated slots = separator_size (needed separated slots) + parts_size (needed separated slots) slots
+
+-- the number of the list of a sequence's separators, where it has some
+abbrev pub separator_list : Option Separated → Option ℕ
+separator_list separated = option_map (λ own. own.list) separated

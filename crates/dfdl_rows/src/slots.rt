@@ -1,0 +1,384 @@
+// The slots of a sequence, the separators at them, and the rows that repeat elements there.
+ghost use Rattle.std.specs.Prelude.{◌≡◌, ◌≤◌, ◌<◌, ◌+◌, ◌-◌, ◌^◌, ◌++◌, ◌∷◌, ◌||◌, [], Bool, false, get_or, length, vec_len, IfOk, OnOk, nat_lt};
+ghost use Rattle.dfdl_rows.specs.Saturated.{saturated};
+ghost use Rattle.dfdl_rows.specs.Slots as spec;
+
+use crate::component::Separated;
+use dfdl_separators::SeparatorPosition;
+use dfdl_terms::{Row, RowId, RowList};
+use std::alloc::{AllocError, Global};
+
+// How many slots parts have together, as far as 64 bits count.
+fn count_slots(slots: &[u32]) -> u64
+    ensures { result ≡ saturated (spec.count_slots slots.now) }
+{
+    let mut count = 0u64;
+    for number in slots {
+        count = count.saturating_add(u64::from(*number));
+    }
+    count
+}
+
+// Whether parts with so many slots need separators.
+fn need_separators(position: SeparatorPosition, slots: &[u32]) -> bool
+    ensures { result ≡ spec.need_separators position (spec.count_slots slots.now) }
+{
+    match position {
+        SeparatorPosition::Prefix | SeparatorPosition::Postfix => count_slots(slots) > 0,
+        SeparatorPosition::Infix => count_slots(slots) > 1,
+    }
+}
+
+// Where the separators of a sequence stand, if it has some and its parts, with so many slots, need one.
+fn needed(separated: Option<Separated>, slots: &[u32]) -> Option<SeparatorPosition>
+    ensures { result ≡ spec.needed separated slots.now }
+{
+    match separated {
+        Some(own) => {
+            if need_separators(own.position, slots) {
+                Some(own.position)
+            } else {
+                None
+            }
+        }
+        None => None,
+    }
+}
+
+// Whether a slot begins with a separator, where a slot came before it or none did.
+fn begins(position: SeparatorPosition, taken: bool) -> bool
+    ensures { result ≡ spec.begins position taken }
+{
+    match position {
+        SeparatorPosition::Prefix => true,
+        SeparatorPosition::Infix => taken,
+        SeparatorPosition::Postfix => false,
+    }
+}
+
+// Whether a slot ends with a separator.
+fn ends(position: SeparatorPosition) -> bool
+    ensures { result ≡ spec.ends position }
+{
+    match position {
+        SeparatorPosition::Prefix | SeparatorPosition::Infix => false,
+        SeparatorPosition::Postfix => true,
+    }
+}
+
+// How many rows repeat a part with so many slots.
+fn part_size(way: Option<SeparatorPosition>, slots: u32) -> u64
+    ensures size { result ≡ spec.part_size way slots }
+    ensures few { result ≤ 2 }
+{
+    if slots <= 1 {
+        return 0;
+    }
+    match way {
+        Some(_) => 2,
+        None => 1,
+    }
+}
+
+// How many rows repeat the parts, as far as 64 bits count.
+fn parts_size(way: Option<SeparatorPosition>, slots: &[u32]) -> u64
+    ensures { result ≡ saturated (spec.parts_size way slots.now) }
+{
+    let mut size = 0u64;
+    for number in slots {
+        size = size.saturating_add(part_size(way, *number));
+    }
+    size
+}
+
+// How many rows the separators are.
+fn separator_size(way: Option<SeparatorPosition>) -> u64
+    ensures { result ≡ spec.separator_size way }
+{
+    match way {
+        Some(_) => 1,
+        None => 0,
+    }
+}
+
+/// How many rows the separators of a sequence are and those that repeat its parts, which have so many slots, as far as 64 bits count.
+pub(crate) fn slots_size(separated: Option<Separated>, slots: &[u32]) -> u64
+    ensures { result ≡ saturated (spec.slots_size separated slots.now) }
+{
+    let way = needed(separated, slots);
+    separator_size(way).saturating_add(parts_size(way, slots))
+}
+
+/// The number of the list of a sequence's separators, where it has some.
+pub(crate) fn separator_list(separated: Option<Separated>) -> Option<u32>
+    ensures { result ≡ spec.separator_list separated }
+{
+    match separated {
+        Some(own) => Some(own.list),
+        None => None,
+    }
+}
+
+// The row of the part of a number.
+fn part_at(parts: &[RowId], at: usize) -> RowId
+    ensures { result ≡ get_or parts.now at 0 }
+{
+    if at < parts.len() {
+        parts[at]
+    } else {
+        RowId::new(0)
+    }
+}
+
+// Adds a row, where it stands there.
+fn push_if(children: &mut Vec<RowId>, stands: bool, row: RowId) -> Result<(), AllocError>
+    ensures { OnOk result (children.new.items ≡ children.old.items ++ spec.row_if stands row) }
+{
+    if stands {
+        children.push(row)?;
+    }
+    Ok(())
+}
+
+// Adds the row of a part, which has a slot or has none, with the separators at it.
+fn push_with_separators(
+    children: &mut Vec<RowId>,
+    position: SeparatorPosition,
+    separator: RowId,
+    taken: bool,
+    slot: bool,
+    part: RowId,
+) -> Result<(), AllocError>
+    ensures { OnOk result (children.new.items
+        ≡ children.old.items ++ spec.with_separators position separator taken slot part) }
+{
+    push_if(children, slot && begins(position, taken), separator)?;
+    children.push(part)?;
+    push_if(children, slot && ends(position), separator)
+}
+
+// Adds the rows that stand for a part with one slot or none.
+fn push_single(
+    children: &mut Vec<RowId>,
+    way: Option<SeparatorPosition>,
+    separator: RowId,
+    taken: bool,
+    slot: bool,
+    part: RowId,
+) -> Result<(), AllocError>
+    ensures { OnOk result (children.new.items ≡ children.old.items ++ spec.single way separator taken slot part) }
+{
+    match way {
+        Some(position) => push_with_separators(children, position, separator, taken, slot, part),
+        None => {
+            children.push(part)?;
+            Ok(())
+        }
+    }
+}
+
+// The rows of the group of a part and its separator.
+fn pair(alloc: Global, before: RowId, behind: RowId) -> Result<RowList, AllocError>
+    ensures { IfOk result (λ made. made ≡ before ∷ behind ∷ []) }
+{
+    let mut rows = Vec::new(alloc);
+    rows.push(before)?;
+    rows.push(behind)?;
+    Ok(RowList::new(rows))
+}
+
+// Adds two rows: a group, and one that repeats it so many times.
+fn push_repeat(
+    rows: &mut Vec<Row>,
+    children: RowList,
+    count: u32,
+    body: RowId,
+) -> Result<(), AllocError>
+    ensures { OnOk result (rows.new.items ≡ rows.old.items ++ Row.Group children ∷ Row.Repeat count body ∷ []) }
+{
+    rows.push(Row::Group { children })?;
+    rows.push(Row::Repeat { count, body })?;
+    Ok(())
+}
+
+// Adds the rows that repeat the row of a part with so many slots, from a number on.
+fn push_repeating(
+    alloc: Global,
+    rows: &mut Vec<Row>,
+    way: Option<SeparatorPosition>,
+    separator: RowId,
+    slots: u32,
+    part: RowId,
+    first: RowId,
+) -> Result<(), AllocError>
+    requires { 1 < slots }
+    ensures { OnOk result (rows.new.items ≡ rows.old.items ++ spec.repeating_rows way separator slots part first) }
+{
+    match way {
+        None => {
+            rows.push(Row::Repeat {
+                count: slots,
+                body: part,
+            })?;
+            Ok(())
+        }
+        Some(SeparatorPosition::Prefix) => {
+            let children = pair(alloc, separator, part)?;
+            push_repeat(rows, children, slots, first)
+        }
+        Some(SeparatorPosition::Infix) => {
+            let children = pair(alloc, separator, part)?;
+            push_repeat(rows, children, slots - 1, first)
+        }
+        Some(SeparatorPosition::Postfix) => {
+            let children = pair(alloc, part, separator)?;
+            push_repeat(rows, children, slots, first)
+        }
+    }
+}
+
+// Adds the rows that stand for a part that is repeated by rows from a number on.
+fn push_repeated(
+    children: &mut Vec<RowId>,
+    way: Option<SeparatorPosition>,
+    separator: RowId,
+    taken: bool,
+    part: RowId,
+    first: u32,
+) -> Result<(), AllocError>
+    requires { first + 1 < 2 ^ 32 }
+    ensures { OnOk result (children.new.items ≡ children.old.items ++ spec.repeated way separator taken part first) }
+{
+    match way {
+        None => {
+            children.push(RowId::new(first))?;
+        }
+        Some(SeparatorPosition::Infix) => {
+            push_if(children, taken, separator)?;
+            children.push(part)?;
+            children.push(RowId::new(first + 1))?;
+        }
+        Some(SeparatorPosition::Prefix | SeparatorPosition::Postfix) => {
+            children.push(RowId::new(first + 1))?;
+        }
+    }
+    Ok(())
+}
+
+// Adds what stands for a part with so many slots, where the rows of the sequence's own begin at a number.
+fn push_part(
+    alloc: Global,
+    rows: &mut Vec<Row>,
+    children: &mut Vec<RowId>,
+    way: Option<SeparatorPosition>,
+    first: u32,
+    taken: bool,
+    slots: u32,
+    part: RowId,
+) -> Result<(), AllocError>
+    requires { first + length rows.old.items + spec.part_size way slots < 2 ^ 32 }
+    ensures rows { OnOk result (rows.new.items
+        ≡ rows.old.items ++ spec.part_rows way first slots part (first + length rows.old.items)) }
+    ensures children { OnOk result (children.new.items
+        ≡ children.old.items ++ spec.part_children way first taken slots part (first + length rows.old.items)) }
+{
+    let separator = RowId::new(first);
+    if slots <= 1 {
+        return push_single(children, way, separator, taken, slots > 0, part);
+    }
+    let number = first + rows.len() as u32;
+    push_repeating(alloc, rows, way, separator, slots, part, RowId::new(number))?;
+    push_repeated(children, way, separator, taken, part, number)
+}
+
+// Whether a part had a slot so far, where one with so many comes.
+fn is_taken(taken: bool, slots: u32) -> bool
+    ensures { result ≡ (taken || nat_lt 0 slots) }
+{
+    taken || slots > 0
+}
+
+// The row of separators, where there are some.
+fn separator_rows(alloc: Global, way: Option<SeparatorPosition>) -> Result<Vec<Row>, AllocError>
+    ensures { IfOk result (λ made. made.items ≡ spec.separator_rows way) }
+{
+    let mut rows = Vec::new(alloc);
+    if way.is_some() {
+        rows.push(Row::Separator)?;
+    }
+    Ok(rows)
+}
+
+// What is made of the parts of a sequence: the rows of its separators and those that repeat parts, and the rows of its group.
+#[derive(Drop)]
+struct Laid {
+    rows: Vec<Row>,
+    children: Vec<RowId>,
+}
+
+// What is made of the parts of a sequence, which have so many slots, where the rows of its own begin at a number.
+fn lay(
+    alloc: Global,
+    way: Option<SeparatorPosition>,
+    slots: &[u32],
+    parts: &[RowId],
+    first: u32,
+) -> Result<Laid, AllocError>
+    requires { first + spec.separator_size way + spec.parts_size way slots.now < 2 ^ 32 }
+    ensures rows { IfOk result (λ made. made.rows.items ≡ (spec.all_laid way slots.now parts.now first).rows) }
+    ensures children { IfOk result (λ made. made.children.items ≡ (spec.all_laid way slots.now parts.now first).children) }
+{
+    let mut rows = separator_rows(alloc, way)?;
+    let mut children = Vec::new(alloc);
+    let mut taken = false;
+    for at in 0..slots.len() {
+        let part = part_at(parts, at);
+        push_part(
+            alloc,
+            &mut rows,
+            &mut children,
+            way,
+            first,
+            taken,
+            slots[at],
+            part,
+        )?;
+        taken = is_taken(taken, slots[at]);
+    }
+    Ok(Laid { rows, children })
+}
+
+// Adds the row of a group.
+fn push_group(rows: &mut Vec<Row>, children: Vec<RowId>) -> Result<RowId, AllocError>
+    requires { length rows.old.items < 2 ^ 32 }
+    ensures rows { OnOk result (rows.new.items ≡ rows.old.items ++ Row.Group children.items ∷ []) }
+    ensures number { IfOk result (λ number. number ≡ length rows.old.items) }
+{
+    let number = RowId::new(rows.len() as u32);
+    let children = RowList::new(children);
+    rows.push(Row::Group { children })?;
+    Ok(number)
+}
+
+/// Adds the row of a sequence, where these are the last rows of its parts, which have so many slots, with those of its separators and
+/// those that repeat parts before it; gives the row of the sequence.
+pub(crate) fn push_sequence(
+    alloc: Global,
+    rows: &mut Vec<Row>,
+    separated: Option<Separated>,
+    slots: &[u32],
+    parts: &[RowId],
+) -> Result<RowId, AllocError>
+    requires { length rows.old.items + spec.slots_size separated slots.now + 1 < 2 ^ 32 }
+    ensures rows { OnOk result (rows.new.items ≡ rows.old.items
+        ++ ((spec.laid_of separated slots.now parts.now (length rows.old.items)).rows
+        ++ Row.Group (spec.laid_of separated slots.now parts.now (length rows.old.items)).children ∷ [])) }
+    ensures number { IfOk result (λ number. number ≡ length rows.old.items + spec.slots_size separated slots.now) }
+{
+    let first = rows.len() as u32;
+    let way = needed(separated, slots);
+    let laid = lay(alloc, way, slots, parts, first)?;
+    let mut own = laid.rows;
+    rows.append(&mut own)?;
+    push_group(rows, laid.children)
+}

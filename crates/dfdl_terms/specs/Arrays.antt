@@ -1,0 +1,27 @@
+-- Arrays: which elements are their items.
+use Rattle.std.specs.Prelude.{◌≡◌, ℕ, Bool, false, nat_eq, List, [], ◌∷◌, Option, Some, slice_get, slice_index_or}
+use Rattle.std.specs.List.{list_any}
+use Rattle.dfdl_terms.specs.declared.row.Row.{Row}
+use Rattle.dfdl_terms.specs.declared.row.Row.TheVariants.{Group, Repeat}
+
+-- the children of a group; other rows have none
+abbrev pub children_in : Option Row → List ℕ
+children_in (Some (Group children)) = children
+children_in _ = []
+
+-- the row of this number is the one that a row repeats, or a child of the group that it repeats
+abbrev pub is_item_of : List Row → ℕ → Row → Bool
+is_item_of rows element (Repeat count body) = list_any (nat_eq element) (body ∷ children_in (slice_get rows body))
+is_item_of rows element _ = false
+
+-- the elements of the row of this number are items of an array ('Arrays and Optional Elements')
+abbrev pub is_item : List Row → ℕ → Bool
+is_item rows element = list_any (is_item_of rows element) rows
+
+-- the row of this number is marked
+abbrev pub is_marked : List Bool → ℕ → Bool
+is_marked marks row = slice_index_or marks row false
+
+-- the rows that are marked are those of items
+abbrev pub MarksItems : List Row → List Bool → Type 0
+MarksItems rows marks = (row : ℕ) → is_marked marks row ≡ is_item rows row

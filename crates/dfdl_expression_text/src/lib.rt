@@ -18,3 +18,4 @@ mod tests;
 
 pub use checking::check;
 pub use fault::ExpressionFault;
+pub use kind::Kind;

@@ -1,0 +1,11 @@
+mod Next
+mod Coded
+mod Lexes
+mod Fits
+mod Ahead
+mod Groups
+mod Builds
+mod Numbers
+mod Unique
+mod Places
+mod Quotes

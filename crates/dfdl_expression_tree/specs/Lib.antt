@@ -1,0 +1,10 @@
+pub mod TokenLists
+pub mod Trees
+pub mod Chains
+pub mod Readings
+pub mod Lexing
+pub mod Building
+pub mod Quotes
+pub mod Quoting
+pub mod Shown
+pub mod Numbering

@@ -9,3 +9,4 @@ pub mod Windows
 pub mod Loads
 pub mod Words
 pub mod Stores
+mod ByteSets

@@ -1,3 +1,4 @@
 pub mod Bits
 pub mod Window
 pub mod Words
+pub mod ByteSets

@@ -4,6 +4,7 @@
 // Serves 'Properties Common to both Content and Framing' and 'Simple Types'.
 #![tactic(auto)]
 
+pub mod byte_set;
 pub mod laws;
 mod number;
 mod put;
@@ -11,6 +12,7 @@ pub mod steps;
 pub mod window;
 mod word;
 
+pub use byte_set::ByteSet;
 pub use dfdl_forms::{BitOrder, ByteOrder};
 pub use number::{nibble_at, number_at, number_at_64};
 pub use put::{put_nibble, put_number, put_number_64, put_pair};

@@ -219,3 +219,12 @@ fn slide<L: Ledger>(rt: &impl Abort, alloc: Global, blank: Blank) -> Result<(), 
     assert_eq!(rt; (window.base(), window.end()), (5, 7));
     Ok(())
 }
+
+#[test]
+fn a_set_has_its_bytes(rt: HostRuntime) -> Result<(), Fail> {
+    let set = ByteSet::of(b'/').or(ByteSet::of(0)).or(ByteSet::of(191));
+    assert!(rt; set.has(0) && set.has(b'/') && set.has(191));
+    assert!(rt; !set.has(1) && !set.has(b'o') && !set.has(127) && !set.has(255));
+    assert!(rt; ByteSet::high().has(128) && !ByteSet::high().has(127) && !ByteSet::none().has(64));
+    Ok(())
+}

@@ -1,8 +1,10 @@
 // A window that slides over the data while its bytes come in pieces.
 ghost use Rattle.std.specs.Prelude.{◌≡◌, ◌+◌, ◌-◌, ◌*◌, ◌^◌, ◌<◌, ◌≤◌, ◌↔◌, ℕ, [], ◌++◌, true, false, length, take, drop, min, IfOk, OnErr, slice_index, All, vec_len, vec_capacity};
 ghost use Rattle.dfdl_bits.specs.Window.{Held, end_of, room_of, with_more, from_byte, up_to_byte, seen_at, run_at};
+ghost use Rattle.dfdl_bits.specs.ByteSets.{has_byte};
 ghost use Rattle.dfdl_bits.specs.declared.window.Seen.TheVariants.{Byte};
 
+use crate::byte_set::ByteSet;
 use crate::steps::Steps;
 use std::alloc::{AllocError, Global};
 use std::marker::Model;
@@ -211,6 +213,29 @@ impl Window {
         &held[..count]
     }
 
+    /// Looks at the bytes of such a run that stand before the first that the set has, in as many steps as it answers bytes.
+    pub fn run_outside<L: Ledger>(
+        &self,
+        k: u64,
+        most: usize,
+        set: &ByteSet,
+        steps: &mut Steps<L>,
+    ) -> &[u8]
+        requires { self.now.base ≤ k }
+        ensures seen { (i : ℕ) → i < length result.now → seen_at self.now (k + i) ≡ Byte (slice_index result.now i) }
+        ensures bytes { All (λ byte. byte < 256) result.now }
+        ensures outside { All (λ byte. has_byte set.now byte ≡ false) result.now }
+        ensures few { length result.now ≤ most }
+        ensures whole { (byte : ℕ) → length result.now < most → seen_at self.now (k + length result.now) ≡ Byte byte
+            → has_byte set.now byte ≡ true }
+        ensures cost { steps.new ≡ steps.old + length result.now }
+    {
+        let held = self.held(k, most);
+        let count = count_outside(held, set);
+        steps.add(count as u64);
+        &held[..count]
+    }
+
     // The bytes that are held from byte `k` of the data on and that a look can see, at most `most` of them.
     fn held(&self, k: u64, most: usize) -> &[u8]
         requires { self.now.base ≤ k }
@@ -246,6 +271,20 @@ fn count_below(bytes: &[u8], limit: u8) -> usize
 {
     for (at, byte) in bytes.iter().enumerate() {
         if *byte >= limit {
+            return at;
+        }
+    }
+    bytes.len()
+}
+
+// How many of the bytes stand before the first that the set has.
+fn count_outside(bytes: &[u8], set: &ByteSet) -> usize
+    ensures within { result ≤ length bytes.now }
+    ensures outside { (i : ℕ) → i < result → has_byte set.now (slice_index bytes.now i) ≡ false }
+    ensures whole { result < length bytes.now → has_byte set.now (slice_index bytes.now result) ≡ true }
+{
+    for (at, byte) in bytes.iter().enumerate() {
+        if set.has(*byte) {
             return at;
         }
     }

@@ -156,7 +156,7 @@ units_more flat (list ∷ lists) =
     omega (arith, rest, sum, own)
 
 pub units_held : (register : Register) (lists : List Opened) → Holds register lists → length register.flat.pieces ≡ units_in lists
-units_held register lists holds = ap (λ (f : Flat). length f.pieces) holds ∙ (units_more no_lists lists ∙ from_none (units_in lists))
+units_held register lists holds = ap (λ (f : Flat). length f.pieces) holds.flat ∙ (units_more no_lists lists ∙ from_none (units_in lists))
   where
     from_none : (n : ℕ) → 0 + n ≡ n
     from_none n = omega arith

@@ -19,6 +19,7 @@ use Rattle.dfdl_delims.specs.Longest.{Answers, Longest, NoText, better, found_sh
 use Rattle.dfdl_delims.specs.Standing.{StandFor}
 use Rattle.dfdl_delims.specs.Candidates.{complete, completes, completes_at, has_more, is_dead, some_dead}
 use Rattle.dfdl_delims.specs.Hits.{IsLast, counted}
+use Rattle.dfdl_delims.specs.Searching.{Given, Going, spent}
 use Rattle.dfdl_delims.proofs.Ahead.{goes_on, no_more}
 use Rattle.dfdl_delims.proofs.Living.{first_none}
 
@@ -77,7 +78,7 @@ pub no_both : (b : Bool) → b ≡ true → b ≡ false → ⊥
 no_both true is isnt = cc
 no_both false is isnt = cc
 
-last_is : (f : ℕ → Bool) (best : Option ℕ) (n : ℕ) → IsLast f best → ((i : ℕ) → n ≤ i → f i ≡ false) → last_below f n ≡ best
+pub last_is : (f : ℕ → Bool) (best : Option ℕ) (n : ℕ) → IsLast f best → ((i : ℕ) → n ≤ i → f i ≡ false) → last_below f n ≡ best
 last_is f None zero is past = refl
 last_is f (Some last) zero is past = absurd (no_both (f last) is.0 (past last (omega arith)))
 last_is f best (suc n) is past = by (f n) refl best is (λ o is_so none. last_is f o n is_so none)
@@ -103,7 +104,7 @@ last_is f best (suc n) is past = by (f n) refl best is (λ o is_so none. last_is
         same (inr most) (inr least) = omega (arith, most, least)
     by false none o is again = again o is (behind false none refl)
 
-none_past : (lists : List Opened) (place : ℕ) (bytes : List ℕ) → length lists ≤ place → is_text_at lists place bytes ≡ false
+pub none_past : (lists : List Opened) (place : ℕ) (bytes : List ℕ) → length lists ≤ place → is_text_at lists place bytes ≡ false
 unfolding is_text_at
 none_past [] place bytes past = refl
 none_past (list ∷ lists) zero bytes past = absurd (omega (arith, past))
@@ -181,25 +182,6 @@ none_goes pieces (c ∷ live) none place next more =
     (none_goes pieces live parts.1 place next more)
 
 -- how far the search has come
-
--- what is given: the begins stand for the lists, and the test
-pub record Given (pieces : List Piece) (starts : List Candidate) (lists : List Opened) (test : List ℕ → Bool) : Type 0 where
-  pub stands : StandFor pieces starts lists
-  pub decides : Decides lists test
-
-abbrev pub spent : ℕ → ℕ → Tally
-spent looks far = record { rows = 0; looks = looks; far = far; tail = 0; anchor = 0 }
-
-pub record Going (look : ℕ → Seen) (pieces : List Piece) (starts live : List Candidate) (first last place far looks : ℕ) (found : Longest) : Type 0 where
-  pub seen : List ℕ
-  pub count : place ≡ first + length seen
-  pub bound : place ≤ max first last
-  pub reach : far ≤ place
-  pub lives : some_dead pieces starts ≡ false → some_dead pieces live ≡ false
-  pub left : (list : ℕ) (rest : List ℕ) → complete pieces list live rest ≡ complete pieces list starts (seen ++ rest)
-  pub same : (lists : List Opened) (test : List ℕ → Bool) → Given pieces starts lists test
-      → ask look (longest_from test lists (last - first) [] NoText first) nothing
-      ≡ ask look (longest_from test lists (last - place) seen found place) (spent looks far)
 
 module _ (look : ℕ → Seen) (pieces : List Piece) (starts live : List Candidate) (first last place far looks : ℕ) (found : Longest)
     (going : Going look pieces starts live first last place far looks found) where

@@ -262,7 +262,7 @@ held flat lists is = subst (λ f. StandsFor f lists) (sym is) (more_lists no_lis
 pub full_by : (register : Register) (lists : List Opened) (literals : List (List Piece)) → Holds register lists
     → IsFull register literals ↔ ((register.lists < length lists + 1) ⊎ (register.units < units_in lists + units_of literals))
 full_by register lists literals holds =
-    let count = (held register.flat lists holds).marks in
+    let count = (held register.flat lists holds.flat).marks in
     let units = units_held register lists holds in
     (to count units, back count units)
   where

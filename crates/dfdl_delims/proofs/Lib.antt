@@ -11,3 +11,6 @@ mod Begins
 mod Selected
 mod Going
 pub mod Deciders
+mod Tellings
+mod Kept
+mod Plain

@@ -1,8 +1,11 @@
 pub mod Lists
 pub mod Longest
+pub mod Firsts
 pub mod Registers
 pub mod Opening
 pub mod Candidates
 pub mod Hits
 pub mod Standing
 pub mod Deciding
+pub mod Verdicts
+pub mod Searching

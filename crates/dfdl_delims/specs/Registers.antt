@@ -6,7 +6,9 @@ use Rattle.dfdl_forms.specs.declared.literals.Piece.TheVariants.{Nothing}
 use Rattle.dfdl_delims.specs.declared.left.Left.TheVariants.{Done}
 use Rattle.dfdl_delims.specs.declared.candidate.Candidate.{Candidate}
 use Rattle.dfdl_delims.specs.declared.mark.Mark.{Mark}
+use Rattle.dfdl_delims.specs.declared.firsts.Firsts.{Firsts}
 use Rattle.dfdl_delims.specs.Candidates.{have_texts}
+use Rattle.dfdl_delims.specs.Firsts.{AreFirsts}
 use Rattle.dfdl_delims.specs.Lists.{Opened}
 
 -- what stands before each list, the begin of each literal that has a text, and the pieces of all literals
@@ -83,15 +85,17 @@ unfoldable pub with_lists : Flat → List Opened → Flat
 with_lists flat [] = flat
 with_lists flat (list ∷ lists) = with_lists (with_list flat list) lists
 
--- what a register has, and how many lists and how many pieces it has room for
+-- what a register has, what it keeps of the first bytes of each list's texts, and how many lists and how many pieces it has room for
 pub record Register : Type 0 where
   pub flat : Flat
+  pub firsts : List Firsts
   pub lists : ℕ
   pub units : ℕ
 
--- the register holds these lists, in the order of their numbers
-abbrev pub Holds : Register → List Opened → Type 0
-Holds register lists = register.flat ≡ with_lists no_lists lists
+-- the register holds these lists, in the order of their numbers, and what it keeps of the first bytes of their texts is so
+pub record Holds (register : Register) (lists : List Opened) : Type 0 where
+  pub flat : register.flat ≡ with_lists no_lists lists
+  pub firsts : AreFirsts lists register.firsts
 
 -- a list of these literals has no room in the register
 abbrev pub IsFull : Register → List (List Piece) → Type 0

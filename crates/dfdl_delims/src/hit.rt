@@ -3,7 +3,7 @@
 
 ghost use Rattle.std.specs.Prelude.{◌≡◌, ℕ, ◌*◌};
 ghost use Rattle.dfdl_looks.specs.Asks.{Told};
-ghost use Rattle.dfdl_delims.specs.Longest.{better, found_shown};
+ghost use Rattle.dfdl_delims.specs.Longest.{NoText, better, found_shown};
 ghost use Rattle.dfdl_delims.specs.Hits.{counted, hit_shown};
 
 use crate::found::Found;
@@ -48,5 +48,15 @@ pub(crate) fn found_of(hit: Option<Hit>) -> Found
             which: hit.which,
             bits: hit.bits,
         },
+    }
+}
+
+/// What is found where one byte alone tells it.
+pub(crate) fn alone(which: Option<usize>) -> Found
+    ensures { found_shown result ≡ Told (better which 1 NoText) }
+{
+    match which {
+        None => Found::None,
+        Some(which) => Found::Match { which, bits: 8 },
     }
 }

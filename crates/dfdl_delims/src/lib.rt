@@ -8,6 +8,7 @@ mod beginning;
 mod candidate;
 mod filling;
 mod finding;
+pub mod firsts;
 mod following;
 pub mod found;
 mod hit;
@@ -16,14 +17,19 @@ mod left;
 pub mod longest;
 mod mark;
 pub mod markup;
+pub mod naming;
 pub mod open_lists;
 pub mod refusal;
 mod step;
+mod telling;
+mod verdict;
 
 pub use dfdl_forms::{Encoding, Literals, Piece};
+pub use firsts::FirstBytes;
 pub use found::{Found, Glance};
 pub use longest::Candidates;
 pub use markup::Markup;
+pub use naming::first_bytes;
 pub use open_lists::OpenLists;
 pub use refusal::Refusal;
 

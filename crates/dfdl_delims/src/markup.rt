@@ -7,7 +7,8 @@ ghost use Rattle.dfdl_delims.specs.Registers.{Holds, IsFull, with_units};
 ghost use Rattle.dfdl_delims.specs.declared.refusal.Refusal.TheVariants.{Full};
 
 use crate::candidate::Candidate;
-use crate::filling::{fits, put_literals, with_units};
+use crate::filling::{fits, put_list, with_units};
+use crate::firsts::Firsts;
 use crate::mark::Mark;
 use crate::refusal::Refusal;
 use dfdl_forms::{Encoding, Literals, Piece};
@@ -20,6 +21,8 @@ pub struct Markup {
     marks: Vec<Mark>,
     starts: Vec<Candidate>,
     pieces: Vec<Piece>,
+    firsts: Vec<Firsts>,
+    scratch: Vec<Candidate>,
     lists: u32,
     units: u32,
 }
@@ -31,6 +34,7 @@ impl Model for Markup {
 
     ghost view = { λ m. record {
       flat = record { marks = m.marks.items; starts = m.starts.items; pieces = m.pieces.items };
+      firsts = m.firsts.items;
       lists = m.lists;
       units = m.units;
     } };
@@ -47,6 +51,8 @@ impl Markup {
             marks: Vec::with_capacity(alloc, lists as usize)?,
             starts: Vec::with_capacity(alloc, units as usize)?,
             pieces: Vec::with_capacity(alloc, units as usize)?,
+            firsts: Vec::with_capacity(alloc, lists as usize)?,
+            scratch: Vec::new(alloc),
             lists,
             units,
         })
@@ -86,13 +92,15 @@ impl Markup {
         let starts = self.starts.len();
         let pieces = self.pieces.len();
         self.marks.push(Mark { starts, pieces })?;
-        match put_literals(
+        match put_list(
             place,
             encoding,
             fold,
             literals,
             &mut self.starts,
             &mut self.pieces,
+            &mut self.firsts,
+            &mut self.scratch,
         ) {
             Ok(()) => Ok(()),
             Err(_) => {
@@ -133,6 +141,13 @@ impl Markup {
         self.pieces.as_slice()
     }
 
+    /// What is kept of the first bytes of each list's texts.
+    pub(crate) fn firsts(&self) -> &[Firsts]
+        ensures { result.now ≡ self.now.firsts }
+    {
+        self.firsts.as_slice()
+    }
+
     /// Takes the last list off.
     pub fn pop(&mut self)
         ensures popped { (lists : List Opened) (list : Opened) → Holds self.old (lists ++ list ∷ []) → Holds self.new lists }
@@ -144,6 +159,7 @@ impl Markup {
             Some(mark) => {
                 self.starts.truncate(mark.starts);
                 self.pieces.truncate(mark.pieces);
+                self.firsts.truncate(self.marks.len());
             }
         }
     }

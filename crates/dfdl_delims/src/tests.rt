@@ -2,7 +2,9 @@
 ghost use Rattle.std.specs.Prelude.{◌≡◌, ◌<◌};
 
 use crate::longest::longest;
-use crate::{Candidates, Encoding, Found, Glance, Literals, Markup, OpenLists, Piece, laws};
+use crate::{
+    Candidates, Encoding, Found, Glance, Literals, Markup, OpenLists, Piece, first_bytes, laws,
+};
 use dfdl_bits::{Steps, Window};
 use std::alloc::Global;
 use std::marker::Brand;
@@ -104,7 +106,13 @@ fn a_list_is_taken_off(rt: HostRuntime) -> Result<(), Fail> {
     let mut register = register(&rt, rt.alloc())?;
     register.pop();
     assert!(rt; register.len() == 2);
+    let first = first_bytes(OpenLists {
+        markup: &register,
+        numbers: &[0, 1],
+    });
+    assert!(rt; first.looks && first.set.has(b'a') && !first.set.has(b'b'));
     laws::longer_texts_are_decided();
+    laws::other_bytes_begin_no_text();
     laws::texts_begin();
     laws::no_list_has_texts();
     laws::lists_fill_registers();

@@ -6,3 +6,4 @@ pub mod Places
 pub mod ReadOn
 pub mod Passing
 pub mod TrimmedContents
+pub mod Running

@@ -1,5 +1,5 @@
 -- The reading of a content goes on by its first step.
-use Rattle.std.proofs.Common.{◌≡◌, ℕ, suc, ◌-◌, ◌/◌, ◌≤◌, Bool, List, [], ◌∷◌, ◌++◌, max, refl, ap, sym, subst, ◌∙◌, arith}
+use Rattle.std.proofs.Common.{◌≡◌, ℕ, suc, ◌+◌, ◌-◌, ◌/◌, ◌≤◌, Bool, List, [], ◌∷◌, ◌++◌, max, refl, ap, sym, subst, ◌∙◌, arith}
 use Rattle.dfdl_bits.specs.declared.window.Seen.{Seen}
 use Rattle.dfdl_looks.specs.Tallies.{Tally, nothing}
 use Rattle.dfdl_looks.specs.Asks.{Ask, Reached, Told, TooFar, Missing, Reading, ask, go_on}
@@ -151,3 +151,12 @@ module _ (look : ℕ → Seen) (test : List ℕ → Bool) (lists : List Opened) 
   passed-on now begin before read new at next same steps further =
       subst (λ (f : Form). ArePassed look test lists f begin before next new) same
       (further begin before (subst (λ (f : Form). ArePassed look test lists f begin before at read) (sym same) steps))
+
+  -- behind a run, with the form that the reading began with
+  pub run-on : (start : Sum) (now : Form) (all count more : ℕ) (read new : List Character) (at next : Stand) (from to far seen : ℕ)
+      → start ≡ left all read at from far → now ≡ form → all ≡ count + suc more
+      → left_of look test lists now (count + suc more) read at from far ≡ left_of look test lists now (suc more) new next to seen
+      → start ≡ left (suc more) new next to seen
+  run-on start now all count more read new at next from to far seen so_far same counts run =
+      so_far ∙ ap (λ (n : ℕ). left n read at from far) counts
+      ∙ subst (λ (f : Form). left_of look test lists f (count + suc more) read at from far ≡ left_of look test lists f (suc more) new next to seen) same run

@@ -16,6 +16,7 @@ mod placed;
 mod placing;
 pub mod reading;
 pub mod refusal;
+mod run;
 pub mod scan;
 pub mod scanned;
 pub mod trimming;

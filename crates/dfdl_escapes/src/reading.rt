@@ -12,9 +12,10 @@ ghost use Rattle.dfdl_escapes.specs.Reads.{IsRead, TurnsTo, left_of};
 
 use crate::character::Character;
 use crate::ending::{Ending, Passed, Read, by_scanned};
+use crate::run::pass_run;
 use crate::scan::Scan;
 use dfdl_bits::{Steps, Window};
-use dfdl_delims::{Candidates, OpenLists};
+use dfdl_delims::{Candidates, OpenLists, first_bytes};
 use std::alloc::AllocError;
 use std::sync::ledger::Ledger;
 
@@ -83,6 +84,7 @@ pub fn read_content<L: Ledger>(
     ensures form { scan.new.form ≡ scan.old.form }
     ensures steps { steps.old ≤ steps.new }
 {
+    let first = first_bytes(lists);
     let mut left = (scan.form.stop / 8).saturating_sub(scan.at.byte) + 1;
     let mut far = 0;
     'steps: loop {
@@ -92,10 +94,11 @@ pub fn read_content<L: Ledger>(
                 far,
             });
         }
-        match take_step(scan, lists, window, candidates, steps, into, far)? {
+        let run = pass_run(scan, &first, lists, window, left - 1, steps, into, far)?;
+        match take_step(scan, lists, window, candidates, steps, into, run.far)? {
             Progress::Goes(seen) => {
                 far = seen;
-                left -= 1;
+                left -= run.count + 1;
             }
             Progress::Halts(read) => return Ok(read),
         }

@@ -361,6 +361,13 @@ fn contents_are_read_in_pieces(rt: HostRuntime) -> Result<(), Fail> {
     let scan = Scan::open(&scheme, Encoding::Utf8, false, None, 0, 800);
     let told = read_in_pieces::<Brand>(&rt, alloc, scan, b"'a'", b"'b';", Blank::new(1))?;
     assert!(rt; told.as_str() == "^a not yet ^a^'^b terminator ");
+    let scheme = no_scheme(alloc);
+    let scan = Scan::open(&scheme, Encoding::Utf8, false, None, 0, 40);
+    let told = read_in_pieces::<Brand>(&rt, alloc, scan, b"abcd", b"efg,", Blank::new(1))?;
+    assert!(rt; told.as_str() == "abcd not yet abcde end ");
+    let scan = Scan::open(&scheme, Encoding::Utf8, false, None, 0, 800);
+    let told = read_in_pieces::<Brand>(&rt, alloc, scan, b"ab\xc3", b"\xa9c,", Blank::new(1))?;
+    assert!(rt; told.as_str() == "ab not yet ab\u{e9}c separator ");
     Ok(())
 }
 

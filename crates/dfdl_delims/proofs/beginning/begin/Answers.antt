@@ -7,7 +7,7 @@ pub returns : goal.returns
 returns c = λ opened opens.
     let flat = c.args.lists.markup.now.flat in
     let numbers = c.args.lists.numbers.now in
-    all_opened flat opens.all numbers opened opens.holds opens.named c.put_lists.new.live.items
+    all_opened flat opens.all numbers opened opens.holds.flat opens.named c.put_lists.new.live.items
     (c.in_ok-put_lists.ensures
     ∙ ap (λ l. l ++ begins_of c.marks.result.now c.starts.result.now 0 numbers) c.clear.ensures.items
     ∙ ap (λ m. begins_of m c.starts.result.now 0 numbers) c.marks.ensures

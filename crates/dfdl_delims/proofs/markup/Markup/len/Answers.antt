@@ -7,4 +7,4 @@ pub returns : goal.returns
 returns c = λ lists holds.
     c.len.ensures ∙ c.self.inside.marks.ok.0
     ∙ (held (record { marks = c.self.inside.marks.items; starts = c.self.inside.starts.items; pieces = c.self.inside.pieces.items }) lists
-    (ap (λ (r : Register). r.flat) c.self.view_is ∙ holds)).marks
+    (ap (λ (r : Register). r.flat) c.self.view_is ∙ holds.flat)).marks

@@ -1,0 +1,8 @@
+use Rattle.std.proofs.Common.{◌≡◌, ◌++◌, drop}
+use Rattle.dfdl_escapes.specs.Runs.{given_by}
+use Rattle.dfdl_escapes.proofs.run.put_given.Given as goal
+
+-- the characters of the bytes that are left are still to be put
+abbrev pub invariant-loop-byte : goal.invariant-loop-byte
+invariant-loop-byte l =
+    l.into.items ++ given_by l.fn.mode (drop l.byte-index l.bytes) ≡ l.fn.into.items ++ given_by l.fn.mode l.bytes

@@ -23,7 +23,9 @@ use Rattle.dfdl_chains.specs.Facts.{facts_at}
 use Rattle.dfdl_chains.specs.Kinds.{kind_at}
 use Rattle.dfdl_chains.specs.Parts.{is_component}
 use Rattle.dfdl_terms.specs.Framing.{no_fill}
+use Rattle.dfdl_terms.specs.Occurs.{occurs_once}
 use Rattle.dfdl_terms.specs.declared.framing.Framing.{Framing}
+use Rattle.dfdl_terms.specs.declared.occurs.Occurs.{Occurs}
 use Rattle.dfdl_terms.specs.declared.row.Primitive.{Primitive}
 use Rattle.dfdl_breaches.specs.Elements.{place_of}
 use Rattle.dfdl_breaches.specs.Prefixes.{prefix_at}
@@ -83,7 +85,7 @@ abbrev pub others_at : Purpose → (Site → Bool) → List SchemaDocument → S
 others_at purpose refused documents own = representations_of (judged_at purpose refused documents own)
 
 -- how often a component occurs where it stands
-abbrev pub occurrences_at : Purpose → (Site → Bool) → List SchemaDocument → Site → ℕ
+abbrev pub occurrences_at : Purpose → (Site → Bool) → List SchemaDocument → Site → Occurs
 occurrences_at purpose refused documents own = occurrences_of (judged_at purpose refused documents own)
 
 -- nothing is told of what is no component
@@ -96,7 +98,7 @@ no_judgement = record {
   size = None;
   prefix = None;
   others = no_representations;
-  occurs = 1;
+  occurs = occurs_once;
 }
 
 -- what is told of an element of the documents

@@ -1,6 +1,6 @@
 // What is told of a component.
 use dfdl_checks::{Breach, Markup, OtherRepresentations, PrefixForm};
-use dfdl_terms::{Framing, Primitive};
+use dfdl_terms::{Framing, Occurs, Primitive};
 
 /// What is told of an element of a schema's documents.
 #[derive(Debug, Drop)]
@@ -20,5 +20,5 @@ pub struct Judgement {
     /// Which representations of it are tried before its normal one, and how their content lies in the data.
     pub others: OtherRepresentations,
     /// How often it occurs where it stands.
-    pub occurs: u32,
+    pub occurs: Occurs,
 }

@@ -27,7 +27,7 @@ use dfdl_components::{Schema, Site};
 use dfdl_edge::Patterns;
 use dfdl_forms::BitOrder;
 use dfdl_scope::Properties;
-use dfdl_terms::Framing;
+use dfdl_terms::{Framing, Occurs};
 use std::alloc::{AllocError, Global};
 
 // The order of bits that is told at a component with this chain.
@@ -156,7 +156,11 @@ fn nothing_told() -> Judgement
             refuses_empty: false,
             are_several: false,
         },
-        occurs: 1,
+        occurs: Occurs {
+            least: 1,
+            further: 0,
+            is_item: false,
+        },
     }
 }
 

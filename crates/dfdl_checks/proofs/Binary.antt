@@ -8,8 +8,8 @@ use Rattle.dfdl_checks.proofs.LengthKinds.{HasKind, boolean-length, number-lengt
 use Rattle.dfdl_checks.proofs.Types.{IsOfForm, built-type, number-or-truth, of-type}
 use Rattle.dfdl_checks.specs.BuiltTypes.{is_built_type}
 use Rattle.dfdl_checks.specs.Judged.{Judged}
-use Rattle.dfdl_checks.specs.Rules.{first_breach, rules, has_later_type}
-use Rattle.dfdl_checks.specs.Subjects.{is_binary, is_binary_boolean, is_binary_number, is_choice, is_simple, is_told, is_truths, simple_of, told_at, value_bits}
+use Rattle.dfdl_checks.specs.Rules.{first_breach, rules, has_later_type, is_later_group}
+use Rattle.dfdl_checks.specs.Subjects.{is_binary, is_binary_boolean, is_binary_number, is_simple, is_told, is_truths, simple_of, told_at, value_bits}
 use Rattle.dfdl_checks.specs.declared.subject.Kind.{Kind}
 use Rattle.dfdl_checks.specs.declared.subject.Kind.TheVariants.{ComplexElement, SimpleElement, UncarriedElement, Sequence, Choice, PrefixNumber}
 
@@ -24,7 +24,7 @@ pub record IsSound (s : Judged) : Type 0 where
 pub is-sound : (s : Judged) → first_breach rules s ≡ None → IsTrue (is_simple s.kind) → IsSound s
 is-sound s none is =
     let kept = keeps-all s none in
-    let type = built-type s.purpose s.kind (second-fails (is_choice s.kind) (has_later_type s.purpose s.kind) _ _ _ kept.built) kept.typed is in
+    let type = built-type s.purpose s.kind (second-fails (is_later_group s.purpose s.kind) (has_later_type s.purpose s.kind) _ _ _ kept.built) kept.typed is in
     record { kept = kept; simple = type.simple; kind = type.kind_is; built = type.built; form = of-type s.kind type.simple type.kind_is }
 
 -- what has a binary value is a simple element or the type of a prefix

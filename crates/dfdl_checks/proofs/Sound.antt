@@ -77,7 +77,7 @@ places s sound number = by (has_point (form_of sound.simple)) refl
     decimal : has_point (form_of sound.simple) ≡ true → is_some (places_told (told_at s (codes "binaryDecimalVirtualPoint"))) ≡ true
     decimal point =
         some-places (codes "binaryDecimalVirtualPoint") _
-        (no-flaw s sound.kept 65 (codes "binaryDecimalVirtualPoint") bearers.BinaryDecimals EveryValue refl
+        (no-flaw s sound.kept 66 (codes "binaryDecimalVirtualPoint") bearers.BinaryDecimals EveryValue refl
         (all-hold _ _ (sound.form.decimal ∙ point) number) _ refl)
         (once-at s sound.kept (codes "binaryDecimalVirtualPoint") _ refl)
 

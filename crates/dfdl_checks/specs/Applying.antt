@@ -7,10 +7,10 @@ use Rattle.dfdl_checks.specs.Occurrences.{is_counted}
 use Rattle.dfdl_checks.specs.Orders.{is_least_first}
 use Rattle.dfdl_checks.specs.NumberTexts.{base_of}
 use Rattle.dfdl_checks.specs.Pads.{is_padded_text}
-use Rattle.dfdl_checks.specs.Subjects.{is_boxed, is_delimited_bytes, is_explicit, is_nillable, is_prefix_number, is_prefixed, is_standard, is_text, is_text_boolean, is_text_number, is_zoned, is_element, is_simple, is_string, is_sequence, is_group, is_represented, is_decimal, value_bits, is_binary, is_binary_boolean, is_binary_number, is_explicit_binary, is_packed, is_word, told_at}
+use Rattle.dfdl_checks.specs.Subjects.{is_boxed, is_delimited_bytes, is_explicit, is_nillable, is_prefix_number, is_prefixed, is_standard, is_text, is_text_boolean, is_text_number, is_zoned, is_element, is_simple, is_string, is_sequence, is_choice, is_group, is_represented, is_decimal, value_bits, is_binary, is_binary_boolean, is_binary_number, is_explicit_binary, is_packed, is_word, told_at}
 use Rattle.dfdl_checks.specs.Judged.{Judged}
 use Rattle.dfdl_checks.specs.declared.applicability.Bearers.{Bearers}
-use Rattle.dfdl_checks.specs.declared.applicability.Bearers.TheVariants.{EveryComponent, FramedComponents, Elements, OtherElements, SimpleElements, NillableElements, TextNillables, RepresentedElements, BoxedElements, Strings, PaddedStrings, PaddedBooleans, PaddedNumbers, BinaryNumbers, BinaryBooleans, OrderedBinaries, ExplicitBinaries, ExplicitBoxes, ImplicitStrings, PrefixedElements, Texts, TextNumbers, TextBooleans, StandardNumbers, ZonedNumbers, PatternNumbers, LooseTexts, PackedNumbers, BinaryDecimals, PatternElements, DelimitedBytes, DelimitedComponents, Groups, Sequences, SeparatedSequences, EmptySequences, CountedElements}
+use Rattle.dfdl_checks.specs.declared.applicability.Bearers.TheVariants.{EveryComponent, FramedComponents, Elements, OtherElements, SimpleElements, NillableElements, TextNillables, RepresentedElements, BoxedElements, Strings, PaddedStrings, PaddedBooleans, PaddedNumbers, BinaryNumbers, BinaryBooleans, OrderedBinaries, ExplicitBinaries, ExplicitBoxes, ImplicitStrings, PrefixedElements, Texts, TextNumbers, TextBooleans, StandardNumbers, ZonedNumbers, PatternNumbers, LooseTexts, PackedNumbers, BinaryDecimals, PatternElements, DelimitedBytes, DelimitedComponents, Groups, Sequences, SeparatedSequences, EmptySequences, Choices, CountedElements}
 
 -- a binary number or boolean whose bytes have an order: of a type with more than 8 bits, or with its least significant bits
 -- first
@@ -55,4 +55,5 @@ is_bearer Groups subject = is_group subject.kind
 is_bearer Sequences subject = is_sequence subject.kind
 is_bearer SeparatedSequences subject = is_separated subject
 is_bearer EmptySequences subject = is_sequence subject.kind && subject.facts.is_empty
+is_bearer Choices subject = is_choice subject.kind
 is_bearer CountedElements subject = is_counted subject

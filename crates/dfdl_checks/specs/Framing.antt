@@ -1,5 +1,5 @@
 -- The fill around the content of a component without a breach, in bits ('Framing').
-use Rattle.std.specs.Prelude.{ℕ, List, Bool, ◌*◌, ◌&&◌, not, None, is_some, codes, if◌then◌else◌}
+use Rattle.std.specs.Prelude.{ℕ, List, ◌*◌, None, codes, if◌then◌else◌}
 use Rattle.std.specs.Option.{unwrap_or}
 use Rattle.dfdl_forms.specs.declared.simple.Simple.{Simple}
 use Rattle.dfdl_forms.specs.declared.simple.Simple.TheVariants.{Boolean, Short, Int as IntType, Long, UnsignedShort, UnsignedInt, UnsignedLong}
@@ -8,7 +8,6 @@ use Rattle.dfdl_scope.specs.Scoping.{Told, Value, Absent, Twice}
 use Rattle.dfdl_terms.specs.Framing.{no_fill}
 use Rattle.dfdl_terms.specs.declared.framing.Framing.{Framing}
 use Rattle.dfdl_checks.specs.Judged.{Judged}
-use Rattle.dfdl_checks.specs.Packed.{rep_of}
 use Rattle.dfdl_checks.specs.Subjects.{is_binary, is_told, is_word, told_at}
 use Rattle.dfdl_checks.specs.Values.{number_within}
 use Rattle.dfdl_checks.specs.declared.purpose.Purpose.{Purpose}
@@ -38,8 +37,7 @@ unit_at subject = fill_unit (told_at subject (codes "alignmentUnits"))
 abbrev pub skip_of : Judged → List ℕ → ℕ
 skip_of subject name = amount_told 0 0 (told_at subject name) * unit_at subject
 
--- the implicit alignment of a binary integer or boolean of the type, in bits; that of a decimal and of an integer without a
--- size is 8
+-- The implicit alignment of a binary number or boolean of the type, in bits. That of a decimal and of an integer without a size is 8.
 abbrev pub type_alignment : Simple → ℕ
 type_alignment Short = 16
 type_alignment UnsignedShort = 16
@@ -50,13 +48,9 @@ type_alignment UnsignedLong = 64
 type_alignment Boolean = 32
 type_alignment _ = 8
 
--- a binary number or boolean that is no packed number
-abbrev pub is_plain_binary : Judged → Bool
-is_plain_binary subject = is_binary subject && not (is_some (rep_of subject))
-
--- the implicit alignment of an element of the type, in bits: that of the type where it is plain binary, else 8
+-- the implicit alignment of an element of the type, in bits: that of the type where it is binary, packed numbers among them, else 8
 abbrev pub simple_alignment : Judged → Simple → ℕ
-simple_alignment subject simple = if is_plain_binary subject then type_alignment simple else 8
+simple_alignment subject simple = if is_binary subject then type_alignment simple else 8
 
 -- the implicit alignment of a component of the kind, in bits; those that are no simple elements have none
 abbrev pub implicit_alignment : Judged → Kind → ℕ

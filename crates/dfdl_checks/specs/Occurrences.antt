@@ -1,5 +1,7 @@
 -- How often elements occur ('Arrays and Optional Elements').
-use Rattle.std.specs.Prelude.{ℕ, ◌==◌, ◌&&◌, ◌||◌, Bool, false, not, min, Option, Some, None, codes}
+use Rattle.std.specs.Prelude.{ℕ, ◌==◌, ◌&&◌, ◌||◌, ◌-◌, Bool, true, false, not, min, nat_lt, Option, Some, None, codes, if◌then◌else◌}
+use Rattle.dfdl_terms.specs.Occurs.{has_tried, occurs_once, required_times}
+use Rattle.dfdl_terms.specs.declared.occurs.Occurs.{Occurs}
 use Rattle.dfdl_checks.specs.Judged.{Judged}
 use Rattle.dfdl_checks.specs.Subjects.{is_element, is_told}
 use Rattle.dfdl_checks.specs.declared.occurring.Bounds.{Bounds}
@@ -32,17 +34,61 @@ abbrev pub are_bounds_unfit : Judged → Bool
 are_bounds_unfit subject =
     is_element subject.kind && (is_most subject.facts.bounds.most 0 || (is_fixed subject && not (are_same subject.facts.bounds)))
 
--- So many occurrences, where they are bounded. Past 32 bits they are the greatest number of these: each occurrence is an element of
--- the infoset, and there are never so many.
+-- the data tell how often the element occurs, whatever its bounds are
+abbrev pub is_parsed : Judged → Bool
+is_parsed subject = is_told subject (codes "occursCountKind") (codes "parsed")
+
+-- So many required occurrences. Past 32 bits they are the greatest number of these: each occurrence is an element of the infoset, and
+-- there are never so many.
+abbrev pub within_word : ℕ → ℕ
+within_word count = min count 4294967295
+
+-- the same of a number of occurrences that may be unbounded, and then stands for one
 abbrev pub count_of : Option ℕ → ℕ
 count_of None = 1
-count_of (Some most) = min most 4294967295
+count_of (Some most) = within_word most
 
--- how often an element occurs, where it breaks no rule: as both bounds say for parsing, and once for unparsing
-abbrev pub occurrences_for : Purpose → Judged → ℕ
-occurrences_for Parsing subject = count_of subject.facts.bounds.most
-occurrences_for Unparsing subject = 1
+-- how many more there can be than any number: the greatest number of 64 bits, which no data reach
+abbrev pub unbounded : ℕ
+unbounded = 18446744073709551615
+
+-- how many more there are at most than the least number
+abbrev pub further_than : ℕ → Option ℕ → ℕ
+further_than least None = unbounded
+further_than least (Some most) = most - least
+
+-- as often as the bounds say, where those up to the least number are required: an element that occurs once at most is no item
+abbrev pub occurs_within : Bounds → Occurs
+occurs_within bounds = record {
+  least = within_word bounds.least;
+  further = further_than bounds.least bounds.most;
+  is_item = not (is_most bounds.most 1);
+}
+
+-- any number of times, none of which is required
+abbrev pub occurs_any : Occurs
+occurs_any = record { least = 0; further = unbounded; is_item = true }
+
+-- how often an element occurs whose bounds aren't both 1, by the kind of its count: implicit, where it is neither fixed nor parsed
+abbrev pub occurrences_by_kind : Judged → Occurs
+occurrences_by_kind subject =
+    if is_fixed subject then required_times (count_of subject.facts.bounds.most)
+    else if is_parsed subject then occurs_any
+    else occurs_within subject.facts.bounds
+
+-- how often an element occurs, where it breaks no rule: for unparsing once
+abbrev pub occurrences_for : Purpose → Judged → Occurs
+occurrences_for Parsing subject = if is_once subject.facts.bounds then occurs_once else occurrences_by_kind subject
+occurrences_for Unparsing subject = occurs_once
 
 -- the same for the component's purpose
-abbrev pub occurrences_of : Judged → ℕ
+abbrev pub occurrences_of : Judged → Occurs
 occurrences_of subject = occurrences_for subject.purpose subject
+
+-- some of the component's occurrences are required
+abbrev pub is_required : Judged → Bool
+is_required subject = nat_lt 0 (occurrences_of subject).least
+
+-- some of the component's occurrences are tried
+abbrev pub is_tried : Judged → Bool
+is_tried subject = has_tried (occurrences_of subject)

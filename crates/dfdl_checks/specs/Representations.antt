@@ -16,7 +16,7 @@ use Rattle.dfdl_terms.specs.declared.text.TextSize.{TextSize}
 use Rattle.dfdl_terms.specs.declared.text.TextSize.TheVariants.{Bits, Characters, Delimited}
 use Rattle.dfdl_value.specs.declared.value.Value.{Value}
 use Rattle.dfdl_value.specs.declared.value.Value.TheVariants as values
-use Rattle.dfdl_checks.specs.Defaults.{empty_value}
+use Rattle.dfdl_checks.specs.Defaults.{default_of, empty_value}
 use Rattle.dfdl_checks.specs.Delimiters.{is_empty_delimited}
 use Rattle.dfdl_checks.specs.Judged.{Judged}
 use Rattle.dfdl_checks.specs.Nils.{is_nil_by_value, nil_form_of}
@@ -98,7 +98,7 @@ refuses_empty subject simple size = can_be_empty subject size && is_empty_delimi
 
 -- more than one representation can be tried, though it may always give way
 abbrev pub are_several : Judged → Bool
-are_several subject = is_nillable subject || is_string_or_bytes subject.kind || is_some subject.facts.default || is_empty_delimited subject
+are_several subject = is_nillable subject || is_string_or_bytes subject.kind || is_some (default_of subject) || is_empty_delimited subject
 
 -- no representation besides the normal one
 abbrev pub no_representations : OtherRepresentations

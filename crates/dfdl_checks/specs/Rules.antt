@@ -27,7 +27,7 @@ use Rattle.dfdl_checks.specs.Pads.{is_malformed, is_other, is_other_told, is_out
 use Rattle.dfdl_forms.specs.NumberForms.{are_plain}
 use Rattle.dfdl_forms.specs.declared.number_pattern.NumberPattern.{NumberPattern}
 use Rattle.dfdl_checks.specs.Packed.{codes_told, nibbles_within, rep_of}
-use Rattle.dfdl_checks.specs.Occurrences.{are_bounds_unfit, is_once}
+use Rattle.dfdl_checks.specs.Occurrences.{are_bounds_unfit, is_once, is_required, is_tried}
 use Rattle.dfdl_checks.specs.Prefixes.{is_name_told, is_no_prefix_type, is_not_whole, prefix_subject}
 use Rattle.dfdl_checks.specs.Subjects.{is_boxed, is_delimited_bytes, is_element, is_choice, is_binary, is_binary_boolean, is_binary_number, is_decimal, is_explicit, is_explicit_binary, is_packed, is_prefixed, is_simple, is_standard, is_text, is_text_boolean, is_text_number, is_told, is_zoned, told_at, value_bits}
 use Rattle.dfdl_checks.specs.Flaws.{has_flaw}
@@ -36,7 +36,7 @@ use Rattle.dfdl_checks.specs.declared.purpose.Purpose.{Purpose}
 use Rattle.dfdl_checks.specs.declared.purpose.Purpose.TheVariants.{Parsing, Unparsing}
 use Rattle.dfdl_checks.specs.declared.subject.Kind.{Kind}
 use Rattle.dfdl_checks.specs.declared.subject.Kind.TheVariants.{SimpleElement, UncarriedElement, PrefixNumber}
-use Rattle.dfdl_checks.specs.Judged.{FactsJudged, Judged}
+use Rattle.dfdl_checks.specs.Judged.{Judged}
 use Rattle.dfdl_checks.specs.declared.subject.Breach.{Breach}
 
 -- an element of a simple type that is carried, or the type of a prefix, which is built later
@@ -45,16 +45,22 @@ has_later_type purpose (SimpleElement simple) = not (is_built_type purpose simpl
 has_later_type purpose (PrefixNumber simple) = not (is_built_type purpose simple)
 has_later_type purpose _ = false
 
--- for unparsing, an element that does not occur exactly once, that may be nil or that has a default
-abbrev pub is_later_element : Purpose → FactsJudged → Bool
-is_later_element Parsing facts = false
-is_later_element Unparsing facts = not (is_once facts.bounds) || facts.is_nillable || is_some facts.default
+-- for unparsing, a choice
+abbrev pub is_later_group : Purpose → Kind → Bool
+is_later_group Parsing kind = false
+is_later_group Unparsing kind = is_choice kind
 
--- a component of a kind that is built later, whatever its properties are
+-- for parsing, an element with a default of whose occurrences some are required, which take it, and others tried, which don't; for
+-- unparsing, one that does not occur exactly once, that may be nil or that has a default
+abbrev pub is_later_element : Purpose → Judged → Bool
+is_later_element Parsing subject = is_some subject.facts.default && (is_required subject && is_tried subject)
+is_later_element Unparsing subject = not (is_once subject.facts.bounds) || subject.facts.is_nillable || is_some subject.facts.default
+
+-- a component of a kind that is built later, whatever its properties are but for the kind of its count
 abbrev pub is_later_component : Judged → Bool
 is_later_component subject =
-    is_choice subject.kind || has_later_type subject.purpose subject.kind || subject.facts.has_statements
-    || (is_element subject.kind && is_later_element subject.purpose subject.facts)
+    is_later_group subject.purpose subject.kind || has_later_type subject.purpose subject.kind || subject.facts.has_statements
+    || (is_element subject.kind && is_later_element subject.purpose subject)
 
 -- 3: the component, or the value of a property that applies to it, is of a form that is built later
 abbrev pub is_unbuilt : Judged → Bool

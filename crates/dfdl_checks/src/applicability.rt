@@ -66,6 +66,7 @@ pub enum Bearers {
     /// Sequences with a separator.
     SeparatedSequences,
     EmptySequences,
+    Choices,
     /// Elements with other bounds of occurrences than 1 and 1.
     CountedElements,
 }

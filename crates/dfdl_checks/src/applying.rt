@@ -7,8 +7,8 @@ use crate::applicability::Bearers;
 use crate::boxes::{is_explicit_box, is_implicit_string};
 use crate::delimiters::{is_delimited, is_separated};
 use crate::kinds::{
-    is_decimal, is_element, is_group, is_prefix_number, is_represented, is_sequence, is_simple,
-    is_string, value_bits,
+    is_choice, is_decimal, is_element, is_group, is_prefix_number, is_represented, is_sequence,
+    is_simple, is_string, value_bits,
 };
 use crate::nils::is_nil_by_value;
 use crate::number_texts::base_of;
@@ -66,6 +66,7 @@ pub(crate) fn is_bearer(bearers: Bearers, subject: &Subject<'_, '_, '_>) -> bool
         Bearers::Sequences => is_sequence(kind),
         Bearers::SeparatedSequences => is_separated(subject),
         Bearers::EmptySequences => is_sequence(kind) && subject.facts.is_empty,
+        Bearers::Choices => is_choice(kind),
         Bearers::CountedElements => is_counted(subject),
     }
 }

@@ -6,7 +6,6 @@ ghost use Rattle.dfdl_scope.specs.Scoping.{told};
 ghost use Rattle.dfdl_scope.specs.Shown.{chain_of};
 ghost use Rattle.dfdl_scope.specs.Told.{told_by};
 
-use crate::packed::rep_of;
 use crate::purpose::Purpose;
 use crate::representations::{is_binary, is_word};
 use crate::subject::{Kind, Subject};
@@ -117,21 +116,14 @@ fn implicit_alignment(subject: &Subject<'_, '_, '_>, kind: Kind) -> u32
 fn simple_alignment(subject: &Subject<'_, '_, '_>, simple: Simple) -> u32
     ensures { result ≡ framings.simple_alignment (judged_of subject.now) simple }
 {
-    if is_plain_binary(subject) {
+    if is_binary(subject) {
         type_alignment(simple)
     } else {
         8
     }
 }
 
-/// Whether it is a binary number or boolean and no packed number.
-fn is_plain_binary(subject: &Subject<'_, '_, '_>) -> bool
-    ensures { result ≡ framings.is_plain_binary (judged_of subject.now) }
-{
-    is_binary(subject) && rep_of(subject).is_none()
-}
-
-/// The implicit alignment of a binary integer or boolean of the type, in bits.
+/// The implicit alignment of a binary number or boolean of the type, in bits.
 fn type_alignment(simple: Simple) -> u32
     ensures { result ≡ framings.type_alignment simple }
 {

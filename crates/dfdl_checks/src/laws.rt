@@ -3,6 +3,7 @@ ghost use Rattle.std.specs.Prelude.{◌≡◌, ◌||◌, ℕ, List, length, ◌<
 ghost use Rattle.dfdl_forms.specs.Types.{form_of};
 ghost use Rattle.dfdl_forms.specs.declared.encoding.Encoding.{Encoding};
 ghost use Rattle.dfdl_literals.specs.Lists.{matches_nothing};
+ghost use Rattle.dfdl_terms.specs.Occurs.{occurs_once};
 ghost use Rattle.dfdl_terms.specs.Rows.{IsPrimitive, IsWritten, most_length};
 ghost use Rattle.dfdl_terms.specs.declared.row.Primitive.{Primitive};
 ghost use Rattle.dfdl_terms.specs.declared.row.Primitive.TheVariants.{Default};
@@ -23,7 +24,7 @@ ghost use Rattle.dfdl_checks.specs.Patterns.{length_pattern, pattern_encoding, p
 ghost use Rattle.dfdl_checks.specs.Prefixes.{is_integer, prefix_of};
 ghost use Rattle.dfdl_checks.specs.Representations.{no_representations, representations_of};
 ghost use Rattle.dfdl_checks.specs.Rules.{breach_of_component, first_breach, rules};
-ghost use Rattle.dfdl_checks.specs.Subjects.{is_binary, is_by_pattern, is_element, is_hex_binary, is_nillable, is_prefixed, is_sequence, is_simple, is_text, simple_of, told_at};
+ghost use Rattle.dfdl_checks.specs.Subjects.{is_binary, is_by_pattern, is_choice, is_element, is_hex_binary, is_nillable, is_prefixed, is_sequence, is_simple, is_text, simple_of, told_at};
 ghost use Rattle.dfdl_checks.specs.declared.delimiters.Delimiting.{Delimiting};
 ghost use Rattle.dfdl_checks.specs.declared.delimiters.Separating.{Separating};
 ghost use Rattle.dfdl_checks.specs.declared.prefixes.PrefixForm.{PrefixForm};
@@ -131,9 +132,14 @@ pub fn primitives_for_unparsing_are_whole()
     ensures { (j : Judged) (p : Primitive) → j.purpose ≡ Unparsing → primitive_of j ≡ Some p → IsWhole p }
 {}
 
+/// A choice is refused for unparsing.
+pub fn choices_for_unparsing_are_refused()
+    ensures { (j : Judged) → first_breach rules j ≡ None → j.purpose ≡ Unparsing → is_choice j.kind ≡ false }
+{}
+
 /// Elements that are written occur once.
 pub fn elements_for_unparsing_occur_once()
-    ensures { (j : Judged) → j.purpose ≡ Unparsing → occurrences_of j ≡ 1 }
+    ensures { (j : Judged) → j.purpose ≡ Unparsing → occurrences_of j ≡ occurs_once }
 {}
 
 /// A component with a box, whether it breaks rules or not, is a complex element for parsing, and the box
@@ -148,7 +154,7 @@ pub fn boxes_are_bounded()
 
 /// Components whose chains give the same, name by name, and those of the types of their prefixes, have the same breach, the same
 /// primitive, the same other representations, the same fill, the same delimiters, the same box, the same prefix, the same pattern of
-/// their length, and the same number of occurrences.
+/// their length, and occur as often.
 pub fn alike_components_are_judged_alike()
     ensures breach { (a b : Judged) → IsAlike a b → breach_of_component a ≡ breach_of_component b }
     ensures primitive { (a b : Judged) → IsAlike a b → primitive_of a ≡ primitive_of b }

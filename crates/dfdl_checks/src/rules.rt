@@ -1,7 +1,7 @@
 // The rules that a component has to keep.
 ghost use Rattle.std.specs.Prelude.{◌≡◌, IfOk, Ok, Some, drop};
 ghost use Rattle.dfdl_checks.specs.BuiltTypes as types;
-ghost use Rattle.dfdl_checks.specs.JudgedShown.{facts_judged_of, judged_of};
+ghost use Rattle.dfdl_checks.specs.JudgedShown.{judged_of};
 ghost use Rattle.dfdl_checks.specs.Rules as spec;
 
 use crate::booleans::{falsity_told, truth_told};
@@ -17,13 +17,13 @@ use crate::length_rules::{
 };
 use crate::new_lines::{is_new_line_expression, is_new_line_other};
 use crate::nil_values::is_nil_not_allowed;
-use crate::occurring::{are_bounds_unfit, is_once};
+use crate::occurring::{are_bounds_unfit, is_once, is_required, is_tried};
 use crate::orders::{bit_order, is_least_first, is_same_order};
 use crate::packed::codes_told;
 use crate::prefixes::prefix_subject;
 use crate::purpose::Purpose;
 use crate::representations::{is_binary_boolean, is_binary_number, is_packed, is_text, is_word};
-use crate::subject::{Breach, Facts, Kind, Subject};
+use crate::subject::{Breach, Kind, Subject};
 use crate::text_rules::{
     are_separators_unfit, are_truth_texts_other, is_base_unfit, is_character_not_encoded,
     is_literal_malformed, is_pad_no_character, is_pattern_malformed, is_separator_other,
@@ -201,10 +201,20 @@ fn is_later_component(subject: &Subject<'_, '_, '_>) -> bool
     ensures { result ≡ spec.is_later_component (judged_of subject.now) }
 {
     let kind = subject.kind;
-    is_choice(kind)
+    is_later_group(subject.purpose, kind)
         || has_later_type(subject.purpose, kind)
         || subject.facts.has_statements
-        || (is_element(kind) && is_later_element(subject.purpose, subject.facts))
+        || (is_element(kind) && is_later_element(subject))
+}
+
+/// For unparsing, whether it is a choice.
+fn is_later_group(purpose: Purpose, kind: Kind) -> bool
+    ensures { result ≡ spec.is_later_group purpose kind }
+{
+    match purpose {
+        Purpose::Parsing => false,
+        Purpose::Unparsing => is_choice(kind),
+    }
 }
 
 /// Whether it is an element of a simple type, or the type of a prefix, that is built later.
@@ -240,12 +250,14 @@ fn is_whole_type(simple: Simple) -> bool
     }
 }
 
-/// For unparsing, whether an element does not occur exactly once, may be nil or has a default.
-fn is_later_element(purpose: Purpose, facts: Facts<'_>) -> bool
-    ensures { result ≡ spec.is_later_element purpose (facts_judged_of facts.entry) }
+/// Whether an element is built later: for parsing, one with a default that some of its occurrences take and others don't; for
+/// unparsing, one that does not occur exactly once, may be nil or has a default.
+fn is_later_element(subject: &Subject<'_, '_, '_>) -> bool
+    ensures { result ≡ spec.is_later_element subject.now.purpose (judged_of subject.now) }
 {
-    match purpose {
-        Purpose::Parsing => false,
+    let facts = subject.facts;
+    match subject.purpose {
+        Purpose::Parsing => facts.default.is_some() && is_required(subject) && is_tried(subject),
         Purpose::Unparsing => {
             !is_once(facts.bounds) || facts.is_nillable || facts.default.is_some()
         }

@@ -13,7 +13,7 @@ pub(crate) fn applicabilities() -> &'static [Applicability]
     &APPLICABILITIES
 }
 
-static APPLICABILITIES: [Applicability; 72] = [
+static APPLICABILITIES: [Applicability; 73] = [
     Applicability {
         name: "representation",
         bearers: Bearers::RepresentedElements,
@@ -243,9 +243,15 @@ static APPLICABILITIES: [Applicability; 72] = [
         unparsing: Built::NoValue,
     },
     Applicability {
+        name: "choiceDispatchKey",
+        bearers: Bearers::Choices,
+        parsing: Built::NoValue,
+        unparsing: Built::NoValue,
+    },
+    Applicability {
         name: "occursCountKind",
         bearers: Bearers::CountedElements,
-        parsing: Built::Words(&["fixed"]),
+        parsing: Built::Words(&["fixed", "implicit", "parsed"]),
         unparsing: Built::NoValue,
     },
     Applicability {

@@ -8,7 +8,7 @@ ghost use Rattle.dfdl_checks.specs.Numbers.{primitive_of};
 ghost use Rattle.dfdl_checks.specs.Representations as tried;
 ghost use Rattle.dfdl_terms.specs.Rows.{IsPrimitive};
 
-use crate::defaults::empty_value;
+use crate::defaults::{default_of, empty_value};
 use crate::delimiters::is_empty_delimited;
 use crate::kinds::is_string_or_bytes;
 use crate::nil_values::nil_values;
@@ -121,7 +121,7 @@ fn are_several(subject: &Subject<'_, '_, '_>) -> bool
 {
     is_nillable(subject)
         || is_string_or_bytes(subject.kind)
-        || subject.facts.default.is_some()
+        || default_of(subject).is_some()
         || is_empty_delimited(subject)
 }
 

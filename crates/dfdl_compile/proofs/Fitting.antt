@@ -11,6 +11,7 @@ use Rattle.dfdl_components.specs.Globals.{site}
 use Rattle.dfdl_components.specs.Sites.{IsSite, nodes_of, role_of}
 use Rattle.dfdl_components.specs.Recursion.{count_of, number_of}
 use Rattle.dfdl_checks.specs.declared.purpose.Purpose.{Purpose}
+use Rattle.dfdl_checks.specs.declared.purpose.Purpose.TheVariants.{Parsing, Unparsing}
 use Rattle.dfdl_checks.specs.declared.subject.Kind.{Kind}
 use Rattle.dfdl_checks.specs.declared.subject.Kind.TheVariants as kind
 use Rattle.dfdl_chains.specs.declared.typed.Typed.{Typed}
@@ -26,13 +27,15 @@ use Rattle.dfdl_breaches.specs.Judging.{judgement_at}
 use Rattle.dfdl_compile.specs.Primitives.{primitive_by}
 use Rattle.dfdl_rows.specs.Components.{Schema, AreOfOne, CanHave}
 use Rattle.dfdl_terms.specs.Framing.{no_fill}
+use Rattle.dfdl_terms.specs.declared.framing.Framing.{Framing}
+use Rattle.dfdl_rows.specs.declared.component.Separated.{Separated}
 use Rattle.dfdl_rows.specs.declared.component.Component.{Component}
 use Rattle.dfdl_rows.specs.declared.component.Component.TheVariants.{Sequence}
 use Rattle.dfdl_rows.specs.declared.refusal.Refusal.{Refusal}
 use Rattle.dfdl_report.specs.declared.place.Place.{Place}
 use Rattle.dfdl_breaches.specs.Elements.{place_of}
 use Rattle.dfdl_compile.specs.Delimiters.{separated_by}
-use Rattle.dfdl_compile.specs.Components.{refusal_at, component_by, component_at, element_name, empty_number, framing_of, nil_number, part_numbers, prefix_by, prefix_number, separator_number, tried_by, components_of}
+use Rattle.dfdl_compile.specs.Components.{refusal_at, choice_by, component_by, component_at, element_name, empty_number, framing_of, nil_number, part_numbers, prefix_by, prefix_number, separator_number, tried_by, components_of}
 
 -- a list that is made from one that is made
 pub twice : {X Y Z : Type 0} (g : Y → Z) (f : X → Y) (xs : List X) → map g (map f xs) ≡ map (λ x. g (f x)) xs
@@ -92,7 +95,7 @@ fits P f g holds a b (x ∷ xs) (suc c) less = fits P f g holds a b xs c (omega 
 module _ (purpose : Purpose) (refused : Site → Bool) (documents : List SchemaDocument) (own : Site) where
   -- the element or group of this kind that an element of the documents is
   abbrev pub of_kind : Kind → Component
-  of_kind kind = component_by (element_name documents own) (primitive_by (judgement_at purpose refused documents own)) (number_of documents own)
+  of_kind kind = component_by purpose (element_name documents own) (primitive_by (judgement_at purpose refused documents own)) (number_of documents own)
       (framing_of documents own (judgement_at purpose refused documents own)) (judgement_at purpose refused documents own).size
       (option_map (prefix_by (prefix_number documents own)) (judgement_at purpose refused documents own).prefix)
       (tried_by (nil_number documents own) (empty_number documents own) (judgement_at purpose refused documents own).others)
@@ -111,9 +114,15 @@ module _ (purpose : Purpose) (refused : Site → Bool) (documents : List SchemaD
   typed_fits NotCarried = refl
   typed_fits (Defined type) = refl
 
+  choice_fits : (q : Purpose) (framing : Framing) (separated : Option Separated) (parts : List ℕ) → CanHave (choice_by q framing separated) parts
+  choice_fits Parsing framing separated parts = tt
+  choice_fits Unparsing framing separated parts = tt
+
   group_fits : (k : Kind) (r : Role) → k ≡ kind_of_group r → (parts : List ℕ) → CanHave (of_kind k) parts
   group_fits kind.Sequence r is parts = tt
-  group_fits kind.Choice r is parts = tt
+  group_fits kind.Choice r is parts =
+      choice_fits purpose (framing_of documents own (judgement_at purpose refused documents own))
+      (option_map (separated_by (separator_number documents own)) (judgement_at purpose refused documents own).markup.separator) parts
   group_fits kind.ComplexElement role.Choice is parts = absurd (cc)
   group_fits kind.ComplexElement _ is parts = absurd (cc)
   group_fits (kind.SimpleElement simple) role.Choice is parts = absurd (cc)
@@ -131,6 +140,7 @@ module _ (purpose : Purpose) (refused : Site → Bool) (documents : List SchemaD
   role_fits role.LocalElement = typed_fits (type_of documents own)
   role_fits role.ElementReference = typed_fits (type_of documents own)
   role_fits role.GroupReference = content_fits (group_content documents own) (map (number_of documents) (parts_by documents own role.GroupReference))
+  role_fits role.Choice = group_fits kind.Choice role.Choice refl (map (number_of documents) (parts_by documents own role.Choice))
   role_fits _ = tt
 
   pub can_have : CanHave (component_at purpose refused documents own) (part_numbers documents own)

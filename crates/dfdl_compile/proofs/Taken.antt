@@ -19,7 +19,7 @@ use Rattle.dfdl_checks.specs.declared.tried.OtherRepresentations.{OtherRepresent
 use Rattle.dfdl_checks.specs.declared.delimiters.Delimiting.{Delimiting}
 use Rattle.dfdl_checks.specs.declared.delimiters.Separating.{Separating}
 use Rattle.dfdl_checks.specs.declared.purpose.Purpose.{Purpose}
-use Rattle.dfdl_checks.specs.declared.purpose.Purpose.TheVariants.{Unparsing}
+use Rattle.dfdl_checks.specs.declared.purpose.Purpose.TheVariants.{Parsing, Unparsing}
 use Rattle.dfdl_checks.specs.declared.subject.Kind.{Kind}
 use Rattle.dfdl_checks.specs.declared.subject.Kind.TheVariants as kind
 use Rattle.dfdl_chains.specs.declared.typed.Typed.{Typed}
@@ -37,21 +37,23 @@ use Rattle.dfdl_terms.specs.Framing.{no_fill}
 use Rattle.dfdl_terms.specs.Tables.{Named}
 use Rattle.dfdl_terms.specs.declared.delimiters.Delimiters.{Delimiters}
 use Rattle.dfdl_terms.specs.declared.framing.Framing.{Framing}
+use Rattle.dfdl_terms.specs.declared.occurs.Occurs.{Occurs}
 use Rattle.dfdl_terms.specs.declared.prefix.Prefix.{Prefix}
 use Rattle.dfdl_terms.specs.declared.representations.Representations.{Representations}
 use Rattle.dfdl_terms.specs.Rows.{AreWithin, HasElementLast, IsElementRow, IsPrimitive, IsWithin, Table}
 use Rattle.dfdl_terms.specs.declared.row.Primitive.{Primitive}
 use Rattle.dfdl_terms.specs.declared.row.Row.{Row}
-use Rattle.dfdl_terms.specs.declared.row.Row.TheVariants.{Leaf, Elem, Group, Skip, Align, Initiator, Terminator, Separator, Scope, Boxed, PrefixedLeaf, PrefixedBox, Repeat}
+use Rattle.dfdl_terms.specs.declared.row.Row.TheVariants.{Leaf, Elem, Group, Skip, Align, Initiator, Terminator, Separator, Scope, Boxed, PrefixedLeaf, PrefixedBox, Repeat, Optional, Choice}
 use Rattle.dfdl_rows.specs.Answers.{EndsWith}
 use Rattle.dfdl_rows.specs.Components.{Schema, HasDelimiters, HasList, HasPrimitive, HasBoxPrimitive, HasPrefixPrimitive, HasSeparators, IsBareComponent, component_at as part_at}
 use Rattle.dfdl_rows.specs.Framing.{has_framing}
+use Rattle.dfdl_rows.specs.declared.component.Separated.{Separated}
 use Rattle.dfdl_rows.specs.Leaves.{HaveLeaves, HaveBareLeaves, IsAmong, IsLeafOf}
 use Rattle.dfdl_rows.specs.declared.component.ContentBox.TheVariants.{Unbounded}
 use Rattle.dfdl_rows.specs.declared.component.Component.{Component}
 use Rattle.dfdl_rows.specs.declared.component.Component.TheVariants.{Sequence, SimpleElement}
 use Rattle.dfdl_breaches.specs.Roots.{is_global_element}
-use Rattle.dfdl_compile.specs.Components.{box_by, component_at, components_of, delimiters_of, empty_number, empty_primitive_at, framing_of, initiator_list_at, named_of, nil_number, nil_primitive_at, number_if, prefix_by, prefix_number, prefix_primitive_at, primitive_at, primitives_of, separator_list_at, separator_number, terminator_list_at, terminator_number, tried_by}
+use Rattle.dfdl_compile.specs.Components.{box_by, choice_by, component_at, components_of, delimiters_of, empty_number, empty_primitive_at, framing_of, initiator_list_at, named_of, nil_number, nil_primitive_at, number_if, prefix_by, prefix_number, prefix_primitive_at, primitive_at, primitives_of, separator_list_at, separator_number, terminator_list_at, terminator_number, tried_by}
 use Rattle.dfdl_compile.specs.Delimiters.{delimiter_by, initiator_list_by, separated_by, separator_list_by, terminator_list_by}
 use Rattle.dfdl_compile.specs.Primitives.{HasTypedLeaves, HasBareTypedLeaves, HasWrittenText, IsLeafOfType, IsOfType, a_byte, empty_primitive_by, nil_primitive_by, prefix_primitive_by, primitive_by, primitive_if}
 use Rattle.dfdl_compile.proofs.Fitting.{all_within, each, made, made_is, of_kind, twice}
@@ -290,12 +292,17 @@ module _ (purpose : Purpose) (refused : Site → Bool) (documents : List SchemaD
       by_box None None = tt
       by_box None (Some form) = prefix_below
 
+      by_choice : (q : Purpose) (framing : Framing) (own : Option Separated) → HasPrimitive count (choice_by q framing own)
+      by_choice Parsing framing own = tt
+      by_choice Unparsing framing own = tt
+
       by_kind : (k : Kind) → HasPrimitive count (of_kind purpose refused documents own k)
       by_kind kind.ComplexElement = by_box (judgement_at purpose refused documents own).size (judgement_at purpose refused documents own).prefix
       by_kind (kind.SimpleElement simple) = (own_below, by_prefix (judgement_at purpose refused documents own).prefix, by_others (judgement_at purpose refused documents own).others)
       by_kind kind.UncarriedElement = (own_below, by_prefix (judgement_at purpose refused documents own).prefix, by_others (judgement_at purpose refused documents own).others)
       by_kind kind.Sequence = tt
-      by_kind kind.Choice = tt
+      by_kind kind.Choice = by_choice purpose (framing_of documents own (judgement_at purpose refused documents own))
+          (option_map (separated_by (separator_number documents own)) (judgement_at purpose refused documents own).markup.separator)
       by_kind (kind.PrefixNumber simple) = tt
 
   -- the primitives of each component are in the table
@@ -338,12 +345,17 @@ module _ (purpose : Purpose) (refused : Site → Bool) (documents : List SchemaD
           let below = number_below documents own within in
           by_separator (separator_number documents own) (omega (arith, below)) (judgement_at purpose refused documents own).markup.separator
 
+      by_choice : (q : Purpose) → HasDelimiters count_lists (choice_by q (framing_of documents own (judgement_at purpose refused documents own))
+          (option_map (separated_by (separator_number documents own)) (judgement_at purpose refused documents own).markup.separator))
+      by_choice Parsing = (initiated, terminated, tt)
+      by_choice Unparsing = (initiated, terminated, separated)
+
       by_kind : (k : Kind) → HasDelimiters count_lists (of_kind purpose refused documents own k)
       by_kind kind.ComplexElement = (initiated, terminated, tt)
       by_kind (kind.SimpleElement simple) = (initiated, terminated, tt)
       by_kind kind.UncarriedElement = (initiated, terminated, tt)
       by_kind kind.Sequence = (initiated, terminated, separated)
-      by_kind kind.Choice = (initiated, terminated, separated)
+      by_kind kind.Choice = by_choice purpose
       by_kind (kind.PrefixNumber simple) = (initiated, terminated, separated)
 
   -- there are three lists of delimiters for each element
@@ -370,18 +382,23 @@ module _ (purpose : Purpose) (refused : Site → Bool) (documents : List SchemaD
       (all_sites documents) (all_within documents)))
 
   -- a component that is a simple element has the type of its primitive, and the primitive's number
-  typed_component : (own : Site) (name : List ℕ) (simple : Simple) (prim : ℕ) (framing : Framing) (prefix : Option Prefix) (tried : Representations) (scanned : Bool) (occurs : ℕ)
+  typed_component : (own : Site) (name : List ℕ) (simple : Simple) (prim : ℕ) (framing : Framing) (prefix : Option Prefix) (tried : Representations) (scanned : Bool) (occurs : Occurs)
       → component_at purpose refused documents own ≡ SimpleElement name simple prim framing prefix tried scanned occurs
       → (type_of (primitive_at purpose refused documents own) ≡ simple) × (number_of documents own ≡ prim)
   typed_component own name simple prim framing prefix tried scanned occurs = by_kind (kind_at documents own)
     where
+      no_choice : (q : Purpose) (f : Framing) (separated : Option Separated) → choice_by q f separated ≡ SimpleElement name simple prim framing prefix tried scanned occurs → ⊥
+      no_choice Parsing f separated is = absurd (cc)
+      no_choice Unparsing f separated is = absurd (cc)
+
       by_kind : (k : Kind) → of_kind purpose refused documents own k ≡ SimpleElement name simple prim framing prefix tried scanned occurs
           → (type_of (primitive_at purpose refused documents own) ≡ simple) × (number_of documents own ≡ prim)
       by_kind kind.ComplexElement is = absurd (cc)
       by_kind (kind.SimpleElement other) is = (cc, cc)
       by_kind kind.UncarriedElement is = (cc, cc)
       by_kind kind.Sequence is = absurd (cc)
-      by_kind kind.Choice is = absurd (cc)
+      by_kind kind.Choice is = absurd (no_choice purpose (framing_of documents own (judgement_at purpose refused documents own))
+          (option_map (separated_by (separator_number documents own)) (judgement_at purpose refused documents own).markup.separator) is)
       by_kind (kind.PrefixNumber other) is = absurd (cc)
 
   -- the primitive of an element stands at the element's number
@@ -433,6 +450,8 @@ module _ (purpose : Purpose) (refused : Site → Bool) (documents : List SchemaD
   leaf_typed simple (Some (PrefixedLeaf prefix prim)) one = absurd one
   leaf_typed simple (Some (PrefixedBox prefix inside)) one = absurd one
   leaf_typed simple (Some (Repeat count inside)) one = absurd one
+  leaf_typed simple (Some (Optional most item inside)) one = absurd one
+  leaf_typed simple (Some (Choice branches)) one = absurd one
   leaf_typed simple None one = absurd one
 
   -- what the body of a simple element reads has the element's type
@@ -461,21 +480,22 @@ module _ (purpose : Purpose) (refused : Site → Bool) (documents : List SchemaD
       (leaf_typed simple (slice_get t.rows body)
       (subst (λ (s : Schema). IsLeafOf s.components simple (slice_get t.rows body)) schema_is (leaves row name simple tried body is)))
 
--- neither fill nor a delimiter nor a separator nor a box nor a length prefix is told of an element, and it occurs once
+-- neither fill nor a delimiter nor a separator nor a box nor a length prefix is told of an element, and it occurs once, which isn't tried
 record IsBare (documents : List SchemaDocument) (own : Site) (told : Judgement) : Type 0 where
   unframed : has_framing (framing_of documents own told) ≡ false
   unboxed : told.size ≡ None
   unprefixed : told.prefix ≡ None
   unseparated : told.markup.separator ≡ None
-  once : told.occurs ≤ 1
+  once : told.occurs.least ≤ 1
+  untried : told.occurs.further ≡ 0
 
 -- no component has any of them for unparsing
 module _ (refused : Site → Bool) (documents : List SchemaDocument)
     (none : (refused : Site → Bool) (documents : List SchemaDocument) (own : Site) → form_of_prefix Unparsing refused documents own ≡ None) where
   bare_by : (own : Site) (b : Bool) → IsBare documents own (judgement_if Unparsing refused documents own b)
   unfolding judgement_if
-  bare_by own true = record { unframed = refl; unboxed = refl; unprefixed = none refused documents own; unseparated = refl; once = omega arith }
-  bare_by own false = record { unframed = refl; unboxed = refl; unprefixed = refl; unseparated = refl; once = omega arith }
+  bare_by own true = record { unframed = refl; unboxed = refl; unprefixed = none refused documents own; unseparated = refl; once = omega arith; untried = refl }
+  bare_by own false = record { unframed = refl; unboxed = refl; unprefixed = refl; unseparated = refl; once = omega arith; untried = refl }
 
   bare_judgement : (own : Site) → IsBare documents own (judgement_at Unparsing refused documents own)
   unfolding judgement_at judgement_if
@@ -512,12 +532,12 @@ module _ (refused : Site → Bool) (documents : List SchemaDocument)
       unseparated = by_separator (judgement_at Unparsing refused documents own).markup.separator told.unseparated
 
       by_kind : (k : Kind) → IsBareComponent (of_kind Unparsing refused documents own k)
-      by_kind kind.ComplexElement = record { unframed = told.unframed; unboxed = unboxed; unprefixed = refl; unseparated = refl; once = told.once }
-      by_kind (kind.SimpleElement simple) = record { unframed = told.unframed; unboxed = refl; unprefixed = unprefixed; unseparated = refl; once = told.once }
-      by_kind kind.UncarriedElement = record { unframed = told.unframed; unboxed = refl; unprefixed = unprefixed; unseparated = refl; once = told.once }
-      by_kind kind.Sequence = record { unframed = told.unframed; unboxed = refl; unprefixed = refl; unseparated = unseparated; once = omega arith }
-      by_kind kind.Choice = record { unframed = told.unframed; unboxed = refl; unprefixed = refl; unseparated = unseparated; once = omega arith }
-      by_kind (kind.PrefixNumber simple) = record { unframed = told.unframed; unboxed = refl; unprefixed = refl; unseparated = unseparated; once = omega arith }
+      by_kind kind.ComplexElement = record { unframed = told.unframed; unboxed = unboxed; unprefixed = refl; unseparated = refl; unchosen = refl; once = told.once; untried = told.untried }
+      by_kind (kind.SimpleElement simple) = record { unframed = told.unframed; unboxed = refl; unprefixed = unprefixed; unseparated = refl; unchosen = refl; once = told.once; untried = told.untried }
+      by_kind kind.UncarriedElement = record { unframed = told.unframed; unboxed = refl; unprefixed = unprefixed; unseparated = refl; unchosen = refl; once = told.once; untried = told.untried }
+      by_kind kind.Sequence = record { unframed = told.unframed; unboxed = refl; unprefixed = refl; unseparated = unseparated; unchosen = refl; once = omega arith; untried = refl }
+      by_kind kind.Choice = record { unframed = told.unframed; unboxed = refl; unprefixed = refl; unseparated = unseparated; unchosen = refl; once = omega arith; untried = refl }
+      by_kind (kind.PrefixNumber simple) = record { unframed = told.unframed; unboxed = refl; unprefixed = refl; unseparated = unseparated; unchosen = refl; once = omega arith; untried = refl }
 
   pub bare_components : (purpose : Purpose) (schema : Schema) → purpose ≡ Unparsing → schema ≡ components_of purpose refused documents → All IsBareComponent schema.components
   unfolding components_of

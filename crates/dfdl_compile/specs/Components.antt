@@ -10,6 +10,7 @@ use Rattle.dfdl_checks.specs.Numbers.{type_of}
 use Rattle.dfdl_checks.specs.declared.tried.OtherRepresentations.{OtherRepresentations}
 use Rattle.dfdl_checks.specs.declared.prefixes.PrefixForm.{PrefixForm}
 use Rattle.dfdl_checks.specs.declared.purpose.Purpose.{Purpose}
+use Rattle.dfdl_checks.specs.declared.purpose.Purpose.TheVariants.{Parsing, Unparsing}
 use Rattle.dfdl_checks.specs.declared.subject.Breach.{Breach}
 use Rattle.dfdl_checks.specs.declared.subject.Kind.{Kind}
 use Rattle.dfdl_checks.specs.declared.subject.Kind.TheVariants as kind
@@ -21,6 +22,7 @@ use Rattle.dfdl_breaches.specs.declared.judgement.Judgement.{Judgement}
 use Rattle.dfdl_breaches.specs.Elements.{place_of}
 use Rattle.dfdl_breaches.specs.Judging.{judgement_at}
 use Rattle.dfdl_terms.specs.declared.framing.Framing.{Framing}
+use Rattle.dfdl_terms.specs.declared.occurs.Occurs.{Occurs}
 use Rattle.dfdl_terms.specs.declared.prefix.Prefix.{Prefix}
 use Rattle.dfdl_terms.specs.declared.representations.Representations.{Representations}
 use Rattle.dfdl_terms.specs.declared.row.Primitive.{Primitive}
@@ -28,7 +30,7 @@ use Rattle.dfdl_rows.specs.Components.{Schema}
 use Rattle.dfdl_rows.specs.declared.component.ContentBox.{ContentBox}
 use Rattle.dfdl_rows.specs.declared.component.ContentBox.TheVariants.{Unbounded, Sized, Prefixed}
 use Rattle.dfdl_rows.specs.declared.component.Component.{Component}
-use Rattle.dfdl_rows.specs.declared.component.Component.TheVariants.{Sequence, ComplexElement, SimpleElement}
+use Rattle.dfdl_rows.specs.declared.component.Component.TheVariants.{Sequence, Choice, ComplexElement, SimpleElement}
 use Rattle.dfdl_rows.specs.declared.component.Separated.{Separated}
 use Rattle.dfdl_rows.specs.declared.refusal.Refusal.{Refusal}
 use Rattle.dfdl_terms.specs.declared.delimiters.Delimiters.{Delimiters}
@@ -93,29 +95,34 @@ box_by (Some bits) prefix = Sized bits
 box_by None (Some prefix) = Prefixed prefix
 box_by None None = Unbounded
 
+-- a choice with this framing and these separators: for unparsing it is refused, and stands for a group with nothing of its own
+abbrev pub choice_by : Purpose → Framing → Option Separated → Component
+choice_by Parsing framing separated = Choice framing
+choice_by Unparsing framing separated = Sequence framing separated
+
 -- an element or a group, of which this is its name, how its values lie in the data, its number, what frames its content and the box
 -- around it, its length prefix, the representations that are tried before its normal one, its separators, and how often it occurs
-abbrev pub component_by : List ℕ → Primitive → ℕ → Framing → Option ℕ → Option Prefix → Representations → Option Separated → ℕ → Kind → Component
-component_by name primitive number framing size prefix tried separated occurs kind.ComplexElement = ComplexElement name framing (box_by size prefix) occurs
-component_by name primitive number framing size prefix tried separated occurs (kind.SimpleElement simple) =
+abbrev pub component_by : Purpose → List ℕ → Primitive → ℕ → Framing → Option ℕ → Option Prefix → Representations → Option Separated → Occurs → Kind → Component
+component_by purpose name primitive number framing size prefix tried separated occurs kind.ComplexElement = ComplexElement name framing (box_by size prefix) occurs
+component_by purpose name primitive number framing size prefix tried separated occurs (kind.SimpleElement simple) =
     SimpleElement name (type_of primitive) number framing prefix tried (is_scanned primitive) occurs
-component_by name primitive number framing size prefix tried separated occurs kind.UncarriedElement =
+component_by purpose name primitive number framing size prefix tried separated occurs kind.UncarriedElement =
     SimpleElement name (type_of primitive) number framing prefix tried (is_scanned primitive) occurs
-component_by name primitive number framing size prefix tried separated occurs kind.Sequence = Sequence framing separated
-component_by name primitive number framing size prefix tried separated occurs kind.Choice = Sequence framing separated
-component_by name primitive number framing size prefix tried separated occurs (kind.PrefixNumber simple) = Sequence framing separated
+component_by purpose name primitive number framing size prefix tried separated occurs kind.Sequence = Sequence framing separated
+component_by purpose name primitive number framing size prefix tried separated occurs kind.Choice = choice_by purpose framing separated
+component_by purpose name primitive number framing size prefix tried separated occurs (kind.PrefixNumber simple) = Sequence framing separated
 
--- what an element of the documents is, of which this is told
-abbrev pub component_with : List SchemaDocument → Site → Judgement → Component
-component_with documents own judgement =
-    component_by (element_name documents own) (primitive_by judgement) (number_of documents own) (framing_of documents own judgement) judgement.size
+-- what an element of the documents is for a purpose, of which this is told
+abbrev pub component_with : Purpose → List SchemaDocument → Site → Judgement → Component
+component_with purpose documents own judgement =
+    component_by purpose (element_name documents own) (primitive_by judgement) (number_of documents own) (framing_of documents own judgement) judgement.size
     (option_map (prefix_by (prefix_number documents own)) judgement.prefix)
     (tried_by (nil_number documents own) (empty_number documents own) judgement.others)
     (option_map (separated_by (separator_number documents own)) judgement.markup.separator) judgement.occurs (kind_at documents own)
 
 -- what an element of the documents is
 abbrev pub component_at : Purpose → (Site → Bool) → List SchemaDocument → Site → Component
-component_at purpose refused documents own = component_with documents own (judgement_at purpose refused documents own)
+component_at purpose refused documents own = component_with purpose documents own (judgement_at purpose refused documents own)
 
 -- the numbers of the parts of a component
 abbrev pub part_numbers : List SchemaDocument → Site → List ℕ

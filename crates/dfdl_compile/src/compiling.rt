@@ -80,7 +80,14 @@ fn gather(
     ensures only_memory { IfErr result (λ e. e ≡ OutOfMemory) }
 {
     let sites = all_sites(alloc, schema)?;
-    let components = components(alloc, schema, numbers, sites.as_slice(), judgements)?;
+    let components = components(
+        alloc,
+        schema,
+        numbers,
+        purpose,
+        sites.as_slice(),
+        judgements,
+    )?;
     let refusals = refusals(alloc, judgements)?;
     let places = places(alloc, schema, sites.as_slice())?;
     let Ok(uses) = uses(alloc, schema, numbers, sites.as_slice()) else {

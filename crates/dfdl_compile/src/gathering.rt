@@ -7,7 +7,6 @@ ghost use Rattle.dfdl_chains.specs.Kinds.{kind_at};
 ghost use Rattle.dfdl_chains.specs.Shown.{AreNumbers};
 ghost use Rattle.dfdl_breaches.specs.Elements.{place_of};
 ghost use Rattle.dfdl_breaches.specs.Judging.{judgement_at};
-ghost use Rattle.dfdl_checks.specs.declared.purpose.Purpose as declared_purpose;
 ghost use Rattle.dfdl_components.specs.declared.site.Site as declared_site;
 ghost use Rattle.dfdl_compile.specs.Components as spec;
 ghost use Rattle.dfdl_compile.specs.Delimiters as delimiters;
@@ -16,7 +15,7 @@ ghost use Rattle.dfdl_compile.specs.Primitives.{primitive_by};
 use crate::primitives::{is_scanned_by, type_by};
 use dfdl_breaches::Judgement;
 use dfdl_chains::{Numbers, declaration, kind_at, parts_at};
-use dfdl_checks::{Breach, Delimiting, Kind, OtherRepresentations};
+use dfdl_checks::{Breach, Delimiting, Kind, OtherRepresentations, Purpose};
 use dfdl_components::{Schema, Site};
 use dfdl_constructs::plain;
 use dfdl_order::{OrderFault, Uses};
@@ -135,9 +134,25 @@ struct Numbered {
     separated: Option<Separated>,
 }
 
-// An element or a group of this name, of which this is told, with what names things in the tables.
-fn component_by(name: TextValue, judgement: &Judgement, numbered: Numbered, kind: Kind) -> Component
-    ensures { result ≡ spec.component_by name (primitive_by judgement.now) numbered.prim numbered.framing judgement.now.size numbered.prefix numbered.tried
+// A choice with this framing and these separators. For unparsing it is refused.
+fn choice_by(purpose: Purpose, framing: Framing, separated: Option<Separated>) -> Component
+    ensures { result ≡ spec.choice_by purpose framing separated }
+{
+    match purpose {
+        Purpose::Parsing => Component::Choice { framing },
+        Purpose::Unparsing => Component::Sequence { framing, separated },
+    }
+}
+
+// An element or a group of this name, of which this is told for a purpose, with what names things in the tables.
+fn component_by(
+    purpose: Purpose,
+    name: TextValue,
+    judgement: &Judgement,
+    numbered: Numbered,
+    kind: Kind,
+) -> Component
+    ensures { result ≡ spec.component_by purpose name (primitive_by judgement.now) numbered.prim numbered.framing judgement.now.size numbered.prefix numbered.tried
         numbered.separated judgement.now.occurs kind }
 {
     let simple = type_by(judgement);
@@ -178,7 +193,7 @@ fn component_by(name: TextValue, judgement: &Judgement, numbered: Numbered, kind
             occurs,
         },
         Kind::Sequence => Component::Sequence { framing, separated },
-        Kind::Choice => Component::Sequence { framing, separated },
+        Kind::Choice => choice_by(purpose, framing, separated),
         Kind::PrefixNumber(_) => Component::Sequence { framing, separated },
     }
 }
@@ -244,43 +259,46 @@ fn by_numbers(
     })
 }
 
-// What an element of the documents is, of which this is told.
+// What an element of the documents is for a purpose, of which this is told.
 fn component_with(
     alloc: Global,
     schema: &Schema,
     numbers: &Numbers,
+    purpose: Purpose,
     site: Site,
     judgement: &Judgement,
 ) -> Result<Component, AllocError>
     requires site { IsSite schema.now site }
     requires numbers { AreNumbers schema.now numbers.now }
-    ensures { IfOk result (λ component. component ≡ spec.component_with schema.now site judgement.now) }
+    ensures { IfOk result (λ component. component ≡ spec.component_with purpose schema.now site judgement.now) }
 {
     let name = element_name(alloc, schema, site)?;
     let numbered = by_numbers(schema, numbers, site, judgement)?;
     let kind = kind_at(schema, numbers, site);
-    Ok(component_by(name, judgement, numbered, kind))
+    Ok(component_by(purpose, name, judgement, numbered, kind))
 }
 
-/// What each element of the documents is.
+/// What each element of the documents is for a purpose.
 pub(crate) fn components(
     alloc: Global,
     schema: &Schema,
     numbers: &Numbers,
+    purpose: Purpose,
     sites: &[Site],
     judgements: &[Judgement],
 ) -> Result<Vec<Component>, AllocError>
     requires sites { All (IsSite schema.now) sites.now }
     requires numbers { AreNumbers schema.now numbers.now }
     requires told { length judgements.now ≡ length sites.now }
-    ensures { (purpose : declared_purpose.Purpose) (refused : declared_site.Site → Bool)
+    ensures { (refused : declared_site.Site → Bool)
         → judgements.now ≡ map (judgement_at purpose refused schema.now) sites.now
         → IfOk result (λ made. made.items ≡ map (spec.component_at purpose refused schema.now) sites.now) }
 {
     let mut made = Vec::new(alloc);
     for at in 0..sites.len() {
         let site = sites[at];
-        made.push(component_with(alloc, schema, numbers, site, &judgements[at])?)?;
+        let component = component_with(alloc, schema, numbers, purpose, site, &judgements[at])?;
+        made.push(component)?;
     }
     Ok(made)
 }

@@ -11,7 +11,7 @@ use Rattle.dfdl_terms.specs.declared.representations.Representations.{Representa
 use Rattle.dfdl_value.specs.declared.value.Value.{Value}
 use Rattle.dfdl_terms.specs.declared.row.Primitive.{Primitive}
 use Rattle.dfdl_terms.specs.declared.row.Row.{Row}
-use Rattle.dfdl_terms.specs.declared.row.Row.TheVariants.{Leaf, Elem, Group, Skip, Align, Initiator, Terminator, Separator, Scope, Boxed, PrefixedLeaf, PrefixedBox, Repeat}
+use Rattle.dfdl_terms.specs.declared.row.Row.TheVariants.{Leaf, Elem, Group, Skip, Align, Initiator, Terminator, Separator, Scope, Boxed, PrefixedLeaf, PrefixedBox, Repeat, Optional, Choice as ChoiceRow}
 use Rattle.dfdl_terms.specs.Leaves.{ReadsBy, leaf as by_leaf, prefixed as by_prefix, grouped, scoped as scoped_reads}
 use Rattle.dfdl_terms.specs.Rows.{AreWithin, IsWithin, NamesWithin, Nests, Table, named_by}
 use Rattle.dfdl_region.specs.declared.node.Content.{Content}
@@ -33,17 +33,21 @@ use Rattle.dfdl_grammar.specs.Leaves.{Find, Fails, Finds, FindsOctets, FindsText
 use Rattle.dfdl_grammar.specs.Framing.{aligned, fill_to, has_byte, passed}
 use Rattle.dfdl_grammar.specs.Delimiters.{closes_to, lists_of, markup, opens, scoped, unscoped}
 use Rattle.dfdl_grammar.specs.Boxes.{boxed, boxed_at, bytes_up_to, pass_bytes, past_byte, rest as rest_of, unboxed}
+use Rattle.dfdl_grammar.specs.Choices.{choice}
+use Rattle.dfdl_grammar.specs.Marks.{closed, pointed}
+use Rattle.dfdl_grammar.specs.Occurrences.{occurrences}
 use Rattle.dfdl_grammar.specs.Elements.{attempted, begun, close, element, left}
 use Rattle.dfdl_grammar.specs.Prefixes.{bits_of_units, leaf_of, prefixed, prefixed_leaf, resized, size_of, sized_leaf}
 use Rattle.dfdl_grammar.specs.Rows.{below, group, meaning, row, row_at}
 use Rattle.dfdl_grammar.specs.Trees.{AreRead, HasLeaves, IsInTables}
-use Rattle.dfdl_grammar.proofs.Fine.{Fills, Fine, IsRead, Reads, aside, both, closed_fine, element-ends, fine, moved, put_read, read_before, read_behind, same_or, unmarked}
+use Rattle.dfdl_grammar.proofs.Fine.{Fills, Fine, IsRead, Reads, aside, both, closed_fine, element-ends, fine, moved, put_read, read_as, read_before, read_behind, same_or, unmarked}
 use Rattle.dfdl_grammar.proofs.Towers.{below-meaning}
 use Rattle.dfdl_grammar.proofs.Found.{value-for, whole-told}
 use Rattle.dfdl_grammar.proofs.Going.{below-goes, tried-returns, tried-stays}
 use Rattle.dfdl_grammar.proofs.Grown.{Ends, Goes, Stays}
 use Rattle.dfdl_grammar.proofs.Prefixed.{prefixed-comes}
-use Rattle.dfdl_grammar.proofs.Represented.{IsOk, marked_by, represented-comes}
+use Rattle.dfdl_grammar.proofs.Pointed.{choice-comes, occurrence-comes}
+use Rattle.dfdl_grammar.proofs.Represented.{IsOk, marked_by, pointed_by, represented-comes}
 use Rattle.dfdl_grammar.proofs.Sought.{initiator-comes, separator-comes, terminator-comes}
 
 -- a primitive of so many
@@ -240,12 +244,30 @@ module _ (input : Input) (table : Table) (leaves : HasLeaves table) where
       → ((instead : Instead) → IsKnown instead → Fills (attempted input id complex body instead)) → IsOk IsKnown Nil tried.nil → IsOk IsKnown Empty tried.empty
       → Fills (element input id complex tried body)
   element-fills id complex tried body goes fills nil_is empty_is s =
-      represented-comes (λ (e : End) (t : State). e ≡ Done → Fine s t) (λ (e : End) (t : State). e ≡ Done → Fine s t) s
+      represented-comes (λ (e : End) (t : State). e ≡ Done → Fine s t) (λ (instead : Instead) (e : End) (t : State). e ≡ Done → Fine s t) s
       (attempted input id complex body) IsKnown tt (fills Nothing tt s)
       (λ instead before known done.
-      unmarked s (attempted input id complex body instead (marked_by s before)).state before (fills instead known (marked_by s before) done))
-      (λ e t over done. closed_fine s t (over done)) (λ cause quantity t over. over)
-      (λ t over failed. absurd (cc)) (tried-stays input id complex body goes s) (tried-returns input id complex body goes s) tried nil_is empty_is
+      unmarked false s (attempted input id complex body instead (marked_by s before)).state before (fills instead known (marked_by s before) done))
+      (λ instead t over done. closed_fine s t (over done)) (λ cause bit t over done. absurd (cc)) (λ instead cause quantity t over. over)
+      (λ instead t over failed. absurd (cc)) (tried-stays input id complex body goes s) (tried-returns input id complex body goes s) tried nil_is empty_is
+
+  choice-fills : (child : ℕ → State → Outcome) → ((id : ℕ) → Fills (child id)) → ((id : ℕ) → Goes (child id)) → (ids : List ℕ) → Fills (choice child ids)
+  choice-fills child fills goes ids s =
+      choice-comes (λ (e : End) (t : State). e ≡ Done → Fine s t) (λ (e : End) (t : State). e ≡ Done → Fine s t) s
+      (λ t over done. closed_fine s t (over done)) (λ cause quantity t over. over) (λ before is done. absurd (cc)) child goes
+      (λ id before is done. unmarked true s (child id (pointed_by s before)).state before (fills id (pointed_by s before) done)) ids
+
+  occurrences-fill : (body : State → Outcome) → Fills body → Goes body → (left : ℕ) → Fills (occurrences body left)
+  unfolding occurrences
+  occurrences-fill body fills goes zero s done = fine s
+  occurrences-fill body fills goes (suc left) s done =
+      let o : Outcome = body (pointed s) in
+      occurrence-comes (λ (e : End) (t : State). e ≡ Done → Fine s t) s body goes (λ before is done. read_as s before) (occurrences body left)
+      (λ over done.
+      let first : Fine s o.state = unmarked true s o.state s.instead (fills (pointed s) over) in
+      both s (closed o.state) (occurrences body left (closed o.state)).state (closed_fine s o.state first)
+      (occurrences-fill body fills goes left (closed o.state) done))
+      (λ cause quantity stopped done. absurd (cc)) done
 
   group-fills : (child : ℕ → State → Outcome) → ((id : ℕ) → Fills (child id)) → (children : List ℕ) → Fills (group child children)
   group-fills child fills [] s done = fine s
@@ -430,6 +452,10 @@ module _ (input : Input) (table : Table) (leaves : HasLeaves table) where
         (λ units after. sized_leaf input table.delimiters nil primitive (size_of prefix.unit units) after)
         (λ units. sized-fills table.delimiters nil primitive (size_of prefix.unit units)) s done
     row-fills id fills (Some (Repeat count body)) is s done = group-fills (below input table id) (λ i. fills id (omega arith) i) (replicate count body) s done
+    row-fills id fills (Some (Optional most item body)) is s done =
+        occurrences-fill (below input table id body) (fills id (omega arith) body) (below-goes input table id body) most s done
+    row-fills id fills (Some (ChoiceRow branches)) is s done =
+        choice-fills (below input table id) (λ i. fills id (omega arith) i) (below-goes input table id) branches s done
     row-fills id fills (Some (PrefixedBox prefix body)) is s done =
         let inner : State → Outcome = below input table id body in
         prefixed-fills table.delimiters (slice_get table.primitives prefix.prim) prefix.own
@@ -437,15 +463,15 @@ module _ (input : Input) (table : Table) (leaves : HasLeaves table) where
         (λ units after. boxed-fills (bits_of_units prefix.unit units) inner (fills id (omega arith) body) after
         (nat_le (after.at + bits_of_units prefix.unit units) after.stop)) s done
 
-    choice-fills : (n id : ℕ) → FillBelow n → (s : State) (test : Bool)
+    below-fills : (n id : ℕ) → FillBelow n → (s : State) (test : Bool)
         → (cond test (row_at input table (below input table n) n s) (below input table n id s)).end ≡ Done
         → Fine s (cond test (row_at input table (below input table n) n s) (below input table n id s)).state
-    choice-fills n id fills s true done = row-fills n fills (slice_get table.rows n) refl s done
-    choice-fills n id fills s false done = fills n (omega arith) id s done
+    below-fills n id fills s true done = row-fills n fills (slice_get table.rows n) refl s done
+    below-fills n id fills s false done = fills n (omega arith) id s done
 
     one-more : (most : ℕ) → FillBelow most → (id : ℕ) → Fills (below input table (suc most) id)
     unfolding below
-    one-more most fills id s done = choice-fills most id fills s (nat_eq id most) done
+    one-more most fills id s done = below-fills most id fills s (nat_eq id most) done
 
     more-fill : (most n id : ℕ) → n ≤ suc most → FillBelow most → (n ≡ suc most) ⊎ (n ≡ suc most → ⊥) → Fills (below input table n id)
     more-fill most n id few fills (inl same) = subst (λ (m : ℕ). Fills (below input table m id)) (sym same) (one-more most fills id)

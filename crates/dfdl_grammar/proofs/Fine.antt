@@ -1,5 +1,5 @@
 -- A state that follows another, whose elements that began meanwhile are read.
-use Rattle.std.proofs.Common.{◌≡◌, ℕ, zero, suc, ◌+◌, ◌<◌, ◌≤◌, ◌⊎◌, inl, inr, refl, List, [], ◌∷◌, ◌++◌, length, Some, ap, sym, subst, ◌∙◌, arith, length-append}
+use Rattle.std.proofs.Common.{◌≡◌, ℕ, zero, suc, ◌+◌, ◌<◌, ◌≤◌, ◌⊎◌, inl, inr, refl, List, [], ◌∷◌, ◌++◌, length, Bool, Some, ap, sym, subst, ◌∙◌, arith, length-append}
 use Rattle.std.specs.Prelude.{slice_get}
 use Rattle.std.proofs.lemmas.Option.{slice_get_within}
 use Rattle.dfdl_region.specs.declared.node.Node.{Node}
@@ -13,7 +13,7 @@ use Rattle.dfdl_grammar.specs.Outcomes.{Outcome}
 use Rattle.dfdl_grammar.specs.Elements.{begun}
 use Rattle.dfdl_grammar.specs.Marks.{closed}
 use Rattle.dfdl_grammar.proofs.Grown.{content-length}
-use Rattle.dfdl_grammar.proofs.Represented.{marked_by}
+use Rattle.dfdl_grammar.proofs.Represented.{marked_as}
 
 same_at : (nodes : List Node) (number : ℕ) (content : Content) (node : Node) → slice_get (with_content nodes number content) number ≡ Some node → node.content ≡ content
 same_at [] number content node is = absurd (cc)
@@ -137,11 +137,15 @@ pub moved : (s : State) (to stop : ℕ) → Fine s (record s { at = to; stop = s
 moved s to stop = aside s to stop s.hidden s.lists
 
 -- the same before a mark, and where it is closed
-pub unmarked : (s t : State) (before : Instead) → Fine (marked_by s before) t → Fine s t
-unmarked s t before same = record { inside = same.inside; longer = same.longer; fresh = same.fresh; kept = same.kept }
+pub unmarked : (is_point : Bool) (s t : State) (before : Instead) → Fine (marked_as is_point s before) t → Fine s t
+unmarked is_point s t before same = record { inside = same.inside; longer = same.longer; fresh = same.fresh; kept = same.kept }
 
 pub closed_fine : (s t : State) → Fine s t → Fine s (closed t)
 closed_fine s t same = record { inside = same.inside; longer = same.longer; fresh = same.fresh; kept = same.kept }
+
+-- what content is read by changes no element
+pub read_as : (s : State) (instead : Instead) → Fine s (record s { instead = instead })
+read_as s instead = let same = fine s in record { inside = refl; longer = same.longer; fresh = same.fresh; kept = same.kept }
 
 front_at : (nodes : List Node) (last : Node) (at : ℕ) (node : Node) → at < length nodes → slice_get (nodes ++ last ∷ []) at ≡ Some node → slice_get nodes at ≡ Some node
 front_at [] last at node few is = absurd (omega arith)

@@ -2,15 +2,16 @@
 use Rattle.std.proofs.Common.{◌≡◌, inl, inr, ℕ, zero, suc, ◌+◌, ◌-◌, ◌*◌, ◌/◌, refl, List, [], ◌∷◌, ◌++◌, length, take, Bool, true, false, cond, nat_eq, nat_le, nat_lt, Option, Some, None, ap, sym, subst, ◌∙◌, arith, append-nil, replicate}
 use Rattle.std.proofs.Math.Seq.{take-append_seam}
 use Rattle.std.specs.Prelude.{slice_get}
+use Rattle.dfdl_report.specs.declared.cause.LimitCause.{LimitCause}
 use Rattle.dfdl_report.specs.declared.cause.LimitCause.TheVariants.{Nodes, Text as TextLimit}
 use Rattle.dfdl_report.specs.declared.cause.ParseCause.{ParseCause}
-use Rattle.dfdl_report.specs.declared.cause.ParseCause.TheVariants.{LengthOutOfRange, RequiredEmpty}
+use Rattle.dfdl_report.specs.declared.cause.ParseCause.TheVariants.{LengthOutOfRange, NoBranch, RequiredEmpty}
 use Rattle.dfdl_terms.specs.declared.delimiters.Delimiters.{Delimiters}
 use Rattle.dfdl_terms.specs.declared.representations.Representations.{Representations}
 use Rattle.dfdl_value.specs.declared.value.Value.{Value}
 use Rattle.dfdl_terms.specs.declared.row.Primitive.{Primitive}
 use Rattle.dfdl_terms.specs.declared.row.Row.{Row}
-use Rattle.dfdl_terms.specs.declared.row.Row.TheVariants.{Leaf, Elem, Group, Skip, Align, Initiator, Terminator, Separator, Scope, Boxed, PrefixedLeaf, PrefixedBox, Repeat}
+use Rattle.dfdl_terms.specs.declared.row.Row.TheVariants.{Leaf, Elem, Group, Skip, Align, Initiator, Terminator, Separator, Scope, Boxed, PrefixedLeaf, PrefixedBox, Repeat, Optional, Choice as ChoiceRow}
 use Rattle.dfdl_terms.specs.declared.text.TextSize.{TextSize}
 use Rattle.dfdl_terms.specs.Rows.{Table}
 use Rattle.dfdl_region.specs.declared.node.Node.{Node}
@@ -27,18 +28,21 @@ use Rattle.dfdl_grammar.specs.declared.instead.Instead.TheVariants.{Nothing, Nil
 use Rattle.dfdl_grammar.specs.declared.mark.Mark.{Mark}
 use Rattle.dfdl_grammar.specs.States.{Input, State, anchor, anchor_at}
 use Rattle.dfdl_grammar.specs.Outcomes.{Outcome, ended, follow, spend, then_do}
-use Rattle.dfdl_grammar.specs.Marks.{back, closed, marked, outer_marks}
+use Rattle.dfdl_grammar.specs.Marks.{back, closed, marked, outer_marks, pointed}
 use Rattle.dfdl_grammar.specs.Leaves.{Find, Fails, Finds, FindsOctets, FindsText, content_begins, has_room, land, leaf, nil_values, program_for, read_by}
 use Rattle.dfdl_grammar.specs.Framing.{aligned, fill_to, has_byte, passed}
 use Rattle.dfdl_grammar.specs.Delimiters.{closes_to, lists_of, markup, opens, scoped, unscoped}
 use Rattle.dfdl_grammar.specs.Boxes.{boxed, boxed_at, bytes_up_to, pass_bytes, past_byte, rest as rest_of, unboxed}
+use Rattle.dfdl_grammar.specs.Choices.{choice}
+use Rattle.dfdl_grammar.specs.Occurrences.{occurrences}
 use Rattle.dfdl_grammar.specs.Elements.{attempted, begun, close, element, has_elements, left}
 use Rattle.dfdl_grammar.specs.Prefixes.{bits_of_units, leaf_of, prefixed, resized, size_of, sized_leaf}
 use Rattle.dfdl_grammar.specs.Rows.{below, group, meaning, row, row_at}
 use Rattle.dfdl_grammar.proofs.Prefixed.{prefixed-comes}
-use Rattle.dfdl_grammar.proofs.Represented.{any_ok, marked_by, refused, represented-comes}
+use Rattle.dfdl_grammar.proofs.Pointed.{choice-comes, occurrence-comes}
+use Rattle.dfdl_grammar.proofs.Represented.{any_ok, marked_by, pointed_by, refused, represented-comes}
 use Rattle.dfdl_grammar.proofs.Sought.{initiator-comes, separator-comes, terminator-comes}
-use Rattle.dfdl_grammar.proofs.Grown.{content-length, other_same, front_same, begun-longer, Grown, Ends, Went, Goes, grown, still, moved, grown_twice, twice, behind, any_one, restored}
+use Rattle.dfdl_grammar.proofs.Grown.{again, any_one, begun-longer, behind, content-length, content_twice, failed_returns, front_same, grown, grown_twice, is_nothing, moved, other_same, still, twice, unmarked_went, Ends, Goes, Grown, Went}
 
 module _ (input : Input) where
   put : (s : State) (at : ℕ) (bytes : List ℕ) (content : Content)
@@ -48,7 +52,7 @@ module _ (input : Input) where
       record {
         grown = record {
           longer = omega arith;
-          kept = λ i few apart. other_same s.nodes s.inside i content apart;
+          kept = λ other i few. ap (λ (ns : List Node). slice_get ns i) (content_twice s.nodes s.inside content other);
           more = bytes;
           text = refl;
         };
@@ -61,7 +65,7 @@ module _ (input : Input) where
       record {
         grown = record {
           longer = omega arith;
-          kept = λ i few apart. other_same s.nodes s.inside i content apart;
+          kept = λ other i few. ap (λ (ns : List Node). slice_get ns i) (content_twice s.nodes s.inside content other);
           more = [];
           text = sym (append-nil s.text);
         };
@@ -167,8 +171,9 @@ module _ (input : Input) where
       let longer = grown.longer in
       record {
         longer = omega arith;
-        kept = λ at few apart.
-            ap (λ (ns : List Node). slice_get ns at) new_nodes ∙ (grown.kept at (omega arith) apart ∙ ap (λ (ns : List Node). slice_get ns at) (sym nodes));
+        kept = λ content at few.
+            let of : List Node → Option Node = λ ns. slice_get (with_content ns one content) at in
+            ap of new_nodes ∙ (grown.kept content at (omega arith) ∙ ap of (sym nodes));
         more = grown.more;
         text = new_text ∙ (grown.text ∙ ap (λ (bytes : List ℕ). bytes ++ grown.more) (sym text));
       }
@@ -188,7 +193,7 @@ module _ (input : Input) where
       let over : Ends (Failed cause bit) (boxed_at stop s) o.state = subst (λ (e : End). Ends e (boxed_at stop s) o.state) (sym same) went.ends in
       subst (λ (e : End). Went s.inside s e out) same (record {
         grown = grown_alike s.inside s out (boxed_at stop s) o.state went.grown refl refl refl refl;
-        ends = record { marks = over.marks; lists = over.lists; hidden = refl };
+        ends = record { marks = over.marks; instead = over.instead; lists = over.lists; hidden = refl };
       })
   unboxed-goes s stop (Stopped cause quantity) o same went =
       subst (λ (e : End). Went s.inside s e o.state) same
@@ -218,7 +223,7 @@ module _ (input : Input) where
       let over : Ends (Failed cause bit) (opens list s) o.state = subst (λ (e : End). Ends e (opens list s) o.state) (sym same) went.ends in
       subst (λ (e : End). Went s.inside s e out) same (record {
         grown = grown_alike s.inside s out (opens list s) o.state went.grown refl refl refl refl;
-        ends = record { marks = over.marks; lists = closed_lists list s o.state over.lists; hidden = over.hidden };
+        ends = record { marks = over.marks; instead = over.instead; lists = closed_lists list s o.state over.lists; hidden = over.hidden };
       })
   unscoped-goes list s (Stopped cause quantity) o same went =
       subst (λ (e : End). Went s.inside s e o.state) same
@@ -252,7 +257,12 @@ module _ (input : Input) where
       let longer = grown.longer in
       record {
         longer = omega arith;
-        kept = λ at few apart. grown.kept at (omega arith) apart ∙ front_same s.nodes last at few;
+        kept = λ content at few.
+            let apart : at ≡ length s.nodes → ⊥ = λ same. omega arith in
+            grown.kept content at (omega arith)
+            ∙ other_same (s.nodes ++ last ∷ []) (length s.nodes) at content apart
+            ∙ front_same s.nodes last at few
+            ∙ sym (other_same s.nodes (length s.nodes) at content apart);
         more = grown.more;
         text = grown.text;
       }
@@ -262,19 +272,30 @@ module _ (input : Input) where
       let size = content-length t.nodes t.inside Complex in
       record {
         longer = omega arith;
-        kept = λ at few apart. other_same t.nodes t.inside at Complex (λ is. apart (is ∙ same));
+        kept = λ content at few.
+            ap (λ (i : ℕ). slice_get (with_content (with_content t.nodes i Complex) one content) at) same
+            ∙ ap (λ (ns : List Node). slice_get ns at) (content_twice t.nodes one Complex content);
         more = [];
         text = sym (append-nil t.text);
       }
   left-grows one outer false t same =
       let here = grown one t in record { longer = here.longer; kept = here.kept; more = here.more; text = here.text }
 
-  -- whatever the content was read by before
-  close-goes : (id : ℕ) (instead before : Instead) (complex : Bool) (s : State) (e : End) (o : Outcome) → e ≡ o.end
+  -- what content was read by in place of its own primitive, as it is told behind a representation
+  abbrev tried_by : End → Instead → Instead
+  tried_by Done instead = Nothing
+  tried_by (Failed cause bit) instead = instead
+  tried_by (Stopped cause quantity) instead = instead
+
+  -- where a representation comes to that is read by this
+  abbrev Tries : ℕ → State → Instead → End → State → Type 0
+  Tries one s instead e t = Went one (record s { instead = tried_by e instead }) e t
+
+  close-goes : (id : ℕ) (instead : Instead) (complex : Bool) (s : State) (e : End) (o : Outcome) → e ≡ o.end
       → Went (length s.nodes) (begun id instead s) o.end o.state
-      → Went (length s.nodes) (record s { instead = before }) (close e s.inside complex o).end (close e s.inside complex o).state
-  close-goes id instead before complex s Done o same went =
-      let from : State = record s { instead = before } in
+      → Tries (length s.nodes) s instead (close e s.inside complex o).end (close e s.inside complex o).state
+  close-goes id instead complex s Done o same went =
+      let from : State = record s { instead = Nothing } in
       let out : State = left s.inside complex o.state in
       let over : Went (length s.nodes) (begun id instead s) Done o.state =
       subst (λ (e : End). Went (length s.nodes) (begun id instead s) e o.state) (sym same) went in
@@ -283,37 +304,67 @@ module _ (input : Input) where
             (left-grows (length s.nodes) s.inside complex o.state over.ends.inside);
         ends = record { marks = over.ends.marks; inside = refl; instead = inr refl; lists = over.ends.lists; hidden = over.ends.hidden };
       } in
-      subst (λ (e : End). Went (length s.nodes) from e out) same done
-  close-goes id instead before complex s (Failed cause bit) o same went =
-      let from : State = record s { instead = before } in
+      subst (λ (e : End). Tries (length s.nodes) s instead e out) same done
+  close-goes id instead complex s (Failed cause bit) o same went =
+      let from : State = record s { instead = instead } in
       let over : Went (length s.nodes) (begun id instead s) (Failed cause bit) o.state =
       subst (λ (e : End). Went (length s.nodes) (begun id instead s) e o.state) (sym same) went in
       let failed : Went (length s.nodes) from (Failed cause bit) o.state =
       record {
         grown = begun-goes id instead from o.state over.grown;
-        ends = record { marks = over.ends.marks; lists = over.ends.lists; hidden = over.ends.hidden };
+        ends = record { marks = over.ends.marks; instead = over.ends.instead; lists = over.ends.lists; hidden = over.ends.hidden };
       } in
-      subst (λ (e : End). Went (length s.nodes) from e o.state) same failed
-  close-goes id instead before complex s (Stopped cause quantity) o same went =
-      let from : State = record s { instead = before } in
+      subst (λ (e : End). Tries (length s.nodes) s instead e o.state) same failed
+  close-goes id instead complex s (Stopped cause quantity) o same went =
+      let from : State = record s { instead = instead } in
       let stopped : Went (length s.nodes) from (Stopped cause quantity) o.state =
       record { grown = begun-goes id instead from o.state went.grown; ends = tt } in
-      subst (λ (e : End). Went (length s.nodes) from e o.state) same stopped
+      subst (λ (e : End). Tries (length s.nodes) s instead e o.state) same stopped
 
-  room-tried : (id : ℕ) (complex : Bool) (body : State → Outcome) → Goes body → (instead before : Instead) (s : State) (room : Bool)
+  room-tried : (id : ℕ) (complex : Bool) (body : State → Outcome) → Goes body → (instead : Instead) (s : State) (room : Bool)
       → (let out : Outcome = cond room (let o : Outcome = body (begun id instead s) in close o.end s.inside complex o)
-      (ended (Stopped Nodes input.limits.nodes) s) in Went (length s.nodes) (record s { instead = before }) out.end out.state)
-  room-tried id complex body goes instead before s true =
-      let o : Outcome = body (begun id instead s) in close-goes id instead before complex s o.end o refl (goes (begun id instead s))
-  room-tried id complex body goes instead before s false =
+      (ended (Stopped Nodes input.limits.nodes) s) in Tries (length s.nodes) s instead out.end out.state)
+  room-tried id complex body goes instead s true =
+      let o : Outcome = body (begun id instead s) in close-goes id instead complex s o.end o refl (goes (begun id instead s))
+  room-tried id complex body goes instead s false =
       let here = grown (length s.nodes) s in
       record { grown = record { longer = here.longer; kept = here.kept; more = here.more; text = here.text }; ends = tt }
 
   -- one representation of an element
-  tried-goes : (id : ℕ) (complex : Bool) (body : State → Outcome) → Goes body → (instead before : Instead) (s : State)
-      → (let o : Outcome = attempted input id complex body instead s in Went (length s.nodes) (record s { instead = before }) o.end o.state)
-  tried-goes id complex body goes instead before s =
-      room-tried id complex body goes instead before s (nat_lt (length s.nodes) input.limits.nodes)
+  tried-goes : (id : ℕ) (complex : Bool) (body : State → Outcome) → Goes body → (instead : Instead) (s : State)
+      → (let o : Outcome = attempted input id complex body instead s in Tries (length s.nodes) s instead o.end o.state)
+  tried-goes id complex body goes instead s =
+      room-tried id complex body goes instead s (nat_lt (length s.nodes) input.limits.nodes)
+
+  -- the same of any element that is open
+  any_tried : (s t : State) (instead : Instead) (e : End) → Tries (length s.nodes) s instead e t → Tries s.inside s instead e t
+  any_tried s t instead e went = any_one s.inside (record s { instead = tried_by e instead }) t e went
+
+  -- what is tried alone
+  alone_goes : (s t : State) (e : End) → Tries s.inside s Nothing e t → Went s.inside s e t
+  alone_goes s t Done went = record {
+    grown = record { longer = went.grown.longer; kept = went.grown.kept; more = went.grown.more; text = went.grown.text };
+    ends = record {
+      marks = went.ends.marks;
+      inside = went.ends.inside;
+      instead = inr (is_nothing t.instead went.ends.instead);
+      lists = went.ends.lists;
+      hidden = went.ends.hidden;
+    };
+  }
+  alone_goes s t (Failed cause bit) went = record {
+    grown = record { longer = went.grown.longer; kept = went.grown.kept; more = went.grown.more; text = went.grown.text };
+    ends = record {
+      marks = went.ends.marks;
+      instead = inr (is_nothing t.instead went.ends.instead);
+      lists = went.ends.lists;
+      hidden = went.ends.hidden;
+    };
+  }
+  alone_goes s t (Stopped cause quantity) went = record {
+    grown = record { longer = went.grown.longer; kept = went.grown.kept; more = went.grown.more; text = went.grown.text };
+    ends = tt;
+  }
 
   -- where it fails, what is gone back to is the state at the mark
   pub tried-returns : (id : ℕ) (complex : Bool) (body : State → Outcome) → Goes body → (s : State) (instead before : Instead) (cause : ParseCause) (bit : ℕ)
@@ -323,27 +374,8 @@ module _ (input : Input) where
   tried-returns id complex body goes s instead before cause bit is =
       let from : State = marked_by s before in
       let o : Outcome = attempted input id complex body instead from in
-      restored s o.state before cause bit
-      (subst (λ (e : End). Went (length s.nodes) from e o.state) is (tried-goes id complex body goes instead before from))
-
-  ends_closed : (s t : State) (e : End) → Ends e (marked s) t → Ends e s (closed t)
-  ends_closed s t Done ends =
-      record {
-        marks = ap (λ (ms : List Mark). outer_marks ms) ends.marks;
-        inside = ends.inside;
-        instead = ends.instead;
-        lists = ends.lists;
-        hidden = ends.hidden;
-      }
-  ends_closed s t (Failed cause bit) ends =
-      record { marks = ap (λ (ms : List Mark). outer_marks ms) ends.marks; lists = ends.lists; hidden = ends.hidden }
-  ends_closed s t (Stopped cause quantity) ends = tt
-
-  closed_went : (s : State) (e : End) (t : State) → Went s.inside (marked s) e t → Went s.inside s e (closed t)
-  closed_went s e t went = record {
-    grown = record { longer = went.grown.longer; kept = went.grown.kept; more = went.grown.more; text = went.grown.text };
-    ends = ends_closed s t e went.ends;
-  }
+      failed_returns false s o.state instead cause bit
+      (subst (λ (e : End). Tries s.inside from instead e o.state) is (any_tried from o.state instead o.end (tried-goes id complex body goes instead from)))
 
   -- where one is done, the marks are those from before
   pub tried-stays : (id : ℕ) (complex : Bool) (body : State → Outcome) → Goes body → (s : State) (instead before : Instead)
@@ -352,32 +384,79 @@ module _ (input : Input) where
   tried-stays id complex body goes s instead before is =
       let from : State = marked_by s before in
       let o : Outcome = attempted input id complex body instead from in
-      let went : Went (length s.nodes) from Done o.state =
-      subst (λ (e : End). Went (length s.nodes) from e o.state) is (tried-goes id complex body goes instead before from) in
+      let went : Tries (length s.nodes) from instead Done o.state =
+      subst (λ (e : End). Tries (length s.nodes) from instead e o.state) is (tried-goes id complex body goes instead from) in
       went.ends.marks
 
-  refused_went : (s t : State) (cause : ParseCause) (bit : ℕ) → Went s.inside (marked s) Done t → Went s.inside s (Failed cause bit) (refused s t)
-  refused_went s t cause bit went = record {
-    grown = grown_alike s.inside s (refused s t) (marked s) t went.grown refl refl refl refl;
-    ends = record { marks = ap (λ (ms : List Mark). outer_marks ms) went.ends.marks; lists = went.ends.lists; hidden = went.ends.hidden };
+  refused_went : (s t : State) (instead : Instead) (cause : ParseCause) (bit : ℕ) → Tries s.inside (marked s) instead Done t
+      → Went s.inside s (Failed cause bit) (refused s t)
+  refused_went s t instead cause bit went = record {
+    grown = grown_alike s.inside s (refused s t) (marked_by s Nothing) t went.grown refl refl refl refl;
+    ends = record {
+      marks = ap (λ (ms : List Mark). outer_marks ms) went.ends.marks;
+      instead = inr (is_nothing t.instead went.ends.instead);
+      lists = went.ends.lists;
+      hidden = went.ends.hidden;
+    };
   }
 
   element-goes : (id : ℕ) (complex : Bool) (tried : Representations) (body : State → Outcome) → Goes body → Goes (element input id complex tried body)
   element-goes id complex tried body goes s =
-      represented-comes (λ (e : End) (t : State). Went s.inside s e t) (λ (e : End) (t : State). Went s.inside (marked s) e t) s
+      represented-comes (λ (e : End) (t : State). Went s.inside s e t) (λ (instead : Instead) (e : End) (t : State). Tries s.inside (marked s) instead e t) s
       (attempted input id complex body) (λ (instead : Instead). Unit {0}) tt
-      (any_one s.inside s (attempted input id complex body Nothing s).state (attempted input id complex body Nothing s).end
-      (tried-goes id complex body goes Nothing s.instead s))
+      (let o : Outcome = attempted input id complex body Nothing s in
+      alone_goes s o.state o.end (any_tried s o.state Nothing o.end (tried-goes id complex body goes Nothing s)))
       (λ instead before one.
-      let o : Outcome = attempted input id complex body instead (marked_by s before) in
-      any_one s.inside (marked s) o.state o.end (tried-goes id complex body goes instead s.instead (marked_by s before)))
-      (closed_went s)
-      (λ cause quantity t went. record {
+      let from : State = marked_by s before in
+      let o : Outcome = attempted input id complex body instead from in
+      any_tried from o.state instead o.end (tried-goes id complex body goes instead from))
+      (λ instead t went. alone_goes s (closed t) Done (unmarked_went false s Nothing Done t went))
+      (λ cause bit t went. alone_goes s (closed t) (Failed cause bit) (unmarked_went false s Nothing (Failed cause bit) t went))
+      (λ instead cause quantity t went. record {
         grown = record { longer = went.grown.longer; kept = went.grown.kept; more = went.grown.more; text = went.grown.text };
         ends = tt;
       })
-      (λ t went. refused_went s t RequiredEmpty s.at went) (tried-stays id complex body goes s) (tried-returns id complex body goes s)
+      (λ instead t went. refused_went s t instead RequiredEmpty s.at went) (tried-stays id complex body goes s) (tried-returns id complex body goes s)
       tried (any_ok Nil tried.nil) (any_ok Empty tried.empty)
+
+  -- where a limit is reached the marks stay open
+  unpointed_went : (s : State) (cause : LimitCause) (quantity : ℕ) (t : State) → Went s.inside (pointed s) (Stopped cause quantity) t
+      → Went s.inside s (Stopped cause quantity) t
+  unpointed_went s cause quantity t went = record {
+    grown = record { longer = went.grown.longer; kept = went.grown.kept; more = went.grown.more; text = went.grown.text };
+    ends = tt;
+  }
+
+  -- a choice, each of whose branches begins at the point
+  choice-goes : (child : ℕ → State → Outcome) → ((id : ℕ) → Goes (child id)) → (ids : List ℕ) → Goes (choice child ids)
+  choice-goes child goes ids s =
+      choice-comes (λ (e : End) (t : State). Went s.inside s e t) (λ (e : End) (t : State). Went s.inside (pointed s) e t) s
+      (λ t went. unmarked_went true s s.instead Done t went)
+      (λ cause quantity t went. unpointed_went s cause quantity t went)
+      (λ before is. again s.inside s (Failed NoBranch s.at) before is)
+      child goes
+      (λ id before is.
+      let from : State = pointed_by s before in
+      let o : Outcome = child id from in
+      twice s.inside (pointed s) from o.state o.end (again s.inside (pointed s) Done before is) (goes id from))
+      ids
+
+  -- times that are tried
+  occurrences-go : (body : State → Outcome) → Goes body → (left : ℕ) → Goes (occurrences body left)
+  unfolding occurrences
+  occurrences-go body goes zero s = still s.inside Done s
+  occurrences-go body goes (suc left) s =
+      let o : Outcome = body (pointed s) in
+      let out : State = closed o.state in
+      let next : Outcome = occurrences body left out in
+      occurrence-comes (λ (e : End) (t : State). Went s.inside s e t) s body goes (λ before is. again s.inside s Done before is) (occurrences body left)
+      (λ done.
+      let went : Went s.inside (pointed s) Done o.state = subst (λ (e : End). Went s.inside (pointed s) e o.state) done (goes (pointed s)) in
+      behind s out next.state next.end (unmarked_went true s s.instead Done o.state went) (occurrences-go body goes left out))
+      (λ cause quantity stopped.
+      let went : Went s.inside (pointed s) (Stopped cause quantity) o.state =
+      subst (λ (e : End). Went s.inside (pointed s) e o.state) stopped (goes (pointed s)) in
+      unpointed_went s cause quantity o.state went)
 
   module _ (table : Table) where
     row-goes : (child : ℕ → State → Outcome) → ((id : ℕ) → Goes (child id)) → (id : ℕ) (r : Option Row) → Goes (row input table child id r)
@@ -405,6 +484,8 @@ module _ (input : Input) where
         prefixed-goes table.delimiters (slice_get table.primitives prefix.prim) prefix.own (λ units after. sized_leaf input table.delimiters nil primitive (size_of prefix.unit units) after)
         (λ units. sized-goes table.delimiters nil primitive (size_of prefix.unit units)) s
     row-goes child goes id (Some (Repeat count body)) s = group-goes child goes (replicate count body) s
+    row-goes child goes id (Some (Optional most item body)) s = occurrences-go (child body) (goes body) most s
+    row-goes child goes id (Some (ChoiceRow branches)) s = choice-goes child goes branches s
     row-goes child goes id (Some (PrefixedBox prefix body)) s =
         prefixed-goes table.delimiters (slice_get table.primitives prefix.prim) prefix.own (λ units after. boxed input (bits_of_units prefix.unit units) (child body) after)
         (λ units after. boxed-goes (bits_of_units prefix.unit units) (child body) (goes body) after (nat_le (after.at + bits_of_units prefix.unit units) after.stop)) s

@@ -1,5 +1,5 @@
 -- What rows do is added to what was there, but for the content of the open element: states that follow others.
-use Rattle.std.proofs.Common.{◌≡◌, ◌⊎◌, inl, inr, ℕ, zero, suc, ◌+◌, ◌<◌, ◌≤◌, refl, List, [], ◌∷◌, ◌++◌, length, take, ap, sym, subst, ◌∙◌, arith, append-nil, append_assoc, length-append}
+use Rattle.std.proofs.Common.{◌≡◌, ◌⊎◌, inl, inr, ℕ, zero, suc, ◌+◌, ◌<◌, ◌≤◌, refl, List, [], ◌∷◌, ◌++◌, length, take, Bool, Some, ap, sym, subst, ◌∙◌, arith, append-nil, append_assoc, length-append}
 use Rattle.std.proofs.Math.Seq.{take-append_seam}
 use Rattle.std.specs.Prelude.{slice_get}
 use Rattle.dfdl_report.specs.declared.cause.ParseCause.{ParseCause}
@@ -14,9 +14,9 @@ use Rattle.dfdl_grammar.specs.declared.instead.Instead.TheVariants.{Nothing}
 use Rattle.dfdl_grammar.specs.declared.mark.Mark.{Mark}
 use Rattle.dfdl_grammar.specs.States.{State}
 use Rattle.dfdl_grammar.specs.Outcomes.{Outcome}
-use Rattle.dfdl_grammar.specs.Marks.{back, back_among}
+use Rattle.dfdl_grammar.specs.Marks.{back, back_among, closed, content_of, outer_marks}
 use Rattle.dfdl_grammar.specs.Elements.{begun}
-use Rattle.dfdl_grammar.proofs.Represented.{marked_by}
+use Rattle.dfdl_grammar.proofs.Represented.{marked_as}
 
 pub content-length : (nodes : List Node) (number : ℕ) (content : Content) → length (with_content nodes number content) ≡ length nodes
 content-length [] number content = refl
@@ -30,6 +30,45 @@ other_same (first ∷ rest) zero zero content apart = absurd (apart refl)
 other_same (first ∷ rest) zero (suc at) content apart = refl
 other_same (first ∷ rest) (suc number) zero content apart = refl
 other_same (first ∷ rest) (suc number) (suc at) content apart = other_same rest number at content (λ same. apart (ap suc same))
+
+-- of two contents of one element the later stays
+pub content_twice : (nodes : List Node) (number : ℕ) (first last : Content)
+    → with_content (with_content nodes number first) number last ≡ with_content nodes number last
+content_twice [] number first last = refl
+content_twice (node ∷ rest) zero first last = refl
+content_twice (node ∷ rest) (suc number) first last = ap (λ (ns : List Node). node ∷ ns) (content_twice rest number first last)
+
+-- where an element is the same, it is with another content of one of them too
+pub content_same : (nodes others : List Node) (number at : ℕ) (content : Content) → slice_get nodes at ≡ slice_get others at
+    → slice_get (with_content nodes number content) at ≡ slice_get (with_content others number content) at
+content_same [] [] number at content same = refl
+content_same [] (other ∷ others) zero zero content same = absurd (cc)
+content_same [] (other ∷ others) zero (suc at) content same = same
+content_same [] (other ∷ others) (suc number) zero content same = absurd (cc)
+content_same [] (other ∷ others) (suc number) (suc at) content same = content_same [] others number at content same
+content_same (node ∷ nodes) [] zero zero content same = absurd (cc)
+content_same (node ∷ nodes) [] zero (suc at) content same = same
+content_same (node ∷ nodes) [] (suc number) zero content same = absurd (cc)
+content_same (node ∷ nodes) [] (suc number) (suc at) content same = content_same nodes [] number at content same
+content_same (node ∷ nodes) (other ∷ others) zero zero content same =
+    let one : node ≡ other = cc in ap (λ (n : Node). Some (record n { content = content })) one
+content_same (node ∷ nodes) (other ∷ others) zero (suc at) content same = same
+content_same (node ∷ nodes) (other ∷ others) (suc number) zero content same = same
+content_same (node ∷ nodes) (other ∷ others) (suc number) (suc at) content same = content_same nodes others number at content same
+
+-- what an element has, as another content of it
+own_content : (nodes : List Node) (number : ℕ) → with_content nodes number (content_of (slice_get nodes number)) ≡ nodes
+own_content [] number = refl
+own_content (node ∷ rest) zero = refl
+own_content (node ∷ rest) (suc number) = ap (λ (ns : List Node). node ∷ ns) (own_content rest number)
+
+-- the first elements of those with another content
+take_content : (count : ℕ) (nodes : List Node) (number : ℕ) (content : Content)
+    → take count (with_content nodes number content) ≡ with_content (take count nodes) number content
+take_content zero nodes number content = refl
+take_content (suc count) [] number content = refl
+take_content (suc count) (node ∷ rest) zero content = refl
+take_content (suc count) (node ∷ rest) (suc number) content = ap (λ (ns : List Node). node ∷ ns) (take_content count rest number content)
 
 -- and so does one more behind them
 pub front_same : (nodes : List Node) (last : Node) (at : ℕ) → at < length nodes → slice_get (nodes ++ last ∷ []) at ≡ slice_get nodes at
@@ -49,25 +88,35 @@ begins_with (node ∷ rest) (other ∷ others) same =
 pub begun-longer : (id : ℕ) (instead : Instead) (s : State) → length (begun id instead s).nodes ≡ length s.nodes + 1
 begun-longer id instead s = length-append s.nodes (record { element = id; parent = s.inside; content = Begun } ∷ [])
 
--- a state that follows another, of whose elements at most one has another content
+-- a state that follows another, of whose elements at most one has another content: with any one content of that they are the same
 pub record Grown (one : ℕ) (s t : State) : Type 0 where
   pub longer : length s.nodes ≤ length t.nodes
-  pub kept : (at : ℕ) → at < length s.nodes → (at ≡ one → ⊥) → slice_get t.nodes at ≡ slice_get s.nodes at
+  pub kept : (content : Content) (at : ℕ) → at < length s.nodes
+      → slice_get (with_content t.nodes one content) at ≡ slice_get (with_content s.nodes one content) at
   pub more : List ℕ
   pub text : t.text ≡ s.text ++ more
+
+-- content is read by what it was read by, or by its own primitive
+abbrev pub IsKept : State → Instead → Type 0
+IsKept s instead = (instead ≡ s.instead) ⊎ (instead ≡ Nothing)
+
+pub is_nothing : (instead : Instead) → (instead ≡ Nothing) ⊎ (instead ≡ Nothing) → instead ≡ Nothing
+is_nothing instead (inl same) = same
+is_nothing instead (inr same) = same
 
 -- a state behind what is done: the same element is open, its content is read by what it was read by, or by its own primitive, and the
 -- same lists end it
 pub record Stays (s t : State) : Type 0 where
   pub marks : t.marks ≡ s.marks
   pub inside : t.inside ≡ s.inside
-  pub instead : (t.instead ≡ s.instead) ⊎ (t.instead ≡ Nothing)
+  pub instead : IsKept s t.instead
   pub lists : t.lists ≡ s.lists
   pub hidden : t.hidden ≡ s.hidden
 
 -- a state behind what fails
 pub record Falls (s t : State) : Type 0 where
   pub marks : t.marks ≡ s.marks
+  pub instead : IsKept s t.instead
   pub lists : t.lists ≡ s.lists
   pub hidden : t.hidden ≡ s.hidden
 
@@ -87,15 +136,33 @@ abbrev pub Goes : (State → Outcome) → Type 0
 Goes f = (s : State) → Went s.inside s (f s).end (f s).state
 
 pub grown : (one : ℕ) (s : State) → Grown one s s
-grown one s = record { longer = omega arith; kept = λ at few apart. refl; more = []; text = sym (append-nil s.text) }
+grown one s = record { longer = omega arith; kept = λ content at few. refl; more = []; text = sym (append-nil s.text) }
 
 pub ends_here : (e : End) (s : State) → Ends e s s
 ends_here Done s = record { marks = refl; inside = refl; instead = inl refl; lists = refl; hidden = refl }
-ends_here (Failed cause bit) s = record { marks = refl; lists = refl; hidden = refl }
+ends_here (Failed cause bit) s = record { marks = refl; instead = inl refl; lists = refl; hidden = refl }
 ends_here (Stopped cause quantity) s = tt
 
 pub still : (one : ℕ) (e : End) (s : State) → Went one s e s
 still one e s = record { grown = grown one s; ends = ends_here e s }
+
+-- but for what content is read by
+pub again : (one : ℕ) (s : State) (e : End) (before : Instead) → IsKept s before → Went one s e (record s { instead = before })
+again one s Done before is =
+    let same = grown one s in
+    record {
+      grown = record { longer = same.longer; kept = same.kept; more = same.more; text = same.text };
+      ends = record { marks = refl; inside = refl; instead = is; lists = refl; hidden = refl };
+    }
+again one s (Failed cause bit) before is =
+    let same = grown one s in
+    record {
+      grown = record { longer = same.longer; kept = same.kept; more = same.more; text = same.text };
+      ends = record { marks = refl; instead = is; lists = refl; hidden = refl };
+    }
+again one s (Stopped cause quantity) before is =
+    let same = grown one s in
+    record { grown = record { longer = same.longer; kept = same.kept; more = same.more; text = same.text }; ends = tt }
 
 pub moved : (one : ℕ) (s : State) (to stop : ℕ) → Went one s Done (record s { at = to; stop = stop })
 moved one s to stop =
@@ -111,7 +178,7 @@ grown_twice one s t u first second =
     let b = second.longer in
     record {
       longer = omega arith;
-      kept = λ at few apart. second.kept at (omega arith) apart ∙ first.kept at few apart;
+      kept = λ content at few. second.kept content at (omega arith) ∙ first.kept content at few;
       more = first.more ++ second.more;
       text = second.text ∙ ap (λ (bytes : List ℕ). bytes ++ second.more) first.text ∙ append_assoc s.text first.more second.more;
     }
@@ -131,6 +198,7 @@ ends_behind s t u Done first second = record {
 }
 ends_behind s t u (Failed cause bit) first second = record {
   marks = second.marks ∙ first.marks;
+  instead = instead_twice s.instead t.instead u.instead first.instead second.instead;
   lists = second.lists ∙ first.lists;
   hidden = second.hidden ∙ first.hidden;
 }
@@ -150,21 +218,57 @@ pub any_one : (one : ℕ) (s t : State) (e : End) → Went (length s.nodes) s e 
 any_one one s t e went = record {
   grown = record {
     longer = went.grown.longer;
-    kept = λ at few apart. went.grown.kept at few (λ same. omega arith);
+    kept = λ content at few.
+        let apart : at ≡ length s.nodes → ⊥ = λ same. omega arith in
+        content_same t.nodes s.nodes one at content
+        (sym (other_same t.nodes (length s.nodes) at content apart) ∙ went.grown.kept content at few ∙ other_same s.nodes (length s.nodes) at content apart);
     more = went.grown.more;
     text = went.grown.text;
   };
   ends = went.ends;
 }
 
--- what is gone back to is the state at the mark
-pub restored : (s t : State) (before : Instead) (cause : ParseCause) (bit : ℕ) → Went (length s.nodes) (marked_by s before) (Failed cause bit) t
-    → back t ≡ marked_by s t.instead
-restored s t before cause bit went =
-    let nodes : take (length s.nodes) t.nodes ≡ s.nodes =
-    begins_with s.nodes t.nodes (λ at few. went.grown.kept at few (λ same. omega arith)) in
+-- behind a mark
+ends_closed : (is_point : Bool) (s : State) (before : Instead) (t : State) (e : End) → Ends e (marked_as is_point s before) t
+    → Ends e (record s { instead = before }) (closed t)
+ends_closed is_point s before t Done ends = record {
+  marks = ap (λ (ms : List Mark). outer_marks ms) ends.marks;
+  inside = ends.inside;
+  instead = ends.instead;
+  lists = ends.lists;
+  hidden = ends.hidden;
+}
+ends_closed is_point s before t (Failed cause bit) ends = record {
+  marks = ap (λ (ms : List Mark). outer_marks ms) ends.marks;
+  instead = ends.instead;
+  lists = ends.lists;
+  hidden = ends.hidden;
+}
+ends_closed is_point s before t (Stopped cause quantity) ends = tt
+
+pub unmarked_went : (is_point : Bool) (s : State) (before : Instead) (e : End) (t : State) → Went s.inside (marked_as is_point s before) e t
+    → Went s.inside (record s { instead = before }) e (closed t)
+unmarked_went is_point s before e t went = record {
+  grown = record { longer = went.grown.longer; kept = went.grown.kept; more = went.grown.more; text = went.grown.text };
+  ends = ends_closed is_point s before t e went.ends;
+}
+
+-- What is gone back to is the state at the mark, where the marks and the lists are those from then: no element before the mark has
+-- changed but for what the open one has.
+pub restored : (is_point : Bool) (s t : State) (before : Instead) → Grown s.inside (marked_as is_point s before) t
+    → t.marks ≡ (marked_as is_point s before).marks → t.lists ≡ s.lists → t.hidden ≡ s.hidden
+    → back t ≡ marked_as is_point s t.instead
+restored is_point s t before grown marks lists hidden =
+    let content : Content = content_of (slice_get s.nodes s.inside) in
+    let size : length (with_content s.nodes s.inside content) ≡ length s.nodes = content-length s.nodes s.inside content in
+    let whole : List Node = with_content t.nodes s.inside content in
+    let nodes : with_content (take (length s.nodes) t.nodes) s.inside content ≡ s.nodes =
+    sym (take_content (length s.nodes) t.nodes s.inside content)
+    ∙ ap (λ (count : ℕ). take count whole) (sym size)
+    ∙ begins_with (with_content s.nodes s.inside content) whole (λ at few. grown.kept content at (omega arith))
+    ∙ own_content s.nodes s.inside in
     let text : take (length s.text) t.text ≡ s.text =
-    ap (λ (bytes : List ℕ). take (length s.text) bytes) went.grown.text ∙ take-append_seam s.text went.grown.more in
+    ap (λ (bytes : List ℕ). take (length s.text) bytes) grown.text ∙ take-append_seam s.text grown.more in
     let there : List Node → List ℕ → List ℕ → ℕ → List Mark → State =
     λ ns bytes ls h ms. record {
       at = s.at;
@@ -177,9 +281,18 @@ restored s t before cause bit went =
       hidden = h;
       marks = ms;
     } in
-    ap (λ (ms : List Mark). back_among ms t) went.ends.marks
+    ap (λ (ms : List Mark). back_among ms t) marks
     ∙ ap (λ (ns : List Node). there ns (take (length s.text) t.text) t.lists t.hidden t.marks) nodes
     ∙ ap (λ (bytes : List ℕ). there s.nodes bytes t.lists t.hidden t.marks) text
-    ∙ ap (λ (ls : List ℕ). there s.nodes s.text ls t.hidden t.marks) went.ends.lists
-    ∙ ap (λ (h : ℕ). there s.nodes s.text s.lists h t.marks) went.ends.hidden
-    ∙ ap (λ (ms : List Mark). there s.nodes s.text s.lists s.hidden ms) went.ends.marks
+    ∙ ap (λ (ls : List ℕ). there s.nodes s.text ls t.hidden t.marks) lists
+    ∙ ap (λ (h : ℕ). there s.nodes s.text s.lists h t.marks) hidden
+    ∙ ap (λ (ms : List Mark). there s.nodes s.text s.lists s.hidden ms) marks
+
+-- so it is behind what is done, and behind what fails
+pub done_returns : (is_point : Bool) (s t : State) (before : Instead) → Went s.inside (marked_as is_point s before) Done t
+    → back t ≡ marked_as is_point s t.instead
+done_returns is_point s t before went = restored is_point s t before went.grown went.ends.marks went.ends.lists went.ends.hidden
+
+pub failed_returns : (is_point : Bool) (s t : State) (before : Instead) (cause : ParseCause) (bit : ℕ)
+    → Went s.inside (marked_as is_point s before) (Failed cause bit) t → back t ≡ marked_as is_point s t.instead
+failed_returns is_point s t before cause bit went = restored is_point s t before went.grown went.ends.marks went.ends.lists went.ends.hidden

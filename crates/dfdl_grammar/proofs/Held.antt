@@ -24,7 +24,7 @@ use Rattle.dfdl_terms.specs.declared.representations.Representations.{Representa
 use Rattle.dfdl_terms.specs.declared.row.Primitive.{Primitive}
 use Rattle.dfdl_terms.specs.declared.row.Primitive.TheVariants.{Integer, Packed, Truth, Octets, Text as Characters, NilOctets, Default, NilValues, Pattern}
 use Rattle.dfdl_terms.specs.declared.row.Row.{Row}
-use Rattle.dfdl_terms.specs.declared.row.Row.TheVariants.{Leaf, Elem, Group, Skip, Align, Initiator, Terminator, Separator, Scope, Boxed, PrefixedLeaf, PrefixedBox, Repeat}
+use Rattle.dfdl_terms.specs.declared.row.Row.TheVariants.{Leaf, Elem, Group, Skip, Align, Initiator, Terminator, Separator, Scope, Boxed, PrefixedLeaf, PrefixedBox, Repeat, Optional, Choice as ChoiceRow}
 use Rattle.dfdl_terms.specs.declared.text.NilForm.{NilForm}
 use Rattle.dfdl_terms.specs.declared.text.OctetForm.{OctetForm}
 use Rattle.dfdl_terms.specs.declared.text.PatternForm.{PatternForm}
@@ -71,6 +71,9 @@ use Rattle.dfdl_grammar.specs.Delimited.{first_step, plain, scanned}
 use Rattle.dfdl_grammar.specs.Framing.{aligned, fill_to, has_byte, passed}
 use Rattle.dfdl_grammar.specs.Delimiters.{lists_of, markup, opens, scoped, unscoped}
 use Rattle.dfdl_grammar.specs.Boxes.{boxed, boxed_at, bytes_up_to, pass_bytes, past_byte, rest as rest_of, unboxed}
+use Rattle.dfdl_grammar.specs.Choices.{choice}
+use Rattle.dfdl_grammar.specs.Marks.{closed, pointed}
+use Rattle.dfdl_grammar.specs.Occurrences.{occurrences}
 use Rattle.dfdl_grammar.specs.Elements.{attempted, begun, close, element, has_elements, left}
 use Rattle.dfdl_grammar.specs.Nils.{are_nil, is_nil}
 use Rattle.std.specs.List.{list_any}
@@ -81,7 +84,8 @@ use Rattle.dfdl_grammar.proofs.Going.{below-goes, tried-returns, tried-stays}
 use Rattle.dfdl_grammar.proofs.Grown.{Goes}
 use Rattle.dfdl_grammar.proofs.Holding.{both_have, content-has, first_has, last-bytes, rest_has, text-more, trimmed-scalars, utf8}
 use Rattle.dfdl_grammar.proofs.Prefixed.{prefixed-comes}
-use Rattle.dfdl_grammar.proofs.Represented.{any_ok, marked_by, represented-comes}
+use Rattle.dfdl_grammar.proofs.Pointed.{choice-comes, occurrence-comes}
+use Rattle.dfdl_grammar.proofs.Represented.{any_ok, marked_by, pointed_by, represented-comes}
 use Rattle.dfdl_grammar.proofs.Scanned.{AreScalars, Says, plain-scalars, scanned-scalars, trimmed-content-scalars}
 use Rattle.dfdl_grammar.proofs.Sought.{initiator-comes, separator-comes, terminator-comes}
 
@@ -586,12 +590,25 @@ module _ (input : Input) (small : All (λ b. b < 256) input.bytes) where
   element-keeps id complex tried body keeps goes s has =
       let attempt-keeps : (instead : Instead) (t : State) → Has t → Has (attempted input id complex body instead t).state =
       λ instead t held. room-tried id complex body keeps instead t held (nat_lt (length t.nodes) input.limits.nodes) in
-      represented-comes (λ (e : End) (t : State). Has t) (λ (e : End) (t : State). Has t) s
+      represented-comes (λ (e : End) (t : State). Has t) (λ (instead : Instead) (e : End) (t : State). Has t) s
       (attempted input id complex body) (λ (instead : Instead). Unit {0}) tt
       (attempt-keeps Nothing s has) (λ instead before one. attempt-keeps instead (marked_by s before) has)
-      (λ e t held. held) (λ cause quantity t held. held)
-      (λ t held. held) (tried-stays input id complex body goes s) (tried-returns input id complex body goes s)
+      (λ instead t held. held) (λ cause bit t held. held) (λ instead cause quantity t held. held)
+      (λ instead t held. held) (tried-stays input id complex body goes s) (tried-returns input id complex body goes s)
       tried (any_ok InsteadNil tried.nil) (any_ok Empty tried.empty)
+
+  choice-keeps : (child : ℕ → State → Outcome) → ((id : ℕ) → Keeps (child id)) → ((id : ℕ) → Goes (child id)) → (ids : List ℕ) → Keeps (choice child ids)
+  choice-keeps child keeps goes ids s has =
+      choice-comes (λ (e : End) (t : State). Has t) (λ (e : End) (t : State). Has t) s
+      (λ t held. held) (λ cause quantity t held. held) (λ before is. has) child goes (λ id before is. keeps id (pointed_by s before) has) ids
+
+  occurrences-keep : (body : State → Outcome) → Keeps body → Goes body → (left : ℕ) → Keeps (occurrences body left)
+  unfolding occurrences
+  occurrences-keep body keeps goes zero s has = has
+  occurrences-keep body keeps goes (suc left) s has =
+      let held : Has (body (pointed s)).state = keeps (pointed s) has in
+      occurrence-comes (λ (e : End) (t : State). Has t) s body goes (λ before is. has) (occurrences body left)
+      (λ done. occurrences-keep body keeps goes left (closed (body (pointed s)).state) held) (λ cause quantity stopped. held)
 
   group-keeps : (child : ℕ → State → Outcome) → ((id : ℕ) → Keeps (child id)) → (children : List ℕ) → Keeps (group child children)
   group-keeps child keeps [] s has = has
@@ -626,6 +643,8 @@ module _ (input : Input) (small : All (λ b. b < 256) input.bytes) where
         prefixed-keeps table.delimiters (slice_get table.primitives prefix.prim) prefix.own (λ units after. sized_leaf input table.delimiters nil primitive (size_of prefix.unit units) after)
         (λ units. sized-keeps table.delimiters nil primitive (size_of prefix.unit units) (sound-at table.primitives used bounded)) s has
     row-keeps child keeps goes id (Some (Repeat count body)) s has = group-keeps child keeps (replicate count body) s has
+    row-keeps child keeps goes id (Some (Optional most item body)) s has = occurrences-keep (child body) (keeps body) (goes body) most s has
+    row-keeps child keeps goes id (Some (ChoiceRow branches)) s has = choice-keeps child keeps goes branches s has
     row-keeps child keeps goes id (Some (PrefixedBox prefix body)) s has =
         prefixed-keeps table.delimiters (slice_get table.primitives prefix.prim) prefix.own (λ units after. boxed input (bits_of_units prefix.unit units) (child body) after)
         (λ units after kept. boxed-keeps (bits_of_units prefix.unit units) (child body) (keeps body) after kept

@@ -5,6 +5,7 @@ pub mod Prefixed
 pub mod Sought
 pub mod Represented
 pub mod Grown
+pub mod Pointed
 pub mod Going
 pub mod Trees
 pub mod Fine

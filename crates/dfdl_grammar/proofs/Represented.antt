@@ -1,5 +1,5 @@
 -- An element comes to what its representations come to, each of which begins in the state at the mark.
-use Rattle.std.proofs.Common.{◌≡◌, ℕ, Bool, true, false, cond, List, Option, Some, None, length, refl, sym, subst}
+use Rattle.std.proofs.Common.{◌≡◌, ℕ, Bool, true, false, cond, List, ◌∷◌, Option, Some, None, length, refl, sym, subst}
 use Rattle.dfdl_report.specs.declared.cause.LimitCause.{LimitCause}
 use Rattle.dfdl_report.specs.declared.cause.ParseCause.{ParseCause}
 use Rattle.dfdl_report.specs.declared.cause.ParseCause.TheVariants.{RequiredEmpty}
@@ -11,12 +11,20 @@ use Rattle.dfdl_grammar.specs.declared.instead.Instead.TheVariants.{Nothing, Nil
 use Rattle.dfdl_grammar.specs.declared.mark.Mark.{Mark}
 use Rattle.dfdl_grammar.specs.States.{State}
 use Rattle.dfdl_grammar.specs.Outcomes.{Outcome}
-use Rattle.dfdl_grammar.specs.Marks.{back, closed, marked}
+use Rattle.dfdl_grammar.specs.Marks.{back, closed, mark_at, marked}
 use Rattle.dfdl_grammar.specs.Representations.{Attempt, after_empty, or_else, refuse, refused_among, represented, the_last, then_empty, then_nil, then_normal}
 
--- the state at the mark, where content is read by this in place of its own primitive
+-- the state with a mark, which is a point of uncertainty or not, where content is read by this in place of its own primitive
+abbrev pub marked_as : Bool → State → Instead → State
+marked_as is_point s instead = record s { instead = instead; marks = record (mark_at s) { is_point = is_point } ∷ s.marks }
+
+-- the state at the mark of an element
 abbrev pub marked_by : State → Instead → State
-marked_by s instead = record (marked s) { instead = instead }
+marked_by s instead = marked_as false s instead
+
+-- the state at a point of uncertainty
+abbrev pub pointed_by : State → Instead → State
+pointed_by s instead = marked_as true s instead
 
 -- the state where an element fails whose empty representation is found
 abbrev pub refused : State → State → State
@@ -32,65 +40,73 @@ pub any_ok : (made : ℕ → Instead) (prim : Option ℕ) → IsOk (λ (instead 
 any_ok made None = tt
 any_ok made (Some prim) = tt
 
--- What holds of an outcome while the mark is open (Q) and behind it (P), where what fails goes back to the state at the mark.
-module _ (P Q : End → State → Type 0) (s : State) (attempt : Attempt) (ok : Instead → Type 0) (none_ok : ok Nothing)
+-- What holds of the outcome of a representation while the mark is open (Q) and behind it (P), where what fails goes back to the state at
+-- the mark. The last one is the normal one.
+module _ (P : End → State → Type 0) (Q : Instead → End → State → Type 0) (s : State) (attempt : Attempt) (ok : Instead → Type 0) (none_ok : ok Nothing)
     (alone : P (attempt Nothing s).end (attempt Nothing s).state)
-    (attempts : (instead before : Instead) → ok instead → Q (attempt instead (marked_by s before)).end (attempt instead (marked_by s before)).state)
-    (closes : (e : End) (t : State) → Q e t → P e (closed t))
-    (stays : (cause : LimitCause) (quantity : ℕ) (t : State) → Q (Stopped cause quantity) t → P (Stopped cause quantity) t)
-    (refuses : (t : State) → Q Done t → P (Failed RequiredEmpty s.at) (refused s t))
+    (attempts : (instead before : Instead) → ok instead → Q instead (attempt instead (marked_by s before)).end (attempt instead (marked_by s before)).state)
+    (finds : (instead : Instead) (t : State) → Q instead Done t → P Done (closed t))
+    (fails : (cause : ParseCause) (bit : ℕ) (t : State) → Q Nothing (Failed cause bit) t → P (Failed cause bit) (closed t))
+    (stays : (instead : Instead) (cause : LimitCause) (quantity : ℕ) (t : State) → Q instead (Stopped cause quantity) t → P (Stopped cause quantity) t)
+    (refuses : (instead : Instead) (t : State) → Q instead Done t → P (Failed RequiredEmpty s.at) (refused s t))
     (marks_stay : (instead before : Instead) → (attempt instead (marked_by s before)).end ≡ Done
     → (attempt instead (marked_by s before)).state.marks ≡ (marked s).marks)
     (returns : (instead before : Instead) (cause : ParseCause) (bit : ℕ) → (attempt instead (marked_by s before)).end ≡ Failed cause bit
     → back (attempt instead (marked_by s before)).state ≡ marked_by s (attempt instead (marked_by s before)).state.instead) where
-  stopped : (cause : LimitCause) (quantity : ℕ) (o : Outcome) → Stopped cause quantity ≡ o.end → Q o.end o.state → P o.end o.state
-  stopped cause quantity o same holds =
-      subst (λ (e : End). P e o.state) same (stays cause quantity o.state (subst (λ (e : End). Q e o.state) (sym same) holds))
+  stopped : (instead : Instead) (cause : LimitCause) (quantity : ℕ) (o : Outcome) → Stopped cause quantity ≡ o.end → Q instead o.end o.state → P o.end o.state
+  stopped instead cause quantity o same holds =
+      subst (λ (e : End). P e o.state) same (stays instead cause quantity o.state (subst (λ (e : End). Q instead e o.state) (sym same) holds))
 
-  last-comes : (e : End) (o : Outcome) → e ≡ o.end → Q o.end o.state → P (the_last e o).end (the_last e o).state
-  last-comes Done o same holds = closes o.end o.state holds
-  last-comes (Failed cause bit) o same holds = closes o.end o.state holds
-  last-comes (Stopped cause quantity) o same holds = stopped cause quantity o same holds
+  done : (instead : Instead) (o : Outcome) → Done ≡ o.end → Q instead o.end o.state → P o.end (closed o.state)
+  done instead o same holds =
+      subst (λ (e : End). P e (closed o.state)) same (finds instead o.state (subst (λ (e : End). Q instead e o.state) (sym same) holds))
 
-  else-comes : (e : End) (o : Outcome) (next : State → Outcome) → e ≡ o.end → Q o.end o.state
+  last-comes : (e : End) (o : Outcome) → e ≡ o.end → Q Nothing o.end o.state → P (the_last e o).end (the_last e o).state
+  last-comes Done o same holds = done Nothing o same holds
+  last-comes (Failed cause bit) o same holds =
+      subst (λ (e : End). P e (closed o.state)) same (fails cause bit o.state (subst (λ (e : End). Q Nothing e o.state) (sym same) holds))
+  last-comes (Stopped cause quantity) o same holds = stopped Nothing cause quantity o same holds
+
+  else-comes : (instead : Instead) (e : End) (o : Outcome) (next : State → Outcome) → e ≡ o.end → Q instead o.end o.state
       → ((cause : ParseCause) (bit : ℕ) → o.end ≡ Failed cause bit → back o.state ≡ marked_by s o.state.instead)
       → ((before : Instead) → P (next (marked_by s before)).end (next (marked_by s before)).state)
       → P (or_else e o next).end (or_else e o next).state
-  else-comes Done o next same holds goes_back others = closes o.end o.state holds
-  else-comes (Failed cause bit) o next same holds goes_back others =
+  else-comes instead Done o next same holds goes_back others = done instead o same holds
+  else-comes instead (Failed cause bit) o next same holds goes_back others =
       subst (λ (t : State). P (next t).end (next t).state) (sym (goes_back cause bit (sym same))) (others o.state.instead)
-  else-comes (Stopped cause quantity) o next same holds goes_back others = stopped cause quantity o same holds
+  else-comes instead (Stopped cause quantity) o next same holds goes_back others = stopped instead cause quantity o same holds
 
   normal-comes : (before : Instead) → P (then_normal attempt (marked_by s before)).end (then_normal attempt (marked_by s before)).state
   normal-comes before = let o : Outcome = attempt Nothing (marked_by s before) in last-comes o.end o refl (attempts Nothing before none_ok)
 
   -- the empty representation of an element that has no value to take
-  refuse-comes : (e : End) (o : Outcome) (next : State → Outcome) → e ≡ o.end → Q o.end o.state
+  refuse-comes : (instead : Instead) (e : End) (o : Outcome) (next : State → Outcome) → e ≡ o.end → Q instead o.end o.state
       → (o.end ≡ Done → o.state.marks ≡ (marked s).marks)
       → ((cause : ParseCause) (bit : ℕ) → o.end ≡ Failed cause bit → back o.state ≡ marked_by s o.state.instead)
       → ((before : Instead) → P (next (marked_by s before)).end (next (marked_by s before)).state)
       → P (refuse e o next).end (refuse e o next).state
-  refuse-comes Done o next same holds stay goes_back others =
+  refuse-comes instead Done o next same holds stay goes_back others =
       let here : P (Failed RequiredEmpty s.at) (refused s o.state) =
-      refuses o.state (subst (λ (e : End). Q e o.state) (sym same) holds) in
+      refuses instead o.state (subst (λ (e : End). Q instead e o.state) (sym same) holds) in
       subst (λ (ms : List Mark). P (refused_among ms o).end (refused_among ms o).state) (sym (stay (sym same))) here
-  refuse-comes (Failed cause bit) o next same holds stay goes_back others = else-comes (Failed cause bit) o next same holds goes_back others
-  refuse-comes (Stopped cause quantity) o next same holds stay goes_back others = stopped cause quantity o same holds
+  refuse-comes instead (Failed cause bit) o next same holds stay goes_back others =
+      else-comes instead (Failed cause bit) o next same holds goes_back others
+  refuse-comes instead (Stopped cause quantity) o next same holds stay goes_back others = stopped instead cause quantity o same holds
 
-  found-comes : (refuses_empty : Bool) (o : Outcome) (next : State → Outcome) → Q o.end o.state
+  found-comes : (instead : Instead) (refuses_empty : Bool) (o : Outcome) (next : State → Outcome) → Q instead o.end o.state
       → (o.end ≡ Done → o.state.marks ≡ (marked s).marks)
       → ((cause : ParseCause) (bit : ℕ) → o.end ≡ Failed cause bit → back o.state ≡ marked_by s o.state.instead)
       → ((before : Instead) → P (next (marked_by s before)).end (next (marked_by s before)).state)
       → P (after_empty refuses_empty o next).end (after_empty refuses_empty o next).state
-  found-comes true o next holds stay goes_back others = refuse-comes o.end o next refl holds stay goes_back others
-  found-comes false o next holds stay goes_back others = else-comes o.end o next refl holds goes_back others
+  found-comes instead true o next holds stay goes_back others = refuse-comes instead o.end o next refl holds stay goes_back others
+  found-comes instead false o next holds stay goes_back others = else-comes instead o.end o next refl holds goes_back others
 
   empty-comes : (refuses_empty : Bool) (empty : Option ℕ) → IsOk ok Empty empty → (before : Instead)
       → P (then_empty refuses_empty empty attempt (marked_by s before)).end (then_empty refuses_empty empty attempt (marked_by s before)).state
   empty-comes refuses_empty None is before = normal-comes before
   empty-comes refuses_empty (Some prim) is before =
       let o : Outcome = attempt (Empty prim) (marked_by s before) in
-      found-comes refuses_empty o (then_normal attempt) (attempts (Empty prim) before is) (marks_stay (Empty prim) before)
+      found-comes (Empty prim) refuses_empty o (then_normal attempt) (attempts (Empty prim) before is) (marks_stay (Empty prim) before)
       (returns (Empty prim) before) normal-comes
 
   nil-comes : (tried : Representations) (nil : Option ℕ) → IsOk ok Nil nil → IsOk ok Empty tried.empty → (before : Instead)
@@ -98,7 +114,7 @@ module _ (P Q : End → State → Type 0) (s : State) (attempt : Attempt) (ok : 
   nil-comes tried None nil_is empty_is before = empty-comes tried.refuses_empty tried.empty empty_is before
   nil-comes tried (Some prim) nil_is empty_is before =
       let o : Outcome = attempt (Nil prim) (marked_by s before) in
-      else-comes o.end o (then_empty tried.refuses_empty tried.empty attempt) refl (attempts (Nil prim) before nil_is) (returns (Nil prim) before)
+      else-comes (Nil prim) o.end o (then_empty tried.refuses_empty tried.empty attempt) refl (attempts (Nil prim) before nil_is) (returns (Nil prim) before)
       (empty-comes tried.refuses_empty tried.empty empty_is)
 
   several-come : (tried : Representations) → IsOk ok Nil tried.nil → IsOk ok Empty tried.empty → (several : Bool)

@@ -1,5 +1,5 @@
 -- The characters of a content that markup ends are characters, where the bytes of the data are bytes.
-use Rattle.std.proofs.Common.{◌≡◌, ℕ, zero, suc, ◌+◌, ◌-◌, ◌*◌, ◌/◌, ◌<◌, ◌≤◌, refl, arith, Bool, true, false, cond, ◌&&◌, ◌||◌, List, [], ◌∷◌, ◌++◌, Option, Some, None, sym, subst}
+use Rattle.std.proofs.Common.{◌≡◌, ℕ, zero, suc, ◌+◌, ◌-◌, ◌/◌, ◌<◌, ◌≤◌, refl, arith, Bool, true, false, cond, ◌&&◌, ◌||◌, List, [], ◌∷◌, ◌++◌, Option, Some, None, sym, subst}
 use Rattle.std.specs.Char.{IsScalar}
 use Rattle.dfdl_bits.specs.declared.window.Seen.{Seen}
 use Rattle.dfdl_bits.specs.declared.window.Seen.TheVariants.{Byte}
@@ -24,7 +24,7 @@ use Rattle.dfdl_escapes.specs.Steps.{Step, Takes, Passes, Closes, RunsOut, Fails
 use Rattle.dfdl_escapes.specs.Trims.{bare_content, before_pads, before_rest, behind_pads, end_trimmed, front_trimmed, is_pad, keeps_one_zero, trimmed_content, unescaped}
 use Rattle.dfdl_grammar.specs.Delimited.{plain, scanned, scanned_as, scanned_from}
 use Rattle.std.specs.List.{All}
-use Rattle.dfdl_grammar.proofs.Holding.{both_have, first_has, rest_has}
+use Rattle.dfdl_grammar.proofs.Holding.{both_have}
 
 -- a fact of what is told
 abbrev pub Says : {F : Type 0} → (F → Type 0) → Reached F → Type 0

@@ -8,7 +8,7 @@ use Rattle.dfdl_terms.specs.declared.representations.Representations.{Representa
 use Rattle.dfdl_value.specs.declared.value.Value.{Value}
 use Rattle.dfdl_terms.specs.declared.row.Primitive.{Primitive}
 use Rattle.dfdl_terms.specs.declared.row.Row.{Row}
-use Rattle.dfdl_terms.specs.declared.row.Row.TheVariants.{Leaf, Elem, Group, Skip, Align, Initiator, Terminator, Separator, Scope, Boxed, PrefixedLeaf, PrefixedBox, Repeat}
+use Rattle.dfdl_terms.specs.declared.row.Row.TheVariants.{Leaf, Elem, Group, Skip, Align, Initiator, Terminator, Separator, Scope, Boxed, PrefixedLeaf, PrefixedBox, Repeat, Optional, Choice as ChoiceRow}
 use Rattle.dfdl_terms.specs.declared.text.TextSize.{TextSize}
 use Rattle.dfdl_terms.specs.Rows.{IsElementRow, Table}
 use Rattle.dfdl_region.specs.declared.node.Node.{Node}
@@ -30,14 +30,17 @@ use Rattle.dfdl_grammar.specs.Framing.{aligned, fill_to, has_byte, passed}
 use Rattle.dfdl_grammar.specs.Delimiters.{closes_to, lists_of, markup, opens, scoped, unscoped}
 use Rattle.dfdl_grammar.specs.Boxes.{boxed, boxed_at, bytes_up_to, pass_bytes, past_byte, rest as rest_of, unboxed}
 use Rattle.dfdl_grammar.specs.Elements.{attempted, begun, close, element, has_elements, left}
-use Rattle.dfdl_grammar.specs.Marks.{closed}
+use Rattle.dfdl_grammar.specs.Marks.{closed, pointed}
+use Rattle.dfdl_grammar.specs.Choices.{choice}
+use Rattle.dfdl_grammar.specs.Occurrences.{occurrences}
 use Rattle.dfdl_grammar.specs.Prefixes.{bits_of_units, leaf_of, prefixed, resized, size_of, sized_leaf}
 use Rattle.dfdl_grammar.specs.Rows.{below, group, meaning, row, row_at}
 use Rattle.dfdl_grammar.specs.Trees.{IsNode, IsTree}
 use Rattle.dfdl_grammar.proofs.Going.{below-goes, tried-returns, tried-stays}
 use Rattle.dfdl_grammar.proofs.Grown.{Goes, begun-longer, content-length}
 use Rattle.dfdl_grammar.proofs.Prefixed.{prefixed-comes}
-use Rattle.dfdl_grammar.proofs.Represented.{any_ok, marked_by, refused, represented-comes}
+use Rattle.dfdl_grammar.proofs.Pointed.{choice-comes, occurrence-comes}
+use Rattle.dfdl_grammar.proofs.Represented.{any_ok, marked_by, pointed_by, refused, represented-comes}
 use Rattle.dfdl_grammar.proofs.Sought.{initiator-comes, separator-comes, terminator-comes}
 
 -- the elements are a tree, and the innermost open one is among them, where there are any
@@ -247,13 +250,14 @@ module _ (input : Input) (table : Table) where
       let attempt-keeps : (instead : Instead) (t : State) → Grows table t
       → Began t (attempted input id complex body instead t).end (attempted input id complex body instead t).state =
       λ instead t grows. room-tried id complex body elem keeps instead t grows (nat_lt (length t.nodes) input.limits.nodes) in
-      represented-comes (λ (e : End) (t : State). Follows s t) (λ (e : End) (t : State). Began s e t) s
+      represented-comes (λ (e : End) (t : State). Follows s t) (λ (instead : Instead) (e : End) (t : State). Began s e t) s
       (attempted input id complex body) (λ (instead : Instead). Unit {0}) tt
       (attempt-keeps Nothing s good).0
       (λ instead before one. attempt-keeps instead (marked_by s before) (alike s (marked_by s before) good refl refl))
-      (λ e t began. (alike t (closed t) began.0.0 refl refl, began.0.1))
-      (λ cause quantity t began. began.0)
-      (refused-follows s) (tried-stays input id complex body goes s) (tried-returns input id complex body goes s)
+      (λ instead t began. (alike t (closed t) began.0.0 refl refl, began.0.1))
+      (λ cause bit t began. (alike t (closed t) began.0.0 refl refl, began.0.1))
+      (λ instead cause quantity t began. began.0)
+      (λ instead t began. refused-follows s t began) (tried-stays input id complex body goes s) (tried-returns input id complex body goes s)
       tried (any_ok Nil tried.nil) (any_ok Empty tried.empty)
 
   follow-keeps : (end : End) (o : Outcome) (next : State → Outcome) → Keeps next → Grows table o.state → Follows o.state (follow end o next).state
@@ -314,6 +318,28 @@ module _ (input : Input) (table : Table) where
       (closed.0, omega arith)
   boxed-keeps bits body keeps s good false = (good, same_length (length s.nodes))
 
+  choice-keeps : (child : ℕ → State → Outcome) → ((id : ℕ) → Keeps (child id)) → ((id : ℕ) → Goes (child id)) → (ids : List ℕ) → Keeps (choice child ids)
+  choice-keeps child keeps goes ids s good =
+      choice-comes (λ (e : End) (t : State). Follows s t) (λ (e : End) (t : State). Follows s t) s
+      (λ t grown. (alike t (closed t) grown.0 refl refl, grown.1)) (λ cause quantity t grown. grown)
+      (λ before is. (alike s (record s { instead = before }) good refl refl, same_length (length s.nodes))) child goes
+      (λ id before is. keeps id (pointed_by s before) (alike s (pointed_by s before) good refl refl)) ids
+
+  occurrences-keep : (body : State → Outcome) → Keeps body → Goes body → (left : ℕ) → Keeps (occurrences body left)
+  unfolding occurrences
+  occurrences-keep body keeps goes zero s good = (good, same_length (length s.nodes))
+  occurrences-keep body keeps goes (suc left) s good =
+      let o : Outcome = body (pointed s) in
+      let first : Follows s o.state = keeps (pointed s) (alike s (pointed s) good refl refl) in
+      occurrence-comes (λ (e : End) (t : State). Follows s t) s body goes
+      (λ before is. (alike s (record s { instead = before }) good refl refl, same_length (length s.nodes))) (occurrences body left)
+      (λ done.
+      let last = occurrences-keep body keeps goes left (closed o.state) (alike o.state (closed o.state) first.0 refl refl) in
+      let a = first.1 in
+      let b = last.1 in
+      (last.0, omega arith))
+      (λ cause quantity stopped. first)
+
   group-keeps : (child : ℕ → State → Outcome) → ((id : ℕ) → Keeps (child id)) → (children : List ℕ) → Keeps (group child children)
   group-keeps child keeps [] s good = (good, same_length (length s.nodes))
   group-keeps child keeps (id ∷ rest) s good =
@@ -356,6 +382,8 @@ module _ (input : Input) (table : Table) where
       prefixed-keeps table.delimiters (slice_get table.primitives prefix.prim) prefix.own (λ units after. sized_leaf input table.delimiters nil primitive (size_of prefix.unit units) after)
       (λ units. sized-keeps table.delimiters nil primitive (size_of prefix.unit units)) s good
   row-keeps child keeps goes id (Some (Repeat count body)) is s good = group-keeps child keeps (replicate count body) s good
+  row-keeps child keeps goes id (Some (Optional most item body)) is s good = occurrences-keep (child body) (keeps body) (goes body) most s good
+  row-keeps child keeps goes id (Some (ChoiceRow branches)) is s good = choice-keeps child keeps goes branches s good
   row-keeps child keeps goes id (Some (PrefixedBox prefix body)) is s good =
       prefixed-keeps table.delimiters (slice_get table.primitives prefix.prim) prefix.own (λ units after. boxed input (bits_of_units prefix.unit units) (child body) after)
       (λ units after kept. boxed-keeps (bits_of_units prefix.unit units) (child body) (keeps body) after kept

@@ -1,5 +1,5 @@
 -- Contents that terminating markup ends. 'Simple Types' (lengthKind delimited, escape schemes).
-use Rattle.std.specs.Prelude.{ℕ, ◌*◌, ◌/◌, List, map}
+use Rattle.std.specs.Prelude.{ℕ, ◌/◌, List, map}
 use Rattle.dfdl_terms.specs.declared.text.ScanForm.{ScanForm}
 use Rattle.dfdl_delims.specs.Deciding.{goes_on}
 use Rattle.dfdl_delims.specs.Lists.{Opened}

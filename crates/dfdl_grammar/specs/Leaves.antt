@@ -27,7 +27,6 @@ use Rattle.dfdl_terms.specs.declared.text.NilOctets.{NilOctets as NilOctetsForm}
 use Rattle.dfdl_terms.specs.declared.text.OctetForm.{OctetForm}
 use Rattle.dfdl_terms.specs.declared.text.PatternForm.{PatternForm}
 use Rattle.dfdl_terms.specs.declared.text.TextContent.{TextContent}
-use Rattle.dfdl_terms.specs.declared.text.ScanForm.{ScanForm}
 use Rattle.dfdl_terms.specs.declared.text.TextContent.TheVariants.{Plain, Octets as TextOctets, Number, Zoned, Truth as TextTruth, Nil}
 use Rattle.dfdl_terms.specs.declared.text.TextForm.{TextForm}
 use Rattle.dfdl_terms.specs.declared.text.TextSize.{TextSize}
@@ -94,10 +93,9 @@ bits_of (Default form) = bits_of_text form.size
 bits_of (NilValues form) = 0
 bits_of (Pattern form) = 0
 
--- the bit at which a text without bits begins whose box begins at this one: a string or nil there, and else the next whole byte
+-- the bit at which a text without bits begins whose box begins at this one: a string there, and else the next whole byte
 abbrev pub empty_begins : TextContent → ℕ → ℕ
 empty_begins Plain bit = bit
-empty_begins (Nil form) bit = bit
 empty_begins _ bit = aligned 8 bit
 
 -- the bit at which a text begins whose box begins at this one: the next whole byte, where the box has any bit

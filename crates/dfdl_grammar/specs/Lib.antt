@@ -11,6 +11,8 @@ pub mod Leaves
 pub mod Boxes
 pub mod Elements
 pub mod Representations
+pub mod Choices
+pub mod Occurrences
 pub mod Prefixes
 pub mod Rows
 pub mod Documents

@@ -1,7 +1,16 @@
 -- Marks are opened, parsing goes back to them, and they are closed. 'Parsing Algorithm'.
-use Rattle.std.specs.Prelude.{◌≡◌, List, [], ◌∷◌, take, length, false}
+use Rattle.std.specs.Prelude.{◌≡◌, ℕ, nat_le, List, [], ◌∷◌, take, length, Bool, true, false, Option, Some, None, slice_get}
+use Rattle.dfdl_region.specs.declared.node.Content.{Content}
+use Rattle.dfdl_region.specs.declared.node.Content.TheVariants.{Begun}
+use Rattle.dfdl_region.specs.declared.node.Node.{Node}
+use Rattle.dfdl_region.specs.Nodes.{with_content}
 use Rattle.dfdl_grammar.specs.declared.mark.Mark.{Mark}
 use Rattle.dfdl_grammar.specs.States.{State}
+
+-- what an element has; where there is none, as before any read
+abbrev pub content_of : Option Node → Content
+content_of None = Begun
+content_of (Some node) = node.content
 
 -- a mark at this state that is no point of uncertainty
 abbrev pub mark_at : State → Mark
@@ -13,18 +22,28 @@ mark_at s = record {
   nodes = length s.nodes;
   text = length s.text;
   inside = s.inside;
+  content = content_of (slice_get s.nodes s.inside);
 }
 
 -- the state with such a mark
 abbrev pub marked : State → State
 marked s = record s { marks = mark_at s ∷ s.marks }
 
--- the state at a mark: the elements that begun since are gone, and so are the bytes of values since
+-- a mark at this state that is a point of uncertainty
+abbrev pub point_at : State → Mark
+point_at s = record (mark_at s) { is_point = true }
+
+-- the state with such a point
+abbrev pub pointed : State → State
+pointed s = record s { marks = point_at s ∷ s.marks }
+
+-- the state at a mark: the elements that have begun since are gone, so are the bytes of values since, and the element that was open has
+-- what it had
 abbrev pub back_to : Mark → State → State
 back_to mark s = record s {
   at = mark.at;
   stop = mark.stop;
-  nodes = take mark.nodes s.nodes;
+  nodes = with_content (take mark.nodes s.nodes) mark.inside mark.content;
   text = take mark.text s.text;
   inside = mark.inside;
 }
@@ -37,6 +56,11 @@ back_among (mark ∷ outer) s = back_to mark s
 -- the state at the innermost mark, which stays open
 abbrev pub back : State → State
 back s = back_among s.marks s
+
+-- no bit was passed over since the first of these marks
+abbrev pub stays_at : List Mark → ℕ → Bool
+stays_at [] at = true
+stays_at (mark ∷ outer) at = nat_le at mark.at
 
 -- all but the first of these marks
 abbrev pub outer_marks : List Mark → List Mark

@@ -16,6 +16,8 @@
 //! - Prefixes: a number before a content that tells how long that is ('Lengths').
 //! - Elements: an element begins, and ends ('The DFDL Information Set').
 //! - Representations: nil, empty and normal, in this order from one place ('DFDL Data Syntax Grammar').
+//! - Choices: branches are tried from one place ('Choices').
+//! - Occurrences: times of an element that are tried, one after another ('Arrays and Optional Elements').
 //! - Rows: the meaning of each row, by those below it ('DFDL Data Syntax Grammar').
 //! - Documents: the meaning of the root element's row at the front of the data, or at the byte at which a document begins.
 //! - Trees: the elements of a document are a tree of the schema's elements, each of which is read.

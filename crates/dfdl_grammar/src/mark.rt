@@ -1,3 +1,5 @@
+use dfdl_region::Content;
+
 /// A place that parsing can go back to, and what was known there ('Parsing Algorithm').
 #[derive(Debug, Clone, Copy, PartialEq, Eq)]
 pub struct Mark {
@@ -15,4 +17,6 @@ pub struct Mark {
     pub text: u32,
     /// the number of the innermost element that is open
     pub inside: u32,
+    /// what that element has
+    pub content: Content,
 }

@@ -1,5 +1,5 @@
 -- What content says of an element, and what is left to be read.
-use Rattle.std.proofs.Common.{◌≡◌, ℕ, suc, ◌+◌, ◌<◌, ◌≤◌, List, [], ◌∷◌, ◌++◌, length, drop, fold, All, map, get_or, Option, None, Some, slice_get, refl, sym, ap, ◌∙◌, arith, append_assoc, drop-cons, Bor}
+use Rattle.std.proofs.Common.{◌≡◌, ℕ, suc, ◌+◌, ◌<◌, ◌≤◌, List, [], ◌∷◌, ◌++◌, length, drop, fold, All, map, get_or, Bool, Option, None, Some, slice_get, refl, sym, ap, ◌∙◌, arith, append_assoc, drop-cons, Bor}
 use Rattle.std.proofs.Math.ListN.{drop_of_length-le}
 use Rattle.std.proofs.lemmas.Grind.{fold-append}
 use Rattle.serde_json.specs.Data.{Data, null, boolean, number, string, array, object, Members}
@@ -9,7 +9,7 @@ use Rattle.dfdl_forms.specs.declared.simple.Simple.{Simple}
 use Rattle.dfdl_terms.specs.declared.representations.Representations.{Representations}
 use Rattle.dfdl_terms.specs.declared.delimiters.Delimiter.{Delimiter}
 use Rattle.dfdl_terms.specs.declared.prefix.Prefix.{Prefix}
-use Rattle.dfdl_terms.specs.declared.row.Row.TheVariants.{Leaf, Elem, Group, Skip, Align, Initiator, Terminator, Separator, Scope, Boxed, PrefixedLeaf, PrefixedBox, Repeat}
+use Rattle.dfdl_terms.specs.declared.row.Row.TheVariants.{Leaf, Elem, Group, Skip, Align, Initiator, Terminator, Separator, Scope, Boxed, PrefixedLeaf, PrefixedBox, Repeat, Optional, Choice}
 use Rattle.dfdl_terms.specs.declared.event.Event.TheVariants.{Start, End}
 use Rattle.dfdl_terms.specs.Rows.{Table}
 use Rattle.dfdl_json.specs.ByRows.{below}
@@ -90,6 +90,12 @@ module _ (t : Table) (row : ℕ) (content : Data) (around : Names) where
 
   pub repeat_says : (count body : ℕ) → slice_get t.rows row ≡ Some (Repeat count body) → findings t row content around ≡ []
   repeat_says count body is = ap (λ f. f content around) (row_is (findings_by t) (λ c a. []) t.rows row (Some (Repeat count body)) is)
+
+  pub optional_says : (most : ℕ) (item : Bool) (body : ℕ) → slice_get t.rows row ≡ Some (Optional most item body) → findings t row content around ≡ []
+  optional_says most item body is = ap (λ f. f content around) (row_is (findings_by t) (λ c a. []) t.rows row (Some (Optional most item body)) is)
+
+  pub choice_says : (branches : List ℕ) → slice_get t.rows row ≡ Some (Choice branches) → findings t row content around ≡ []
+  choice_says branches is = ap (λ f. f content around) (row_is (findings_by t) (λ c a. []) t.rows row (Some (Choice branches)) is)
 
   pub group_says : (children : List ℕ) → slice_get t.rows row ≡ Some (Group children) → findings t row content around ≡ []
   group_says children is = ap (λ f. f content around) (row_is (findings_by t) (λ c a. []) t.rows row (Some (Group children)) is)

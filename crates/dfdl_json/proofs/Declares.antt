@@ -1,5 +1,5 @@
 -- What a row declares and how many steps it takes, by its kind.
-use Rattle.std.proofs.Common.{◌≡◌, ℕ, ◌+◌, ◌<◌, List, [], ◌∷◌, ◌++◌, All, map, Option, None, Some, slice_get, sym, ap, subst, ◌∙◌, arith, append_assoc, Result, Ok, Err, OnOk}
+use Rattle.std.proofs.Common.{◌≡◌, ℕ, ◌+◌, ◌<◌, Bool, List, [], ◌∷◌, ◌++◌, All, map, Option, None, Some, slice_get, sym, ap, subst, ◌∙◌, arith, append_assoc, Result, Ok, Err, OnOk}
 use Rattle.std.specs.List.{flat_map}
 use Rattle.std.proofs.lemmas.Grind.{flat_map-append}
 use Rattle.std.proofs.lemmas.List.{append-nil}
@@ -8,7 +8,7 @@ use Rattle.dfdl_terms.specs.declared.representations.Representations.{Representa
 use Rattle.dfdl_terms.specs.declared.delimiters.Delimiter.{Delimiter}
 use Rattle.dfdl_terms.specs.declared.prefix.Prefix.{Prefix}
 use Rattle.dfdl_terms.specs.declared.row.Row.{Row}
-use Rattle.dfdl_terms.specs.declared.row.Row.TheVariants.{Leaf, Elem, Group, Skip, Align, Initiator, Terminator, Separator, Scope, Boxed, PrefixedLeaf, PrefixedBox, Repeat}
+use Rattle.dfdl_terms.specs.declared.row.Row.TheVariants.{Leaf, Elem, Group, Skip, Align, Initiator, Terminator, Separator, Scope, Boxed, PrefixedLeaf, PrefixedBox, Repeat, Optional, Choice}
 use Rattle.dfdl_terms.specs.Rows.{Table, ChildrenBelow}
 use Rattle.dfdl_json.specs.ByRows.{below}
 use Rattle.dfdl_json.specs.Children.{declared_by, elements_in}
@@ -57,6 +57,11 @@ module _ (t : Table) (row : ℕ) where
   repeat_declares count body is less =
       row_is declared_by [] t.rows row (Some (Repeat count body)) is ∙ below_is declared_by [] t.rows row body less
 
+  pub optional_declares : (most : ℕ) (item : Bool) (body : ℕ) → slice_get t.rows row ≡ Some (Optional most item body) → body < row
+      → elements_in t row ≡ elements_in t body
+  optional_declares most item body is less =
+      row_is declared_by [] t.rows row (Some (Optional most item body)) is ∙ below_is declared_by [] t.rows row body less
+
   pub elem_declares : (name : List ℕ) (simple : Option Simple) (tried : Representations) (body : ℕ) → slice_get t.rows row ≡ Some (Elem name simple tried body) → elements_in t row ≡ row ∷ []
   elem_declares name simple tried body is = row_is declared_by [] t.rows row (Some (Elem name simple tried body)) is
 
@@ -65,6 +70,12 @@ module _ (t : Table) (row : ℕ) where
   group_declares children is below_row =
       row_is declared_by [] t.rows row (Some (Group children)) is
       ∙ flat_map_same row (below declared_by [] t.rows row) (elements_in t) (λ c less. below_is declared_by [] t.rows row c less) children below_row
+
+  pub choice_declares : (branches : List ℕ) → slice_get t.rows row ≡ Some (Choice branches) → All (λ b. b < row) branches
+      → elements_in t row ≡ flat_map (elements_in t) branches
+  choice_declares branches is below_row =
+      row_is declared_by [] t.rows row (Some (Choice branches)) is
+      ∙ flat_map_same row (below declared_by [] t.rows row) (elements_in t) (λ b less. below_is declared_by [] t.rows row b less) branches below_row
 
   pub no_row_steps : slice_get t.rows row ≡ None → steps_of t row ≡ 1
   no_row_steps is = row_is steps_by 0 t.rows row None is
@@ -107,6 +118,17 @@ module _ (t : Table) (row : ℕ) where
   repeat_steps count body is less =
       row_is steps_by 0 t.rows row (Some (Repeat count body)) is ∙ ap (λ n. 1 + n) (below_is steps_by 0 t.rows row body less)
 
+  pub optional_steps : (most : ℕ) (item : Bool) (body : ℕ) → slice_get t.rows row ≡ Some (Optional most item body) → body < row
+      → steps_of t row ≡ 1 + steps_of t body
+  optional_steps most item body is less =
+      row_is steps_by 0 t.rows row (Some (Optional most item body)) is ∙ ap (λ n. 1 + n) (below_is steps_by 0 t.rows row body less)
+
+  pub choice_steps : (branches : List ℕ) → slice_get t.rows row ≡ Some (Choice branches) → All (λ b. b < row) branches
+      → steps_of t row ≡ 1 + total (map (steps_of t) branches)
+  choice_steps branches is below_row =
+      row_is steps_by 0 t.rows row (Some (Choice branches)) is
+      ∙ ap (λ ns. 1 + total ns) (map_same row (below steps_by 0 t.rows row) (steps_of t) (λ b less. below_is steps_by 0 t.rows row b less) branches below_row)
+
   pub elem_steps : (name : List ℕ) (simple : Option Simple) (tried : Representations) (body : ℕ) → slice_get t.rows row ≡ Some (Elem name simple tried body) → body < row
       → steps_of t row ≡ 2 + steps_of t body
   elem_steps name simple tried body is less =
@@ -142,6 +164,12 @@ below_prefixed_box bound r prefix body is below_row = subst (λ (x : Row). Child
 pub below_repeat : (bound : ℕ) (r : Row) (count body : ℕ) → r ≡ Repeat count body → ChildrenBelow bound r → body < bound
 below_repeat bound r count body is below_row = subst (λ (x : Row). ChildrenBelow bound x) is below_row
 
+pub below_optional : (bound : ℕ) (r : Row) (most : ℕ) (item : Bool) (body : ℕ) → r ≡ Optional most item body → ChildrenBelow bound r → body < bound
+below_optional bound r most item body is below_row = subst (λ (x : Row). ChildrenBelow bound x) is below_row
+
+pub below_choice : (bound : ℕ) (r : Row) (branches : List ℕ) → r ≡ Choice branches → ChildrenBelow bound r → All (λ b. b < bound) branches
+below_choice bound r branches is below_row = subst (λ (x : Row). ChildrenBelow bound x) is below_row
+
 pub below_group : (bound : ℕ) (r : Row) (children : List ℕ) → r ≡ Group children → ChildrenBelow bound r → All (λ c. c < bound) children
 below_group bound r children is below_row = subst (λ (x : Row). ChildrenBelow bound x) is below_row
 
@@ -172,21 +200,20 @@ module _ (t : Table) (row : ℕ) (elements left : List ℕ) where
       → total (map (steps_of t) left) < steps_of t row + total (map (steps_of t) left)
   elem_less name simple tried body is less = omega (arith, elem_steps t row name simple tried body is less)
 
-  pub group_visited : (children now : List ℕ) → slice_get t.rows row ≡ Some (Group children) → All (λ c. c < row) children
-      → now ≡ children ++ left
+  -- of a row that declares what its parts do
+  pub parts_visited : (parts now : List ℕ) → elements_in t row ≡ flat_map (elements_in t) parts → now ≡ parts ++ left
       → elements ++ flat_map (elements_in t) now ≡ elements ++ (elements_in t row ++ flat_map (elements_in t) left)
-  group_visited children now is below_row now_is =
+  parts_visited parts now same now_is =
       ap (λ xs. elements ++ flat_map (elements_in t) xs) now_is
-      ∙ (ap (λ xs. elements ++ xs) (flat_map-append (elements_in t) children left)
-      ∙ ap (λ xs. elements ++ (xs ++ flat_map (elements_in t) left)) (sym (group_declares t row children is below_row)))
+      ∙ (ap (λ xs. elements ++ xs) (flat_map-append (elements_in t) parts left)
+      ∙ ap (λ xs. elements ++ (xs ++ flat_map (elements_in t) left)) (sym same))
 
-  pub group_less : (children now : List ℕ) → slice_get t.rows row ≡ Some (Group children) → All (λ c. c < row) children
-      → now ≡ children ++ left
+  pub parts_less : (parts now : List ℕ) → steps_of t row ≡ 1 + total (map (steps_of t) parts) → now ≡ parts ++ left
       → total (map (steps_of t) now) < steps_of t row + total (map (steps_of t) left)
-  group_less children now is below_row now_is =
-      let both : total (map (steps_of t) now) ≡ total (map (steps_of t) children) + total (map (steps_of t) left)
-      = ap (λ xs. total (map (steps_of t) xs)) now_is ∙ total_both (steps_of t) children left in
-      omega (arith, both, group_steps t row children is below_row)
+  parts_less parts now more now_is =
+      let both : total (map (steps_of t) now) ≡ total (map (steps_of t) parts) + total (map (steps_of t) left)
+      = ap (λ xs. total (map (steps_of t) xs)) now_is ∙ total_both (steps_of t) parts left in
+      omega (arith, both, more)
 
   -- of a row that declares what its body does
   pub body_visited : (body : ℕ) (now : List ℕ) → elements_in t row ≡ elements_in t body → now ≡ body ∷ left

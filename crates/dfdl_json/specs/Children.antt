@@ -2,7 +2,7 @@
 use Rattle.std.specs.Prelude.{ℕ, ◌-◌, List, [], ◌∷◌, length, Option, Some, None, slice_get}
 use Rattle.std.specs.List.{flat_map}
 use Rattle.dfdl_terms.specs.declared.row.Row.{Row}
-use Rattle.dfdl_terms.specs.declared.row.Row.TheVariants.{Leaf, Elem, Group, Skip, Align, Initiator, Terminator, Separator, Scope, Boxed, PrefixedLeaf, PrefixedBox, Repeat}
+use Rattle.dfdl_terms.specs.declared.row.Row.TheVariants.{Leaf, Elem, Group, Skip, Align, Initiator, Terminator, Separator, Scope, Boxed, PrefixedLeaf, PrefixedBox, Repeat, Optional, Choice}
 use Rattle.dfdl_terms.specs.Rows.{Table}
 use Rattle.dfdl_json.specs.ByRows.{by_rows}
 
@@ -19,8 +19,9 @@ name_in _ = []
 abbrev pub name_of : Table → ℕ → List ℕ
 name_of t row = name_in (slice_get t.rows row)
 
--- the elements that a row declares, where `inside` has those of the rows below it: an element declares itself, a
--- group what its children declare, a scope, a box, with or without a prefix, and a repetition what its body declares, and no other row anything
+-- The elements that a row declares, where `inside` has those of the rows below it: an element declares itself, a
+-- group what its children declare, a choice what its branches do, and a scope, a box, with or without a prefix, and a repetition, tried or
+-- not, what its body declares. No other row declares anything.
 abbrev pub declared_by : (ℕ → List ℕ) → ℕ → Option Row → List ℕ
 declared_by inside row (Some (Elem name simple tried body)) = row ∷ []
 declared_by inside row (Some (Group children)) = flat_map inside children
@@ -35,8 +36,10 @@ declared_by inside row (Some (Boxed bits body)) = inside body
 declared_by inside row (Some (PrefixedLeaf prefix prim)) = []
 declared_by inside row (Some (PrefixedBox prefix body)) = inside body
 declared_by inside row (Some (Repeat count body)) = inside body
+declared_by inside row (Some (Optional most item body)) = inside body
+declared_by inside row (Some (Choice branches)) = flat_map inside branches
 declared_by inside row None = []
 
--- the elements that the content of this row declares, through groups, scopes and boxes, in schema order
+-- the elements that the content of this row declares, through groups, choices, scopes and boxes, in schema order
 abbrev pub elements_in : Table → ℕ → List ℕ
 elements_in t row = by_rows declared_by [] t.rows row

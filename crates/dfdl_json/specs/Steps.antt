@@ -2,7 +2,7 @@
 use Rattle.std.specs.Prelude.{ℕ, ◌+◌, List, [], ◌∷◌, map, Option, None, Some}
 use Rattle.dfdl_terms.specs.Rows.{Table}
 use Rattle.dfdl_terms.specs.declared.row.Row.{Row}
-use Rattle.dfdl_terms.specs.declared.row.Row.TheVariants.{Leaf, Elem, Group, Skip, Align, Initiator, Terminator, Separator, Scope, Boxed, PrefixedLeaf, PrefixedBox, Repeat}
+use Rattle.dfdl_terms.specs.declared.row.Row.TheVariants.{Leaf, Elem, Group, Skip, Align, Initiator, Terminator, Separator, Scope, Boxed, PrefixedLeaf, PrefixedBox, Repeat, Optional, Choice}
 use Rattle.dfdl_json.specs.ByRows.{by_rows}
 
 -- numbers added up
@@ -25,6 +25,8 @@ steps_by inside row (Some (Scope list body)) = 1 + inside body
 steps_by inside row (Some (Boxed bits body)) = 1 + inside body
 steps_by inside row (Some (PrefixedBox prefix body)) = 1 + inside body
 steps_by inside row (Some (Repeat count body)) = 1 + inside body
+steps_by inside row (Some (Optional most item body)) = 1 + inside body
+steps_by inside row (Some (Choice branches)) = 1 + total (map inside branches)
 steps_by inside row (Some (Group children)) = 1 + total (map inside children)
 
 -- how many steps the row of this number takes

@@ -39,7 +39,7 @@ pub fn name_of(terms: &Terms, id: RowId) -> &str
     }
 }
 
-/// The elements that the content of this row declares, through groups and boxes, in schema order.
+/// The elements that the content of this row declares, through groups, choices and boxes, in schema order.
 pub fn elements_in(alloc: Global, terms: &Terms, id: RowId) -> Result<Vec<RowId>, AllocError>
     ensures { IfOk result (λ rows. rows.items ≡ children.elements_in terms.now id) }
 {
@@ -52,7 +52,8 @@ pub fn elements_in(alloc: Global, terms: &Terms, id: RowId) -> Result<Vec<RowId>
     Ok(elements)
 }
 
-// An element is put behind the others, and the children of a group or the body of a scope, a box or a repetition before the rows that are left.
+// An element is put behind the others, and the children of a group, the branches of a choice, or the body of a scope, a box or a
+// repetition before the rows that are left.
 fn visit(
     terms: &Terms,
     row: RowId,
@@ -81,6 +82,8 @@ fn visit(
         Some(Row::PrefixedLeaf { .. }) => Ok(()),
         Some(Row::PrefixedBox { body, .. }) => push_all(left, &[*body]),
         Some(Row::Repeat { body, .. }) => push_all(left, &[*body]),
+        Some(Row::Optional { body, .. }) => push_all(left, &[*body]),
+        Some(Row::Choice { branches }) => push_all(left, branches.as_slice()),
         None => Ok(()),
     }
 }

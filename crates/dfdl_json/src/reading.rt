@@ -152,6 +152,8 @@ impl<'t, 'v> Reading<'t, 'v> {
             Some(Row::PrefixedLeaf { .. }) => Ok(()),
             Some(Row::PrefixedBox { .. }) => Ok(()),
             Some(Row::Repeat { .. }) => Ok(()),
+            Some(Row::Optional { .. }) => Ok(()),
+            Some(Row::Choice { .. }) => Ok(()),
             None => Ok(()),
         }
     }

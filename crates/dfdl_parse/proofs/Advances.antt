@@ -1,5 +1,5 @@
 -- The machine goes on, a step at a time.
-use Rattle.std.proofs.Common.{◌≡◌, ℕ, ◌+◌, ◌-◌, ◌*◌, ◌/◌, ◌≤◌, max, min, nat_le, refl, List, [], ◌∷◌, length, Bool, true, false, cond, nat_lt, Option, Some, None, ap, sym, subst, ◌∙◌, arith, replicate}
+use Rattle.std.proofs.Common.{◌≡◌, ℕ, ◌+◌, ◌-◌, ◌*◌, ◌/◌, ◌≤◌, max, min, nat_eq, nat_le, refl, List, [], ◌∷◌, length, Bool, true, false, cond, nat_lt, Option, Some, None, ap, sym, subst, ◌∙◌, arith, replicate}
 use Rattle.std.specs.Prelude.{slice_get}
 use Rattle.dfdl_bits.specs.Window.{Held, end_of, from_byte, seen_at}
 use Rattle.dfdl_bits.specs.declared.window.Seen.{Seen}
@@ -11,7 +11,7 @@ use Rattle.dfdl_terms.specs.declared.row.Primitive.{Primitive}
 use Rattle.dfdl_delims.specs.Lists.{Opened}
 use Rattle.dfdl_terms.specs.declared.delimiters.Delimiters.{Delimiters}
 use Rattle.dfdl_terms.specs.declared.row.Row.{Row}
-use Rattle.dfdl_terms.specs.declared.row.Row.TheVariants.{Leaf, Elem, Group, Skip, Align, Initiator, Terminator, Separator, Scope, Boxed, PrefixedLeaf, PrefixedBox, Repeat}
+use Rattle.dfdl_terms.specs.declared.row.Row.TheVariants.{Leaf, Elem, Group, Skip, Align, Initiator, Terminator, Separator, Scope, Boxed, PrefixedLeaf, PrefixedBox, Repeat, Optional, Choice}
 use Rattle.dfdl_terms.specs.Rows.{Table}
 use Rattle.dfdl_looks.specs.Looks.{Agrees}
 use Rattle.dfdl_looks.specs.Asks.{ask}
@@ -21,7 +21,8 @@ use Rattle.dfdl_grammar.specs.declared.end.End.{End}
 use Rattle.dfdl_grammar.specs.declared.end.End.TheVariants.{Done, Failed, Stopped}
 use Rattle.dfdl_grammar.specs.declared.limits.Limits.{Limits}
 use Rattle.dfdl_grammar.specs.States.{State, anchor, anchor_at}
-use Rattle.dfdl_grammar.specs.Marks.{back, closed, marked}
+use Rattle.dfdl_grammar.specs.Marks.{back, closed, marked, pointed, stays_at}
+use Rattle.dfdl_grammar.specs.Occurrences.{dropped}
 use Rattle.dfdl_grammar.specs.declared.mark.Mark.{Mark}
 use Rattle.dfdl_grammar.specs.declared.instead.Instead.{Instead}
 use Rattle.dfdl_grammar.specs.declared.instead.Instead.TheVariants.{Nothing, Nil, Empty}
@@ -32,7 +33,7 @@ use Rattle.dfdl_grammar.specs.Framing.{aligned}
 use Rattle.dfdl_grammar.specs.Delimiters.{lists_of, markup, sought_among, stands_in}
 use Rattle.dfdl_grammar.specs.Elements.{begun, has_elements}
 use Rattle.dfdl_parse.specs.declared.frame.Frame.{Frame}
-use Rattle.dfdl_parse.specs.declared.frame.Frame.TheVariants.{Rest, Element, Box, Scope as ScopeFrame, Trial}
+use Rattle.dfdl_parse.specs.declared.frame.Frame.TheVariants.{Rest, Element, Box, Scope as ScopeFrame, Trial, Branch, Occurrence}
 use Rattle.dfdl_parse.specs.declared.frame.Outside.{Outside}
 use Rattle.dfdl_parse.specs.declared.frame.Next.{Next}
 use Rattle.dfdl_parse.specs.declared.frame.Next.TheVariants as next
@@ -48,6 +49,7 @@ use Rattle.dfdl_parse.specs.Moves.{Machine, Move, pass, read_leaf, read_move}
 use Rattle.dfdl_parse.specs.Prefixed.{behind_units, prefix_move, read_prefix, read_resized, read_sized}
 use Rattle.dfdl_parse.specs.Machines.{children_of, enter, enter_group, fill, fill_move, go_on, leave, pass_rest, past_one, rest_move, seen_beyond, step}
 use Rattle.dfdl_parse.specs.Trials.{attempt, parts_of, refused, retry, trial_done, try_empty, try_nil, try_normal, two_rows}
+use Rattle.dfdl_parse.specs.Points.{try_branch, try_occurrence}
 use Rattle.dfdl_parse.specs.Running.{Slid}
 use Rattle.dfdl_parse.proofs.Windows.{agrees_from, end_from}
 use Rattle.dfdl_parse.proofs.Beyond.{beyond-byte, beyond-end}
@@ -270,6 +272,21 @@ module _ (held : Held) (s : State) where
   done-keeps (Some parts) next.Normal k = empty-found-keeps parts.tried.refuses_empty k
   done-keeps (Some parts) next.Nothing k = pass-keeps nothing held _ _ _ refl refl
 
+  branch-keeps : (cost : Tally) → cost.tail ≡ 0 → cost.far ≡ 0 → (id place : ℕ) (child : Option ℕ) (k : List Frame) (t : State)
+      → Keeps held (try_branch cost held id place child k t)
+  branch-keeps cost no_tail no_far id place None k t = pass-keeps cost held _ _ _ no_tail no_far
+  branch-keeps cost no_tail no_far id place (Some child) k t = pass-keeps cost held _ _ _ no_tail no_far
+
+  occurrence-keeps : (cost : Tally) → cost.tail ≡ 0 → cost.far ≡ 0 → (body left : ℕ) (k : List Frame) (t : State) (none : Bool)
+      → Keeps held (cond none (pass cost held (Leave Done) k t) (pass cost held (Enter body) (Occurrence body (left - 1) ∷ k) (pointed t)))
+  occurrence-keeps cost no_tail no_far body left k t true = pass-keeps cost held _ _ _ no_tail no_far
+  occurrence-keeps cost no_tail no_far body left k t false = pass-keeps cost held _ _ _ no_tail no_far
+
+  passed-keeps : (body left : ℕ) (k : List Frame) (stays : Bool)
+      → Keeps held (cond stays (pass nothing held (Leave Done) k (dropped s)) (try_occurrence nothing held body left k (closed s)))
+  passed-keeps body left k true = pass-keeps nothing held _ _ _ refl refl
+  passed-keeps body left k false = occurrence-keeps nothing refl refl body left k (closed s) (nat_eq left 0)
+
   delimiter-keeps : (what : Sought) (k : List Frame) (does_stand : Bool)
       → Keeps held (cond does_stand (pass one_row held (Seek what) k s) (pass one_row held (Leave Done) k s))
   delimiter-keeps what k true = pass-keeps one_row held _ _ _ refl refl
@@ -318,6 +335,8 @@ module _ (held : Held) (s : State) where
   enter-keeps stands limits table id (Some (PrefixedLeaf prefix prim)) k =
       prefix-keeps stands limits table.delimiters id prefix.own (behind_units table.primitives prefix.unit (behind.Leaf (read_by table.primitives s.instead prim))) (slice_get table.primitives prefix.prim) k
   enter-keeps stands limits table id (Some (Repeat count body)) k = group-keeps id (replicate count body) k
+  enter-keeps stands limits table id (Some (Optional most item body)) k = occurrence-keeps one_row refl refl body most k s (nat_eq most 0)
+  enter-keeps stands limits table id (Some (Choice rows)) k = branch-keeps one_row refl refl id 0 (slice_get rows 0) k (pointed s)
   enter-keeps stands limits table id (Some (PrefixedBox prefix body)) k =
       prefix-keeps stands limits table.delimiters id prefix.own (behind_units table.primitives prefix.unit (behind.Box body)) (slice_get table.primitives prefix.prim) k
 
@@ -328,19 +347,21 @@ module _ (held : Held) (s : State) where
   leave-keeps : (limits : Limits) (table : Table) (frame : Frame) (end_told : End) (k : List Frame) → Keeps held (leave limits table held frame end_told k s)
   leave-keeps limits table (Rest id next) Done k = go-keeps id next (slice_get (children_of (slice_get table.rows id)) next) k
   leave-keeps limits table (Rest id next) (Failed cause bit) k = pass-keeps nothing held _ _ _ refl refl
-  leave-keeps limits table (Rest id next) (Stopped cause quantity) k = pass-keeps nothing held _ _ _ refl refl
   leave-keeps limits table (Element outer complex) Done k = pass-keeps nothing held _ _ _ refl refl
   leave-keeps limits table (Element outer complex) (Failed cause bit) k = pass-keeps nothing held _ _ _ refl refl
-  leave-keeps limits table (Element outer complex) (Stopped cause quantity) k = pass-keeps nothing held _ _ _ refl refl
   leave-keeps limits table (Box outer) Done k = leave-box-keeps outer k (nat_le s.stop s.at)
   leave-keeps limits table (Box outer) (Failed cause bit) k = pass-keeps nothing held _ _ _ refl refl
-  leave-keeps limits table (Box outer) (Stopped cause quantity) k = pass-keeps nothing held _ _ _ refl refl
   leave-keeps limits table (ScopeFrame count) Done k = pass-keeps nothing held _ _ _ refl refl
   leave-keeps limits table (ScopeFrame count) (Failed cause bit) k = pass-keeps nothing held _ _ _ refl refl
-  leave-keeps limits table (ScopeFrame count) (Stopped cause quantity) k = pass-keeps nothing held _ _ _ refl refl
   leave-keeps limits table (Trial id next) Done k = done-keeps (parts_of (slice_get table.rows id)) next k
-  leave-keeps limits table (Trial id next) (Failed cause bit) k = retry-keeps limits.nodes id (parts_of (slice_get table.rows id)) next (Failed cause bit) k
-  leave-keeps limits table (Trial id next) (Stopped cause quantity) k = pass-keeps nothing held _ _ _ refl refl
+  leave-keeps limits table (Trial id next) (Failed cause bit) k =
+      retry-keeps limits.nodes id (parts_of (slice_get table.rows id)) next (Failed cause bit) k
+  leave-keeps limits table (Branch id next) Done k = pass-keeps nothing held _ _ _ refl refl
+  leave-keeps limits table (Branch id next) (Failed cause bit) k =
+      branch-keeps nothing refl refl id next (slice_get (children_of (slice_get table.rows id)) next) k (back s)
+  leave-keeps limits table (Occurrence body left) Done k = passed-keeps body left k (stays_at s.marks s.at)
+  leave-keeps limits table (Occurrence body left) (Failed cause bit) k = pass-keeps nothing held _ _ _ refl refl
+  leave-keeps limits table frame (Stopped cause quantity) k = pass-keeps nothing held _ _ _ refl refl
 
   pub step-keeps : (limits : Limits) (table : Table) (focus : Focus) (k : List Frame) → Stands held focus s → Keeps held (step limits table held focus k s)
   step-keeps limits table (Enter id) k stands = enter-keeps stands limits table id (slice_get table.rows id) k

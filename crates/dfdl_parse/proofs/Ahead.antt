@@ -14,7 +14,7 @@ use Rattle.dfdl_value.specs.declared.value.Value.{Value}
 use Rattle.dfdl_terms.specs.declared.row.Primitive.{Primitive}
 use Rattle.dfdl_grammar.specs.Leaves.{nil_values, read_by}
 use Rattle.dfdl_terms.specs.declared.row.Row.{Row}
-use Rattle.dfdl_terms.specs.declared.row.Row.TheVariants.{Leaf, Elem, Group, Skip, Align, Initiator, Terminator, Separator, Scope, Boxed, PrefixedLeaf, PrefixedBox, Repeat}
+use Rattle.dfdl_terms.specs.declared.row.Row.TheVariants.{Leaf, Elem, Group, Skip, Align, Initiator, Terminator, Separator, Scope, Boxed, PrefixedLeaf, PrefixedBox, Repeat, Optional, Choice}
 use Rattle.dfdl_terms.specs.Rows.{Table, Nests}
 use Rattle.dfdl_looks.specs.Looks.{seen_in}
 use Rattle.dfdl_looks.specs.Asks.{Answer, Reading}
@@ -23,7 +23,8 @@ use Rattle.dfdl_looks.proofs.Resumed.{on_seen}
 use Rattle.dfdl_grammar.specs.declared.end.End.{End}
 use Rattle.dfdl_grammar.specs.declared.end.End.TheVariants.{Done, Failed, Stopped}
 use Rattle.dfdl_grammar.specs.States.{Input, State, anchor_at}
-use Rattle.dfdl_grammar.specs.Marks.{back, closed, marked}
+use Rattle.dfdl_grammar.specs.Marks.{back, closed, marked, pointed, stays_at}
+use Rattle.dfdl_grammar.specs.Occurrences.{dropped}
 use Rattle.dfdl_grammar.specs.declared.mark.Mark.{Mark}
 use Rattle.dfdl_grammar.specs.Delimiters.{closes_to, stands_in}
 use Rattle.dfdl_grammar.specs.declared.instead.Instead.{Instead}
@@ -39,7 +40,7 @@ use Rattle.dfdl_grammar.specs.Rows.{below, group, meaning, row}
 use Rattle.dfdl_grammar.proofs.Spending.{spend-nothing, spend-spend}
 use Rattle.dfdl_grammar.proofs.Towers.{below-meaning}
 use Rattle.dfdl_parse.specs.declared.frame.Frame.{Frame}
-use Rattle.dfdl_parse.specs.declared.frame.Frame.TheVariants.{Rest, Element, Box, Scope as ScopeFrame, Trial}
+use Rattle.dfdl_parse.specs.declared.frame.Frame.TheVariants.{Rest, Element, Box, Scope as ScopeFrame, Trial, Branch, Occurrence}
 use Rattle.dfdl_parse.specs.declared.frame.Outside.{Outside}
 use Rattle.dfdl_parse.specs.declared.frame.Next.{Next}
 use Rattle.dfdl_parse.specs.declared.frame.Next.TheVariants as next
@@ -57,6 +58,7 @@ use Rattle.dfdl_parse.specs.Ahead.{finish, focused, retried, trial_of}
 use Rattle.dfdl_parse.proofs.Lists.{drop_some, drop_none, all_at}
 use Rattle.dfdl_parse.proofs.Beyond.{beyond-same}
 use Rattle.dfdl_parse.proofs.Finishes.{Anchored, Does, Fits, after_nothing, finish-spend, from_here, retried-spend, unboxed-spend}
+use Rattle.dfdl_parse.proofs.PointSteps.{branch-ahead, first-ahead, passed-ahead}
 use Rattle.dfdl_parse.proofs.SeekSteps.{delimiter-ahead, scope-ahead, seek-ahead, separator-ahead}
 use Rattle.dfdl_parse.proofs.LeafSteps.{Sees, box-ahead, leaf-of, prefix-of, sized-begin, sized-of}
 
@@ -140,6 +142,8 @@ module _ (input : Input) (table : Table) where
   body-below nests id parts (Some (PrefixedLeaf prefix prim)) is told = absurd (cc)
   body-below nests id parts (Some (PrefixedBox prefix body)) is told = absurd (cc)
   body-below nests id parts (Some (Repeat count body)) is told = absurd (cc)
+  body-below nests id parts (Some (Optional most item body)) is told = absurd (cc)
+  body-below nests id parts (Some (Choice rows)) is told = absurd (cc)
 
   -- a representation that is done
   refused-trial : (held : Held) (marks : List Mark) (k : List Frame) (s : State)
@@ -347,6 +351,8 @@ module _ (input : Input) (table : Table) where
   children-below nests id (Some (PrefixedBox prefix body)) is = λ i row less. absurd (omega arith)
   children-below nests id (Some (Repeat count body)) is =
       All-replicate (λ c. c < id) count body (nests id (Repeat count body) (slice_get_within table.rows id (Repeat count body) is) is)
+  children-below nests id (Some (Optional most item body)) is = λ i row less. absurd (omega arith)
+  children-below nests id (Some (Choice rows)) is = nests id (Choice rows) (slice_get_within table.rows id (Choice rows) is) is
 
   enter-ahead : Nests table.rows → (held : Held) (id : ℕ) (r : Option Row) (k : List Frame) (s : State) → slice_get table.rows id ≡ r → Fits held input (Enter id) s
       → (enter input.limits table held id r k s).waits ≡ false
@@ -384,6 +390,11 @@ module _ (input : Input) (table : Table) where
       held (slice_get table.primitives prefix.prim) (sees held s fits.stands fits) going
   enter-ahead nests held id (Some (Repeat count body)) k s is fits going =
       group-ahead held id (replicate count body) k s (ap children_of is) (children-below nests id (Some (Repeat count body)) is)
+  enter-ahead nests held id (Some (Optional most item body)) k s is fits going =
+      let less : body < id = nests id (Optional most item body) (slice_get_within table.rows id (Optional most item body) is) is in
+      first-ahead input table held id body most k s less
+  enter-ahead nests held id (Some (Choice rows)) k s is fits going =
+      branch-ahead input table one_row held id 0 rows (slice_get rows 0) k (pointed s) (ap children_of is) (children-below nests id (Some (Choice rows)) is) refl
   enter-ahead nests held id (Some (PrefixedBox prefix body)) k s is fits going =
       let less : body < id = nests id (PrefixedBox prefix body) (slice_get_within table.rows id (PrefixedBox prefix body) is) is in
       prefix-of input table id prefix.own (λ units after. boxed input (bits_of_units prefix.unit units) (below input table id body) after)
@@ -426,10 +437,19 @@ module _ (input : Input) (table : Table) where
   leave-ahead nests held (ScopeFrame count) (Failed cause bit) k s = after_nothing input table k (ended (Failed cause bit) (closes_to count s))
   leave-ahead nests held (ScopeFrame count) (Stopped cause quantity) k s = after_nothing input table k (ended (Stopped cause quantity) s)
   leave-ahead nests held (Trial id next) Done k s = done-trial held id (parts_of (slice_get table.rows id)) next k s
-  leave-ahead nests held (Trial id next) (Failed cause bit) k s = retry-ahead nests held id (parts_of (slice_get table.rows id)) next cause bit k s refl
+  leave-ahead nests held (Trial id next) (Failed cause bit) k s =
+      retry-ahead nests held id (parts_of (slice_get table.rows id)) next cause bit k s refl
   leave-ahead nests held (Trial id next) (Stopped cause quantity) k s =
       ap (finish input table k) (stopped-trial id (parts_of (slice_get table.rows id)) next cause quantity s)
       ∙ after_nothing input table k (ended (Stopped cause quantity) s)
+  leave-ahead nests held (Branch id next) Done k s = after_nothing input table k (ended Done (closed s))
+  leave-ahead nests held (Branch id next) (Failed cause bit) k s =
+      let rows : List ℕ = children_of (slice_get table.rows id) in
+      branch-ahead input table nothing held id next rows (slice_get rows next) k (back s) refl (children-below nests id (slice_get table.rows id) refl) refl
+  leave-ahead nests held (Branch id next) (Stopped cause quantity) k s = after_nothing input table k (ended (Stopped cause quantity) s)
+  leave-ahead nests held (Occurrence body left) Done k s = passed-ahead input table held body left k s (stays_at s.marks s.at)
+  leave-ahead nests held (Occurrence body left) (Failed cause bit) k s = after_nothing input table k (ended Done (dropped s))
+  leave-ahead nests held (Occurrence body left) (Stopped cause quantity) k s = after_nothing input table k (ended (Stopped cause quantity) s)
 
   pub step-ahead : Nests table.rows → (held : Held) (focus : Focus) (k : List Frame) (s : State) → Fits held input focus s
       → (step input.limits table held focus k s).waits ≡ false

@@ -1,5 +1,5 @@
 -- Each step leaves less to be done.
-use Rattle.std.proofs.Common.{◌≡◌, ℕ, ◌+◌, ◌-◌, ◌*◌, ◌/◌, ◌<◌, ◌≤◌, min, nat_le, refl, List, [], ◌∷◌, length, Bool, true, false, cond, nat_lt, Option, Some, None, ap, arith, replicate}
+use Rattle.std.proofs.Common.{◌≡◌, ℕ, ◌+◌, ◌-◌, ◌*◌, ◌/◌, ◌<◌, ◌≤◌, min, nat_eq, nat_le, refl, List, [], ◌∷◌, length, Bool, true, false, cond, nat_lt, Option, Some, None, ap, arith, replicate}
 use Rattle.std.specs.Prelude.{slice_get}
 use Rattle.dfdl_bits.specs.Window.{Held, end_of, from_byte, seen_at}
 use Rattle.dfdl_bits.specs.declared.window.Seen.{Seen}
@@ -12,7 +12,7 @@ use Rattle.dfdl_terms.specs.declared.row.Primitive.{Primitive}
 use Rattle.dfdl_report.specs.declared.cause.ParseCause.{ParseCause}
 use Rattle.dfdl_delims.specs.Longest.{Longest}
 use Rattle.dfdl_terms.specs.declared.row.Row.{Row}
-use Rattle.dfdl_terms.specs.declared.row.Row.TheVariants.{Leaf, Elem, Group, Skip, Align, Initiator, Terminator, Separator, Scope, Boxed, PrefixedLeaf, PrefixedBox, Repeat}
+use Rattle.dfdl_terms.specs.declared.row.Row.TheVariants.{Leaf, Elem, Group, Skip, Align, Initiator, Terminator, Separator, Scope, Boxed, PrefixedLeaf, PrefixedBox, Repeat, Optional, Choice}
 use Rattle.dfdl_terms.specs.Rows.{Table, Nests}
 use Rattle.dfdl_looks.specs.Asks.{Reached, Told, TooFar, Missing, Reading, ask}
 use Rattle.dfdl_looks.specs.Tallies.{Tally, needs_from, nothing, one_row, saw_byte}
@@ -20,7 +20,8 @@ use Rattle.dfdl_grammar.specs.declared.end.End.{End}
 use Rattle.dfdl_grammar.specs.declared.end.End.TheVariants.{Done, Failed, Stopped}
 use Rattle.dfdl_grammar.specs.declared.limits.Limits.{Limits}
 use Rattle.dfdl_grammar.specs.States.{Input, State, anchor, anchor_at}
-use Rattle.dfdl_grammar.specs.Marks.{back, closed, marked}
+use Rattle.dfdl_grammar.specs.Marks.{back, closed, marked, pointed, stays_at}
+use Rattle.dfdl_grammar.specs.Occurrences.{dropped}
 use Rattle.dfdl_grammar.specs.declared.mark.Mark.{Mark}
 use Rattle.dfdl_grammar.specs.declared.instead.Instead.{Instead}
 use Rattle.dfdl_grammar.specs.declared.instead.Instead.TheVariants.{Nothing, Nil, Empty}
@@ -33,7 +34,7 @@ use Rattle.dfdl_grammar.specs.Boxes.{boxed_at}
 use Rattle.dfdl_grammar.specs.Delimiters.{lists_of, markup, sought_among, stands_in}
 use Rattle.dfdl_grammar.specs.Elements.{begun, has_elements}
 use Rattle.dfdl_parse.specs.declared.frame.Frame.{Frame}
-use Rattle.dfdl_parse.specs.declared.frame.Frame.TheVariants.{Rest, Element, Box, Scope as ScopeFrame, Trial}
+use Rattle.dfdl_parse.specs.declared.frame.Frame.TheVariants.{Rest, Element, Box, Scope as ScopeFrame, Trial, Branch, Occurrence}
 use Rattle.dfdl_parse.specs.declared.frame.Outside.{Outside}
 use Rattle.dfdl_parse.specs.declared.frame.Next.{Next}
 use Rattle.dfdl_parse.specs.declared.frame.Next.TheVariants as next
@@ -49,6 +50,7 @@ use Rattle.dfdl_parse.specs.Moves.{Machine, Move, is_missing, landed, pass, read
 use Rattle.dfdl_parse.specs.Prefixed.{at_end, behind_units, can_fit, landed_prefix, prefix_move, read_prefix, read_resized, read_sized, sized_begins, units_begin}
 use Rattle.dfdl_parse.specs.Machines.{HasEnded, children_of, enter, enter_group, fill_move, go_on, leave, rest_move, seen_beyond, step}
 use Rattle.dfdl_parse.specs.Trials.{attempt, parts_of, refused, retry, trial_done, try_empty, try_nil, try_normal, two_rows}
+use Rattle.dfdl_parse.specs.Points.{occurrence_done, try_branch, try_occurrence}
 use Rattle.dfdl_parse.specs.Ahead.{ahead}
 use Rattle.dfdl_parse.proofs.Finishes.{Fits}
 use Rattle.dfdl_parse.proofs.Ahead.{step-ahead}
@@ -208,6 +210,35 @@ done-falls held id (Some parts) next.Empty k s = omega arith
 done-falls held id (Some parts) next.Normal k s = empty-found-falls held id next.Normal parts.tried.refuses_empty k s
 done-falls held id (Some parts) next.Nothing k s = omega arith
 
+-- a branch, where its cost is enough for what it puts on the stack
+branch-falls : (cost : Tally) (held : Held) (id place : ℕ) (child : Option ℕ) (k : List Frame) (s : State) (bound : ℕ)
+    → 2 * length k + 2 < 4 * (cost.rows + cost.looks) + bound
+    → left_of (try_branch cost held id place child k s).machine
+    < 4 * ((try_branch cost held id place child k s).tally.rows + (try_branch cost held id place child k s).tally.looks) + bound
+branch-falls cost held id place None k s bound some = omega arith
+branch-falls cost held id place (Some child) k s bound some = omega arith
+
+-- the same of an occurrence
+begun-occurrence-falls : (cost : Tally) (held : Held) (body left : ℕ) (k : List Frame) (s : State) (bound : ℕ)
+    → 2 * length k + 2 < 4 * (cost.rows + cost.looks) + bound → (none : Bool)
+    → let move : Move = cond none (pass cost held (Leave Done) k s) (pass cost held (Enter body) (Occurrence body (left - 1) ∷ k) (pointed s)) in
+    left_of move.machine < 4 * (move.tally.rows + move.tally.looks) + bound
+begun-occurrence-falls cost held body left k s bound some true = omega arith
+begun-occurrence-falls cost held body left k s bound some false = omega arith
+
+occurrence-falls : (cost : Tally) (held : Held) (body left : ℕ) (k : List Frame) (s : State) (bound : ℕ)
+    → 2 * length k + 2 < 4 * (cost.rows + cost.looks) + bound
+    → left_of (try_occurrence cost held body left k s).machine
+    < 4 * ((try_occurrence cost held body left k s).tally.rows + (try_occurrence cost held body left k s).tally.looks) + bound
+occurrence-falls cost held body left k s bound some = begun-occurrence-falls cost held body left k s bound some (nat_eq left 0)
+
+passed-falls : (held : Held) (body left : ℕ) (k : List Frame) (s : State) (stays : Bool)
+    → Falls (Leave Done) (Occurrence body left ∷ k)
+    (cond stays (pass nothing held (Leave Done) k (dropped s)) (try_occurrence nothing held body left k (closed s)))
+passed-falls held body left k s true = omega arith
+passed-falls held body left k s false =
+    occurrence-falls nothing held body left k (closed s) (2 * length (Occurrence body left ∷ k) + mode (Leave Done)) (omega arith)
+
 -- a delimiter falls by its row, and then from the focus in which it waits
 delimiter-falls : (held : Held) (id : ℕ) (what : Sought) (k : List Frame) (s : State) (does_stand : Bool)
     → Falls (Enter id) k (cond does_stand (pass one_row held (Seek what) k s) (pass one_row held (Leave Done) k s))
@@ -282,6 +313,10 @@ enter-falls limits table held id (Some (PrefixedLeaf prefix prim)) k s going =
     (λ units after. begun-falls (read_by table.primitives s.instead prim) (size_of prefix.unit units) (slice_get table.primitives (read_by table.primitives s.instead prim)) k after)
     held (slice_get table.primitives prefix.prim) s
 enter-falls limits table held id (Some (Repeat count body)) k s going = group-falls held id (replicate count body) k s
+enter-falls limits table held id (Some (Optional most item body)) k s going =
+    occurrence-falls one_row held body most k s (2 * length k + mode (Enter id)) (omega arith)
+enter-falls limits table held id (Some (Choice rows)) k s going =
+    branch-falls one_row held id 0 (slice_get rows 0) k (pointed s) (2 * length k + mode (Enter id)) (omega arith)
 enter-falls limits table held id (Some (PrefixedBox prefix body)) k s going =
     prefix-falls limits table.delimiters id prefix.own (behind_units table.primitives prefix.unit (behind.Box body)) k
     (λ units after. box-begun-falls (bits_of_units prefix.unit units) body k after (nat_le (after.at + bits_of_units prefix.unit units) after.stop))
@@ -294,20 +329,22 @@ go-falls held id next (Some child) k s = omega arith
 leave-falls : (limits : Limits) (table : Table) (held : Held) (frame : Frame) (end : End) (k : List Frame) (s : State) → Falls (Leave end) (frame ∷ k) (leave limits table held frame end k s)
 leave-falls limits table held (Rest id next) Done k s = go-falls held id next (slice_get (children_of (slice_get table.rows id)) next) k s
 leave-falls limits table held (Rest id next) (Failed cause bit) k s = omega arith
-leave-falls limits table held (Rest id next) (Stopped cause quantity) k s = omega arith
 leave-falls limits table held (Element outer complex) Done k s = omega arith
 leave-falls limits table held (Element outer complex) (Failed cause bit) k s = omega arith
-leave-falls limits table held (Element outer complex) (Stopped cause quantity) k s = omega arith
 leave-falls limits table held (Box outer) Done k s = leave-box-falls held outer k s (nat_le s.stop s.at)
 leave-falls limits table held (Box outer) (Failed cause bit) k s = omega arith
-leave-falls limits table held (Box outer) (Stopped cause quantity) k s = omega arith
 leave-falls limits table held (ScopeFrame count) Done k s = omega arith
 leave-falls limits table held (ScopeFrame count) (Failed cause bit) k s = omega arith
-leave-falls limits table held (ScopeFrame count) (Stopped cause quantity) k s = omega arith
 leave-falls limits table held (Trial id next) Done k s = done-falls held id (parts_of (slice_get table.rows id)) next k s
 leave-falls limits table held (Trial id next) (Failed cause bit) k s =
     retry-falls limits.nodes held id (parts_of (slice_get table.rows id)) next (Failed cause bit) k s
-leave-falls limits table held (Trial id next) (Stopped cause quantity) k s = omega arith
+leave-falls limits table held (Branch id next) Done k s = omega arith
+leave-falls limits table held (Branch id next) (Failed cause bit) k s =
+    branch-falls nothing held id next (slice_get (children_of (slice_get table.rows id)) next) k (back s)
+    (2 * length (Branch id next ∷ k) + mode (Leave (Failed cause bit))) (omega arith)
+leave-falls limits table held (Occurrence body left) Done k s = passed-falls held body left k s (stays_at s.marks s.at)
+leave-falls limits table held (Occurrence body left) (Failed cause bit) k s = omega arith
+leave-falls limits table held frame (Stopped cause quantity) k s = omega arith
 
 step-falls : (limits : Limits) (table : Table) (held : Held) (focus : Focus) (k : List Frame) (s : State) → (HasEnded focus k → ⊥)
     → (step limits table held focus k s).waits ≡ false → Falls focus k (step limits table held focus k s)

@@ -17,12 +17,14 @@ use Rattle.dfdl_grammar.specs.States.{Input, State, anchor, anchor_at}
 use Rattle.dfdl_grammar.specs.Outcomes.{Outcome, ended, spend, then_do}
 use Rattle.dfdl_grammar.specs.Leaves.{Find, Fails, Finds, FindsOctets, FindsText, land}
 use Rattle.dfdl_grammar.specs.Boxes.{rest, unboxed}
-use Rattle.dfdl_grammar.specs.Marks.{back}
+use Rattle.dfdl_grammar.specs.Marks.{back, closed, stays_at}
+use Rattle.dfdl_grammar.specs.Choices.{branches}
+use Rattle.dfdl_grammar.specs.Occurrences.{after_occurrence, dropped, occurrences}
 use Rattle.dfdl_grammar.specs.Representations.{after_empty, or_else, refuse, refused_among, the_last, then_empty, then_normal}
-use Rattle.dfdl_grammar.specs.Rows.{below, group}
+use Rattle.dfdl_grammar.specs.Rows.{below, group, meaning}
 use Rattle.dfdl_grammar.proofs.Spending.{spend-nothing, spend-spend, follow-spend, close-spend}
 use Rattle.dfdl_parse.specs.declared.frame.Frame.{Frame}
-use Rattle.dfdl_parse.specs.declared.frame.Frame.TheVariants.{Rest, Element, Box, Scope as ScopeFrame, Trial}
+use Rattle.dfdl_parse.specs.declared.frame.Frame.TheVariants.{Rest, Element, Box, Scope as ScopeFrame, Trial, Branch, Occurrence}
 use Rattle.dfdl_parse.specs.declared.frame.Next.{Next}
 use Rattle.dfdl_parse.specs.declared.frame.Next.TheVariants as next
 use Rattle.dfdl_parse.specs.declared.frame.Parts.{Parts}
@@ -117,6 +119,18 @@ empty-spend : (refuses : Bool) (t : Tally) (o : Outcome) (next : State → Outco
 empty-spend true t o next = refuse-spend o.end t o next
 empty-spend false t o next = else-spend o.end t o next
 
+-- and in an occurrence
+stayed-spend : (t : Tally) (o : Outcome) (next : State → Outcome) (stays : Bool)
+    → cond stays (record (spend t o) { state = dropped o.state }) (spend (spend t o).tally (next (closed o.state)))
+    ≡ spend t (cond stays (record o { state = dropped o.state }) (spend o.tally (next (closed o.state))))
+stayed-spend t o next true = refl
+stayed-spend t o next false = sym (spend-spend t o.tally (next (closed o.state)))
+
+occurrence-spend : (end : End) (t : Tally) (o : Outcome) (next : State → Outcome) → after_occurrence end (spend t o) next ≡ spend t (after_occurrence end o next)
+occurrence-spend Done t o next = stayed-spend t o next (stays_at o.state.marks o.state.at)
+occurrence-spend (Failed cause bit) t o next = refl
+occurrence-spend (Stopped cause quantity) t o next = refl
+
 module _ (input : Input) (table : Table) where
   pub retried-spend : (id : ℕ) (parts : Option Parts) (follows : Next) (t : Tally) (o : Outcome)
       → retried input table id parts follows (spend t o) ≡ spend t (retried input table id parts follows o)
@@ -133,6 +147,8 @@ module _ (input : Input) (table : Table) where
       ∙ unboxed-spend (then_do o (rest input)).end t outer.stop outer.hidden (then_do o (rest input))
   resume-spend (ScopeFrame count) t o = unscoped-spend o.end t count o
   resume-spend (Trial id next) t o = retried-spend id (parts_of (slice_get table.rows id)) next t o
+  resume-spend (Branch id next) t o = else-spend o.end t o (branches (below input table id) (drop next (children_of (slice_get table.rows id))))
+  resume-spend (Occurrence body left) t o = occurrence-spend o.end t o (occurrences (meaning input table body) left)
 
   pub finish-spend : (k : List Frame) (t : Tally) (o : Outcome) → finish input table k (spend t o) ≡ spend t (finish input table k o)
   unfolding finish

@@ -19,6 +19,7 @@ pub mod Seeks
 pub mod SeekLies
 pub mod SeekSteps
 pub mod LeafSteps
+pub mod PointSteps
 pub mod Ahead
 pub mod Falls
 pub mod Advances

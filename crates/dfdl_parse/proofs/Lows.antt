@@ -1,5 +1,5 @@
 -- A step leaves the bytes that are needed behind it.
-use Rattle.std.proofs.Common.{◌≡◌, ℕ, ◌+◌, ◌-◌, ◌*◌, ◌/◌, ◌<◌, ◌≤◌, min, nat_eq, nat_le, nat_lt, ◌&&◌, refl, subst, List, [], ◌∷◌, length, Bool, true, false, cond, Option, Some, None, arith, replicate}
+use Rattle.std.proofs.Common.{◌≡◌, ℕ, suc, ap, sym, ◌∙◌, ◌+◌, ◌-◌, ◌*◌, ◌/◌, ◌<◌, ◌≤◌, min, nat_eq, nat_le, nat_lt, ◌&&◌, refl, subst, List, [], ◌∷◌, length, Bool, true, false, cond, Option, Some, None, arith, replicate}
 use Rattle.std.specs.Prelude.{slice_get}
 use Rattle.std.proofs.lemmas.Bool.Decides.{nat_tests}
 use Rattle.dfdl_bits.specs.Window.{Held, end_of, from_byte, seen_at}
@@ -13,7 +13,7 @@ use Rattle.dfdl_terms.specs.declared.delimiters.Delimiters.{Delimiters}
 use Rattle.dfdl_terms.specs.declared.row.Primitive.{Primitive}
 use Rattle.dfdl_delims.specs.Longest.{Longest, Text, NoText}
 use Rattle.dfdl_terms.specs.declared.row.Row.{Row}
-use Rattle.dfdl_terms.specs.declared.row.Row.TheVariants.{Leaf, Elem, Group, Skip, Align, Initiator, Terminator, Separator, Scope, Boxed, PrefixedLeaf, PrefixedBox, Repeat}
+use Rattle.dfdl_terms.specs.declared.row.Row.TheVariants.{Leaf, Elem, Group, Skip, Align, Initiator, Terminator, Separator, Scope, Boxed, PrefixedLeaf, PrefixedBox, Repeat, Optional, Choice}
 use Rattle.dfdl_terms.specs.Rows.{Table}
 use Rattle.dfdl_looks.specs.Asks.{Reached, Told, TooFar, Missing, ask}
 use Rattle.dfdl_looks.specs.Tallies.{Tally, needs_from, nothing, one_row, saw_byte}
@@ -22,7 +22,8 @@ use Rattle.dfdl_grammar.specs.declared.end.End.TheVariants.{Done, Failed, Stoppe
 use Rattle.dfdl_grammar.specs.declared.limits.Limits.{Limits}
 use Rattle.dfdl_grammar.specs.Outcomes.{Outcome, ended}
 use Rattle.dfdl_grammar.specs.States.{State, anchor, anchor_at}
-use Rattle.dfdl_grammar.specs.Marks.{back, closed, marked}
+use Rattle.dfdl_grammar.specs.Marks.{back, closed, mark_at, marked, point_at, pointed, stays_at}
+use Rattle.dfdl_grammar.specs.Occurrences.{dropped}
 use Rattle.dfdl_grammar.specs.declared.mark.Mark.{Mark}
 use Rattle.dfdl_grammar.specs.declared.instead.Instead.{Instead}
 use Rattle.dfdl_grammar.specs.declared.instead.Instead.TheVariants.{Nothing, Nil, Empty}
@@ -34,7 +35,7 @@ use Rattle.dfdl_grammar.specs.Boxes.{boxed_at}
 use Rattle.dfdl_grammar.specs.Delimiters.{lists_of, markup, opens, sought_among, stands_in}
 use Rattle.dfdl_grammar.specs.Elements.{begun, has_elements}
 use Rattle.dfdl_parse.specs.declared.frame.Frame.{Frame}
-use Rattle.dfdl_parse.specs.declared.frame.Frame.TheVariants.{Rest, Element, Box, Scope as ScopeFrame, Trial}
+use Rattle.dfdl_parse.specs.declared.frame.Frame.TheVariants.{Rest, Element, Box, Scope as ScopeFrame, Trial, Branch, Occurrence}
 use Rattle.dfdl_parse.specs.declared.frame.Outside.{Outside}
 use Rattle.dfdl_parse.specs.declared.frame.Next.{Next}
 use Rattle.dfdl_parse.specs.declared.frame.Next.TheVariants as next
@@ -49,10 +50,11 @@ use Rattle.dfdl_parse.specs.Searches.{among, cause_of, found_text, place_of}
 use Rattle.dfdl_parse.specs.Moves.{Machine, Move, landed, pass, read_leaf, read_move}
 use Rattle.dfdl_parse.specs.Prefixed.{at_end, behind_units, can_fit, landed_prefix, prefix_move, read_prefix, read_resized, read_sized, sized_begins, units_begin}
 use Rattle.dfdl_parse.specs.Machines.{children_of, enter, enter_group, fill, fill_move, go_on, leave, pass_rest, rest_move, seen_beyond, step}
-use Rattle.dfdl_parse.specs.Opens.{AreOpen, IsHeld, NeedsBehind, NeedsFrom}
+use Rattle.dfdl_parse.specs.Opens.{AreOpen, IsHeld, NeedsBehind, NeedsFrom, marks_of}
 use Rattle.dfdl_parse.specs.Trials.{attempt, parts_of, refused, retry, trial_done, try_empty, try_nil, try_normal, two_rows}
+use Rattle.dfdl_parse.specs.Points.{try_branch, try_occurrence}
 use Rattle.dfdl_parse.proofs.Beyond.{beyond-byte}
-use Rattle.dfdl_parse.proofs.Opens.{back-open, closed-open, later, lower, risen}
+use Rattle.dfdl_parse.proofs.Opens.{IsMarked, back-closed, back-open, closed-open, later, lower, mark-open, risen}
 use Rattle.dfdl_parse.proofs.Texts.{EndsBehind, program_for-ends}
 use Rattle.dfdl_parse.proofs.Finishes.{Anchored, Stands}
 
@@ -161,38 +163,56 @@ attempt-low : (cost : Tally) (most : ℕ) (held : Held) (id : ℕ) (parts : Part
 attempt-low cost most held id parts instead k s low opens true = (low, opens)
 attempt-low cost most held id parts instead k s low opens false = tt
 
--- the bytes from a mark on are held, for a representation that another one follows
-abbrev IsMarked : ℕ → ℕ → List Frame → State → Type 0
-IsMarked base id k s = (base ≤ s.at / 8) × ((follows : Next) → AreOpen base s.at (Trial id follows ∷ k) s.marks)
+-- the bytes from a mark on are held, for what is tried from it
+abbrev IsTried : ℕ → List Frame → State → Type 0
+IsTried base k s = (base ≤ s.at / 8) × IsMarked base s.at k s.marks
 
-module _ (cost : Tally) (most : ℕ) (held : Held) (id : ℕ) (parts : Parts) (k : List Frame) (s : State) (opens : IsMarked held.base id k s) where
+module _ (cost : Tally) (most : ℕ) (held : Held) (id : ℕ) (parts : Parts) (k : List Frame) (s : State) (opens : IsTried held.base k s) where
   normal-low : IsLow (try_normal cost most held id parts k s)
-  normal-low = attempt-low cost most held id parts Nothing (Trial id next.Nothing ∷ k) s opens.0 (opens.1 next.Nothing) (nat_lt (length s.nodes) most)
+  normal-low = attempt-low cost most held id parts Nothing (Trial id next.Nothing ∷ k) s opens.0 opens.1 (nat_lt (length s.nodes) most)
 
   empty-low : (empty : Option ℕ) → IsLow (try_empty cost most held id parts empty k s)
   empty-low None = normal-low
-  empty-low (Some prim) = attempt-low cost most held id parts (Empty prim) (Trial id next.Normal ∷ k) s opens.0 (opens.1 next.Normal) (nat_lt (length s.nodes) most)
+  empty-low (Some prim) = attempt-low cost most held id parts (Empty prim) (Trial id next.Normal ∷ k) s opens.0 opens.1 (nat_lt (length s.nodes) most)
 
   nil-low : (nil : Option ℕ) → IsLow (try_nil cost most held id parts nil k s)
   nil-low None = empty-low parts.tried.empty
-  nil-low (Some prim) = attempt-low cost most held id parts (Nil prim) (Trial id next.Empty ∷ k) s opens.0 (opens.1 next.Empty) (nat_lt (length s.nodes) most)
+  nil-low (Some prim) = attempt-low cost most held id parts (Nil prim) (Trial id next.Empty ∷ k) s opens.0 opens.1 (nat_lt (length s.nodes) most)
 
 -- a mark that is opened here
-opened : (base id : ℕ) (k : List Frame) (s : State) → base ≤ s.at / 8 → AreOpen base s.at k s.marks → IsMarked base id k (marked s)
-opened base id k s low opens = (low, λ follows. (refl, (omega arith, (low, opens))))
+opened : (base : ℕ) (k : List Frame) (s : State) → base ≤ s.at / 8 → AreOpen base s.at k s.marks → IsTried base k (marked s)
+opened base k s low opens = (low, mark-open base k s (mark_at s) refl refl low opens)
 
--- a mark that is gone back to
-gone-back : (base id : ℕ) (follows : Next) (k : List Frame) (s : State) → AreOpen base s.at (Trial id follows ∷ k) s.marks → IsMarked base id k (back s)
-gone-back base id follows k s opens = ((back-open base id follows follows k s s.marks refl opens).0, λ next. (back-open base id follows next k s s.marks refl opens).1)
+-- a point that is opened here
+point-opened : (base : ℕ) (k : List Frame) (s : State) → base ≤ s.at / 8 → AreOpen base s.at k s.marks → IsTried base k (pointed s)
+point-opened base k s low opens = (low, mark-open base k s (point_at s) refl refl low opens)
+
+-- a branch of a choice
+branch-low : (cost : Tally) (held : Held) (id place : ℕ) (child : Option ℕ) (k : List Frame) (s : State) → IsTried held.base k s
+    → IsLow (try_branch cost held id place child k s)
+branch-low cost held id place None k s opens = closed-open held.base s.at k s.marks opens.1
+branch-low cost held id place (Some child) k s opens = opens
+
+-- an occurrence
+occurrence-low : (cost : Tally) (held : Held) (body left : ℕ) (k : List Frame) (s : State) → held.base ≤ s.at / 8 → AreOpen held.base s.at k s.marks → (none : Bool)
+    → IsLow (cond none (pass cost held (Leave Done) k s) (pass cost held (Enter body) (Occurrence body (left - 1) ∷ k) (pointed s)))
+occurrence-low cost held body left k s low opens true = (low, opens)
+occurrence-low cost held body left k s low opens false = point-opened held.base k s low opens
+
+passed-low : (held : Held) (body left : ℕ) (k : List Frame) (s : State) → held.base ≤ s.at / 8 → IsMarked held.base s.at k s.marks → (stays : Bool)
+    → IsLow (cond stays (pass nothing held (Leave Done) k (dropped s)) (try_occurrence nothing held body left k (closed s)))
+passed-low held body left k s low opens true = back-closed held.base k s opens
+passed-low held body left k s low opens false =
+    occurrence-low nothing held body left k (closed s) low (closed-open held.base s.at k s.marks opens) (nat_eq left 0)
 
 retry-low : (most : ℕ) (held : Held) (id : ℕ) (parts : Option Parts) (follows : Next) (cause : ParseCause) (bit : ℕ) (k : List Frame) (s : State)
     → AreOpen held.base s.at (Trial id follows ∷ k) s.marks → IsLow (retry most held id parts follows (Failed cause bit) k s)
-retry-low most held id None follows cause bit k s opens = closed-open held.base s.at id follows k s.marks opens
+retry-low most held id None follows cause bit k s opens = closed-open held.base s.at k s.marks opens
 retry-low most held id (Some parts) next.Empty cause bit k s opens =
-    empty-low one_row most held id parts k (back s) (gone-back held.base id next.Empty k s opens) parts.tried.empty
+    empty-low one_row most held id parts k (back s) (back-open held.base k s opens) parts.tried.empty
 retry-low most held id (Some parts) next.Normal cause bit k s opens =
-    normal-low one_row most held id parts k (back s) (gone-back held.base id next.Normal k s opens)
-retry-low most held id (Some parts) next.Nothing cause bit k s opens = closed-open held.base s.at id next.Nothing k s.marks opens
+    normal-low one_row most held id parts k (back s) (back-open held.base k s opens)
+retry-low most held id (Some parts) next.Nothing cause bit k s opens = closed-open held.base s.at k s.marks opens
 
 module _ (held : Held) (s : State) where
   read-low : (cost : Tally) (limits : Limits) (focus : Focus) (delimiters : List Delimiters) (nil : Option (List Value)) (primitive : Primitive) (k : List Frame) → Anchored held s → NeedsFrom (anchor s) focus k s
@@ -250,7 +270,7 @@ module _ (held : Held) (s : State) where
 
   element-low : (most id : ℕ) (parts : Parts) (k : List Frame) → held.base ≤ s.at / 8 → AreOpen held.base s.at k s.marks → (several : Bool)
       → IsLow (cond several (try_nil two_rows most held id parts parts.tried.nil k (marked s)) (attempt two_rows most held id parts Nothing k s))
-  element-low most id parts k low opens true = nil-low two_rows most held id parts k (marked s) (opened held.base id k s low opens) parts.tried.nil
+  element-low most id parts k low opens true = nil-low two_rows most held id parts k (marked s) (opened held.base k s low opens) parts.tried.nil
   element-low most id parts k low opens false = attempt-low two_rows most held id parts Nothing k s low opens (nat_lt (length s.nodes) most)
 
   group-low : (id : ℕ) (children : List ℕ) (k : List Frame) → held.base ≤ s.at / 8 → AreOpen held.base s.at k s.marks → IsLow (enter_group held id children k s)
@@ -261,20 +281,21 @@ module _ (held : Held) (s : State) where
   refused-low : (id : ℕ) (follows : Next) (marks : List Mark) (k : List Frame) → s.marks ≡ marks → AreOpen held.base s.at (Trial id follows ∷ k) s.marks
       → IsLow (refused marks held k s)
   refused-low id follows [] k is opens =
-      absurd (subst (λ (ms : List Mark). AreOpen held.base s.at (Trial id follows ∷ k) ms) is opens)
-  refused-low id follows (mark ∷ outer) k is opens = closed-open held.base s.at id follows k s.marks opens
+      let none : 0 ≡ suc (marks_of k) = ap (λ (ms : List Mark). length ms) (sym is) ∙ opens.0 in
+      absurd (omega arith)
+  refused-low id follows (mark ∷ outer) k is opens = closed-open held.base s.at k s.marks opens
 
   empty-found-low : (id : ℕ) (follows : Next) (refuses : Bool) (k : List Frame) → held.base ≤ s.at / 8 → AreOpen held.base s.at (Trial id follows ∷ k) s.marks
       → IsLow (cond refuses (refused s.marks held k s) (pass nothing held (Leave Done) k (closed s)))
   empty-found-low id follows true k low opens = refused-low id follows s.marks k refl opens
-  empty-found-low id follows false k low opens = (low, closed-open held.base s.at id follows k s.marks opens)
+  empty-found-low id follows false k low opens = (low, closed-open held.base s.at k s.marks opens)
 
   done-low : (id : ℕ) (parts : Option Parts) (follows : Next) (k : List Frame) → held.base ≤ s.at / 8 → AreOpen held.base s.at (Trial id follows ∷ k) s.marks
       → IsLow (trial_done held parts follows k s)
-  done-low id None follows k low opens = (low, closed-open held.base s.at id follows k s.marks opens)
-  done-low id (Some parts) next.Empty k low opens = (low, closed-open held.base s.at id next.Empty k s.marks opens)
+  done-low id None follows k low opens = (low, closed-open held.base s.at k s.marks opens)
+  done-low id (Some parts) next.Empty k low opens = (low, closed-open held.base s.at k s.marks opens)
   done-low id (Some parts) next.Normal k low opens = empty-found-low id next.Normal parts.tried.refuses_empty k low opens
-  done-low id (Some parts) next.Nothing k low opens = (low, closed-open held.base s.at id next.Nothing k s.marks opens)
+  done-low id (Some parts) next.Nothing k low opens = (low, closed-open held.base s.at k s.marks opens)
 
   -- a delimiter begins
   delimiter-low : (what : Sought) (k : List Frame) → held.base ≤ s.at / 8 → AreOpen held.base s.at k s.marks → (does_stand : Bool)
@@ -305,6 +326,9 @@ module _ (held : Held) (s : State) where
       prefix-low limits table.delimiters id prefix.own (behind_units table.primitives prefix.unit (behind.Leaf by)) (slice_get table.primitives prefix.prim) k stands opens
       (λ units after is still. sized-low (anchor s) by (size_of prefix.unit units) (slice_get table.primitives by) k after is still)
   enter-low limits table id (Some (Repeat count body)) k stands low opens = group-low id (replicate count body) k low opens
+  enter-low limits table id (Some (Optional most item body)) k stands low opens = occurrence-low one_row held body most k s low opens (nat_eq most 0)
+  enter-low limits table id (Some (Choice rows)) k stands low opens =
+      branch-low one_row held id 0 (slice_get rows 0) k (pointed s) (point-opened held.base k s low opens)
   enter-low limits table id (Some (PrefixedBox prefix body)) k stands low opens =
       prefix-low limits table.delimiters id prefix.own (behind_units table.primitives prefix.unit (behind.Box body)) (slice_get table.primitives prefix.prim) k stands opens
       (λ units after is still. box-begun-low (anchor s) (bits_of_units prefix.unit units) body k after is still (nat_le (after.at + bits_of_units prefix.unit units) after.stop))
@@ -322,20 +346,21 @@ module _ (held : Held) (s : State) where
       → IsLow (leave limits table held frame told k s)
   leave-low limits table (Rest id next) Done k needs = go-low id next (slice_get (children_of (slice_get table.rows id)) next) k needs.0 needs.1
   leave-low limits table (Rest id next) (Failed cause bit) k needs = needs
-  leave-low limits table (Rest id next) (Stopped cause quantity) k needs = tt
   leave-low limits table (Element outer complex) Done k needs = needs
   leave-low limits table (Element outer complex) (Failed cause bit) k needs = needs
-  leave-low limits table (Element outer complex) (Stopped cause quantity) k needs = tt
   leave-low limits table (Box outer) Done k needs = leave-box-low outer k needs.0 needs.1 (nat_le s.stop s.at) refl
   leave-low limits table (Box outer) (Failed cause bit) k needs = needs
-  leave-low limits table (Box outer) (Stopped cause quantity) k needs = tt
   leave-low limits table (ScopeFrame count) Done k needs = needs
   leave-low limits table (ScopeFrame count) (Failed cause bit) k needs = needs
-  leave-low limits table (ScopeFrame count) (Stopped cause quantity) k needs = tt
   leave-low limits table (Trial id next) Done k needs = done-low id (parts_of (slice_get table.rows id)) next k needs.0 needs.1
   leave-low limits table (Trial id next) (Failed cause bit) k needs =
       retry-low limits.nodes held id (parts_of (slice_get table.rows id)) next cause bit k s needs
-  leave-low limits table (Trial id next) (Stopped cause quantity) k needs = tt
+  leave-low limits table (Branch id next) Done k needs = (needs.0, closed-open held.base s.at k s.marks needs.1)
+  leave-low limits table (Branch id next) (Failed cause bit) k needs =
+      branch-low nothing held id next (slice_get (children_of (slice_get table.rows id)) next) k (back s) (back-open held.base k s needs)
+  leave-low limits table (Occurrence body left) Done k needs = passed-low held body left k s needs.0 needs.1 (stays_at s.marks s.at)
+  leave-low limits table (Occurrence body left) (Failed cause bit) k needs = back-closed held.base k s needs
+  leave-low limits table frame (Stopped cause quantity) k needs = tt
 
   -- the bytes before the first one that is needed at a bit are given up, as far as they have come
   given-up : (bit : ℕ) (k : List Frame) → AreOpen held.base s.at k s.marks → AreOpen (min (anchor_at s bit) (end_of held)) s.at k s.marks

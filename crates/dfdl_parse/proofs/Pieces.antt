@@ -1,5 +1,5 @@
 -- What a session promises of a piece, of the end of the data and of the next document.
-use Rattle.std.proofs.Common.{◌≡◌, ℕ, ◌+◌, ◌-◌, ◌*◌, ◌/◌, ◌<◌, ◌≤◌, ◌⊎◌, inl, inr, max, not, refl, List, [], ◌∷◌, ◌++◌, length, take, Bool, true, false, ap, sym, subst, ◌∙◌, arith, length-append}
+use Rattle.std.proofs.Common.{◌≡◌, ℕ, suc, ◌+◌, ◌-◌, ◌*◌, ◌/◌, ◌<◌, ◌≤◌, ◌⊎◌, inl, inr, max, not, refl, List, [], ◌∷◌, ◌++◌, length, take, Bool, true, false, ap, sym, subst, ◌∙◌, arith, length-append}
 use Rattle.std.proofs.lemmas.List.{append-nil, get_or-take, get_or_append_left, length-take-le}
 use Rattle.std.proofs.Math.Seq.{take-append-add}
 use Rattle.dfdl_bits.specs.Window.{Held, end_of, from_byte, up_to_byte, with_more}
@@ -188,7 +188,7 @@ done_at (Leave end) (frame ∷ k) is = absurd (cc)
 
 none_open : (base at : ℕ) (marks : List Mark) → AreOpen base at [] marks → marks ≡ []
 none_open base at [] opens = refl
-none_open base at (mark ∷ outer) opens = absurd opens
+none_open base at (mark ∷ outer) opens = let none : suc (length outer) ≡ 0 = opens.0 in absurd (omega arith)
 
 -- a session that is done, before the next document
 module _ (s : Session) (sound : IsSound s) (done : answer_at s.parser.focus s.parser.stack ≡ AllDone) where
@@ -241,7 +241,7 @@ module _ (old new : Session) (done : answer_at old.parser.focus old.parser.stack
         low = subst (λ (f : Focus). NeedsFrom new.sight.base f new.parser.stack (state_of new.parser)) (sym focus)
             (subst (λ (k : List Frame). NeedsFrom new.sight.base (Enter (length old.terms.now.rows - 1)) k (state_of new.parser)) (sym stack)
             (subst (λ (s : State). NeedsFrom new.sight.base (Enter (length old.terms.now.rows - 1)) [] s) (sym front_is)
-            (let base : new.sight.base ≡ start = ap (λ (h : Held). h.base) is in omega arith, tt)));
+            (let base : new.sight.base ≡ start = ap (λ (h : Held). h.base) is in omega arith, (refl, tt))));
         at = omega (arith, ends);
         registered = subst (λ (t : Table). IsRegistered t new.parser) (sym rows) registered;
         window = ap (λ (h : Held). h.size) is ∙ sound.window ∙ ap (λ (l : Limits). l.window) (sym limits);

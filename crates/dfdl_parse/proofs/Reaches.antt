@@ -14,7 +14,7 @@ use Rattle.dfdl_delims.specs.Longest.{Longest, Text, NoText}
 use Rattle.dfdl_terms.specs.declared.delimiters.Delimiters.{Delimiters}
 use Rattle.dfdl_terms.specs.declared.row.Primitive.{Primitive}
 use Rattle.dfdl_terms.specs.declared.row.Row.{Row}
-use Rattle.dfdl_terms.specs.declared.row.Row.TheVariants.{Leaf, Elem, Group, Skip, Align, Initiator, Terminator, Separator, Scope, Boxed, PrefixedLeaf, PrefixedBox, Repeat}
+use Rattle.dfdl_terms.specs.declared.row.Row.TheVariants.{Leaf, Elem, Group, Skip, Align, Initiator, Terminator, Separator, Scope, Boxed, PrefixedLeaf, PrefixedBox, Repeat, Optional, Choice}
 use Rattle.dfdl_terms.specs.Rows.{Table}
 use Rattle.dfdl_terms.specs.declared.prefix.LengthUnit.{LengthUnit}
 use Rattle.dfdl_terms.specs.declared.text.TextSize.{TextSize}
@@ -29,7 +29,8 @@ use Rattle.dfdl_grammar.specs.declared.limits.Limits.{Limits}
 use Rattle.dfdl_grammar.specs.declared.mark.Mark.{Mark}
 use Rattle.dfdl_grammar.specs.Outcomes.{Outcome, ended}
 use Rattle.dfdl_grammar.specs.States.{State, anchor, anchor_at, held_from}
-use Rattle.dfdl_grammar.specs.Marks.{back, back_among, closed, marked}
+use Rattle.dfdl_grammar.specs.Marks.{back, back_among, closed, marked, pointed, stays_at}
+use Rattle.dfdl_grammar.specs.Occurrences.{dropped}
 use Rattle.dfdl_grammar.specs.Prefixes.{bits_of_units, resized, size_of, units_told}
 use Rattle.dfdl_grammar.specs.Leaves.{Find, Fails, Finds, FindsOctets, FindsText, content_begins, has_room, nil_values, program, program_for, read_by}
 use Rattle.dfdl_grammar.specs.Framing.{aligned}
@@ -37,7 +38,7 @@ use Rattle.dfdl_grammar.specs.Delimiters.{lists_of, markup, opens, sought_among,
 use Rattle.dfdl_grammar.specs.Boxes.{boxed_at}
 use Rattle.dfdl_grammar.specs.Elements.{begun, has_elements}
 use Rattle.dfdl_parse.specs.declared.frame.Frame.{Frame}
-use Rattle.dfdl_parse.specs.declared.frame.Frame.TheVariants.{Rest, Element, Box, Scope as ScopeFrame, Trial}
+use Rattle.dfdl_parse.specs.declared.frame.Frame.TheVariants.{Rest, Element, Box, Scope as ScopeFrame, Trial, Branch, Occurrence}
 use Rattle.dfdl_parse.specs.declared.frame.Next.{Next}
 use Rattle.dfdl_parse.specs.declared.frame.Next.TheVariants as next
 use Rattle.dfdl_parse.specs.declared.frame.Parts.{Parts}
@@ -56,27 +57,13 @@ use Rattle.dfdl_parse.specs.Machines.{children_of, enter, enter_group, fill, fil
 use Rattle.dfdl_parse.specs.Opens.{AreOpen, GoesBack, IsBefore, NeedsFrom}
 use Rattle.dfdl_parse.specs.Running.{Reaches}
 use Rattle.dfdl_parse.specs.Trials.{attempt, is_refused, parts_of, refused, retry, try_empty, try_nil, try_normal, two_rows}
+use Rattle.dfdl_parse.specs.Points.{try_branch, try_occurrence}
 use Rattle.dfdl_parse.proofs.Ends.{AtEnd}
 use Rattle.dfdl_parse.proofs.Finishes.{Anchored, Stands}
 use Rattle.dfdl_parse.proofs.Lies.{found-lies}
 use Rattle.dfdl_parse.proofs.SeekLies.{AtText, sought-lies}
-use Rattle.dfdl_parse.proofs.Opens.{held-before, holds}
+use Rattle.dfdl_parse.proofs.Opens.{held-near, holds}
 use Rattle.dfdl_parse.proofs.Waits.{leave-on}
-
--- the first byte that is needed is none behind the one that comes next where a mark is open, and else that of a bit
-held-near : (base at bit : ℕ) (k : List Frame) (marks : List Mark) → AreOpen base at k marks
-    → (held_from marks bit ≡ bit) ⊎ (held_from marks bit / 8 ≤ at / 8)
-held-near base at bit [] [] opens = inl refl
-held-near base at bit [] (mark ∷ outer) opens = absurd opens
-held-near base at bit (Rest id next ∷ k) marks opens = held-near base at bit k marks opens
-held-near base at bit (Element outer complex ∷ k) marks opens = held-near base at bit k marks opens
-held-near base at bit (Box outer ∷ k) marks opens = held-near base at bit k marks opens
-held-near base at bit (ScopeFrame count ∷ k) marks opens = held-near base at bit k marks opens
-held-near base at bit (Trial id next ∷ k) [] opens = absurd opens
-held-near base at bit (Trial id next ∷ k) (mark ∷ outer) opens =
-    let before_at : mark.at ≤ at = opens.1.0 in
-    let low : held_from outer mark.at / 8 ≤ mark.at / 8 = held-before base mark.at mark.at k outer opens.1.1.1 (omega arith) in
-    inr (subst (λ (b : Bool). held_from outer (cond b bit mark.at) / 8 ≤ at / 8) (sym opens.0) (omega arith))
 
 -- the bit behind what is found in a leaf
 held-at : (room : Bool) (m : ℕ) (s t : State) (most : ℕ) → s.at ≤ m → t.at ≤ m
@@ -235,6 +222,16 @@ module _ (m : ℕ) (held : Held) (base : held.base ≤ m) where
     nil-reaches None = empty-reaches parts.tried.empty
     nil-reaches (Some prim) = attempt-reaches cost most id parts (Nil prim) (Trial id next.Empty ∷ k) s at (nat_lt (length s.nodes) most)
 
+  -- a branch, and an occurrence that is tried
+  branch-reaches : (cost : Tally) (id place : ℕ) (child : Option ℕ) (k : List Frame) (s : State) → s.at ≤ 8 * m → Within m (try_branch cost held id place child k s)
+  branch-reaches cost id place None k s at = (omega arith, omega arith)
+  branch-reaches cost id place (Some child) k s at = pass-reaches cost (Enter child) (Branch id (place + 1) ∷ k) s at
+
+  occurrence-reaches : (cost : Tally) (body left : ℕ) (k : List Frame) (s : State) → s.at ≤ 8 * m → (none : Bool)
+      → Within m (cond none (pass cost held (Leave Done) k s) (pass cost held (Enter body) (Occurrence body (left - 1) ∷ k) (pointed s)))
+  occurrence-reaches cost body left k s at true = pass-reaches cost (Leave Done) k s at
+  occurrence-reaches cost body left k s at false = pass-reaches cost (Enter body) (Occurrence body (left - 1) ∷ k) (pointed s) at
+
   module _ (s : State) (at : s.at ≤ 8 * m) where
     -- a leaf, by where what it finds ends
     look-reaches : Anchored held s → (cost : Tally) (delimiters : List Delimiters) (nil : Option (List Value)) (primitive : Primitive) → has_room primitive s.at s.stop ≡ true
@@ -335,6 +332,8 @@ module _ (m : ℕ) (held : Held) (base : held.base ≤ m) where
         prefix-reaches stands limits table.delimiters id prefix.own (behind_units table.primitives prefix.unit what) (slice_get table.primitives prefix.prim) k
         (λ last units after before. behind-at last table prefix.unit what units k after before)
     enter-reaches stands limits table id (Some (Repeat count body)) k = group-reaches id (replicate count body) k
+    enter-reaches stands limits table id (Some (Optional most item body)) k = occurrence-reaches one_row body most k s at (nat_eq most 0)
+    enter-reaches stands limits table id (Some (Choice rows)) k = branch-reaches one_row id 0 (slice_get rows 0) k (pointed s) at
     enter-reaches stands limits table id (Some (PrefixedBox prefix body)) k =
         prefix-reaches stands limits table.delimiters id prefix.own (behind_units table.primitives prefix.unit (behind.Box body)) (slice_get table.primitives prefix.prim) k
         (λ last units after before. behind-at last table prefix.unit (behind.Box body) units k after before)
@@ -368,23 +367,33 @@ module _ (m : ℕ) (held : Held) (base : held.base ≤ m) where
     done-reaches k true = refused-reaches s.marks k
     done-reaches k false = (omega arith, omega arith)
 
+    -- an occurrence is dropped
+    dropped-reaches : (k : List Frame) → IsBefore s.marks s.at → Within m (pass nothing held (Leave Done) k (dropped s))
+    dropped-reaches k less = pass-reaches nothing (Leave Done) k (dropped s) (back-at s.marks less)
+
+    passed-reaches : (body left : ℕ) (k : List Frame) → IsBefore s.marks s.at → (stays : Bool)
+        → Within m (cond stays (pass nothing held (Leave Done) k (dropped s)) (try_occurrence nothing held body left k (closed s)))
+    passed-reaches body left k less true = dropped-reaches k less
+    passed-reaches body left k less false = occurrence-reaches nothing body left k (closed s) at (nat_eq left 0)
+
     pub leave-reaches : (limits : Limits) (table : Table) (frame : Frame) (told : End) (k : List Frame) → GoesBack told s → Within m (leave limits table held frame told k s)
     leave-reaches limits table (Rest id next) Done k goes = go-reaches id next (slice_get (children_of (slice_get table.rows id)) next) k
     leave-reaches limits table (Rest id next) (Failed cause bit) k goes = (omega arith, omega arith)
-    leave-reaches limits table (Rest id next) (Stopped cause quantity) k goes = (omega arith, omega arith)
     leave-reaches limits table (Element outer complex) Done k goes = (omega arith, omega arith)
     leave-reaches limits table (Element outer complex) (Failed cause bit) k goes = (omega arith, omega arith)
-    leave-reaches limits table (Element outer complex) (Stopped cause quantity) k goes = (omega arith, omega arith)
     leave-reaches limits table (Box outer) Done k goes = leave-box-reaches outer k (nat_le s.stop s.at)
     leave-reaches limits table (Box outer) (Failed cause bit) k goes = (omega arith, omega arith)
-    leave-reaches limits table (Box outer) (Stopped cause quantity) k goes = (omega arith, omega arith)
     leave-reaches limits table (ScopeFrame count) Done k goes = (omega arith, omega arith)
     leave-reaches limits table (ScopeFrame count) (Failed cause bit) k goes = (omega arith, omega arith)
-    leave-reaches limits table (ScopeFrame count) (Stopped cause quantity) k goes = (omega arith, omega arith)
     leave-reaches limits table (Trial id next) Done k goes = done-reaches k (is_refused (parts_of (slice_get table.rows id)) next)
     leave-reaches limits table (Trial id next) (Failed cause bit) k goes =
         retry-reaches limits.nodes id (parts_of (slice_get table.rows id)) next (Failed cause bit) k goes
-    leave-reaches limits table (Trial id next) (Stopped cause quantity) k goes = (omega arith, omega arith)
+    leave-reaches limits table (Branch id next) Done k goes = (omega arith, omega arith)
+    leave-reaches limits table (Branch id next) (Failed cause bit) k goes =
+        branch-reaches nothing id next (slice_get (children_of (slice_get table.rows id)) next) k (back s) (back-at s.marks goes)
+    leave-reaches limits table (Occurrence body left) Done k goes = passed-reaches body left k goes (stays_at s.marks s.at)
+    leave-reaches limits table (Occurrence body left) (Failed cause bit) k goes = dropped-reaches k goes
+    leave-reaches limits table frame (Stopped cause quantity) k goes = (omega arith, omega arith)
 
 -- a search, by where the text that it finds ends
 module _ (m : ℕ) (held : Held) (s : State) (at : s.at ≤ 8 * m) where

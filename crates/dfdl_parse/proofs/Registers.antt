@@ -15,7 +15,7 @@ use Rattle.dfdl_delims.specs.Longest.{Longest, Text, NoText}
 use Rattle.dfdl_terms.specs.declared.delimiters.Delimiters.{Delimiters}
 use Rattle.dfdl_terms.specs.declared.row.Primitive.{Primitive}
 use Rattle.dfdl_terms.specs.declared.row.Row.{Row}
-use Rattle.dfdl_terms.specs.declared.row.Row.TheVariants.{Leaf, Elem, Group, Skip, Align, Initiator, Terminator, Separator, Scope, Boxed, PrefixedLeaf, PrefixedBox, Repeat}
+use Rattle.dfdl_terms.specs.declared.row.Row.TheVariants.{Leaf, Elem, Group, Skip, Align, Initiator, Terminator, Separator, Scope, Boxed, PrefixedLeaf, PrefixedBox, Repeat, Optional, Choice}
 use Rattle.dfdl_terms.specs.declared.text.TextSize.{TextSize}
 use Rattle.dfdl_terms.specs.Rows.{IsWithin, NamesWithin, Table, named_by}
 use Rattle.dfdl_looks.specs.Asks.{Reached, Told, TooFar, Missing, ask}
@@ -28,7 +28,8 @@ use Rattle.dfdl_grammar.specs.declared.limits.Limits.{Limits}
 use Rattle.dfdl_grammar.specs.declared.mark.Mark.{Mark}
 use Rattle.dfdl_grammar.specs.States.{State, anchor, anchor_at}
 use Rattle.dfdl_grammar.specs.Outcomes.{Outcome, ended}
-use Rattle.dfdl_grammar.specs.Marks.{back, back_among, closed, marked}
+use Rattle.dfdl_grammar.specs.Marks.{back, back_among, closed, marked, pointed, stays_at}
+use Rattle.dfdl_grammar.specs.Occurrences.{dropped}
 use Rattle.dfdl_grammar.specs.Leaves.{Find, Fails, Finds, FindsOctets, FindsText, content_begins, has_room, nil_values, program, program_for, read_by}
 use Rattle.dfdl_grammar.specs.Framing.{aligned}
 use Rattle.dfdl_grammar.specs.Delimiters.{lists_of, markup, numbers_of, opened, sought_among, stands_in}
@@ -36,7 +37,7 @@ use Rattle.dfdl_grammar.specs.Boxes.{boxed_at}
 use Rattle.dfdl_grammar.specs.Elements.{begun, has_elements}
 use Rattle.dfdl_grammar.specs.Prefixes.{bits_of_units, resized, size_of, units_told}
 use Rattle.dfdl_parse.specs.declared.frame.Frame.{Frame}
-use Rattle.dfdl_parse.specs.declared.frame.Frame.TheVariants.{Rest, Element, Box, Scope as ScopeFrame, Trial}
+use Rattle.dfdl_parse.specs.declared.frame.Frame.TheVariants.{Rest, Element, Box, Scope as ScopeFrame, Trial, Branch, Occurrence}
 use Rattle.dfdl_parse.specs.declared.frame.Outside.{Outside}
 use Rattle.dfdl_parse.specs.declared.frame.Next.{Next}
 use Rattle.dfdl_parse.specs.declared.frame.Next.TheVariants as next
@@ -55,6 +56,7 @@ use Rattle.dfdl_parse.specs.Registered.{IsRegistered, ListsWithin, SeeksWithin}
 use Rattle.dfdl_parse.specs.Searches.{among, cause_of, found_text, place_of, put_behind}
 use Rattle.dfdl_parse.specs.Shown.{HasSameLimits, limits_of, state_of}
 use Rattle.dfdl_parse.specs.Steps.{Moved}
+use Rattle.dfdl_parse.specs.Points.{try_branch, try_occurrence}
 use Rattle.dfdl_parse.specs.Trials.{attempt, parts_of, refused, retry, trial_done, try_empty, try_nil, try_normal, two_rows}
 
 -- the numbers of the row of a table are in the tables
@@ -213,6 +215,22 @@ module _ (count : ℕ) where
   done-names held (Some parts) next.Normal k s lists = found-names held parts.tried.refuses_empty k s lists
   done-names held (Some parts) next.Nothing k s lists = left_at Done k (closed s) lists
 
+  -- a branch, and an occurrence that is tried
+  branch-names : (cost : Tally) (held : Held) (id place : ℕ) (child : Option ℕ) (k : List Frame) (s : State) → All IsOne s.lists
+      → Names (try_branch cost held id place child k s)
+  branch-names cost held id place None k s lists = left_at _ k (closed s) lists
+  branch-names cost held id place (Some child) k s lists = record { sought = tt; open_lists = lists }
+
+  occurrence-names : (cost : Tally) (held : Held) (body left : ℕ) (k : List Frame) (s : State) → All IsOne s.lists → (none : Bool)
+      → Names (cond none (pass cost held (Leave Done) k s) (pass cost held (Enter body) (Occurrence body (left - 1) ∷ k) (pointed s)))
+  occurrence-names cost held body left k s lists true = left_at Done k s lists
+  occurrence-names cost held body left k s lists false = record { sought = tt; open_lists = lists }
+
+  passed-names : (held : Held) (body left : ℕ) (k : List Frame) (s : State) → All IsOne s.lists → (stays : Bool)
+      → Names (cond stays (pass nothing held (Leave Done) k (dropped s)) (try_occurrence nothing held body left k (closed s)))
+  passed-names held body left k s lists true = left_at Done k (dropped s) (back-lists s.marks s lists)
+  passed-names held body left k s lists false = occurrence-names nothing held body left k (closed s) lists (nat_eq left 0)
+
   -- fill, and the rest of a box
   begin-names : (held : Held) (to : ℕ) (k : List Frame) (s : State) → All IsOne s.lists → (over inside : Bool)
       → Names (cond over (pass one_row held (Leave Done) k s)
@@ -289,20 +307,21 @@ module _ (count : ℕ) where
       → Names (leave limits table held frame end k s)
   leave-names limits table held (Rest id next) Done k s lists = go-names held id next (slice_get (children_of (slice_get table.rows id)) next) k s lists
   leave-names limits table held (Rest id next) (Failed cause bit) k s lists = left_at _ k s lists
-  leave-names limits table held (Rest id next) (Stopped cause quantity) k s lists = left_at _ k s lists
   leave-names limits table held (Element outer complex) Done k s lists = left_at Done k _ lists
   leave-names limits table held (Element outer complex) (Failed cause bit) k s lists = left_at _ k s lists
-  leave-names limits table held (Element outer complex) (Stopped cause quantity) k s lists = left_at _ k s lists
   leave-names limits table held (Box outer) Done k s lists = leave-box-names held outer k s lists (nat_le s.stop s.at)
   leave-names limits table held (Box outer) (Failed cause bit) k s lists = left_at _ k _ lists
-  leave-names limits table held (Box outer) (Stopped cause quantity) k s lists = left_at _ k s lists
   leave-names limits table held (ScopeFrame most) Done k s lists = left_at Done k _ (All-take IsOne most s.lists lists)
   leave-names limits table held (ScopeFrame most) (Failed cause bit) k s lists = left_at _ k _ (All-take IsOne most s.lists lists)
-  leave-names limits table held (ScopeFrame most) (Stopped cause quantity) k s lists = left_at _ k s lists
   leave-names limits table held (Trial id next) Done k s lists = done-names held (parts_of (slice_get table.rows id)) next k s lists
   leave-names limits table held (Trial id next) (Failed cause bit) k s lists =
       retry-names limits.nodes held id (parts_of (slice_get table.rows id)) next (Failed cause bit) k s lists
-  leave-names limits table held (Trial id next) (Stopped cause quantity) k s lists = left_at _ k s lists
+  leave-names limits table held (Branch id next) Done k s lists = left_at Done k (closed s) lists
+  leave-names limits table held (Branch id next) (Failed cause bit) k s lists =
+      branch-names nothing held id next (slice_get (children_of (slice_get table.rows id)) next) k (back s) (back-lists s.marks s lists)
+  leave-names limits table held (Occurrence body left) Done k s lists = passed-names held body left k s lists (stays_at s.marks s.at)
+  leave-names limits table held (Occurrence body left) (Failed cause bit) k s lists = left_at Done k (dropped s) (back-lists s.marks s lists)
+  leave-names limits table held frame (Stopped cause quantity) k s lists = left_at _ k s lists
 
 module _ (limits : Limits) (table : Table) (held : Held) (named : All (NamesWithin (named_by table)) table.rows) where
   abbrev count : ℕ
@@ -339,6 +358,8 @@ module _ (limits : Limits) (table : Table) (held : Held) (named : All (NamesWith
       (λ units after still. begun-names count by (size_of prefix.unit units) (slice_get table.primitives by) k after still)
       held (slice_get table.primitives prefix.prim) s lists
   enter-names id (Some (Repeat times body)) k s is lists = group-names count held id (replicate times body) k s lists
+  enter-names id (Some (Optional most item body)) k s is lists = occurrence-names count one_row held body most k s lists (nat_eq most 0)
+  enter-names id (Some (Choice rows)) k s is lists = branch-names count one_row held id 0 (slice_get rows 0) k (pointed s) lists
   enter-names id (Some (PrefixedBox prefix body)) k s is lists =
       prefix-names count limits table.delimiters id prefix.own (behind_units table.primitives prefix.unit (behind.Box body)) k
       (λ units after still. box-names count (bits_of_units prefix.unit units) body k after still (nat_le (after.at + bits_of_units prefix.unit units) after.stop))

@@ -10,7 +10,7 @@ use Rattle.dfdl_value.specs.declared.value.Value.{Value}
 use Rattle.dfdl_terms.specs.declared.row.Primitive.{Primitive}
 use Rattle.dfdl_delims.specs.Longest.{Longest}
 use Rattle.dfdl_terms.specs.declared.row.Row.{Row}
-use Rattle.dfdl_terms.specs.declared.row.Row.TheVariants.{Leaf, Elem, Group, Skip, Align, Initiator, Terminator, Separator, Scope, Boxed, PrefixedLeaf, PrefixedBox, Repeat}
+use Rattle.dfdl_terms.specs.declared.row.Row.TheVariants.{Leaf, Elem, Group, Skip, Align, Initiator, Terminator, Separator, Scope, Boxed, PrefixedLeaf, PrefixedBox, Repeat, Optional, Choice}
 use Rattle.dfdl_terms.specs.Rows.{Table}
 use Rattle.dfdl_looks.specs.Looks.{seen_in}
 use Rattle.dfdl_looks.specs.Asks.{Reached, Told, TooFar, Missing, Reading, ask}
@@ -20,7 +20,7 @@ use Rattle.dfdl_grammar.specs.declared.end.End.{End}
 use Rattle.dfdl_grammar.specs.declared.end.End.TheVariants.{Done, Failed, Stopped}
 use Rattle.dfdl_grammar.specs.declared.limits.Limits.{Limits}
 use Rattle.dfdl_grammar.specs.States.{Input, State, anchor, anchor_at}
-use Rattle.dfdl_grammar.specs.Marks.{back, closed, marked}
+use Rattle.dfdl_grammar.specs.Marks.{back, closed, marked, pointed}
 use Rattle.dfdl_grammar.specs.declared.mark.Mark.{Mark}
 use Rattle.dfdl_grammar.specs.declared.instead.Instead.{Instead}
 use Rattle.dfdl_grammar.specs.declared.instead.Instead.TheVariants.{Nothing, Nil, Empty}
@@ -35,7 +35,7 @@ use Rattle.dfdl_grammar.specs.Elements.{begun, has_elements}
 use Rattle.dfdl_grammar.specs.Rows.{below, meaning, row}
 use Rattle.dfdl_grammar.proofs.Spending.{spend-spend, spend-nothing}
 use Rattle.dfdl_parse.specs.declared.frame.Frame.{Frame}
-use Rattle.dfdl_parse.specs.declared.frame.Frame.TheVariants.{Rest, Element, Box, Scope as ScopeFrame, Trial}
+use Rattle.dfdl_parse.specs.declared.frame.Frame.TheVariants.{Rest, Element, Box, Scope as ScopeFrame, Trial, Branch, Occurrence}
 use Rattle.dfdl_parse.specs.declared.frame.Outside.{Outside}
 use Rattle.dfdl_parse.specs.declared.frame.Next.{Next}
 use Rattle.dfdl_parse.specs.declared.frame.Next.TheVariants as next
@@ -56,6 +56,7 @@ use Rattle.dfdl_parse.proofs.Windows.{agrees_from, end_from}
 use Rattle.dfdl_parse.proofs.Beyond.{beyond-missed, beyond-waits}
 use Rattle.dfdl_parse.proofs.Programs.{program_for-from}
 use Rattle.dfdl_parse.proofs.Finishes.{Fits, finish-spend, from_here}
+use Rattle.dfdl_parse.proofs.PointSteps.{branch-on, occurrence-done-on, occurrence-on}
 use Rattle.dfdl_parse.proofs.SeekSteps.{is_lost as text_lost, seek-lost, seek-room}
 use Rattle.dfdl_parse.proofs.LeafSteps.{Sees}
 use Rattle.dfdl_parse.proofs.Ahead.{filled, rest-seen, rested}
@@ -457,6 +458,8 @@ module _ (table : Table) (held : Held) (s : State) where
       (λ input. ap (λ (r : Option Row). finish input table k (spend one_row (row input table (below input table id) id r s))) at)
       by refl waits
   enter-waits limits id (Some (Repeat count body)) k at waits = absurd (group-on id (replicate count body) k waits)
+  enter-waits limits id (Some (Optional most item body)) k at waits = absurd (occurrence-on held k one_row body most s waits)
+  enter-waits limits id (Some (Choice rows)) k at waits = absurd (branch-on held k one_row id 0 (slice_get rows 0) (pointed s) waits)
   enter-waits limits id (Some (PrefixedBox prefix body)) k at waits =
       let by : Option Primitive = slice_get table.primitives prefix.prim in
       prefix-waits limits id prefix.own (λ input units after. boxed input (bits_of_units prefix.unit units) (below input table id body) after)
@@ -471,19 +474,20 @@ module _ (table : Table) (held : Held) (s : State) where
   pub leave-on : (limits : Limits) (frame : Frame) (told : End) (k : List Frame) → (leave limits table held frame told k s).waits ≡ true → ⊥
   leave-on limits (Rest id next) Done k waits = go-on id next (slice_get (children_of (slice_get table.rows id)) next) k waits
   leave-on limits (Rest id next) (Failed cause bit) k waits = absurd (cc)
-  leave-on limits (Rest id next) (Stopped cause quantity) k waits = absurd (cc)
   leave-on limits (Element outer complex) Done k waits = absurd (cc)
   leave-on limits (Element outer complex) (Failed cause bit) k waits = absurd (cc)
-  leave-on limits (Element outer complex) (Stopped cause quantity) k waits = absurd (cc)
   leave-on limits (Box outer) Done k waits = leave-box-on outer k (nat_le s.stop s.at) waits
   leave-on limits (Box outer) (Failed cause bit) k waits = absurd (cc)
-  leave-on limits (Box outer) (Stopped cause quantity) k waits = absurd (cc)
   leave-on limits (ScopeFrame count) Done k waits = absurd (cc)
   leave-on limits (ScopeFrame count) (Failed cause bit) k waits = absurd (cc)
-  leave-on limits (ScopeFrame count) (Stopped cause quantity) k waits = absurd (cc)
   leave-on limits (Trial id next) Done k waits = done-on (parts_of (slice_get table.rows id)) next k waits
   leave-on limits (Trial id next) (Failed cause bit) k waits = retry-on limits.nodes id (parts_of (slice_get table.rows id)) next (Failed cause bit) k waits
-  leave-on limits (Trial id next) (Stopped cause quantity) k waits = absurd (cc)
+  leave-on limits (Branch id next) Done k waits = absurd (cc)
+  leave-on limits (Branch id next) (Failed cause bit) k waits =
+      branch-on held k nothing id next (slice_get (children_of (slice_get table.rows id)) next) (back s) waits
+  leave-on limits (Occurrence body left) Done k waits = occurrence-done-on held k body left s waits
+  leave-on limits (Occurrence body left) (Failed cause bit) k waits = absurd (cc)
+  leave-on limits frame (Stopped cause quantity) k waits = absurd (cc)
 
   pub step-waits : (limits : Limits) (focus : Focus) (k : List Frame) → (step limits table held focus k s).waits ≡ true
       → Waits table held focus k s (step limits table held focus k s)

@@ -11,9 +11,11 @@ use Rattle.dfdl_grammar.specs.Elements.{attempted, close}
 use Rattle.dfdl_grammar.specs.Representations.{after_empty, or_else, the_last, then_empty, then_normal}
 use Rattle.dfdl_grammar.specs.Leaves.{nil_values}
 use Rattle.dfdl_grammar.specs.Prefixes.{sized_leaf}
+use Rattle.dfdl_grammar.specs.Choices.{branches}
+use Rattle.dfdl_grammar.specs.Occurrences.{after_occurrence, occurrences}
 use Rattle.dfdl_grammar.specs.Rows.{below, group, meaning}
 use Rattle.dfdl_parse.specs.declared.frame.Frame.{Frame}
-use Rattle.dfdl_parse.specs.declared.frame.Frame.TheVariants.{Rest, Element, Box, Scope as ScopeFrame, Trial}
+use Rattle.dfdl_parse.specs.declared.frame.Frame.TheVariants.{Rest, Element, Box, Scope as ScopeFrame, Trial, Branch, Occurrence}
 use Rattle.dfdl_parse.specs.declared.frame.Next.{Next}
 use Rattle.dfdl_parse.specs.declared.frame.Next.TheVariants as next
 use Rattle.dfdl_parse.specs.declared.frame.Parts.{Parts}
@@ -42,6 +44,9 @@ resume input table (Element outer complex) o = close o.end outer complex o
 resume input table (Box outer) o = let whole : Outcome = then_do o (rest input) in unboxed whole.end outer.stop outer.hidden whole
 resume input table (ScopeFrame count) o = unscoped o.end count o
 resume input table (Trial id next) o = retried input table id (parts_of (slice_get table.rows id)) next o
+resume input table (Branch id next) o =
+    or_else o.end o (branches (below input table id) (drop next (children_of (slice_get table.rows id))))
+resume input table (Occurrence body left) o = after_occurrence o.end o (occurrences (meaning input table body) left)
 
 -- what a stack makes of the outcome of the row before it
 unfoldable pub finish : Input → Table → List Frame → Outcome → Outcome

@@ -4,6 +4,7 @@ pub mod Boxing
 pub mod Searches
 pub mod Prefixed
 pub mod Trials
+pub mod Points
 pub mod Machines
 pub mod Opens
 pub mod Answers

@@ -6,7 +6,7 @@ use Rattle.dfdl_bits.specs.declared.window.Seen.TheVariants.{Byte, End as DataEn
 use Rattle.dfdl_report.specs.declared.cause.LimitCause.TheVariants.{Window}
 use Rattle.dfdl_report.specs.declared.cause.ParseCause.TheVariants.{DataEnds, LengthOutOfRange}
 use Rattle.dfdl_terms.specs.declared.row.Row.{Row}
-use Rattle.dfdl_terms.specs.declared.row.Row.TheVariants.{Leaf, Elem, Group, Skip, Align, Initiator, Terminator, Separator, Scope, Boxed, PrefixedLeaf, PrefixedBox, Repeat}
+use Rattle.dfdl_terms.specs.declared.row.Row.TheVariants.{Leaf, Elem, Group, Skip, Align, Initiator, Terminator, Separator, Scope, Boxed, PrefixedLeaf, PrefixedBox, Repeat, Optional, Choice}
 use Rattle.dfdl_terms.specs.Rows.{Table}
 use Rattle.dfdl_looks.specs.Tallies.{needs_from, nothing, one_row, saw_byte, saw_end, saw_none}
 use Rattle.dfdl_grammar.specs.declared.end.End.{End}
@@ -14,11 +14,13 @@ use Rattle.dfdl_grammar.specs.declared.end.End.TheVariants.{Done, Failed, Stoppe
 use Rattle.dfdl_grammar.specs.declared.limits.Limits.{Limits}
 use Rattle.dfdl_grammar.specs.States.{State, anchor_at}
 use Rattle.dfdl_grammar.specs.Leaves.{nil_values, read_by}
+use Rattle.dfdl_grammar.specs.Marks.{back, closed, pointed}
+use Rattle.dfdl_grammar.specs.Occurrences.{dropped}
 use Rattle.dfdl_grammar.specs.Framing.{aligned}
 use Rattle.dfdl_grammar.specs.Delimiters.{closes_to, opens}
 use Rattle.dfdl_grammar.specs.Elements.{has_elements, left}
 use Rattle.dfdl_parse.specs.declared.frame.Frame.{Frame}
-use Rattle.dfdl_parse.specs.declared.frame.Frame.TheVariants.{Rest, Element, Box, Scope as ScopeFrame, Trial}
+use Rattle.dfdl_parse.specs.declared.frame.Frame.TheVariants.{Rest, Element, Box, Scope as ScopeFrame, Trial, Branch, Occurrence}
 use Rattle.dfdl_parse.specs.declared.frame.Outside.{Outside}
 use Rattle.dfdl_parse.specs.declared.frame.Focus.{Focus}
 use Rattle.dfdl_parse.specs.declared.frame.Focus.TheVariants.{Enter, Pass, PassRest, Sized, Seek, Leave}
@@ -26,11 +28,12 @@ use Rattle.dfdl_parse.specs.declared.frame.Behind.TheVariants as behind
 use Rattle.dfdl_parse.specs.declared.frame.Sought.TheVariants as sought
 use Rattle.dfdl_parse.specs.Moves.{Move, pass, read_leaf}
 use Rattle.dfdl_parse.specs.Trials.{enter_element, parts_of, retry, trial_done}
+use Rattle.dfdl_parse.specs.Points.{occurrence_done, try_branch, try_occurrence}
 use Rattle.dfdl_parse.specs.Boxing.{back_outside, hides}
 use Rattle.dfdl_parse.specs.Searches.{enter_delimiter, search}
 use Rattle.dfdl_parse.specs.Prefixed.{behind_units, box_begins, read_prefix, read_sized}
 
--- the rows of a group, or the row of a repetition so many times
+-- the rows of a group, the row of a repetition so many times, or the branches of a choice
 abbrev pub children_of : Option Row → List ℕ
 children_of None = []
 children_of (Some (Leaf prim)) = []
@@ -46,6 +49,8 @@ children_of (Some (Boxed bits body)) = []
 children_of (Some (PrefixedLeaf prefix prim)) = []
 children_of (Some (PrefixedBox prefix body)) = []
 children_of (Some (Repeat count body)) = replicate count body
+children_of (Some (Optional most item body)) = []
+children_of (Some (Choice branches)) = branches
 
 -- fill up to a bit begins, where there is any; it can't pass the end of the box
 abbrev pub enter_fill : Held → ℕ → List Frame → State → Move
@@ -143,6 +148,8 @@ enter limits table held id (Some (PrefixedLeaf prefix prim)) k s =
     read_prefix limits id held table.delimiters prefix.own (behind_units table.primitives prefix.unit (behind.Leaf (read_by table.primitives s.instead prim)))
     (slice_get table.primitives prefix.prim) k s
 enter limits table held id (Some (Repeat count body)) k s = enter_group held id (replicate count body) k s
+enter limits table held id (Some (Optional most item body)) k s = try_occurrence one_row held body most k s
+enter limits table held id (Some (Choice branches)) k s = try_branch one_row held id 0 (slice_get branches 0) k (pointed s)
 enter limits table held id (Some (PrefixedBox prefix body)) k s =
     read_prefix limits id held table.delimiters prefix.own (behind_units table.primitives prefix.unit (behind.Box body)) (slice_get table.primitives prefix.prim) k s
 
@@ -158,6 +165,8 @@ leave_done table held (Element outer complex) k s = pass nothing held (Leave Don
 leave_done table held (Box outer) k s = leave_box held outer k s
 leave_done table held (ScopeFrame count) k s = pass nothing held (Leave Done) k (closes_to count s)
 leave_done table held (Trial id next) k s = trial_done held (parts_of (slice_get table.rows id)) next k s
+leave_done table held (Branch id next) k s = pass nothing held (Leave Done) k (closed s)
+leave_done table held (Occurrence body left) k s = occurrence_done held body left k s
 
 -- a row that failed, at this end, before what stands on the stack
 abbrev pub leave_failed : ℕ → Table → Held → Frame → End → List Frame → State → Move
@@ -166,6 +175,9 @@ leave_failed most table held (Element outer complex) end k s = pass nothing held
 leave_failed most table held (Box outer) end k s = pass nothing held (Leave end) k (hides outer.hidden s)
 leave_failed most table held (ScopeFrame count) end k s = pass nothing held (Leave end) k (closes_to count s)
 leave_failed most table held (Trial id next) end k s = retry most held id (parts_of (slice_get table.rows id)) next end k s
+leave_failed most table held (Branch id next) end k s =
+    try_branch nothing held id next (slice_get (children_of (slice_get table.rows id)) next) k (back s)
+leave_failed most table held (Occurrence body left) end k s = pass nothing held (Leave Done) k (dropped s)
 
 -- what stands on the stack takes the end of the row before it
 abbrev pub leave : Limits → Table → Held → Frame → End → List Frame → State → Move

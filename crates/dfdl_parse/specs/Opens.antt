@@ -1,27 +1,39 @@
 -- The marks that are open, and the bytes that are needed.
-use Rattle.std.specs.Prelude.{◌≡◌, ◌<◌, ◌≤◌, ℕ, ◌-◌, ◌*◌, ◌/◌, false, List, [], ◌∷◌}
+use Rattle.std.specs.Prelude.{◌≡◌, ◌<◌, ◌≤◌, ℕ, suc, ◌-◌, ◌*◌, ◌/◌, false, List, [], ◌∷◌, length}
 use Rattle.dfdl_grammar.specs.declared.end.End.{End}
 use Rattle.dfdl_grammar.specs.declared.end.End.TheVariants.{Done, Failed, Stopped}
 use Rattle.dfdl_grammar.specs.declared.mark.Mark.{Mark}
 use Rattle.dfdl_grammar.specs.Framing.{aligned}
 use Rattle.dfdl_grammar.specs.States.{State, anchor_at}
 use Rattle.dfdl_parse.specs.declared.frame.Frame.{Frame}
-use Rattle.dfdl_parse.specs.declared.frame.Frame.TheVariants.{Rest, Element, Box, Scope as ScopeFrame, Trial}
+use Rattle.dfdl_parse.specs.declared.frame.Frame.TheVariants.{Rest, Element, Box, Scope as ScopeFrame, Trial, Branch, Occurrence}
 use Rattle.dfdl_parse.specs.declared.frame.Focus.{Focus}
 use Rattle.dfdl_parse.specs.declared.frame.Focus.TheVariants.{Enter, Pass, PassRest, Sized, Seek, Leave}
 
--- Each open mark is that of a trial on the stack, with the innermost first. None is resolved, none is behind this bit or behind one
--- inside of it, and the bytes from each on are needed, which are none before this one.
+-- how many marks are open on a stack: one for each frame of what is tried
+abbrev pub marks_of : List Frame → ℕ
+marks_of [] = 0
+marks_of (Rest id next ∷ k) = marks_of k
+marks_of (Element outer complex ∷ k) = marks_of k
+marks_of (Box outer ∷ k) = marks_of k
+marks_of (ScopeFrame count ∷ k) = marks_of k
+marks_of (Trial id next ∷ k) = suc (marks_of k)
+marks_of (Branch id next ∷ k) = suc (marks_of k)
+marks_of (Occurrence body left ∷ k) = suc (marks_of k)
+
+-- None of these marks is resolved, none is behind this bit or behind one inside of it, and the bytes from each on are needed, which are
+-- none before this one.
+abbrev pub AreNested : ℕ → ℕ → List Mark → Type 0
+AreNested base at [] = Unit {0}
+AreNested base at (mark ∷ outer) = (mark.is_resolved ≡ false) × ((mark.at ≤ at) × ((base ≤ mark.at / 8) × AreNested base mark.at outer))
+
+-- there are so many of these marks, with the innermost first, one inside of the other
+abbrev pub AreSoMany : ℕ → ℕ → ℕ → List Mark → Type 0
+AreSoMany count base at marks = (length marks ≡ count) × AreNested base at marks
+
+-- the open marks are those of what is tried on the stack
 abbrev pub AreOpen : ℕ → ℕ → List Frame → List Mark → Type 0
-AreOpen base at [] [] = Unit {0}
-AreOpen base at [] (mark ∷ outer) = ⊥
-AreOpen base at (Rest id next ∷ k) marks = AreOpen base at k marks
-AreOpen base at (Element outer complex ∷ k) marks = AreOpen base at k marks
-AreOpen base at (Box outer ∷ k) marks = AreOpen base at k marks
-AreOpen base at (ScopeFrame count ∷ k) marks = AreOpen base at k marks
-AreOpen base at (Trial id next ∷ k) [] = ⊥
-AreOpen base at (Trial id next ∷ k) (mark ∷ outer) =
-    (mark.is_resolved ≡ false) × ((mark.at ≤ at) × ((base ≤ mark.at / 8) × AreOpen base mark.at k outer))
+AreOpen base at k marks = AreSoMany (marks_of k) base at marks
 
 -- What is needed behind an end: behind a failure the marks alone, and behind a limit nothing.
 abbrev pub NeedsBehind : ℕ → End → List Frame → State → Type 0
@@ -43,9 +55,9 @@ abbrev pub IsBefore : List Mark → ℕ → Type 0
 IsBefore [] at = Unit {0}
 IsBefore (mark ∷ outer) at = mark.at ≤ at
 
--- a failure goes back to no bit behind the one that comes next
+-- what ends goes back to no bit behind the one that comes next
 abbrev pub GoesBack : End → State → Type 0
-GoesBack Done s = Unit {0}
+GoesBack Done s = IsBefore s.marks s.at
 GoesBack (Failed cause bit) s = IsBefore s.marks s.at
 GoesBack (Stopped cause quantity) s = Unit {0}
 

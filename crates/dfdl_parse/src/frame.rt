@@ -14,6 +14,11 @@ pub enum Frame {
     Scope { count: usize },
     /// A representation of the element of this row ends, for which a mark is open.
     Trial { element: RowId, next: Next },
+    /// A branch of the choice of this row ends, for which a point is open. Where it fails, the branch of this place follows ('Choices').
+    Branch { choice: RowId, next: usize },
+    /// An occurrence of this row ends, for which a point is open. Where it is done, at most so many more follow ('Arrays and
+    /// Optional Elements').
+    Occurrence { body: RowId, left: u64 },
 }
 
 /// What is around a box.

@@ -63,6 +63,11 @@ impl Parser {
                 let parts = parts_of(terms, element);
                 self.retry(parts, element, next, end)
             }
+            Frame::Branch { choice, next } => self.next_branch(terms, choice, next),
+            Frame::Occurrence { .. } => {
+                self.drop_occurrence();
+                Ok(())
+            }
             Frame::Rest { .. } => {
                 self.focus = Focus::Leave(end);
                 Ok(())
@@ -88,7 +93,7 @@ impl Parser {
         ensures moved { (held : Held) → OnOk result (Moved
             (leave_done terms.now held frame self.old.stack (state_of self.old)) false self.old.far self.new held 0) }
         ensures most { OnOk result (HasSameLimits self.old self.new) }
-        ensures at { OnOk result (self.new.at ≡ self.old.at) }
+        ensures at { OnOk result (IsBefore self.old.marks self.old.at → self.new.at ≤ self.old.at) }
     {
         match frame {
             Frame::Rest { group, next } => self.next_child(terms, group, next),
@@ -109,6 +114,11 @@ impl Parser {
                 self.finish_trial(parts, next);
                 Ok(())
             }
+            Frame::Branch { .. } => {
+                self.end_trial(End::Done);
+                Ok(())
+            }
+            Frame::Occurrence { body, left } => self.finish_occurrence(body, left),
         }
     }
 
@@ -151,8 +161,8 @@ impl Parser {
     }
 }
 
-// The child of this place in a group or a repetition.
-fn child_of(terms: &Terms, group: RowId, place: usize) -> Option<RowId>
+/// The child of this place in a group or a repetition, or the branch of this place in a choice.
+pub(crate) fn child_of(terms: &Terms, group: RowId, place: usize) -> Option<RowId>
     ensures child { result ≡ slice_get (children_of (slice_get terms.now.rows group)) place }
     ensures few { IfSome result (λ _. place < 2 ^ 63) }
 {
@@ -173,6 +183,8 @@ fn child_of(terms: &Terms, group: RowId, place: usize) -> Option<RowId>
         Row::PrefixedLeaf { .. } => None,
         Row::PrefixedBox { .. } => None,
         Row::Repeat { count, body } => repeated(*count, *body, place),
+        Row::Optional { .. } => None,
+        Row::Choice { branches } => branches.as_slice().get(place).copied(),
     }
 }
 

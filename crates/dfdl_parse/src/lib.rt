@@ -22,6 +22,7 @@ mod outcome;
 pub mod parser;
 mod path;
 mod patterns;
+mod points;
 mod prefixes;
 mod register;
 mod run;

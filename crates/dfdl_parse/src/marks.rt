@@ -1,9 +1,10 @@
 // The open marks of the machine.
-ghost use Rattle.std.specs.Prelude.{◌≡◌, ℕ, [], ◌∷◌, IfSome, IfNone, OnOk, IfOk, IsTrue, ◌↔◌, reverse};
-ghost use Rattle.dfdl_grammar.specs.Marks.{outer_marks};
+ghost use Rattle.std.specs.Prelude.{◌≡◌, ℕ, [], ◌∷◌, ◌++◌, IfSome, IfNone, OnOk, IfOk, IsTrue, ◌↔◌, reverse};
+ghost use Rattle.dfdl_grammar.specs.Marks.{outer_marks, stays_at};
 ghost use Rattle.dfdl_grammar.specs.States.{held_from};
 
 use dfdl_grammar::Mark;
+use dfdl_region::Content;
 use std::alloc::{AllocError, Global};
 use std::marker::Model;
 
@@ -35,8 +36,7 @@ impl Marks {
     pub(crate) fn push(&mut self, mark: Mark) -> Result<(), AllocError>
         ensures { OnOk result (self.new ≡ mark ∷ self.old) }
     {
-        self.marks.push(mark)?;
-        Ok(())
+        put(&mut self.marks, mark, mark.content)
     }
 
     /// Closes the innermost mark, if there is one.
@@ -54,6 +54,16 @@ impl Marks {
         self.marks.last().copied()
     }
 
+    /// Whether a bit is none behind the innermost mark.
+    pub(crate) fn stays_at(&self, bit: u64) -> bool
+        ensures { result ≡ stays_at self.now bit }
+    {
+        match self.innermost() {
+            Some(mark) => bit <= mark.at,
+            None => true,
+        }
+    }
+
     pub(crate) fn is_empty(&self) -> bool
         ensures { IsTrue result ↔ (self.now ≡ []) }
     {
@@ -66,6 +76,14 @@ impl Marks {
     {
         first_held(self.marks.as_slice(), bit)
     }
+}
+
+// Puts a mark behind the others, of an element that has this.
+fn put(marks: &mut Vec<Mark>, mark: Mark, content: Content) -> Result<(), AllocError>
+    ensures { OnOk result (marks.new.items ≡ marks.old.items ++ record mark { content = content } ∷ []) }
+{
+    marks.push(Mark { content, ..mark })?;
+    Ok(())
 }
 
 // The bit of the first mark that isn't resolved, or this one where there is none.

@@ -287,6 +287,14 @@ impl Parser {
                 self.first_time(id, *count, *body)?;
                 Ok(false)
             }
+            Row::Optional { most, body, .. } => {
+                self.try_occurrence(*body, *most)?;
+                Ok(false)
+            }
+            Row::Choice { branches } => {
+                self.begin_choice(id, branches.as_slice())?;
+                Ok(false)
+            }
         }
     }
 

@@ -89,6 +89,8 @@ fn push_name(
         Row::PrefixedLeaf { .. } => Ok(()),
         Row::PrefixedBox { .. } => Ok(()),
         Row::Repeat { .. } => Ok(()),
+        Row::Optional { .. } => Ok(()),
+        Row::Choice { .. } => Ok(()),
     }
 }
 

@@ -1,7 +1,7 @@
 // An element, by its representations: nil, empty and normal, in this order from one place.
 ghost use Rattle.std.specs.Prelude.{◌≡◌, ◌≤◌, ◌∷◌, Some, false, OnOk, slice_get};
 ghost use Rattle.dfdl_bits.specs.Window.{Held};
-ghost use Rattle.dfdl_grammar.specs.Marks.{back, back_to, closed, mark_at};
+ghost use Rattle.dfdl_grammar.specs.Marks.{back, back_to, closed, content_of, mark_at};
 ghost use Rattle.dfdl_looks.specs.Tallies.{Tally, nothing};
 ghost use Rattle.dfdl_parse.specs.Moves.{pass};
 ghost use Rattle.dfdl_parse.specs.Opens.{IsBefore};
@@ -26,27 +26,40 @@ impl Parser {
         ensures at { OnOk result (self.new.at ≡ self.old.at) }
     {
         if parts.tried.are_several {
-            self.mark()?;
+            self.open_mark(false)?;
             self.try_nil(id, parts, parts.tried.nil)
         } else {
             self.attempt(id, parts, Instead::Nothing)
         }
     }
 
-    // A mark is opened here.
-    fn mark(&mut self) -> Result<(), AllocError>
-        ensures { OnOk result (self.new ≡ record self.old { marks = mark_at (state_of self.old) ∷ self.old.marks }) }
+    // A mark is opened here, which is a point of uncertainty or none.
+    pub(crate) fn open_mark(&mut self, is_point: bool) -> Result<(), AllocError>
+        ensures { OnOk result (self.new
+            ≡ record self.old { marks = record (mark_at (state_of self.old)) { is_point = is_point } ∷ self.old.marks }) }
     {
+        let content = self.content();
         self.marks.push(Mark {
             at: self.at,
-            is_point: false,
+            is_point,
             is_resolved: false,
             stop: self.stop,
             nodes: self.region.count(),
             text: self.text.count(),
             inside: self.inside,
+            content,
         })?;
         Ok(())
+    }
+
+    // What the innermost open element has; where there is none, as before any read.
+    fn content(&self) -> Content
+        ensures { result ≡ content_of (slice_get self.now.region.nodes self.now.inside) }
+    {
+        match self.region.nodes().get(self.inside as usize) {
+            Some(node) => node.content,
+            None => Content::Begun,
+        }
     }
 
     // The nil representation begins, where there is one, and else another one.
@@ -225,7 +238,7 @@ impl Parser {
     }
 
     // The state is again that of the innermost mark, which stays open.
-    fn go_back(&mut self)
+    pub(crate) fn go_back(&mut self)
         ensures back { Becomes self.old (record { focus = self.old.focus; stack = self.old.stack; state = back (state_of self.old) }) self.new }
         ensures at { IsBefore self.old.marks self.old.at → self.new.at ≤ self.old.at }
     {
@@ -242,6 +255,7 @@ impl Parser {
         self.at = mark.at;
         self.stop = mark.stop;
         self.region.undo_to(mark.nodes);
+        self.region.set_content(mark.inside, mark.content);
         self.text.undo_to(mark.text);
         self.inside = mark.inside;
     }
@@ -291,5 +305,7 @@ pub(crate) fn parts_of(terms: &Terms, id: RowId) -> Option<Parts>
         Row::PrefixedLeaf { .. } => None,
         Row::PrefixedBox { .. } => None,
         Row::Repeat { .. } => None,
+        Row::Optional { .. } => None,
+        Row::Choice { .. } => None,
     }
 }

@@ -152,8 +152,7 @@ fn default_begins(size: TextSize, bit: u64) -> u64
     }
 }
 
-// The bit at which a text without bits begins whose box begins at this one: a string or nil there, and else the next whole
-// byte.
+// The bit at which a text without bits begins whose box begins at this one: a string there, and else the next whole byte.
 fn empty_begins(content: &TextContent, bit: u64) -> u64
     requires { bit ≤ 2 ^ 63 }
     ensures begin { result ≡ empty_begins content.now bit }
@@ -164,7 +163,7 @@ fn empty_begins(content: &TextContent, bit: u64) -> u64
         TextContent::Number { .. } => aligned(8, bit),
         TextContent::Zoned(_) => aligned(8, bit),
         TextContent::Truth(_) => aligned(8, bit),
-        TextContent::Nil(_) => bit,
+        TextContent::Nil(_) => aligned(8, bit),
     }
 }
 

@@ -1,12 +1,12 @@
 -- How a row is laid, by its kind.
-use Rattle.std.proofs.Common.{◌≡◌, ℕ, ◌+◌, ◌<◌, List, [], ◌∷◌, ◌++◌, All, map, None, Some, slice_get, refl, ap, ◌∙◌, arith, Option}
+use Rattle.std.proofs.Common.{◌≡◌, ℕ, ◌+◌, ◌<◌, Bool, List, [], ◌∷◌, ◌++◌, All, map, None, Some, slice_get, refl, ap, ◌∙◌, arith, Option}
 use Rattle.std.proofs.lemmas.List.Elements.{All-head, All-tail}
 use Rattle.dfdl_forms.specs.declared.simple.Simple.{Simple as SimpleType}
 use Rattle.dfdl_terms.specs.declared.representations.Representations.{Representations}
 use Rattle.dfdl_terms.specs.Rows.{Table}
 use Rattle.dfdl_terms.specs.declared.delimiters.Delimiter.{Delimiter}
 use Rattle.dfdl_terms.specs.declared.prefix.Prefix.{Prefix}
-use Rattle.dfdl_terms.specs.declared.row.Row.TheVariants.{Leaf, Elem, Group, Skip, Align, Initiator, Terminator, Separator, Scope, Boxed, PrefixedLeaf, PrefixedBox, Repeat}
+use Rattle.dfdl_terms.specs.declared.row.Row.TheVariants.{Leaf, Elem, Group, Skip, Align, Initiator, Terminator, Separator, Scope, Boxed, PrefixedLeaf, PrefixedBox, Repeat, Optional, Choice}
 use Rattle.dfdl_json.specs.ByRows.{below}
 use Rattle.dfdl_json.specs.Paths.{Names}
 use Rattle.dfdl_json.specs.Steps.{steps_of, total}
@@ -80,6 +80,13 @@ module _ (t : Table) (row : ℕ) (around : Names) (more : Laying) where
   laid_repeat count body is less =
       ap (λ (h : Names → Laying → Laying). h around more)
       (row_is (laying_by t) (λ a m. m) t.rows row (Some (Repeat count body)) is ∙ below_is (laying_by t) (λ a m. m) t.rows row body less)
+
+  pub laid_optional : (most : ℕ) (item : Bool) (body : ℕ) → slice_get t.rows row ≡ Some (Optional most item body) → laying t row around more ≡ more
+  laid_optional most item body is =
+      ap (λ (h : Names → Laying → Laying). h around more) (row_is (laying_by t) (λ a m. m) t.rows row (Some (Optional most item body)) is)
+
+  pub laid_choice : (branches : List ℕ) → slice_get t.rows row ≡ Some (Choice branches) → laying t row around more ≡ more
+  laid_choice branches is = ap (λ (h : Names → Laying → Laying). h around more) (row_is (laying_by t) (λ a m. m) t.rows row (Some (Choice branches)) is)
 
   pub laid_no_row : slice_get t.rows row ≡ None → laying t row around more ≡ more
   laid_no_row is = ap (λ (h : Names → Laying → Laying). h around more) (row_is (laying_by t) (λ a m. m) t.rows row None is)

@@ -178,6 +178,8 @@ impl<'t> Unparser<'t> {
             Some(Row::PrefixedLeaf { .. }) => Ok(None),
             Some(Row::PrefixedBox { .. }) => Ok(None),
             Some(Row::Repeat { body, .. }) => self.lay_group(&[*body]),
+            Some(Row::Optional { .. }) => Ok(None),
+            Some(Row::Choice { .. }) => Ok(None),
             None => Ok(None),
         }
     }

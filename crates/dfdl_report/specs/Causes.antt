@@ -2,7 +2,7 @@
 use Rattle.std.specs.Prelude.{ℕ, List, codes}
 use Rattle.dfdl_report.specs.declared.cause.ParseCause.{ParseCause}
 use Rattle.dfdl_report.specs.declared.cause.ParseCause.TheVariants.{InitiatorMissing, TerminatorMissing, SeparatorMissing, DataEnds, BadCharacter, NotANumber, BadNibble}
-use Rattle.dfdl_report.specs.declared.cause.ParseCause.TheVariants.{LengthOutOfRange, PastType, EmptyTrailingSlot, UnknownBoolean, RequiredEmpty, NotFilled}
+use Rattle.dfdl_report.specs.declared.cause.ParseCause.TheVariants.{LengthOutOfRange, PastType, NoBranch, EmptyTrailingSlot, UnknownBoolean, RequiredEmpty, NotFilled}
 use Rattle.dfdl_report.specs.declared.cause.UnparseCause.{UnparseCause}
 use Rattle.dfdl_report.specs.declared.cause.UnparseCause.TheVariants.{WrongOccurrences}
 use Rattle.dfdl_report.specs.declared.cause.SchemaCause.{SchemaCause}
@@ -30,6 +30,7 @@ parse_number NotANumber = 6
 parse_number BadNibble = 7
 parse_number LengthOutOfRange = 8
 parse_number PastType = 9
+parse_number NoBranch = 12
 parse_number EmptyTrailingSlot = 16
 parse_number UnknownBoolean = 17
 parse_number RequiredEmpty = 18
@@ -46,6 +47,7 @@ parse_text NotANumber = codes "not a number of the pattern"
 parse_text BadNibble = codes "bad nibble or zone"
 parse_text LengthOutOfRange = codes "length out of range"
 parse_text PastType = codes "value past its type"
+parse_text NoBranch = codes "no branch"
 parse_text EmptyTrailingSlot = codes "empty trailing slot"
 parse_text UnknownBoolean = codes "unknown boolean"
 parse_text RequiredEmpty = codes "required element empty"

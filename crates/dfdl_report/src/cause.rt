@@ -26,6 +26,8 @@ pub enum ParseCause {
     LengthOutOfRange,
     /// A number that is no value of its type.
     PastType,
+    /// Each branch of a choice failed.
+    NoBranch,
     /// A slot at the end of a separated group that is empty, where none may be.
     EmptyTrailingSlot,
     /// A binary boolean whose number is neither that of true nor that of false.
@@ -201,6 +203,7 @@ impl ParseCause {
             ParseCause::BadNibble => 7,
             ParseCause::LengthOutOfRange => 8,
             ParseCause::PastType => 9,
+            ParseCause::NoBranch => 12,
             ParseCause::EmptyTrailingSlot => 16,
             ParseCause::UnknownBoolean => 17,
             ParseCause::RequiredEmpty => 18,
@@ -221,6 +224,7 @@ impl ParseCause {
             ParseCause::BadNibble => "bad nibble or zone",
             ParseCause::LengthOutOfRange => "length out of range",
             ParseCause::PastType => "value past its type",
+            ParseCause::NoBranch => "no branch",
             ParseCause::EmptyTrailingSlot => "empty trailing slot",
             ParseCause::UnknownBoolean => "unknown boolean",
             ParseCause::RequiredEmpty => "required element empty",

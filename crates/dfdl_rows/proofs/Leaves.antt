@@ -8,17 +8,21 @@ use Rattle.dfdl_order.specs.Parts.{uses_of}
 use Rattle.dfdl_terms.specs.declared.representations.Representations.{Representations}
 use Rattle.dfdl_terms.specs.Leaves.{ReadsBy, leaf, prefixed, scoped as scope}
 use Rattle.dfdl_terms.specs.declared.framing.Framing.{Framing}
+use Rattle.dfdl_terms.specs.declared.occurs.Occurs.{Occurs}
 use Rattle.dfdl_terms.specs.declared.prefix.Prefix.{Prefix}
 use Rattle.dfdl_terms.specs.declared.row.Row.{Row}
-use Rattle.dfdl_terms.specs.declared.row.Row.TheVariants.{Elem, Group, Scope}
+use Rattle.dfdl_terms.specs.declared.row.Row.TheVariants.{Elem, Scope}
 use Rattle.dfdl_terms.specs.Framing.{no_fill}
 use Rattle.dfdl_rows.specs.Components.{Schema, component_at, slots_at, AreOfOne, HasOrder, IsBareComponent}
 use Rattle.dfdl_rows.specs.declared.component.Component.{Component}
-use Rattle.dfdl_rows.specs.declared.component.Component.TheVariants.{Sequence, ComplexElement, SimpleElement}
+use Rattle.dfdl_rows.specs.declared.component.Component.TheVariants.{Sequence, Choice, ComplexElement, SimpleElement}
 use Rattle.dfdl_rows.specs.Framing.{framed, framed_row}
 use Rattle.dfdl_rows.specs.Scopes.{list_of, scanned_list, scope_rows, scoped_row, scope_size}
-use Rattle.dfdl_rows.specs.Slots.{laid_of, separator_list, slots_size}
-use Rattle.dfdl_rows.specs.RowLists.{Numbered, leaf_row, boxed_rows, element_rows, scoped, sequence_rows, own_rows, in_turn, last_rows, rows_at, rows_of}
+use Rattle.dfdl_rows.specs.Slots.{laid_of, row_of, separator_list, slots_size}
+use Rattle.dfdl_rows.specs.declared.component.Separated.{Separated}
+use Rattle.dfdl_rows.specs.declared.slots.Grouping.{Grouping}
+use Rattle.dfdl_rows.specs.declared.slots.Grouping.TheVariants as grouping
+use Rattle.dfdl_rows.specs.RowLists.{Numbered, leaf_row, boxed_rows, element_rows, scoped, sequence_rows, group_rows, own_rows, in_turn, last_rows, rows_at, rows_of}
 use Rattle.dfdl_rows.specs.Leaves.{IsAmong, IsLeafOf, HaveLeaves, HaveBareLeaves}
 use Rattle.dfdl_rows.proofs.Framed.{unframed_row, framed_all}
 use Rattle.dfdl_rows.proofs.Boxed.{leaf_holds, boxed_all}
@@ -64,6 +68,10 @@ sequence_not_simple f separators =
     scoped_not_simple separators (scoped (list_of f.terminator) (framed f separators))
     (scoped_not_simple (list_of f.terminator) (framed f separators) (framed_not_simple f separators))
 
+group_not_simple : (kind : Grouping) (children : List ℕ) → IsNotSimple (row_of kind children)
+group_not_simple grouping.Sequence children name simple tried body is = absurd (cc)
+group_not_simple grouping.Choice children name simple tried body is = absurd (cc)
+
 leaf_not_simple : (prefix : Option Prefix) (prim : ℕ) → IsNotSimple (leaf_row prefix prim)
 leaf_not_simple prefix prim = leaf_holds IsNotSimple prefix prim (λ name simple tried body is. absurd (cc)) (λ own has name simple tried body is. absurd (cc))
 
@@ -93,7 +101,7 @@ scoped_reads rows IsOne f (Some list) content first sits reads =
 
 -- among all rows, this holds of the body of a simple element of the components
 module _ (components : List Component) (all : List Row) (Q : Simple → ℕ → Type 0)
-    (holds : (number content prim : ℕ) (name : List ℕ) (simple : Simple) (f : Framing) (prefix : Option Prefix) (tried : Representations) (scanned : Bool) (occurs : ℕ)
+    (holds : (number content prim : ℕ) (name : List ℕ) (simple : Simple) (f : Framing) (prefix : Option Prefix) (tried : Representations) (scanned : Bool) (occurs : Occurs)
     → slice_get components number ≡ Some (SimpleElement name simple prim f prefix tried scanned occurs) → slice_get all content ≡ Some (leaf_row prefix prim)
     → Sits all (content + 1) (scoped_frame scanned f content) → Q simple (scoped_whole scanned f content)) where
   -- it holds of each simple element of the rows, where these stand among all rows
@@ -122,19 +130,24 @@ module _ (components : List Component) (all : List Row) (Q : Simple → ℕ → 
       bodies_append first (f p first) (in_turn (map f ps) (first + length (f p first))) (each 0 p (omega arith) first)
       (turn_bodies f ps (All-tail (λ (q : ℕ). HasBodies (f q)) p ps each) (first + length (f p first)))
 
-  own_bodies : (component : Component) (slots : List ℕ) (lasts : List ℕ) (first number : ℕ) → slice_get components number ≡ Some component
-      → BodiesFrom first (own_rows component slots lasts first)
-  own_bodies (Sequence f separated) slots lasts first number there =
+  group_bodies : (kind : Grouping) (f : Framing) (separated : Option Separated) (slots : List Occurs) (lasts : List ℕ) (first : ℕ)
+      → BodiesFrom first (group_rows kind f separated slots lasts first)
+  group_bodies kind f separated slots lasts first =
       let size : ℕ = slots_size separated slots in
       let own : List Row = (laid_of separated slots lasts first).rows in
       let children : List ℕ = (laid_of separated slots lasts first).children in
       let others : List Row = sequence_rows f (separator_list separated) (first + size) (first + size + 1) in
-      bodies_none first (own ++ Group children ∷ others)
-      (All-append IsNotSimple own (Group children ∷ others)
+      bodies_none first (own ++ row_of kind children ∷ others)
+      (All-append IsNotSimple own (row_of kind children ∷ others)
       (laid_all IsNotSimple (λ name simple tried body is. absurd (cc)) (λ children name simple tried body is. absurd (cc))
-      (λ count body name simple tried other is. absurd (cc)) separated slots lasts first)
-      (All-cons IsNotSimple (Group children) others (λ name simple tried body is. absurd (cc))
+      (λ count body name simple tried other is. absurd (cc)) (λ most item body name simple tried other is. absurd (cc)) separated slots lasts first)
+      (All-cons IsNotSimple (row_of kind children) others (group_not_simple kind children)
       (sequence_not_simple f (separator_list separated) (first + size) (first + size + 1))))
+
+  own_bodies : (component : Component) (slots : List Occurs) (lasts : List ℕ) (first number : ℕ) → slice_get components number ≡ Some component
+      → BodiesFrom first (own_rows component slots lasts first)
+  own_bodies (Sequence f separated) slots lasts first number there = group_bodies grouping.Sequence f separated slots lasts first
+  own_bodies (Choice f) slots lasts first number there = group_bodies grouping.Choice f None slots lasts first
   own_bodies (ComplexElement own f box occurs) slots lasts first number there =
       bodies_none first (scoped (list_of f.terminator) (boxed_rows own f box) (get_or lasts 0 0) first)
       (scoped_not_simple (list_of f.terminator) (boxed_rows own f box)
@@ -170,7 +183,7 @@ module _ (s : Schema) (ordered : HasOrder s.uses) (one : AreOfOne s.uses s.compo
   there c within = slice_get-get_or s.components c (Sequence no_fill None) (omega (arith, within, one.counted))
 
   bodies_at : (all : List Row) (Q : Simple → ℕ → Type 0)
-      → ((number content prim : ℕ) (name : List ℕ) (simple : Simple) (f : Framing) (prefix : Option Prefix) (tried : Representations) (scanned : Bool) (occurs : ℕ)
+      → ((number content prim : ℕ) (name : List ℕ) (simple : Simple) (f : Framing) (prefix : Option Prefix) (tried : Representations) (scanned : Bool) (occurs : Occurs)
       → slice_get s.components number ≡ Some (SimpleElement name simple prim f prefix tried scanned occurs) → slice_get all content ≡ Some (leaf_row prefix prim)
       → Sits all (content + 1) (scoped_frame scanned f content) → Q simple (scoped_whole scanned f content))
       → (c : ℕ) → c < length s.uses → (first : ℕ) → Sits all first (rows_at s c first) → (i : ℕ) (name : List ℕ) (simple : Simple) (tried : Representations) (body : ℕ)

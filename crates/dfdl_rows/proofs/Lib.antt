@@ -15,3 +15,4 @@ mod Elements
 mod Nests
 mod Nesting
 mod Leaves
+mod Kept

@@ -3,25 +3,27 @@
 use Rattle.std.proofs.Common.{◌≡◌, ℕ, zero, suc, ◌+◌, ◌-◌, ◌<◌, ◌≤◌, Bool, true, false, if◌then◌else◌, List, [], ◌∷◌, ◌++◌, length, map, get_or, slice_get, All, Option, None, Some, sym, ap, subst, ◌∙◌, refl, arith, append_assoc, length-append}
 use Rattle.std.proofs.lemmas.List.{length-map}
 use Rattle.std.proofs.lemmas.List.Elements.{All-nil, All-tail, All-cons, All-append, All-get_or}
-use Rattle.std.proofs.lemmas.Option.{slice_get_within}
 use Rattle.dfdl_forms.specs.declared.simple.Simple.{Simple}
 use Rattle.dfdl_order.specs.Parts.{uses_of}
 use Rattle.dfdl_terms.specs.declared.representations.Representations.{Representations}
 use Rattle.dfdl_terms.specs.Tables.{Named}
 use Rattle.dfdl_terms.specs.declared.framing.Framing.{Framing}
+use Rattle.dfdl_terms.specs.declared.occurs.Occurs.{Occurs}
 use Rattle.dfdl_terms.specs.declared.row.Row.{Row}
 use Rattle.dfdl_terms.specs.declared.row.Row.TheVariants.{Elem, Group, Scope, Boxed, PrefixedBox}
 use Rattle.dfdl_terms.specs.Rows.{ChildrenBelow, Nests, NamesWithin, IsPlainRow, IsWithin, HasPlainRows}
 use Rattle.dfdl_terms.specs.Framing.{no_fill}
 use Rattle.dfdl_rows.specs.Components.{Schema, component_at, slots_at, CanHave, AreOfOne, HasOrder, HasPrimitive, HasBoxPrimitive, HasPrefixPrimitive, HasList, HasSeparators, HasDelimiters, IsBareComponent, no_trials, occurs_in}
-use Rattle.dfdl_rows.specs.Slots.{laid_of, separator_list, slots_of, slots_of_sequence, slots_size}
+use Rattle.dfdl_rows.specs.Slots.{laid_of, row_of, separator_list, slots_of, slots_of_group, slots_size}
+use Rattle.dfdl_rows.specs.declared.slots.Grouping.{Grouping}
+use Rattle.dfdl_rows.specs.declared.slots.Grouping.TheVariants as grouping
 use Rattle.dfdl_rows.specs.declared.component.Separated.{Separated}
 use Rattle.dfdl_rows.specs.declared.component.Component.{Component}
-use Rattle.dfdl_rows.specs.declared.component.Component.TheVariants.{Sequence, ComplexElement, SimpleElement}
+use Rattle.dfdl_rows.specs.declared.component.Component.TheVariants.{Sequence, Choice, ComplexElement, SimpleElement}
 use Rattle.dfdl_rows.specs.declared.component.ContentBox.{ContentBox}
 use Rattle.dfdl_rows.specs.declared.component.ContentBox.TheVariants.{Unbounded, Sized, Prefixed}
 use Rattle.dfdl_rows.specs.Boxes.{box_rows, boxed_row, box_size}
-use Rattle.dfdl_rows.specs.RowLists.{Numbered, leaf_row, element_rows, boxed_rows, scoped, sequence_rows, own_rows, in_turn, last_rows, rows_at, rows_of}
+use Rattle.dfdl_rows.specs.RowLists.{Numbered, leaf_row, element_rows, boxed_rows, scoped, sequence_rows, group_rows, own_rows, in_turn, last_rows, rows_at, rows_of}
 use Rattle.dfdl_rows.specs.Answers.{EndsWith}
 use Rattle.dfdl_rows.specs.Scopes.{list_of, scanned_list, scope_rows, scoped_row, scope_size}
 use Rattle.dfdl_rows.specs.Framing.{has_framing, rows_before, rows_behind, numbers, in_group, framed, framed_row}
@@ -29,7 +31,7 @@ use Rattle.dfdl_rows.proofs.Framed.{framed_cases, unframed, length_framed, frame
 use Rattle.dfdl_rows.proofs.Boxed.{length_box, box_end, box_below, leaf_holds, element_all, boxed_all}
 use Rattle.dfdl_rows.proofs.Scoped.{length_scope, scope_end, scope_below, scoped_all, no_terminator, none_scanned, listed, scanned_holds}
 use Rattle.dfdl_rows.proofs.Nests.{NestsFrom, nests_none, nests_cons, nests_append}
-use Rattle.dfdl_rows.proofs.Slotted.{laid_all, laid_nests, length_laid, none_laid}
+use Rattle.dfdl_rows.proofs.Slotted.{IsSingle, laid_all, laid_nests, length_laid, none_laid}
 use Rattle.dfdl_rows.proofs.Parts.{by_parts, parts_within}
 use Rattle.dfdl_rows.proofs.RowsOf.{rows_step, length_rows, length_lasts, some_rows}
 
@@ -127,24 +129,30 @@ nests_sequence f separators =
     nests_scoped separators (scoped (list_of f.terminator) (framed f separators))
     (nests_scoped (list_of f.terminator) (framed f separators) (nests_framed f separators))
 
--- the group of a sequence, with its separators and what repeats its parts
-nests_slots : (f : Framing) (separated : Option Separated) (slots lasts : List ℕ) (first : ℕ) → length slots ≡ length lasts → All (λ n. n < first) lasts
-    → NestsFrom first (own_rows (Sequence f separated) slots lasts first)
-nests_slots f separated slots lasts first long below =
+-- the row of a group stands behind what is in it
+below_group : (kind : Grouping) (children : List ℕ) (n : ℕ) → All (λ k. k < n) children → ChildrenBelow n (row_of kind children)
+below_group grouping.Sequence children n all = all
+below_group grouping.Choice children n all = all
+
+-- the group of a sequence or choice, with its separators and what repeats and tries its parts
+nests_slots : (kind : Grouping) (f : Framing) (separated : Option Separated) (slots : List Occurs) (lasts : List ℕ) (first : ℕ) → length slots ≡ length lasts
+    → All (λ n. n < first) lasts → NestsFrom first (group_rows kind f separated slots lasts first)
+nests_slots kind f separated slots lasts first long below =
     let own : List Row = (laid_of separated slots lasts first).rows in
     let children : List ℕ = (laid_of separated slots lasts first).children in
     let size : ℕ = slots_size separated slots in
     let others : List Row = sequence_rows f (separator_list separated) (first + size) (first + size + 1) in
     let nest = laid_nests separated slots lasts first long below in
     let count : length own ≡ slots_size separated slots = length_laid separated slots lasts first in
-    nests_append own (Group children ∷ others) first nest.nests
-    (nests_cons (first + length own) (Group children) others nest.below
+    nests_append own (row_of kind children ∷ others) first nest.nests
+    (nests_cons (first + length own) (row_of kind children) others (below_group kind children (first + length own) nest.below)
     (subst (λ (n : ℕ). NestsFrom (first + n + 1) others) (sym count)
     (nests_sequence f (separator_list separated) (first + size) (first + size + 1) (omega arith))))
 
-own_nest : (component : Component) (slots ps lasts : List ℕ) (first : ℕ) → CanHave component ps → length lasts ≡ length ps → length slots ≡ length ps
+own_nest : (component : Component) (slots : List Occurs) (ps lasts : List ℕ) (first : ℕ) → CanHave component ps → length lasts ≡ length ps → length slots ≡ length ps
     → All (λ n. n < first) lasts → NestsFrom first (own_rows component slots lasts first)
-own_nest (Sequence f separated) slots ps lasts first can long many below = nests_slots f separated slots lasts first (omega (arith, long, many)) below
+own_nest (Sequence f separated) slots ps lasts first can long many below = nests_slots grouping.Sequence f separated slots lasts first (omega (arith, long, many)) below
+own_nest (Choice f) slots ps lasts first can long many below = nests_slots grouping.Choice f None slots lasts first (omega (arith, long, many)) below
 own_nest (ComplexElement name f box occurs) slots ps lasts first can long many below =
     nests_scoped (list_of f.terminator) (boxed_rows name f box) (nests_boxed name f box) (get_or lasts 0 0) first (below 0 0 (omega (arith, can, long)))
 own_nest (SimpleElement name simple prim f prefix tried scanned occurs) slots ps lasts first can long many below =
@@ -227,17 +235,28 @@ separators_within : (count : ℕ) (separated : Option Separated) → HasSeparato
 separators_within count None has = tt
 separators_within count (Some own) has = has
 
-own_named : (named : Named) (component : Component) (slots : List ℕ) (lasts : List ℕ) (first : ℕ) → HasPrimitive (length named.primitives) component
-    → HasDelimiters (length named.delimiters) component → All (NamesWithin named) (own_rows component slots lasts first)
-own_named named (Sequence f separated) slots lasts first has lists =
+named_row : (named : Named) (kind : Grouping) (children : List ℕ) → NamesWithin named (row_of kind children)
+named_row named grouping.Sequence children = tt
+named_row named grouping.Choice children = tt
+
+-- the rows of a sequence or choice of its own
+group_named : (named : Named) (kind : Grouping) (f : Framing) (separated : Option Separated) (slots : List Occurs) (lasts : List ℕ) (first : ℕ)
+    → HasList (length named.delimiters) f.initiator → HasList (length named.delimiters) f.terminator → HasSeparators (length named.delimiters) separated
+    → All (NamesWithin named) (group_rows kind f separated slots lasts first)
+group_named named kind f separated slots lasts first initiator terminator separators =
     let size : ℕ = slots_size separated slots in
     let own : List Row = (laid_of separated slots lasts first).rows in
     let children : List ℕ = (laid_of separated slots lasts first).children in
-    let within : IsWithin (length named.delimiters) (separator_list separated) = separators_within (length named.delimiters) separated lists.2 in
-    All-append (NamesWithin named) own (Group children ∷ sequence_rows f (separator_list separated) (first + size) (first + size + 1))
-    (laid_all (NamesWithin named) tt (λ own. tt) (λ count body. tt) separated slots lasts first)
-    (All-cons (NamesWithin named) (Group children) (sequence_rows f (separator_list separated) (first + size) (first + size + 1)) tt
-    (sequence_named named f (separator_list separated) (lists.0, lists.1) within (first + size) (first + size + 1)))
+    let within : IsWithin (length named.delimiters) (separator_list separated) = separators_within (length named.delimiters) separated separators in
+    All-append (NamesWithin named) own (row_of kind children ∷ sequence_rows f (separator_list separated) (first + size) (first + size + 1))
+    (laid_all (NamesWithin named) tt (λ own. tt) (λ count body. tt) (λ most item body. tt) separated slots lasts first)
+    (All-cons (NamesWithin named) (row_of kind children) (sequence_rows f (separator_list separated) (first + size) (first + size + 1)) (named_row named kind children)
+    (sequence_named named f (separator_list separated) (initiator, terminator) within (first + size) (first + size + 1)))
+
+own_named : (named : Named) (component : Component) (slots : List Occurs) (lasts : List ℕ) (first : ℕ) → HasPrimitive (length named.primitives) component
+    → HasDelimiters (length named.delimiters) component → All (NamesWithin named) (own_rows component slots lasts first)
+own_named named (Sequence f separated) slots lasts first has lists = group_named named grouping.Sequence f separated slots lasts first lists.0 lists.1 lists.2
+own_named named (Choice f) slots lasts first has lists = group_named named grouping.Choice f None slots lasts first lists.0 lists.1 tt
 own_named named (ComplexElement name f box occurs) slots lasts first has lists =
     scoped_named named f None (lists.0, lists.1) tt (boxed_rows name f box)
     (boxed_all (NamesWithin named) name f box (λ bits body. tt) (λ own body is. subst (HasBoxPrimitive (length named.primitives)) is has)
@@ -268,7 +287,7 @@ module _ (f : Framing) (none : has_framing f ≡ false) where
       → All IsPlainRow (element_rows name simple tried f content first)
   element_plain name simple tried content first = element_all IsPlainRow name simple tried f content first (unframed_plain content first) tt
 
-own_bare : (component : Component) (slots lasts : List ℕ) (first : ℕ) → IsBareComponent component → All (λ n. n ≤ 1) slots
+own_bare : (component : Component) (slots : List Occurs) (lasts : List ℕ) (first : ℕ) → IsBareComponent component → All IsSingle slots
     → All IsPlainRow (own_rows component slots lasts first)
 own_bare (Sequence f None) slots lasts first bare few =
     let size : ℕ = slots_size None slots in
@@ -276,6 +295,7 @@ own_bare (Sequence f None) slots lasts first bare few =
     subst (λ (own : List Row). All IsPlainRow (own ++ others)) (sym (none_laid slots lasts first few))
     (All-cons IsPlainRow (Group (laid_of None slots lasts first).children) (sequence_rows f None (first + size) (first + size + 1)) tt
     (unscoped_plain f bare.unframed (framed f None) (unframed_plain f bare.unframed) (first + size) (first + size + 1 + 0)))
+own_bare (Choice f) slots lasts first bare few = absurd (let none = bare.unchosen in cc)
 own_bare (Sequence f (Some own)) slots lasts first bare few = absurd (let none = bare.unseparated in cc)
 own_bare (ComplexElement name f Unbounded occurs) slots lasts first bare few =
     unscoped_plain f bare.unframed (boxed_rows name f Unbounded) (λ content n. element_plain f bare.unframed name None no_trials content (n + 0))
@@ -290,32 +310,33 @@ own_bare (SimpleElement name simple prim f prefix tried scanned occurs) slots la
     (λ n body is. absurd (let none = none_scanned scanned f bare.unframed in cc)) (element_plain f bare.unframed name (Some simple) tried)
     first (first + 1))
 
--- each part has one slot or none
-once_sequence : (f : Framing) (parts : List ℕ) → slots_of_sequence f parts ≤ 1
-once_sequence f [] = by (has_framing f)
+-- each part has one slot or none, and none of its occurrences is tried
+once_group : (f : Framing) (parts : List ℕ) → slots_of_group f parts ≤ 1
+once_group f [] = by (has_framing f)
   where
     by : (b : Bool) → (if b then 1 else 0) ≤ 1
     by true = omega arith
     by false = omega arith
-once_sequence f (part ∷ parts) = omega arith
+once_group f (part ∷ parts) = omega arith
 
-once_slots : (component : Component) (parts : List ℕ) → occurs_in component ≤ 1 → slots_of component parts ≤ 1
-once_slots (Sequence f separated) parts few = once_sequence f parts
-once_slots (ComplexElement name f box occurs) parts few = few
-once_slots (SimpleElement name simple prim f prefix tried scanned occurs) parts few = few
+once_slots : (component : Component) (parts : List ℕ) → IsSingle (occurs_in component) → IsSingle (slots_of component parts)
+once_slots (Sequence f separated) parts is = record { few = once_group f parts; untried = refl }
+once_slots (Choice f) parts is = record { few = once_group f parts; untried = refl }
+once_slots (ComplexElement name f box occurs) parts is = is
+once_slots (SimpleElement name simple prim f prefix tried scanned occurs) parts is = is
 
-bare_once : (components : List Component) (p : ℕ) → All IsBareComponent components → occurs_in (component_at components p) ≤ 1
-bare_once [] p bare = omega arith
-bare_once (k ∷ components) zero bare = (bare 0 k (omega arith)).once
+bare_once : (components : List Component) (p : ℕ) → All IsBareComponent components → IsSingle (occurs_in (component_at components p))
+bare_once [] p bare = record { few = omega arith; untried = refl }
+bare_once (k ∷ components) zero bare = let own = bare 0 k (omega arith) in record { few = own.once; untried = own.untried }
 bare_once (k ∷ components) (suc p) bare = bare_once components p (All-tail IsBareComponent k components bare)
 
-slots_once : (s : Schema) → All IsBareComponent s.components → (c : ℕ) → All (λ n. n ≤ 1) (slots_at s c)
+slots_once : (s : Schema) → All IsBareComponent s.components → (c : ℕ) → All IsSingle (slots_at s c)
 slots_once s bare c = all (uses_of s.uses c)
   where
-    all : (ps : List ℕ) → All (λ n. n ≤ 1) (map (λ p. slots_of (component_at s.components p) (uses_of s.uses p)) ps)
-    all [] = All-nil (λ n. n ≤ 1)
+    all : (ps : List ℕ) → All IsSingle (map (λ p. slots_of (component_at s.components p) (uses_of s.uses p)) ps)
+    all [] = All-nil IsSingle
     all (p ∷ ps) =
-        All-cons (λ n. n ≤ 1) (slots_of (component_at s.components p) (uses_of s.uses p)) (map (λ p. slots_of (component_at s.components p) (uses_of s.uses p)) ps)
+        All-cons IsSingle (slots_of (component_at s.components p) (uses_of s.uses p)) (map (λ p. slots_of (component_at s.components p) (uses_of s.uses p)) ps)
         (once_slots (component_at s.components p) (uses_of s.uses p) (bare_once s.components p bare)) (all ps)
 
 module _ (s : Schema) (ordered : HasOrder s.uses) (one : AreOfOne s.uses s.components s.refusals s.places) where
@@ -386,9 +407,10 @@ turn_some f (p ∷ ps) one all =
     let here : 0 < length (f p 0) = all 0 p (omega arith) in
     omega (arith, here, length-append (f p 0) (in_turn (map f ps) (0 + length (f p 0))))
 
-own_last : (component : Component) (slots : List ℕ) (f : ℕ → Numbered) (ps : List ℕ) → CanHave component ps → All (λ p. 0 < length (f p 0)) ps
+own_last : (component : Component) (slots : List Occurs) (f : ℕ → Numbered) (ps : List ℕ) → CanHave component ps → All (λ p. 0 < length (f p 0)) ps
     → EndsWith component (in_turn (map f ps) 0 ++ own_rows component slots (last_rows (map f ps) 0) (0 + length (in_turn (map f ps) 0)))
 own_last (Sequence framing separated) slots f ps can some = tt
+own_last (Choice framing) slots f ps can some = tt
 own_last (ComplexElement name framing box occurs) slots f ps can some =
     complex_last name framing box (in_turn (map f ps) 0) (get_or (last_rows (map f ps) 0) 0 0) (0 + length (in_turn (map f ps) 0)) (omega arith)
     (omega (arith, one_part f ps can, turn_some f ps can some))

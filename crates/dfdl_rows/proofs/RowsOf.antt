@@ -1,21 +1,23 @@
 -- The rows of a component by those of its parts: how many they are, and that there is one.
-use Rattle.std.proofs.Common.{◌≡◌, ℕ, ◌+◌, ◌<◌, Bool, true, false, if◌then◌else◌, List, [], ◌∷◌, ◌++◌, length, map, get_or, Option, None, Some, All, sym, ap, subst, ◌∙◌, refl, arith, append_assoc, length-append}
+use Rattle.std.proofs.Common.{◌≡◌, ℕ, ◌+◌, ◌<◌, List, [], ◌∷◌, ◌++◌, length, map, get_or, Option, None, Some, All, sym, ap, subst, ◌∙◌, refl, arith, append_assoc, length-append}
 use Rattle.std.proofs.lemmas.List.Elements.{All-tail}
 use Rattle.dfdl_order.specs.Parts.{uses_of}
 use Rattle.dfdl_order.proofs.Over.{value_step}
 use Rattle.dfdl_terms.specs.declared.framing.Framing.{Framing}
+use Rattle.dfdl_terms.specs.declared.occurs.Occurs.{Occurs}
 use Rattle.dfdl_terms.specs.declared.row.Row.{Row}
-use Rattle.dfdl_terms.specs.declared.row.Row.TheVariants.{Group}
 use Rattle.dfdl_rows.specs.Components.{Schema, component_at, slots_at, HasOrder}
 use Rattle.dfdl_rows.specs.declared.component.Component.{Component}
-use Rattle.dfdl_rows.specs.declared.component.Component.TheVariants.{Sequence, ComplexElement, SimpleElement}
-use Rattle.dfdl_rows.specs.Sizes.{total, own_size, size_from, size_of}
+use Rattle.dfdl_rows.specs.declared.component.Component.TheVariants.{Sequence, Choice, ComplexElement, SimpleElement}
+use Rattle.dfdl_rows.specs.Sizes.{total, group_size, own_size, size_from, size_of}
 use Rattle.dfdl_rows.specs.Boxes.{box_size}
 use Rattle.dfdl_rows.specs.Framing.{framed, framing_size}
 use Rattle.dfdl_rows.specs.Scopes.{list_of, scanned_list, scope_size}
-use Rattle.dfdl_rows.specs.Slots.{laid_of, separator_list, slots_size}
+use Rattle.dfdl_rows.specs.Slots.{laid_of, row_of, separator_list, slots_size}
+use Rattle.dfdl_rows.specs.declared.slots.Grouping.{Grouping}
+use Rattle.dfdl_rows.specs.declared.slots.Grouping.TheVariants as grouping
 use Rattle.dfdl_rows.specs.declared.component.Separated.{Separated}
-use Rattle.dfdl_rows.specs.RowLists.{Numbered, boxed_rows, element_rows, scoped, sequence_rows, own_rows, in_turn, last_rows, rows_from, no_rows, rows_at}
+use Rattle.dfdl_rows.specs.RowLists.{Numbered, boxed_rows, element_rows, scoped, sequence_rows, group_rows, own_rows, in_turn, last_rows, rows_from, no_rows, rows_at}
 use Rattle.dfdl_rows.proofs.Framed.{length_framed}
 use Rattle.dfdl_rows.proofs.Boxed.{length_boxed, length_element}
 use Rattle.dfdl_rows.proofs.Scoped.{length_scoped}
@@ -39,16 +41,21 @@ length_sequence f separators =
     length_scoped separators (scoped (list_of f.terminator) (framed f separators)) (scope_size (list_of f.terminator) + framing_size f separators)
     (length_scoped (list_of f.terminator) (framed f separators) (framing_size f separators) (length_framed f separators))
 
-pub length_own : (component : Component) (slots : List ℕ) (parts : List ℕ) (first : ℕ) → length (own_rows component slots parts first) ≡ own_size component slots
-length_own (Sequence framing separated) slots parts first =
+length_group : (kind : Grouping) (framing : Framing) (separated : Option Separated) (slots : List Occurs) (parts : List ℕ) (first : ℕ)
+    → length (group_rows kind framing separated slots parts first) ≡ group_size framing separated slots
+length_group kind framing separated slots parts first =
     let size : ℕ = slots_size separated slots in
     let others : List Row = sequence_rows framing (separator_list separated) (first + size) (first + size + 1) in
     omega (
       arith,
-      length-append (laid_of separated slots parts first).rows (Group (laid_of separated slots parts first).children ∷ others),
+      length-append (laid_of separated slots parts first).rows (row_of kind (laid_of separated slots parts first).children ∷ others),
       length_laid separated slots parts first,
       length_sequence framing (separator_list separated) (first + size) (first + size + 1),
     )
+
+pub length_own : (component : Component) (slots : List Occurs) (parts : List ℕ) (first : ℕ) → length (own_rows component slots parts first) ≡ own_size component slots
+length_own (Sequence framing separated) slots parts first = length_group grouping.Sequence framing separated slots parts first
+length_own (Choice framing) slots parts first = length_group grouping.Choice framing None slots parts first
 length_own (ComplexElement name framing box occurs) slots parts first =
     omega (
       arith,
@@ -86,8 +93,9 @@ length_rows s ordered = by_parts s.uses ordered.0 ordered.1 (λ c. IsLong (rows_
     let sum : size_of s c ≡ own_size (component_at s.components c) (slots_at s c) + total (map (size_of s) (uses_of s.uses c)) = size_step s ordered c within in
     omega (arith, whole, length-append turn own, parts, last, sum))
 
-some_own : (component : Component) (slots : List ℕ) (parts : ℕ) → 0 < own_size component slots + parts
+some_own : (component : Component) (slots : List Occurs) (parts : ℕ) → 0 < own_size component slots + parts
 some_own (Sequence framing separated) slots parts = omega arith
+some_own (Choice framing) slots parts = omega arith
 some_own (ComplexElement name framing box occurs) slots parts = omega arith
 some_own (SimpleElement name simple prim framing prefix tried scanned occurs) slots parts = omega arith
 
@@ -97,25 +105,26 @@ some_rows s ordered c within =
     subst (λ n. 0 < n) (sym (size_step s ordered c within))
     (some_own (component_at s.components c) (slots_at s c) (total (map (size_of s) (uses_of s.uses c))))
 
--- the rows of a sequence are added: those of its separators and those that repeat its parts, that of its group, and those around it
-module _ (f : Framing) (separated : Option Separated) (slots parts : List ℕ) (rows next : List Row)
-    (next_is : next ≡ rows ++ ((laid_of separated slots parts (length rows)).rows ++ Group (laid_of separated slots parts (length rows)).children ∷ [])) where
+-- the rows of a sequence or choice are added: those of its separators and those that repeat and try its parts, that of its group, and
+-- those around it
+module _ (kind : Grouping) (f : Framing) (separated : Option Separated) (slots : List Occurs) (parts : List ℕ) (rows next : List Row)
+    (next_is : next ≡ rows ++ ((laid_of separated slots parts (length rows)).rows ++ row_of kind (laid_of separated slots parts (length rows)).children ∷ [])) where
   next_long : length next ≡ length rows + slots_size separated slots + 1
   next_long =
       let own : List Row = (laid_of separated slots parts (length rows)).rows in
       let children : List ℕ = (laid_of separated slots parts (length rows)).children in
-      let whole : length next ≡ length (rows ++ (own ++ Group children ∷ [])) = ap (λ (rs : List Row). length rs) next_is in
-      omega (arith, whole, length-append rows (own ++ Group children ∷ []), length-append own (Group children ∷ []), length_laid separated slots parts (length rows))
+      let whole : length next ≡ length (rows ++ (own ++ row_of kind children ∷ [])) = ap (λ (rs : List Row). length rs) next_is in
+      omega (arith, whole, length-append rows (own ++ row_of kind children ∷ []), length-append own (row_of kind children ∷ []), length_laid separated slots parts (length rows))
 
-  pub around_few : (most : ℕ) → length rows + own_size (Sequence f separated) slots < most
+  pub around_few : (most : ℕ) → length rows + group_size f separated slots < most
       → length next + scope_size (separator_list separated) + scope_size (list_of f.terminator) + framing_size f (separator_list separated) < most
   around_few most few = omega (arith, few, next_long)
 
   pub sequence_whole : (content : ℕ) (all : List Row) → content ≡ length rows + slots_size separated slots
-      → all ≡ next ++ sequence_rows f (separator_list separated) content (length next) → all ≡ rows ++ own_rows (Sequence f separated) slots parts (length rows)
+      → all ≡ next ++ sequence_rows f (separator_list separated) content (length next) → all ≡ rows ++ group_rows kind f separated slots parts (length rows)
   sequence_whole content all content_is all_is =
       let own : List Row = (laid_of separated slots parts (length rows)).rows in
-      let group : Row = Group (laid_of separated slots parts (length rows)).children in
+      let group : Row = row_of kind (laid_of separated slots parts (length rows)).children in
       let size : ℕ = slots_size separated slots in
       let others : List Row = sequence_rows f (separator_list separated) (length rows + slots_size separated slots) (length rows + slots_size separated slots + 1) in
       all_is

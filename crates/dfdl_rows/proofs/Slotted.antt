@@ -1,18 +1,20 @@
 -- What is made of the parts of a sequence: how many rows, what holds of each, and that they nest.
-use Rattle.std.proofs.Common.{◌≡◌, ℕ, zero, suc, ◌+◌, ◌-◌, ◌<◌, ◌≤◌, Bool, true, false, if◌then◌else◌, ◌&&◌, ◌||◌, nat_lt, List, [], ◌∷◌, ◌++◌, length, get_or, drop, All, Option, None, Some, sym, ap, subst, ◌∙◌, refl, arith, length-append}
+use Rattle.std.proofs.Common.{◌≡◌, ℕ, zero, suc, ◌+◌, ◌-◌, ◌<◌, ◌≤◌, Bool, true, false, if◌then◌else◌, ◌&&◌, ◌||◌, nat_lt, List, [], ◌∷◌, ◌++◌, length, get_or, drop, All, Option, None, Some, sym, ap, ◌∙◌, refl, arith, length-append}
 use Rattle.std.proofs.lemmas.List.{append-nil}
 use Rattle.std.proofs.lemmas.List.Elements.{All-nil, All-tail, All-cons, All-append}
 use Rattle.dfdl_separators.specs.declared.policy.SeparatorPosition.{SeparatorPosition}
 use Rattle.dfdl_separators.specs.declared.policy.SeparatorPosition.TheVariants.{Prefix, Infix, Postfix}
+use Rattle.dfdl_terms.specs.declared.occurs.Occurs.{Occurs}
 use Rattle.dfdl_terms.specs.declared.row.Row.{Row}
-use Rattle.dfdl_terms.specs.declared.row.Row.TheVariants.{Group, Repeat, Separator}
-use Rattle.dfdl_rows.specs.Slots.{Laid, laid, lay, with_part, all_laid, laid_of, needed, begins, ends, row_if, separator_rows, separator_size, part_rows, part_size, parts_size, repeating_rows, repeating_size, slots_size, part_children, repeated, single, with_separators}
+use Rattle.dfdl_terms.specs.declared.row.Row.TheVariants.{Group, Repeat, Optional, Separator}
+use Rattle.dfdl_terms.specs.Occurs.{has_tried}
+use Rattle.dfdl_rows.specs.Slots.{Laid, laid, lay, with_part, all_laid, laid_of, needed, begins, ends, row_if, separator_rows, separator_size, part_rows, part_size, parts_size, repeating_rows, repeating_size, required_rows, required_size, required_children, tried_rows, tried_size, slots_size, part_children, repeated, single, with_separators}
 use Rattle.dfdl_rows.specs.declared.component.Separated.{Separated}
 use Rattle.dfdl_rows.proofs.Nests.{NestsFrom, nests_none, nests_cons, nests_append}
 
 -- what each part keeps, all of them keep
 pub lay_keeps : (P : Laid → Type 0) (way : Option SeparatorPosition) (first : ℕ) (parts : List ℕ)
-    → ((n part : ℕ) (a : Laid) → P a → P (with_part way first n part a)) → (slots : List ℕ) (at : ℕ) (a : Laid) → P a → P (lay way first parts slots at a)
+    → ((n : Occurs) (part : ℕ) (a : Laid) → P a → P (with_part way first n part a)) → (slots : List Occurs) (at : ℕ) (a : Laid) → P a → P (lay way first parts slots at a)
 unfolding lay
 lay_keeps P way first parts keeps [] at a has = has
 lay_keeps P way first parts keeps (n ∷ slots) at a has =
@@ -20,8 +22,8 @@ lay_keeps P way first parts keeps (n ∷ slots) at a has =
 
 -- the same, where each part is one of some
 pub lay_keeps_within : (P : Laid → Type 0) (way : Option SeparatorPosition) (first : ℕ) (parts : List ℕ)
-    → ((n at : ℕ) → at < length parts → (a : Laid) → P a → P (with_part way first n (get_or parts at 0) a))
-    → (slots : List ℕ) (at : ℕ) (a : Laid) → at + length slots ≤ length parts → P a → P (lay way first parts slots at a)
+    → ((n : Occurs) (at : ℕ) → at < length parts → (a : Laid) → P a → P (with_part way first n (get_or parts at 0) a))
+    → (slots : List Occurs) (at : ℕ) (a : Laid) → at + length slots ≤ length parts → P a → P (lay way first parts slots at a)
 unfolding lay
 lay_keeps_within P way first parts keeps [] at a few has = has
 lay_keeps_within P way first parts keeps (n ∷ slots) at a few has =
@@ -35,15 +37,33 @@ length_repeating (Some Prefix) separator n part from = refl
 length_repeating (Some Infix) separator n part from = refl
 length_repeating (Some Postfix) separator n part from = refl
 
-pub length_part : (way : Option SeparatorPosition) (separator n part from : ℕ) → length (part_rows way separator n part from) ≡ part_size way n
-length_part way separator n part from = by (nat_lt 1 n)
+length_required : (way : Option SeparatorPosition) (separator n part from : ℕ) → length (required_rows way separator n part from) ≡ required_size way n
+length_required way separator n part from = by (nat_lt 1 n)
   where
     by : (b : Bool) → length (if b then repeating_rows way separator n part from else []) ≡ (if b then repeating_size way else 0)
     by true = length_repeating way separator n part from
     by false = refl
 
+-- how many rows try a part
+length_tried : (n : Occurs) (part from : ℕ) → length (tried_rows n part from) ≡ tried_size n
+length_tried n part from = by (nat_lt 0 n.least)
+  where
+    by : (b : Bool)
+        → length (if b then Repeat n.least part ∷ Optional n.further n.is_item part ∷ Group (from ∷ (from + 1) ∷ []) ∷ [] else Optional n.further n.is_item part ∷ [])
+        ≡ (if b then 3 else 1)
+    by true = refl
+    by false = refl
+
+pub length_part : (way : Option SeparatorPosition) (separator : ℕ) (n : Occurs) (part from : ℕ) → length (part_rows way separator n part from) ≡ part_size way n
+length_part way separator n part from = by (has_tried n)
+  where
+    by : (b : Bool)
+        → length (if b then tried_rows n part from else required_rows way separator n.least part from) ≡ (if b then tried_size n else required_size way n.least)
+    by true = length_tried n part from
+    by false = length_required way separator n.least part from
+
 -- how many rows are made
-pub length_lay : (way : Option SeparatorPosition) (first : ℕ) (parts slots : List ℕ) (at : ℕ) (a : Laid)
+pub length_lay : (way : Option SeparatorPosition) (first : ℕ) (parts : List ℕ) (slots : List Occurs) (at : ℕ) (a : Laid)
     → length (lay way first parts slots at a).rows ≡ length a.rows + parts_size way slots
 unfolding lay
 length_lay way first parts [] at a = omega arith
@@ -60,13 +80,14 @@ pub length_separators : (way : Option SeparatorPosition) → length (separator_r
 length_separators None = refl
 length_separators (Some position) = refl
 
-pub length_laid : (separated : Option Separated) (slots parts : List ℕ) (first : ℕ) → length (laid_of separated slots parts first).rows ≡ slots_size separated slots
+pub length_laid : (separated : Option Separated) (slots : List Occurs) (parts : List ℕ) (first : ℕ) → length (laid_of separated slots parts first).rows ≡ slots_size separated slots
 length_laid separated slots parts first =
     let way : Option SeparatorPosition = needed separated slots in
     omega (arith, length_lay way first parts slots 0 (laid (separator_rows way) [] false), length_separators way)
 
 -- what holds of each row
-module _ (P : Row → Type 0) (own : P Separator) (group : (children : List ℕ) → P (Group children)) (repeat : (count body : ℕ) → P (Repeat count body)) where
+module _ (P : Row → Type 0) (own : P Separator) (group : (children : List ℕ) → P (Group children)) (repeat : (count body : ℕ) → P (Repeat count body))
+    (optional : (most : ℕ) (item : Bool) (body : ℕ) → P (Optional most item body)) where
   repeating_all : (way : Option SeparatorPosition) (separator n part from : ℕ) → All P (repeating_rows way separator n part from)
   repeating_all None separator n part from = All-cons P (Repeat n part) [] (repeat n part) (All-nil P)
   repeating_all (Some Prefix) separator n part from =
@@ -77,39 +98,69 @@ module _ (P : Row → Type 0) (own : P Separator) (group : (children : List ℕ)
   repeating_all (Some Postfix) separator n part from =
       All-cons P (Group (part ∷ separator ∷ [])) (Repeat n from ∷ []) (group (part ∷ separator ∷ [])) (All-cons P (Repeat n from) [] (repeat n from) (All-nil P))
 
-  part_all : (way : Option SeparatorPosition) (separator n part from : ℕ) → All P (part_rows way separator n part from)
-  part_all way separator n part from = by (nat_lt 1 n)
+  tried_all : (n : Occurs) (part from : ℕ) → All P (tried_rows n part from)
+  tried_all n part from = by (nat_lt 0 n.least)
+    where
+      last : (rows : List Row) → All P rows → All P (Optional n.further n.is_item part ∷ rows)
+      last rows all = All-cons P (Optional n.further n.is_item part) rows (optional n.further n.is_item part) all
+
+      by : (b : Bool)
+          → All P (if b then Repeat n.least part ∷ Optional n.further n.is_item part ∷ Group (from ∷ (from + 1) ∷ []) ∷ [] else Optional n.further n.is_item part ∷ [])
+      by true =
+          All-cons P (Repeat n.least part) (Optional n.further n.is_item part ∷ Group (from ∷ (from + 1) ∷ []) ∷ []) (repeat n.least part)
+          (last (Group (from ∷ (from + 1) ∷ []) ∷ []) (All-cons P (Group (from ∷ (from + 1) ∷ [])) [] (group (from ∷ (from + 1) ∷ [])) (All-nil P)))
+      by false = last [] (All-nil P)
+
+  required_all : (way : Option SeparatorPosition) (separator n part from : ℕ) → All P (required_rows way separator n part from)
+  required_all way separator n part from = by (nat_lt 1 n)
     where
       by : (b : Bool) → All P (if b then repeating_rows way separator n part from else [])
       by true = repeating_all way separator n part from
       by false = All-nil P
 
+  part_all : (way : Option SeparatorPosition) (separator : ℕ) (n : Occurs) (part from : ℕ) → All P (part_rows way separator n part from)
+  part_all way separator n part from = by (has_tried n)
+    where
+      by : (b : Bool) → All P (if b then tried_rows n part from else required_rows way separator n.least part from)
+      by true = tried_all n part from
+      by false = required_all way separator n.least part from
+
   separators_all : (way : Option SeparatorPosition) → All P (separator_rows way)
   separators_all None = All-nil P
   separators_all (Some position) = All-cons P Separator [] own (All-nil P)
 
-  pub laid_all : (separated : Option Separated) (slots parts : List ℕ) (first : ℕ) → All P (laid_of separated slots parts first).rows
+  pub laid_all : (separated : Option Separated) (slots : List Occurs) (parts : List ℕ) (first : ℕ) → All P (laid_of separated slots parts first).rows
   laid_all separated slots parts first =
       let way : Option SeparatorPosition = needed separated slots in
       lay_keeps (λ a. All P a.rows) way first parts
       (λ n part a has. All-append P a.rows (part_rows way first n part (first + length a.rows)) has (part_all way first n part (first + length a.rows)))
       slots 0 (laid (separator_rows way) [] false) (separators_all way)
 
--- without separators and parts that occur more than once there are no rows
-pub none_laid : (slots parts : List ℕ) (first : ℕ) → All (λ n. n ≤ 1) slots → (laid_of None slots parts first).rows ≡ []
+-- the part occurs once or never, and none of its occurrences is tried
+pub record IsSingle (n : Occurs) : Type 0 where
+  pub few : n.least ≤ 1
+  pub untried : n.further ≡ 0
+
+-- without separators, parts that occur more than once and those that are tried there are no rows
+pub none_laid : (slots : List Occurs) (parts : List ℕ) (first : ℕ) → All IsSingle slots → (laid_of None slots parts first).rows ≡ []
 unfolding lay
 none_laid slots parts first few = all slots 0 (laid [] [] false) few
   where
-    one : (n part from : ℕ) → n ≤ 1 → part_rows None first n part from ≡ []
+    one : (n part from : ℕ) → n ≤ 1 → required_rows None first n part from ≡ []
     one zero part from low = refl
     one (suc zero) part from low = refl
     one (suc (suc n)) part from low = absurd (omega (arith, low))
 
-    all : (ns : List ℕ) (at : ℕ) (a : Laid) → All (λ n. n ≤ 1) ns → (lay None first parts ns at a).rows ≡ a.rows
+    single_rows : (n : Occurs) (part from : ℕ) → IsSingle n → part_rows None first n part from ≡ []
+    single_rows n part from is =
+        ap (λ (k : ℕ). if nat_lt 0 k then tried_rows n part from else required_rows None first n.least part from) is.untried
+        ∙ one n.least part from is.few
+
+    all : (ns : List Occurs) (at : ℕ) (a : Laid) → All IsSingle ns → (lay None first parts ns at a).rows ≡ a.rows
     all [] at a low = refl
     all (n ∷ ns) at a low =
-        all ns (at + 1) (with_part None first n (get_or parts at 0) a) (All-tail (λ n. n ≤ 1) n ns low)
-        ∙ (ap (λ (rows : List Row). a.rows ++ rows) (one n (get_or parts at 0) (first + length a.rows) (low 0 n (omega arith)))
+        all ns (at + 1) (with_part None first n (get_or parts at 0) a) (All-tail IsSingle n ns low)
+        ∙ (ap (λ (rows : List Row). a.rows ++ rows) (single_rows n (get_or parts at 0) (first + length a.rows) (low 0 n (omega arith)))
         ∙ append-nil a.rows)
 
 -- the row of separators, where there are some, stands below a number
@@ -139,12 +190,34 @@ module _ (separator part from : ℕ) (low : part < from) where
   nests_repeating (Some Infix) n own = nests_pair (separator ∷ part ∷ []) (n - 1) (pairs_below own).0
   nests_repeating (Some Postfix) n own = nests_pair (part ∷ separator ∷ []) n (pairs_below own).1
 
-  nests_part : (way : Option SeparatorPosition) (n : ℕ) → SeparatorBelow way separator from → NestsFrom from (part_rows way separator n part from)
-  nests_part way n own = by (nat_lt 1 n)
+  nests_tried : (n : Occurs) → NestsFrom from (tried_rows n part from)
+  nests_tried n = by (nat_lt 0 n.least)
+    where
+      pair : All (λ c. c < from + 1 + 1) (from ∷ (from + 1) ∷ [])
+      pair = All-cons (λ c. c < from + 1 + 1) from ((from + 1) ∷ []) (omega arith)
+          (All-cons (λ c. c < from + 1 + 1) (from + 1) [] (omega arith) (All-nil (λ c. c < from + 1 + 1)))
+
+      by : (b : Bool)
+          → NestsFrom from (if b then Repeat n.least part ∷ Optional n.further n.is_item part ∷ Group (from ∷ (from + 1) ∷ []) ∷ [] else Optional n.further n.is_item part ∷ [])
+      by true =
+          nests_cons from (Repeat n.least part) (Optional n.further n.is_item part ∷ Group (from ∷ (from + 1) ∷ []) ∷ []) low
+          (nests_cons (from + 1) (Optional n.further n.is_item part) (Group (from ∷ (from + 1) ∷ []) ∷ []) (omega (arith, low))
+          (nests_cons (from + 1 + 1) (Group (from ∷ (from + 1) ∷ [])) [] pair (nests_none (from + 1 + 1 + 1))))
+      by false = nests_cons from (Optional n.further n.is_item part) [] low (nests_none (from + 1))
+
+  nests_required : (way : Option SeparatorPosition) (n : ℕ) → SeparatorBelow way separator from → NestsFrom from (required_rows way separator n part from)
+  nests_required way n own = by (nat_lt 1 n)
     where
       by : (b : Bool) → NestsFrom from (if b then repeating_rows way separator n part from else [])
       by true = nests_repeating way n own
       by false = nests_none from
+
+  nests_part : (way : Option SeparatorPosition) (n : Occurs) → SeparatorBelow way separator from → NestsFrom from (part_rows way separator n part from)
+  nests_part way n own = by (has_tried n)
+    where
+      by : (b : Bool) → NestsFrom from (if b then tried_rows n part from else required_rows way separator n.least part from)
+      by true = nests_tried n
+      by false = nests_required way n.least own
 
 -- the rows of the group stand below a number
 module _ (separator part bound : ℕ) (low : part < bound) where
@@ -174,14 +247,27 @@ module _ (separator part bound : ℕ) (low : part < bound) where
       (All-cons (λ k. k < bound) part ((from + 1) ∷ []) low (only_below (from + 1) (omega (arith, few))))
   repeated_below (Some Postfix) taken from own few = only_below (from + 1) (omega (arith, few))
 
-  children_below : (way : Option SeparatorPosition) (taken : Bool) (n from : ℕ) → SeparatorBelow way separator bound → from + part_size way n ≤ bound
-      → All (λ k. k < bound) (part_children way separator taken n part from)
-  children_below way taken n from own = by (nat_lt 1 n)
+  required_below : (way : Option SeparatorPosition) (taken : Bool) (n from : ℕ) → SeparatorBelow way separator bound → from + required_size way n ≤ bound
+      → All (λ k. k < bound) (required_children way separator taken n part from)
+  required_below way taken n from own = by (nat_lt 1 n)
     where
       by : (b : Bool) → from + (if b then repeating_size way else 0) ≤ bound
           → All (λ k. k < bound) (if b then repeated way separator taken part from else single way separator taken (nat_lt 0 n) part)
       by true few = repeated_below way taken from own few
       by false few = single_below way taken (nat_lt 0 n) own
+
+  children_below : (way : Option SeparatorPosition) (taken : Bool) (n : Occurs) (from : ℕ) → SeparatorBelow way separator bound → from + part_size way n ≤ bound
+      → All (λ k. k < bound) (part_children way separator taken n part from)
+  children_below way taken n from own = by (has_tried n)
+    where
+      some : (b : Bool) → 0 < (if b then 3 else 1)
+      some true = omega arith
+      some false = omega arith
+
+      by : (b : Bool) → from + (if b then tried_size n else required_size way n.least) ≤ bound
+          → All (λ k. k < bound) (if b then (from + tried_size n - 1) ∷ [] else required_children way separator taken n.least part from)
+      by true few = let one : 0 < tried_size n = some (nat_lt 0 n.least) in only_below (from + tried_size n - 1) (omega (arith, few, one))
+      by false few = required_below way taken n.least from own few
 
 -- the rows so far nest, and those of the group stand below the next one
 pub record LaidNest (way : Option SeparatorPosition) (first : ℕ) (a : Laid) : Type 0 where
@@ -189,7 +275,7 @@ pub record LaidNest (way : Option SeparatorPosition) (first : ℕ) (a : Laid) : 
   pub below : All (λ k. k < first + length a.rows) a.children
   pub own : SeparatorBelow way first (first + length a.rows)
 
-part_nests : (way : Option SeparatorPosition) (first n part : ℕ) (a : Laid) → part < first → LaidNest way first a → LaidNest way first (with_part way first n part a)
+part_nests : (way : Option SeparatorPosition) (first : ℕ) (n : Occurs) (part : ℕ) (a : Laid) → part < first → LaidNest way first a → LaidNest way first (with_part way first n part a)
 part_nests way first n part a low has =
     let from : ℕ = first + length a.rows in
     let more : List Row = part_rows way first n part (first + length a.rows) in
@@ -214,75 +300,78 @@ begin_nests (Some position) first = record {
   own = omega arith;
 }
 
-pub laid_nests : (separated : Option Separated) (slots parts : List ℕ) (first : ℕ) → length slots ≡ length parts → All (λ n. n < first) parts
+pub laid_nests : (separated : Option Separated) (slots : List Occurs) (parts : List ℕ) (first : ℕ) → length slots ≡ length parts → All (λ n. n < first) parts
     → LaidNest (needed separated slots) first (laid_of separated slots parts first)
 laid_nests separated slots parts first long low =
     let way : Option SeparatorPosition = needed separated slots in
     lay_keeps_within (LaidNest way first) way first parts (λ n at within a has. part_nests way first n (get_or parts at 0) a (low at 0 within) has)
     slots 0 (laid (separator_rows way) [] false) (omega (arith, long)) (begin_nests way first)
 
+-- no occurrence
+abbrev pub never : Occurs
+never = record { least = 0; further = 0; is_item = false }
+
 -- one part is laid behind others
-pub lay_step : (way : Option SeparatorPosition) (first : ℕ) (parts slots : List ℕ) (at : ℕ) (a : Laid) → at < length slots
-    → lay way first parts (drop at slots) at a ≡ lay way first parts (drop (at + 1) slots) (at + 1) (with_part way first (get_or slots at 0) (get_or parts at 0) a)
+pub lay_step : (way : Option SeparatorPosition) (first : ℕ) (parts : List ℕ) (slots : List Occurs) (at : ℕ) (a : Laid) → at < length slots
+    → lay way first parts (drop at slots) at a ≡ lay way first parts (drop (at + 1) slots) (at + 1) (with_part way first (get_or slots at never) (get_or parts at 0) a)
 unfolding lay
-lay_step way first parts slots at a within = ap (λ (ns : List ℕ). lay way first parts ns at a) (drops slots at within) ∙ once
+lay_step way first parts slots at a within = ap (λ (ns : List Occurs). lay way first parts ns at a) (drops slots at within) ∙ once
   where
-    drops : (ns : List ℕ) (i : ℕ) → i < length ns → drop i ns ≡ get_or ns i 0 ∷ drop (i + 1) ns
+    drops : (ns : List Occurs) (i : ℕ) → i < length ns → drop i ns ≡ get_or ns i never ∷ drop (i + 1) ns
     drops [] i less = absurd (omega (arith, less))
     drops (n ∷ ns) zero less = refl
     drops (n ∷ ns) (suc i) less =
         let same : suc (i + 1) ≡ suc i + 1 = omega arith in
-        drops ns i (omega (arith, less)) ∙ ap (λ (k : ℕ). get_or ns i 0 ∷ drop k (n ∷ ns)) same
+        drops ns i (omega (arith, less)) ∙ ap (λ (k : ℕ). get_or ns i never ∷ drop k (n ∷ ns)) same
 
-    once : lay way first parts (get_or slots at 0 ∷ drop (at + 1) slots) at a
-        ≡ lay way first parts (drop (at + 1) slots) (at + 1) (with_part way first (get_or slots at 0) (get_or parts at 0) a)
+    once : lay way first parts (get_or slots at never ∷ drop (at + 1) slots) at a
+        ≡ lay way first parts (drop (at + 1) slots) (at + 1) (with_part way first (get_or slots at never) (get_or parts at 0) a)
     once = refl
 
 -- so many rows are left to be made
-pub size_step : (way : Option SeparatorPosition) (slots : List ℕ) (at : ℕ) → at < length slots
-    → parts_size way (drop at slots) ≡ part_size way (get_or slots at 0) + parts_size way (drop (at + 1) slots)
+pub size_step : (way : Option SeparatorPosition) (slots : List Occurs) (at : ℕ) → at < length slots
+    → parts_size way (drop at slots) ≡ part_size way (get_or slots at never) + parts_size way (drop (at + 1) slots)
 size_step way [] at less = absurd (omega (arith, less))
 size_step way (n ∷ ns) zero less = refl
 size_step way (n ∷ ns) (suc i) less =
     let same : suc (i + 1) ≡ suc i + 1 = omega arith in
-    size_step way ns i (omega (arith, less)) ∙ ap (λ (k : ℕ). part_size way (get_or ns i 0) + parts_size way (drop k (n ∷ ns))) same
+    size_step way ns i (omega (arith, less)) ∙ ap (λ (k : ℕ). part_size way (get_or ns i never) + parts_size way (drop k (n ∷ ns))) same
 
 -- a part is laid behind others, by what is added
-module _ (way : Option SeparatorPosition) (first : ℕ) (parts slots : List ℕ) (at part : ℕ) (rows next : List Row) (children others : List ℕ) (taken more : Bool)
-    (within : at < length slots) (next_is : next ≡ rows ++ part_rows way first (get_or slots at 0) part (first + length rows)) where
+module _ (way : Option SeparatorPosition) (first : ℕ) (parts : List ℕ) (slots : List Occurs) (at part : ℕ) (rows next : List Row) (children others : List ℕ) (taken more : Bool)
+    (within : at < length slots) (next_is : next ≡ rows ++ part_rows way first (get_or slots at never) part (first + length rows)) where
   pub laid_more : (whole : Laid) → part ≡ get_or parts at 0
-      → others ≡ children ++ part_children way first taken (get_or slots at 0) part (first + length rows) → more ≡ (taken || nat_lt 0 (get_or slots at 0))
+      → others ≡ children ++ part_children way first taken (get_or slots at never) part (first + length rows) → more ≡ (taken || nat_lt 0 (get_or slots at never).least)
       → lay way first parts (drop at slots) at (laid rows children taken) ≡ whole
       → lay way first parts (drop (at + 1) slots) (at + 1) (laid next others more) ≡ whole
   laid_more whole part_is others_is more_is same =
-      let n : ℕ = get_or slots at 0 in
-      let rows_are : next ≡ rows ++ part_rows way first (get_or slots at 0) (get_or parts at 0) (first + length rows)
-      = next_is ∙ ap (λ (p : ℕ). rows ++ part_rows way first (get_or slots at 0) p (first + length rows)) part_is in
-      let children_are : others ≡ children ++ part_children way first taken (get_or slots at 0) (get_or parts at 0) (first + length rows)
-      = others_is ∙ ap (λ (p : ℕ). children ++ part_children way first taken (get_or slots at 0) p (first + length rows)) part_is in
-      let made : laid next others more ≡ with_part way first (get_or slots at 0) (get_or parts at 0) (laid rows children taken)
+      let rows_are : next ≡ rows ++ part_rows way first (get_or slots at never) (get_or parts at 0) (first + length rows)
+      = next_is ∙ ap (λ (p : ℕ). rows ++ part_rows way first (get_or slots at never) p (first + length rows)) part_is in
+      let children_are : others ≡ children ++ part_children way first taken (get_or slots at never) (get_or parts at 0) (first + length rows)
+      = others_is ∙ ap (λ (p : ℕ). children ++ part_children way first taken (get_or slots at never) p (first + length rows)) part_is in
+      let made : laid next others more ≡ with_part way first (get_or slots at never) (get_or parts at 0) (laid rows children taken)
       = λ i. laid (rows_are i) (children_are i) (more_is i) in
       ap (lay way first parts (drop (at + 1) slots) (at + 1)) made ∙ (sym (lay_step way first parts slots at (laid rows children taken) within) ∙ same)
 
   pub laid_few : (most : ℕ) → first + length rows + parts_size way (drop at slots) < most → first + length next + parts_size way (drop (at + 1) slots) < most
   laid_few most few =
-      let long : length next ≡ length (rows ++ part_rows way first (get_or slots at 0) part (first + length rows)) = ap (λ (rs : List Row). length rs) next_is in
+      let long : length next ≡ length (rows ++ part_rows way first (get_or slots at never) part (first + length rows)) = ap (λ (rs : List Row). length rs) next_is in
       omega (
         arith,
         few,
         long,
-        length-append rows (part_rows way first (get_or slots at 0) part (first + length rows)),
-        length_part way first (get_or slots at 0) part (first + length rows),
+        length-append rows (part_rows way first (get_or slots at never) part (first + length rows)),
+        length_part way first (get_or slots at never) part (first + length rows),
         size_step way slots at within,
       )
 
 -- nothing is left to be laid
-pub laid_end : (way : Option SeparatorPosition) (first : ℕ) (parts slots : List ℕ) (at : ℕ) (a whole : Laid) → length slots ≤ at
+pub laid_end : (way : Option SeparatorPosition) (first : ℕ) (parts : List ℕ) (slots : List Occurs) (at : ℕ) (a whole : Laid) → length slots ≤ at
     → lay way first parts (drop at slots) at a ≡ whole → a ≡ whole
 unfolding lay
-laid_end way first parts slots at a whole end same = sym (ap (λ (ns : List ℕ). lay way first parts ns at a) (none slots at end) ∙ done) ∙ same
+laid_end way first parts slots at a whole end same = sym (ap (λ (ns : List Occurs). lay way first parts ns at a) (none slots at end) ∙ done) ∙ same
   where
-    none : (ns : List ℕ) (i : ℕ) → length ns ≤ i → drop i ns ≡ []
+    none : (ns : List Occurs) (i : ℕ) → length ns ≤ i → drop i ns ≡ []
     none [] zero less = refl
     none [] (suc i) less = refl
     none (n ∷ ns) zero less = absurd (omega (arith, less))
@@ -292,7 +381,7 @@ laid_end way first parts slots at a whole end same = sym (ap (λ (ns : List ℕ)
     done = refl
 
 -- so many rows are there when all parts are laid
-pub after_laid : (way : Option SeparatorPosition) (separated : Option Separated) (slots parts : List ℕ) (first : ℕ) (rows own next : List Row)
+pub after_laid : (way : Option SeparatorPosition) (separated : Option Separated) (slots : List Occurs) (parts : List ℕ) (first : ℕ) (rows own next : List Row)
     → way ≡ needed separated slots → own ≡ (all_laid way slots parts first).rows → next ≡ rows ++ own → length next ≡ length rows + slots_size separated slots
 after_laid way separated slots parts first rows own next way_is own_is next_is =
     let long : length next ≡ length (rows ++ own) = ap (λ (rs : List Row). length rs) next_is in

@@ -1,10 +1,11 @@
 -- A task of the walk is done, or others stand in its place that come to the same.
-use Rattle.std.proofs.Common.{◌≡◌, ℕ, suc, ◌+◌, ◌-◌, ◌<◌, ◌≤◌, Bool, List, [], ◌∷◌, ◌++◌, length, map, get_or, take, drop, All, sym, ap, subst, ◌∙◌, refl, arith, append_assoc, drop-cons, length-append, Result, Ok, Err, OnOk}
+use Rattle.std.proofs.Common.{◌≡◌, ℕ, suc, ◌+◌, ◌-◌, ◌<◌, ◌≤◌, List, [], ◌∷◌, ◌++◌, length, map, get_or, take, drop, All, sym, ap, subst, ◌∙◌, refl, arith, append_assoc, drop-cons, length-append, Result, Ok, Err, OnOk}
 use Rattle.std.proofs.lemmas.List.{append-nil}
 use Rattle.std.proofs.lemmas.List.Elements.{All-tail, All-cons}
 use Rattle.std.proofs.Math.Seq.{take-append_seam, drop-append_seam}
 use Rattle.dfdl_order.specs.Parts.{uses_of}
 use Rattle.dfdl_order.proofs.Over.{value_step}
+use Rattle.dfdl_terms.specs.declared.occurs.Occurs.{Occurs}
 use Rattle.dfdl_terms.specs.declared.row.Row.{Row}
 use Rattle.dfdl_rows.specs.Components.{Schema, component_at, slots_at, HasOrder}
 use Rattle.dfdl_rows.specs.declared.component.Component.{Component}
@@ -163,7 +164,7 @@ closed_few s task c ts m most is few =
     omega (arith, whole, few, all_done_grows s ts (closed s c m))
 
 -- there is room for the rows of a component's own
-pub closed_room : (s : Schema) (c : ℕ) (component : Component) (slots : List ℕ) (m : Made) (most : ℕ) → component ≡ component_at s.components c
+pub closed_room : (s : Schema) (c : ℕ) (component : Component) (slots : List Occurs) (m : Made) (most : ℕ) → component ≡ component_at s.components c
     → slots ≡ slots_at s c → length (closed s c m).rows < most → length m.rows + own_size component slots < most
 closed_room s c component slots m most is slots_are few =
     let parts : List ℕ = drop (kept s c m.lasts) m.lasts in

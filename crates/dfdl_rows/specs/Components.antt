@@ -1,15 +1,17 @@
 -- The components of a schema: what each one is, and which components it has as its parts ('DFDL Schema Component Model').
-use Rattle.std.specs.Prelude.{◌≡◌, ℕ, ◌<◌, ◌≤◌, Bool, List, [], length, map, get_or, Option, None, Some, false}
+use Rattle.std.specs.Prelude.{◌≡◌, ℕ, ◌<◌, ◌≤◌, Bool, true, false, List, [], length, map, get_or, Option, None, Some}
 use Rattle.dfdl_report.specs.declared.place.Place.{Place}
 use Rattle.dfdl_terms.specs.declared.delimiters.Delimiter.{Delimiter}
 use Rattle.dfdl_terms.specs.declared.framing.Framing.{Framing}
+use Rattle.dfdl_terms.specs.declared.occurs.Occurs.{Occurs}
 use Rattle.dfdl_terms.specs.declared.prefix.Prefix.{Prefix}
 use Rattle.dfdl_terms.specs.declared.representations.Representations.{Representations}
 use Rattle.dfdl_terms.specs.Framing.{no_fill}
+use Rattle.dfdl_terms.specs.Occurs.{occurs_once}
 use Rattle.dfdl_terms.specs.Rows.{AreWithin}
 use Rattle.dfdl_order.specs.Parts.{uses_of, IsOrder, Places}
 use Rattle.dfdl_rows.specs.declared.component.Component.{Component}
-use Rattle.dfdl_rows.specs.declared.component.Component.TheVariants.{Sequence, ComplexElement, SimpleElement}
+use Rattle.dfdl_rows.specs.declared.component.Component.TheVariants.{Sequence, Choice, ComplexElement, SimpleElement}
 use Rattle.dfdl_rows.specs.declared.component.Separated.{Separated}
 use Rattle.dfdl_rows.specs.declared.component.ContentBox.{ContentBox}
 use Rattle.dfdl_rows.specs.declared.component.ContentBox.TheVariants.{Unbounded, Sized, Prefixed}
@@ -39,6 +41,7 @@ place_at places c = get_or places c (record { document = 0; at = 0 })
 -- a component of this kind can have these parts: a complex element its content, and a simple element none
 abbrev pub CanHave : Component → List ℕ → Type 0
 CanHave (Sequence framing separated) parts = Unit {0}
+CanHave (Choice framing) parts = Unit {0}
 CanHave (ComplexElement name framing box occurs) parts = length parts ≡ 1
 CanHave (SimpleElement name simple prim framing prefix tried scanned occurs) parts = parts ≡ []
 
@@ -68,12 +71,14 @@ HasBoxPrimitive count (Prefixed prefix) = prefix.prim < count
 -- and those of length prefixes
 abbrev pub HasPrimitive : ℕ → Component → Type 0
 HasPrimitive count (Sequence framing separated) = Unit {0}
+HasPrimitive count (Choice framing) = Unit {0}
 HasPrimitive count (ComplexElement name framing box occurs) = HasBoxPrimitive count box
 HasPrimitive count (SimpleElement name simple prim framing prefix tried scanned occurs) = (prim < count) × HasPrefixPrimitive count prefix × AreWithin count tried
 
 -- what frames the content of a component
 abbrev pub framing_in : Component → Framing
 framing_in (Sequence framing separated) = framing
+framing_in (Choice framing) = framing
 framing_in (ComplexElement name framing box occurs) = framing
 framing_in (SimpleElement name simple prim framing prefix tried scanned occurs) = framing
 
@@ -85,6 +90,7 @@ HasList count (Some delimiter) = delimiter.list < count
 -- the separators in the content of a component, where it is a sequence with some
 abbrev pub separated_in : Component → Option Separated
 separated_in (Sequence framing separated) = separated
+separated_in (Choice framing) = None
 separated_in (ComplexElement name framing box occurs) = None
 separated_in (SimpleElement name simple prim framing prefix tried scanned occurs) = None
 
@@ -101,30 +107,42 @@ HasDelimiters count component =
 -- the box around the content of a component
 abbrev pub box_in : Component → ContentBox
 box_in (Sequence framing separated) = Unbounded
+box_in (Choice framing) = Unbounded
 box_in (ComplexElement name framing box occurs) = box
 box_in (SimpleElement name simple prim framing prefix tried scanned occurs) = Unbounded
 
 -- the length prefix before the content of a simple element, where there is one
 abbrev pub prefix_in : Component → Option Prefix
 prefix_in (Sequence framing separated) = None
+prefix_in (Choice framing) = None
 prefix_in (ComplexElement name framing box occurs) = None
 prefix_in (SimpleElement name simple prim framing prefix tried scanned occurs) = prefix
 
--- how often a component occurs where it stands in a sequence
-abbrev pub occurs_in : Component → ℕ
-occurs_in (Sequence framing separated) = 1
+-- how often a component occurs where it stands in a group
+abbrev pub occurs_in : Component → Occurs
+occurs_in (Sequence framing separated) = occurs_once
+occurs_in (Choice framing) = occurs_once
 occurs_in (ComplexElement name framing box occurs) = occurs
 occurs_in (SimpleElement name simple prim framing prefix tried scanned occurs) = occurs
 
+-- a component is a choice
+abbrev pub is_choice : Component → Bool
+is_choice (Sequence framing separated) = false
+is_choice (Choice framing) = true
+is_choice (ComplexElement name framing box occurs) = false
+is_choice (SimpleElement name simple prim framing prefix tried scanned occurs) = false
+
 -- there is neither fill nor a delimiter nor a box around the content of a component, no separator in it, and no length prefix before it,
--- and it occurs no more than once
+-- it is no choice, and it occurs no more than once, and no occurrence of it is tried
 pub record IsBareComponent (component : Component) : Type 0 where
   pub unframed : has_framing (framing_in component) ≡ false
   pub unboxed : box_in component ≡ Unbounded
   pub unprefixed : prefix_in component ≡ None
   pub unseparated : separated_in component ≡ None
-  pub once : occurs_in component ≤ 1
+  pub unchosen : is_choice component ≡ false
+  pub once : (occurs_in component).least ≤ 1
+  pub untried : (occurs_in component).further ≡ 0
 
--- how many slots each part of a component has in it, in schema order
-abbrev pub slots_at : Schema → ℕ → List ℕ
+-- how often each part of a component occurs in it, in schema order
+abbrev pub slots_at : Schema → ℕ → List Occurs
 slots_at s c = map (λ p. slots_of (component_at s.components p) (uses_of s.uses p)) (uses_of s.uses c)

@@ -3,11 +3,12 @@ use Rattle.std.specs.Prelude.{ℕ, ◌+◌, List, [], ◌∷◌, max}
 use Rattle.dfdl_order.specs.Folds.{value_by}
 use Rattle.dfdl_rows.specs.Components.{Schema, component_at}
 use Rattle.dfdl_rows.specs.declared.component.Component.{Component}
-use Rattle.dfdl_rows.specs.declared.component.Component.TheVariants.{Sequence, ComplexElement, SimpleElement}
+use Rattle.dfdl_rows.specs.declared.component.Component.TheVariants.{Sequence, Choice, ComplexElement, SimpleElement}
 
 -- one for an element
 abbrev pub own_depth : Component → ℕ
 own_depth (Sequence framing separated) = 0
+own_depth (Choice framing) = 0
 own_depth (ComplexElement name framing box occurs) = 1
 own_depth (SimpleElement name simple prim framing prefix tried scanned occurs) = 1
 

@@ -4,9 +4,10 @@ use Rattle.dfdl_forms.specs.declared.simple.Simple.{Simple}
 use Rattle.dfdl_terms.specs.declared.representations.Representations.{Representations}
 use Rattle.dfdl_terms.specs.Leaves.{ReadsBy}
 use Rattle.dfdl_terms.specs.declared.framing.Framing.{Framing}
+use Rattle.dfdl_terms.specs.declared.occurs.Occurs.{Occurs}
 use Rattle.dfdl_terms.specs.declared.prefix.Prefix.{Prefix}
 use Rattle.dfdl_terms.specs.declared.row.Row.{Row}
-use Rattle.dfdl_terms.specs.declared.row.Row.TheVariants.{Leaf, Elem, Group, Skip, Align, Initiator, Terminator, Separator, Scope, Boxed, PrefixedLeaf, PrefixedBox, Repeat}
+use Rattle.dfdl_terms.specs.declared.row.Row.TheVariants.{Leaf, Elem, Group, Skip, Align, Initiator, Terminator, Separator, Scope, Boxed, PrefixedLeaf, PrefixedBox, Repeat, Optional, Choice}
 use Rattle.dfdl_rows.specs.declared.component.Component.{Component}
 use Rattle.dfdl_rows.specs.declared.component.Component.TheVariants.{SimpleElement}
 
@@ -14,7 +15,7 @@ use Rattle.dfdl_rows.specs.declared.component.Component.TheVariants.{SimpleEleme
 abbrev pub IsAmong : List Component → Simple → ℕ → Type 0
 IsAmong components simple prim =
     (number : ℕ) × (name : List ℕ) × (framing : Framing) × (prefix : Option Prefix) × (tried : Representations)
-    × (scanned : Bool) × (occurs : ℕ) × (slice_get components number ≡ Some (SimpleElement name simple prim framing prefix tried scanned occurs))
+    × (scanned : Bool) × (occurs : Occurs) × (slice_get components number ≡ Some (SimpleElement name simple prim framing prefix tried scanned occurs))
 
 -- the body of each simple element reads a value by the primitive of a component of its type
 abbrev pub HaveLeaves : List Component → List Row → Type 0
@@ -36,6 +37,8 @@ IsLeafOf components simple (Some (Boxed bits body)) = ⊥
 IsLeafOf components simple (Some (PrefixedLeaf prefix prim)) = ⊥
 IsLeafOf components simple (Some (PrefixedBox prefix body)) = ⊥
 IsLeafOf components simple (Some (Repeat count body)) = ⊥
+IsLeafOf components simple (Some (Optional most item body)) = ⊥
+IsLeafOf components simple (Some (Choice branches)) = ⊥
 IsLeafOf components simple None = ⊥
 
 -- the body of each simple element is itself the leaf of a component of its type

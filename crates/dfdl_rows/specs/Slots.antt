@@ -1,32 +1,42 @@
--- The slots of a sequence, the separators at them, and the rows that repeat elements there ('Sequence Groups', 'Arrays and Optional
--- Elements').
+-- The slots of a group, the separators at them, and the rows that repeat elements there, and those that try them ('Sequence Groups',
+-- 'Arrays and Optional Elements').
 use Rattle.std.specs.Prelude.{ℕ, ◌+◌, ◌-◌, Bool, true, false, ◌&&◌, ◌||◌, nat_lt, List, [], ◌∷◌, ◌++◌, length, get_or, Option, None, Some, option_map, if◌then◌else◌}
+use Rattle.std.specs.List.{list_any}
 use Rattle.dfdl_separators.specs.declared.policy.SeparatorPosition.{SeparatorPosition}
 use Rattle.dfdl_separators.specs.declared.policy.SeparatorPosition.TheVariants.{Prefix, Infix, Postfix}
 use Rattle.dfdl_terms.specs.declared.framing.Framing.{Framing}
+use Rattle.dfdl_terms.specs.declared.occurs.Occurs.{Occurs}
 use Rattle.dfdl_terms.specs.declared.row.Row.{Row}
-use Rattle.dfdl_terms.specs.declared.row.Row.TheVariants.{Group, Repeat, Separator}
+use Rattle.dfdl_terms.specs.declared.row.Row.TheVariants.{Group, Repeat, Separator, Optional, Choice as Chosen}
+use Rattle.dfdl_terms.specs.Occurs.{has_tried, required_times}
 use Rattle.dfdl_rows.specs.Framing.{has_framing}
 use Rattle.dfdl_rows.specs.declared.component.Component.{Component}
-use Rattle.dfdl_rows.specs.declared.component.Component.TheVariants.{Sequence, ComplexElement, SimpleElement}
+use Rattle.dfdl_rows.specs.declared.component.Component.TheVariants.{Sequence, Choice, ComplexElement, SimpleElement}
 use Rattle.dfdl_rows.specs.declared.component.Separated.{Separated}
+use Rattle.dfdl_rows.specs.declared.slots.Grouping.{Grouping}
+use Rattle.dfdl_rows.specs.declared.slots.Grouping.TheVariants as grouping
 
--- how many slots a sequence with this framing and these parts has in the one that it stands in: one, unless nothing stands in it and
+-- how many slots a group with this framing and these parts has in the one that it stands in: one, unless nothing stands in it and
 -- nothing frames it
-abbrev pub slots_of_sequence : Framing → List ℕ → ℕ
-slots_of_sequence framing [] = if has_framing framing then 1 else 0
-slots_of_sequence framing (part ∷ parts) = 1
+abbrev pub slots_of_group : Framing → List ℕ → ℕ
+slots_of_group framing [] = if has_framing framing then 1 else 0
+slots_of_group framing (part ∷ parts) = 1
 
--- how many slots a component with these parts has in the sequence that it stands in: an element as many as it occurs
-abbrev pub slots_of : Component → List ℕ → ℕ
-slots_of (Sequence framing separated) parts = slots_of_sequence framing parts
+-- how often a component with these parts occurs in the group that it stands in: a group once for each of its slots
+abbrev pub slots_of : Component → List ℕ → Occurs
+slots_of (Sequence framing separated) parts = required_times (slots_of_group framing parts)
+slots_of (Choice framing) parts = required_times (slots_of_group framing parts)
 slots_of (ComplexElement name framing box occurs) parts = occurs
 slots_of (SimpleElement name simple prim framing prefix tried scanned occurs) parts = occurs
 
--- how many slots parts have together
-abbrev pub count_slots : List ℕ → ℕ
+-- how many required slots parts have together
+abbrev pub count_slots : List Occurs → ℕ
 count_slots [] = 0
-count_slots (n ∷ slots) = n + count_slots slots
+count_slots (n ∷ slots) = n.least + count_slots slots
+
+-- some of the occurrences of some part are tried
+abbrev pub have_tried : List Occurs → Bool
+have_tried slots = list_any has_tried slots
 
 -- so many slots need separators: between them they need some where there are two
 abbrev pub need_separators : SeparatorPosition → ℕ → Bool
@@ -56,7 +66,7 @@ with_separators position separator taken slot part =
     row_if (slot && begins position taken) separator ++ part ∷ row_if (slot && ends position) separator
 
 -- where the separators of a sequence stand, if it has some and its parts, with so many slots, need one
-abbrev pub needed : Option Separated → List ℕ → Option SeparatorPosition
+abbrev pub needed : Option Separated → List Occurs → Option SeparatorPosition
 needed None slots = None
 needed (Some own) slots = if need_separators own.position (count_slots slots) then Some own.position else None
 
@@ -85,17 +95,38 @@ abbrev pub single : Option SeparatorPosition → ℕ → Bool → Bool → ℕ �
 single None separator taken slot part = part ∷ []
 single (Some position) separator taken slot part = with_separators position separator taken slot part
 
--- the rows that repeat a part, where it has more slots than one
-abbrev pub part_rows : Option SeparatorPosition → ℕ → ℕ → ℕ → ℕ → List Row
-part_rows way separator slots part first = if nat_lt 1 slots then repeating_rows way separator slots part first else []
+-- the rows of a part some of whose occurrences are tried, from a number on: those that are required stand before them in a group
+abbrev pub tried_rows : Occurs → ℕ → ℕ → List Row
+tried_rows occurs part first =
+    if nat_lt 0 occurs.least
+    then Repeat occurs.least part ∷ Optional occurs.further occurs.is_item part ∷ Group (first ∷ (first + 1) ∷ []) ∷ []
+    else Optional occurs.further occurs.is_item part ∷ []
 
--- the rows of the sequence's group that stand for a part, where rows that repeat it have this number on
-abbrev pub part_children : Option SeparatorPosition → ℕ → Bool → ℕ → ℕ → ℕ → List ℕ
-part_children way separator taken slots part first =
+-- how many they are
+abbrev pub tried_size : Occurs → ℕ
+tried_size occurs = if nat_lt 0 occurs.least then 3 else 1
+
+-- the rows of a part whose occurrences are required, where it has more slots than one
+abbrev pub required_rows : Option SeparatorPosition → ℕ → ℕ → ℕ → ℕ → List Row
+required_rows way separator slots part first = if nat_lt 1 slots then repeating_rows way separator slots part first else []
+
+-- the rows of the group that stand for such a part, where rows that repeat it have this number on
+abbrev pub required_children : Option SeparatorPosition → ℕ → Bool → ℕ → ℕ → ℕ → List ℕ
+required_children way separator taken slots part first =
     if nat_lt 1 slots then repeated way separator taken part first else single way separator taken (nat_lt 0 slots) part
 
--- what is made of some parts of a sequence: the rows of its separators and those that repeat parts, the rows of its group, and whether
--- one of the parts had a slot
+-- The rows that repeat and try a part. Where it is tried there is no separator: a sequence that has some is refused.
+abbrev pub part_rows : Option SeparatorPosition → ℕ → Occurs → ℕ → ℕ → List Row
+part_rows way separator occurs part first =
+    if has_tried occurs then tried_rows occurs part first else required_rows way separator occurs.least part first
+
+-- the rows of the group that stand for a part, where rows that repeat it or try it have this number on: for one that is tried the last
+abbrev pub part_children : Option SeparatorPosition → ℕ → Bool → Occurs → ℕ → ℕ → List ℕ
+part_children way separator taken occurs part first =
+    if has_tried occurs then (first + tried_size occurs - 1) ∷ [] else required_children way separator taken occurs.least part first
+
+-- what is made of some parts of a group: the rows of its separators and those that repeat and try parts, the rows that stand in it, and
+-- whether one of the parts had a slot
 pub record Laid : Type 0 where
   pub rows : List Row
   pub children : List ℕ
@@ -105,23 +136,23 @@ pub record Laid : Type 0 where
 abbrev pub laid : List Row → List ℕ → Bool → Laid
 laid rows children taken = record { rows = rows; children = children; taken = taken }
 
--- a part with so many slots comes behind others, where the rows have a number on; the first is that of the separators
-abbrev pub with_part : Option SeparatorPosition → ℕ → ℕ → ℕ → Laid → Laid
-with_part way first slots part a =
-    laid (a.rows ++ part_rows way first slots part (first + length a.rows)) (a.children ++ part_children way first a.taken slots part (first + length a.rows))
-    (a.taken || nat_lt 0 slots)
+-- a part that occurs so often comes behind others, where the rows have a number on; the first is that of the separators
+abbrev pub with_part : Option SeparatorPosition → ℕ → Occurs → ℕ → Laid → Laid
+with_part way first occurs part a =
+    laid (a.rows ++ part_rows way first occurs part (first + length a.rows)) (a.children ++ part_children way first a.taken occurs part (first + length a.rows))
+    (a.taken || nat_lt 0 occurs.least)
 
 -- so do the parts from one on
-unfoldable pub lay : Option SeparatorPosition → ℕ → List ℕ → List ℕ → ℕ → Laid → Laid
+unfoldable pub lay : Option SeparatorPosition → ℕ → List ℕ → List Occurs → ℕ → Laid → Laid
 lay way first parts [] at a = a
 lay way first parts (n ∷ slots) at a = lay way first parts slots (at + 1) (with_part way first n (get_or parts at 0) a)
 
--- what is made of all parts of a sequence, which have so many slots
-abbrev pub all_laid : Option SeparatorPosition → List ℕ → List ℕ → ℕ → Laid
+-- what is made of all parts of a group, which occur so often
+abbrev pub all_laid : Option SeparatorPosition → List Occurs → List ℕ → ℕ → Laid
 all_laid way slots parts first = lay way first parts slots 0 (laid (separator_rows way) [] false)
 
--- the same, where the sequence has these separators, if it has some
-abbrev pub laid_of : Option Separated → List ℕ → List ℕ → ℕ → Laid
+-- the same, where the group has these separators, if it has some
+abbrev pub laid_of : Option Separated → List Occurs → List ℕ → ℕ → Laid
 laid_of separated slots parts first = all_laid (needed separated slots) slots parts first
 
 -- how many rows the separators are
@@ -134,19 +165,28 @@ abbrev pub repeating_size : Option SeparatorPosition → ℕ
 repeating_size None = 1
 repeating_size (Some position) = 2
 
--- how many rows repeat a part with so many slots
-abbrev pub part_size : Option SeparatorPosition → ℕ → ℕ
-part_size way slots = if nat_lt 1 slots then repeating_size way else 0
+-- how many rows repeat a part with so many slots, all of which are required
+abbrev pub required_size : Option SeparatorPosition → ℕ → ℕ
+required_size way slots = if nat_lt 1 slots then repeating_size way else 0
 
--- how many rows repeat the parts
-abbrev pub parts_size : Option SeparatorPosition → List ℕ → ℕ
+-- how many rows repeat and try a part
+abbrev pub part_size : Option SeparatorPosition → Occurs → ℕ
+part_size way occurs = if has_tried occurs then tried_size occurs else required_size way occurs.least
+
+-- how many rows repeat and try the parts
+abbrev pub parts_size : Option SeparatorPosition → List Occurs → ℕ
 parts_size way [] = 0
 parts_size way (n ∷ slots) = part_size way n + parts_size way slots
 
--- how many rows the separators are and those that repeat parts
-abbrev pub slots_size : Option Separated → List ℕ → ℕ
+-- how many rows the separators are and those that repeat and try parts
+abbrev pub slots_size : Option Separated → List Occurs → ℕ
 slots_size separated slots = separator_size (needed separated slots) + parts_size (needed separated slots) slots
 
 -- the number of the list of a sequence's separators, where it has some
 abbrev pub separator_list : Option Separated → Option ℕ
 separator_list separated = option_map (λ own. own.list) separated
+
+-- the row of a group of rows, by what they are in it
+abbrev pub row_of : Grouping → List ℕ → Row
+row_of grouping.Sequence children = Group children
+row_of grouping.Choice children = Chosen children

@@ -4,15 +4,19 @@ use super::tests::{Gathered, NORMAL_ALONE, are_shown, bare_sequence, complex, na
 use super::*;
 use dfdl_forms::Simple;
 use dfdl_separators::SeparatorPosition;
-use dfdl_terms::Framing;
+use dfdl_terms::{Framing, Occurs};
 use dfdl_value::TextValue;
 use std::alloc::{AllocError, Global};
 use std::test::Fail;
 
-// An element that occurs so often.
-fn occurring(alloc: Global, occurs: u32) -> Result<Component, AllocError> {
+// An element of this name that occurs so often.
+pub(super) fn occurring(
+    alloc: Global,
+    name: &str,
+    occurs: Occurs,
+) -> Result<Component, AllocError> {
     Ok(Component::SimpleElement {
-        name: TextValue::from_str(alloc, "a")?,
+        name: TextValue::from_str(alloc, name)?,
         simple: Simple::Int,
         prim: 0,
         framing: Framing::none(),
@@ -28,7 +32,12 @@ fn array(alloc: Global, sequence: Component, occurs: u32) -> Result<Gathered, Ro
     let mut gathered = Gathered::new(alloc);
     gathered.push(complex(alloc)?, &[1])?;
     gathered.push(sequence, &[2, 3])?;
-    gathered.push(occurring(alloc, occurs)?, &[])?;
+    let required = Occurs {
+        least: occurs,
+        further: 0,
+        is_item: true,
+    };
+    gathered.push(occurring(alloc, "a", required)?, &[])?;
     gathered.push(named(alloc, "b")?, &[])?;
     Ok(gathered)
 }

@@ -1,6 +1,6 @@
 use dfdl_forms::Simple;
 use dfdl_separators::SeparatorPosition;
-use dfdl_terms::{Framing, Prefix, Representations};
+use dfdl_terms::{Framing, Occurs, Prefix, Representations};
 use dfdl_value::TextValue;
 
 /// The box around a content ('Lengths').
@@ -33,6 +33,11 @@ pub enum Component {
         /// Its separators, if it has some.
         separated: Option<Separated>,
     },
+    /// A choice of one of its parts.
+    Choice {
+        /// What frames its row.
+        framing: Framing,
+    },
     /// An element whose one part is its content.
     ComplexElement {
         /// The local name.
@@ -41,8 +46,8 @@ pub enum Component {
         framing: Framing,
         /// The box around its content.
         content_box: ContentBox,
-        /// How often it occurs where it stands in a sequence ('Arrays and Optional Elements').
-        occurs: u32,
+        /// How often it occurs where it stands in a group ('Arrays and Optional Elements').
+        occurs: Occurs,
     },
     /// An element without parts.
     SimpleElement {
@@ -59,7 +64,7 @@ pub enum Component {
         tried: Representations,
         /// Markup ends its content ('Lengths', on lengthKind delimited).
         is_scanned: bool,
-        /// How often it occurs where it stands in a sequence ('Arrays and Optional Elements').
-        occurs: u32,
+        /// How often it occurs where it stands in a group ('Arrays and Optional Elements').
+        occurs: Occurs,
     },
 }

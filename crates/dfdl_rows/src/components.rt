@@ -2,6 +2,7 @@
 ghost use Rattle.std.specs.Prelude.{◌≡◌, ◌<◌, ◌↔◌, length, All, IfOk, IsTrue, false};
 ghost use Rattle.dfdl_order.specs.Parts.{uses_of, IsOrder};
 ghost use Rattle.dfdl_terms.specs.Rows.{AreWithin, IsWithin};
+ghost use Rattle.dfdl_terms.specs.Occurs.{required_times};
 ghost use Rattle.dfdl_rows.specs.Components.{AreOfOne, CanHave, HasOrder, component_at, framing_in, place_at, separated_in, slots_at};
 ghost use Rattle.dfdl_rows.specs.Refusals.{own_refusal};
 ghost use Rattle.dfdl_rows.specs.Components.{HasPrimitive, HasBoxPrimitive, HasPrefixPrimitive, HasDelimiters, HasList, HasSeparators};
@@ -11,8 +12,8 @@ use crate::component::Separated;
 use crate::framing::has_framing;
 use crate::{Component, ContentBox, Refusal};
 use dfdl_order::{Order, Uses};
-use dfdl_report::Place;
-use dfdl_terms::{Delimiter, Framing, Prefix, Representations};
+use dfdl_report::{Place, SchemaCause};
+use dfdl_terms::{Delimiter, Framing, Occurs, Prefix, Representations};
 use std::alloc::{AllocError, Global};
 use std::marker::Model;
 
@@ -102,8 +103,8 @@ impl Components {
         self.uses.of(number)
     }
 
-    /// How many slots each part of a component has in it.
-    pub(crate) fn slots(&self, alloc: Global, number: u32) -> Result<Vec<u32>, AllocError>
+    /// How often each part of a component occurs in it.
+    pub(crate) fn slots(&self, alloc: Global, number: u32) -> Result<Vec<Occurs>, AllocError>
         requires { number < length self.now.uses }
         ensures { IfOk result (λ made. made.items ≡ slots_at self.now number) }
     {
@@ -114,11 +115,31 @@ impl Components {
         Ok(slots)
     }
 
-    /// The refusal of a component's own.
+    // Whether some of the occurrences of some part of a component are tried.
+    fn have_tried(&self, number: u32) -> bool
+        requires { number < length self.now.uses }
+        ensures { result ≡ slots.have_tried (slots_at self.now number) }
+    {
+        for part in self.parts(number) {
+            if slots_of(self.component(*part), self.parts(*part)).further > 0 {
+                return true;
+            }
+        }
+        false
+    }
+
+    /// The refusal of a component's own: that of a sequence with separators one of whose parts is tried, and else the one that is
+    /// known of it.
     pub(crate) fn refusal(&self, number: u32) -> Option<Refusal>
         requires { number < length self.now.uses }
-        ensures { result ≡ own_refusal self.now.refusals number }
+        ensures { result ≡ own_refusal self.now number }
     {
+        if separated_in(self.component(number)).is_some() && self.have_tried(number) {
+            return Some(Refusal {
+                cause: SchemaCause::OutsideSubset,
+                place: self.place(number),
+            });
+        }
         self.refusals[number as usize]
     }
 
@@ -154,20 +175,33 @@ pub fn are_of_one(
     true
 }
 
-// How many slots a component with these parts has in the sequence that it stands in.
-fn slots_of(component: &Component, parts: &[u32]) -> u32
+// So many times, each of which is required.
+fn required_times(count: u32) -> Occurs
+    ensures { result ≡ required_times count }
+{
+    Occurs {
+        least: count,
+        further: 0,
+        is_item: count > 1,
+    }
+}
+
+// How often a component with these parts occurs in the group that it stands in.
+fn slots_of(component: &Component, parts: &[u32]) -> Occurs
     ensures { result ≡ slots.slots_of component.now parts.now }
 {
     match component {
-        Component::Sequence { framing, .. } => slots_of_sequence(*framing, parts),
+        Component::Sequence { framing, .. } | Component::Choice { framing } => {
+            required_times(slots_of_group(*framing, parts))
+        }
         Component::ComplexElement { occurs, .. } => *occurs,
         Component::SimpleElement { occurs, .. } => *occurs,
     }
 }
 
-// The same of a sequence with this framing.
-fn slots_of_sequence(framing: Framing, parts: &[u32]) -> u32
-    ensures { result ≡ slots.slots_of_sequence framing parts.now }
+// How many slots a group with this framing has.
+fn slots_of_group(framing: Framing, parts: &[u32]) -> u32
+    ensures { result ≡ slots.slots_of_group framing parts.now }
 {
     if parts.is_empty() && !has_framing(framing) {
         0
@@ -182,7 +216,7 @@ fn can_have(component: &Component, parts: &[u32]) -> bool
     ensures other { result ≡ false → CanHave component.now parts.now → ⊥ }
 {
     match component {
-        Component::Sequence { .. } => true,
+        Component::Sequence { .. } | Component::Choice { .. } => true,
         Component::ComplexElement { .. } => parts.len() == 1,
         Component::SimpleElement { .. } => parts.is_empty(),
     }
@@ -203,7 +237,7 @@ fn has_primitive(component: &Component, count: u32) -> bool
     ensures { IsTrue result ↔ HasPrimitive count component.now }
 {
     match component {
-        Component::Sequence { .. } => true,
+        Component::Sequence { .. } | Component::Choice { .. } => true,
         Component::ComplexElement { content_box, .. } => has_box_primitive(*content_box, count),
         Component::SimpleElement {
             prim,
@@ -282,6 +316,7 @@ fn separated_in(component: &Component) -> Option<Separated>
 {
     match component {
         Component::Sequence { separated, .. } => *separated,
+        Component::Choice { .. } => None,
         Component::ComplexElement { .. } => None,
         Component::SimpleElement { .. } => None,
     }
@@ -303,6 +338,7 @@ fn framing_in(component: &Component) -> Framing
 {
     match component {
         Component::Sequence { framing, .. } => *framing,
+        Component::Choice { framing } => *framing,
         Component::ComplexElement { framing, .. } => *framing,
         Component::SimpleElement { framing, .. } => *framing,
     }

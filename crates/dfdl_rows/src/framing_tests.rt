@@ -1,6 +1,6 @@
 // Fill, delimiters and boxes around contents.
 use super::tests::{
-    Gathered, NORMAL_ALONE, are_shown, bare_sequence, count_of, fill, limit, simple,
+    Gathered, NORMAL_ALONE, ONCE, are_shown, bare_sequence, count_of, fill, limit, simple,
 };
 use super::*;
 use dfdl_forms::Simple;
@@ -17,7 +17,7 @@ fn filled(alloc: Global) -> Result<Gathered, RowsFault> {
         name: TextValue::from_str(alloc, "r")?,
         framing: fill(8, 16, 0),
         content_box: ContentBox::Unbounded,
-        occurs: 1,
+        occurs: ONCE,
     };
     gathered.push(root, &[1])?;
     let framing = fill(0, 32, 4);
@@ -44,7 +44,7 @@ fn filled(alloc: Global) -> Result<Gathered, RowsFault> {
         prefix: None,
         tried: NORMAL_ALONE,
         is_scanned: false,
-        occurs: 1,
+        occurs: ONCE,
     };
     gathered.push(element, &[])?;
     Ok(gathered)
@@ -100,7 +100,7 @@ fn boxed(alloc: Global) -> Result<Gathered, RowsFault> {
         name: TextValue::from_str(alloc, "r")?,
         framing: Framing::none(),
         content_box: ContentBox::Sized(8589934592),
-        occurs: 1,
+        occurs: ONCE,
     };
     gathered.push(root, &[1])?;
     gathered.push(bare_sequence(), &[2])?;
@@ -108,7 +108,7 @@ fn boxed(alloc: Global) -> Result<Gathered, RowsFault> {
         name: TextValue::from_str(alloc, "c")?,
         framing: fill(8, 1, 4),
         content_box: ContentBox::Sized(64),
-        occurs: 1,
+        occurs: ONCE,
     };
     gathered.push(inner, &[3])?;
     gathered.push(bare_sequence(), &[4])?;
@@ -180,7 +180,7 @@ fn ended_simple(alloc: Global, list: u32) -> Result<Component, AllocError> {
         prefix: None,
         tried: NORMAL_ALONE,
         is_scanned: false,
-        occurs: 1,
+        occurs: ONCE,
     })
 }
 
@@ -191,7 +191,7 @@ fn delimited(alloc: Global) -> Result<Gathered, RowsFault> {
         name: TextValue::from_str(alloc, "r")?,
         framing: ended_by(0),
         content_box: ContentBox::Sized(64),
-        occurs: 1,
+        occurs: ONCE,
     };
     gathered.push(root, &[1])?;
     let framing = Framing {

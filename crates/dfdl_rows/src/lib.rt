@@ -31,6 +31,8 @@ pub use rows::{rows_of, terms_of};
 #[cfg(test)]
 mod array_tests;
 #[cfg(test)]
+mod choice_tests;
+#[cfg(test)]
 mod framing_tests;
 #[cfg(test)]
 mod prefix_tests;

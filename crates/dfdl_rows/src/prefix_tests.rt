@@ -1,5 +1,5 @@
 // Length prefixes before the contents of simple elements and before boxes.
-use super::tests::{Gathered, NORMAL_ALONE, are_shown, bare_sequence, fill, named};
+use super::tests::{Gathered, NORMAL_ALONE, ONCE, are_shown, bare_sequence, fill, named};
 use super::*;
 use dfdl_forms::Simple;
 use dfdl_terms::{Framing, LengthUnit, Prefix};
@@ -21,7 +21,7 @@ fn simple_with(alloc: Global, framing: Framing, prefix: Prefix) -> Result<Compon
         prefix: Some(prefix),
         tried: NORMAL_ALONE,
         is_scanned: false,
-        occurs: 1,
+        occurs: ONCE,
     })
 }
 
@@ -31,7 +31,7 @@ fn complex_with(alloc: Global, framing: Framing, prefix: Prefix) -> Result<Compo
         name: TextValue::from_str(alloc, "r")?,
         framing,
         content_box: ContentBox::Prefixed(prefix),
-        occurs: 1,
+        occurs: ONCE,
     })
 }
 

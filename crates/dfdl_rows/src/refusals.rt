@@ -15,7 +15,7 @@ fn is_element(component: &Component) -> bool
     ensures { result ≡ is_element component.now }
 {
     match component {
-        Component::Sequence { .. } => false,
+        Component::Sequence { .. } | Component::Choice { .. } => false,
         Component::ComplexElement { .. } | Component::SimpleElement { .. } => true,
     }
 }

@@ -1,5 +1,5 @@
 // Separators between the slots of sequences.
-use super::tests::{Gathered, NORMAL_ALONE, are_shown, bare_sequence, count_of, named};
+use super::tests::{Gathered, NORMAL_ALONE, ONCE, are_shown, bare_sequence, count_of, named};
 use super::*;
 use dfdl_forms::Simple;
 use dfdl_separators::SeparatorPosition;
@@ -31,7 +31,7 @@ fn listed(alloc: Global, position: SeparatorPosition) -> Result<Gathered, RowsFa
         name: TextValue::from_str(alloc, "r")?,
         framing: Framing::none(),
         content_box: ContentBox::Unbounded,
-        occurs: 1,
+        occurs: ONCE,
     };
     gathered.push(root, &[1])?;
     gathered.push(separated(position), &[2, 3, 4])?;
@@ -114,7 +114,7 @@ fn ended(alloc: Global) -> Result<Component, AllocError> {
         prefix: None,
         tried: NORMAL_ALONE,
         is_scanned: true,
-        occurs: 1,
+        occurs: ONCE,
     })
 }
 

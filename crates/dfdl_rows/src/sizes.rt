@@ -9,12 +9,12 @@ use crate::framing::framing_size;
 use crate::scopes::{list_of, scanned_list, scope_size};
 use crate::slots::{separator_list, slots_size};
 use crate::{Component, Components};
-use dfdl_terms::Framing;
+use dfdl_terms::{Framing, Occurs};
 use std::alloc::{AllocError, Global};
 
-// The rows of a sequence that are not its parts', which have so many slots, as far as 64 bits count.
-fn sequence_size(framing: Framing, separated: Option<Separated>, slots: &[u32]) -> u64
-    ensures { result ≡ saturated (sizes.own_size (Component.Sequence framing separated) slots.now) }
+// The rows of a sequence or choice that are not its parts', which occur so often, as far as 64 bits count.
+fn group_size(framing: Framing, separated: Option<Separated>, slots: &[Occurs]) -> u64
+    ensures { result ≡ saturated (sizes.group_size framing separated slots.now) }
 {
     let separators = separator_list(separated);
     let scopes = scope_size(separators) + scope_size(list_of(framing.terminator));
@@ -22,13 +22,14 @@ fn sequence_size(framing: Framing, separated: Option<Separated>, slots: &[u32]) 
     slots_size(separated, slots).saturating_add(around)
 }
 
-// The rows of a component that are not its parts', which have so many slots, as far as 64 bits count: those of separators, of scopes,
-// of a box and of what frames its content among them, and those that repeat its parts.
-fn own_size(component: &Component, slots: &[u32]) -> u64
+// The rows of a component that are not its parts', which occur so often, as far as 64 bits count: those of separators, of scopes,
+// of a box and of what frames its content among them, and those that repeat and try its parts.
+fn own_size(component: &Component, slots: &[Occurs]) -> u64
     ensures { result ≡ saturated (sizes.own_size component.now slots.now) }
 {
     match component {
-        Component::Sequence { framing, separated } => sequence_size(*framing, *separated, slots),
+        Component::Sequence { framing, separated } => group_size(*framing, *separated, slots),
+        Component::Choice { framing } => group_size(*framing, None, slots),
         Component::ComplexElement {
             framing,
             content_box,
@@ -61,7 +62,7 @@ fn total(parts: &[u32], known: &[u64]) -> u64
 }
 
 // The number of a component's rows, where it is known for its parts, as far as 64 bits count.
-fn size_at(component: &Component, slots: &[u32], parts: &[u32], known: &[u64]) -> u64
+fn size_at(component: &Component, slots: &[Occurs], parts: &[u32], known: &[u64]) -> u64
     requires { All (λ p. p < length known.now) parts.now }
     ensures { result ≡ saturated (sizes.own_size component.now slots.now
         + sizes.total (map (λ p. get_or known.now p 0) parts.now)) }

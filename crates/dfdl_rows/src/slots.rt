@@ -1,26 +1,35 @@
-// The slots of a sequence, the separators at them, and the rows that repeat elements there.
-ghost use Rattle.std.specs.Prelude.{◌≡◌, ◌≤◌, ◌<◌, ◌+◌, ◌-◌, ◌^◌, ◌++◌, ◌∷◌, ◌||◌, [], Bool, false, get_or, length, vec_len, IfOk, OnOk, nat_lt};
+// The slots of a group, the separators at them, and the rows that repeat elements there, and those that try them.
+ghost use Rattle.std.specs.Prelude.{◌≡◌, ◌≤◌, ◌<◌, ◌+◌, ◌-◌, ◌^◌, ◌++◌, ◌∷◌, ◌||◌, [], Bool, false, get_or, length, vec_len, IfOk, OnOk, if◌then◌else◌, nat_lt};
 ghost use Rattle.dfdl_rows.specs.Saturated.{saturated};
 ghost use Rattle.dfdl_rows.specs.Slots as spec;
 
 use crate::component::Separated;
 use dfdl_separators::SeparatorPosition;
-use dfdl_terms::{Row, RowId, RowList};
+use dfdl_terms::{Occurs, Row, RowId, RowList};
 use std::alloc::{AllocError, Global};
 
-// How many slots parts have together, as far as 64 bits count.
-fn count_slots(slots: &[u32]) -> u64
+/// What rows are in the group that they stand in.
+#[derive(Clone, Copy)]
+pub(crate) enum Grouping {
+    /// One stands behind the other.
+    Sequence,
+    /// One of them is taken.
+    Choice,
+}
+
+// How many required slots parts have together, as far as 64 bits count.
+fn count_slots(slots: &[Occurs]) -> u64
     ensures { result ≡ saturated (spec.count_slots slots.now) }
 {
     let mut count = 0u64;
-    for number in slots {
-        count = count.saturating_add(u64::from(*number));
+    for occurs in slots {
+        count = count.saturating_add(u64::from(occurs.least));
     }
     count
 }
 
 // Whether parts with so many slots need separators.
-fn need_separators(position: SeparatorPosition, slots: &[u32]) -> bool
+fn need_separators(position: SeparatorPosition, slots: &[Occurs]) -> bool
     ensures { result ≡ spec.need_separators position (spec.count_slots slots.now) }
 {
     match position {
@@ -30,7 +39,7 @@ fn need_separators(position: SeparatorPosition, slots: &[u32]) -> bool
 }
 
 // Where the separators of a sequence stand, if it has some and its parts, with so many slots, need one.
-fn needed(separated: Option<Separated>, slots: &[u32]) -> Option<SeparatorPosition>
+fn needed(separated: Option<Separated>, slots: &[Occurs]) -> Option<SeparatorPosition>
     ensures { result ≡ spec.needed separated slots.now }
 {
     match separated {
@@ -66,9 +75,29 @@ fn ends(position: SeparatorPosition) -> bool
     }
 }
 
+// How many rows repeat and try a part.
+fn part_size(way: Option<SeparatorPosition>, occurs: Occurs) -> u64
+    ensures size { result ≡ spec.part_size way occurs }
+    ensures few { result ≤ 3 }
+{
+    if occurs.further > 0 {
+        u64::from(tried_size(occurs.least))
+    } else {
+        required_size(way, occurs.least)
+    }
+}
+
+// How many rows try a part, with so many occurrences that are required.
+fn tried_size(least: u32) -> u32
+    ensures size { result ≡ (if nat_lt 0 least then 3 else 1) }
+    ensures few { result ≤ 3 }
+{
+    if least > 0 { 3 } else { 1 }
+}
+
 // How many rows repeat a part with so many slots.
-fn part_size(way: Option<SeparatorPosition>, slots: u32) -> u64
-    ensures size { result ≡ spec.part_size way slots }
+fn required_size(way: Option<SeparatorPosition>, slots: u32) -> u64
+    ensures size { result ≡ spec.required_size way slots }
     ensures few { result ≤ 2 }
 {
     if slots <= 1 {
@@ -80,13 +109,13 @@ fn part_size(way: Option<SeparatorPosition>, slots: u32) -> u64
     }
 }
 
-// How many rows repeat the parts, as far as 64 bits count.
-fn parts_size(way: Option<SeparatorPosition>, slots: &[u32]) -> u64
+// How many rows repeat and try the parts, as far as 64 bits count.
+fn parts_size(way: Option<SeparatorPosition>, slots: &[Occurs]) -> u64
     ensures { result ≡ saturated (spec.parts_size way slots.now) }
 {
     let mut size = 0u64;
-    for number in slots {
-        size = size.saturating_add(part_size(way, *number));
+    for occurs in slots {
+        size = size.saturating_add(part_size(way, *occurs));
     }
     size
 }
@@ -101,8 +130,8 @@ fn separator_size(way: Option<SeparatorPosition>) -> u64
     }
 }
 
-/// How many rows the separators of a sequence are and those that repeat its parts, which have so many slots, as far as 64 bits count.
-pub(crate) fn slots_size(separated: Option<Separated>, slots: &[u32]) -> u64
+/// How many rows the separators of a group are and those that repeat and try its parts, which occur so often, as far as 64 bits count.
+pub(crate) fn slots_size(separated: Option<Separated>, slots: &[Occurs]) -> u64
     ensures { result ≡ saturated (spec.slots_size separated slots.now) }
 {
     let way = needed(separated, slots);
@@ -265,8 +294,36 @@ fn push_repeated(
     Ok(())
 }
 
-// Adds what stands for a part with so many slots, where the rows of the sequence's own begin at a number.
-fn push_part(
+// Adds the rows that try a part, from a number on.
+fn push_tried(
+    alloc: Global,
+    rows: &mut Vec<Row>,
+    occurs: Occurs,
+    part: RowId,
+    first: u32,
+) -> Result<(), AllocError>
+    requires { first + 1 < 2 ^ 32 }
+    ensures { OnOk result (rows.new.items ≡ rows.old.items ++ spec.tried_rows occurs part first) }
+{
+    let tried = Row::Optional {
+        most: occurs.further,
+        is_item: occurs.is_item,
+        body: part,
+    };
+    if occurs.least == 0 {
+        rows.push(tried)?;
+        return Ok(());
+    }
+    let count = occurs.least;
+    rows.push(Row::Repeat { count, body: part })?;
+    rows.push(tried)?;
+    let children = pair(alloc, RowId::new(first), RowId::new(first + 1))?;
+    rows.push(Row::Group { children })?;
+    Ok(())
+}
+
+// Adds what stands for a part with so many slots, all of which are required, where the rows of the group's own begin at a number.
+fn push_required(
     alloc: Global,
     rows: &mut Vec<Row>,
     children: &mut Vec<RowId>,
@@ -276,11 +333,11 @@ fn push_part(
     slots: u32,
     part: RowId,
 ) -> Result<(), AllocError>
-    requires { first + length rows.old.items + spec.part_size way slots < 2 ^ 32 }
+    requires { first + length rows.old.items + spec.required_size way slots < 2 ^ 32 }
     ensures rows { OnOk result (rows.new.items
-        ≡ rows.old.items ++ spec.part_rows way first slots part (first + length rows.old.items)) }
+        ≡ rows.old.items ++ spec.required_rows way first slots part (first + length rows.old.items)) }
     ensures children { OnOk result (children.new.items
-        ≡ children.old.items ++ spec.part_children way first taken slots part (first + length rows.old.items)) }
+        ≡ children.old.items ++ spec.required_children way first taken slots part (first + length rows.old.items)) }
 {
     let separator = RowId::new(first);
     if slots <= 1 {
@@ -289,6 +346,32 @@ fn push_part(
     let number = first + rows.len() as u32;
     push_repeating(alloc, rows, way, separator, slots, part, RowId::new(number))?;
     push_repeated(children, way, separator, taken, part, number)
+}
+
+// Adds what stands for a part, where the rows of the group's own begin at a number.
+fn push_part(
+    alloc: Global,
+    rows: &mut Vec<Row>,
+    children: &mut Vec<RowId>,
+    way: Option<SeparatorPosition>,
+    first: u32,
+    taken: bool,
+    occurs: Occurs,
+    part: RowId,
+) -> Result<(), AllocError>
+    requires { first + length rows.old.items + spec.part_size way occurs < 2 ^ 32 }
+    ensures rows { OnOk result (rows.new.items
+        ≡ rows.old.items ++ spec.part_rows way first occurs part (first + length rows.old.items)) }
+    ensures children { OnOk result (children.new.items
+        ≡ children.old.items ++ spec.part_children way first taken occurs part (first + length rows.old.items)) }
+{
+    if occurs.further == 0 {
+        return push_required(alloc, rows, children, way, first, taken, occurs.least, part);
+    }
+    let number = first + rows.len() as u32;
+    push_tried(alloc, rows, occurs, part, number)?;
+    children.push(RowId::new(number + tried_size(occurs.least) - 1))?;
+    Ok(())
 }
 
 // Whether a part had a slot so far, where one with so many comes.
@@ -309,18 +392,18 @@ fn separator_rows(alloc: Global, way: Option<SeparatorPosition>) -> Result<Vec<R
     Ok(rows)
 }
 
-// What is made of the parts of a sequence: the rows of its separators and those that repeat parts, and the rows of its group.
+// What is made of the parts of a group: the rows of its separators and those that repeat and try parts, and the rows that stand in it.
 #[derive(Drop)]
 struct Laid {
     rows: Vec<Row>,
     children: Vec<RowId>,
 }
 
-// What is made of the parts of a sequence, which have so many slots, where the rows of its own begin at a number.
+// What is made of the parts of a group, which occur so often, where the rows of its own begin at a number.
 fn lay(
     alloc: Global,
     way: Option<SeparatorPosition>,
-    slots: &[u32],
+    slots: &[Occurs],
     parts: &[RowId],
     first: u32,
 ) -> Result<Laid, AllocError>
@@ -333,6 +416,7 @@ fn lay(
     let mut taken = false;
     for at in 0..slots.len() {
         let part = part_at(parts, at);
+        let occurs = slots[at];
         push_part(
             alloc,
             &mut rows,
@@ -340,39 +424,50 @@ fn lay(
             way,
             first,
             taken,
-            slots[at],
+            occurs,
             part,
         )?;
-        taken = is_taken(taken, slots[at]);
+        taken = is_taken(taken, occurs.least);
     }
     Ok(Laid { rows, children })
 }
 
+// The row of a group of rows.
+fn row_of(kind: Grouping, rows: Vec<RowId>) -> Row
+    ensures { result ≡ spec.row_of kind rows.items }
+{
+    let list = RowList::new(rows);
+    match kind {
+        Grouping::Sequence => Row::Group { children: list },
+        Grouping::Choice => Row::Choice { branches: list },
+    }
+}
+
 // Adds the row of a group.
-fn push_group(rows: &mut Vec<Row>, children: Vec<RowId>) -> Result<RowId, AllocError>
+fn push_last(rows: &mut Vec<Row>, kind: Grouping, children: Vec<RowId>) -> Result<RowId, AllocError>
     requires { length rows.old.items < 2 ^ 32 }
-    ensures rows { OnOk result (rows.new.items ≡ rows.old.items ++ Row.Group children.items ∷ []) }
+    ensures rows { OnOk result (rows.new.items ≡ rows.old.items ++ spec.row_of kind children.items ∷ []) }
     ensures number { IfOk result (λ number. number ≡ length rows.old.items) }
 {
     let number = RowId::new(rows.len() as u32);
-    let children = RowList::new(children);
-    rows.push(Row::Group { children })?;
+    rows.push(row_of(kind, children))?;
     Ok(number)
 }
 
-/// Adds the row of a sequence, where these are the last rows of its parts, which have so many slots, with those of its separators and
-/// those that repeat parts before it; gives the row of the sequence.
-pub(crate) fn push_sequence(
+/// Adds the row of a sequence or choice, where these are the last rows of its parts, which occur so often, with those of its separators
+/// and those that repeat and try parts before it; gives the row of the group.
+pub(crate) fn push_group(
     alloc: Global,
     rows: &mut Vec<Row>,
+    kind: Grouping,
     separated: Option<Separated>,
-    slots: &[u32],
+    slots: &[Occurs],
     parts: &[RowId],
 ) -> Result<RowId, AllocError>
     requires { length rows.old.items + spec.slots_size separated slots.now + 1 < 2 ^ 32 }
     ensures rows { OnOk result (rows.new.items ≡ rows.old.items
         ++ ((spec.laid_of separated slots.now parts.now (length rows.old.items)).rows
-        ++ Row.Group (spec.laid_of separated slots.now parts.now (length rows.old.items)).children ∷ [])) }
+        ++ spec.row_of kind (spec.laid_of separated slots.now parts.now (length rows.old.items)).children ∷ [])) }
     ensures number { IfOk result (λ number. number ≡ length rows.old.items + spec.slots_size separated slots.now) }
 {
     let first = rows.len() as u32;
@@ -380,5 +475,5 @@ pub(crate) fn push_sequence(
     let laid = lay(alloc, way, slots, parts, first)?;
     let mut own = laid.rows;
     rows.append(&mut own)?;
-    push_group(rows, laid.children)
+    push_last(rows, kind, laid.children)
 }

@@ -7,7 +7,7 @@ use dfdl_forms::{BitOrder, ByteOrder, IntForm, Simple};
 use dfdl_order::{Uses, order_of};
 use dfdl_report::{LimitCause, Place, SchemaCause};
 use dfdl_terms::{
-    Framing, LengthUnit, Prefix, Primitive, Representations, Row, RowId, Tables, Terms,
+    Framing, LengthUnit, Occurs, Prefix, Primitive, Representations, Row, RowId, Tables, Terms,
 };
 use dfdl_value::TextValue;
 use std::alloc::{AllocError, Global};
@@ -109,6 +109,13 @@ pub(super) const NORMAL_ALONE: Representations = Representations {
     are_several: false,
 };
 
+// Once.
+pub(super) const ONCE: Occurs = Occurs {
+    least: 1,
+    further: 0,
+    is_item: false,
+};
+
 // A simple element of this name.
 pub(super) fn named(alloc: Global, name: &str) -> Result<Component, AllocError> {
     Ok(Component::SimpleElement {
@@ -119,7 +126,7 @@ pub(super) fn named(alloc: Global, name: &str) -> Result<Component, AllocError> 
         prefix: None,
         tried: NORMAL_ALONE,
         is_scanned: false,
-        occurs: 1,
+        occurs: ONCE,
     })
 }
 
@@ -129,7 +136,7 @@ pub(super) fn complex(alloc: Global) -> Result<Component, AllocError> {
         name: TextValue::from_str(alloc, "r")?,
         framing: Framing::none(),
         content_box: ContentBox::Unbounded,
-        occurs: 1,
+        occurs: ONCE,
     })
 }
 
@@ -240,7 +247,7 @@ fn counts_what_is_shared_to_the_limit(rt: HostRuntime) -> Result<(), Fail> {
     Ok(())
 }
 
-fn twice(at: u64) -> Result<usize, RowsFault> {
+pub(super) fn twice(at: u64) -> Result<usize, RowsFault> {
     Err(RowsFault::Refused(Refusal {
         cause: SchemaCause::ElementTwice,
         place: Place { document: 0, at },
@@ -349,6 +356,22 @@ fn shown(alloc: Global, row: &Row) -> Result<(&'static str, Vec<u64>), AllocErro
             numbers.push(u64::from(*count))?;
             numbers.push(u64::from(body.number()))?;
             "repeat"
+        }
+        Row::Optional {
+            most,
+            is_item,
+            body,
+        } => {
+            numbers.push(*most)?;
+            numbers.push(u64::from(*is_item))?;
+            numbers.push(u64::from(body.number()))?;
+            "optional"
+        }
+        Row::Choice { branches } => {
+            for branch in branches.as_slice() {
+                numbers.push(u64::from(branch.number()))?;
+            }
+            "choice"
         }
         Row::Scope { list, body } => {
             numbers.push(u64::from(*list))?;

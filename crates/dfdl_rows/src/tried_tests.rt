@@ -1,5 +1,5 @@
 // The representations of simple elements that are tried before the normal one.
-use super::tests::{Gathered, NORMAL_ALONE, bare_sequence, complex};
+use super::tests::{Gathered, NORMAL_ALONE, ONCE, bare_sequence, complex};
 use super::*;
 use dfdl_forms::Simple;
 use dfdl_terms::{Framing, Representations, Row};
@@ -17,7 +17,7 @@ fn simple_with(alloc: Global, name: &str, tried: Representations) -> Result<Comp
         prefix: None,
         tried,
         is_scanned: false,
-        occurs: 1,
+        occurs: ONCE,
     })
 }
 

@@ -6,7 +6,7 @@ ghost use Rattle.dfdl_rows.specs.Framing.{framing_size};
 ghost use Rattle.dfdl_rows.specs.RowLists as lists;
 ghost use Rattle.dfdl_rows.specs.Scopes as scopes;
 ghost use Rattle.dfdl_rows.specs.Scopes.{scope_size};
-ghost use Rattle.dfdl_rows.specs.Sizes.{own_size, size_of};
+ghost use Rattle.dfdl_rows.specs.Sizes.{group_size, own_size, size_of};
 ghost use Rattle.dfdl_rows.specs.Walk.{made, closed, all_done, component_of, steps_left};
 ghost use Rattle.dfdl_terms.specs.declared.row.Row.TheVariants.{Elem};
 ghost use Rattle.dfdl_rows.specs.declared.walk.Task.TheVariants.{Enter, Close};
@@ -14,10 +14,10 @@ ghost use Rattle.dfdl_rows.specs.declared.walk.Task.TheVariants.{Enter, Close};
 use crate::boxes::push_boxed;
 use crate::framing::push_framed;
 use crate::scopes::{list_of, push_scoped, scanned_list};
-use crate::slots::{push_sequence, separator_list};
-use crate::{Component, Components};
+use crate::slots::{Grouping, push_group, separator_list};
+use crate::{Component, Components, Separated};
 use dfdl_forms::Simple;
-use dfdl_terms::{Framing, Prefix, Representations, Row, RowId};
+use dfdl_terms::{Framing, Occurs, Prefix, Representations, Row, RowId};
 use dfdl_value::TextValue;
 use std::alloc::{AllocError, Global};
 use std::collections::VecDeque;
@@ -163,12 +163,12 @@ fn close(
     Ok(())
 }
 
-// Adds the rows of a component's own, where these are the last rows of its parts, which have so many slots.
+// Adds the rows of a component's own, where these are the last rows of its parts, which occur so often.
 fn push_own(
     alloc: Global,
     rows: &mut Vec<Row>,
     component: &Component,
-    slots: &[u32],
+    slots: &[Occurs],
     parts: &[RowId],
 ) -> Result<(), AllocError>
     requires { length rows.old.items + own_size component.now slots.now < 2 ^ 32 }
@@ -177,8 +177,11 @@ fn push_own(
 {
     match component {
         Component::Sequence { framing, separated } => {
-            let content = push_sequence(alloc, rows, *separated, slots, parts)?;
-            push_around(alloc, rows, *framing, separator_list(*separated), content)
+            let kind = Grouping::Sequence;
+            push_grouped(alloc, rows, kind, *framing, *separated, slots, parts)
+        }
+        Component::Choice { framing } => {
+            push_grouped(alloc, rows, Grouping::Choice, *framing, None, slots, parts)
         }
         Component::ComplexElement {
             name,
@@ -211,7 +214,25 @@ fn push_own(
     }
 }
 
-// Adds the rows around the row of the group of a sequence: the scopes of its separators and of its terminator, and what frames it.
+// Adds the rows of a sequence or choice of its own.
+fn push_grouped(
+    alloc: Global,
+    rows: &mut Vec<Row>,
+    kind: Grouping,
+    framing: Framing,
+    separated: Option<Separated>,
+    slots: &[Occurs],
+    parts: &[RowId],
+) -> Result<(), AllocError>
+    requires { length rows.old.items + group_size framing separated slots.now < 2 ^ 32 }
+    ensures { OnOk result (rows.new.items
+        ≡ rows.old.items ++ lists.group_rows kind framing separated slots.now parts.now (length rows.old.items)) }
+{
+    let content = push_group(alloc, rows, kind, separated, slots, parts)?;
+    push_around(alloc, rows, framing, separator_list(separated), content)
+}
+
+// Adds the rows around the row of the group of a sequence or choice: the scopes of its separators and of its terminator, and what frames it.
 fn push_around(
     alloc: Global,
     rows: &mut Vec<Row>,

@@ -17,7 +17,7 @@ use Rattle.dfdl_terms.specs.declared.row.Primitive.{Primitive}
 use Rattle.dfdl_terms.specs.declared.representations.Representations.{Representations}
 use Rattle.dfdl_terms.specs.declared.row.Row.{Row}
 use Rattle.dfdl_terms.specs.declared.text.TextSize.{TextSize}
-use Rattle.dfdl_terms.specs.declared.row.Row.TheVariants.{Leaf, Elem, Group, Skip, Align, Initiator, Terminator, Separator, Scope, Boxed, PrefixedLeaf, PrefixedBox, Repeat}
+use Rattle.dfdl_terms.specs.declared.row.Row.TheVariants.{Leaf, Elem, Group, Skip, Align, Initiator, Terminator, Separator, Scope, Boxed, PrefixedLeaf, PrefixedBox, Repeat, Optional, Choice as ChoiceRow}
 use Rattle.dfdl_region.specs.declared.node.Content.{Content}
 use Rattle.dfdl_region.specs.declared.node.Content.TheVariants as content
 use Rattle.dfdl_region.specs.Nodes.{with_content}
@@ -34,7 +34,9 @@ use Rattle.dfdl_grammar.specs.Framing.{aligned, fill_to, has_byte, pass_to, pass
 use Rattle.dfdl_grammar.specs.Delimiters.{initiator, lists_of, markup, numbers_of, opens, passed_text, scoped, seek, separator, sought_among, stands_in, terminator, unscoped}
 use Rattle.dfdl_grammar.specs.Boxes.{boxed_at, bytes_up_to, pass_bytes, past_byte, rest as rest_of, unboxed}
 use Rattle.dfdl_grammar.specs.Elements.{attempted, begun, close, has_elements}
-use Rattle.dfdl_grammar.specs.Marks.{back, marked}
+use Rattle.dfdl_grammar.specs.Marks.{back, closed, marked, pointed, stays_at}
+use Rattle.dfdl_grammar.specs.Choices.{branches, choice}
+use Rattle.dfdl_grammar.specs.Occurrences.{after_occurrence, dropped, occurrences}
 use Rattle.dfdl_grammar.specs.Representations.{Attempt, after_empty, or_else, refuse, refused_among, represented, the_last, then_empty, then_nil, then_normal}
 use Rattle.dfdl_grammar.specs.Prefixes.{behind_prefix, bits_of_units, land_prefix, leaf_of, prefixed, resized, size_of, sized_leaf, units_told}
 use Rattle.dfdl_grammar.specs.Rows.{below, group, meaning, row, row_at}
@@ -201,6 +203,34 @@ represented-stops tried attempt each s = elim tried.are_several as (λ (b : Bool
       | false ↦ each Nothing s
     ]
 
+branches-stop : (child : ℕ → State → Outcome) → ((id : ℕ) (s : State) → StopsByData (child id s).end) → (ids : List ℕ) (s : State)
+    → StopsByData (branches child ids s).end
+branches-stop child each [] s = tt
+branches-stop child each (id ∷ ids) s = else-stops (child id s).end (child id s) (branches child ids) (each id s) (branches-stop child each ids)
+
+choice-stops : (child : ℕ → State → Outcome) → ((id : ℕ) (s : State) → StopsByData (child id s).end) → (ids : List ℕ) (s : State)
+    → StopsByData (choice child ids s).end
+choice-stops child each ids s = branches-stop child each ids (pointed s)
+
+-- behind a time that is done
+done-stops : (o : Outcome) (next : State → Outcome) → StopsByData o.end → ((s : State) → StopsByData (next s).end) → (stays : Bool)
+    → StopsByData (let whole : Outcome = (if stays then record o { state = dropped o.state } else spend o.tally (next (closed o.state))) in whole.end)
+done-stops o next own after true = own
+done-stops o next own after false = after (closed o.state)
+
+occurrence-stops : (end : End) (o : Outcome) (next : State → Outcome) → StopsByData o.end → ((s : State) → StopsByData (next s).end)
+    → StopsByData (after_occurrence end o next).end
+occurrence-stops Done o next own after = done-stops o next own after (stays_at o.state.marks o.state.at)
+occurrence-stops (Failed cause bit) o next own after = tt
+occurrence-stops (Stopped cause quantity) o next own after = own
+
+occurrences-stop : (body : State → Outcome) → ((s : State) → StopsByData (body s).end) → (most : ℕ) (s : State) → StopsByData (occurrences body most s).end
+unfolding occurrences
+occurrences-stop body each zero s = tt
+occurrences-stop body each (suc most) s =
+    let o : Outcome = body (pointed s) in
+    occurrence-stops o.end o (occurrences body most) (each (pointed s)) (occurrences-stop body each most)
+
 text-stops : (cause : ParseCause) (window bits : ℕ) (s : State) (is : Bool)
     → StopsByData (let whole : Outcome = (if is then ended Done (record s { at = aligned 8 s.at + bits }) else ended (Failed cause s.at) s) in whole.end)
 text-stops cause window bits s true = tt
@@ -309,6 +339,8 @@ row-stops input table child each id (Some (Elem name simple tried body)) s =
     represented-stops tried (attempted input id (has_elements simple) (child body)) (attempted-stops input id (has_elements simple) (child body) (each body)) s
 row-stops input table child each id (Some (Group children)) s = group-stops child each children s
 row-stops input table child each id (Some (Repeat count body)) s = group-stops child each (replicate count body) s
+row-stops input table child each id (Some (Optional most item body)) s = occurrences-stop (child body) (each body) most s
+row-stops input table child each id (Some (ChoiceRow ids)) s = choice-stops child each ids s
 row-stops input table child each id (Some (Skip bits)) s = pass-stops input (s.at + bits) s
 row-stops input table child each id (Some (Align bits)) s = pass-stops input (aligned bits s.at) s
 row-stops input table child each id (Some (Initiator delimiter)) s = initiator-stops input table.delimiters delimiter s

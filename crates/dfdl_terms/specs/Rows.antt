@@ -15,7 +15,7 @@ use Rattle.dfdl_terms.specs.declared.text.TextSize.TheVariants.{Bits, Characters
 use Rattle.dfdl_terms.specs.declared.row.Primitive.{Primitive}
 use Rattle.dfdl_terms.specs.declared.row.Primitive.TheVariants.{Integer, Packed, Truth, Octets, Text, NilOctets, Default, NilValues, Pattern}
 use Rattle.dfdl_terms.specs.declared.row.Row.{Row}
-use Rattle.dfdl_terms.specs.declared.row.Row.TheVariants.{Leaf, Elem, Group, Skip, Align, Initiator, Terminator, Separator, Scope, Boxed, PrefixedLeaf, PrefixedBox, Repeat}
+use Rattle.dfdl_terms.specs.declared.row.Row.TheVariants.{Leaf, Elem, Group, Skip, Align, Initiator, Terminator, Separator, Scope, Boxed, PrefixedLeaf, PrefixedBox, Repeat, Optional, Choice}
 use Rattle.dfdl_terms.specs.declared.delimiters.Delimiters.{Delimiters}
 use Rattle.dfdl_terms.specs.Tables.{Named}
 
@@ -52,6 +52,8 @@ ChildrenBelow bound (Boxed bits body) = body < bound
 ChildrenBelow bound (PrefixedLeaf prefix prim) = Unit {0}
 ChildrenBelow bound (PrefixedBox prefix body) = body < bound
 ChildrenBelow bound (Repeat count body) = body < bound
+ChildrenBelow bound (Optional most item body) = body < bound
+ChildrenBelow bound (Choice branches) = All (λ b. b < bound) branches
 
 -- each child is below its row, for the first so many rows
 abbrev pub NestsBelow : ℕ → List Row → Type 0
@@ -92,6 +94,8 @@ NamesWithin named (Boxed bits body) = Unit {0}
 NamesWithin named (PrefixedLeaf prefix prim) = (prefix.prim < length named.primitives) × (prim < length named.primitives)
 NamesWithin named (PrefixedBox prefix body) = prefix.prim < length named.primitives
 NamesWithin named (Repeat count body) = Unit {0}
+NamesWithin named (Optional most item body) = Unit {0}
+NamesWithin named (Choice branches) = Unit {0}
 
 -- the greatest constant length, in bits (profile)
 abbrev pub most_length : ℕ
@@ -158,6 +162,8 @@ IsElementRow (Some (Boxed bits body)) = ⊥
 IsElementRow (Some (PrefixedLeaf prefix prim)) = ⊥
 IsElementRow (Some (PrefixedBox prefix body)) = ⊥
 IsElementRow (Some (Repeat count body)) = ⊥
+IsElementRow (Some (Optional most item body)) = ⊥
+IsElementRow (Some (Choice branches)) = ⊥
 IsElementRow None = ⊥
 
 -- the last row is an element
@@ -187,6 +193,8 @@ IsPlainRow (Boxed bits body) = ⊥
 IsPlainRow (PrefixedLeaf prefix prim) = ⊥
 IsPlainRow (PrefixedBox prefix body) = ⊥
 IsPlainRow (Repeat count body) = ⊥
+IsPlainRow (Optional most item body) = ⊥
+IsPlainRow (Choice branches) = ⊥
 
 -- each row is of the content alone
 abbrev pub HasPlainRows : List Row → Type 0

@@ -53,11 +53,19 @@ fn mark_repeated(terms: &Terms, row: &Row, marks: &mut Vec<bool>)
     ensures marked { (e : ℕ) → is_marked marks.new.items e ≡ (is_marked marks.old.items e || is_item_of terms.now.rows e row.now) }
     ensures many { vec_len marks.new ≡ vec_len marks.old }
 {
-    if let Row::Repeat { body, .. } = row {
-        mark(marks, &[*body]);
-        if let Row::Group { children } = terms.row(*body) {
-            mark(marks, children.as_slice());
+    match row {
+        Row::Repeat { body, .. } => {
+            mark(marks, &[*body]);
+            if let Row::Group { children } = terms.row(*body) {
+                mark(marks, children.as_slice());
+            }
         }
+        Row::Optional {
+            is_item: true,
+            body,
+            ..
+        } => mark(marks, &[*body]),
+        _ => {}
     }
 }
 

@@ -167,6 +167,18 @@ pub enum Row {
         count: u32,
         body: RowId,
     },
+    /// A row at most so many times, one after the other, each of which is tried: one that fails, or that passes over no bit, is
+    /// dropped and ends them ('Arrays and Optional Elements').
+    Optional {
+        most: u64,
+        /// The row is that of an item of an array.
+        is_item: bool,
+        body: RowId,
+    },
+    /// Rows that are tried in this order at one place, the first of which that doesn't fail is taken ('Choices').
+    Choice {
+        branches: RowList,
+    },
 }
 
 /// What rows name by numbers.

@@ -62,10 +62,7 @@ fn has_children_below(row: &Row, bound: RowId) -> bool
     match row {
         Row::Leaf { .. } => true,
         Row::Elem { body, .. } => body.number() < bound.number(),
-        Row::Group { children } => children
-            .as_slice()
-            .iter()
-            .all(|child| child.number() < bound.number()),
+        Row::Group { children } => are_below(children.as_slice(), bound),
         Row::Skip { .. } => true,
         Row::Align { .. } => true,
         Row::Initiator { .. } => true,
@@ -76,7 +73,16 @@ fn has_children_below(row: &Row, bound: RowId) -> bool
         Row::PrefixedLeaf { .. } => true,
         Row::PrefixedBox { body, .. } => body.number() < bound.number(),
         Row::Repeat { body, .. } => body.number() < bound.number(),
+        Row::Optional { body, .. } => body.number() < bound.number(),
+        Row::Choice { branches } => are_below(branches.as_slice(), bound),
     }
+}
+
+// Whether each of the rows is below the bound.
+fn are_below(rows: &[RowId], bound: RowId) -> bool
+    ensures { IsTrue result ↔ All (λ row. row < bound) rows.now }
+{
+    rows.iter().all(|row| row.number() < bound.number())
 }
 
 impl Terms {

@@ -29,7 +29,7 @@ returns-clause-gathered c = λ refused told.
     record {
       sites = sites;
       uses = c.in-Ok.ensures.uses ∙ ap (map (part_numbers c.args.schema.now)) (c.as_slice-3.ensures.value ∙ sites);
-      components = c.in_ok-components.ensures c.args.purpose refused judged
+      components = c.in_ok-components.ensures refused judged
           ∙ ap (map (component_at c.args.purpose refused c.args.schema.now)) (c.as_slice.ensures.value ∙ sites);
       refusals = c.in_ok-refusals.ensures
           ∙ (ap (map (λ (j : Judgement). option_map refusal_of j.breach)) told

@@ -1,15 +1,23 @@
-use Rattle.std.proofs.Common.{◌∙◌, ℕ, List, ap, drop, subst}
+use Rattle.std.proofs.Common.{◌∙◌, ℕ, List, true, ap, drop, subst}
 use Rattle.dfdl_grammar.specs.declared.end.End.{End}
 use Rattle.dfdl_grammar.specs.States.{State}
+use Rattle.dfdl_grammar.specs.Marks.{pointed}
 use Rattle.dfdl_grammar.specs.Rows.{meaning}
 use Rattle.dfdl_grammar.proofs.Going.{meaning-goes, tried-returns}
-use Rattle.dfdl_grammar.proofs.Grown.{Ends}
+use Rattle.dfdl_grammar.proofs.Grown.{Ends, Went, failed_returns}
 use Rattle.dfdl_grammar.proofs.laws.going_back_restores.Goals as goal
 
 pub returns-clause-restored : goal.returns-clause-restored
 returns-clause-restored c input table id body complex instead s cause bit failed =
     ap (λ (t : State). record t { instead = s.instead })
     (tried-returns input id complex (meaning input table body) (meaning-goes input table body) s instead s.instead cause bit failed)
+
+pub returns-clause-tried : goal.returns-clause-tried
+returns-clause-tried c input table id s cause bit failed =
+    let t : State = (meaning input table id (pointed s)).state in
+    ap (λ (t : State). record t { instead = s.instead })
+    (failed_returns true s t s.instead cause bit
+    (subst (λ (e : End). Went s.inside (pointed s) e t) failed (meaning-goes input table id (pointed s))))
 
 pub returns-clause-done : goal.returns-clause-done
 returns-clause-done c input table id s done =

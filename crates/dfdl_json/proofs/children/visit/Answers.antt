@@ -1,4 +1,4 @@
-use Rattle.dfdl_json.proofs.Declares.{there, on_ok, below_elem, below_group, elem_visited, elem_less, group_visited, group_less, bare_visited, bare_less, leaf_declares, leaf_steps, skip_declares, skip_steps, align_declares, align_steps, initiator_declares, initiator_steps, terminator_declares, separator_declares, terminator_steps, separator_steps, below_scope, scope_declares, scope_steps, below_box, box_declares, box_steps, body_visited, body_less, prefixed_leaf_declares, prefixed_leaf_steps, below_prefixed_box, prefixed_box_declares, prefixed_box_steps, below_repeat, repeat_declares, repeat_steps, no_row_declares, no_row_steps}
+use Rattle.dfdl_json.proofs.Declares.{there, on_ok, below_elem, below_group, elem_visited, elem_less, parts_visited, parts_less, group_declares, group_steps, bare_visited, bare_less, leaf_declares, leaf_steps, skip_declares, skip_steps, align_declares, align_steps, initiator_declares, initiator_steps, terminator_declares, separator_declares, terminator_steps, separator_steps, below_scope, scope_declares, scope_steps, below_box, box_declares, box_steps, body_visited, body_less, prefixed_leaf_declares, prefixed_leaf_steps, below_prefixed_box, prefixed_box_declares, prefixed_box_steps, below_repeat, repeat_declares, repeat_steps, below_optional, optional_declares, optional_steps, below_choice, choice_declares, choice_steps, no_row_declares, no_row_steps}
 use Rattle.std.proofs.Common.{sym, ◌∙◌, ap, [], ◌++◌}
 use Rattle.dfdl_json.proofs.children.visit.Goals as goal
 
@@ -12,13 +12,15 @@ returns-in_ok-push-in-Some-Elem-clause-less c =
 
 pub returns-in-Some-Group-clause-same : goal.returns-in-Some-Group-clause-same
 returns-in-Some-Group-clause-same c = on_ok c.push_all.result _ _ c.push_all.ensures
-    (λ now_is. group_visited c.args.terms.now c.args.row c.args.elements.now.items _ _ _ (there _ _ _ c.in-Some-Group.ensures.row c.in-Some-Group.field-0-is)
-    (below_group _ _ _ c.in-Some-Group.field-0-is c.in-Some-Group.ensures.nests) (now_is ∙ ap (λ xs. xs ++ c.args.left.now.items) c.as_slice.ensures))
+    (λ now_is. parts_visited c.args.terms.now c.args.row c.args.elements.now.items _ _ _
+    (group_declares c.args.terms.now c.args.row _ (there _ _ _ c.in-Some-Group.ensures.row c.in-Some-Group.field-0-is)
+    (below_group _ _ _ c.in-Some-Group.field-0-is c.in-Some-Group.ensures.nests)) (now_is ∙ ap (λ xs. xs ++ c.args.left.now.items) c.as_slice.ensures))
 
 pub returns-in-Some-Group-clause-less : goal.returns-in-Some-Group-clause-less
 returns-in-Some-Group-clause-less c = on_ok c.push_all.result _ _ c.push_all.ensures
-    (λ now_is. group_less c.args.terms.now c.args.row [] _ _ _ (there _ _ _ c.in-Some-Group.ensures.row c.in-Some-Group.field-0-is)
-    (below_group _ _ _ c.in-Some-Group.field-0-is c.in-Some-Group.ensures.nests) (now_is ∙ ap (λ xs. xs ++ c.args.left.now.items) c.as_slice.ensures))
+    (λ now_is. parts_less c.args.terms.now c.args.row [] _ _ _
+    (group_steps c.args.terms.now c.args.row _ (there _ _ _ c.in-Some-Group.ensures.row c.in-Some-Group.field-0-is)
+    (below_group _ _ _ c.in-Some-Group.field-0-is c.in-Some-Group.ensures.nests)) (now_is ∙ ap (λ xs. xs ++ c.args.left.now.items) c.as_slice.ensures))
 
 pub returns-in-Some-Leaf-clause-same : goal.returns-in-Some-Leaf-clause-same
 returns-in-Some-Leaf-clause-same c =
@@ -103,6 +105,30 @@ returns-in-Some-Repeat-clause-less c = on_ok c.push_all-in-Some-Repeat.result _ 
     (body_less c.args.terms.now c.args.row [] _ c.in-Some-Repeat.body _
     (repeat_steps c.args.terms.now c.args.row _ _ (there _ _ _ c.in-Some-Repeat.ensures.row c.in-Some-Repeat.field-0-is)
     (below_repeat _ _ _ _ c.in-Some-Repeat.field-0-is c.in-Some-Repeat.ensures.nests)))
+
+pub returns-in-Some-Optional-clause-same : goal.returns-in-Some-Optional-clause-same
+returns-in-Some-Optional-clause-same c = on_ok c.push_all-in-Some-Optional.result _ _ c.push_all-in-Some-Optional.ensures
+    (body_visited c.args.terms.now c.args.row c.args.elements.now.items _ c.in-Some-Optional.body _
+    (optional_declares c.args.terms.now c.args.row _ _ _ (there _ _ _ c.in-Some-Optional.ensures.row c.in-Some-Optional.field-0-is)
+    (below_optional _ _ _ _ _ c.in-Some-Optional.field-0-is c.in-Some-Optional.ensures.nests)))
+
+pub returns-in-Some-Optional-clause-less : goal.returns-in-Some-Optional-clause-less
+returns-in-Some-Optional-clause-less c = on_ok c.push_all-in-Some-Optional.result _ _ c.push_all-in-Some-Optional.ensures
+    (body_less c.args.terms.now c.args.row [] _ c.in-Some-Optional.body _
+    (optional_steps c.args.terms.now c.args.row _ _ _ (there _ _ _ c.in-Some-Optional.ensures.row c.in-Some-Optional.field-0-is)
+    (below_optional _ _ _ _ _ c.in-Some-Optional.field-0-is c.in-Some-Optional.ensures.nests)))
+
+pub returns-in-Some-Choice-clause-same : goal.returns-in-Some-Choice-clause-same
+returns-in-Some-Choice-clause-same c = on_ok c.push_all-in-Some-Choice.result _ _ c.push_all-in-Some-Choice.ensures
+    (λ now_is. parts_visited c.args.terms.now c.args.row c.args.elements.now.items _ _ _
+    (choice_declares c.args.terms.now c.args.row _ (there _ _ _ c.in-Some-Choice.ensures.row c.in-Some-Choice.field-0-is)
+    (below_choice _ _ _ c.in-Some-Choice.field-0-is c.in-Some-Choice.ensures.nests)) (now_is ∙ ap (λ xs. xs ++ c.args.left.now.items) c.as_slice-in-Some-Choice.ensures))
+
+pub returns-in-Some-Choice-clause-less : goal.returns-in-Some-Choice-clause-less
+returns-in-Some-Choice-clause-less c = on_ok c.push_all-in-Some-Choice.result _ _ c.push_all-in-Some-Choice.ensures
+    (λ now_is. parts_less c.args.terms.now c.args.row [] _ _ _
+    (choice_steps c.args.terms.now c.args.row _ (there _ _ _ c.in-Some-Choice.ensures.row c.in-Some-Choice.field-0-is)
+    (below_choice _ _ _ c.in-Some-Choice.field-0-is c.in-Some-Choice.ensures.nests)) (now_is ∙ ap (λ xs. xs ++ c.args.left.now.items) c.as_slice-in-Some-Choice.ensures))
 
 pub returns-in-Some-PrefixedLeaf-clause-same : goal.returns-in-Some-PrefixedLeaf-clause-same
 returns-in-Some-PrefixedLeaf-clause-same c =

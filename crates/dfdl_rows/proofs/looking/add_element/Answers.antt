@@ -1,6 +1,6 @@
 use Rattle.std.proofs.Common.{◌∙◌, sym, refl}
 use Rattle.std.proofs.lemmas.Bool.{not-false, not-true}
-use Rattle.dfdl_rows.proofs.Named.{name_more}
+use Rattle.dfdl_rows.proofs.Kept.{name_more, pushed}
 use Rattle.dfdl_rows.proofs.looking.add_element.Goals as goal
 
 pub returns-then-not-branch : goal.returns-then-not-branch
@@ -16,5 +16,5 @@ returns c = λ old names.
     let new = sym (names.exactly c.args.name) ∙ not-true _ (sym c.in_ok-insert.ensures.added ∙ c.if-not-branch.false) in record {
       twice = λ is. absurd (cc);
       same = λ is. refl;
-      names = λ is. name_more _ _ old c.args.name c.in_ok-insert.ensures.updates.0 names;
+      names = λ is. (name_more _ _ old c.args.name c.in_ok-insert.ensures.updates.0 names, pushed _ _ c.args.name c.in_ok-push.ensures.items);
     }

@@ -6,7 +6,7 @@ use Rattle.dfdl_json.specs.Found.{noted}
 use Rattle.dfdl_json.specs.Infosets.{simple_findings, complex_findings, findings, value_in}
 use Rattle.dfdl_json.specs.Reading.{coming, data_at}
 use Rattle.dfdl_json.proofs.Declares.{there, on_ok, on_ok_four, below_elem}
-use Rattle.dfdl_json.proofs.Contents.{left_same, simple_less, complex_less, simple_comes, complex_comes, bare_comes, leaf_says, group_says, skip_says, align_says, initiator_says, terminator_says, separator_says, scope_says, repeat_says, box_says, prefixed_leaf_says, prefixed_box_says, no_row_says, less_left}
+use Rattle.dfdl_json.proofs.Contents.{left_same, simple_less, complex_less, simple_comes, complex_comes, bare_comes, leaf_says, group_says, skip_says, align_says, initiator_says, terminator_says, separator_says, scope_says, repeat_says, optional_says, choice_says, box_says, prefixed_leaf_says, prefixed_box_says, no_row_says, less_left}
 use Rattle.dfdl_json.proofs.reading.Reading.read_content.Goals as goal
 
 pub returns-in-Some-clause-same : goal.returns-in-Some-clause-same
@@ -129,6 +129,24 @@ returns-in-Some-Repeat-clause-same c =
 
 pub returns-in-Some-Repeat-clause-less : goal.returns-in-Some-Repeat-clause-less
 returns-in-Some-Repeat-clause-less c = less_left c.args.terms.now c.args.row c.args.self.now.tasks.items
+
+pub returns-in-Some-Optional-clause-same : goal.returns-in-Some-Optional-clause-same
+returns-in-Some-Optional-clause-same c =
+    bare_comes c.args.terms.now c.args.row (view c.args.content.now) c.args.self.now.around c.args.self.now.found c.args.self.now.tasks.items
+    (data_at c.args.self.now.contents.items)
+    (optional_says c.args.terms.now c.args.row (view c.args.content.now) c.args.self.now.around _ _ _ (there _ _ _ c.in-Some-Optional.ensures.row c.in-Some-Optional.field-0-is))
+
+pub returns-in-Some-Optional-clause-less : goal.returns-in-Some-Optional-clause-less
+returns-in-Some-Optional-clause-less c = less_left c.args.terms.now c.args.row c.args.self.now.tasks.items
+
+pub returns-in-Some-Choice-clause-same : goal.returns-in-Some-Choice-clause-same
+returns-in-Some-Choice-clause-same c =
+    bare_comes c.args.terms.now c.args.row (view c.args.content.now) c.args.self.now.around c.args.self.now.found c.args.self.now.tasks.items
+    (data_at c.args.self.now.contents.items)
+    (choice_says c.args.terms.now c.args.row (view c.args.content.now) c.args.self.now.around _ (there _ _ _ c.in-Some-Choice.ensures.row c.in-Some-Choice.field-0-is))
+
+pub returns-in-Some-Choice-clause-less : goal.returns-in-Some-Choice-clause-less
+returns-in-Some-Choice-clause-less c = less_left c.args.terms.now c.args.row c.args.self.now.tasks.items
 
 pub returns-in-Some-PrefixedLeaf-clause-same : goal.returns-in-Some-PrefixedLeaf-clause-same
 returns-in-Some-PrefixedLeaf-clause-same c =

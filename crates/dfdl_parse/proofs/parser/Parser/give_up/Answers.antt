@@ -10,3 +10,9 @@ returns-in-Scope-clause-moved c held =
     let old = c.args.self.now in
     subst (λ (f : Frame). Moved (leave_failed old.region.most c.args.terms.now held f c.args.end old.stack (state_of old)) false old.far c.end_scope.new.self held 0)
     (sym c.in-Scope.is) (c.end_scope.ensures.moved held)
+
+pub returns-in-Occurrence-clause-moved : goal.returns-in-Occurrence-clause-moved
+returns-in-Occurrence-clause-moved c held =
+    let old = c.args.self.now in
+    subst (λ (f : Frame). Moved (leave_failed old.region.most c.args.terms.now held f c.args.end old.stack (state_of old)) false old.far c.drop_occurrence.new.self held 0)
+    (sym c.in-Occurrence.is) (c.drop_occurrence.ensures.moved held)

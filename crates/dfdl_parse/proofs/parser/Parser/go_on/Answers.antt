@@ -24,3 +24,9 @@ returns-in-Trial-clause-moved c held =
     (sym c.in-Trial.is)
     (subst (λ (p : Option Parts). Moved (trial_done held p c.in-Trial.next old.stack (state_of old)) false old.far c.finish_trial.new.self held 0)
     c.parts_of-parts.ensures (c.finish_trial.ensures.moved held))
+
+pub returns-in-Branch-clause-moved : goal.returns-in-Branch-clause-moved
+returns-in-Branch-clause-moved c held =
+    let old = c.args.self.now in
+    subst (λ (f : Frame). Moved (leave_done c.args.terms.now held f old.stack (state_of old)) false old.far c.end_trial.new.self held 0)
+    (sym c.in-Branch.is) (c.end_trial.ensures.moved held)

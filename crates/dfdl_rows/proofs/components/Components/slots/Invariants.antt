@@ -1,6 +1,6 @@
-use Rattle.std.proofs.Common.{◌≡◌, ◌++◌, Bool, map, drop, ℕ}
+use Rattle.std.proofs.Common.{◌≡◌, ◌++◌, map, drop, ℕ}
 use Rattle.dfdl_order.specs.Parts.{uses_of}
-use Rattle.dfdl_rows.specs.Components.{component_at, slots_at}
+use Rattle.dfdl_rows.specs.Components.{component_at}
 use Rattle.dfdl_rows.specs.Slots.{slots_of}
 use Rattle.dfdl_rows.proofs.components.Components.slots.Given as goal
 

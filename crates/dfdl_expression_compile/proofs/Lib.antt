@@ -1,3 +1,6 @@
 mod Runs
 mod Routing
 mod AsText
+mod Grown
+mod Ordered
+mod Compiles

@@ -8,3 +8,4 @@ mod Nexts
 mod Parts
 mod Resumed
 mod Steady
+mod Nested

@@ -5,3 +5,5 @@ pub mod Machine
 pub mod Meanings
 pub mod Places
 pub mod Runs
+pub mod Rooms
+pub mod Nesting

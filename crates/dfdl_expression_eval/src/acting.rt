@@ -1,9 +1,10 @@
 // What a node does with the values of its operands.
-ghost use Rattle.std.specs.Prelude.{◌≡◌, IfOk};
+ghost use Rattle.std.specs.Prelude.{◌≡◌, ◌≤◌, true, length, vec_capacity, IfOk, IsOk};
 ghost use Rattle.dfdl_value.specs.declared.value.Value.{Value as ValueOf};
 ghost use Rattle.dfdl_expression_eval.specs.Asks.{Asks};
 ghost use Rattle.dfdl_expression_eval.specs.Machine.{acted, judged_by};
 ghost use Rattle.dfdl_expression_eval.specs.Meanings.{path_course, query_of};
+ghost use Rattle.dfdl_expression_eval.specs.Rooms.{IsLeanNode};
 ghost use Rattle.dfdl_expression_eval.specs.Runs.{run, told};
 
 use super::env::{Env, Evaluated, OutOfMemory};
@@ -24,6 +25,7 @@ fn found<E: Env>(
 ) -> Result<Evaluated, OutOfMemory>
     ensures answer { IfOk result (λ e. e ≡ E.answers env.old (query_of question path.now places.now)) }
     ensures same { IfOk result (λ e. env.new ≡ env.old) }
+    ensures lean { E.is_lean env.old ≡ true → IsOk result }
 {
     match question {
         Question::Item => env.item(alloc, path, places),
@@ -34,7 +36,8 @@ fn found<E: Env>(
 
 /// What a question comes to by what was found for it.
 fn judged(question: Question, found: Evaluated) -> Result<Evaluated, OutOfMemory>
-    ensures { IfOk result (λ e. e ≡ judged_by question found) }
+    ensures answer { IfOk result (λ e. e ≡ judged_by question found) }
+    ensures memory { IsOk result }
 {
     match found {
         Evaluated::Known(value) => given(answer(question, value)),
@@ -52,8 +55,11 @@ fn ask<E: Env>(
     places: &mut Vec<u64>,
     env: &mut E,
 ) -> Result<Evaluated, OutOfMemory>
-    ensures { IfOk result (λ e. (go : ValueOf → Asks) → run E.answers E.read (path_course question path.now values.now go) env.old
+    ensures comes { IfOk result (λ e. (go : ValueOf → Asks) → run E.answers E.read (path_course question path.now values.now go) env.old
         ≡ told e env.new (λ v t. run E.answers E.read (go v) t)) }
+    ensures memory { length values.now ≤ vec_capacity places.old → E.is_lean env.old ≡ true → IsOk result }
+    ensures stays { IfOk result (λ e. E.is_lean env.new ≡ E.is_lean env.old) }
+    ensures capacity { vec_capacity places.old ≤ vec_capacity places.new }
 {
     if !gather(values, places)? {
         return Ok(Evaluated::Fault(OperatorFault::WrongType.number()));
@@ -70,8 +76,11 @@ pub(crate) fn act<E: Env>(
     places: &mut Vec<u64>,
     env: &mut E,
 ) -> Result<Evaluated, OutOfMemory>
-    ensures { IfOk result (λ e. (go : ValueOf → Asks) → run E.answers E.read (acted node.now values.now go) env.old
+    ensures comes { IfOk result (λ e. (go : ValueOf → Asks) → run E.answers E.read (acted node.now values.now go) env.old
         ≡ told e env.new (λ v t. run E.answers E.read (go v) t)) }
+    ensures memory { IsLeanNode node.now → length values.now ≤ vec_capacity places.old → E.is_lean env.old ≡ true → IsOk result }
+    ensures stays { IfOk result (λ e. E.is_lean env.new ≡ E.is_lean env.old) }
+    ensures capacity { vec_capacity places.old ≤ vec_capacity places.new }
 {
     match node {
         Node::Variable(number) => env.variable(alloc, *number),

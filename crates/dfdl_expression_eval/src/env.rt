@@ -1,5 +1,5 @@
 // What stands around an expression, as a trait.
-ghost use Rattle.std.specs.Prelude.{ℕ, ◌≡◌, IfOk};
+ghost use Rattle.std.specs.Prelude.{ℕ, Bool, true, ◌≡◌, IfOk, IsOk};
 ghost use Rattle.dfdl_expression_eval.specs.Asks.{Query, Item, Count, Length, Variable, OccursIndex};
 ghost use Rattle.dfdl_expression_eval.specs.Runs.{after_query};
 
@@ -35,11 +35,14 @@ pub trait Env {
     ghost answers: { Self → Query → Evaluated };
     // what the environment is after a variable was read
     ghost read: { Self → ℕ → Self };
+    // whether its calls take no memory
+    ghost is_lean: { Self → Bool };
 
     /// The value of the item that a path leads to.
     fn item(&mut self, alloc: Global, path: &Path, places: &[u64]) -> Result<Evaluated, OutOfMemory>
         ensures answer { IfOk result (λ e. e ≡ answers self.old (Item path.now places.now)) }
-        ensures same { IfOk result (λ e. self.new ≡ self.old) };
+        ensures same { IfOk result (λ e. self.new ≡ self.old) }
+        ensures lean { is_lean self.old ≡ true → IsOk result };
 
     /// The number of the items that a path leads to.
     fn count(
@@ -49,7 +52,8 @@ pub trait Env {
         places: &[u64],
     ) -> Result<Evaluated, OutOfMemory>
         ensures answer { IfOk result (λ e. e ≡ answers self.old (Count path.now places.now)) }
-        ensures same { IfOk result (λ e. self.new ≡ self.old) };
+        ensures same { IfOk result (λ e. self.new ≡ self.old) }
+        ensures lean { is_lean self.old ≡ true → IsOk result };
 
     /// The length in bits of the item that a path leads to.
     fn length(
@@ -60,18 +64,23 @@ pub trait Env {
         extent: Extent,
     ) -> Result<Evaluated, OutOfMemory>
         ensures answer { IfOk result (λ e. e ≡ answers self.old (Length path.now places.now extent)) }
-        ensures same { IfOk result (λ e. self.new ≡ self.old) };
+        ensures same { IfOk result (λ e. self.new ≡ self.old) }
+        ensures lean { is_lean self.old ≡ true → IsOk result };
 
     /// The value of the variable of a number.
     fn variable(&mut self, alloc: Global, number: u32) -> Result<Evaluated, OutOfMemory>
         ensures answer { IfOk result (λ e. e ≡ answers self.old (Variable number)) }
-        ensures reads { IfOk result (λ e. self.new ≡ read self.old number) };
+        ensures reads { IfOk result (λ e. self.new ≡ read self.old number) }
+        ensures lean { is_lean self.old ≡ true → IsOk result };
 
     /// The number of the innermost occurrence.
     fn occurs_index(&mut self, alloc: Global) -> Result<Evaluated, OutOfMemory>
         ensures answer { IfOk result (λ e. e ≡ answers self.old OccursIndex) }
-        ensures same { IfOk result (λ e. self.new ≡ self.old) };
+        ensures same { IfOk result (λ e. self.new ≡ self.old) }
+        ensures lean { is_lean self.old ≡ true → IsOk result };
 
     // reading a variable changes no answer
     ghost steady: { (s : Self) (number : ℕ) → answers (read s number) ≡ answers s };
+    // nor does it make the calls take memory
+    ghost lean_stays: { (s : Self) (number : ℕ) → is_lean (read s number) ≡ is_lean s };
 }

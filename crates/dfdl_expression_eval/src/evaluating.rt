@@ -1,10 +1,12 @@
 // The evaluation of an expression.
-ghost use Rattle.std.specs.Prelude.{◌≡◌, ◌+◌, ◌-◌, ◌<◌, ◌≤◌, ◌++◌, ◌∷◌, [], List, Some, take, drop, length, IfOk, IfSome, IfNone};
+ghost use Rattle.std.specs.Prelude.{◌≡◌, ℕ, ◌+◌, ◌-◌, ◌<◌, ◌≤◌, ◌++◌, ◌∷◌, [], true, List, Some, take, drop, length, IfOk, IsOk, IfSome, IfNone, vec_capacity};
 ghost use Rattle.std.specs.List.{slice_get};
 ghost use Rattle.dfdl_value.specs.declared.value.Value.{Value as ValueOf};
 ghost use Rattle.dfdl_expression_eval.specs.Asks.{Asks, gives};
 ghost use Rattle.dfdl_expression_eval.specs.Machine.{IsStep, comes_to, focus_left, frames_left, gone_on, held_by, left_over, weight_left, weight_of};
 ghost use Rattle.dfdl_expression_eval.specs.Meanings.{meaning};
+ghost use Rattle.dfdl_expression_eval.specs.Nesting.{AreNested, IsNested, IsServed, StaysNested};
+ghost use Rattle.dfdl_expression_eval.specs.Rooms.{HasRoom, IsLean, operands_in};
 ghost use Rattle.dfdl_expression_eval.specs.Runs.{left_by, run};
 ghost use Rattle.dfdl_expressions.specs.Nodes.{IsExpression};
 ghost use Rattle.dfdl_expressions.specs.declared.node.Node.{Node as NodeOf};
@@ -43,6 +45,12 @@ fn begin<E: Env>(
         (left_over expression.now scratch.old.frames.items scratch.old.values.items go) env.old) }
     ensures less { IfOk result (λ f. focus_left expression.now f + frames_left expression.now scratch.new.frames.items
         < focus_left expression.now (Focus.Begin number) + frames_left expression.now scratch.old.frames.items) }
+    ensures nested { IfOk result (λ f. IsNested expression.now scratch.old.frames.items (Focus.Begin number)
+        → IsNested expression.now scratch.new.frames.items f) }
+    ensures room { IfOk result (λ f. (room : ℕ) → HasRoom room scratch.old → HasRoom room scratch.new) }
+    ensures stays { IfOk result (λ f. E.is_lean env.new ≡ E.is_lean env.old) }
+    ensures memory { (room : ℕ) → IsServed expression.now room scratch.old (E.is_lean env.old)
+        → IsNested expression.now scratch.old.frames.items (Focus.Begin number) → IsOk result }
 {
     let Some(node) = expression.node(number) else {
         return Ok(wrong());
@@ -78,6 +86,13 @@ fn go_on<E: Env>(
     ensures less { IfOk result (λ f. (nodes : List NodeOf) → slice_get nodes frame.node ≡ Some node.now
         → focus_left nodes f + frames_left nodes scratch.new.frames.items
         < frames_left nodes scratch.old.frames.items + weight_left (weight_of nodes) (Some node.now) frame.done) }
+    ensures nested { IfOk result (λ f. (nodes : List NodeOf) → slice_get nodes frame.node ≡ Some node.now → IsExpression nodes
+        → AreNested nodes (length nodes) (scratch.old.frames.items ++ frame ∷ []) → IsNested nodes scratch.new.frames.items f) }
+    ensures room { IfOk result (λ f. (room : ℕ) → HasRoom room scratch.old → HasRoom room scratch.new) }
+    ensures stays { IfOk result (λ f. E.is_lean env.new ≡ E.is_lean env.old) }
+    ensures memory { (nodes : List NodeOf) (room : ℕ) → slice_get nodes frame.node ≡ Some node.now
+        → IsServed nodes room scratch.old (E.is_lean env.old)
+        → AreNested nodes (length nodes) (scratch.old.frames.items ++ frame ∷ []) → IsOk result }
 {
     let done = frame.done + 1;
     put_value(&mut scratch.values, value)?;
@@ -116,6 +131,13 @@ fn resume<E: Env>(
         scratch.old.values.items go value) env.old) }
     ensures less { IfOk result (λ f. focus_left expression.now f + frames_left expression.now scratch.new.frames.items
         < frames_left expression.now (scratch.old.frames.items ++ frame ∷ [])) }
+    ensures nested { IfOk result (λ f. IsExpression expression.now
+        → AreNested expression.now (length expression.now) (scratch.old.frames.items ++ frame ∷ [])
+        → IsNested expression.now scratch.new.frames.items f) }
+    ensures room { IfOk result (λ f. (room : ℕ) → HasRoom room scratch.old → HasRoom room scratch.new) }
+    ensures stays { IfOk result (λ f. E.is_lean env.new ≡ E.is_lean env.old) }
+    ensures memory { (room : ℕ) → IsServed expression.now room scratch.old (E.is_lean env.old)
+        → AreNested expression.now (length expression.now) (scratch.old.frames.items ++ frame ∷ []) → IsOk result }
 {
     let node = match expression.node(frame.node) {
         Some(node) => node,
@@ -146,6 +168,7 @@ fn innermost(frames: &mut Vec<Frame>) -> Option<Frame>
     ensures some { IfSome result (λ f. frames.old.items ≡ frames.new.items ++ f ∷ []) }
     ensures none { IfNone result (frames.old.items ≡ []) }
     ensures same { IfNone result (frames.new.items ≡ []) }
+    ensures capacity { vec_capacity frames.old ≤ vec_capacity frames.new }
 {
     frames.pop()
 }
@@ -162,6 +185,12 @@ fn came<E: Env>(
     ensures held { IfOk result (λ s. held_by scratch.new.frames.items ≡ length scratch.new.values.items) }
     ensures steps { IfOk result (IsStep E.answers E.read expression.now (Focus.Came (Evaluated.Known value))
         scratch.old.frames.items scratch.old.values.items scratch.new.frames.items scratch.new.values.items env.old env.new) }
+    ensures nested { IfOk result (λ s. IsExpression expression.now → AreNested expression.now (length expression.now) scratch.old.frames.items
+        → StaysNested expression.now scratch.new.frames.items s) }
+    ensures room { IfOk result (λ s. (room : ℕ) → HasRoom room scratch.old → HasRoom room scratch.new) }
+    ensures stays { IfOk result (λ s. E.is_lean env.new ≡ E.is_lean env.old) }
+    ensures memory { (room : ℕ) → IsServed expression.now room scratch.old (E.is_lean env.old)
+        → AreNested expression.now (length expression.now) scratch.old.frames.items → IsOk result }
 {
     match innermost(&mut scratch.frames) {
         Some(frame) => Ok(Step::Next(resume(alloc, expression, frame, value, scratch, env)?)),
@@ -182,6 +211,12 @@ fn step<E: Env>(
     ensures held { IfOk result (λ s. held_by scratch.new.frames.items ≡ length scratch.new.values.items) }
     ensures steps { IfOk result (IsStep E.answers E.read expression.now focus
         scratch.old.frames.items scratch.old.values.items scratch.new.frames.items scratch.new.values.items env.old env.new) }
+    ensures nested { IfOk result (λ s. IsNested expression.now scratch.old.frames.items focus
+        → StaysNested expression.now scratch.new.frames.items s) }
+    ensures room { IfOk result (λ s. (room : ℕ) → HasRoom room scratch.old → HasRoom room scratch.new) }
+    ensures stays { IfOk result (λ s. E.is_lean env.new ≡ E.is_lean env.old) }
+    ensures memory { (room : ℕ) → IsServed expression.now room scratch.old (E.is_lean env.old)
+        → IsNested expression.now scratch.old.frames.items focus → IsOk result }
 {
     match focus {
         Focus::Begin(number) => Ok(Step::Next(begin(alloc, expression, number, scratch, env)?)),
@@ -201,6 +236,10 @@ pub fn eval<E: Env>(
 ) -> Result<Evaluated, OutOfMemory>
     ensures value { IfOk result (λ e. e ≡ gives (meaning expression.now) (E.answers env.old)) }
     ensures reads { IfOk result (λ e. env.new ≡ left_by E.answers E.read (meaning expression.now) env.old) }
+    // An expression that makes no text and no bytes takes no memory, where the scratch has room for it and the environment takes none.
+    ensures lean { (room : ℕ) → HasRoom room scratch.old → length expression.now ≤ room → operands_in expression.now ≤ room
+        → IsLean expression.now → E.is_lean env.old ≡ true → IsOk result }
+    ensures room { IfOk result (λ e. (room : ℕ) → HasRoom room scratch.old → HasRoom room scratch.new) }
 {
     scratch.clear();
     let mut focus = Focus::Begin(expression.root());

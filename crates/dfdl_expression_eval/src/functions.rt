@@ -1,11 +1,13 @@
 // What the operators and functions of expressions answer by the values of their operands.
-ghost use Rattle.std.specs.Prelude.{◌≡◌, IfOk, IsUtf8, Ok, Err, pos};
+ghost use Rattle.std.specs.Prelude.{◌≡◌, IfOk, IsOk, IsUtf8, Ok, Err, pos};
+ghost use Rattle.dfdl_value.specs.Types.{IsPlain};
 ghost use Rattle.dfdl_operators.specs.Comparisons.{comparison};
 ghost use Rattle.dfdl_operators.specs.Constructors.{IsAnswer};
 ghost use Rattle.dfdl_operators.specs.Numbers.{Answer, number_of, on_numbers};
 ghost use Rattle.dfdl_operators.specs.Operators.{quotient_answer};
 ghost use Rattle.dfdl_expression_eval.specs.Functions.{binary_answer, length_answer, negation, question_answer, relation_answer, substring_answer, truth_answer, unary_answer, whole_answer};
 ghost use Rattle.dfdl_expression_eval.specs.Machine.{computed, evaluated_of, last_truth, of_one, of_two, part_of};
+ghost use Rattle.dfdl_expression_eval.specs.Rooms.{HasMemory, IsLeanBinary, IsLeanNode, IsLeanUnary};
 
 use super::env::{Evaluated, OutOfMemory};
 use dfdl_expressions::{BinaryOperator, Node, Question, Relation, UnaryOperator, Unit};
@@ -19,7 +21,8 @@ use std::alloc::Global;
 
 /// What the answer of a function comes to.
 pub(crate) fn given(answer: Result<Value, FunctionFault>) -> Result<Evaluated, OutOfMemory>
-    ensures { IfOk result (λ e. (a : Answer) → IsAnswer a answer → e ≡ evaluated_of a) }
+    ensures answer { IfOk result (λ e. (a : Answer) → IsAnswer a answer → e ≡ evaluated_of a) }
+    ensures memory { HasMemory answer → IsOk result }
 {
     match answer {
         Ok(value) => Ok(Evaluated::Known(value)),
@@ -30,7 +33,8 @@ pub(crate) fn given(answer: Result<Value, FunctionFault>) -> Result<Evaluated, O
 
 /// The answer of an operator that takes no memory.
 fn plain(answer: Result<Value, OperatorFault>) -> Result<Value, FunctionFault>
-    ensures { IsAnswer answer result }
+    ensures answer { IsAnswer answer result }
+    ensures memory { HasMemory result }
 {
     match answer {
         Ok(value) => Ok(value),
@@ -59,7 +63,8 @@ fn length_of_text(value: &Value) -> Result<Value, OperatorFault>
 }
 
 fn unary(alloc: Global, operator: UnaryOperator, value: &Value) -> Result<Value, FunctionFault>
-    ensures { IsAnswer (unary_answer operator value.now) result }
+    ensures answer { IsAnswer (unary_answer operator value.now) result }
+    ensures memory { IsLeanUnary operator → HasMemory result }
 {
     match operator {
         UnaryOperator::Negative => plain(negate(value)),
@@ -153,7 +158,8 @@ fn binary(
     left: &Value,
     right: &Value,
 ) -> Result<Value, FunctionFault>
-    ensures { IsAnswer (binary_answer operator left.now right.now) result }
+    ensures answer { IsAnswer (binary_answer operator left.now right.now) result }
+    ensures memory { IsLeanBinary operator → HasMemory result }
 {
     match operator {
         BinaryOperator::Add => plain(add(left, right)),
@@ -178,7 +184,8 @@ fn no_operands() -> Result<Value, FunctionFault>
 }
 
 fn of_one(alloc: Global, operator: UnaryOperator, values: &[Value]) -> Result<Value, FunctionFault>
-    ensures { IsAnswer (of_one operator values.now) result }
+    ensures answer { IsAnswer (of_one operator values.now) result }
+    ensures memory { IsLeanUnary operator → HasMemory result }
 {
     match values {
         [only] => unary(alloc, operator, only),
@@ -187,7 +194,8 @@ fn of_one(alloc: Global, operator: UnaryOperator, values: &[Value]) -> Result<Va
 }
 
 fn of_two(alloc: Global, operator: BinaryOperator, values: &[Value]) -> Result<Value, FunctionFault>
-    ensures { IsAnswer (of_two operator values.now) result }
+    ensures answer { IsAnswer (of_two operator values.now) result }
+    ensures memory { IsLeanBinary operator → HasMemory result }
 {
     match values {
         [left, right] => binary(alloc, operator, left, right),
@@ -205,7 +213,8 @@ fn part_of(alloc: Global, values: &[Value]) -> Result<Value, FunctionFault>
 }
 
 fn truth_again(value: &Value) -> Result<Value, FunctionFault>
-    ensures { IsAnswer (truth_answer value.now) result }
+    ensures answer { IsAnswer (truth_answer value.now) result }
+    ensures memory { HasMemory result }
 {
     match value {
         Value::Truth(truth) => Ok(Value::Truth(*truth)),
@@ -216,7 +225,8 @@ fn truth_again(value: &Value) -> Result<Value, FunctionFault>
 }
 
 fn last_truth(values: &[Value]) -> Result<Value, FunctionFault>
-    ensures { IsAnswer (last_truth values.now) result }
+    ensures answer { IsAnswer (last_truth values.now) result }
+    ensures memory { HasMemory result }
 {
     match values {
         [_, last] => truth_again(last),
@@ -225,14 +235,16 @@ fn last_truth(values: &[Value]) -> Result<Value, FunctionFault>
 }
 
 fn copy(alloc: Global, value: &Value) -> Result<Value, FunctionFault>
-    ensures { IsAnswer (Ok value.now) result }
+    ensures answer { IsAnswer (Ok value.now) result }
+    ensures memory { IsPlain value.now → HasMemory result }
 {
     value.copy(alloc).map_err(|_| FunctionFault::OutOfMemory)
 }
 
 /// What a node that asks nothing answers by the values of its operands.
 pub(crate) fn compute(alloc: Global, node: &Node, values: &[Value]) -> Result<Value, FunctionFault>
-    ensures { IsAnswer (computed node.now values.now) result }
+    ensures answer { IsAnswer (computed node.now values.now) result }
+    ensures memory { IsLeanNode node.now → HasMemory result }
 {
     match node {
         Node::Constant(value) => copy(alloc, value),
@@ -268,7 +280,8 @@ fn in_unit(unit: Unit, bits: Value) -> Result<Value, OperatorFault>
 
 /// What a question of a path answers by the value that was found for it.
 pub(crate) fn answer(question: Question, found: Value) -> Result<Value, FunctionFault>
-    ensures { IsAnswer (question_answer question found) result }
+    ensures answer { IsAnswer (question_answer question found) result }
+    ensures memory { HasMemory result }
 {
     match question {
         Question::Item | Question::Count => Ok(found),

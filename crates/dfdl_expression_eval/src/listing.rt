@@ -82,7 +82,11 @@ impl Env for Listing {
 
     ghost read = { λ s number. record s { was_read = true } };
 
+    ghost is_lean = { λ s. true };
+
     ghost steady = { λ s number. refl };
+
+    ghost lean_stays = { λ s number. refl };
 
     fn item(
         &mut self,

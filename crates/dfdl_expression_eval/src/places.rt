@@ -1,5 +1,5 @@
 // The places that the indexes of a path name.
-ghost use Rattle.std.specs.Prelude.{◌≡◌, ◌++◌, ◌<◌, ◌^◌, IfOk, IfErr, List, ℕ, Option, Some, None, pos, if◌then◌else◌};
+ghost use Rattle.std.specs.Prelude.{◌≡◌, ◌++◌, ◌∷◌, [], ◌<◌, ◌≤◌, ◌^◌, length, vec_capacity, IfOk, IsOk, OnOk, IfErr, List, ℕ, Option, Some, None, pos, if◌then◌else◌};
 ghost use Rattle.dfdl_decimal.specs.Decimal.{with_sign};
 ghost use Rattle.dfdl_operators.specs.Numbers.{number_of};
 ghost use Rattle.dfdl_expression_eval.specs.Places.{place_at, place_in, place_of, places_of};
@@ -42,15 +42,25 @@ pub(crate) fn place_in(value: &Value) -> Option<u64>
     }
 }
 
+fn put_place(places: &mut Vec<u64>, place: u64) -> Result<(), OutOfMemory>
+    ensures items { OnOk result (places.new.items ≡ places.old.items ++ place ∷ []) }
+    ensures room { length places.old.items < vec_capacity places.old → IsOk result }
+    ensures capacity { vec_capacity places.old ≤ vec_capacity places.new }
+{
+    places.push(place).map_err(|_| OutOfMemory)
+}
+
 /// Puts the places that values name into a list, where each is a number. The answer says whether
 /// each is.
 pub(crate) fn gather(values: &[Value], places: &mut Vec<u64>) -> Result<bool, OutOfMemory>
-    ensures { IfOk result (λ all. places_of values.now ≡ if all then Some places.new.items else None) }
+    ensures places { IfOk result (λ all. places_of values.now ≡ if all then Some places.new.items else None) }
+    ensures room { length values.now ≤ vec_capacity places.old → IsOk result }
+    ensures capacity { vec_capacity places.old ≤ vec_capacity places.new }
 {
     places.clear();
     for value in values {
         match place_in(value) {
-            Some(place) => places.push(place).map_err(|_| OutOfMemory)?,
+            Some(place) => put_place(places, place)?,
             None => return Ok(false),
         }
     }

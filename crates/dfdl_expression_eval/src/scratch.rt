@@ -1,5 +1,6 @@
 // The memory of an evaluation.
-ghost use Rattle.std.specs.Prelude.{◌≡◌, []};
+ghost use Rattle.std.specs.Prelude.{◌≡◌, [], ℕ, IfOk};
+ghost use Rattle.dfdl_expression_eval.specs.Rooms.{HasRoom};
 
 use super::env::{Evaluated, OutOfMemory};
 use dfdl_value::Value;
@@ -38,9 +39,11 @@ pub struct Scratch {
 }
 
 impl Scratch {
-    /// Takes the memory for expressions of so many nodes. A larger one takes what is missing while it
-    /// is evaluated.
-    pub fn open(alloc: Global, nodes: usize) -> Result<Scratch, OutOfMemory> {
+    /// Takes the memory for expressions of so many nodes, which have no more operands together. A larger one takes what is missing
+    /// while it is evaluated.
+    pub fn open(alloc: Global, nodes: usize) -> Result<Scratch, OutOfMemory>
+        ensures { IfOk result (HasRoom nodes) }
+    {
         Ok(Scratch {
             frames: Vec::with_capacity(alloc, nodes).map_err(|_| OutOfMemory)?,
             values: Vec::with_capacity(alloc, nodes).map_err(|_| OutOfMemory)?,
@@ -51,6 +54,7 @@ impl Scratch {
     pub(crate) fn clear(&mut self)
         ensures frames { self.new.frames.items ≡ [] }
         ensures values { self.new.values.items ≡ [] }
+        ensures room { (room : ℕ) → HasRoom room self.old → HasRoom room self.new }
     {
         self.frames.clear();
         self.values.clear();

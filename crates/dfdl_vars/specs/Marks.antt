@@ -1,5 +1,5 @@
 -- Going back to a mark: everything is as it was there.
-use Rattle.std.specs.Prelude.{◌≡◌, ℕ, ◌<◌, ◌≤◌, List, ◌++◌, length, take}
+use Rattle.std.specs.Prelude.{◌≡◌, ℕ, ◌<◌, ◌≤◌, List, ◌++◌, length, take, drop}
 use Rattle.dfdl_vars.specs.declared.instances.Change.{Change}
 use Rattle.dfdl_vars.specs.declared.instances.VarMark.{VarMark}
 use Rattle.dfdl_vars.specs.Instances.{cleared}
@@ -24,3 +24,11 @@ pub record LeadsBack (base now : Kept) : Type 0 where
 -- a mark to which there is a way back
 abbrev pub IsLive : VarMark → Kept → Type 0
 IsLive mark now = (base : Kept) × LeadsBack base now × (mark ≡ mark_of base)
+
+-- what is kept behind going back to a mark: as many instances as were open there, without the changes that came later, the last of which is
+-- taken back first
+abbrev pub gone_back : VarMark → Kept → Kept
+gone_back mark now = record now {
+  instances = cleared (drop mark.changes now.changes) (take mark.instances now.instances);
+  changes = take mark.changes now.changes;
+}

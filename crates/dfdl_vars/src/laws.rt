@@ -5,7 +5,7 @@ ghost use Rattle.dfdl_vars.specs.Instances.{has, is_set};
 ghost use Rattle.dfdl_vars.specs.Kept.{Kept, IsSound, with_setting, with_read, entered, left};
 ghost use Rattle.dfdl_vars.specs.declared.instances.Change.{Change};
 ghost use Rattle.dfdl_vars.specs.declared.instances.Instance.{Instance};
-ghost use Rattle.dfdl_vars.specs.Marks.{LeadsBack};
+ghost use Rattle.dfdl_vars.specs.Marks.{LeadsBack, mark_of, gone_back};
 
 /// A way back stays open while instances are set, read, entered and left, as long as no instance is left that was open there.
 pub fn ways_back()
@@ -17,6 +17,11 @@ pub fn ways_back()
         → LeadsBack base (entered now var start) }
     ensures left { (base now : Kept) → LeadsBack base now → length base.instances < length now.instances
         → LeadsBack base (left now) }
+{}
+
+/// Going back to a mark to which there is a way back gives what was kept there.
+pub fn marks_lead_back()
+    ensures { (base now : Kept) → LeadsBack base now → gone_back (mark_of base) now ≡ base }
 {}
 
 /// Of changes that are kept once each there are at most two for each instance.

@@ -1,7 +1,7 @@
 // The variables of a run.
 ghost use Rattle.std.specs.Prelude.{◌≡◌, ◌<◌, ◌+◌, ◌-◌, ◌↔◌, IfOk, IsErr, OnOk, OnErr, length, option_copied};
 ghost use Rattle.dfdl_vars.specs.Kept.{Kept, opened, with_setting, with_read, entered, left, place_now, value_of, fault_now, fault_in};
-ghost use Rattle.dfdl_vars.specs.Marks.{mark_of, LeadsBack, IsLive};
+ghost use Rattle.dfdl_vars.specs.Marks.{mark_of, LeadsBack, IsLive, gone_back};
 
 use crate::instances::{Change, Instance, VarFault, VarMark};
 use crate::journal::{add_instance, forget, go_back, innermost, is_read_at, is_set_at, value_at};
@@ -170,6 +170,7 @@ impl Vars {
     /// Goes back to a mark: each instance is open, set and read as it was there.
     pub fn undo_to(&mut self, mark: VarMark)
         requires { IsLive mark self.old }
+        ensures gone { self.new ≡ gone_back mark self.old }
         ensures back { (base : Kept) → LeadsBack base self.old → mark ≡ mark_of base → self.new ≡ base }
         ensures globals { self.new.globals ≡ self.old.globals }
     {

@@ -8,8 +8,8 @@ use Rattle.dfdl_expression_eval.specs.Runs.{run, told}
 use Rattle.dfdl_expression_eval.proofs.Asking.{IsComputed, answered_is, computed_at, if_ok}
 use Rattle.dfdl_expression_eval.proofs.acting.act.Goals as goal
 
-pub returns-in-Constant : goal.returns-in-Constant
-returns-in-Constant g c =
+pub returns-in-Constant-clause-comes : goal.returns-in-Constant-clause-comes
+returns-in-Constant-clause-comes g c =
     let n = c.args.node.now in
     let values = c.args.values.now in
     let is : IsComputed n = elim c.in-Constant.is [
@@ -47,4 +47,4 @@ returns-in-Constant g c =
     (if_ok c.given.result
     (λ e. (a : Answer) → IsAnswer a c.compute.result → e ≡ evaluated_of a)
     (λ e. e ≡ evaluated_of (computed n values))
-    (λ e all. all (computed n values) c.compute.ensures) c.given.ensures)
+    (λ e all. all (computed n values) c.compute.ensures.answer) c.given.ensures.answer)

@@ -1,4 +1,4 @@
-use Rattle.std.proofs.Common.{◌≡◌, ◌<◌, ◌+◌, ◌++◌, ◌∷◌, [], List, take, drop, Some, ap, sym, subst, ◌∙◌}
+use Rattle.std.proofs.Common.{length, ◌≡◌, ◌<◌, ◌+◌, ◌++◌, ◌∷◌, [], List, take, drop, Some, ap, sym, subst, ◌∙◌}
 use Rattle.std.specs.List.{slice_get}
 use Rattle.dfdl_value.specs.declared.value.Value.{Value as ValueOf}
 use Rattle.dfdl_value.specs.declared.value.Value.TheVariants.{Truth}
@@ -7,7 +7,10 @@ use Rattle.dfdl_expression_eval.specs.Asks.{Asks}
 use Rattle.dfdl_expression_eval.specs.Machine.{comes_to, focus_left, frames_left, gone_on, held_by, left_over, weight_left, weight_of}
 use Rattle.dfdl_expression_eval.specs.Meanings.{course_of}
 use Rattle.dfdl_expression_eval.specs.Runs.{run}
+use Rattle.dfdl_expression_eval.specs.Nesting.{AreNested, IsNested}
+use Rattle.dfdl_expressions.specs.Nodes.{IsExpression}
 use Rattle.dfdl_expression_eval.proofs.Asking.{if_ok}
+use Rattle.dfdl_expression_eval.proofs.Nested.{ended, turned_to}
 use Rattle.dfdl_expression_eval.proofs.Resumed.{closed_is, ended_less, on_less, resumes_none, resumes_turn, to_less}
 use Rattle.dfdl_expression_eval.proofs.evaluating.resume.Goals as goal
 
@@ -59,7 +62,7 @@ pub returns-in-Settled-clause-comes : goal.returns-in-Settled-clause-comes
 returns-in-Settled-clause-comes g c = λ go.
     let nodes = c.args.expression.now in
     let s = c.args.scratch.now in
-    let closed = c.close-in-Settled.ensures ∙ closed_is s.values.items (held_by s.frames.items) c.args.frame.done c.requires.held in
+    let closed = c.close-in-Settled.ensures.items ∙ closed_is s.values.items (held_by s.frames.items) c.args.frame.done c.requires.held in
     ap (λ a. run g.E.Env.answers g.E.Env.read a c.args.env.now)
     (ap (λ l. left_over nodes s.frames.items l go (Truth c.in-Settled.truth)) closed
     ∙ sym (resumes_turn nodes s.frames.items s.values.items c.args.frame c.args.value go c.requires.held c.in-Some.node.now _ c.in-Some.ensures.some (sym c.in-Settled.is ∙ c.turn_behind.ensures)))
@@ -71,7 +74,7 @@ pub returns-in-To-clause-comes : goal.returns-in-To-clause-comes
 returns-in-To-clause-comes g c = λ go.
     let nodes = c.args.expression.now in
     let s = c.args.scratch.now in
-    let closed = c.close-in-To.ensures ∙ closed_is s.values.items (held_by s.frames.items) c.args.frame.done c.requires.held in
+    let closed = c.close-in-To.ensures.items ∙ closed_is s.values.items (held_by s.frames.items) c.args.frame.done c.requires.held in
     ap (λ a. run g.E.Env.answers g.E.Env.read a c.args.env.now)
     (ap (λ l. course_of nodes c.in-To.operand (left_over nodes s.frames.items l go)) closed
     ∙ sym (resumes_turn nodes s.frames.items s.values.items c.args.frame c.args.value go c.requires.held c.in-Some.node.now _ c.in-Some.ensures.some (sym c.in-To.is ∙ c.turn_behind.ensures)))
@@ -94,3 +97,37 @@ returns-in-Wrong-clause-less g c =
     let nodes = c.args.expression.now in
     let fs = c.args.scratch.now.frames.items in
     subst (λ x. focus_left nodes x + frames_left nodes fs < frames_left nodes (fs ++ c.args.frame ∷ [])) (sym c.wrong-in-Wrong.ensures) (ended_less nodes fs c.args.frame)
+
+pub returns-in-None-clause-nested : goal.returns-in-None-clause-nested
+returns-in-None-clause-nested g c = λ sound nested.
+    let fs = c.args.scratch.now.frames.items in
+    subst (IsNested c.args.expression.now fs) (sym c.wrong.ensures) (ended c.args.expression.now fs c.args.frame _ nested)
+
+pub returns-in-On-clause-nested : goal.returns-in-On-clause-nested
+returns-in-On-clause-nested g c =
+    let nodes = c.args.expression.now in
+    let s = c.args.scratch.now in
+    let n = c.in-Some.node.now in
+    let fs = c.go_on.new.scratch.frames.items in
+    if_ok c.go_on.result
+    (λ f. (ns : List NodeOf) → slice_get ns c.args.frame.node ≡ Some n → IsExpression ns → AreNested ns (length ns) (s.frames.items ++ c.args.frame ∷ [])
+    → IsNested ns fs f)
+    (λ f. IsExpression nodes → AreNested nodes (length nodes) (s.frames.items ++ c.args.frame ∷ []) → IsNested nodes fs f)
+    (λ f all sound nested. all nodes c.in-Some.ensures.some sound nested)
+    c.go_on.ensures.nested
+
+pub returns-in-On-clause-memory : goal.returns-in-On-clause-memory
+returns-in-On-clause-memory g c = λ room served nested. c.go_on.ensures.memory c.args.expression.now room c.in-Some.ensures.some served nested
+
+pub returns-in-Settled-clause-nested : goal.returns-in-Settled-clause-nested
+returns-in-Settled-clause-nested g c = λ sound nested. ended c.args.expression.now c.args.scratch.now.frames.items c.args.frame _ nested
+
+pub returns-in-To-clause-nested : goal.returns-in-To-clause-nested
+returns-in-To-clause-nested g c = λ sound nested.
+    turned_to c.args.expression.now c.args.scratch.now.frames.items c.args.frame c.in-Some.node.now c.args.value c.in-To.operand sound c.in-Some.ensures.some
+    (sym c.turn_behind.ensures ∙ c.in-To.is) nested
+
+pub returns-in-Wrong-clause-nested : goal.returns-in-Wrong-clause-nested
+returns-in-Wrong-clause-nested g c = λ sound nested.
+    let fs = c.args.scratch.now.frames.items in
+    subst (IsNested c.args.expression.now fs) (sym c.wrong-in-Wrong.ensures) (ended c.args.expression.now fs c.args.frame _ nested)

@@ -1,0 +1,11 @@
+use Rattle.std.proofs.Common.{◌≡◌}
+use Rattle.dfdl_paths.specs.declared.place.Place.TheVariants.{At}
+use Rattle.dfdl_paths.specs.Spans.{reached_by}
+use Rattle.dfdl_paths.specs.Numbers.{those_below}
+use Rattle.dfdl_paths.specs.Values.{found_of}
+use Rattle.dfdl_paths.proofs.found.only_in.Given as goal
+
+-- those so far
+abbrev pub invariant-loop-number : goal.invariant-loop-number
+invariant-loop-number l =
+    l.found ≡ found_of (those_below (λ n. reached_by l.course (At n)) l.number)

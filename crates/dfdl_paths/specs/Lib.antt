@@ -1,0 +1,5 @@
+pub mod Numbers
+pub mod Elements
+pub mod Leads
+pub mod Values
+pub mod Spans

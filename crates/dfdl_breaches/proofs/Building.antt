@@ -1,5 +1,5 @@
 -- The builds of patterns, element by element.
-use Rattle.std.proofs.Common.{◌≡◌, refl, sym, ap, subst, ◌∙◌, ℕ, zero, suc, ◌+◌, ◌<◌, ◌≤◌, List, [], ◌∷◌, ◌++◌, length, get_or, take, map, Bool, true, false, if◌then◌else◌, Option, Some, None, arith, IfOk, IfErr, Result, Ok, Err, nat_eq}
+use Rattle.std.proofs.Common.{◌≡◌, refl, sym, ap, subst, ◌∙◌, ℕ, zero, suc, ◌+◌, ◌<◌, ◌≤◌, List, [], ◌∷◌, ◌++◌, length, get_or, take, map, Bool, true, false, if◌then◌else◌, arith, IfOk, IfErr, Result, Ok, Err, nat_eq}
 use Rattle.std.proofs.Math.Seq.{take-length, take-suc}
 use Rattle.std.proofs.lemmas.Bool.{eq-eqb, eqb-true}
 use Rattle.std.proofs.lemmas.List.{get_or_default, map-append}
@@ -8,24 +8,16 @@ use Rattle.dfdl_components.specs.declared.site.Site.{Site}
 use Rattle.dfdl_components.specs.Globals.{site}
 use Rattle.dfdl_components.specs.Recursion.{count_of, number_of}
 use Rattle.dfdl_components.specs.Sites.{role_of}
-use Rattle.dfdl_checks.specs.Patterns.{length_pattern}
+use Rattle.dfdl_checks.specs.Tests.{patterns_of}
 use Rattle.dfdl_checks.specs.declared.purpose.Purpose.{Purpose}
 use Rattle.dfdl_chains.specs.Everywhere.{all_sites, site_at}
 use Rattle.dfdl_chains.specs.Parts.{is_component}
 use Rattle.dfdl_breaches.proofs.Numbering.{at-number, length-sites, numbered}
-use Rattle.dfdl_breaches.specs.Builds.{AreAllBuilt, AreBuilt, AreBuiltInPart, AreJudged, IsBuilt, PatternsSeen, always, never, pattern_at}
+use Rattle.dfdl_breaches.specs.Builds.{AreAllBuilt, AreBuilt, AreBuiltInPart, AreJudged, IsBuilt, PatternsSeen, always, never, patterns_at}
 use Rattle.dfdl_breaches.specs.BuildsShown.{IsToldBy}
-use Rattle.dfdl_breaches.specs.Judging.{judged_at, judgement_at, no_judgement}
+use Rattle.dfdl_breaches.specs.Judging.{hidden_at, judged_at, judgement_at, no_judgement}
 use Rattle.dfdl_breaches.specs.JudgementShown.{judgement_of}
 use Rattle.dfdl_breaches.specs.declared.judgement.Judgement.{Judgement}
-
--- nothing was built, or nothing was refused
-pub unchanged : (pattern : Option (List ℕ)) (seen : PatternsSeen) → IsBuilt pattern false seen seen
-unchanged None seen = (refl, refl)
-unchanged (Some text) seen = refl
-
-pub quiet : (pattern : Option (List ℕ)) (s t : PatternsSeen) → t ≡ s → IsBuilt pattern false s t
-quiet pattern s t same = subst (λ (u : PatternsSeen). IsBuilt pattern false s u) (sym same) (unchanged pattern s)
 
 -- a builder that was left as it was
 pub same_seen : (a b : PatternsSeen) → a.faults ≡ b.faults → a.last ≡ b.last → a ≡ b
@@ -46,23 +38,23 @@ err_part (Err e) X x = x
 -- nothing is told of what is no component, and nothing is built
 pub not_component : (purpose : Purpose) (documents : List SchemaDocument) (own : Site) (seen : PatternsSeen) (g : Judgement)
     → is_component (role_of documents own) ≡ false → g ≡ no_judgement
-    → (b : Bool) × IsBuilt (pattern_at purpose documents own) b seen seen × (g ≡ judgement_at purpose (always b) documents own)
+    → (b : Bool) × IsBuilt (patterns_at purpose documents own) b seen seen × (g ≡ judgement_at purpose (always b) documents own)
 unfolding judgement_at
 not_component purpose documents own seen g is told = (
   false,
-  subst (λ (c : Bool). IsBuilt (if c then length_pattern (judged_at purpose never documents own) else None) false seen seen) (sym is) (refl, refl),
-  subst (λ (c : Bool). g ≡ (if c then judgement_of (judged_at purpose (always false) documents own) else no_judgement)) (sym is) told,
+  refl,
+  subst (λ (c : Bool). g ≡ (if c then judgement_of (hidden_at purpose documents own) (judged_at purpose (always false) documents own) else no_judgement)) (sym is) told,
 )
 
 pub of_component : {E : Type 0} (purpose : Purpose) (documents : List SchemaDocument) (own : Site) (old new : PatternsSeen) (r : Result Judgement E)
     → is_component (role_of documents own) ≡ true
-    → IsToldBy (length_pattern (judged_at purpose never documents own)) (λ (b : Bool). judgement_of (judged_at purpose (always b) documents own)) old new r
-    → IsToldBy (pattern_at purpose documents own) (λ (b : Bool). judgement_at purpose (always b) documents own) old new r
+    → IsToldBy (patterns_of (judged_at purpose never documents own)) (λ (b : Bool). judgement_of (hidden_at purpose documents own) (judged_at purpose (always b) documents own)) old new r
+    → IsToldBy (patterns_at purpose documents own) (λ (b : Bool). judgement_at purpose (always b) documents own) old new r
 unfolding judgement_at
 of_component purpose documents own old new r is told = (
   told.0,
-  subst (λ (c : Bool). IsBuilt (if c then length_pattern (judged_at purpose never documents own) else None) told.0 old new) (sym is) told.1,
-  subst (λ (c : Bool). IfOk r (λ g. g ≡ (if c then judgement_of (judged_at purpose (always told.0) documents own) else no_judgement))) (sym is) told.2,
+  subst (λ (c : Bool). IsBuilt (if c then patterns_of (judged_at purpose never documents own) else []) told.0 old new) (sym is) told.1,
+  subst (λ (c : Bool). IfOk r (λ g. g ≡ (if c then judgement_of (hidden_at purpose documents own) (judged_at purpose (always told.0) documents own) else no_judgement))) (sym is) told.2,
 )
 
 -- lists that are made of equal elements
@@ -114,18 +106,18 @@ module _ (purpose : Purpose) (documents : List SchemaDocument) where
   as_before refused n b low (suc k) few old new (between, first, last) = (
     between,
     as_before refused n b low k (omega (arith, few)) old between first,
-    subst (λ (c : Bool). IsBuilt (pattern_at purpose documents (site_at documents k)) c between new)
+    subst (λ (c : Bool). IsBuilt (patterns_at purpose documents (site_at documents k)) c between new)
         (sym (before refused n b k (omega (arith, few)) low)) last,
   )
 
   -- one more build
   one_more_built : (refused : Site → Bool) (n : ℕ) (b : Bool) (old between new : PatternsSeen) → n < count_of documents
-      → AreBuilt purpose refused documents n old between → IsBuilt (pattern_at purpose documents (site_at documents n)) b between new
+      → AreBuilt purpose refused documents n old between → IsBuilt (patterns_at purpose documents (site_at documents n)) b between new
       → AreBuilt purpose (with_answer refused n b) documents (suc n) old new
   one_more_built refused n b old between new low first last = (
     between,
     as_before refused n b low n (omega arith) old between first,
-    subst (λ (c : Bool). IsBuilt (pattern_at purpose documents (site_at documents n)) c between new) (sym (there refused n b low)) last,
+    subst (λ (c : Bool). IsBuilt (patterns_at purpose documents (site_at documents n)) c between new) (sym (there refused n b low)) last,
   )
 
   -- this is told of the first elements, by the builds of their patterns
@@ -163,7 +155,7 @@ module _ (purpose : Purpose) (documents : List SchemaDocument) where
 
   pub next_first : (sites : List Site) (n : ℕ) (own d : Site) (old between new : PatternsSeen) (judgements now : List Judgement)
       → sites ≡ all_sites documents → n < length sites → own ≡ get_or sites n d → AreFirst n old between judgements → (b : Bool)
-      → IsBuilt (pattern_at purpose documents own) b between new
+      → IsBuilt (patterns_at purpose documents own) b between new
       → now ≡ judgements ++ judgement_at purpose (always b) documents own ∷ [] → AreFirst (n + 1) old new now
   next_first sites n own d old between new judgements now are less at first b built is =
       let one : suc n ≡ n + 1 = omega arith in
@@ -171,7 +163,7 @@ module _ (purpose : Purpose) (documents : List SchemaDocument) where
       (record {
         refused = with_answer first.refused n b;
         built = one_more_built first.refused n b old between new low first.built
-            (subst (λ (s : Site). IsBuilt (pattern_at purpose documents s) b between new) same built);
+            (subst (λ (s : Site). IsBuilt (patterns_at purpose documents s) b between new) same built);
         told = next_told n b old between judgements low first now
             (subst (λ (s : Site). now ≡ judgements ++ judgement_at purpose (always b) documents s ∷ []) same is);
       })
@@ -186,7 +178,7 @@ module _ (purpose : Purpose) (documents : List SchemaDocument) where
   -- want of memory behind the build of one more element
   pub next_part : (sites : List Site) (n : ℕ) (own d : Site) (old between new : PatternsSeen) (judgements : List Judgement)
       → sites ≡ all_sites documents → n < length sites → own ≡ get_or sites n d → AreFirst n old between judgements → (b : Bool)
-      → IsBuilt (pattern_at purpose documents own) b between new → AreBuiltInPart purpose documents old new
+      → IsBuilt (patterns_at purpose documents own) b between new → AreBuiltInPart purpose documents old new
   next_part sites n own d old between new judgements are less at first b built =
       let one : AreFirst (n + 1) old new (judgements ++ judgement_at purpose (always b) documents own ∷ [])
       = next_first sites n own d old between new judgements (judgements ++ judgement_at purpose (always b) documents own ∷ []) are less at first b built refl in

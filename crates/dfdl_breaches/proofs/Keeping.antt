@@ -1,5 +1,5 @@
 -- What is kept of elements and formats, and the elements of chains.
-use Rattle.std.proofs.Common.{◌≡◌, refl, sym, ap, subst, ◌∙◌, ℕ, zero, ◌<◌, List, length, get_or, map, Bool, Option, Some, None, option_map, IfSome, arith}
+use Rattle.std.proofs.Common.{◌≡◌, refl, sym, ap, subst, ◌∙◌, ℕ, zero, ◌<◌, List, length, get_or, map, Bool, Option, Some, None, option_map, Result, IfSome, arith}
 use Rattle.dfdl_documents.specs.Documents.{SchemaDocument}
 use Rattle.std.proofs.lemmas.List.{get_or-map}
 use mathlib.Core.Path.{fun_ext}
@@ -8,22 +8,30 @@ use Rattle.dfdl_components.specs.declared.site.Site.{Site}
 use Rattle.dfdl_components.specs.Recursion.{count_of, number_of}
 use Rattle.dfdl_components.specs.Sites.{IsSite}
 use Rattle.dfdl_checks.specs.Judged.{Judged}
+use Rattle.dfdl_checks.specs.Tests.{patterns_of}
 use Rattle.dfdl_scope.specs.Scoping.{Element, nothing}
 use Rattle.dfdl_scope.specs.Shown.{format_given}
 use Rattle.dfdl_scope.specs.declared.format.Format.{Format}
 use Rattle.dfdl_chains.specs.Everywhere.{all_sites}
 use Rattle.dfdl_chains.specs.Facts.{facts_at}
 use Rattle.dfdl_chains.specs.Kinds.{kind_at}
+use Rattle.dfdl_chains.specs.Tests.{tests_at}
 use Rattle.dfdl_references.proofs.Found.{IsFound, of-found, default-found}
 use Rattle.dfdl_breaches.proofs.Joining.{all-tabled}
 use Rattle.dfdl_breaches.proofs.Numbering.{at-number, length-sites, number-below}
+use Rattle.dfdl_breaches.specs.Builds.{PatternsSeen}
+use Rattle.dfdl_breaches.specs.BuildsShown.{IsToldBy, with_refused}
 use Rattle.dfdl_breaches.specs.Elements.{place_of}
 use Rattle.dfdl_breaches.specs.Formats.{format_value, given_by}
+use Rattle.dfdl_breaches.specs.Hidden.{facts_where, hides, hiding_at, is_unknown, kind_where, tests_where}
 use Rattle.dfdl_breaches.specs.Judging.{judged_at}
+use Rattle.dfdl_breaches.specs.JudgementShown.{judgement_of}
 use Rattle.dfdl_breaches.specs.KeptShown.{IsFormatIf}
+use Rattle.dfdl_breaches.specs.declared.judgement.Judgement.{Judgement}
 use Rattle.dfdl_breaches.specs.Prefixes.{prefix_at}
 use Rattle.dfdl_breaches.specs.Roots.{chain_at, root_bits_by}
 use Rattle.dfdl_breaches.specs.Schemes.{scheme_at}
+use Rattle.dfdl_breaches.specs.Standing.{standing_at}
 use Rattle.dfdl_references.specs.References.{default_of, format_of}
 use Rattle.dfdl_breaches.specs.Tabled.{AreJoined, AreTabled}
 
@@ -99,12 +107,14 @@ same_element a b place own twice format default = λ i. record {
 }
 
 -- a component whose parts are those of the documents
-pub same_judged : (refused : Site → Bool) (documents : List SchemaDocument) (own : Site) (j : Judged) → j.kind ≡ kind_at documents own
+pub same_judged : (refused : Site → Bool) (documents : List SchemaDocument) (own : Site) (j : Judged)
+    → j.kind ≡ kind_where (hides (hiding_at j.purpose documents own)) (kind_at documents own)
     → j.place.document ≡ (place_of documents own).document → j.place.at ≡ (place_of documents own).at → j.chain ≡ chain_at documents own
-    → j.facts ≡ facts_at documents own → j.root_bits_by ≡ root_bits_by documents → j.prefix ≡ prefix_at documents own → j.scheme ≡ scheme_at documents own
-    → j.pattern_is_refused ≡ refused own
+    → j.facts ≡ facts_where (hides (hiding_at j.purpose documents own)) (facts_at documents own) → j.root_bits_by ≡ root_bits_by documents → j.prefix ≡ prefix_at documents own → j.scheme ≡ scheme_at documents own
+    → j.pattern_is_refused ≡ refused own → j.tests ≡ tests_where (hides (hiding_at j.purpose documents own)) (tests_at documents own)
+    → j.standing ≡ standing_at documents own → j.group_is_unknown ≡ is_unknown (hiding_at j.purpose documents own)
     → j ≡ judged_at j.purpose refused documents own
-same_judged refused documents own j kind document at chain facts root prefix scheme is_refused = λ i. record {
+same_judged refused documents own j kind document at chain facts root prefix scheme is_refused tests standing unknown = λ i. record {
   purpose = j.purpose;
   kind = kind i;
   place = same_place j.place (place_of documents own).document (place_of documents own).at document at i;
@@ -114,4 +124,15 @@ same_judged refused documents own j kind document at chain facts root prefix sch
   prefix = prefix i;
   scheme = scheme i;
   pattern_is_refused = is_refused i;
+  tests = tests i;
+  standing = standing i;
+  group_is_unknown = unknown i;
 }
+
+-- what is told of a component that hides a group is told of the same one and group
+pub judged_told : {E : Type 0} (j k : Judged) (h o : Option Site) (s t : PatternsSeen) (r : Result Judgement E) → j ≡ k → h ≡ o
+    → IsToldBy (patterns_of j) (λ (b : Bool). judgement_of h (with_refused b j)) s t r
+    → IsToldBy (patterns_of k) (λ (b : Bool). judgement_of o (with_refused b k)) s t r
+judged_told j k h o s t r is hidden told =
+    subst (λ (x : Option Site). IsToldBy (patterns_of k) (λ (b : Bool). judgement_of x (with_refused b k)) s t r) hidden
+    (subst (λ (x : Judged). IsToldBy (patterns_of x) (λ (b : Bool). judgement_of h (with_refused b x)) s t r) is told)

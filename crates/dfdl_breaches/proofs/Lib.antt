@@ -11,3 +11,6 @@ pub mod Building
 mod Forms
 pub mod Refusals
 mod Judged
+mod Standings
+mod HiddenKinds
+mod BuiltTests

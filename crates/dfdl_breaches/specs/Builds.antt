@@ -1,5 +1,6 @@
--- The builds of the patterns that tell lengths of components ('Lengths', on lengthKind pattern).
-use Rattle.std.specs.Prelude.{◌≡◌, ◌≤◌, ℕ, zero, suc, List, Option, None, Some, Bool, true, false, if◌then◌else◌}
+-- The builds of the patterns of components: those of their tests ('DFDL Schema Component Model', on asserts and discriminators), and
+-- those that tell their lengths ('Lengths', on lengthKind pattern).
+use Rattle.std.specs.Prelude.{◌≡◌, ◌≤◌, ◌⊎◌, ℕ, zero, suc, List, [], ◌∷◌, Option, Bool, true, false, if◌then◌else◌}
 use Rattle.dfdl_edge.specs.Faults.{Rose}
 use Rattle.dfdl_edge.specs.Told.{IsNowLast}
 use Rattle.dfdl_length_patterns.specs.Patterns.{anchored}
@@ -7,7 +8,7 @@ use Rattle.dfdl_documents.specs.Documents.{SchemaDocument}
 use Rattle.dfdl_components.specs.declared.site.Site.{Site}
 use Rattle.dfdl_components.specs.Recursion.{count_of}
 use Rattle.dfdl_components.specs.Sites.{role_of}
-use Rattle.dfdl_checks.specs.Patterns.{length_pattern}
+use Rattle.dfdl_checks.specs.Tests.{patterns_of}
 use Rattle.dfdl_checks.specs.declared.purpose.Purpose.{Purpose}
 use Rattle.dfdl_chains.specs.Everywhere.{for_each, site_at}
 use Rattle.dfdl_chains.specs.Parts.{is_component}
@@ -20,18 +21,18 @@ pub record PatternsSeen : Type 0 where
   pub faults : ℕ
   pub last : Option (Option (List ℕ))
 
--- no pattern is refused
+-- nothing is refused
 abbrev pub never : Site → Bool
 never own = false
 
--- each pattern is refused, or none is
+-- everything is refused, or nothing is
 abbrev pub always : Bool → Site → Bool
 always is_refused own = is_refused
 
--- the pattern that tells the length of an element, if it is a component that has one
-abbrev pub pattern_at : Purpose → List SchemaDocument → Site → Option (List ℕ)
-pattern_at purpose documents own =
-    if is_component (role_of documents own) then length_pattern (judged_at purpose never documents own) else None
+-- the patterns of an element, if it is a component
+abbrev pub patterns_at : Purpose → List SchemaDocument → Site → List (List ℕ)
+patterns_at purpose documents own =
+    if is_component (role_of documents own) then patterns_of (judged_at purpose never documents own) else []
 
 -- the build of a text was refused: the count of refused builds rose, and the text is the one last refused
 pub record IsRefusedBuild (text : List ℕ) (before after : PatternsSeen) : Type 0 where
@@ -39,15 +40,15 @@ pub record IsRefusedBuild (text : List ℕ) (before after : PatternsSeen) : Type
   pub rose : Rose before.faults after.faults
   pub last : IsNowLast before.last text after.last
 
--- the pattern of a text was built, as a group at the begin of what is searched: it was refused, or both stayed
-abbrev pub IsBuiltOf : List ℕ → Bool → PatternsSeen → PatternsSeen → Type 0
-IsBuiltOf text false before after = after ≡ before
-IsBuiltOf text true before after = IsRefusedBuild (anchored text) before after
+-- the build of one of these patterns was refused, as a group at the begin of what is searched
+abbrev pub IsOneRefused : List (List ℕ) → PatternsSeen → PatternsSeen → Type 0
+IsOneRefused [] before after = ⊥
+IsOneRefused (text ∷ others) before after = IsRefusedBuild (anchored text) before after ⊎ IsOneRefused others before after
 
--- the same of a pattern that may be lacking: then nothing was built
-abbrev pub IsBuilt : Option (List ℕ) → Bool → PatternsSeen → PatternsSeen → Type 0
-IsBuilt None is_refused before after = (is_refused ≡ false) × (after ≡ before)
-IsBuilt (Some text) is_refused before after = IsBuiltOf text is_refused before after
+-- these patterns were built, one after another and no further than to the first that was refused: one was, or all stayed as it was
+abbrev pub IsBuilt : List (List ℕ) → Bool → PatternsSeen → PatternsSeen → Type 0
+IsBuilt texts false before after = after ≡ before
+IsBuilt texts true before after = IsOneRefused texts before after
 
 -- the patterns of the first elements of the documents were built, one after another in the order of the elements, and those of these
 -- elements were refused
@@ -55,7 +56,7 @@ abbrev pub AreBuilt : Purpose → (Site → Bool) → List SchemaDocument → �
 AreBuilt purpose refused documents zero before after = after ≡ before
 AreBuilt purpose refused documents (suc n) before after =
     (between : PatternsSeen) × AreBuilt purpose refused documents n before between
-    × IsBuilt (pattern_at purpose documents (site_at documents n)) (refused (site_at documents n)) between after
+    × IsBuilt (patterns_at purpose documents (site_at documents n)) (refused (site_at documents n)) between after
 
 -- the same of all elements
 abbrev pub AreAllBuilt : Purpose → (Site → Bool) → List SchemaDocument → PatternsSeen → PatternsSeen → Type 0

@@ -1,18 +1,22 @@
--- Mirror for the prover: what is told of a component, by what the rules see of it.
+-- Mirror for the prover: what is told of a component, by what the rules see of it and the group that it hides.
+use Rattle.std.specs.Prelude.{Option}
 use Rattle.dfdl_checks.specs.Boxes.{size_of_box}
 use Rattle.dfdl_checks.specs.Delimiters.{delimiters_of}
 use Rattle.dfdl_checks.specs.Framing.{framing_of}
 use Rattle.dfdl_checks.specs.Judged.{Judged}
 use Rattle.dfdl_checks.specs.Numbers.{primitive_of}
-use Rattle.dfdl_checks.specs.Occurrences.{occurrences_of}
+use Rattle.dfdl_checks.specs.Occurrences.{is_count_parsed, occurrences_of}
 use Rattle.dfdl_checks.specs.Representations.{representations_of}
 use Rattle.dfdl_checks.specs.Rules.{breach_of_component}
+use Rattle.dfdl_checks.specs.Standings.{initiates}
+use Rattle.dfdl_checks.specs.Tests.{tests_of}
+use Rattle.dfdl_components.specs.declared.site.Site.{Site}
 use Rattle.dfdl_breaches.specs.Judging.{form_before}
 use Rattle.dfdl_breaches.specs.declared.judgement.Judgement.{Judgement}
 
 -- what is told
-abbrev pub judgement_of : Judged → Judgement
-judgement_of j = record {
+abbrev pub judgement_of : Option Site → Judged → Judgement
+judgement_of hidden j = record {
   breach = breach_of_component j;
   primitive = primitive_of j;
   framing = framing_of j;
@@ -21,4 +25,8 @@ judgement_of j = record {
   prefix = form_before j;
   others = representations_of j;
   occurs = occurrences_of j;
+  is_parsed = is_count_parsed j;
+  initiates = initiates j;
+  tests = tests_of j;
+  hidden = hidden;
 }

@@ -1,15 +1,18 @@
 -- What is wrong at each component of a schema by itself, how the values of its simple elements lie in the data, which fill, which
--- delimiters and which box stand around its content, which other representations it has, and how often it occurs.
-use Rattle.std.specs.Prelude.{ℕ, List, Option, None, Some, Bool, if◌then◌else◌}
+-- delimiters and which box stand around its content, which other representations it has, how often it occurs, which tests it has, and
+-- which group it hides.
+use Rattle.std.specs.Prelude.{ℕ, List, [], Option, None, Some, Bool, false, if◌then◌else◌}
 use Rattle.dfdl_documents.specs.Documents.{SchemaDocument}
 use Rattle.dfdl_components.specs.declared.site.Site.{Site}
 use Rattle.dfdl_components.specs.Sites.{role_of}
 use Rattle.dfdl_checks.specs.Judged.{Judged}
-use Rattle.dfdl_checks.specs.Occurrences.{occurrences_of}
+use Rattle.dfdl_checks.specs.Occurrences.{is_count_parsed, occurrences_of}
 use Rattle.dfdl_checks.specs.Patterns.{pattern_prefix}
 use Rattle.dfdl_checks.specs.Prefixes.{prefix_of}
 use Rattle.dfdl_checks.specs.Representations.{no_representations, representations_of}
 use Rattle.dfdl_checks.specs.Rules.{breach_of_component}
+use Rattle.dfdl_checks.specs.Standings.{initiates}
+use Rattle.dfdl_checks.specs.Tests.{tests_of}
 use Rattle.dfdl_checks.specs.declared.tried.OtherRepresentations.{OtherRepresentations}
 use Rattle.dfdl_checks.specs.declared.prefixes.PrefixForm.{PrefixForm}
 use Rattle.dfdl_checks.specs.Boxes.{size_of_box}
@@ -22,29 +25,36 @@ use Rattle.dfdl_checks.specs.declared.subject.Breach.{Breach}
 use Rattle.dfdl_chains.specs.Facts.{facts_at}
 use Rattle.dfdl_chains.specs.Kinds.{kind_at}
 use Rattle.dfdl_chains.specs.Parts.{is_component}
+use Rattle.dfdl_chains.specs.Tests.{tests_at}
 use Rattle.dfdl_terms.specs.Framing.{no_fill}
 use Rattle.dfdl_terms.specs.Occurs.{occurs_once}
 use Rattle.dfdl_terms.specs.declared.framing.Framing.{Framing}
 use Rattle.dfdl_terms.specs.declared.occurs.Occurs.{Occurs}
+use Rattle.dfdl_terms.specs.declared.asserting.PatternTest.{PatternTest}
 use Rattle.dfdl_terms.specs.declared.row.Primitive.{Primitive}
 use Rattle.dfdl_breaches.specs.Elements.{place_of}
+use Rattle.dfdl_breaches.specs.Hidden.{content_hidden, facts_where, hides, hiding_at, is_unknown, kind_where, tests_where}
 use Rattle.dfdl_breaches.specs.Prefixes.{prefix_at}
 use Rattle.dfdl_breaches.specs.Roots.{chain_at, root_bits_by}
 use Rattle.dfdl_breaches.specs.Schemes.{scheme_at}
+use Rattle.dfdl_breaches.specs.Standing.{standing_at}
 use Rattle.dfdl_breaches.specs.declared.judgement.Judgement.{Judgement}
 
--- a component as the rules see it, where the patterns of these elements are refused
+-- a component as the rules see it, where patterns of these elements are refused
 abbrev pub judged_at : Purpose → (Site → Bool) → List SchemaDocument → Site → Judged
 judged_at purpose refused documents own = record {
   purpose = purpose;
-  kind = kind_at documents own;
+  kind = kind_where (hides (hiding_at purpose documents own)) (kind_at documents own);
   place = place_of documents own;
   chain = chain_at documents own;
-  facts = facts_at documents own;
+  facts = facts_where (hides (hiding_at purpose documents own)) (facts_at documents own);
   root_bits_by = root_bits_by documents;
   prefix = prefix_at documents own;
   scheme = scheme_at documents own;
   pattern_is_refused = refused own;
+  tests = tests_where (hides (hiding_at purpose documents own)) (tests_at documents own);
+  standing = standing_at documents own;
+  group_is_unknown = is_unknown (hiding_at purpose documents own);
 }
 
 -- the first rule that a component breaks, or else the type of its prefix
@@ -88,6 +98,22 @@ others_at purpose refused documents own = representations_of (judged_at purpose 
 abbrev pub occurrences_at : Purpose → (Site → Bool) → List SchemaDocument → Site → Occurs
 occurrences_at purpose refused documents own = occurrences_of (judged_at purpose refused documents own)
 
+-- the tried occurrences of a component are of kind parsed
+abbrev pub is_parsed_at : Purpose → (Site → Bool) → List SchemaDocument → Site → Bool
+is_parsed_at purpose refused documents own = is_count_parsed (judged_at purpose refused documents own)
+
+-- the content of a component is initiated
+abbrev pub initiates_at : Purpose → (Site → Bool) → List SchemaDocument → Site → Bool
+initiates_at purpose refused documents own = initiates (judged_at purpose refused documents own)
+
+-- the tests of a component
+abbrev pub built_tests_at : Purpose → (Site → Bool) → List SchemaDocument → Site → List PatternTest
+built_tests_at purpose refused documents own = tests_of (judged_at purpose refused documents own)
+
+-- the sequence or choice of the group that a component hides
+abbrev pub hidden_at : Purpose → List SchemaDocument → Site → Option Site
+hidden_at purpose documents own = content_hidden (hiding_at purpose documents own)
+
 -- nothing is told of what is no component
 abbrev pub no_judgement : Judgement
 no_judgement = record {
@@ -99,6 +125,10 @@ no_judgement = record {
   prefix = None;
   others = no_representations;
   occurs = occurs_once;
+  is_parsed = false;
+  initiates = false;
+  tests = [];
+  hidden = None;
 }
 
 -- what is told of an element of the documents
@@ -114,5 +144,9 @@ judgement_at purpose refused documents own =
       prefix = form_of_prefix purpose refused documents own;
       others = others_at purpose refused documents own;
       occurs = occurrences_at purpose refused documents own;
+      is_parsed = is_parsed_at purpose refused documents own;
+      initiates = initiates_at purpose refused documents own;
+      tests = built_tests_at purpose refused documents own;
+      hidden = hidden_at purpose documents own;
     }
     else no_judgement

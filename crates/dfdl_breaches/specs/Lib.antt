@@ -11,3 +11,7 @@ pub mod KeptShown
 pub mod PrefixesShown
 pub mod JudgementShown
 pub mod BuildsShown
+pub mod Hidden
+pub mod Standing
+pub mod GatheredShown
+pub mod StandingShown

@@ -1,5 +1,7 @@
 // What is told of a component.
+use crate::test_list::TestList;
 use dfdl_checks::{Breach, Markup, OtherRepresentations, PrefixForm};
+use dfdl_components::Site;
 use dfdl_terms::{Framing, Occurs, Primitive};
 
 /// What is told of an element of a schema's documents.
@@ -21,4 +23,12 @@ pub struct Judgement {
     pub others: OtherRepresentations,
     /// How often it occurs where it stands.
     pub occurs: Occurs,
+    /// Those of its occurrences that are tried are of occursCountKind parsed.
+    pub is_parsed: bool,
+    /// The content of it, a sequence or a choice, is initiated ('Sequence Groups').
+    pub initiates: bool,
+    /// Its tests of patterns, in their order ('DFDL Schema Component Model').
+    pub tests: TestList,
+    /// It stands for the group of this sequence or choice, whose elements the infoset doesn't have ('Sequence Groups').
+    pub hidden: Option<Site>,
 }

@@ -1,17 +1,22 @@
-// What is told of a component, with the pattern of its length.
+// What is told of a component, with its patterns.
 ghost use Rattle.std.specs.Prelude.{◌≡◌, true, false, IfOk, Some};
 ghost use Rattle.dfdl_length_patterns.specs.Patterns.{anchored};
 ghost use Rattle.dfdl_checks.specs.JudgedShown.{judged_of};
 ghost use Rattle.dfdl_checks.specs.Patterns.{form_by, length_pattern, pattern_prefix};
+ghost use Rattle.dfdl_checks.specs.Tests as tested;
 ghost use Rattle.dfdl_breaches.specs.BuildsShown.{IsToldBy, with_refused};
 ghost use Rattle.dfdl_breaches.specs.Judging.{form_or};
 ghost use Rattle.dfdl_breaches.specs.JudgementShown.{judgement_of};
 
 use crate::judgement::Judgement;
+use crate::test_list::TestList;
+use crate::testing::tests_of;
 use dfdl_checks::{
-    PrefixForm, Subject, breach, delimiters_at, framing, length_pattern, occurrences,
-    other_representations, pattern_encoding, prefix, primitive, size_of_box,
+    PrefixForm, Subject, breach, delimiters_at, framing, initiates, is_count_parsed,
+    length_pattern, occurrences, other_representations, pattern_encoding, prefix, primitive,
+    size_of_box,
 };
+use dfdl_components::Site;
 use dfdl_edge::{PatternRefusal, Patterns};
 use dfdl_forms::Encoding;
 use dfdl_length_patterns::LengthPattern;
@@ -44,14 +49,17 @@ fn form_by(encoding: Option<Encoding>, text: &str, pattern: LengthPattern) -> Op
     }
 }
 
-// What is told of a component, by what the rules see of it and by its pattern.
+// What is told of a component that hides a group or none, by what the rules see of it, its tests and its pattern.
 fn told_of(
     alloc: Global,
     subject: &Subject<'_, '_, '_>,
+    hidden: Option<Site>,
+    tests: TestList,
     pattern: Option<PrefixForm>,
 ) -> Result<Judgement, AllocError>
-    requires { pattern ≡ pattern_prefix (judged_of subject.now) }
-    ensures { IfOk result (λ judgement. judgement ≡ judgement_of (judged_of subject.now)) }
+    requires tests { tests ≡ tested.tests_of (judged_of subject.now) }
+    requires pattern { pattern ≡ pattern_prefix (judged_of subject.now) }
+    ensures { IfOk result (λ judgement. judgement ≡ judgement_of hidden (judged_of subject.now)) }
 {
     let breach = breach(alloc, subject)?;
     let primitive = primitive(alloc, subject)?;
@@ -67,58 +75,93 @@ fn told_of(
         prefix: form_or(prefix, pattern),
         others,
         occurs: occurrences(subject),
+        is_parsed: is_count_parsed(subject),
+        initiates: initiates(subject),
+        tests,
+        hidden,
     })
 }
 
-// What is told of a component whose pattern can't be built.
-fn told_of_refused(alloc: Global, subject: &Subject<'_, '_, '_>) -> Result<Judgement, AllocError>
-    ensures { IfOk result (λ judgement. judgement ≡ judgement_of (with_refused true (judged_of subject.now))) }
+// What is told of a component one of whose patterns can't be built.
+fn told_of_refused(
+    alloc: Global,
+    subject: &Subject<'_, '_, '_>,
+    hidden: Option<Site>,
+) -> Result<Judgement, AllocError>
+    ensures { IfOk result (λ judgement. judgement ≡ judgement_of hidden (with_refused true (judged_of subject.now))) }
 {
     let subject = Subject {
         pattern_is_refused: true,
         ..*subject
     };
-    told_of(alloc, &subject, None)
+    let tests = TestList::from_vec(Vec::new(alloc));
+    told_of(alloc, &subject, hidden, tests, None)
 }
 
-// What is told of a component whose length a pattern of this text tells.
+// What is told of a component with these tests, whose length a pattern of this text tells.
 fn judge_by<P: Patterns>(
     alloc: Global,
     subject: &Subject<'_, '_, '_>,
+    hidden: Option<Site>,
+    tests: TestList,
     text: &str,
     patterns: &mut P,
 ) -> Result<Judgement, AllocError>
     requires subject { subject.now.pattern_is_refused ≡ false }
+    requires tests { tests ≡ tested.tests_of (judged_of subject.now) }
     requires text { Some text.now ≡ length_pattern (judged_of subject.now) }
-    ensures { IsToldBy (length_pattern (judged_of subject.now))
-        (λ is_refused. judgement_of (with_refused is_refused (judged_of subject.now)))
+    ensures { IsToldBy (tested.listed (length_pattern (judged_of subject.now)))
+        (λ is_refused. judgement_of hidden (with_refused is_refused (judged_of subject.now)))
         (record { faults = P.faults patterns.old; last = P.last_refused patterns.old })
         (record { faults = P.faults patterns.new; last = P.last_refused patterns.new }) result }
 {
     match LengthPattern::build(alloc, patterns, text) {
         Ok(pattern) => {
             let form = form_by(pattern_encoding(subject), text, pattern);
-            told_of(alloc, subject, form)
+            told_of(alloc, subject, hidden, tests, form)
         }
-        Err(PatternRefusal::Refused) => told_of_refused(alloc, subject),
+        Err(PatternRefusal::Refused) => told_of_refused(alloc, subject, hidden),
         Err(PatternRefusal::OutOfMemory) => Err(AllocError),
     }
 }
 
-/// What is told of a component. The pattern that tells its length is built once.
-pub(crate) fn judge<P: Patterns>(
+// What is told of a component with these tests. The pattern that tells its length is built.
+fn judge_tested<P: Patterns>(
     alloc: Global,
     subject: &Subject<'_, '_, '_>,
+    hidden: Option<Site>,
+    tests: TestList,
     patterns: &mut P,
 ) -> Result<Judgement, AllocError>
-    requires { subject.now.pattern_is_refused ≡ false }
-    ensures { IsToldBy (length_pattern (judged_of subject.now))
-        (λ is_refused. judgement_of (with_refused is_refused (judged_of subject.now)))
+    requires subject { subject.now.pattern_is_refused ≡ false }
+    requires tests { tests ≡ tested.tests_of (judged_of subject.now) }
+    ensures { IsToldBy (tested.listed (length_pattern (judged_of subject.now)))
+        (λ is_refused. judgement_of hidden (with_refused is_refused (judged_of subject.now)))
         (record { faults = P.faults patterns.old; last = P.last_refused patterns.old })
         (record { faults = P.faults patterns.new; last = P.last_refused patterns.new }) result }
 {
     match length_pattern(subject) {
-        Some(text) => judge_by(alloc, subject, text, patterns),
-        None => told_of(alloc, subject, None),
+        Some(text) => judge_by(alloc, subject, hidden, tests, text, patterns),
+        None => told_of(alloc, subject, hidden, tests, None),
+    }
+}
+
+/// What is told of a component that hides a group or none. Each of its patterns is built once, those of its tests first.
+pub(crate) fn judge<P: Patterns>(
+    alloc: Global,
+    subject: &Subject<'_, '_, '_>,
+    hidden: Option<Site>,
+    patterns: &mut P,
+) -> Result<Judgement, AllocError>
+    requires { subject.now.pattern_is_refused ≡ false }
+    ensures { IsToldBy (tested.patterns_of (judged_of subject.now))
+        (λ is_refused. judgement_of hidden (with_refused is_refused (judged_of subject.now)))
+        (record { faults = P.faults patterns.old; last = P.last_refused patterns.old })
+        (record { faults = P.faults patterns.new; last = P.last_refused patterns.new }) result }
+{
+    match tests_of(alloc, subject, patterns) {
+        Ok(tests) => judge_tested(alloc, subject, hidden, tests, patterns),
+        Err(PatternRefusal::Refused) => told_of_refused(alloc, subject, hidden),
+        Err(PatternRefusal::OutOfMemory) => Err(AllocError),
     }
 }

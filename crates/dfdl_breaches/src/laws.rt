@@ -1,5 +1,5 @@
 // Laws of the definitions that the contracts cite. The calls do nothing.
-ghost use Rattle.std.specs.Prelude.{◌≡◌, Bool, false, List, Some, None, IsTrue, IsSome};
+ghost use Rattle.std.specs.Prelude.{◌≡◌, ◌≢◌, [], Bool, false, List, Some, None, IsTrue, IsSome};
 ghost use Rattle.dfdl_terms.specs.Rows.{IsPrimitive, IsWritten};
 ghost use Rattle.dfdl_terms.specs.declared.row.Primitive.{Primitive};
 ghost use Rattle.dfdl_terms.specs.declared.row.Primitive.TheVariants.{Default};
@@ -16,9 +16,10 @@ ghost use Rattle.dfdl_checks.specs.declared.purpose.Purpose.{Purpose};
 ghost use Rattle.dfdl_checks.specs.declared.purpose.Purpose.TheVariants.{Unparsing};
 ghost use Rattle.dfdl_chains.specs.Kinds.{kind_at};
 ghost use Rattle.dfdl_checks.specs.declared.prefixes.PrefixForm.{PrefixForm};
-ghost use Rattle.dfdl_breaches.specs.Builds.{AreAllBuilt, PatternsSeen, pattern_at};
-ghost use Rattle.dfdl_breaches.specs.Judging.{breach_at, form_of_prefix, others_at, primitive_at};
+ghost use Rattle.dfdl_breaches.specs.Builds.{AreAllBuilt, PatternsSeen, patterns_at};
+ghost use Rattle.dfdl_breaches.specs.Judging.{breach_at, built_tests_at, form_of_prefix, hidden_at, initiates_at, is_parsed_at, others_at, primitive_at};
 
+use dfdl_chains::named_groups_are_within;
 use dfdl_checks::laws::{
     prefixes_are_bounded, primitives_are_bounded, primitives_for_unparsing_are_whole,
     representations_are_bounded, sound_elements_have_primitives,
@@ -54,13 +55,31 @@ pub fn sound_elements_have_bounded_primitives()
     primitives_for_unparsing_are_whole();
 }
 
-/// What the builds of the patterns of a schema tell: one that is refused is that of an element with a pattern, and the count of refused
+/// For unparsing no test is built, no component hides a group, no content is initiated, and no occurrence is of kind parsed.
+#[tactic(auto, using(crate::proofs::HiddenKinds::untested, crate::proofs::HiddenKinds::unhidden))]
+pub fn statements_are_for_parsing()
+    ensures tests { (refused : Site → Bool) (documents : List SchemaDocument) (own : Site) → built_tests_at Unparsing refused documents own ≡ [] }
+    ensures hidden { (documents : List SchemaDocument) (own : Site) → hidden_at Unparsing documents own ≡ None }
+    ensures initiated { (refused : Site → Bool) (documents : List SchemaDocument) (own : Site) → initiates_at Unparsing refused documents own ≡ false }
+    ensures counted { (refused : Site → Bool) (documents : List SchemaDocument) (own : Site) → is_parsed_at Unparsing refused documents own ≡ false }
+{}
+
+/// A group that a component hides is one of the documents'.
+#[tactic(auto, using(crate::proofs::HiddenKinds::hidden_within))]
+pub fn hidden_groups_are_within()
+    ensures { (purpose : Purpose) (documents : List SchemaDocument) (own content : Site) → hidden_at purpose documents own ≡ Some content
+        → IsSite documents content }
+{
+    named_groups_are_within();
+}
+
+/// What the builds of the patterns of a schema tell: one that is refused is one of those of an element that has some, and the count of refused
 /// builds rises. Where none is refused, and for unparsing, what builds patterns is left as it was.
 #[tactic(auto, using(crate::proofs::Refusals::has_pattern, crate::proofs::Refusals::rises, crate::proofs::Refusals::still, crate::proofs::Refusals::unparsed))]
 pub fn refused_patterns_are_told()
     ensures told { (purpose : Purpose) (refused : Site → Bool) (documents : List SchemaDocument) (old new : PatternsSeen) (own : Site)
         → AreAllBuilt purpose refused documents old new → IsSite documents own → IsTrue (refused own)
-        → IsSome (pattern_at purpose documents own) }
+        → patterns_at purpose documents own ≢ [] }
     ensures rose { (purpose : Purpose) (refused : Site → Bool) (documents : List SchemaDocument) (old new : PatternsSeen) (own : Site)
         → AreAllBuilt purpose refused documents old new → IsSite documents own → IsTrue (refused own) → Rose old.faults new.faults }
     ensures still { (purpose : Purpose) (refused : Site → Bool) (documents : List SchemaDocument) (old new : PatternsSeen)

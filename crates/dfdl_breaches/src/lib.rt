@@ -5,14 +5,17 @@
 //! (`specs/References.antt` of dfdl_references), each joined once with those that it refers to (`specs/Formats.antt`), and the
 //! default formats of their documents (`specs/Elements.antt`). The type of its length prefix is judged with it, by a chain of
 //! its own (`specs/Prefixes.antt`), with the escape scheme that it names (`specs/Schemes.antt`), and the pattern of its length is
-//! built (`specs/Builds.antt`). The contract of `breaches` cites `specs/Judging.antt`. It serves the chapter 'Property
-//! Scoping and DFDL Schema Checking'.
+//! built with those of its tests (`specs/Builds.antt`). A sequence that stands for a hidden group is judged by that name alone
+//! (`specs/Hidden.antt`), and what groups ask of their parts is told by `specs/Standing.antt`. The contract of `breaches` cites
+//! `specs/Judging.antt`. It serves the chapter 'Property Scoping and DFDL Schema Checking'.
 #![tactic(auto)]
 
 mod chain;
 mod entries;
 mod entry;
 mod formats;
+mod gathered;
+mod hiding;
 mod judgement;
 mod judging;
 mod kept;
@@ -21,8 +24,12 @@ mod prefixes;
 mod root;
 mod schemes;
 mod sites;
+mod standing;
 mod telling;
+mod test_list;
+mod testing;
 
 pub use judgement::Judgement;
 pub use root::root_of;
 pub use telling::breaches;
+pub use test_list::TestList;

@@ -3,26 +3,34 @@ ghost use Rattle.std.specs.Prelude.{◌≡◌, All, IfOk, IfErr};
 ghost use Rattle.dfdl_components.specs.Rules.{loading_rules, AllKeep};
 ghost use Rattle.dfdl_components.specs.Sites.{IsSite};
 ghost use Rattle.dfdl_chains.specs.Chains.{chain_sites};
-ghost use Rattle.dfdl_checks.specs.Patterns.{length_pattern};
-ghost use Rattle.dfdl_breaches.specs.Builds.{AreBuiltInPart, AreJudged, always, never, pattern_at};
+ghost use Rattle.dfdl_checks.specs.Tests.{patterns_of};
+ghost use Rattle.dfdl_breaches.specs.Builds.{AreBuiltInPart, AreJudged, always, never, patterns_at};
 ghost use Rattle.dfdl_breaches.specs.BuildsShown.{IsPushed, IsToldBy};
+ghost use Rattle.dfdl_breaches.specs.GatheredShown.{IsGathered};
 ghost use Rattle.dfdl_breaches.specs.JudgementShown.{judgement_of};
-ghost use Rattle.dfdl_breaches.specs.Judging.{judged_at, judgement_at, no_judgement};
+ghost use Rattle.dfdl_breaches.specs.Judging.{hidden_at, judged_at, judgement_at, no_judgement};
 ghost use Rattle.dfdl_breaches.specs.KeptShown.{AreKept};
 ghost use Rattle.dfdl_breaches.specs.Roots as spec;
+ghost use Rattle.dfdl_breaches.specs.Standing.{standing_at};
+ghost use Rattle.dfdl_breaches.specs.StandingShown.{AreStandings};
 
 use crate::chain::chain_at;
 use crate::entries::entries_of;
 use crate::formats::formats_of;
+use crate::gathered::{Gathered, gather};
+use crate::hiding::{
+    content_hidden, facts_where, hides, hiding_at, is_unknown, kind_where, tests_where,
+};
 use crate::judgement::Judgement;
 use crate::judging::judge;
 use crate::kept::Kept;
-use crate::prefixes::{lent, prefix_at};
+use crate::prefixes::lent;
 use crate::root::root_of;
-use crate::schemes::scheme_of;
 use crate::sites::sites_of;
+use crate::standing::{standing_at, standings_of};
+use crate::test_list::TestList;
 use dfdl_chains::{chain_sites, facts_at, is_component, kind_at};
-use dfdl_checks::{Markup, OtherRepresentations, Purpose, Subject, bit_order};
+use dfdl_checks::{Markup, OtherRepresentations, Purpose, Standing, Subject, bit_order};
 use dfdl_components::{Schema, Site};
 use dfdl_edge::Patterns;
 use dfdl_forms::BitOrder;
@@ -62,6 +70,52 @@ fn root_bits_by(alloc: Global, kept: &Kept<'_, '_>, schema: &Schema) -> Result<B
     bit_order_at(alloc, kept, schema, root, chain.as_slice())
 }
 
+// What is told of a component whose chain has these elements, by what is gathered of it.
+fn judged_by<'p, 'e, 's, P: Patterns>(
+    alloc: Global,
+    kept: &Kept<'_, 's>,
+    schema: &'s Schema,
+    purpose: Purpose,
+    bits_by: BitOrder,
+    site: Site,
+    standing: Standing,
+    sites: &[Site],
+    own: &'p Gathered<'e, 's>,
+    patterns: &mut P,
+) -> Result<Judgement, AllocError>
+    requires kept { AreKept schema.now kept.now }
+    requires order { bits_by ≡ spec.root_bits_by schema.now }
+    requires site { IsSite schema.now site }
+    requires standing { standing ≡ standing_at schema.now site }
+    requires chain { sites.now ≡ chain_sites schema.now site }
+    requires within { All (IsSite schema.now) sites.now }
+    requires own { IsGathered schema.now site own.now }
+    ensures { IsToldBy (patterns_of (judged_at purpose never schema.now site))
+        (λ is_refused. judgement_of (hidden_at purpose schema.now site) (judged_at purpose (always is_refused) schema.now site))
+        (record { faults = P.faults patterns.old; last = P.last_refused patterns.old })
+        (record { faults = P.faults patterns.new; last = P.last_refused patterns.new }) result }
+{
+    let kind = kind_at(schema, &kept.sites.numbers, site);
+    let facts = facts_at(schema, site, sites);
+    let hiding = hiding_at(schema, purpose, kind, facts, site, sites, &own.chain);
+    let is_hidden = hides(hiding);
+    let subject = Subject {
+        purpose,
+        kind: kind_where(is_hidden, kind),
+        place: schema.place(site),
+        chain: &own.chain,
+        facts: facts_where(is_hidden, facts),
+        root_bits_by: bits_by,
+        prefix: lent(&own.prefix),
+        scheme: own.scheme,
+        pattern_is_refused: false,
+        tests: tests_where(is_hidden, own.tests.as_slice()),
+        standing,
+        group_is_unknown: is_unknown(hiding),
+    };
+    judge(alloc, &subject, content_hidden(hiding), patterns)
+}
+
 // What is told of a component whose chain has these elements.
 fn judged<'s, P: Patterns>(
     alloc: Global,
@@ -70,34 +124,25 @@ fn judged<'s, P: Patterns>(
     purpose: Purpose,
     bits_by: BitOrder,
     site: Site,
+    standing: Standing,
     sites: &[Site],
     patterns: &mut P,
 ) -> Result<Judgement, AllocError>
     requires kept { AreKept schema.now kept.now }
     requires order { bits_by ≡ spec.root_bits_by schema.now }
     requires site { IsSite schema.now site }
+    requires standing { standing ≡ standing_at schema.now site }
     requires chain { sites.now ≡ chain_sites schema.now site }
     requires within { All (IsSite schema.now) sites.now }
-    ensures { IsToldBy (length_pattern (judged_at purpose never schema.now site))
-        (λ is_refused. judgement_of (judged_at purpose (always is_refused) schema.now site))
+    ensures { IsToldBy (patterns_of (judged_at purpose never schema.now site))
+        (λ is_refused. judgement_of (hidden_at purpose schema.now site) (judged_at purpose (always is_refused) schema.now site))
         (record { faults = P.faults patterns.old; last = P.last_refused patterns.old })
         (record { faults = P.faults patterns.new; last = P.last_refused patterns.new }) result }
 {
-    let chain = chain_at(alloc, kept, schema, sites)?;
-    let prefix = prefix_at(alloc, kept, schema, site, sites, &chain)?;
-    let scheme = scheme_of(alloc, schema, sites, &chain)?;
-    let subject = Subject {
-        purpose,
-        kind: kind_at(schema, &kept.sites.numbers, site),
-        place: schema.place(site),
-        chain: &chain,
-        facts: facts_at(schema, site, sites),
-        root_bits_by: bits_by,
-        prefix: lent(&prefix),
-        scheme,
-        pattern_is_refused: false,
-    };
-    judge(alloc, &subject, patterns)
+    let own = gather(alloc, kept, schema, site, sites)?;
+    judged_by(
+        alloc, kept, schema, purpose, bits_by, site, standing, sites, &own, patterns,
+    )
 }
 
 // What is told of an element. The list takes its chain.
@@ -108,19 +153,21 @@ fn judgement<'s, P: Patterns>(
     purpose: Purpose,
     bits_by: BitOrder,
     site: Site,
+    standing: Standing,
     chain: &mut Vec<Site>,
     patterns: &mut P,
 ) -> Result<Judgement, AllocError>
     requires kept { AreKept schema.now kept.now }
     requires order { bits_by ≡ spec.root_bits_by schema.now }
     requires site { IsSite schema.now site }
-    ensures { IsToldBy (pattern_at purpose schema.now site)
+    requires standing { standing ≡ standing_at schema.now site }
+    ensures { IsToldBy (patterns_at purpose schema.now site)
         (λ is_refused. judgement_at purpose (always is_refused) schema.now site)
         (record { faults = P.faults patterns.old; last = P.last_refused patterns.old })
         (record { faults = P.faults patterns.new; last = P.last_refused patterns.new }) result }
 {
     if !is_component(schema.role(site)) {
-        return Ok(nothing_told());
+        return Ok(nothing_told(alloc));
     }
     chain_sites(schema, &kept.sites.numbers, site, chain)?;
     judged(
@@ -130,13 +177,14 @@ fn judgement<'s, P: Patterns>(
         purpose,
         bits_by,
         site,
+        standing,
         chain.as_slice(),
         patterns,
     )
 }
 
 // Nothing is told of what is no component.
-fn nothing_told() -> Judgement
+fn nothing_told(alloc: Global) -> Judgement
     ensures { result ≡ no_judgement }
 {
     Judgement {
@@ -161,6 +209,10 @@ fn nothing_told() -> Judgement
             further: 0,
             is_item: false,
         },
+        is_parsed: false,
+        initiates: false,
+        tests: TestList::from_vec(Vec::new(alloc)),
+        hidden: None,
     }
 }
 
@@ -172,6 +224,7 @@ fn push_judgement<'s, P: Patterns>(
     purpose: Purpose,
     bits_by: BitOrder,
     site: Site,
+    standing: Standing,
     chain: &mut Vec<Site>,
     patterns: &mut P,
     judgements: &mut Vec<Judgement>,
@@ -179,13 +232,16 @@ fn push_judgement<'s, P: Patterns>(
     requires kept { AreKept schema.now kept.now }
     requires order { bits_by ≡ spec.root_bits_by schema.now }
     requires site { IsSite schema.now site }
-    ensures { IsPushed (pattern_at purpose schema.now site)
+    requires standing { standing ≡ standing_at schema.now site }
+    ensures { IsPushed (patterns_at purpose schema.now site)
         (λ is_refused. judgement_at purpose (always is_refused) schema.now site)
         (record { faults = P.faults patterns.old; last = P.last_refused patterns.old })
         (record { faults = P.faults patterns.new; last = P.last_refused patterns.new })
         judgements.old.items judgements.new.items result }
 {
-    let judgement = judgement(alloc, kept, schema, purpose, bits_by, site, chain, patterns)?;
+    let judgement = judgement(
+        alloc, kept, schema, purpose, bits_by, site, standing, chain, patterns,
+    )?;
     judgements.push(judgement)?;
     Ok(())
 }
@@ -197,10 +253,12 @@ fn judgements<'s, P: Patterns>(
     schema: &'s Schema,
     purpose: Purpose,
     bits_by: BitOrder,
+    standings: &[Standing],
     patterns: &mut P,
 ) -> Result<Vec<Judgement>, AllocError>
     requires kept { AreKept schema.now kept.now }
     requires order { bits_by ≡ spec.root_bits_by schema.now }
+    requires standings { AreStandings schema.now standings.now }
     ensures judged { IfOk result (λ judgements. AreJudged purpose schema.now
         (record { faults = P.faults patterns.old; last = P.last_refused patterns.old })
         (record { faults = P.faults patterns.new; last = P.last_refused patterns.new }) judgements.items) }
@@ -218,6 +276,7 @@ fn judgements<'s, P: Patterns>(
             purpose,
             bits_by,
             *site,
+            standing_at(kept, schema, standings, *site),
             &mut chain,
             patterns,
             &mut judgements,
@@ -227,11 +286,12 @@ fn judgements<'s, P: Patterns>(
 }
 
 /// What is told of each element of a schema's documents, in the order of their numbers: of a component
-/// the first rule that it breaks, how its values, what tells its length and its other representations lie in the data, and the fill
-/// and the box around its content; of every other element nothing.
+/// the first rule that it breaks, how its values, what tells its length and its other representations lie in the data, the fill
+/// and the box around its content, its tests, and the group that it hides; of every other element nothing.
 ///
 /// What its rows are made for decides which forms are built. The order of bits is that of the root, which is found once. The
-/// properties of each element are collected once, and each format is joined once. The pattern of each component's length is built
+/// properties of each element are collected once, and each format is joined once. What groups ask of their parts is noted once, before
+/// all else. The patterns of each component's tests and length are built
 /// once, in the order of the elements; one that `patterns` refuses is a rule that the component breaks.
 pub fn breaches<P: Patterns>(
     alloc: Global,
@@ -258,5 +318,14 @@ pub fn breaches<P: Patterns>(
         nothing: &nothing,
     };
     let bits_by = root_bits_by(alloc, &kept, schema)?;
-    judgements(alloc, &kept, schema, purpose, bits_by, patterns)
+    let standings = standings_of(alloc, &kept, schema)?;
+    judgements(
+        alloc,
+        &kept,
+        schema,
+        purpose,
+        bits_by,
+        standings.as_slice(),
+        patterns,
+    )
 }

@@ -4,3 +4,4 @@ mod Deriving
 mod Finding
 mod Digits
 mod Naming
+mod GroupsNamed

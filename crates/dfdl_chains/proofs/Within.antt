@@ -139,6 +139,13 @@ referred_is_within documents from k = component_within documents (named_if docum
 pub referred_within : (documents : List SchemaDocument) (from : Site) (k : ComponentKind) (o : Option Site) → o ≡ referred documents from k → IfSome o (IsSite documents)
 referred_within documents from k o is = subst (λ (p : Option Site). IfSome p (IsSite documents)) (sym is) (referred_is_within documents from k)
 
+-- the group that a text names
+pub named_group_within : (documents : List SchemaDocument) (from : Site) (text : List ℕ) (o : Option Site)
+    → o ≡ component_of (resolved documents from kind.Group text) → IfSome o (IsSite documents)
+named_group_within documents from text o is =
+    subst (λ (p : Option Site). IfSome p (IsSite documents)) (sym is)
+    (component_within documents (resolved documents from kind.Group text) (resolved_within documents from kind.Group text))
+
 -- a component or the element itself
 itself_within : (documents : List SchemaDocument) (own : Site) (o : Option Site) → IsSite documents own → IfSome o (IsSite documents) → IsSite documents (or_itself own o)
 itself_within documents own None within other = within

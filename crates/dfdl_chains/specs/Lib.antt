@@ -10,3 +10,5 @@ pub mod Everywhere
 pub mod Shown
 pub mod Prefixes
 pub mod NamedShown
+pub mod Tests
+pub mod Hidden

@@ -26,7 +26,7 @@ fn named_if(schema: &Schema, site: Site, kind: ComponentKind, text: Option<&str>
 }
 
 // The global component, where that is what is named.
-fn component_of(named: Option<Named>) -> Option<Site>
+pub(crate) fn component_of(named: Option<Named>) -> Option<Site>
     ensures { result ≡ declarations.component_of named }
 {
     match named {

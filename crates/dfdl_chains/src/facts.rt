@@ -115,12 +115,12 @@ fn default_of<'s>(schema: &'s Schema, site: Site) -> Option<&'s str>
     attribute(schema, declaration(schema, site), "default")
 }
 
-// A statement.
-fn is_statement(role: Role) -> bool
-    ensures { result ≡ spec.is_statement role }
+// A setVariable or a newVariableInstance.
+fn is_setting(role: Role) -> bool
+    ensures { result ≡ spec.is_setting role }
 {
     match role {
-        Role::Assert | Role::Discriminator | Role::SetVariable | Role::NewVariableInstance => true,
+        Role::SetVariable | Role::NewVariableInstance => true,
         _ => false,
     }
 }
@@ -135,99 +135,99 @@ fn is_annotation(role: Role) -> bool
     }
 }
 
-// An element of the document is a statement.
-fn is_statement_at(schema: &Schema, site: Site) -> bool
+// An element of the document is such a statement.
+fn is_setting_at(schema: &Schema, site: Site) -> bool
     requires { site.document < length schema.now }
-    ensures { result ≡ spec.is_statement_at (nodes_of schema.now site.document) site.element }
+    ensures { result ≡ spec.is_setting_at (nodes_of schema.now site.document) site.element }
 {
-    site.element < schema.tree(site.document).count() && is_statement(schema.role(site))
+    site.element < schema.tree(site.document).count() && is_setting(schema.role(site))
 }
 
 // An element of the document is an annotation, or the part of one that holds annotations of DFDL's.
-fn is_annotation_at(schema: &Schema, site: Site) -> bool
+pub(crate) fn is_annotation_at(schema: &Schema, site: Site) -> bool
     requires { site.document < length schema.now }
     ensures { result ≡ spec.is_annotation_at (nodes_of schema.now site.document) site.element }
 {
     site.element < schema.tree(site.document).count() && is_annotation(schema.role(site))
 }
 
-// A statement stands in an element.
-fn has_statement(schema: &Schema, site: Site) -> bool
+// Such a statement stands in an element.
+fn has_setting(schema: &Schema, site: Site) -> bool
     requires { IsSite schema.now site }
-    ensures { result ≡ list_any (spec.is_statement_at (nodes_of schema.now site.document))
+    ensures { result ≡ list_any (spec.is_setting_at (nodes_of schema.now site.document))
         (node_at (nodes_of schema.now site.document) site.element).children }
 {
     let document = site.document;
     for child in schema.tree(document).children(site.element) {
         let element = *child;
-        if is_statement_at(schema, Site { document, element }) {
+        if is_setting_at(schema, Site { document, element }) {
             return true;
         }
     }
     false
 }
 
-// A statement stands in the annotations of DFDL's at this element.
-fn states_in(schema: &Schema, site: Site) -> bool
+// Such a statement stands in the annotations of DFDL's at this element.
+fn sets_in(schema: &Schema, site: Site) -> bool
     requires { site.document < length schema.now }
-    ensures { result ≡ spec.states_in (nodes_of schema.now site.document) site.element }
+    ensures { result ≡ spec.sets_in (nodes_of schema.now site.document) site.element }
 {
-    is_annotation_at(schema, site) && has_statement(schema, site)
+    is_annotation_at(schema, site) && has_setting(schema, site)
 }
 
-// A statement stands in one of the annotations of DFDL's in an annotation.
-fn has_stating(schema: &Schema, site: Site) -> bool
+// Such a statement stands in one of the annotations of DFDL's in an annotation.
+fn has_settings(schema: &Schema, site: Site) -> bool
     requires { IsSite schema.now site }
-    ensures { result ≡ list_any (spec.states_in (nodes_of schema.now site.document))
+    ensures { result ≡ list_any (spec.sets_in (nodes_of schema.now site.document))
         (node_at (nodes_of schema.now site.document) site.element).children }
 {
     let document = site.document;
     for child in schema.tree(document).children(site.element) {
         let element = *child;
-        if states_in(schema, Site { document, element }) {
+        if sets_in(schema, Site { document, element }) {
             return true;
         }
     }
     false
 }
 
-// A statement stands in the annotation.
-fn states_at(schema: &Schema, site: Site) -> bool
+// Such a statement stands in the annotation.
+fn sets_at(schema: &Schema, site: Site) -> bool
     requires { site.document < length schema.now }
-    ensures { result ≡ spec.states_at (nodes_of schema.now site.document) site.element }
+    ensures { result ≡ spec.sets_at (nodes_of schema.now site.document) site.element }
 {
-    is_annotation_at(schema, site) && has_stating(schema, site)
+    is_annotation_at(schema, site) && has_settings(schema, site)
 }
 
-// A statement stands in the annotations of an element.
-fn has_own_statements(schema: &Schema, site: Site) -> bool
+// Such a statement stands in the annotations of an element.
+fn has_own_settings(schema: &Schema, site: Site) -> bool
     requires { IsSite schema.now site }
-    ensures { result ≡ spec.has_own_statements schema.now site }
+    ensures { result ≡ spec.has_own_settings schema.now site }
 {
     let document = site.document;
     for child in schema.tree(document).children(site.element) {
         let element = *child;
-        if states_at(schema, Site { document, element }) {
+        if sets_at(schema, Site { document, element }) {
             return true;
         }
     }
     false
 }
 
-// A statement stands in the annotations of one of these.
-fn have_statements(schema: &Schema, chain: &[Site]) -> bool
+// Such a statement stands in the annotations of one of these.
+fn have_settings(schema: &Schema, chain: &[Site]) -> bool
     requires { All (IsSite schema.now) chain.now }
-    ensures { result ≡ list_any (spec.has_own_statements schema.now) chain.now }
+    ensures { result ≡ list_any (spec.has_own_settings schema.now) chain.now }
 {
     for site in chain {
-        if has_own_statements(schema, *site) {
+        if has_own_settings(schema, *site) {
             return true;
         }
     }
     false
 }
 
-/// What a component with this chain states.
+/// What a component with this chain states besides its properties and tests.
 #[tactic(auto, using(crate::proofs::Within::chain_within), unfolding(crate::specs::Facts::facts_at))]
 pub fn facts_at<'s>(schema: &'s Schema, site: Site, chain: &[Site]) -> Facts<'s>
     requires site { IsSite schema.now site }
@@ -238,7 +238,7 @@ pub fn facts_at<'s>(schema: &'s Schema, site: Site, chain: &[Site]) -> Facts<'s>
         bounds: bounds_of(schema, site),
         is_nillable: is_nillable(schema, site),
         default: default_of(schema, site),
-        has_statements: have_statements(schema, chain),
+        sets_variables: have_settings(schema, chain),
         is_empty: is_empty(schema, site),
         max_length: max_length(schema, site, chain),
     }

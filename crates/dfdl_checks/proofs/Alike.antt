@@ -50,4 +50,7 @@ same-component a b alike = λ i. record {
   prefix = same-prefix a.prefix b.prefix alike.prefix i;
   scheme = alike.scheme i;
   pattern_is_refused = alike.pattern_is_refused i;
+  tests = alike.tests i;
+  standing = alike.standing i;
+  group_is_unknown = alike.group_is_unknown i;
 }

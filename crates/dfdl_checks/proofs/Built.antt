@@ -6,7 +6,7 @@ use Rattle.dfdl_scope.specs.Expressions.{literal}
 use Rattle.dfdl_scope.specs.Scoping.{Told, Value, Absent, Twice}
 use Rattle.dfdl_scope.specs.Table.{Row, row, Words, Missing, property_table, row_named}
 use Rattle.dfdl_checks.proofs.Flawless.{flawless, HasNoFlaw, HasBuilt, value-built, given-built, among-words}
-use Rattle.dfdl_checks.proofs.Kept.{IsKept, expressions-kept, values-kept}
+use Rattle.dfdl_checks.proofs.Kept.{IsKept, expressions-kept, given-kept, values-kept}
 use Rattle.dfdl_checks.proofs.Once.{is_twice, told-once}
 use Rattle.dfdl_checks.specs.Applying.{is_bearer}
 use Rattle.dfdl_checks.specs.Flaws.{has_flaw}
@@ -28,7 +28,7 @@ pub flawless-by : (s : Judged) → IsKept s → (i : ℕ) (a : Applicability) �
     → (r : Row) → row_named property_table a.name ≡ Some r → HasNoFlaw r (built_for s.purpose a) (told_at s a.name)
 flawless-by s kept i a there bearer r named = record {
   unbuilt = flawless flaws.Unbuilt s (last (is_later_component s) (has_flaw flaws.Unbuilt s) kept.built) i a there bearer r named;
-  missing = flawless flaws.Missing s kept.given i a there bearer r named;
+  missing = flawless flaws.Missing s (given-kept s kept) i a there bearer r named;
   not_carried = flawless flaws.NotCarried s carried i a there bearer r named;
   expression = flawless flaws.Expression s (expressions-kept s kept) i a there bearer r named;
 }

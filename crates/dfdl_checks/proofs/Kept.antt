@@ -12,6 +12,8 @@ use Rattle.dfdl_checks.specs.Flaws.{has_flaw}
 use Rattle.dfdl_checks.specs.NewLines.{is_new_line_expression, is_new_line_other}
 use Rattle.dfdl_checks.specs.NilValues.{is_nil_not_allowed}
 use Rattle.dfdl_checks.specs.Occurrences.{are_bounds_unfit}
+use Rattle.dfdl_checks.specs.Standings.{is_initiator_missing, is_unbounded_not_allowed}
+use Rattle.dfdl_checks.specs.Tests.{are_tests_other, are_tests_together, is_test_pattern_missing}
 use Rattle.dfdl_checks.specs.Nils.{is_nil_malformed, is_nil_not_encoded}
 use Rattle.dfdl_checks.specs.declared.flaw.Flaw.TheVariants as flaws
 use Rattle.dfdl_checks.specs.Judged.{Judged}
@@ -44,7 +46,10 @@ pub record IsKept (s : Judged) : Type 0 where
   pub pad_single : is_pad_no_character s ≡ false
   pub nil : is_nil_not_allowed s ≡ false
   pub by_default : is_default_not_allowed s ≡ false
+  pub unbounded : is_unbounded_not_allowed s ≡ false
   pub bounds : are_bounds_unfit s ≡ false
+  pub tests : are_tests_together s ≡ false
+  pub initiated : is_initiator_missing s ≡ false
   pub scheme : is_scheme_malformed s ≡ false
 
 -- no rule of some is broken: neither the first one nor another
@@ -87,8 +92,11 @@ keeps-all s none =
     let pad_single_at = first-kept causes.PadCharacter _ _ truths_at.1 in
     let nil_at = first-kept causes.NilNotAllowed _ _ pad_single_at.1 in
     let by_default_at = first-kept causes.DefaultNotAValue _ _ nil_at.1 in
-    let bounds_at = first-kept causes.OccurrenceBounds _ _ by_default_at.1 in
-    let scheme_at = first-kept causes.EscapeScheme _ _ bounds_at.1 in
+    let unbounded_at = first-kept causes.UnboundedElement _ _ by_default_at.1 in
+    let bounds_at = first-kept causes.OccurrenceBounds _ _ unbounded_at.1 in
+    let tests_at = first-kept causes.TestsTogether _ _ bounds_at.1 in
+    let initiated_at = first-kept causes.NoInitiator _ _ tests_at.1 in
+    let scheme_at = first-kept causes.EscapeScheme _ _ initiated_at.1 in
     record {
       built = itself-kept _ s.place built_at.0;
       once = once_at.0;
@@ -115,7 +123,10 @@ keeps-all s none =
       pad_single = itself-kept _ s.place pad_single_at.0;
       nil = itself-kept _ s.place nil_at.0;
       by_default = itself-kept _ s.place by_default_at.0;
+      unbounded = itself-kept _ s.place unbounded_at.0;
       bounds = itself-kept _ s.place bounds_at.0;
+      tests = itself-kept _ s.place tests_at.0;
+      initiated = itself-kept _ s.place initiated_at.0;
       scheme = itself-kept _ s.place scheme_at.0;
     }
 
@@ -155,7 +166,19 @@ values-kept s kept =
     (first-of-two
     (has_flaw flaws.NotCarried s || is_separator_other s || are_separators_unfit s || is_base_unfit s || is_prefix_type_missing s || is_fill_other s
     || is_new_line_other s)
-    (is_scheme_unknown s) kept.carried))
+    (is_scheme_unknown s)
+    (first-of-two
+    (has_flaw flaws.NotCarried s || is_separator_other s || are_separators_unfit s || is_base_unfit s || is_prefix_type_missing s || is_fill_other s
+    || is_new_line_other s || is_scheme_unknown s)
+    (are_tests_other s)
+    (first-of-two
+    (has_flaw flaws.NotCarried s || is_separator_other s || are_separators_unfit s || is_base_unfit s || is_prefix_type_missing s || is_fill_other s
+    || is_new_line_other s || is_scheme_unknown s || are_tests_other s)
+    s.group_is_unknown kept.carried))))
+
+-- each property that applies is given
+pub given-kept : (s : Judged) → IsKept s → has_flaw flaws.Missing s ≡ false
+given-kept s kept = first-of-two (has_flaw flaws.Missing s) (is_test_pattern_missing s) kept.given
 
 -- no property that applies has an expression where none may stand
 pub expressions-kept : (s : Judged) → IsKept s → has_flaw flaws.Expression s ≡ false

@@ -1,5 +1,5 @@
 -- The order of bits of components without a breach.
-use Rattle.std.proofs.Common.{◌≡◌, refl, sym, ap, subst, false, not, if◌then◌else◌, codes, arith}
+use Rattle.std.proofs.Common.{◌≡◌, refl, sym, ap, subst, Bool, false, not, ◌&&◌, if◌then◌else◌, codes, arith}
 use Rattle.dfdl_forms.specs.declared.order.BitOrder.{BitOrder}
 use Rattle.dfdl_forms.specs.declared.order.BitOrder.TheVariants.{MostFirst, LeastFirst}
 use Rattle.dfdl_scope.specs.Scoping.{Told}
@@ -11,6 +11,7 @@ use Rattle.dfdl_checks.proofs.Primitives.{ordered}
 use Rattle.dfdl_checks.specs.Judged.{Judged}
 use Rattle.dfdl_checks.specs.Numbers.{HasBitOrder, IsInBitOrder}
 use Rattle.dfdl_checks.specs.Orders.{bit_order, field_order, is_same_order, order_for, told_order}
+use Rattle.dfdl_checks.specs.Subjects.{is_hidden}
 use Rattle.dfdl_checks.specs.Table.{Applicability, applies_by, built_for, EveryValue, word, applicability_table}
 use Rattle.dfdl_checks.specs.declared.applicability.Bearers.TheVariants as bearers
 use Rattle.dfdl_checks.specs.declared.purpose.Purpose.{Purpose}
@@ -34,12 +35,19 @@ same-order LeastFirst LeastFirst same = refl
 same-order MostFirst LeastFirst same = grind (arith, same)
 same-order LeastFirst MostFirst same = grind (arith, same)
 
-pub in-bit-order : (s : Judged) → IsKept s → IsInBitOrder s
+-- orders of a component that is no hidden sequence
+same-orders : (hidden : Bool) (a b : BitOrder) → hidden ≡ false → (not hidden && not (is_same_order a b)) ≡ false → a ≡ b
+same-orders hidden a b shown kept = same-order a b (by (is_same_order a b) kept)
+  where
+    by : (same : Bool) → (not hidden && not same) ≡ false → not same ≡ false
+    by same kept = grind (arith, kept, shown)
+
+pub in-bit-order : (s : Judged) → IsKept s → is_hidden s.kind ≡ false → IsInBitOrder s
 unfolding applicability_table property_table
-in-bit-order s kept = record {
+in-bit-order s kept shown = record {
   primitive = λ p is. subst (λ order. HasBitOrder order p) told (ordered s p is);
-  root = same-order (told_order s) s.root_bits_by kept.bit_order;
+  root = same-orders (is_hidden s.kind) (told_order s) s.root_bits_by shown kept.bit_order;
 }
   where
     told : field_order s ≡ told_order s
-    told = order-told s.purpose _ _ (flawless-by s kept 8 bit_orders refl refl _ refl)
+    told = order-told s.purpose _ _ (flawless-by s kept 8 bit_orders refl (ap not shown) _ refl)

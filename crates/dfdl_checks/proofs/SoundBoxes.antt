@@ -1,5 +1,5 @@
 -- Components without a breach whose content stands in a box: texts, elements of type hexBinary and complex elements.
-use Rattle.std.proofs.Common.{◌≡◌, refl, sym, ap, subst, ◌∙◌, ℕ, List, ◌*◌, Option, Some, None, Bool, true, false, not, if◌then◌else◌, ◌&&◌, ◌||◌, nat_le, option_map, is_some, codes, IsTrue, IsSome, arith}
+use Rattle.std.proofs.Common.{◌≡◌, refl, sym, ap, subst, ◌∙◌, ℕ, List, ◌*◌, Option, Some, None, Bool, true, false, not, if◌then◌else◌, ◌&&◌, ◌||◌, nat_le, nat_lt, option_map, is_some, codes, IsTrue, IsSome, arith}
 use Rattle.std.specs.Str.Parse.{digits_value}
 use Rattle.dfdl_scope.specs.Expressions.{is_expression, literal}
 use Rattle.dfdl_scope.specs.Scoping.{Told}
@@ -20,13 +20,13 @@ use Rattle.dfdl_checks.specs.Lengths.{number_told}
 use Rattle.dfdl_checks.specs.Numbers.{IsTextOrBytesValue}
 use Rattle.dfdl_checks.specs.Orders.{field_order}
 use Rattle.dfdl_checks.specs.Rules.{first_breach, rules, is_delimited_boolean, is_field_out_of_range, is_number_length_not_allowed}
-use Rattle.dfdl_checks.specs.Subjects.{has_delimited_length, is_boxed, is_complex, is_explicit, is_group, is_hex_binary, is_simple, is_sized_by_data, is_string, is_text, is_text_boolean, is_text_number, is_told, told_at}
+use Rattle.dfdl_checks.specs.Subjects.{has_delimited_length, is_boolean, is_boxed, is_complex, is_explicit, is_group, is_hex_binary, is_hidden, is_simple, is_sized_by_data, is_string, is_text, is_text_boolean, is_text_number, is_told, number_bits, told_at}
 use Rattle.dfdl_checks.specs.Table.{EachNumber, EveryValue, applicability_table}
 use Rattle.dfdl_checks.specs.Texts.{delimited_octets, octets_by, octets_of}
 use Rattle.dfdl_checks.specs.declared.applicability.Bearers.TheVariants as bearers
 use Rattle.dfdl_checks.specs.declared.purpose.Purpose.TheVariants.{Parsing}
 use Rattle.dfdl_checks.specs.declared.subject.Kind.{Kind}
-use Rattle.dfdl_checks.specs.declared.subject.Kind.TheVariants.{ComplexElement, SimpleElement, UncarriedElement, Sequence, Choice, PrefixNumber}
+use Rattle.dfdl_checks.specs.declared.subject.Kind.TheVariants.{ComplexElement, SimpleElement, UncarriedElement, Sequence, HiddenSequence, Choice, PrefixNumber}
 
 -- a number is told where a number is built
 pub number-told : (r : Row) (t : Told) → HasBuilt r EachNumber t → is_some (number_told t) ≡ true
@@ -116,6 +116,7 @@ no-group ComplexElement is = refl
 no-group (SimpleElement simple) is = refl
 no-group UncarriedElement is = refl
 no-group Sequence is = grind (arith, is)
+no-group HiddenSequence is = grind (arith, is)
 no-group Choice is = grind (arith, is)
 no-group (PrefixNumber simple) is = refl
 
@@ -185,6 +186,18 @@ unfolding applicability_table property_table
 some-encoding s kept text =
     encoding-told (codes "encoding") _ (built-at s kept 1 (codes "encoding") bearers.Texts EveryValue refl text _ refl refl)
 
+-- neither texts nor bytes stand for a hidden group
+text-shown : (kind : Kind) (textual : Bool)
+    → ((is_string kind || (nat_lt 0 (number_bits kind) && textual) || (is_boolean kind && textual)) || is_hex_binary kind) ≡ true
+    → is_hidden kind ≡ false
+text-shown ComplexElement textual is = refl
+text-shown (SimpleElement simple) textual is = refl
+text-shown UncarriedElement textual is = refl
+text-shown Sequence textual is = refl
+text-shown HiddenSequence textual is = grind (arith, is)
+text-shown Choice textual is = refl
+text-shown (PrefixNumber simple) textual is = refl
+
 -- the properties of a text or of bytes
 pub are-others : (s : Judged) → first_breach rules s ≡ None → IsTrue (is_text s || is_hex_binary s.kind) → IsTextOrBytesValue s
 are-others s none is =
@@ -192,5 +205,7 @@ are-others s none is =
     record {
       encoding = λ text. some-encoding s kept text;
       length_kind = value-length s kept is;
-      bits_by = in-bit-order s kept;
+      bits_by =
+          in-bit-order s kept
+          (text-shown s.kind (is_told s (codes "representation") (codes "text")) is);
     }

@@ -20,7 +20,7 @@ use Rattle.dfdl_checks.specs.FillBytes.{is_fill_malformed}
 use Rattle.dfdl_checks.specs.Judged.{Judged}
 use Rattle.dfdl_checks.specs.Nils.{is_nil_malformed, is_nil_not_encoded, lacks_literals}
 use Rattle.dfdl_checks.specs.Rules.{are_truth_texts_malformed, are_truth_texts_not_encoded, first_breach, is_bytes_encoding_other, is_pad_malformed, is_pad_not_encoded, is_separator_malformed, is_separator_not_encoded, rules}
-use Rattle.dfdl_checks.specs.Subjects.{is_prefix_number, is_sequence, told_at}
+use Rattle.dfdl_checks.specs.Subjects.{is_unframed, is_sequence, told_at}
 use Rattle.dfdl_checks.specs.Table.{Built, EveryValue, applicability_table, applies_by, built_for, word}
 use Rattle.dfdl_checks.specs.Values.{is_empty}
 use Rattle.dfdl_checks.specs.declared.applicability.Bearers.TheVariants as bearers
@@ -113,7 +113,7 @@ module _ (s : Judged) (kept : IsKept s) where
       → is_malformed_text (delimiter_at s name) ≡ false → is_empty_text (delimiter_at s name) ≡ false → is_delimited s ≡ true
       → has_delimiter s name ≡ true → is_some (delimiter_of s name) ≡ true
   some-delimiter name built flawless sound matching delimited has =
-      some-delimiting s name (delimiter_at s name) _ (by (is_prefix_number s.kind) has sound matching) (some-encoding delimited)
+      some-delimiting s name (delimiter_at s name) _ (by (is_unframed s.kind) has sound matching) (some-encoding delimited)
     where
       by : (b : Bool) → (not b && is_delimiter (told_at s name)) ≡ true
           → is_malformed_text (if b then Nothing else delimiter_told (told_at s name)) ≡ false
@@ -126,8 +126,8 @@ module _ (s : Judged) (kept : IsKept s) where
           alone b h = grind (arith, h)
 
   -- a component with fill is no type of a prefix
-  framed : (name : List ℕ) → has_delimiter s name ≡ true → not (is_prefix_number s.kind) ≡ true
-  framed name has = first (not (is_prefix_number s.kind)) (is_delimiter (told_at s name)) has
+  framed : (name : List ℕ) → has_delimiter s name ≡ true → not (is_unframed s.kind) ≡ true
+  framed name has = first (not (is_unframed s.kind)) (is_delimiter (told_at s name)) has
     where
       first : (a b : Bool) → (a && b) ≡ true → a ≡ true
       first a b h = grind (arith, h)
@@ -229,7 +229,7 @@ told-texts Absent = tt
 told-texts (Twice place) = tt
 
 at-texts : (s : Judged) (name : List ℕ) → IsTexts (delimiter_at s name)
-at-texts s name = by (is_prefix_number s.kind)
+at-texts s name = by (is_unframed s.kind)
   where
     by : (b : Bool) → IsTexts (if b then Nothing else delimiter_told (told_at s name))
     by true = tt

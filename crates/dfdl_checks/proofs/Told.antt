@@ -10,7 +10,7 @@ use Rattle.dfdl_scope.specs.Expressions.{literal}
 use Rattle.dfdl_scope.specs.Scoping.{Told}
 use Rattle.dfdl_scope.specs.Table.{Row, row, Words, Missing, property_table}
 use Rattle.dfdl_terms.specs.declared.row.Primitive.TheVariants as primitives
-use Rattle.dfdl_checks.proofs.Binary.{IsSound, IsSoundBinary, binary-simple, is-sound, is-sound-binary}
+use Rattle.dfdl_checks.proofs.Binary.{IsSound, IsSoundBinary, binary-simple, is-sound, is-sound-binary, simple-shown}
 use Rattle.dfdl_checks.proofs.Built.{all-hold, built-at, built-by, either-word, one-word}
 use Rattle.dfdl_checks.proofs.Flawless.{HasBuilt, among-words}
 use Rattle.dfdl_checks.proofs.BoxBounds.{none-some, some-is}
@@ -21,7 +21,7 @@ use Rattle.dfdl_checks.specs.Numbers.{IsBinaryValue, primitive_of}
 use Rattle.dfdl_checks.specs.Orders.{is_least_first}
 use Rattle.dfdl_checks.specs.Packed.{rep_of, rep_told, rep_word}
 use Rattle.dfdl_checks.specs.Rules.{first_breach, rules}
-use Rattle.dfdl_checks.specs.Subjects.{is_binary, is_binary_number, is_told, is_word, told_at, value_bits}
+use Rattle.dfdl_checks.specs.Subjects.{is_binary, is_binary_number, is_simple, is_told, is_word, told_at, value_bits}
 use Rattle.dfdl_checks.specs.Table.{Applicability, applies_by, built_for, EveryValue, word, applicability_table}
 use Rattle.dfdl_checks.specs.declared.applicability.Bearers.TheVariants as bearers
 use Rattle.dfdl_checks.specs.declared.purpose.Purpose.{Purpose}
@@ -97,7 +97,7 @@ are-values s none is = record {
   number = number;
   packed = packed;
   length_kind = binary.length.kind;
-  bits_by = in-bit-order s sound.kept;
+  bits_by = in-bit-order s sound.kept (simple-shown s.kind simple);
   bytes_by = λ wide.
       either-word (codes "bigEndian") (codes "littleEndian") (codes "byteOrder") _
       (built-at s sound.kept 7 (codes "byteOrder") bearers.OrderedBinaries EveryValue refl
@@ -109,8 +109,11 @@ are-values s none is = record {
     first : (a b : Bool) → (a && b) ≡ true → a ≡ true
     first a b h = grind (arith, h)
 
+    simple : is_simple s.kind ≡ true
+    simple = binary-simple s.kind (first (nat_lt 0 (value_bits s.kind)) (is_told s (codes "representation") (codes "binary")) is)
+
     sound : IsSound s
-    sound = is-sound s none (binary-simple s.kind (first (nat_lt 0 (value_bits s.kind)) (is_told s (codes "representation") (codes "binary")) is))
+    sound = is-sound s none simple
 
     binary : IsSoundBinary s sound
     binary = is-sound-binary s sound is

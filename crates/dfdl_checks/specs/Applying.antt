@@ -1,5 +1,5 @@
 -- Which components a property applies to.
-use Rattle.std.specs.Prelude.{Bool, true, not, nat_lt, ◌==◌, ◌&&◌, ◌||◌, codes}
+use Rattle.std.specs.Prelude.{Bool, not, nat_lt, ◌==◌, ◌&&◌, ◌||◌, codes}
 use Rattle.dfdl_checks.specs.Boxes.{is_explicit_box, is_implicit_string}
 use Rattle.dfdl_checks.specs.Delimiters.{is_delimited, is_separated}
 use Rattle.dfdl_checks.specs.Nils.{is_nil_by_value}
@@ -7,10 +7,11 @@ use Rattle.dfdl_checks.specs.Occurrences.{is_counted}
 use Rattle.dfdl_checks.specs.Orders.{is_least_first}
 use Rattle.dfdl_checks.specs.NumberTexts.{base_of}
 use Rattle.dfdl_checks.specs.Pads.{is_padded_text}
-use Rattle.dfdl_checks.specs.Subjects.{is_boxed, is_delimited_bytes, is_explicit, is_nillable, is_prefix_number, is_prefixed, is_standard, is_text, is_text_boolean, is_text_number, is_zoned, is_element, is_simple, is_string, is_sequence, is_choice, is_group, is_represented, is_decimal, value_bits, is_binary, is_binary_boolean, is_binary_number, is_explicit_binary, is_packed, is_word, told_at}
+use Rattle.dfdl_checks.specs.Subjects.{is_boxed, is_delimited_bytes, is_explicit, is_nillable, is_unframed, is_prefixed, is_standard, is_text, is_text_boolean, is_text_number, is_zoned, is_element, is_simple, is_string, is_sequence, is_choice, is_hidden, is_plain_group, is_represented, is_decimal, value_bits, is_binary, is_binary_boolean, is_binary_number, is_explicit_binary, is_packed, is_word, told_at}
 use Rattle.dfdl_checks.specs.Judged.{Judged}
+use Rattle.dfdl_checks.specs.Tests.{is_tested}
 use Rattle.dfdl_checks.specs.declared.applicability.Bearers.{Bearers}
-use Rattle.dfdl_checks.specs.declared.applicability.Bearers.TheVariants.{EveryComponent, FramedComponents, Elements, OtherElements, SimpleElements, NillableElements, TextNillables, RepresentedElements, BoxedElements, Strings, PaddedStrings, PaddedBooleans, PaddedNumbers, BinaryNumbers, BinaryBooleans, OrderedBinaries, ExplicitBinaries, ExplicitBoxes, ImplicitStrings, PrefixedElements, Texts, TextNumbers, TextBooleans, StandardNumbers, ZonedNumbers, PatternNumbers, LooseTexts, PackedNumbers, BinaryDecimals, PatternElements, DelimitedBytes, DelimitedComponents, Groups, Sequences, SeparatedSequences, EmptySequences, Choices, CountedElements}
+use Rattle.dfdl_checks.specs.declared.applicability.Bearers.TheVariants.{EveryComponent, FramedComponents, Elements, OtherElements, SimpleElements, NillableElements, TextNillables, RepresentedElements, BoxedElements, Strings, PaddedStrings, PaddedBooleans, PaddedNumbers, BinaryNumbers, BinaryBooleans, OrderedBinaries, ExplicitBinaries, ExplicitBoxes, ImplicitStrings, PrefixedElements, Texts, TextNumbers, TextBooleans, StandardNumbers, ZonedNumbers, PatternNumbers, LooseTexts, PackedNumbers, BinaryDecimals, PatternElements, DelimitedBytes, DelimitedComponents, Groups, Sequences, SeparatedSequences, EmptySequences, Choices, CountedElements, TestedComponents}
 
 -- a binary number or boolean whose bytes have an order: of a type with more than 8 bits, or with its least significant bits
 -- first
@@ -19,8 +20,8 @@ is_ordered_binary subject = is_binary subject && (nat_lt 8 (value_bits subject.k
 
 -- a component is one of these
 abbrev pub is_bearer : Bearers → Judged → Bool
-is_bearer EveryComponent subject = true
-is_bearer FramedComponents subject = not (is_prefix_number subject.kind)
+is_bearer EveryComponent subject = not (is_hidden subject.kind)
+is_bearer FramedComponents subject = not (is_unframed subject.kind)
 is_bearer Elements subject = is_element subject.kind
 is_bearer OtherElements subject = is_element subject.kind && not (is_boxed subject) && not (is_binary subject)
 is_bearer SimpleElements subject = is_element subject.kind && is_simple subject.kind
@@ -51,9 +52,10 @@ is_bearer BinaryDecimals subject = is_decimal subject.kind && is_binary_number s
 is_bearer PatternElements subject = is_element subject.kind && is_word (codes "pattern") (told_at subject (codes "lengthKind"))
 is_bearer DelimitedBytes subject = is_delimited_bytes subject
 is_bearer DelimitedComponents subject = is_delimited subject
-is_bearer Groups subject = is_group subject.kind
+is_bearer Groups subject = is_plain_group subject.kind
 is_bearer Sequences subject = is_sequence subject.kind
 is_bearer SeparatedSequences subject = is_separated subject
-is_bearer EmptySequences subject = is_sequence subject.kind && subject.facts.is_empty
+is_bearer EmptySequences subject = is_hidden subject.kind || (is_sequence subject.kind && subject.facts.is_empty)
 is_bearer Choices subject = is_choice subject.kind
 is_bearer CountedElements subject = is_counted subject
+is_bearer TestedComponents subject = is_tested subject

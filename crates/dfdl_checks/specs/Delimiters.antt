@@ -10,11 +10,13 @@ use Rattle.dfdl_scope.specs.Expressions.{is_expression, literal}
 use Rattle.dfdl_scope.specs.Scoping.{Told, Value, Absent, Twice}
 use Rattle.dfdl_separators.specs.declared.policy.SeparatorPosition.{SeparatorPosition}
 use Rattle.dfdl_separators.specs.declared.policy.SeparatorPosition.TheVariants.{Prefix, Infix, Postfix}
+use Rattle.dfdl_separators.specs.declared.policy.SeparatorSuppressionPolicy.{SeparatorSuppressionPolicy}
+use Rattle.dfdl_separators.specs.declared.policy.SeparatorSuppressionPolicy.TheVariants.{Never, TrailingEmpty, TrailingEmptyStrict, AnyEmpty}
 use Rattle.dfdl_terms.specs.declared.delimiters.Delimiters.{Delimiters}
 use Rattle.dfdl_checks.specs.Encodings.{encoding_told}
 use Rattle.dfdl_checks.specs.Judged.{Judged}
 use Rattle.dfdl_checks.specs.Nils.{lacks_literals}
-use Rattle.dfdl_checks.specs.Subjects.{is_prefix_number, is_sequence, is_told, is_word, told_at}
+use Rattle.dfdl_checks.specs.Subjects.{is_unframed, is_sequence, is_told, is_word, told_at}
 use Rattle.dfdl_checks.specs.Values.{is_empty}
 use Rattle.dfdl_checks.specs.declared.delimiters.Delimiting.{Delimiting}
 use Rattle.dfdl_checks.specs.declared.delimiters.DelimiterText.{DelimiterText}
@@ -30,9 +32,9 @@ is_delimiter (Value written) = not (is_empty (literal written))
 is_delimiter Absent = false
 is_delimiter (Twice place) = false
 
--- the component has the delimiter of this name; the type of a prefix has none
+-- the component has the delimiter of this name; the type of a prefix has none, nor has a sequence that stands for a hidden group
 abbrev pub has_delimiter : Judged → List ℕ → Bool
-has_delimiter subject name = not (is_prefix_number subject.kind) && is_delimiter (told_at subject name)
+has_delimiter subject name = not (is_unframed subject.kind) && is_delimiter (told_at subject name)
 
 -- a sequence with a separator
 abbrev pub is_separated : Judged → Bool
@@ -60,7 +62,7 @@ delimiter_told (Twice place) = Nothing
 
 -- what the component's delimiter of this name comes to
 abbrev pub delimiter_at : Judged → List ℕ → DelimiterText
-delimiter_at subject name = if is_prefix_number subject.kind then Nothing else delimiter_told (told_at subject name)
+delimiter_at subject name = if is_unframed subject.kind then Nothing else delimiter_told (told_at subject name)
 
 -- what the component's separator comes to; a sequence alone has one
 abbrev pub separator_at : Judged → DelimiterText
@@ -153,10 +155,21 @@ delimiter_of subject name = delimiting_by subject name (delimiter_at subject nam
 abbrev pub position_told : Told → SeparatorPosition
 position_told told = if is_word (codes "prefix") told then Prefix else if is_word (codes "postfix") told then Postfix else Infix
 
+-- which optional slots may be missing under a policy of which this is told: any, where nothing is
+abbrev pub policy_told : Told → SeparatorSuppressionPolicy
+policy_told told =
+    if is_word (codes "never") told then Never
+    else if is_word (codes "trailingEmpty") told then TrailingEmpty
+    else if is_word (codes "trailingEmptyStrict") told then TrailingEmptyStrict
+    else AnyEmpty
+
 -- the component's separator, of these literals in this encoding
 abbrev pub separating_with : Judged → List (List Piece) → Encoding → Separating
-separating_with subject literals encoding =
-    record { list = list_with subject literals encoding; position = position_told (told_at subject (codes "separatorPosition")) }
+separating_with subject literals encoding = record {
+  list = list_with subject literals encoding;
+  position = position_told (told_at subject (codes "separatorPosition"));
+  policy = policy_told (told_at subject (codes "separatorSuppressionPolicy"));
+}
 
 -- the same, where it has literals and its encoding is told
 abbrev pub separating_by : Judged → DelimiterText → Option Encoding → Option Separating

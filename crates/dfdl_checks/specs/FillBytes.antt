@@ -7,7 +7,7 @@ use Rattle.dfdl_literals.specs.declared.fill.FillByte.TheVariants.{Byte, Malform
 use Rattle.dfdl_scope.specs.Expressions.{is_expression, literal}
 use Rattle.dfdl_scope.specs.Scoping.{Told, Value, Absent, Twice}
 use Rattle.dfdl_checks.specs.Judged.{Judged}
-use Rattle.dfdl_checks.specs.Subjects.{is_prefix_number, told_at}
+use Rattle.dfdl_checks.specs.Subjects.{is_unframed, told_at}
 
 -- the text is no string literal and no list of them
 abbrev pub is_malformed_byte : FillByte → Bool
@@ -35,8 +35,8 @@ is_other_byte_told (Twice place) = false
 
 -- a component with fill, whose byte is told by such a text
 abbrev pub is_fill_malformed : Judged → Bool
-is_fill_malformed subject = not (is_prefix_number subject.kind) && is_malformed_told (told_at subject (codes "fillByte"))
+is_fill_malformed subject = not (is_unframed subject.kind) && is_malformed_told (told_at subject (codes "fillByte"))
 
 -- a component with fill, whose byte is told as no single one
 abbrev pub is_fill_other : Judged → Bool
-is_fill_other subject = not (is_prefix_number subject.kind) && is_other_byte_told (told_at subject (codes "fillByte"))
+is_fill_other subject = not (is_unframed subject.kind) && is_other_byte_told (told_at subject (codes "fillByte"))

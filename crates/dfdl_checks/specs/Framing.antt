@@ -8,12 +8,12 @@ use Rattle.dfdl_scope.specs.Scoping.{Told, Value, Absent, Twice}
 use Rattle.dfdl_terms.specs.Framing.{no_fill}
 use Rattle.dfdl_terms.specs.declared.framing.Framing.{Framing}
 use Rattle.dfdl_checks.specs.Judged.{Judged}
-use Rattle.dfdl_checks.specs.Subjects.{is_binary, is_told, is_word, told_at}
+use Rattle.dfdl_checks.specs.Subjects.{is_binary, is_hidden, is_told, is_word, told_at}
 use Rattle.dfdl_checks.specs.Values.{number_within}
 use Rattle.dfdl_checks.specs.declared.purpose.Purpose.{Purpose}
 use Rattle.dfdl_checks.specs.declared.purpose.Purpose.TheVariants.{Parsing, Unparsing}
 use Rattle.dfdl_checks.specs.declared.subject.Kind.{Kind}
-use Rattle.dfdl_checks.specs.declared.subject.Kind.TheVariants.{ComplexElement, SimpleElement, UncarriedElement, Sequence, Choice, PrefixNumber}
+use Rattle.dfdl_checks.specs.declared.subject.Kind.TheVariants.{ComplexElement, SimpleElement, UncarriedElement, Sequence, HiddenSequence, Choice, PrefixNumber}
 
 -- how many bits a unit of fill has, by what is told of the units: bytes, else bits
 abbrev pub fill_unit : Told → ℕ
@@ -58,6 +58,7 @@ implicit_alignment subject (SimpleElement simple) = simple_alignment subject sim
 implicit_alignment subject UncarriedElement = 8
 implicit_alignment subject ComplexElement = 1
 implicit_alignment subject Sequence = 1
+implicit_alignment subject HiddenSequence = 1
 implicit_alignment subject Choice = 1
 implicit_alignment subject (PrefixNumber simple) = 1
 
@@ -74,6 +75,7 @@ alignment_of subject =
 -- the fill that is told of the component
 abbrev pub fill_of : Judged → Framing
 fill_of subject = record {
+  tests = no_fill.tests;
   leading_skip = skip_of subject (codes "leadingSkip");
   alignment = alignment_of subject;
   initiator = None;
@@ -81,9 +83,9 @@ fill_of subject = record {
   trailing_skip = skip_of subject (codes "trailingSkip");
 }
 
--- the component's fill, which is built for parsing
+-- the component's fill, which is built for parsing; a sequence that stands for a hidden group has none
 abbrev pub fill_for : Purpose → Judged → Framing
-fill_for Parsing subject = fill_of subject
+fill_for Parsing subject = if is_hidden subject.kind then no_fill else fill_of subject
 fill_for Unparsing subject = no_fill
 
 -- the fill around the component's content

@@ -1,9 +1,10 @@
 -- Mirror for the prover: what a component is seen as.
-use Rattle.std.specs.Prelude.{Option, Some, None, option_copied}
+use Rattle.std.specs.Prelude.{Option, Some, None, map, option_copied}
 use Rattle.dfdl_scope.specs.Shown.{chain_of}
-use Rattle.dfdl_checks.specs.Judged.{FactsJudged, Judged, PrefixJudged}
+use Rattle.dfdl_checks.specs.Judged.{FactsJudged, Judged, PrefixJudged, TestJudged}
 use Rattle.dfdl_checks.specs.declared.subject.Facts.{Facts}
 use Rattle.dfdl_checks.specs.declared.subject.PrefixType.{PrefixType}
+use Rattle.dfdl_checks.specs.declared.subject.StatedTest.{StatedTest}
 use Rattle.dfdl_checks.specs.declared.subject.Subject.{Subject}
 
 -- what a component states, with a text that is lent
@@ -12,9 +13,19 @@ facts_judged_of facts = record {
   bounds = facts.bounds;
   is_nillable = facts.is_nillable;
   default = option_copied facts.default;
-  has_statements = facts.has_statements;
+  sets_variables = facts.sets_variables;
   is_empty = facts.is_empty;
   max_length = facts.max_length;
+}
+
+-- a test with texts that are lent
+abbrev pub test_judged_of : StatedTest → TestJudged
+test_judged_of test = record {
+  discriminates = test.discriminates;
+  kind = option_copied test.kind;
+  failure = option_copied test.failure;
+  pattern = option_copied test.pattern;
+  message = option_copied test.message;
 }
 
 -- the type of a prefix with a chain that is lent
@@ -35,4 +46,7 @@ judged_of subject = record {
   prefix = prefix_judged_of subject.prefix;
   scheme = subject.scheme;
   pattern_is_refused = subject.pattern_is_refused;
+  tests = map test_judged_of subject.tests.now;
+  standing = subject.standing;
+  group_is_unknown = subject.group_is_unknown;
 }

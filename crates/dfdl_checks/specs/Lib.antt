@@ -32,3 +32,6 @@ pub mod Representations
 pub mod Rules
 pub mod Framing
 pub mod Forms
+pub mod Places
+pub mod Standings
+pub mod Tests

@@ -85,6 +85,15 @@ occurrences_for Unparsing subject = occurs_once
 abbrev pub occurrences_of : Judged → Occurs
 occurrences_of subject = occurrences_for subject.purpose subject
 
+-- those of the component's occurrences that are tried are of kind parsed
+abbrev pub is_parsed_for : Purpose → Judged → Bool
+is_parsed_for Parsing subject = not (is_once subject.facts.bounds) && is_parsed subject
+is_parsed_for Unparsing subject = false
+
+-- the same for the component's purpose
+abbrev pub is_count_parsed : Judged → Bool
+is_count_parsed subject = is_parsed_for subject.purpose subject
+
 -- some of the component's occurrences are required
 abbrev pub is_required : Judged → Bool
 is_required subject = nat_lt 0 (occurrences_of subject).least

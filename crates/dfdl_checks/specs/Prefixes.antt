@@ -1,6 +1,6 @@
 -- The length prefix of an element: how the type of the prefix is judged, and how the prefix lies in the data ('Lengths', on
 -- lengthKind prefixed).
-use Rattle.std.specs.Prelude.{ℕ, ◌*◌, ◌/◌, ◌%◌, ◌==◌, ◌&&◌, ◌||◌, Bool, true, false, not, Option, Some, None, is_some, option_and_then, option_map, codes, if◌then◌else◌}
+use Rattle.std.specs.Prelude.{ℕ, [], ◌*◌, ◌/◌, ◌%◌, ◌==◌, ◌&&◌, ◌||◌, Bool, true, false, not, Option, Some, None, is_some, option_and_then, option_map, codes, if◌then◌else◌}
 use Rattle.dfdl_forms.specs.Types.{form_of}
 use Rattle.dfdl_forms.specs.declared.encoding.Encoding.{Encoding}
 use Rattle.dfdl_forms.specs.declared.encoding.Encoding.TheVariants.{UsAscii, Iso88591}
@@ -18,6 +18,7 @@ use Rattle.dfdl_terms.specs.declared.text.TextSize.TheVariants.{Bits, Characters
 use Rattle.dfdl_checks.specs.Encodings.{encoding_told}
 use Rattle.dfdl_checks.specs.Judged.{FactsJudged, Judged, PrefixJudged}
 use Rattle.dfdl_checks.specs.Numbers.{primitive_of}
+use Rattle.dfdl_checks.specs.Places.{nowhere}
 use Rattle.dfdl_checks.specs.Subjects.{is_prefixed, is_told, is_word, told_at}
 use Rattle.dfdl_checks.specs.declared.prefixes.PrefixForm.{PrefixForm}
 use Rattle.dfdl_checks.specs.declared.purpose.Purpose.{Purpose}
@@ -37,7 +38,7 @@ is_integer_type (Some simple) = is_integer (form_of simple)
 
 -- what the type of a prefix states: nothing
 abbrev pub no_facts : FactsJudged
-no_facts = record { bounds = record { least = 1; most = Some 1 }; is_nillable = false; default = None; has_statements = false; is_empty = false; max_length = None }
+no_facts = record { bounds = record { least = 1; most = Some 1 }; is_nillable = false; default = None; sets_variables = false; is_empty = false; max_length = None }
 
 -- the type of the component's prefix, as the rules see it
 abbrev pub judged_prefix : Judged → PrefixJudged → Simple → Judged
@@ -51,6 +52,9 @@ judged_prefix subject prefix simple = record {
   prefix = None;
   scheme = prefix.scheme;
   pattern_is_refused = false;
+  tests = [];
+  standing = nowhere;
+  group_is_unknown = false;
 }
 
 -- the same, where it is an integer type

@@ -29,7 +29,9 @@ use Rattle.dfdl_forms.specs.declared.number_pattern.NumberPattern.{NumberPattern
 use Rattle.dfdl_checks.specs.Packed.{codes_told, nibbles_within, rep_of}
 use Rattle.dfdl_checks.specs.Occurrences.{are_bounds_unfit, is_once, is_required, is_tried}
 use Rattle.dfdl_checks.specs.Prefixes.{is_name_told, is_no_prefix_type, is_not_whole, prefix_subject}
-use Rattle.dfdl_checks.specs.Subjects.{is_boxed, is_delimited_bytes, is_element, is_choice, is_binary, is_binary_boolean, is_binary_number, is_decimal, is_explicit, is_explicit_binary, is_packed, is_prefixed, is_simple, is_standard, is_text, is_text_boolean, is_text_number, is_told, is_zoned, told_at, value_bits}
+use Rattle.dfdl_checks.specs.Subjects.{is_boxed, is_delimited_bytes, is_element, is_choice, is_hidden, is_binary, is_binary_boolean, is_binary_number, is_decimal, is_explicit, is_explicit_binary, is_packed, is_prefixed, is_simple, is_standard, is_text, is_text_boolean, is_text_number, is_told, is_zoned, told_at, value_bits}
+use Rattle.dfdl_checks.specs.Standings.{is_initiator_missing, is_unbounded_not_allowed}
+use Rattle.dfdl_checks.specs.Tests.{are_tests_other, are_tests_together, has_later_statements, is_test_pattern_missing}
 use Rattle.dfdl_checks.specs.Flaws.{has_flaw}
 use Rattle.dfdl_checks.specs.declared.flaw.Flaw.TheVariants as flaws
 use Rattle.dfdl_checks.specs.declared.purpose.Purpose.{Purpose}
@@ -59,7 +61,7 @@ is_later_element Unparsing subject = not (is_once subject.facts.bounds) || subje
 -- a component of a kind that is built later, whatever its properties are but for the kind of its count
 abbrev pub is_later_component : Judged → Bool
 is_later_component subject =
-    is_later_group subject.purpose subject.kind || has_later_type subject.purpose subject.kind || subject.facts.has_statements
+    is_later_group subject.purpose subject.kind || has_later_type subject.purpose subject.kind || has_later_statements subject.purpose subject
     || (is_element subject.kind && is_later_element subject.purpose subject)
 
 -- 3: the component, or the value of a property that applies to it, is of a form that is built later
@@ -70,9 +72,10 @@ is_unbuilt subject = is_later_component subject || has_flaw flaws.Unbuilt subjec
 abbrev pub property_twice : Judged → Option Place
 property_twice subject = repeated_at subject.chain (names_of property_table)
 
--- 7: a property that applies to the component is given nowhere, and no value stands in its place
+-- 7: a property that applies to the component is given nowhere, and no value stands in its place; or one of its tests is of a
+-- pattern that isn't given
 abbrev pub is_property_missing : Judged → Bool
-is_property_missing subject = has_flaw flaws.Missing subject
+is_property_missing subject = has_flaw flaws.Missing subject || is_test_pattern_missing subject
 
 -- a separator of a text number is no single character
 abbrev pub is_separator_other : Judged → Bool
@@ -104,11 +107,13 @@ is_prefix_type_missing subject =
 abbrev pub is_scheme_unknown : Judged → Bool
 is_scheme_unknown subject = is_text subject && is_unknown subject.scheme
 
--- 9: a property that applies to the component has a value that is none of the profile, or that doesn't go with the others
+-- 9: a property that applies to the component has a value that is none of the profile, or that doesn't go with the others,
+-- or names nothing; or a value of one of its tests is none
 abbrev pub is_value_not_carried : Judged → Bool
 is_value_not_carried subject =
     has_flaw flaws.NotCarried subject || is_separator_other subject || are_separators_unfit subject || is_base_unfit subject
     || is_prefix_type_missing subject || is_fill_other subject || is_new_line_other subject || is_scheme_unknown subject
+    || are_tests_other subject || subject.group_is_unknown
 
 -- 10: a property that applies to the component has an expression where none may stand
 abbrev pub is_expression_not_allowed : Judged → Bool
@@ -220,7 +225,7 @@ is_prefix_type_not_allowed subject = is_prefixed subject && is_no_prefix_type su
 abbrev pub is_prefix_not_whole : Judged → Bool
 is_prefix_not_whole subject = option_map_or (is_not_whole subject) (prefix_subject subject) false
 
--- 20: an element whose length is by a pattern that can't be built
+-- 20: a component one of whose patterns can't be built: of a test, or of the length of an element
 abbrev pub is_pattern_refused : Judged → Bool
 is_pattern_refused subject = subject.pattern_is_refused
 
@@ -229,9 +234,9 @@ abbrev pub are_orders_apart : Judged → Bool
 are_orders_apart subject =
     is_binary_number subject && is_least_first subject && not (is_told subject (codes "byteOrder") (codes "littleEndian"))
 
--- 22: an order of bits that isn't that of the schema's root
+-- 22: an order of bits that isn't that of the schema's root; a sequence that stands for a hidden group has none
 abbrev pub is_second_bit_order : Judged → Bool
-is_second_bit_order subject = not (is_same_order (told_order subject) subject.root_bits_by)
+is_second_bit_order subject = not (is_hidden subject.kind) && not (is_same_order (told_order subject) subject.root_bits_by)
 
 -- a text that is padded or trimmed, whose encoding lacks its pad character
 abbrev pub is_pad_not_encoded : Judged → Bool
@@ -257,7 +262,7 @@ is_character_not_encoded subject =
 
 -- 24: an implicit alignment of what is no simple element
 abbrev pub is_alignment_not_allowed : Judged → Bool
-is_alignment_not_allowed subject = not (is_simple subject.kind) && is_told subject (codes "alignment") (codes "implicit")
+is_alignment_not_allowed subject = not (is_simple subject.kind || is_hidden subject.kind) && is_told subject (codes "alignment") (codes "implicit")
 
 -- a text number in base ten whose pattern, where it is told, is none
 abbrev pub is_standard_pattern_malformed : Judged → Bool
@@ -347,7 +352,10 @@ rules =
     ∷ at_itself causes.PadCharacter is_pad_no_character
     ∷ at_itself causes.NilNotAllowed is_nil_not_allowed
     ∷ at_itself causes.DefaultNotAValue is_default_not_allowed
+    ∷ at_itself causes.UnboundedElement is_unbounded_not_allowed
     ∷ at_itself causes.OccurrenceBounds are_bounds_unfit
+    ∷ at_itself causes.TestsTogether are_tests_together
+    ∷ at_itself causes.NoInitiator is_initiator_missing
     ∷ at_itself causes.EscapeScheme is_scheme_malformed
     ∷ []
 

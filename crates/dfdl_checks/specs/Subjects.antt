@@ -9,7 +9,7 @@ use Rattle.dfdl_forms.specs.declared.simple.Form.TheVariants.{Signed, Unsigned, 
 use Rattle.dfdl_scope.specs.Expressions.{literal}
 use Rattle.dfdl_scope.specs.Scoping.{Told, Value, Absent, Twice, told}
 use Rattle.dfdl_checks.specs.declared.subject.Kind.{Kind}
-use Rattle.dfdl_checks.specs.declared.subject.Kind.TheVariants.{ComplexElement, SimpleElement, UncarriedElement, Sequence, Choice, PrefixNumber}
+use Rattle.dfdl_checks.specs.declared.subject.Kind.TheVariants.{ComplexElement, SimpleElement, UncarriedElement, Sequence, HiddenSequence, Choice, PrefixNumber}
 use Rattle.dfdl_checks.specs.Judged.{Judged}
 
 -- an element
@@ -18,13 +18,20 @@ is_element ComplexElement = true
 is_element (SimpleElement simple) = true
 is_element UncarriedElement = true
 is_element Sequence = false
+is_element HiddenSequence = false
 is_element Choice = false
 is_element (PrefixNumber simple) = false
 
--- the type of a prefix
-abbrev pub is_prefix_number : Kind → Bool
-is_prefix_number (PrefixNumber simple) = true
-is_prefix_number _ = false
+-- a sequence that stands for a hidden group: no other property of it, and no statement, has an effect
+abbrev pub is_hidden : Kind → Bool
+is_hidden HiddenSequence = true
+is_hidden _ = false
+
+-- the type of a prefix, or a sequence that stands for a hidden group: their framing isn't asked for
+abbrev pub is_unframed : Kind → Bool
+is_unframed (PrefixNumber simple) = true
+is_unframed HiddenSequence = true
+is_unframed _ = false
 
 -- an element of a complex type
 abbrev pub is_complex : Kind → Bool
@@ -37,10 +44,11 @@ is_simple ComplexElement = false
 is_simple (SimpleElement simple) = true
 is_simple UncarriedElement = true
 is_simple Sequence = false
+is_simple HiddenSequence = false
 is_simple Choice = false
 is_simple (PrefixNumber simple) = true
 
--- a sequence
+-- a sequence of what stands in it
 abbrev pub is_sequence : Kind → Bool
 is_sequence Sequence = true
 is_sequence _ = false
@@ -50,9 +58,13 @@ abbrev pub is_choice : Kind → Bool
 is_choice Choice = true
 is_choice _ = false
 
+-- a sequence or a choice of what stands in it
+abbrev pub is_plain_group : Kind → Bool
+is_plain_group kind = is_sequence kind || is_choice kind
+
 -- a sequence or a choice
 abbrev pub is_group : Kind → Bool
-is_group kind = is_sequence kind || is_choice kind
+is_group kind = is_plain_group kind || is_hidden kind
 
 -- the simple type of an element, or of the type of a prefix, where it is carried
 abbrev pub simple_of : Kind → Option Simple

@@ -4,7 +4,7 @@
 use Rattle.std.specs.Prelude.{ℕ, List, [], ◌∷◌, Bool, true, false, codes}
 use Rattle.dfdl_checks.specs.Values.{is_among, is_number, is_within}
 use Rattle.dfdl_checks.specs.declared.applicability.Bearers.{Bearers}
-use Rattle.dfdl_checks.specs.declared.applicability.Bearers.TheVariants.{EveryComponent, FramedComponents, Elements, OtherElements, SimpleElements, NillableElements, TextNillables, RepresentedElements, BoxedElements, Strings, PaddedStrings, PaddedBooleans, PaddedNumbers, Texts, TextNumbers, TextBooleans, StandardNumbers, ZonedNumbers, PatternNumbers, LooseTexts, BinaryNumbers, BinaryBooleans, OrderedBinaries, ExplicitBinaries, ExplicitBoxes, ImplicitStrings, PrefixedElements, PackedNumbers, BinaryDecimals, PatternElements, DelimitedBytes, DelimitedComponents, Groups, Sequences, SeparatedSequences, EmptySequences, Choices, CountedElements}
+use Rattle.dfdl_checks.specs.declared.applicability.Bearers.TheVariants.{EveryComponent, FramedComponents, Elements, OtherElements, SimpleElements, NillableElements, TextNillables, RepresentedElements, BoxedElements, Strings, PaddedStrings, PaddedBooleans, PaddedNumbers, Texts, TextNumbers, TextBooleans, StandardNumbers, ZonedNumbers, PatternNumbers, LooseTexts, BinaryNumbers, BinaryBooleans, OrderedBinaries, ExplicitBinaries, ExplicitBoxes, ImplicitStrings, PrefixedElements, PackedNumbers, BinaryDecimals, PatternElements, DelimitedBytes, DelimitedComponents, Groups, Sequences, SeparatedSequences, EmptySequences, Choices, CountedElements, TestedComponents}
 use Rattle.dfdl_checks.specs.declared.purpose.Purpose.{Purpose}
 use Rattle.dfdl_checks.specs.declared.purpose.Purpose.TheVariants.{Parsing, Unparsing}
 
@@ -53,7 +53,7 @@ word text = Words (text ∷ [])
 abbrev pub length_kinds : Built
 length_kinds = Words (codes "implicit" ∷ codes "explicit" ∷ codes "prefixed" ∷ codes "delimited" ∷ codes "pattern" ∷ [])
 
--- the properties, in the order of the profile. A binary number of delimited length, with a length by a pattern or with a
+-- the properties, in the order of the profile, and last one for what isn't told by properties. A binary number of delimited length, with a length by a pattern or with a
 -- length in characters is refused by a rule of its own, so these values, and its pattern, are no forms that come later; so is
 -- a binary boolean of delimited length or with a length in characters
 unfoldable pub applicability_table : List Applicability
@@ -90,12 +90,12 @@ applicability_table =
     ∷ applies_by (codes "separator") Sequences EveryValue (word (codes ""))
     ∷ applies (codes "separatorPosition") SeparatedSequences EveryValue
     ∷ applies (codes "separatorSuppressionPolicy") SeparatedSequences EveryValue
-    ∷ applies (codes "initiatedContent") Groups (word (codes "no"))
+    ∷ applies_by (codes "initiatedContent") Groups EveryValue (word (codes "no"))
     ∷ applies (codes "ignoreCase") TextBooleans EveryValue
     ∷ applies (codes "ignoreCase") TextNillables EveryValue
     ∷ applies (codes "ignoreCase") DelimitedComponents EveryValue
     ∷ applies (codes "sequenceKind") Sequences (word (codes "ordered"))
-    ∷ applies (codes "hiddenGroupRef") EmptySequences NoValue
+    ∷ applies_by (codes "hiddenGroupRef") EmptySequences EveryValue NoValue
     ∷ applies (codes "choiceDispatchKey") Choices NoValue
     ∷ applies_by (codes "occursCountKind") CountedElements (Words (codes "fixed" ∷ codes "implicit" ∷ codes "parsed" ∷ [])) NoValue
     ∷ applies_by (codes "textTrimKind") Texts EveryValue (word (codes "none"))
@@ -131,4 +131,5 @@ applicability_table =
     ∷ applies (codes "emptyValueDelimiterPolicy") SimpleElements EveryValue
     ∷ applies (codes "inputValueCalc") Elements NoValue
     ∷ applies (codes "outputValueCalc") Elements NoValue
+    ∷ applies (codes "encoding") TestedComponents EveryValue
     ∷ []

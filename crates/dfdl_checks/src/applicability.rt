@@ -3,8 +3,9 @@
 /// The components that a property applies to.
 #[derive(Debug, Clone, Copy, PartialEq, Eq)]
 pub enum Bearers {
+    /// All components but sequences that stand for a hidden group.
     EveryComponent,
-    /// All components but the types of length prefixes, whose framing is not asked for.
+    /// All components but the types of length prefixes and sequences that stand for a hidden group, whose framing is not asked for.
     FramedComponents,
     Elements,
     /// Elements that are neither boxed elements nor binary numbers nor binary booleans.
@@ -60,15 +61,18 @@ pub enum Bearers {
     DelimitedBytes,
     /// Components with an initiator, a terminator or a separator.
     DelimitedComponents,
-    /// Sequences and choices.
+    /// Sequences and choices, but for sequences that stand for a hidden group.
     Groups,
     Sequences,
     /// Sequences with a separator.
     SeparatedSequences,
+    /// Sequences in which nothing stands, and those that stand for a hidden group.
     EmptySequences,
     Choices,
     /// Elements with other bounds of occurrences than 1 and 1.
     CountedElements,
+    /// Components with tests of patterns.
+    TestedComponents,
 }
 
 /// Which values of a property are built: the others are carried later.

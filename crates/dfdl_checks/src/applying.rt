@@ -7,8 +7,8 @@ use crate::applicability::Bearers;
 use crate::boxes::{is_explicit_box, is_implicit_string};
 use crate::delimiters::{is_delimited, is_separated};
 use crate::kinds::{
-    is_choice, is_decimal, is_element, is_group, is_prefix_number, is_represented, is_sequence,
-    is_simple, is_string, value_bits,
+    is_choice, is_decimal, is_element, is_hidden, is_plain_group, is_represented, is_sequence,
+    is_simple, is_string, is_unframed, value_bits,
 };
 use crate::nils::is_nil_by_value;
 use crate::number_texts::base_of;
@@ -21,6 +21,7 @@ use crate::representations::{
     is_text_number, is_word, is_zoned,
 };
 use crate::subject::Subject;
+use crate::tests::is_tested;
 
 /// Whether a component is one of these.
 pub(crate) fn is_bearer(bearers: Bearers, subject: &Subject<'_, '_, '_>) -> bool
@@ -28,8 +29,8 @@ pub(crate) fn is_bearer(bearers: Bearers, subject: &Subject<'_, '_, '_>) -> bool
 {
     let kind = subject.kind;
     match bearers {
-        Bearers::EveryComponent => true,
-        Bearers::FramedComponents => !is_prefix_number(kind),
+        Bearers::EveryComponent => !is_hidden(kind),
+        Bearers::FramedComponents => !is_unframed(kind),
         Bearers::Elements => is_element(kind),
         Bearers::OtherElements => is_element(kind) && !is_boxed(subject) && !is_binary(subject),
         Bearers::SimpleElements => is_element(kind) && is_simple(kind),
@@ -62,12 +63,15 @@ pub(crate) fn is_bearer(bearers: Bearers, subject: &Subject<'_, '_, '_>) -> bool
         }
         Bearers::DelimitedBytes => is_delimited_bytes(subject),
         Bearers::DelimitedComponents => is_delimited(subject),
-        Bearers::Groups => is_group(kind),
+        Bearers::Groups => is_plain_group(kind),
         Bearers::Sequences => is_sequence(kind),
         Bearers::SeparatedSequences => is_separated(subject),
-        Bearers::EmptySequences => is_sequence(kind) && subject.facts.is_empty,
+        Bearers::EmptySequences => {
+            is_hidden(kind) || (is_sequence(kind) && subject.facts.is_empty)
+        },
         Bearers::Choices => is_choice(kind),
         Bearers::CountedElements => is_counted(subject),
+        Bearers::TestedComponents => is_tested(subject),
     }
 }
 

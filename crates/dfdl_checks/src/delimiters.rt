@@ -10,7 +10,7 @@ ghost use Rattle.dfdl_scope.specs.Shown.{chain_of};
 ghost use Rattle.dfdl_scope.specs.Told.{told_by};
 
 use crate::encodings::encoding_told;
-use crate::kinds::{is_prefix_number, is_sequence};
+use crate::kinds::{is_sequence, is_unframed};
 use crate::nils::lacks_literals;
 use crate::purpose::Purpose;
 use crate::representations::is_word;
@@ -18,7 +18,7 @@ use crate::subject::Subject;
 use dfdl_forms::{Encoding, Literals};
 use dfdl_literals::{LiteralFault, literals_read_as_one, read_literals};
 use dfdl_scope::{Asked, Component, is_expression, literal, property};
-use dfdl_separators::SeparatorPosition;
+use dfdl_separators::{SeparatorPosition, SeparatorSuppressionPolicy};
 use dfdl_terms::Delimiters;
 use std::alloc::{AllocError, Global};
 
@@ -40,6 +40,8 @@ pub struct Separating {
     pub list: Delimiters,
     /// Where it stands.
     pub position: SeparatorPosition,
+    /// Which optional slots may be missing.
+    pub policy: SeparatorSuppressionPolicy,
 }
 
 /// The delimiters of a component ('Framing', 'Sequence Groups').
@@ -209,6 +211,7 @@ fn separating_in(
         Some(encoding) => Some(Separating {
             list: list_with(subject, literals, encoding),
             position: position_told(subject.chain),
+            policy: policy_told(subject.chain),
         }),
         None => None,
     }
@@ -227,8 +230,24 @@ fn position_told(chain: &Component<'_, '_>) -> SeparatorPosition
     SeparatorPosition::Infix
 }
 
+/// Which optional slots may be missing: any, where a chain gives nothing.
+fn policy_told(chain: &Component<'_, '_>) -> SeparatorSuppressionPolicy
+    ensures { result ≡ delimiters.policy_told (told (chain_of chain.now) (codes "separatorSuppressionPolicy")) }
+{
+    if is_word(chain, "separatorSuppressionPolicy", "never") {
+        return SeparatorSuppressionPolicy::Never;
+    }
+    if is_word(chain, "separatorSuppressionPolicy", "trailingEmpty") {
+        return SeparatorSuppressionPolicy::TrailingEmpty;
+    }
+    if is_word(chain, "separatorSuppressionPolicy", "trailingEmptyStrict") {
+        return SeparatorSuppressionPolicy::TrailingEmptyStrict;
+    }
+    SeparatorSuppressionPolicy::AnyEmpty
+}
+
 /// Whether a delimiter is told: an empty value is none.
-fn is_delimiter(told: Asked<'_>) -> bool
+pub fn is_delimiter(told: Asked<'_>) -> bool
     ensures { result ≡ delimiters.is_delimiter (told_by told.entry) }
 {
     match told {
@@ -238,11 +257,11 @@ fn is_delimiter(told: Asked<'_>) -> bool
     }
 }
 
-/// Whether a component has the delimiter of a name; the type of a prefix has none.
-fn has_delimiter(subject: &Subject<'_, '_, '_>, name: &str) -> bool
+/// Whether a component has the delimiter of a name; the type of a prefix has none, nor has a sequence that stands for a hidden group.
+pub(crate) fn has_delimiter(subject: &Subject<'_, '_, '_>, name: &str) -> bool
     ensures { result ≡ delimiters.has_delimiter (judged_of subject.now) name.now }
 {
-    !is_prefix_number(subject.kind) && is_delimiter(property(subject.chain, name))
+    !is_unframed(subject.kind) && is_delimiter(property(subject.chain, name))
 }
 
 /// Whether it is a sequence with a separator.
@@ -295,7 +314,7 @@ pub(crate) fn delimiter_at(
 ) -> Result<DelimiterText, AllocError>
     ensures { IfOk result (λ text. text ≡ delimiters.delimiter_at (judged_of subject.now) name.now) }
 {
-    if is_prefix_number(subject.kind) {
+    if is_unframed(subject.kind) {
         return Ok(DelimiterText::Nothing);
     }
     delimiter_told(alloc, property(subject.chain, name))

@@ -4,7 +4,7 @@ ghost use Rattle.dfdl_checks.specs.FillBytes as fills;
 ghost use Rattle.dfdl_checks.specs.JudgedShown.{judged_of};
 ghost use Rattle.dfdl_scope.specs.Told.{told_by};
 
-use crate::kinds::is_prefix_number;
+use crate::kinds::is_unframed;
 use crate::subject::Subject;
 use dfdl_literals::{FillByte, fill_byte};
 use dfdl_scope::{Asked, is_expression, literal, property};
@@ -51,12 +51,12 @@ fn is_other_told(told: Asked<'_>) -> bool
 pub(crate) fn is_fill_malformed(subject: &Subject<'_, '_, '_>) -> bool
     ensures { result ≡ fills.is_fill_malformed (judged_of subject.now) }
 {
-    !is_prefix_number(subject.kind) && is_malformed_told(property(subject.chain, "fillByte"))
+    !is_unframed(subject.kind) && is_malformed_told(property(subject.chain, "fillByte"))
 }
 
 /// Whether it is a component with fill, whose byte is told as no single one.
 pub(crate) fn is_fill_other(subject: &Subject<'_, '_, '_>) -> bool
     ensures { result ≡ fills.is_fill_other (judged_of subject.now) }
 {
-    !is_prefix_number(subject.kind) && is_other_told(property(subject.chain, "fillByte"))
+    !is_unframed(subject.kind) && is_other_told(property(subject.chain, "fillByte"))
 }

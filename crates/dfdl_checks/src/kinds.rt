@@ -13,16 +13,26 @@ pub(crate) fn is_element(kind: Kind) -> bool
 {
     match kind {
         Kind::ComplexElement | Kind::SimpleElement(_) | Kind::UncarriedElement => true,
-        Kind::Sequence | Kind::Choice | Kind::PrefixNumber(_) => false,
+        Kind::Sequence | Kind::HiddenSequence | Kind::Choice | Kind::PrefixNumber(_) => false,
     }
 }
 
-/// Whether it is the type of a length prefix.
-pub(crate) fn is_prefix_number(kind: Kind) -> bool
-    ensures { result ≡ subjects.is_prefix_number kind }
+/// Whether it is a sequence that stands for a hidden group.
+pub(crate) fn is_hidden(kind: Kind) -> bool
+    ensures { result ≡ subjects.is_hidden kind }
 {
     match kind {
-        Kind::PrefixNumber(_) => true,
+        Kind::HiddenSequence => true,
+        _ => false,
+    }
+}
+
+/// Whether it is the type of a length prefix or a sequence that stands for a hidden group.
+pub(crate) fn is_unframed(kind: Kind) -> bool
+    ensures { result ≡ subjects.is_unframed kind }
+{
+    match kind {
+        Kind::PrefixNumber(_) | Kind::HiddenSequence => true,
         _ => false,
     }
 }
@@ -33,7 +43,7 @@ pub(crate) fn is_simple(kind: Kind) -> bool
 {
     match kind {
         Kind::SimpleElement(_) | Kind::UncarriedElement | Kind::PrefixNumber(_) => true,
-        Kind::ComplexElement | Kind::Sequence | Kind::Choice => false,
+        Kind::ComplexElement | Kind::Sequence | Kind::HiddenSequence | Kind::Choice => false,
     }
 }
 
@@ -67,11 +77,18 @@ pub(crate) fn is_choice(kind: Kind) -> bool
     }
 }
 
+/// Whether it is a sequence or a choice of what stands in it.
+pub(crate) fn is_plain_group(kind: Kind) -> bool
+    ensures { result ≡ subjects.is_plain_group kind }
+{
+    is_sequence(kind) || is_choice(kind)
+}
+
 /// Whether it is a sequence or a choice.
 pub(crate) fn is_group(kind: Kind) -> bool
     ensures { result ≡ subjects.is_group kind }
 {
-    is_sequence(kind) || is_choice(kind)
+    is_plain_group(kind) || is_hidden(kind)
 }
 
 /// Whether values of a type are texts.

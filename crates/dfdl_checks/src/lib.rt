@@ -11,6 +11,7 @@
 //! pattern tells its length, by `specs/Patterns.antt`. `framing` says which fill stands around a component, by
 //! `specs/Framing.antt`, `delimiters_at` which initiator, terminator and separator it has, by `specs/Delimiters.antt`, and `size_of_box` how long
 //! a complex element's box is, by `specs/Boxes.antt`. `occurrences` says how often an element occurs, by `specs/Occurrences.antt`.
+//! The patterns of its tests are told by `specs/Tests.antt`, and what is asked of it where it stands by `specs/Standings.antt`.
 //! `other_representations` says which representations of a simple element are tried before its normal one, by
 //! `specs/Representations.antt`, which stands on `specs/Nils.antt`, `specs/NilValues.antt` and `specs/Defaults.antt`. The chapters are
 //! 'Property Scoping and DFDL Schema Checking', 'DFDL Data Syntax Grammar', 'Framing', 'Lengths', 'Simple Types', 'Sequence Groups' and
@@ -47,8 +48,10 @@ mod prefixes;
 mod purpose;
 mod representations;
 mod rules;
+mod standings;
 mod subject;
 mod table;
+mod tests;
 mod text;
 mod text_rules;
 mod tried;
@@ -56,14 +59,17 @@ mod values;
 mod zoned_texts;
 
 pub use boxes::size_of_box;
-pub use delimiters::{Delimiting, Markup, Separating, delimiters_at};
+pub use delimiters::{Delimiting, Markup, Separating, delimiters_at, is_delimiter};
 pub use fill::framing;
 pub use number::primitive;
-pub use occurring::{Bounds, occurrences};
+pub use occurring::{Bounds, is_count_parsed, occurrences};
 pub use orders::bit_order;
 pub use patterns::{length_pattern, pattern_encoding};
 pub use prefixes::{PrefixForm, prefix};
 pub use purpose::Purpose;
+pub use representations::is_word;
 pub use rules::breach;
-pub use subject::{Breach, Facts, Kind, PrefixType, Subject};
+pub use standings::initiates;
+pub use subject::{Breach, Facts, Kind, PrefixType, Standing, StatedTest, Subject};
+pub use tests::{is_pattern_test, test_pattern};
 pub use tried::{OtherRepresentations, other_representations};

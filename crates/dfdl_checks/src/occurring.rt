@@ -117,6 +117,16 @@ fn within_word(count: u64) -> u32
     count.min(u64::from(u32::MAX)) as u32
 }
 
+/// Whether those of a component's occurrences that are tried are of occursCountKind parsed. Takes no memory.
+pub fn is_count_parsed(subject: &Subject<'_, '_, '_>) -> bool
+    ensures { result ≡ spec.is_count_parsed (judged_of subject.now) }
+{
+    match subject.purpose {
+        Purpose::Parsing => !is_once(subject.facts.bounds) && is_parsed(subject),
+        Purpose::Unparsing => false,
+    }
+}
+
 /// Whether some of a component's occurrences are required.
 pub(crate) fn is_required(subject: &Subject<'_, '_, '_>) -> bool
     ensures { result ≡ spec.is_required (judged_of subject.now) }
@@ -163,14 +173,14 @@ pub(crate) fn is_counted(subject: &Subject<'_, '_, '_>) -> bool
 }
 
 /// Whether it is an element that occurs a fixed number of times.
-fn is_fixed(subject: &Subject<'_, '_, '_>) -> bool
+pub(crate) fn is_fixed(subject: &Subject<'_, '_, '_>) -> bool
     ensures { result ≡ spec.is_fixed (judged_of subject.now) }
 {
     is_word(subject.chain, "occursCountKind", "fixed")
 }
 
 /// Whether the data tell how often it occurs.
-fn is_parsed(subject: &Subject<'_, '_, '_>) -> bool
+pub(crate) fn is_parsed(subject: &Subject<'_, '_, '_>) -> bool
     ensures { result ≡ spec.is_parsed (judged_of subject.now) }
 {
     is_word(subject.chain, "occursCountKind", "parsed")

@@ -16,7 +16,7 @@ use crate::number::primitive;
 use crate::occurring::Bounds;
 use crate::purpose::Purpose;
 use crate::representations::{is_prefixed, is_word};
-use crate::subject::{Facts, Kind, PrefixType, Subject};
+use crate::subject::{Facts, Kind, PrefixType, Standing, Subject};
 use dfdl_forms::{Encoding, Form, Simple};
 use dfdl_scope::{Asked, Component, is_expression, property};
 use dfdl_terms::{LengthUnit, Primitive, TextSize};
@@ -40,9 +40,15 @@ const NO_FACTS: Facts<'static> = Facts {
     },
     is_nillable: false,
     default: None,
-    has_statements: false,
+    sets_variables: false,
     is_empty: false,
     max_length: None,
+};
+
+/// The type of a prefix stands in no group.
+const NOWHERE: Standing = Standing {
+    is_initiated: false,
+    needs_bound: false,
 };
 
 /// How the prefix of an element lies in the data, and how many units of its own it counts; nothing for every other
@@ -126,6 +132,9 @@ fn judged_integer<'s, 'e, 'c>(
             prefix: None,
             scheme: prefix.scheme,
             pattern_is_refused: false,
+            tests: &[],
+            standing: NOWHERE,
+            group_is_unknown: false,
         }),
         _ => None,
     }

@@ -13,7 +13,7 @@ use crate::subject::Subject;
 use dfdl_scope::{Asked, Component, literal, property};
 
 /// Whether what is told of a property stands for this word.
-pub(crate) fn is_word(chain: &Component<'_, '_>, name: &str, word: &str) -> bool
+pub fn is_word(chain: &Component<'_, '_>, name: &str, word: &str) -> bool
     ensures { result ≡ subjects.is_word word.now (told (chain_of chain.now) name.now) }
 {
     match property(chain, name) {

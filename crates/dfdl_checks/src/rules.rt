@@ -10,7 +10,7 @@ use crate::delimiters::is_delimiter_empty;
 use crate::fill_bytes::is_fill_other;
 use crate::flaw::Flaw;
 use crate::flaws::has_flaw;
-use crate::kinds::{is_choice, is_element, is_simple};
+use crate::kinds::{is_choice, is_element, is_hidden, is_simple};
 use crate::length_rules::{
     is_length_in_characters, is_length_kind_not_allowed, is_length_out_of_range,
     is_max_length_missing, is_prefix_not_whole, is_prefix_type_missing, is_prefix_type_not_allowed,
@@ -23,7 +23,11 @@ use crate::packed::codes_told;
 use crate::prefixes::prefix_subject;
 use crate::purpose::Purpose;
 use crate::representations::{is_binary_boolean, is_binary_number, is_packed, is_text, is_word};
+use crate::standings::{is_initiator_missing, is_unbounded_not_allowed};
 use crate::subject::{Breach, Kind, Subject};
+use crate::tests::{
+    are_tests_other, are_tests_together, has_later_statements, is_test_pattern_missing,
+};
 use crate::text_rules::{
     are_separators_unfit, are_truth_texts_other, is_base_unfit, is_character_not_encoded,
     is_literal_malformed, is_pad_no_character, is_pattern_malformed, is_separator_other,
@@ -68,7 +72,7 @@ fn own_breach(alloc: Global, subject: &Subject<'_, '_, '_>) -> Result<Option<Bre
             place,
         }));
     }
-    if has_flaw(Flaw::Missing, subject) {
+    if has_flaw(Flaw::Missing, subject) || is_test_pattern_missing(subject) {
         return told_here(SchemaCause::PropertyMissing, subject);
     }
     if is_value_not_carried(alloc, subject)? {
@@ -153,7 +157,7 @@ fn content_breach(
     representation_breach(alloc, subject)
 }
 
-/// The first rule on nil, on defaults, on bounds of occurrences and on escape schemes that a component breaks.
+/// The first rule on nil, on defaults and on bounds of occurrences, or of a greater number, that a component breaks.
 #[tactic(auto, unfolding(crate::specs::Rules::rules))]
 fn representation_breach(
     alloc: Global,
@@ -167,8 +171,25 @@ fn representation_breach(
     if is_default_not_allowed(alloc, subject)? {
         return told_here(SchemaCause::DefaultNotAValue, subject);
     }
+    if is_unbounded_not_allowed(subject) {
+        return told_here(SchemaCause::UnboundedElement, subject);
+    }
     if are_bounds_unfit(subject) {
         return told_here(SchemaCause::OccurrenceBounds, subject);
+    }
+    statement_breach(subject)
+}
+
+/// The first rule on tests, on initiated contents and on escape schemes that a component breaks.
+#[tactic(auto, unfolding(crate::specs::Rules::rules))]
+fn statement_breach(subject: &Subject<'_, '_, '_>) -> Result<Option<Breach>, AllocError>
+    ensures { IfOk result (λ breach. breach ≡ spec.first_breach (drop 27 spec.rules) (judged_of subject.now)) }
+{
+    if are_tests_together(subject) {
+        return told_here(SchemaCause::TestsTogether, subject);
+    }
+    if is_initiator_missing(subject) {
+        return told_here(SchemaCause::NoInitiator, subject);
     }
     if is_scheme_malformed(subject) {
         return told_here(SchemaCause::EscapeScheme, subject);
@@ -203,7 +224,7 @@ fn is_later_component(subject: &Subject<'_, '_, '_>) -> bool
     let kind = subject.kind;
     is_later_group(subject.purpose, kind)
         || has_later_type(subject.purpose, kind)
-        || subject.facts.has_statements
+        || has_later_statements(subject)
         || (is_element(kind) && is_later_element(subject))
 }
 
@@ -288,14 +309,15 @@ fn are_orders_apart(subject: &Subject<'_, '_, '_>) -> bool
 fn is_second_bit_order(subject: &Subject<'_, '_, '_>) -> bool
     ensures { result ≡ spec.is_second_bit_order (judged_of subject.now) }
 {
-    !is_same_order(bit_order(subject.chain), subject.root_bits_by)
+    !is_hidden(subject.kind) && !is_same_order(bit_order(subject.chain), subject.root_bits_by)
 }
 
 /// Whether the alignment of what is no simple element is implicit.
 fn is_alignment_not_allowed(subject: &Subject<'_, '_, '_>) -> bool
     ensures { result ≡ spec.is_alignment_not_allowed (judged_of subject.now) }
 {
-    !is_simple(subject.kind) && is_word(subject.chain, "alignment", "implicit")
+    let kind = subject.kind;
+    !(is_simple(kind) || is_hidden(kind)) && is_word(subject.chain, "alignment", "implicit")
 }
 
 /// Whether it is a packed number whose sign codes aren't four that are allowed.
@@ -359,7 +381,7 @@ fn is_value_not_carried(alloc: Global, subject: &Subject<'_, '_, '_>) -> Result<
     if is_new_line_other(alloc, subject)? {
         return Ok(true);
     }
-    Ok(is_scheme_unknown(subject))
+    Ok(is_scheme_unknown(subject) || are_tests_other(subject) || subject.group_is_unknown)
 }
 
 /// Whether it is a text whose escape scheme is named by nothing's name.

@@ -16,6 +16,8 @@ pub enum Kind {
     /// An element of a simple type that is not carried.
     UncarriedElement,
     Sequence,
+    /// A sequence that stands for a hidden group: no other property of it, and no statement, has an effect.
+    HiddenSequence,
     Choice,
     /// The type of a length prefix, an integer type.
     PrefixNumber(Simple),
@@ -30,13 +32,36 @@ pub struct Facts<'c> {
     pub is_nillable: bool,
     /// Of an element: the text of its default value, if it has one.
     pub default: Option<&'c str>,
-    /// An assert, a discriminator, a setVariable or a newVariableInstance stands at it.
-    pub has_statements: bool,
+    /// A setVariable or a newVariableInstance stands at it.
+    pub sets_variables: bool,
     /// Of a sequence or a choice: nothing is in it.
     pub is_empty: bool,
     /// Of an element of a simple type: the greatest length of its values, where the type has one; a number past 64 bits is the
     /// greatest of these.
     pub max_length: Option<u64>,
+}
+
+/// An assert or a discriminator as it is written ('DFDL Schema Component Model', on asserts and discriminators).
+#[derive(Debug, Clone, Copy)]
+pub struct StatedTest<'c> {
+    /// It is a discriminator.
+    pub discriminates: bool,
+    /// Its testKind.
+    pub kind: Option<&'c str>,
+    /// Its failureType.
+    pub failure: Option<&'c str>,
+    /// The text of its pattern.
+    pub pattern: Option<&'c str>,
+    pub message: Option<&'c str>,
+}
+
+/// Where a component stands.
+#[derive(Debug, Clone, Copy, PartialEq, Eq)]
+pub struct Standing {
+    /// In a group with initiated content ('Sequence Groups').
+    pub is_initiated: bool,
+    /// Among slots none of which may be unbounded ('Sequence Groups', on separatorSuppressionPolicy).
+    pub needs_bound: bool,
 }
 
 /// The type that a component's property prefixLengthType names.
@@ -69,8 +94,14 @@ pub struct Subject<'s, 'e, 'c> {
     pub prefix: Option<PrefixType<'s, 'e, 'c>>,
     /// What its property escapeSchemeRef names.
     pub scheme: NamedScheme,
-    /// The pattern of its length can't be built.
+    /// The pattern of its length, or that of one of its tests, can't be built.
     pub pattern_is_refused: bool,
+    /// Its asserts and discriminators, in their order.
+    pub tests: &'s [StatedTest<'c>],
+    /// Where it stands.
+    pub standing: Standing,
+    /// Its property hiddenGroupRef names nothing.
+    pub group_is_unknown: bool,
 }
 
 /// A rule that a component breaks, by its cause, and where that is told.

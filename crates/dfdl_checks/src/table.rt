@@ -13,7 +13,7 @@ pub(crate) fn applicabilities() -> &'static [Applicability]
     &APPLICABILITIES
 }
 
-static APPLICABILITIES: [Applicability; 73] = [
+static APPLICABILITIES: [Applicability; 74] = [
     Applicability {
         name: "representation",
         bearers: Bearers::RepresentedElements,
@@ -209,7 +209,7 @@ static APPLICABILITIES: [Applicability; 73] = [
     Applicability {
         name: "initiatedContent",
         bearers: Bearers::Groups,
-        parsing: Built::Words(&["no"]),
+        parsing: Built::EveryValue,
         unparsing: Built::Words(&["no"]),
     },
     Applicability {
@@ -239,7 +239,7 @@ static APPLICABILITIES: [Applicability; 73] = [
     Applicability {
         name: "hiddenGroupRef",
         bearers: Bearers::EmptySequences,
-        parsing: Built::NoValue,
+        parsing: Built::EveryValue,
         unparsing: Built::NoValue,
     },
     Applicability {
@@ -451,5 +451,11 @@ static APPLICABILITIES: [Applicability; 73] = [
         bearers: Bearers::Elements,
         parsing: Built::NoValue,
         unparsing: Built::NoValue,
+    },
+    Applicability {
+        name: "encoding",
+        bearers: Bearers::TestedComponents,
+        parsing: Built::EveryValue,
+        unparsing: Built::EveryValue,
     },
 ];

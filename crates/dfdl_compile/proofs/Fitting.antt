@@ -1,5 +1,8 @@
 -- The components of documents are those of one schema.
-use Rattle.std.proofs.Common.{◌≡◌, ℕ, zero, suc, ◌<◌, ◌≤◌, List, [], ◌∷◌, length, map, get_or, All, Bool, Option, Some, None, option_map, ap, sym, subst, ◌∙◌, refl, arith}
+use Rattle.std.proofs.Common.{◌≡◌, ℕ, zero, suc, ◌+◌, ◌<◌, ◌≤◌, List, [], ◌∷◌, ◌++◌, length, map, take, drop, get_or, All, Bool, false, Option, Some, None, IfSome, option_map, ap, sym, subst, ◌∙◌, refl, arith, append_assoc, drop-cons, length-append}
+use Rattle.std.proofs.Math.Seq.{take-suc}
+use Rattle.std.proofs.lemmas.Grind.{flat_map-append}
+use Rattle.std.proofs.lemmas.List.{append-nil, get_or-map}
 use Rattle.std.proofs.lemmas.List.{length-map}
 use Rattle.std.proofs.lemmas.List.Elements.{All-nil, All-append, All-push, All-cons}
 use Rattle.dfdl_constructs.specs.declared.role.Role.{Role}
@@ -18,24 +21,30 @@ use Rattle.dfdl_chains.specs.declared.typed.Typed.{Typed}
 use Rattle.dfdl_chains.specs.declared.typed.Typed.TheVariants.{Carried, NotCarried, Defined}
 use Rattle.dfdl_chains.specs.Chains.{group_content}
 use Rattle.dfdl_chains.specs.Derivation.{type_of}
-use Rattle.dfdl_chains.specs.Everywhere.{sites_in, sites_before, all_sites}
+use Rattle.dfdl_chains.specs.Everywhere.{for_each, sites_in, sites_before, all_sites}
 use Rattle.dfdl_chains.specs.Kinds.{kind_of_type, kind_of_content, kind_of_group, kind_by, kind_at}
-use Rattle.dfdl_chains.specs.Parts.{contents, parts_by, parts_at}
+use Rattle.dfdl_chains.specs.Parts.{contents, parts_by as role_parts, parts_at}
 use Rattle.dfdl_chains.proofs.Numbering.{number_below, length_all}
 use Rattle.dfdl_chains.proofs.Within.{parts_are_within}
+use Rattle.dfdl_breaches.proofs.Numbering.{at-number, numbered}
+use Rattle.dfdl_breaches.specs.declared.judgement.Judgement.{Judgement}
+use Rattle.dfdl_compile.proofs.Hiding.{AreGroupsWithin, hidden_within}
 use Rattle.dfdl_breaches.specs.Judging.{judgement_at}
 use Rattle.dfdl_compile.specs.Primitives.{primitive_by}
 use Rattle.dfdl_rows.specs.Components.{Schema, AreOfOne, CanHave}
 use Rattle.dfdl_terms.specs.Framing.{no_fill}
+use Rattle.dfdl_terms.specs.declared.asserting.PatternTest.{PatternTest}
 use Rattle.dfdl_terms.specs.declared.framing.Framing.{Framing}
 use Rattle.dfdl_rows.specs.declared.component.Separated.{Separated}
 use Rattle.dfdl_rows.specs.declared.component.Component.{Component}
-use Rattle.dfdl_rows.specs.declared.component.Component.TheVariants.{Sequence}
+use Rattle.dfdl_rows.specs.declared.component.Component.TheVariants.{Sequence, Hidden}
 use Rattle.dfdl_rows.specs.declared.refusal.Refusal.{Refusal}
 use Rattle.dfdl_report.specs.declared.place.Place.{Place}
 use Rattle.dfdl_breaches.specs.Elements.{place_of}
 use Rattle.dfdl_compile.specs.Delimiters.{separated_by}
-use Rattle.dfdl_compile.specs.Components.{refusal_at, choice_by, component_by, component_at, element_name, empty_number, framing_of, nil_number, part_numbers, prefix_by, prefix_number, separator_number, tried_by, components_of}
+use Rattle.dfdl_compile.specs.Shown.{HidesElement}
+use Rattle.dfdl_compile.specs.Tests.{all_tests, first_test, judgements_of, tests_before, tests_of}
+use Rattle.dfdl_compile.specs.Components.{refusal_at, choice_by, component_by, component_at, component_with, hiding_by, parts_by, element_name, empty_number, framing_of, nil_number, part_numbers, prefix_by, prefix_number, separator_number, tried_by, components_of}
 
 -- a list that is made from one that is made
 pub twice : {X Y Z : Type 0} (g : Y → Z) (f : X → Y) (xs : List X) → map g (map f xs) ≡ map (λ x. g (f x)) xs
@@ -71,19 +80,38 @@ sites_within documents sites are = subst (λ (xs : List Site). All (IsSite docum
 -- there are as many components as elements
 pub length_uses : (purpose : Purpose) (refused : Site → Bool) (documents : List SchemaDocument) → length (components_of purpose refused documents).uses ≡ count_of documents
 unfolding components_of
-length_uses purpose refused documents = length_of (part_numbers documents) (all_sites documents) ∙ length_all documents
+length_uses purpose refused documents = length_of (part_numbers purpose refused documents) (all_sites documents) ∙ length_all documents
 
-parts_below : (documents : List SchemaDocument) (own : Site) → IsSite documents own → All (λ p. p < count_of documents) (part_numbers documents own)
-parts_below documents own within = each (IsSite documents) (λ p. p < count_of documents) (number_of documents) (number_below documents) (parts_at documents own) (parts_are_within documents own within)
+-- the parts of a component are elements of the documents, those of one that hides a group too
+pub hiding_within : (documents : List SchemaDocument) (own : Site) (hidden : Option Site) → IsSite documents own → IfSome hidden (IsSite documents)
+    → All (IsSite documents) (parts_by documents own hidden)
+hiding_within documents own None within there = parts_are_within documents own within
+hiding_within documents own (Some content) within there = All-cons (IsSite documents) content [] there (All-nil (IsSite documents))
 
-uses_below : (purpose : Purpose) (refused : Site → Bool) (documents : List SchemaDocument) → All (λ parts. All (λ p. p < count_of documents) parts) (components_of purpose refused documents).uses
+parts_below : (purpose : Purpose) (refused : Site → Bool) (documents : List SchemaDocument) → AreGroupsWithin documents → (own : Site) → IsSite documents own
+    → All (λ p. p < count_of documents) (part_numbers purpose refused documents own)
+parts_below purpose refused documents law own within =
+    each (IsSite documents) (λ p. p < count_of documents) (number_of documents) (number_below documents)
+    (parts_by documents own (judgement_at purpose refused documents own).hidden)
+    (hiding_within documents own (judgement_at purpose refused documents own).hidden within (hidden_within purpose refused documents law own))
+
+uses_below : (purpose : Purpose) (refused : Site → Bool) (documents : List SchemaDocument) → AreGroupsWithin documents
+    → All (λ parts. All (λ p. p < count_of documents) parts) (components_of purpose refused documents).uses
 unfolding components_of
-uses_below purpose refused documents = each (IsSite documents) (λ parts. All (λ p. p < count_of documents) parts) (part_numbers documents) (parts_below documents) (all_sites documents) (all_within documents)
+uses_below purpose refused documents law = each (IsSite documents) (λ parts. All (λ p. p < count_of documents) parts) (part_numbers purpose refused documents) (parts_below purpose refused documents law) (all_sites documents) (all_within documents)
+
+-- the groups that are hidden are elements of the documents
+pub each_hides : (purpose : Purpose) (refused : Site → Bool) (documents : List SchemaDocument) → AreGroupsWithin documents → (judgements : List Judgement)
+    → judgements ≡ for_each documents (judgement_at purpose refused documents) → All (HidesElement documents) judgements
+each_hides purpose refused documents law judgements told =
+    subst (λ (js : List Judgement). All (HidesElement documents) js) (sym told)
+    (each (IsSite documents) (HidesElement documents) (judgement_at purpose refused documents) (λ own within. hidden_within purpose refused documents law own)
+    (all_sites documents) (all_within documents))
 
 -- each part is a component
-pub closed : (purpose : Purpose) (refused : Site → Bool) (documents : List SchemaDocument) (uses : List (List ℕ)) → uses ≡ (components_of purpose refused documents).uses → IsClosed uses
-closed purpose refused documents uses are = subst IsClosed (sym are)
-    (subst (λ (n : ℕ). All (λ parts. All (λ p. p < n) parts) (components_of purpose refused documents).uses) (sym (length_uses purpose refused documents)) (uses_below purpose refused documents))
+pub closed : (purpose : Purpose) (refused : Site → Bool) (documents : List SchemaDocument) → AreGroupsWithin documents → (uses : List (List ℕ)) → uses ≡ (components_of purpose refused documents).uses → IsClosed uses
+closed purpose refused documents law uses are = subst IsClosed (sym are)
+    (subst (λ (n : ℕ). All (λ parts. All (λ p. p < n) parts) (components_of purpose refused documents).uses) (sym (length_uses purpose refused documents)) (uses_below purpose refused documents law))
 
 -- what two lists have at one place
 fits : {X A B : Type 0} (P : A → B → Type 0) (f : X → A) (g : X → B) → ((x : X) → P (f x) (g x)) → (a : A) (b : B) (xs : List X) (c : ℕ) → c < length xs
@@ -96,16 +124,17 @@ module _ (purpose : Purpose) (refused : Site → Bool) (documents : List SchemaD
   -- the element or group of this kind that an element of the documents is
   abbrev pub of_kind : Kind → Component
   of_kind kind = component_by purpose (element_name documents own) (primitive_by (judgement_at purpose refused documents own)) (number_of documents own)
-      (framing_of documents own (judgement_at purpose refused documents own)) (judgement_at purpose refused documents own).size
+      (framing_of documents (first_test purpose refused documents own) own (judgement_at purpose refused documents own)) (judgement_at purpose refused documents own).size
       (option_map (prefix_by (prefix_number documents own)) (judgement_at purpose refused documents own).prefix)
       (tried_by (nil_number documents own) (empty_number documents own) (judgement_at purpose refused documents own).others)
       (option_map (separated_by (separator_number documents own)) (judgement_at purpose refused documents own).markup.separator)
-      (judgement_at purpose refused documents own).occurs kind
+      (judgement_at purpose refused documents own).initiates (judgement_at purpose refused documents own).occurs
+      (judgement_at purpose refused documents own).is_parsed kind
 
   abbrev pub made : Role → Component
   made r = of_kind (kind_by documents own r)
 
-  pub made_is : component_at purpose refused documents own ≡ made (role_of documents own)
+  pub made_is : component_at purpose refused documents own ≡ hiding_by (judgement_at purpose refused documents own).hidden (made (role_of documents own))
   unfolding kind_at
   made_is = refl
 
@@ -114,15 +143,18 @@ module _ (purpose : Purpose) (refused : Site → Bool) (documents : List SchemaD
   typed_fits NotCarried = refl
   typed_fits (Defined type) = refl
 
-  choice_fits : (q : Purpose) (framing : Framing) (separated : Option Separated) (parts : List ℕ) → CanHave (choice_by q framing separated) parts
-  choice_fits Parsing framing separated parts = tt
-  choice_fits Unparsing framing separated parts = tt
+  choice_fits : (q : Purpose) (framing : Framing) (separated : Option Separated) (initiated : Bool) (parts : List ℕ)
+      → CanHave (choice_by q framing separated initiated) parts
+  choice_fits Parsing framing separated initiated parts = tt
+  choice_fits Unparsing framing separated initiated parts = tt
 
   group_fits : (k : Kind) (r : Role) → k ≡ kind_of_group r → (parts : List ℕ) → CanHave (of_kind k) parts
   group_fits kind.Sequence r is parts = tt
+  group_fits kind.HiddenSequence r is parts = tt
   group_fits kind.Choice r is parts =
-      choice_fits purpose (framing_of documents own (judgement_at purpose refused documents own))
-      (option_map (separated_by (separator_number documents own)) (judgement_at purpose refused documents own).markup.separator) parts
+      choice_fits purpose (framing_of documents (first_test purpose refused documents own) own (judgement_at purpose refused documents own))
+      (option_map (separated_by (separator_number documents own)) (judgement_at purpose refused documents own).markup.separator)
+      (judgement_at purpose refused documents own).initiates parts
   group_fits kind.ComplexElement role.Choice is parts = absurd (cc)
   group_fits kind.ComplexElement _ is parts = absurd (cc)
   group_fits (kind.SimpleElement simple) role.Choice is parts = absurd (cc)
@@ -135,27 +167,33 @@ module _ (purpose : Purpose) (refused : Site → Bool) (documents : List SchemaD
   content_fits None parts = tt
   content_fits (Some group) parts = group_fits (kind_of_group (role_of documents group)) (role_of documents group) refl parts
 
-  role_fits : (r : Role) → CanHave (made r) (map (number_of documents) (parts_by documents own r))
+  role_fits : (r : Role) → CanHave (made r) (map (number_of documents) (role_parts documents own r))
   role_fits role.GlobalElement = typed_fits (type_of documents own)
   role_fits role.LocalElement = typed_fits (type_of documents own)
   role_fits role.ElementReference = typed_fits (type_of documents own)
-  role_fits role.GroupReference = content_fits (group_content documents own) (map (number_of documents) (parts_by documents own role.GroupReference))
-  role_fits role.Choice = group_fits kind.Choice role.Choice refl (map (number_of documents) (parts_by documents own role.Choice))
+  role_fits role.GroupReference = content_fits (group_content documents own) (map (number_of documents) (role_parts documents own role.GroupReference))
+  role_fits role.Choice = group_fits kind.Choice role.Choice refl (map (number_of documents) (role_parts documents own role.Choice))
   role_fits _ = tt
 
-  pub can_have : CanHave (component_at purpose refused documents own) (part_numbers documents own)
+  hiding_fits : (hidden : Option Site) → CanHave (hiding_by hidden (made (role_of documents own))) (map (number_of documents) (parts_by documents own hidden))
   unfolding parts_at
-  can_have = subst (λ (component : Component). CanHave component (part_numbers documents own)) (sym made_is) (role_fits (role_of documents own))
+  hiding_fits None = role_fits (role_of documents own)
+  hiding_fits (Some content) = refl
+
+  pub can_have : CanHave (component_at purpose refused documents own) (part_numbers purpose refused documents own)
+  can_have =
+      subst (λ (component : Component). CanHave component (part_numbers purpose refused documents own)) (sym made_is)
+      (hiding_fits (judgement_at purpose refused documents own).hidden)
 
 -- the lists of the components are those of one schema
 of_one : (purpose : Purpose) (refused : Site → Bool) (documents : List SchemaDocument) → AreOfOne (components_of purpose refused documents).uses (components_of purpose refused documents).components (components_of purpose refused documents).refusals (components_of purpose refused documents).places
 unfolding components_of
 of_one purpose refused documents = record {
-  counted = length_of (component_at purpose refused documents) (all_sites documents) ∙ sym (length_of (part_numbers documents) (all_sites documents));
-  judged = length_of (refusal_at purpose refused documents) (all_sites documents) ∙ sym (length_of (part_numbers documents) (all_sites documents));
-  placed = length_of (place_of documents) (all_sites documents) ∙ sym (length_of (part_numbers documents) (all_sites documents));
-  fit = λ c less. fits CanHave (component_at purpose refused documents) (part_numbers documents) (can_have purpose refused documents) (Sequence no_fill None) [] (all_sites documents) c
-      (omega (arith, less, length_of (part_numbers documents) (all_sites documents)));
+  counted = length_of (component_at purpose refused documents) (all_sites documents) ∙ sym (length_of (part_numbers purpose refused documents) (all_sites documents));
+  judged = length_of (refusal_at purpose refused documents) (all_sites documents) ∙ sym (length_of (part_numbers purpose refused documents) (all_sites documents));
+  placed = length_of (place_of documents) (all_sites documents) ∙ sym (length_of (part_numbers purpose refused documents) (all_sites documents));
+  fit = λ c less. fits CanHave (component_at purpose refused documents) (part_numbers purpose refused documents) (can_have purpose refused documents) (Sequence no_fill None false) [] (all_sites documents) c
+      (omega (arith, less, length_of (part_numbers purpose refused documents) (all_sites documents)));
 }
 
 pub are_of_one : (purpose : Purpose) (refused : Site → Bool) (documents : List SchemaDocument) (uses : List (List ℕ)) (components : List Component) (refusals : List (Option Refusal)) (places : List Place)
@@ -176,3 +214,90 @@ whole purpose refused documents uses components refusals places a b c d =
     ∙ (ap (λ (k : List Component). made_of (components_of purpose refused documents).uses k refusals places) b
     ∙ (ap (λ (r : List (Option Refusal)). made_of (components_of purpose refused documents).uses (components_of purpose refused documents).components r places) c
     ∙ ap (λ (p : List Place). made_of (components_of purpose refused documents).uses (components_of purpose refused documents).components (components_of purpose refused documents).refusals p) d))
+
+-- one more of a list that is made from another
+pub list_more : {X Y : Type 0} (f : X → Y) (xs : List X) (at : ℕ) (d : X) (y : Y) (made next whole : List Y) → at < length xs → y ≡ f (get_or xs at d)
+    → next ≡ made ++ y ∷ [] → made ++ map f (drop at xs) ≡ whole → next ++ map f (drop (at + 1) xs) ≡ whole
+list_more {X} {Y} f xs at d y made next whole less y_is next_is same =
+    let rest : List Y = map f (drop (at + 1) xs) in
+    let after : suc at ≡ at + 1 = omega arith in
+    let split : map f (drop at xs) ≡ f (get_or xs at d) ∷ rest
+    = ap (map f) (drop-cons xs at d less ∙ ap (λ (k : ℕ). get_or xs at d ∷ drop k xs) after) in
+    ap (λ (ys : List Y). ys ++ rest) (next_is ∙ ap (λ (z : Y). made ++ z ∷ []) y_is)
+    ∙ (append_assoc made (f (get_or xs at d) ∷ []) rest ∙ (ap (λ (ys : List Y). made ++ ys) (sym split) ∙ same))
+
+-- nothing is left of it
+pub list_end : {X Y : Type 0} (f : X → Y) (xs : List X) (at : ℕ) (made whole : List Y) → length xs ≤ at → made ++ map f (drop at xs) ≡ whole → made ≡ whole
+list_end {X} {Y} f xs at made whole all same =
+    sym (append-nil made) ∙ (ap (λ (ys : List X). made ++ map f ys) (sym (none xs at all)) ∙ same)
+  where
+    none : (ns : List X) (i : ℕ) → length ns ≤ i → drop i ns ≡ []
+    none [] zero less = refl
+    none [] (suc i) less = refl
+    none (n ∷ ns) zero less = absurd (omega (arith, less))
+    none (n ∷ ns) (suc i) less = none ns i (omega (arith, less))
+
+-- the tests of one element more
+pub tests_more : (judgements : List Judgement) (at : ℕ) (d j : Judgement) (first behind : ℕ) → at < length judgements → j ≡ get_or judgements at d
+    → first ≡ tests_before judgements at → behind ≡ first + length j.tests → behind ≡ tests_before judgements (at + 1)
+tests_more judgements at d j first behind less there first_is behind_is =
+    let after : suc at ≡ at + 1 = omega arith in
+    let one : take (at + 1) judgements ≡ take at judgements ++ get_or judgements at d ∷ []
+    = ap (λ (k : ℕ). take k judgements) (sym after) ∙ take-suc judgements at d less in
+    let all : tests_before judgements (at + 1) ≡ length (all_tests (take at judgements) ++ all_tests (get_or judgements at d ∷ []))
+    = ap (λ (js : List Judgement). length (all_tests js)) one
+    ∙ ap (λ ts. length ts) (flat_map-append tests_of (take at judgements) (get_or judgements at d ∷ [])) in
+    omega (
+      arith,
+      first_is,
+      behind_is,
+      ap (λ (judgement : Judgement). length judgement.tests) there,
+      all,
+      length-append (all_tests (take at judgements)) (all_tests (get_or judgements at d ∷ [])),
+      length-append (get_or judgements at d).tests [],
+    )
+
+-- the same behind those before
+pub tests_pushed : (judgements : List Judgement) (j : Judgement) (old new : List PatternTest) → old ≡ all_tests judgements → new ≡ old ++ j.tests
+    → new ≡ all_tests (judgements ++ j ∷ [])
+tests_pushed judgements j old new old_is new_is =
+    new_is
+    ∙ (ap (λ (ts : List PatternTest). ts ++ j.tests) old_is
+    ∙ (ap (λ (ts : List PatternTest). all_tests judgements ++ ts) (sym (append-nil j.tests)) ∙ sym (flat_map-append tests_of judgements (j ∷ []))))
+
+-- the element at a place of all has the place's number
+pub number_at : (documents : List SchemaDocument) (at : ℕ) (d : Site) → at < length (all_sites documents) → number_of documents (get_or (all_sites documents) at d) ≡ at
+number_at documents at d less =
+    let there = numbered documents at (omega (arith, less, length_all documents)) in
+    ap (λ (k : ℕ). number_of documents (get_or (all_sites documents) k d)) (sym there.number)
+    ∙ (ap (number_of documents) (at-number documents there.own d there.is) ∙ there.number)
+
+-- the component at a place of all
+pub component_there : (purpose : Purpose) (refused : Site → Bool) (documents : List SchemaDocument) (sites : List Site) (judgements : List Judgement) (at first : ℕ) (component : Component)
+    (d : Site) (e j : Judgement) → sites ≡ all_sites documents → judgements ≡ map (judgement_at purpose refused documents) sites → at < length sites
+    → j ≡ get_or judgements at e → first ≡ tests_before judgements at → component ≡ component_with purpose documents first (get_or sites at d) j
+    → component ≡ component_at purpose refused documents (get_or sites at d)
+component_there purpose refused documents sites judgements at first component d e j sites_are told less there first_is is =
+    let own : Site = get_or sites at d in
+    let judged : j ≡ judgement_at purpose refused documents (get_or sites at d)
+    = there ∙ (ap (λ (js : List Judgement). get_or js at e) told ∙ get_or-map (judgement_at purpose refused documents) sites at d e less) in
+    let all : judgements ≡ judgements_of purpose refused documents = told ∙ ap (map (judgement_at purpose refused documents)) sites_are in
+    let number : number_of documents (get_or sites at d) ≡ at
+    = subst (λ (ss : List Site). at < length ss → number_of documents (get_or ss at d) ≡ at) (sym sites_are) (number_at documents at d) less in
+    let counted : first ≡ first_test purpose refused documents (get_or sites at d)
+    = first_is ∙ (ap (λ (js : List Judgement). tests_before js at) all ∙ ap (tests_before (judgements_of purpose refused documents)) (sym number)) in
+    is
+    ∙ (ap (λ (n : ℕ). component_with purpose documents n own j) counted
+    ∙ ap (component_with purpose documents (first_test purpose refused documents own) own) judged)
+
+-- the numbers of the parts at a place of all
+pub parts_there : (purpose : Purpose) (refused : Site → Bool) (documents : List SchemaDocument) (sites : List Site) (judgements : List Judgement) (at : ℕ) (parts : List Site)
+    (numbers : List ℕ) (d : Site) (e j : Judgement) → judgements ≡ map (judgement_at purpose refused documents) sites → at < length sites
+    → j ≡ get_or judgements at e → parts ≡ parts_by documents (get_or sites at d) j.hidden → numbers ≡ map (number_of documents) parts
+    → numbers ≡ part_numbers purpose refused documents (get_or sites at d)
+parts_there purpose refused documents sites judgements at parts numbers d e j told less there parts_are numbers_are =
+    let judged : j ≡ judgement_at purpose refused documents (get_or sites at d)
+    = there ∙ (ap (λ (js : List Judgement). get_or js at e) told ∙ get_or-map (judgement_at purpose refused documents) sites at d e less) in
+    numbers_are
+    ∙ (ap (map (number_of documents)) parts_are
+    ∙ ap (λ (j : Judgement). map (number_of documents) (parts_by documents (get_or sites at d) j.hidden)) judged)

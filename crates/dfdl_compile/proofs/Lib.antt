@@ -1,3 +1,4 @@
+mod Hiding
 mod Fitting
 mod Searches
 mod Ending

@@ -1,7 +1,8 @@
 -- Each simple element is read by a primitive of its type, and the last row is the root's.
-use Rattle.std.proofs.Common.{◌≡◌, ℕ, ◌+◌, ◌<◌, ◌≤◌, Bool, true, false, List, ◌++◌, length, length-append, map, slice_get, get_or, All, Option, None, Some, option_map, unwrap_or, ap, sym, subst, ◌∙◌, refl, arith, if◌then◌else◌}
+use Rattle.std.proofs.Common.{◌≡◌, ℕ, ◌+◌, ◌<◌, ◌≤◌, Bool, true, false, List, [], ◌++◌, length, length-append, map, nat_lt, ◌||◌, slice_get, get_or, All, Option, None, Some, option_map, unwrap_or, ap, sym, subst, ◌∙◌, refl, arith, if◌then◌else◌}
 use Rattle.std.proofs.lemmas.List.{length-map, get_or_append_left}
 use Rattle.std.proofs.lemmas.List.Elements.{All-append}
+use Rattle.std.proofs.lemmas.List.Folds.{length-flat_map-take}
 use Rattle.std.proofs.lemmas.Option.{slice_get-map, slice_get-get_or, slice_get_within}
 use Rattle.dfdl_forms.specs.declared.simple.Simple.{Simple}
 use Rattle.dfdl_constructs.specs.declared.role.Role.{Role}
@@ -13,6 +14,7 @@ use Rattle.dfdl_components.specs.Sites.{IsSite, role_of}
 use Rattle.dfdl_components.specs.Recursion.{count_of, number_of}
 use Rattle.dfdl_checks.specs.Forms.{IsWhole}
 use Rattle.dfdl_checks.specs.Numbers.{type_of}
+use Rattle.dfdl_checks.specs.Subjects.{is_sequence}
 use Rattle.dfdl_checks.specs.Representations.{no_representations}
 use Rattle.dfdl_checks.specs.declared.prefixes.PrefixForm.{PrefixForm}
 use Rattle.dfdl_checks.specs.declared.tried.OtherRepresentations.{OtherRepresentations}
@@ -26,15 +28,16 @@ use Rattle.dfdl_chains.specs.declared.typed.Typed.{Typed}
 use Rattle.dfdl_chains.specs.declared.typed.Typed.TheVariants.{Carried, NotCarried, Defined}
 use Rattle.dfdl_chains.specs.Derivation.{type_of as element_type}
 use Rattle.dfdl_chains.specs.Everywhere.{all_sites, for_each}
-use Rattle.dfdl_chains.specs.Kinds.{kind_at, kind_of_type}
+use Rattle.dfdl_chains.specs.Kinds.{kind_at, kind_by, kind_of_type}
 use Rattle.dfdl_chains.specs.Parts.{is_component}
 use Rattle.dfdl_chains.proofs.Numbering.{number_below, length_all}
-use Rattle.dfdl_breaches.specs.Judging.{breach_at, primitive_at as judged, form_of_prefix, framing_at, judgement_at, markup_at, no_judgement, occurrences_at, others_at, size_at}
+use Rattle.dfdl_breaches.specs.Judging.{primitive_at as judged, form_of_prefix, judgement_at, no_judgement, others_at, built_tests_at, hidden_at}
 use Rattle.dfdl_breaches.specs.declared.judgement.Judgement.{Judgement}
 use Rattle.dfdl_breaches.proofs.Numbering.{value-at}
 use Rattle.dfdl_terms.specs.Leaves.{ReadsBy, leaf, prefixed, grouped, scoped}
 use Rattle.dfdl_terms.specs.Framing.{no_fill}
 use Rattle.dfdl_terms.specs.Tables.{Named}
+use Rattle.dfdl_terms.specs.declared.asserting.PatternTest.{PatternTest}
 use Rattle.dfdl_terms.specs.declared.delimiters.Delimiters.{Delimiters}
 use Rattle.dfdl_terms.specs.declared.framing.Framing.{Framing}
 use Rattle.dfdl_terms.specs.declared.occurs.Occurs.{Occurs}
@@ -43,34 +46,22 @@ use Rattle.dfdl_terms.specs.declared.representations.Representations.{Representa
 use Rattle.dfdl_terms.specs.Rows.{AreWithin, HasElementLast, IsElementRow, IsPrimitive, IsWithin, Table}
 use Rattle.dfdl_terms.specs.declared.row.Primitive.{Primitive}
 use Rattle.dfdl_terms.specs.declared.row.Row.{Row}
-use Rattle.dfdl_terms.specs.declared.row.Row.TheVariants.{Leaf, Elem, Group, Skip, Align, Initiator, Terminator, Separator, Scope, Boxed, PrefixedLeaf, PrefixedBox, Repeat, Optional, Choice}
+use Rattle.dfdl_terms.specs.declared.row.Row.TheVariants.{Leaf, Elem, Group, Skip, Align, Initiator, Terminator, Separator, Scope, Boxed, PrefixedLeaf, PrefixedBox, Repeat, Optional, Choice, Test, Hidden, Separated as SeparatedRow}
 use Rattle.dfdl_rows.specs.Answers.{EndsWith}
-use Rattle.dfdl_rows.specs.Components.{Schema, HasDelimiters, HasList, HasPrimitive, HasBoxPrimitive, HasPrefixPrimitive, HasSeparators, IsBareComponent, component_at as part_at}
+use Rattle.dfdl_rows.specs.Components.{Schema, HasDelimiters, HasList, HasPrimitive, HasBoxPrimitive, HasPrefixPrimitive, HasSeparators, HasTests, IsBareComponent, framing_in, component_at as part_at}
 use Rattle.dfdl_rows.specs.Framing.{has_framing}
 use Rattle.dfdl_rows.specs.declared.component.Separated.{Separated}
 use Rattle.dfdl_rows.specs.Leaves.{HaveLeaves, HaveBareLeaves, IsAmong, IsLeafOf}
 use Rattle.dfdl_rows.specs.declared.component.ContentBox.TheVariants.{Unbounded}
 use Rattle.dfdl_rows.specs.declared.component.Component.{Component}
-use Rattle.dfdl_rows.specs.declared.component.Component.TheVariants.{Sequence, SimpleElement}
+use Rattle.dfdl_rows.specs.declared.component.Component.TheVariants.{Sequence, SimpleElement, Hidden as HiddenGroup}
 use Rattle.dfdl_breaches.specs.Roots.{is_global_element}
-use Rattle.dfdl_compile.specs.Components.{box_by, choice_by, component_at, components_of, delimiters_of, empty_number, empty_primitive_at, framing_of, initiator_list_at, named_of, nil_number, nil_primitive_at, number_if, prefix_by, prefix_number, prefix_primitive_at, primitive_at, primitives_of, separator_list_at, separator_number, terminator_list_at, terminator_number, tried_by}
+use Rattle.dfdl_compile.specs.Components.{box_by, choice_by, component_at, components_of, delimiters_of, empty_number, empty_primitive_at, framing_of, initiator_list_at, named_of, nil_number, nil_primitive_at, number_if, prefix_by, prefix_number, prefix_primitive_at, primitive_at, primitives_of, separator_list_at, separator_number, terminator_list_at, terminator_number, tests_of, tried_by, hiding_by}
+use Rattle.dfdl_compile.specs.Tests.{all_tests, first_test, judgements_of, tests_of as own_tests}
 use Rattle.dfdl_compile.specs.Delimiters.{delimiter_by, initiator_list_by, separated_by, separator_list_by, terminator_list_by}
 use Rattle.dfdl_compile.specs.Primitives.{HasTypedLeaves, HasBareTypedLeaves, HasWrittenText, IsLeafOfType, IsOfType, a_byte, empty_primitive_by, nil_primitive_by, prefix_primitive_by, primitive_by, primitive_if}
 use Rattle.dfdl_compile.proofs.Fitting.{all_within, each, made, made_is, of_kind, twice}
-
--- what is told of an element, where it is a component
-judgement_if : Purpose → (Site → Bool) → List SchemaDocument → Site → Bool → Judgement
-judgement_if purpose refused documents own b =
-    if b then record {
-      breach = breach_at purpose refused documents own;
-      primitive = judged purpose refused documents own;
-      framing = framing_at purpose refused documents own;
-      markup = markup_at purpose refused documents own;
-      size = size_at purpose refused documents own;
-      prefix = form_of_prefix purpose refused documents own;
-      others = others_at purpose refused documents own;
-      occurs = occurrences_at purpose refused documents own;
-    } else no_judgement
+use Rattle.dfdl_compile.proofs.Hiding.{judgement_if, none_hidden, none_unparsed}
 
 -- what holds of a byte, of each primitive that is judged, of that of each prefix, and of those of each nil and each empty
 -- representation holds of those of an element
@@ -187,11 +178,13 @@ pub named_are : (purpose : Purpose) (refused : Site → Bool) (documents : List 
     → tables.primitives ≡ map primitive_by judgements
     ++ (map prefix_primitive_by judgements ++ (map nil_primitive_by judgements ++ map empty_primitive_by judgements))
     → tables.delimiters ≡ map initiator_list_by judgements ++ (map terminator_list_by judgements ++ map separator_list_by judgements)
-    → tables ≡ named_of purpose refused documents
-named_are purpose refused documents judgements tables told primitives lists =
+    → tables.tests ≡ all_tests judgements → tables ≡ named_of purpose refused documents
+unfolding tests_of
+named_are purpose refused documents judgements tables told primitives lists tests =
     let prims = tables_are purpose refused documents judgements tables.primitives told primitives in
     let delimiters = lists_are purpose refused documents judgements tables.delimiters told lists in
-    λ i. record { primitives = prims i; delimiters = delimiters i }
+    let own : tables.tests ≡ tests_of purpose refused documents = tests ∙ ap all_tests told in
+    λ i. record { primitives = prims i; delimiters = delimiters i; tests = own i }
 
 -- it keeps the bounds of its type, if its text is one of characters
 abbrev IsBoundedIf : Primitive → Type 0
@@ -261,8 +254,15 @@ module _ (purpose : Purpose) (refused : Site → Bool) (documents : List SchemaD
   abbrev count : ℕ
   count = count_primitives documents
 
+  -- what holds of a component and of one that hides a group
+  by_hiding : (P : Component → Type 0) (hidden : Option Site) (component : Component) → P HiddenGroup → P component → P (hiding_by hidden component)
+  by_hiding P None component hiding holds = holds
+  by_hiding P (Some content) component hiding holds = hiding
+
   has_number : (own : Site) → IsSite documents own → HasPrimitive count (component_at purpose refused documents own)
-  has_number own within = by_kind (kind_at documents own)
+  has_number own within =
+      by_hiding (HasPrimitive count) (judgement_at purpose refused documents own).hidden (of_kind purpose refused documents own (kind_at documents own)) tt
+      (by_kind (kind_at documents own))
     where
       own_below : number_of documents own < count
       own_below = let below = number_below documents own within in omega (arith, below)
@@ -292,17 +292,19 @@ module _ (purpose : Purpose) (refused : Site → Bool) (documents : List SchemaD
       by_box None None = tt
       by_box None (Some form) = prefix_below
 
-      by_choice : (q : Purpose) (framing : Framing) (own : Option Separated) → HasPrimitive count (choice_by q framing own)
-      by_choice Parsing framing own = tt
-      by_choice Unparsing framing own = tt
+      by_choice : (q : Purpose) (framing : Framing) (own : Option Separated) (initiated : Bool) → HasPrimitive count (choice_by q framing own initiated)
+      by_choice Parsing framing own initiated = tt
+      by_choice Unparsing framing own initiated = tt
 
       by_kind : (k : Kind) → HasPrimitive count (of_kind purpose refused documents own k)
       by_kind kind.ComplexElement = by_box (judgement_at purpose refused documents own).size (judgement_at purpose refused documents own).prefix
       by_kind (kind.SimpleElement simple) = (own_below, by_prefix (judgement_at purpose refused documents own).prefix, by_others (judgement_at purpose refused documents own).others)
       by_kind kind.UncarriedElement = (own_below, by_prefix (judgement_at purpose refused documents own).prefix, by_others (judgement_at purpose refused documents own).others)
       by_kind kind.Sequence = tt
-      by_kind kind.Choice = by_choice purpose (framing_of documents own (judgement_at purpose refused documents own))
+      by_kind kind.HiddenSequence = tt
+      by_kind kind.Choice = by_choice purpose (framing_of documents (first_test purpose refused documents own) own (judgement_at purpose refused documents own))
           (option_map (separated_by (separator_number documents own)) (judgement_at purpose refused documents own).markup.separator)
+          (judgement_at purpose refused documents own).initiates
       by_kind (kind.PrefixNumber simple) = tt
 
   -- the primitives of each component are in the table
@@ -320,7 +322,9 @@ module _ (purpose : Purpose) (refused : Site → Bool) (documents : List SchemaD
   count_lists = count_of documents + (count_of documents + count_of documents)
 
   has_lists : (own : Site) → IsSite documents own → HasDelimiters count_lists (component_at purpose refused documents own)
-  has_lists own within = by_kind (kind_at documents own)
+  has_lists own within =
+      by_hiding (HasDelimiters count_lists) (judgement_at purpose refused documents own).hidden (of_kind purpose refused documents own (kind_at documents own))
+      (tt, tt, tt) (by_kind (kind_at documents own))
     where
       by_list : (number : ℕ) → number < count_lists → (o : Option Delimiting) → HasList count_lists (option_map (delimiter_by number) o)
       by_list number below None = tt
@@ -330,12 +334,12 @@ module _ (purpose : Purpose) (refused : Site → Bool) (documents : List SchemaD
       by_separator number below None = tt
       by_separator number below (Some separator) = below
 
-      initiated : HasList count_lists (framing_of documents own (judgement_at purpose refused documents own)).initiator
+      initiated : HasList count_lists (framing_of documents (first_test purpose refused documents own) own (judgement_at purpose refused documents own)).initiator
       initiated =
           let below = number_below documents own within in
           by_list (number_of documents own) (omega (arith, below)) (judgement_at purpose refused documents own).markup.initiator
 
-      terminated : HasList count_lists (framing_of documents own (judgement_at purpose refused documents own)).terminator
+      terminated : HasList count_lists (framing_of documents (first_test purpose refused documents own) own (judgement_at purpose refused documents own)).terminator
       terminated =
           let below = number_below documents own within in
           by_list (terminator_number documents own) (omega (arith, below)) (judgement_at purpose refused documents own).markup.terminator
@@ -345,8 +349,9 @@ module _ (purpose : Purpose) (refused : Site → Bool) (documents : List SchemaD
           let below = number_below documents own within in
           by_separator (separator_number documents own) (omega (arith, below)) (judgement_at purpose refused documents own).markup.separator
 
-      by_choice : (q : Purpose) → HasDelimiters count_lists (choice_by q (framing_of documents own (judgement_at purpose refused documents own))
-          (option_map (separated_by (separator_number documents own)) (judgement_at purpose refused documents own).markup.separator))
+      by_choice : (q : Purpose) → HasDelimiters count_lists (choice_by q (framing_of documents (first_test purpose refused documents own) own (judgement_at purpose refused documents own))
+          (option_map (separated_by (separator_number documents own)) (judgement_at purpose refused documents own).markup.separator)
+          (judgement_at purpose refused documents own).initiates)
       by_choice Parsing = (initiated, terminated, tt)
       by_choice Unparsing = (initiated, terminated, separated)
 
@@ -355,6 +360,7 @@ module _ (purpose : Purpose) (refused : Site → Bool) (documents : List SchemaD
       by_kind (kind.SimpleElement simple) = (initiated, terminated, tt)
       by_kind kind.UncarriedElement = (initiated, terminated, tt)
       by_kind kind.Sequence = (initiated, terminated, separated)
+      by_kind kind.HiddenSequence = (initiated, terminated, separated)
       by_kind kind.Choice = by_choice purpose
       by_kind (kind.PrefixNumber simple) = (initiated, terminated, separated)
 
@@ -381,25 +387,77 @@ module _ (purpose : Purpose) (refused : Site → Bool) (documents : List SchemaD
       (each (IsSite documents) (HasDelimiters count_lists) (component_at purpose refused documents) has_lists
       (all_sites documents) (all_within documents)))
 
-  -- a component that is a simple element has the type of its primitive, and the primitive's number
-  typed_component : (own : Site) (name : List ℕ) (simple : Simple) (prim : ℕ) (framing : Framing) (prefix : Option Prefix) (tried : Representations) (scanned : Bool) (occurs : Occurs)
-      → component_at purpose refused documents own ≡ SimpleElement name simple prim framing prefix tried scanned occurs
-      → (type_of (primitive_at purpose refused documents own) ≡ simple) × (number_of documents own ≡ prim)
-  typed_component own name simple prim framing prefix tried scanned occurs = by_kind (kind_at documents own)
-    where
-      no_choice : (q : Purpose) (f : Framing) (separated : Option Separated) → choice_by q f separated ≡ SimpleElement name simple prim framing prefix tried scanned occurs → ⊥
-      no_choice Parsing f separated is = absurd (cc)
-      no_choice Unparsing f separated is = absurd (cc)
+  -- the tests of an element are some of all
+  tests_fit : (own : Site) → IsSite documents own
+      → first_test purpose refused documents own + length (judgement_at purpose refused documents own).tests ≤ length (tests_of purpose refused documents)
+  unfolding tests_of
+  tests_fit own within =
+      let below : number_of documents own < length (judgements_of purpose refused documents)
+      = let low = number_below documents own within in
+      omega (arith, low, length-map (all_sites documents) (judgement_at purpose refused documents), length_all documents) in
+      let fit = length-flat_map-take own_tests (judgements_of purpose refused documents) (number_of documents own) no_judgement below in
+      let same : get_or (judgements_of purpose refused documents) (number_of documents own) no_judgement ≡ judgement_at purpose refused documents own
+      = value-at documents (judgement_at purpose refused documents) own no_judgement within in
+      subst (λ (j : Judgement). first_test purpose refused documents own + length j.tests ≤ length (all_tests (judgements_of purpose refused documents))) same fit
 
-      by_kind : (k : Kind) → of_kind purpose refused documents own k ≡ SimpleElement name simple prim framing prefix tried scanned occurs
+  has_tests : (own : Site) → IsSite documents own → HasTests (length (tests_of purpose refused documents)) (component_at purpose refused documents own)
+  has_tests own within =
+      by_hiding (HasTests (length (tests_of purpose refused documents))) (judgement_at purpose refused documents own).hidden
+      (of_kind purpose refused documents own (kind_at documents own)) (omega arith) (by_kind (kind_at documents own))
+    where
+      by_choice : (q : Purpose) → HasTests (length (tests_of purpose refused documents))
+          (choice_by q (framing_of documents (first_test purpose refused documents own) own (judgement_at purpose refused documents own))
+          (option_map (separated_by (separator_number documents own)) (judgement_at purpose refused documents own).markup.separator)
+          (judgement_at purpose refused documents own).initiates)
+      by_choice Parsing = tests_fit own within
+      by_choice Unparsing = tests_fit own within
+
+      by_kind : (k : Kind) → HasTests (length (tests_of purpose refused documents)) (of_kind purpose refused documents own k)
+      by_kind kind.ComplexElement = tests_fit own within
+      by_kind (kind.SimpleElement simple) = tests_fit own within
+      by_kind kind.UncarriedElement = tests_fit own within
+      by_kind kind.Sequence = tests_fit own within
+      by_kind kind.HiddenSequence = tests_fit own within
+      by_kind kind.Choice = by_choice purpose
+      by_kind (kind.PrefixNumber simple) = tests_fit own within
+
+  -- the tests of each component are in the table
+  pub have_tests : (schema : Schema) (tests : List PatternTest) → schema ≡ components_of purpose refused documents
+      → tests ≡ tests_of purpose refused documents → All (HasTests (length tests)) schema.components
+  unfolding components_of
+  have_tests schema tests schema_is tests_are =
+      subst (λ (ts : List PatternTest). All (HasTests (length ts)) schema.components) (sym tests_are)
+      (subst (λ (s : Schema). All (HasTests (length (tests_of purpose refused documents))) s.components) (sym schema_is)
+      (each (IsSite documents) (HasTests (length (tests_of purpose refused documents))) (component_at purpose refused documents) has_tests
+      (all_sites documents) (all_within documents)))
+
+  -- a component that is a simple element has the type of its primitive, and the primitive's number
+  typed_component : (own : Site) (name : List ℕ) (simple : Simple) (prim : ℕ) (framing : Framing) (prefix : Option Prefix) (tried : Representations) (scanned : Bool) (occurs : Occurs) (parsed : Bool)
+      → component_at purpose refused documents own ≡ SimpleElement name simple prim framing prefix tried scanned occurs parsed
+      → (type_of (primitive_at purpose refused documents own) ≡ simple) × (number_of documents own ≡ prim)
+  typed_component own name simple prim framing prefix tried scanned occurs parsed = by_hidden (judgement_at purpose refused documents own).hidden
+    where
+      no_choice : (q : Purpose) (f : Framing) (separated : Option Separated) (initiated : Bool)
+          → choice_by q f separated initiated ≡ SimpleElement name simple prim framing prefix tried scanned occurs parsed → ⊥
+      no_choice Parsing f separated initiated is = absurd (cc)
+      no_choice Unparsing f separated initiated is = absurd (cc)
+
+      by_kind : (k : Kind) → of_kind purpose refused documents own k ≡ SimpleElement name simple prim framing prefix tried scanned occurs parsed
           → (type_of (primitive_at purpose refused documents own) ≡ simple) × (number_of documents own ≡ prim)
       by_kind kind.ComplexElement is = absurd (cc)
       by_kind (kind.SimpleElement other) is = (cc, cc)
       by_kind kind.UncarriedElement is = (cc, cc)
       by_kind kind.Sequence is = absurd (cc)
-      by_kind kind.Choice is = absurd (no_choice purpose (framing_of documents own (judgement_at purpose refused documents own))
-          (option_map (separated_by (separator_number documents own)) (judgement_at purpose refused documents own).markup.separator) is)
+      by_kind kind.HiddenSequence is = absurd (cc)
+      by_kind kind.Choice is = absurd (no_choice purpose (framing_of documents (first_test purpose refused documents own) own (judgement_at purpose refused documents own))
+          (option_map (separated_by (separator_number documents own)) (judgement_at purpose refused documents own).markup.separator)
+          (judgement_at purpose refused documents own).initiates is)
       by_kind (kind.PrefixNumber other) is = absurd (cc)
+
+      by_hidden : (hidden : Option Site) → hiding_by hidden (of_kind purpose refused documents own (kind_at documents own)) ≡ SimpleElement name simple prim framing prefix tried scanned occurs parsed
+          → (type_of (primitive_at purpose refused documents own) ≡ simple) × (number_of documents own ≡ prim)
+      by_hidden None is = by_kind (kind_at documents own) is
+      by_hidden (Some content) is = absurd (cc)
 
   -- the primitive of an element stands at the element's number
   there : (own : Site) → IsSite documents own
@@ -420,18 +478,18 @@ module _ (purpose : Purpose) (refused : Site → Bool) (documents : List SchemaD
   -- the leaf of a simple element among the components has the element's type
   among_typed : (simple : Simple) (prim : ℕ) → IsAmong (map (component_at purpose refused documents) (all_sites documents)) simple prim
       → IsOfType simple (slice_get (primitives_of purpose refused documents) prim)
-  among_typed simple prim (number, name, framing, prefix, tried, scanned, occurs, is) =
+  among_typed simple prim (number, name, framing, prefix, tried, scanned, occurs, parsed, is) =
       let less : number < length (all_sites documents) = omega (
         arith,
-        slice_get_within (map (component_at purpose refused documents) (all_sites documents)) number (SimpleElement name simple prim framing prefix tried scanned occurs) is,
+        slice_get_within (map (component_at purpose refused documents) (all_sites documents)) number (SimpleElement name simple prim framing prefix tried scanned occurs parsed) is,
         length-map (all_sites documents) (component_at purpose refused documents),
       ) in
       let own : Site = get_or (all_sites documents) number (site 0 0) in
-      let found : Some (component_at purpose refused documents own) ≡ Some (SimpleElement name simple prim framing prefix tried scanned occurs) =
+      let found : Some (component_at purpose refused documents own) ≡ Some (SimpleElement name simple prim framing prefix tried scanned occurs parsed) =
       sym (slice_get-map (component_at purpose refused documents) (all_sites documents) number
       ∙ ap (option_map (component_at purpose refused documents)) (slice_get-get_or (all_sites documents) number (site 0 0) less)) ∙ is in
-      let same : component_at purpose refused documents own ≡ SimpleElement name simple prim framing prefix tried scanned occurs = cc in
-      let both = typed_component own name simple prim framing prefix tried scanned occurs same in
+      let same : component_at purpose refused documents own ≡ SimpleElement name simple prim framing prefix tried scanned occurs parsed = cc in
+      let both = typed_component own name simple prim framing prefix tried scanned occurs parsed same in
       subst (λ (n : ℕ). IsOfType simple (slice_get (primitives_of purpose refused documents) n)) both.1
       (subst (λ (o : Option Primitive). IsOfType simple o) (sym (there own (all_within documents number (site 0 0) less))) both.0)
 
@@ -450,8 +508,11 @@ module _ (purpose : Purpose) (refused : Site → Bool) (documents : List SchemaD
   leaf_typed simple (Some (PrefixedLeaf prefix prim)) one = absurd one
   leaf_typed simple (Some (PrefixedBox prefix inside)) one = absurd one
   leaf_typed simple (Some (Repeat count inside)) one = absurd one
-  leaf_typed simple (Some (Optional most item inside)) one = absurd one
-  leaf_typed simple (Some (Choice branches)) one = absurd one
+  leaf_typed simple (Some (Optional most item initiated inside)) one = absurd one
+  leaf_typed simple (Some (Choice branches initiated)) one = absurd one
+  leaf_typed simple (Some (Test test)) one = absurd one
+  leaf_typed simple (Some (Hidden inside)) one = absurd one
+  leaf_typed simple (Some (SeparatedRow policy position initiated slots)) one = absurd one
   leaf_typed simple None one = absurd one
 
   -- what the body of a simple element reads has the element's type
@@ -480,9 +541,10 @@ module _ (purpose : Purpose) (refused : Site → Bool) (documents : List SchemaD
       (leaf_typed simple (slice_get t.rows body)
       (subst (λ (s : Schema). IsLeafOf s.components simple (slice_get t.rows body)) schema_is (leaves row name simple tried body is)))
 
--- neither fill nor a delimiter nor a separator nor a box nor a length prefix is told of an element, and it occurs once, which isn't tried
-record IsBare (documents : List SchemaDocument) (own : Site) (told : Judgement) : Type 0 where
-  unframed : has_framing (framing_of documents own told) ≡ false
+-- neither a test nor fill nor a delimiter nor a separator nor a box nor a length prefix is told of an element, and it occurs once, which
+-- isn't tried
+record IsBare (documents : List SchemaDocument) (first : ℕ) (own : Site) (told : Judgement) : Type 0 where
+  unframed : has_framing (framing_of documents first own told) ≡ false
   unboxed : told.size ≡ None
   unprefixed : told.prefix ≡ None
   unseparated : told.markup.separator ≡ None
@@ -491,22 +553,24 @@ record IsBare (documents : List SchemaDocument) (own : Site) (told : Judgement) 
 
 -- no component has any of them for unparsing
 module _ (refused : Site → Bool) (documents : List SchemaDocument)
-    (none : (refused : Site → Bool) (documents : List SchemaDocument) (own : Site) → form_of_prefix Unparsing refused documents own ≡ None) where
-  bare_by : (own : Site) (b : Bool) → IsBare documents own (judgement_if Unparsing refused documents own b)
+    (none : (refused : Site → Bool) (documents : List SchemaDocument) (own : Site) → form_of_prefix Unparsing refused documents own ≡ None)
+    (untested : (refused : Site → Bool) (documents : List SchemaDocument) (own : Site) → built_tests_at Unparsing refused documents own ≡ [])
+    (unhidden : (documents : List SchemaDocument) (own : Site) → hidden_at Unparsing documents own ≡ None) where
+  bare_by : (first : ℕ) (own : Site) (b : Bool) → IsBare documents first own (judgement_if Unparsing refused documents own b)
   unfolding judgement_if
-  bare_by own true = record { unframed = refl; unboxed = refl; unprefixed = none refused documents own; unseparated = refl; once = omega arith; untried = refl }
-  bare_by own false = record { unframed = refl; unboxed = refl; unprefixed = refl; unseparated = refl; once = omega arith; untried = refl }
+  bare_by first own true = record { unframed = ap (λ (tests : List PatternTest). nat_lt 0 (length tests) || false || false || false || false || false) (untested refused documents own); unboxed = refl; unprefixed = none refused documents own; unseparated = refl; once = omega arith; untried = refl }
+  bare_by first own false = record { unframed = refl; unboxed = refl; unprefixed = refl; unseparated = refl; once = omega arith; untried = refl }
 
-  bare_judgement : (own : Site) → IsBare documents own (judgement_at Unparsing refused documents own)
+  bare_judgement : (first : ℕ) (own : Site) → IsBare documents first own (judgement_at Unparsing refused documents own)
   unfolding judgement_at judgement_if
-  bare_judgement own = bare_by own (is_component (role_of documents own))
+  bare_judgement first own = bare_by first own (is_component (role_of documents own))
 
   -- without fill and delimiters, and with a box or a prefix only where the judgement has one
   bare_component : (own : Site) → IsBareComponent (component_at Unparsing refused documents own)
-  bare_component own = by_kind (kind_at documents own)
+  bare_component own = by_hidden (judgement_at Unparsing refused documents own).hidden (none_unparsed refused documents own (unhidden documents own))
     where
-      told : IsBare documents own (judgement_at Unparsing refused documents own)
-      told = bare_judgement own
+      told : IsBare documents (first_test Unparsing refused documents own) own (judgement_at Unparsing refused documents own)
+      told = bare_judgement (first_test Unparsing refused documents own) own
 
       by_prefix : (o : Option PrefixForm) → o ≡ None → option_map (prefix_by (prefix_number documents own)) o ≡ None
       by_prefix None is = refl
@@ -532,12 +596,17 @@ module _ (refused : Site → Bool) (documents : List SchemaDocument)
       unseparated = by_separator (judgement_at Unparsing refused documents own).markup.separator told.unseparated
 
       by_kind : (k : Kind) → IsBareComponent (of_kind Unparsing refused documents own k)
-      by_kind kind.ComplexElement = record { unframed = told.unframed; unboxed = unboxed; unprefixed = refl; unseparated = refl; unchosen = refl; once = told.once; untried = told.untried }
-      by_kind (kind.SimpleElement simple) = record { unframed = told.unframed; unboxed = refl; unprefixed = unprefixed; unseparated = refl; unchosen = refl; once = told.once; untried = told.untried }
-      by_kind kind.UncarriedElement = record { unframed = told.unframed; unboxed = refl; unprefixed = unprefixed; unseparated = refl; unchosen = refl; once = told.once; untried = told.untried }
-      by_kind kind.Sequence = record { unframed = told.unframed; unboxed = refl; unprefixed = refl; unseparated = unseparated; unchosen = refl; once = omega arith; untried = refl }
-      by_kind kind.Choice = record { unframed = told.unframed; unboxed = refl; unprefixed = refl; unseparated = unseparated; unchosen = refl; once = omega arith; untried = refl }
-      by_kind (kind.PrefixNumber simple) = record { unframed = told.unframed; unboxed = refl; unprefixed = refl; unseparated = unseparated; unchosen = refl; once = omega arith; untried = refl }
+      by_kind kind.ComplexElement = record { unframed = told.unframed; unboxed = unboxed; unprefixed = refl; unseparated = refl; unchosen = refl; unhidden = refl; once = told.once; untried = told.untried }
+      by_kind (kind.SimpleElement simple) = record { unframed = told.unframed; unboxed = refl; unprefixed = unprefixed; unseparated = refl; unchosen = refl; unhidden = refl; once = told.once; untried = told.untried }
+      by_kind kind.UncarriedElement = record { unframed = told.unframed; unboxed = refl; unprefixed = unprefixed; unseparated = refl; unchosen = refl; unhidden = refl; once = told.once; untried = told.untried }
+      by_kind kind.Sequence = record { unframed = told.unframed; unboxed = refl; unprefixed = refl; unseparated = unseparated; unchosen = refl; unhidden = refl; once = omega arith; untried = refl }
+      by_kind kind.HiddenSequence = record { unframed = told.unframed; unboxed = refl; unprefixed = refl; unseparated = unseparated; unchosen = refl; unhidden = refl; once = omega arith; untried = refl }
+      by_kind kind.Choice = record { unframed = told.unframed; unboxed = refl; unprefixed = refl; unseparated = unseparated; unchosen = refl; unhidden = refl; once = omega arith; untried = refl }
+      by_kind (kind.PrefixNumber simple) = record { unframed = told.unframed; unboxed = refl; unprefixed = refl; unseparated = unseparated; unchosen = refl; unhidden = refl; once = omega arith; untried = refl }
+
+      by_hidden : (hidden : Option Site) → hidden ≡ None → IsBareComponent (hiding_by hidden (of_kind Unparsing refused documents own (kind_at documents own)))
+      by_hidden None is = by_kind (kind_at documents own)
+      by_hidden (Some content) is = absurd (cc)
 
   pub bare_components : (purpose : Purpose) (schema : Schema) → purpose ≡ Unparsing → schema ≡ components_of purpose refused documents → All IsBareComponent schema.components
   unfolding components_of
@@ -556,19 +625,29 @@ global_role : (r : Role) → is_global_element r ≡ true → r ≡ role.GlobalE
 global_role role.GlobalElement is = refl
 global_role _ is = absurd (cc)
 
+-- an element of a type is no sequence
+no_sequence : (typed : Typed) → is_sequence (kind_of_type typed) ≡ false
+no_sequence (Carried simple) = refl
+no_sequence NotCarried = refl
+no_sequence (Defined type) = refl
+
 -- a global element is that of its type
 global_is : (purpose : Purpose) (refused : Site → Bool) (documents : List SchemaDocument) (own : Site) → is_global_element (role_of documents own) ≡ true
     → component_at purpose refused documents own ≡ of_kind purpose refused documents own (kind_of_type (element_type documents own))
+unfolding kind_at
 global_is purpose refused documents own global =
     let is : role_of documents own ≡ role.GlobalElement = global_role (role_of documents own) global in
+    let kind_is : kind_by documents own (role_of documents own) ≡ kind_of_type (element_type documents own) = ap (kind_by documents own) is in
+    let other : is_sequence (kind_at documents own) ≡ false = ap is_sequence kind_is ∙ no_sequence (element_type documents own) in
     made_is purpose refused documents own
-    ∙ ap (λ (r : Role). made purpose refused documents own r) is
+    ∙ (ap (λ (hidden : Option Site). hiding_by hidden (made purpose refused documents own (role_of documents own))) (none_hidden purpose refused documents own other)
+    ∙ ap (λ (r : Role). made purpose refused documents own r) is)
 
 -- the component of a root's number
 at_root : (purpose : Purpose) (refused : Site → Bool) (documents : List SchemaDocument) (root : Site) → IsSite documents root
     → part_at (components_of purpose refused documents).components (number_of documents root) ≡ component_at purpose refused documents root
 unfolding components_of
-at_root purpose refused documents root within = value-at documents (component_at purpose refused documents) root (Sequence no_fill None) within
+at_root purpose refused documents root within = value-at documents (component_at purpose refused documents) root (Sequence no_fill None false) within
 
 -- the last row is an element, where the root is one
 pub root_element : (purpose : Purpose) (refused : Site → Bool) (documents : List SchemaDocument) (root : Site) (schema : Schema) (number : ℕ) (t : Table)

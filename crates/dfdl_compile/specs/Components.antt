@@ -1,7 +1,7 @@
 -- The components of a schema's documents: each element of them is one, by its number among those of all
 -- documents. What is no component is an empty sequence, and nothing reaches it ('DFDL Schema Component
 -- Model').
-use Rattle.std.specs.Prelude.{ℕ, ◌+◌, Bool, List, [], ◌++◌, map, Option, None, Some, option_map, codes}
+use Rattle.std.specs.Prelude.{ℕ, ◌+◌, Bool, List, [], ◌∷◌, ◌++◌, map, Option, None, Some, option_map, codes}
 use Rattle.std.specs.Option.{unwrap_or}
 use Rattle.dfdl_documents.specs.Documents.{SchemaDocument}
 use Rattle.dfdl_components.specs.declared.site.Site.{Site}
@@ -30,11 +30,13 @@ use Rattle.dfdl_rows.specs.Components.{Schema}
 use Rattle.dfdl_rows.specs.declared.component.ContentBox.{ContentBox}
 use Rattle.dfdl_rows.specs.declared.component.ContentBox.TheVariants.{Unbounded, Sized, Prefixed}
 use Rattle.dfdl_rows.specs.declared.component.Component.{Component}
-use Rattle.dfdl_rows.specs.declared.component.Component.TheVariants.{Sequence, Choice, ComplexElement, SimpleElement}
+use Rattle.dfdl_rows.specs.declared.component.Component.TheVariants.{Sequence, Choice, ComplexElement, SimpleElement, Hidden}
 use Rattle.dfdl_rows.specs.declared.component.Separated.{Separated}
 use Rattle.dfdl_rows.specs.declared.refusal.Refusal.{Refusal}
 use Rattle.dfdl_terms.specs.declared.delimiters.Delimiters.{Delimiters}
 use Rattle.dfdl_terms.specs.Tables.{Named}
+use Rattle.dfdl_compile.specs.Tests.{all_tests, first_test, judgements_of}
+use Rattle.dfdl_terms.specs.declared.asserting.PatternTest.{PatternTest}
 use Rattle.dfdl_compile.specs.Delimiters.{framing_by, initiator_list_by, separated_by, separator_list_by, terminator_list_by}
 use Rattle.dfdl_compile.specs.Primitives.{empty_primitive_by, is_scanned, nil_primitive_by, prefix_primitive_by, primitive_by}
 
@@ -66,9 +68,9 @@ terminator_number documents own = count_of documents + number_of documents own
 abbrev pub separator_number : List SchemaDocument → Site → ℕ
 separator_number documents own = count_of documents + terminator_number documents own
 
--- what frames the content of an element of which this is told
-abbrev pub framing_of : List SchemaDocument → Site → Judgement → Framing
-framing_of documents own judgement = framing_by (number_of documents own) (terminator_number documents own) judgement
+-- what frames the content of an element of which this is told, where its first test has this number
+abbrev pub framing_of : List SchemaDocument → ℕ → Site → Judgement → Framing
+framing_of documents first own judgement = framing_by first (number_of documents own) (terminator_number documents own) judgement
 
 -- the number of a primitive, where there is one
 abbrev pub number_if : ℕ → Option Primitive → Option ℕ
@@ -95,38 +97,62 @@ box_by (Some bits) prefix = Sized bits
 box_by None (Some prefix) = Prefixed prefix
 box_by None None = Unbounded
 
--- a choice with this framing and these separators: for unparsing it is refused, and stands for a group with nothing of its own
-abbrev pub choice_by : Purpose → Framing → Option Separated → Component
-choice_by Parsing framing separated = Choice framing
-choice_by Unparsing framing separated = Sequence framing separated
+-- a choice with this framing and these separators, whose content is initiated or isn't: for unparsing it is refused, and stands for a group
+-- with nothing of its own
+abbrev pub choice_by : Purpose → Framing → Option Separated → Bool → Component
+choice_by Parsing framing separated initiated = Choice framing initiated
+choice_by Unparsing framing separated initiated = Sequence framing separated initiated
 
 -- an element or a group, of which this is its name, how its values lie in the data, its number, what frames its content and the box
--- around it, its length prefix, the representations that are tried before its normal one, its separators, and how often it occurs
-abbrev pub component_by : Purpose → List ℕ → Primitive → ℕ → Framing → Option ℕ → Option Prefix → Representations → Option Separated → Occurs → Kind → Component
-component_by purpose name primitive number framing size prefix tried separated occurs kind.ComplexElement = ComplexElement name framing (box_by size prefix) occurs
-component_by purpose name primitive number framing size prefix tried separated occurs (kind.SimpleElement simple) =
-    SimpleElement name (type_of primitive) number framing prefix tried (is_scanned primitive) occurs
-component_by purpose name primitive number framing size prefix tried separated occurs kind.UncarriedElement =
-    SimpleElement name (type_of primitive) number framing prefix tried (is_scanned primitive) occurs
-component_by purpose name primitive number framing size prefix tried separated occurs kind.Sequence = Sequence framing separated
-component_by purpose name primitive number framing size prefix tried separated occurs kind.Choice = choice_by purpose framing separated
-component_by purpose name primitive number framing size prefix tried separated occurs (kind.PrefixNumber simple) = Sequence framing separated
+-- around it, its length prefix, the representations that are tried before its normal one, its separators, whether its content is initiated,
+-- how often it occurs, and whether by kind parsed
+abbrev pub component_by : Purpose → List ℕ → Primitive → ℕ → Framing → Option ℕ → Option Prefix → Representations → Option Separated → Bool → Occurs
+    → Bool → Kind → Component
+component_by purpose name primitive number framing size prefix tried separated initiated occurs parsed kind.ComplexElement =
+    ComplexElement name framing (box_by size prefix) occurs parsed
+component_by purpose name primitive number framing size prefix tried separated initiated occurs parsed (kind.SimpleElement simple) =
+    SimpleElement name (type_of primitive) number framing prefix tried (is_scanned primitive) occurs parsed
+component_by purpose name primitive number framing size prefix tried separated initiated occurs parsed kind.UncarriedElement =
+    SimpleElement name (type_of primitive) number framing prefix tried (is_scanned primitive) occurs parsed
+component_by purpose name primitive number framing size prefix tried separated initiated occurs parsed kind.Sequence =
+    Sequence framing separated initiated
+component_by purpose name primitive number framing size prefix tried separated initiated occurs parsed kind.HiddenSequence =
+    Sequence framing separated initiated
+component_by purpose name primitive number framing size prefix tried separated initiated occurs parsed kind.Choice =
+    choice_by purpose framing separated initiated
+component_by purpose name primitive number framing size prefix tried separated initiated occurs parsed (kind.PrefixNumber simple) =
+    Sequence framing separated initiated
 
--- what an element of the documents is for a purpose, of which this is told
-abbrev pub component_with : Purpose → List SchemaDocument → Site → Judgement → Component
-component_with purpose documents own judgement =
-    component_by purpose (element_name documents own) (primitive_by judgement) (number_of documents own) (framing_of documents own judgement) judgement.size
+-- a component that hides the group of this sequence or choice, or none
+abbrev pub hiding_by : Option Site → Component → Component
+hiding_by None component = component
+hiding_by (Some content) component = Hidden
+
+-- what an element of the documents is for a purpose, of which this is told, where its first test has this number
+abbrev pub component_with : Purpose → List SchemaDocument → ℕ → Site → Judgement → Component
+component_with purpose documents first own judgement =
+    hiding_by judgement.hidden
+    (component_by purpose (element_name documents own) (primitive_by judgement) (number_of documents own) (framing_of documents first own judgement)
+    judgement.size
     (option_map (prefix_by (prefix_number documents own)) judgement.prefix)
     (tried_by (nil_number documents own) (empty_number documents own) judgement.others)
-    (option_map (separated_by (separator_number documents own)) judgement.markup.separator) judgement.occurs (kind_at documents own)
+    (option_map (separated_by (separator_number documents own)) judgement.markup.separator) judgement.initiates judgement.occurs judgement.is_parsed
+    (kind_at documents own))
 
 -- what an element of the documents is
 abbrev pub component_at : Purpose → (Site → Bool) → List SchemaDocument → Site → Component
-component_at purpose refused documents own = component_with purpose documents own (judgement_at purpose refused documents own)
+component_at purpose refused documents own =
+    component_with purpose documents (first_test purpose refused documents own) own (judgement_at purpose refused documents own)
+
+-- the parts of a component that hides the group of this sequence or choice, or none
+abbrev pub parts_by : List SchemaDocument → Site → Option Site → List Site
+parts_by documents own None = parts_at documents own
+parts_by documents own (Some content) = content ∷ []
 
 -- the numbers of the parts of a component
-abbrev pub part_numbers : List SchemaDocument → Site → List ℕ
-part_numbers documents own = map (number_of documents) (parts_at documents own)
+abbrev pub part_numbers : Purpose → (Site → Bool) → List SchemaDocument → Site → List ℕ
+part_numbers purpose refused documents own =
+    map (number_of documents) (parts_by documents own (judgement_at purpose refused documents own).hidden)
 
 -- the breach of a rule as the refusal of a component
 abbrev pub refusal_of : Breach → Refusal
@@ -139,7 +165,7 @@ refusal_at purpose refused documents own = option_map refusal_of (judgement_at p
 -- the components of the documents
 unfoldable pub components_of : Purpose → (Site → Bool) → List SchemaDocument → Schema
 components_of purpose refused documents = record {
-  uses = for_each documents (part_numbers documents);
+  uses = for_each documents (part_numbers purpose refused documents);
   components = for_each documents (component_at purpose refused documents);
   refusals = for_each documents (refusal_at purpose refused documents);
   places = for_each documents (place_of documents);
@@ -188,9 +214,14 @@ delimiters_of purpose refused documents =
     for_each documents (initiator_list_at purpose refused documents)
     ++ (for_each documents (terminator_list_at purpose refused documents) ++ for_each documents (separator_list_at purpose refused documents))
 
+-- the tests of the documents: those of their elements, one element after the other
+unfoldable pub tests_of : Purpose → (Site → Bool) → List SchemaDocument → List PatternTest
+tests_of purpose refused documents = all_tests (judgements_of purpose refused documents)
+
 -- what the rows of the documents name
 abbrev pub named_of : Purpose → (Site → Bool) → List SchemaDocument → Named
 named_of purpose refused documents = record {
   primitives = primitives_of purpose refused documents;
   delimiters = delimiters_of purpose refused documents;
+  tests = tests_of purpose refused documents;
 }

@@ -9,6 +9,7 @@ use Rattle.dfdl_terms.specs.declared.delimiters.Delimiter.{Delimiter}
 use Rattle.dfdl_terms.specs.declared.delimiters.Delimiters.{Delimiters}
 use Rattle.dfdl_terms.specs.declared.framing.Framing.{Framing}
 use Rattle.dfdl_breaches.specs.declared.judgement.Judgement.{Judgement}
+use Rattle.dfdl_compile.specs.Tests.{tests_by}
 
 -- the list that stands for no delimiter
 abbrev pub no_list : Delimiters
@@ -38,15 +39,17 @@ separator_list_by judgement = separator_list_if judgement.markup.separator
 
 -- separators whose literals have this number
 abbrev pub separated_by : ℕ → Separating → Separated
-separated_by number separator = record { list = number; position = separator.position }
+separated_by number separator = record { list = number; position = separator.position; policy = separator.policy }
 
 -- a delimiter whose literals have this number
 abbrev pub delimiter_by : ℕ → Delimiting → Delimiter
 delimiter_by number delimiter = record { list = number; in_nil = delimiter.in_nil; in_empty = delimiter.in_empty }
 
--- what frames the content of an element of which this is told, where the literals of its initiator and its terminator have these numbers
-abbrev pub framing_by : ℕ → ℕ → Judgement → Framing
-framing_by initiator terminator judgement = record judgement.framing {
+-- what frames the content of an element of which this is told, where its first test and the literals of its initiator and its terminator
+-- have these numbers
+abbrev pub framing_by : ℕ → ℕ → ℕ → Judgement → Framing
+framing_by first initiator terminator judgement = record judgement.framing {
+  tests = tests_by first judgement;
   initiator = option_map (delimiter_by initiator) judgement.markup.initiator;
   terminator = option_map (delimiter_by terminator) judgement.markup.terminator;
 }

@@ -1,5 +1,6 @@
 pub mod Primitives
 pub mod Delimiters
+pub mod Tests
 pub mod Components
 pub mod Compiled
 pub mod Builds

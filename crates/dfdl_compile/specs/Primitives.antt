@@ -11,7 +11,7 @@ use Rattle.dfdl_terms.specs.declared.representations.Representations.{Representa
 use Rattle.dfdl_terms.specs.declared.row.Primitive.{Primitive}
 use Rattle.dfdl_terms.specs.declared.row.Primitive.TheVariants.{Integer, Packed, Truth, Octets, Text, NilOctets, Default, NilValues, Pattern}
 use Rattle.dfdl_terms.specs.declared.row.Row.{Row}
-use Rattle.dfdl_terms.specs.declared.row.Row.TheVariants.{Leaf, Elem, Group, Skip, Align, Initiator, Terminator, Separator, Scope, Boxed, PrefixedLeaf, PrefixedBox, Repeat, Optional, Choice}
+use Rattle.dfdl_terms.specs.declared.row.Row.TheVariants.{Leaf, Elem, Group, Skip, Align, Initiator, Terminator, Separator, Scope, Boxed, PrefixedLeaf, PrefixedBox, Repeat, Optional, Choice, Test, Hidden, Separated}
 use Rattle.dfdl_terms.specs.declared.text.DefaultForm.{DefaultForm}
 use Rattle.dfdl_terms.specs.declared.text.TextSize.{TextSize}
 use Rattle.dfdl_terms.specs.declared.text.TextSize.TheVariants.{Bits, Characters, Delimited}
@@ -92,8 +92,11 @@ IsLeafOfType primitives simple (Some (Boxed bits inside)) = ⊥
 IsLeafOfType primitives simple (Some (PrefixedLeaf prefix prim)) = ⊥
 IsLeafOfType primitives simple (Some (PrefixedBox prefix inside)) = ⊥
 IsLeafOfType primitives simple (Some (Repeat count inside)) = ⊥
-IsLeafOfType primitives simple (Some (Optional most item inside)) = ⊥
-IsLeafOfType primitives simple (Some (Choice branches)) = ⊥
+IsLeafOfType primitives simple (Some (Optional most item initiated inside)) = ⊥
+IsLeafOfType primitives simple (Some (Choice branches initiated)) = ⊥
+IsLeafOfType primitives simple (Some (Test test)) = ⊥
+IsLeafOfType primitives simple (Some (Hidden inside)) = ⊥
+IsLeafOfType primitives simple (Some (Separated policy position initiated slots)) = ⊥
 IsLeafOfType primitives simple None = ⊥
 
 -- the body of each simple element is itself a leaf of a primitive of the element's type

@@ -20,12 +20,15 @@ ghost use Rattle.dfdl_breaches.specs.Judging.{judgement_at};
 ghost use Rattle.dfdl_breaches.specs.Roots.{is_global_element};
 ghost use Rattle.dfdl_compile.specs.Faults.{IsFaultOf, IsRecursionFault};
 ghost use Rattle.dfdl_compile.specs.FaultsShown.{fault_of};
-ghost use Rattle.dfdl_compile.specs.Shown.{AreGathered};
+ghost use Rattle.dfdl_compile.specs.Shown.{AreGathered, HidesElement};
 
 use crate::fault::CompileFault;
-use crate::gathering::{components, place_at, places, refusals, uses};
+use crate::gathering::{components, refusals};
+use crate::parts::{place_at, places, uses};
 use crate::primitives::tables;
-use dfdl_breaches::laws::sound_elements_have_bounded_primitives;
+use dfdl_breaches::laws::{
+    hidden_groups_are_within, sound_elements_have_bounded_primitives, statements_are_for_parsing,
+};
 use dfdl_breaches::{Judgement, breaches, root_of};
 use dfdl_chains::{Numbers, all_sites};
 use dfdl_checks::Purpose;
@@ -73,6 +76,7 @@ fn gather(
 ) -> Result<Gathered, CompileFault>
     requires numbers { AreNumbers schema.now numbers.now }
     requires told { length judgements.now ≡ length (everywhere.all_sites schema.now) }
+    requires hidden { All (HidesElement schema.now) judgements.now }
     ensures gathered { (refused : declared_site.Site → Bool)
         → judgements.now ≡ for_each schema.now (judgement_at purpose refused schema.now)
         → IfOk result (AreGathered refused schema.now) }
@@ -90,7 +94,14 @@ fn gather(
     )?;
     let refusals = refusals(alloc, judgements)?;
     let places = places(alloc, schema, sites.as_slice())?;
-    let Ok(uses) = uses(alloc, schema, numbers, sites.as_slice()) else {
+    let Ok(uses) = uses(
+        alloc,
+        schema,
+        numbers,
+        purpose,
+        sites.as_slice(),
+        judgements,
+    ) else {
         return Err(CompileFault::OutOfMemory);
     };
     Ok(Gathered {
@@ -126,6 +137,7 @@ fn ordered(alloc: Global, schema: &Schema, gathered: Gathered) -> Result<Compone
         → IfErr result (IsRecursionFault gathered.purpose refused schema.now) }
 {
     nothing_in_an_order_reaches_itself();
+    hidden_groups_are_within();
     let Gathered {
         sites,
         uses,
@@ -171,6 +183,8 @@ fn compile_root(
     ensures plain { purpose ≡ Unparsing → IfOk result (λ t. HasPlainRows t.rows) }
 {
     sound_elements_have_bounded_primitives();
+    statements_are_for_parsing();
+    hidden_groups_are_within();
     let numbers = Numbers::of(alloc, schema)?;
     let gathered = gather(alloc, schema, &numbers, purpose, judgements.as_slice())?;
     let components = ordered(alloc, schema, gathered)?;

@@ -1,27 +1,27 @@
 // The components of a schema's documents.
 ghost use Rattle.std.specs.Prelude.{◌≡◌, ◌+◌, ◌<◌, ◌++◌, ◌∷◌, [], Bool, length, map, All, IfOk, OnOk, IfErr, option_map};
-ghost use Rattle.dfdl_order.specs.declared.fault.OrderFault.TheVariants.{OutOfMemory};
 ghost use Rattle.dfdl_components.specs.Recursion.{count_of, number_of};
 ghost use Rattle.dfdl_components.specs.Sites.{IsSite};
 ghost use Rattle.dfdl_chains.specs.Kinds.{kind_at};
 ghost use Rattle.dfdl_chains.specs.Shown.{AreNumbers};
-ghost use Rattle.dfdl_breaches.specs.Elements.{place_of};
 ghost use Rattle.dfdl_breaches.specs.Judging.{judgement_at};
 ghost use Rattle.dfdl_components.specs.declared.site.Site as declared_site;
+ghost use Rattle.dfdl_chains.specs.Everywhere.{all_sites};
 ghost use Rattle.dfdl_compile.specs.Components as spec;
+ghost use Rattle.dfdl_compile.specs.Tests as tests_of;
+ghost use Rattle.dfdl_rows.specs.declared.component.Component.TheVariants.{Sequence};
 ghost use Rattle.dfdl_compile.specs.Delimiters as delimiters;
 ghost use Rattle.dfdl_compile.specs.Primitives.{primitive_by};
 
 use crate::primitives::{is_scanned_by, type_by};
+use crate::testing::{first_behind, tests_by};
 use dfdl_breaches::Judgement;
-use dfdl_chains::{Numbers, declaration, kind_at, parts_at};
+use dfdl_chains::{Numbers, declaration, kind_at};
 use dfdl_checks::{Breach, Delimiting, Kind, OtherRepresentations, Purpose};
 use dfdl_components::{Schema, Site};
 use dfdl_constructs::plain;
-use dfdl_order::{OrderFault, Uses};
-use dfdl_report::Place;
 use dfdl_rows::{Component, ContentBox, Refusal, Separated};
-use dfdl_terms::{Delimiter, Framing, Prefix, Primitive, Representations};
+use dfdl_terms::{Delimiter, Framing, Prefix, Primitive, Representations, Tests};
 use dfdl_value::TextValue;
 use std::alloc::{AllocError, Global};
 
@@ -86,11 +86,14 @@ fn delimiter_by(number: u32, delimiter: &Option<Delimiting>) -> Option<Delimiter
     }
 }
 
-// What frames the content of an element of which this is told, where the literals of its initiator and its terminator have these numbers.
-fn framing_by(initiator: u32, terminator: u32, judgement: &Judgement) -> Framing
-    ensures { result ≡ delimiters.framing_by initiator terminator judgement.now }
+// What frames the content of an element of which this is told, which has these tests, and the literals of whose initiator and terminator
+// have these numbers.
+fn framing_by(tests: Tests, initiator: u32, terminator: u32, judgement: &Judgement) -> Framing
+    requires { tests ≡ tests_of.tests_by tests.first judgement.now }
+    ensures { result ≡ delimiters.framing_by tests.first initiator terminator judgement.now }
 {
     Framing {
+        tests,
         initiator: delimiter_by(initiator, &judgement.markup.initiator),
         terminator: delimiter_by(terminator, &judgement.markup.terminator),
         ..judgement.framing
@@ -105,6 +108,7 @@ fn separated_by(number: u32, judgement: &Judgement) -> Option<Separated>
         Some(separator) => Some(Separated {
             list: number,
             position: separator.position,
+            policy: separator.policy,
         }),
         None => None,
     }
@@ -134,13 +138,39 @@ struct Numbered {
     separated: Option<Separated>,
 }
 
-// A choice with this framing and these separators. For unparsing it is refused.
-fn choice_by(purpose: Purpose, framing: Framing, separated: Option<Separated>) -> Component
-    ensures { result ≡ spec.choice_by purpose framing separated }
+// A choice with this framing and these separators, whose content is initiated or isn't. For unparsing it is refused.
+fn choice_by(
+    purpose: Purpose,
+    framing: Framing,
+    separated: Option<Separated>,
+    initiated: bool,
+) -> Component
+    ensures { result ≡ spec.choice_by purpose framing separated initiated }
 {
     match purpose {
-        Purpose::Parsing => Component::Choice { framing },
-        Purpose::Unparsing => Component::Sequence { framing, separated },
+        Purpose::Parsing => Component::Choice { framing, initiated },
+        Purpose::Unparsing => sequence_by(framing, separated, initiated),
+    }
+}
+
+// A sequence with this framing and these separators, whose content is initiated or isn't.
+fn sequence_by(framing: Framing, separated: Option<Separated>, initiated: bool) -> Component
+    ensures { result ≡ Sequence framing separated initiated }
+{
+    Component::Sequence {
+        framing,
+        separated,
+        initiated,
+    }
+}
+
+// A component that hides the group of this sequence or choice, or none.
+fn hiding_by(hidden: Option<Site>, component: Component) -> Component
+    ensures { result ≡ spec.hiding_by hidden component }
+{
+    match hidden {
+        Some(_) => Component::Hidden,
+        None => component,
     }
 }
 
@@ -153,7 +183,7 @@ fn component_by(
     kind: Kind,
 ) -> Component
     ensures { result ≡ spec.component_by purpose name (primitive_by judgement.now) numbered.prim numbered.framing judgement.now.size numbered.prefix numbered.tried
-        numbered.separated judgement.now.occurs kind }
+        numbered.separated judgement.now.initiates judgement.now.occurs judgement.now.is_parsed kind }
 {
     let simple = type_by(judgement);
     let is_scanned = is_scanned_by(judgement);
@@ -164,13 +194,16 @@ fn component_by(
         tried,
         separated,
     } = numbered;
+    let initiated = judgement.initiates;
     let occurs = judgement.occurs;
+    let is_parsed = judgement.is_parsed;
     match kind {
         Kind::ComplexElement => Component::ComplexElement {
             name,
             framing,
             content_box: box_by(judgement.size, prefix),
             occurs,
+            is_parsed,
         },
         Kind::SimpleElement(_) => Component::SimpleElement {
             name,
@@ -181,6 +214,7 @@ fn component_by(
             tried,
             is_scanned,
             occurs,
+            is_parsed,
         },
         Kind::UncarriedElement => Component::SimpleElement {
             name,
@@ -191,10 +225,11 @@ fn component_by(
             tried,
             is_scanned,
             occurs,
+            is_parsed,
         },
-        Kind::Sequence => Component::Sequence { framing, separated },
-        Kind::Choice => choice_by(purpose, framing, separated),
-        Kind::PrefixNumber(_) => Component::Sequence { framing, separated },
+        Kind::Sequence | Kind::HiddenSequence => sequence_by(framing, separated, initiated),
+        Kind::Choice => choice_by(purpose, framing, separated, initiated),
+        Kind::PrefixNumber(_) => sequence_by(framing, separated, initiated),
     }
 }
 
@@ -210,33 +245,36 @@ fn one_list_behind(schema: &Schema, numbers: &Numbers, number: u32) -> Result<u3
     }
 }
 
-// What frames the content of an element of the documents of which this is told.
+// What frames the content of an element of the documents of which this is told, where its first test has this number.
 fn framing_of(
     schema: &Schema,
     numbers: &Numbers,
+    first: u32,
     site: Site,
     judgement: &Judgement,
 ) -> Result<Framing, AllocError>
     requires site { IsSite schema.now site }
     requires numbers { AreNumbers schema.now numbers.now }
-    ensures { IfOk result (λ framing. framing ≡ spec.framing_of schema.now site judgement.now) }
+    ensures { IfOk result (λ framing. framing ≡ spec.framing_of schema.now first site judgement.now) }
 {
     let initiator = numbers.number(schema, site);
     let terminator = one_list_behind(schema, numbers, initiator)?;
-    Ok(framing_by(initiator, terminator, judgement))
+    let tests = tests_by(first, judgement)?;
+    Ok(framing_by(tests, initiator, terminator, judgement))
 }
 
-// What an element of the documents of which this is told has by numbers.
+// What an element of the documents of which this is told has by numbers, where its first test has this one.
 fn by_numbers(
     schema: &Schema,
     numbers: &Numbers,
+    first: u32,
     site: Site,
     judgement: &Judgement,
 ) -> Result<Numbered, AllocError>
     requires site { IsSite schema.now site }
     requires numbers { AreNumbers schema.now numbers.now }
     ensures prim { IfOk result (λ found. found.prim ≡ number_of schema.now site) }
-    ensures framing { IfOk result (λ found. found.framing ≡ spec.framing_of schema.now site judgement.now) }
+    ensures framing { IfOk result (λ found. found.framing ≡ spec.framing_of schema.now first site judgement.now) }
     ensures prefix { IfOk result (λ found. found.prefix ≡ option_map (spec.prefix_by (spec.prefix_number schema.now site)) judgement.now.prefix) }
     ensures tried { IfOk result (λ found. found.tried
         ≡ spec.tried_by (spec.nil_number schema.now site) (spec.empty_number schema.now site) judgement.now.others) }
@@ -247,7 +285,7 @@ fn by_numbers(
     let prefix = one_list_behind(schema, numbers, prim)?;
     let nil = one_list_behind(schema, numbers, prefix)?;
     let empty = one_list_behind(schema, numbers, nil)?;
-    let framing = framing_of(schema, numbers, site, judgement)?;
+    let framing = framing_of(schema, numbers, first, site, judgement)?;
     // Those of separators stand as far behind as those of nil representations.
     let separator = nil;
     Ok(Numbered {
@@ -259,23 +297,25 @@ fn by_numbers(
     })
 }
 
-// What an element of the documents is for a purpose, of which this is told.
+// What an element of the documents is for a purpose, of which this is told, where its first test has this number.
 fn component_with(
     alloc: Global,
     schema: &Schema,
     numbers: &Numbers,
     purpose: Purpose,
+    first: u32,
     site: Site,
     judgement: &Judgement,
 ) -> Result<Component, AllocError>
     requires site { IsSite schema.now site }
     requires numbers { AreNumbers schema.now numbers.now }
-    ensures { IfOk result (λ component. component ≡ spec.component_with purpose schema.now site judgement.now) }
+    ensures { IfOk result (λ component. component ≡ spec.component_with purpose schema.now first site judgement.now) }
 {
     let name = element_name(alloc, schema, site)?;
-    let numbered = by_numbers(schema, numbers, site, judgement)?;
+    let numbered = by_numbers(schema, numbers, first, site, judgement)?;
     let kind = kind_at(schema, numbers, site);
-    Ok(component_by(purpose, name, judgement, numbered, kind))
+    let component = component_by(purpose, name, judgement, numbered, kind);
+    Ok(hiding_by(judgement.hidden, component))
 }
 
 /// What each element of the documents is for a purpose.
@@ -287,7 +327,7 @@ pub(crate) fn components(
     sites: &[Site],
     judgements: &[Judgement],
 ) -> Result<Vec<Component>, AllocError>
-    requires sites { All (IsSite schema.now) sites.now }
+    requires sites { sites.now ≡ all_sites schema.now }
     requires numbers { AreNumbers schema.now numbers.now }
     requires told { length judgements.now ≡ length sites.now }
     ensures { (refused : declared_site.Site → Bool)
@@ -295,10 +335,13 @@ pub(crate) fn components(
         → IfOk result (λ made. made.items ≡ map (spec.component_at purpose refused schema.now) sites.now) }
 {
     let mut made = Vec::new(alloc);
+    let mut first = 0u32;
     for at in 0..sites.len() {
         let site = sites[at];
-        let component = component_with(alloc, schema, numbers, purpose, site, &judgements[at])?;
+        let judgement = &judgements[at];
+        let component = component_with(alloc, schema, numbers, purpose, first, site, judgement)?;
         made.push(component)?;
+        first = first_behind(first, judgement)?;
     }
     Ok(made)
 }
@@ -325,69 +368,4 @@ pub(crate) fn refusals(
         made.push(refusal_of(judgement.breach))?;
     }
     Ok(made)
-}
-
-// The numbers of some elements, in place of those before.
-fn number_all(
-    schema: &Schema,
-    numbers: &Numbers,
-    sites: &[Site],
-    found: &mut Vec<u32>,
-) -> Result<(), AllocError>
-    requires sites { All (IsSite schema.now) sites.now }
-    requires numbers { AreNumbers schema.now numbers.now }
-    ensures { OnOk result (found.new.items ≡ map (number_of schema.now) sites.now) }
-{
-    found.clear();
-    for site in sites {
-        found.push(numbers.number(schema, *site))?;
-    }
-    Ok(())
-}
-
-/// The numbers of the parts of each element.
-pub(crate) fn uses(
-    alloc: Global,
-    schema: &Schema,
-    numbers: &Numbers,
-    sites: &[Site],
-) -> Result<Uses, OrderFault>
-    requires sites { All (IsSite schema.now) sites.now }
-    requires numbers { AreNumbers schema.now numbers.now }
-    ensures uses { IfOk result (λ made. made ≡ map (spec.part_numbers schema.now) sites.now) }
-    ensures only_memory { IfErr result (λ e. e ≡ OutOfMemory) }
-{
-    let mut made = Uses::new(alloc);
-    let mut parts = Vec::new(alloc);
-    let mut found = Vec::new(alloc);
-    for site in sites {
-        parts_at(schema, numbers, *site, &mut parts)?;
-        number_all(schema, numbers, parts.as_slice(), &mut found)?;
-        made.push(found.as_slice())?;
-    }
-    Ok(made)
-}
-
-/// Where each element stands.
-pub(crate) fn places(
-    alloc: Global,
-    schema: &Schema,
-    sites: &[Site],
-) -> Result<Vec<Place>, AllocError>
-    requires { All (IsSite schema.now) sites.now }
-    ensures { IfOk result (λ made. made.items ≡ map (place_of schema.now) sites.now) }
-{
-    let mut made = Vec::new(alloc);
-    for site in sites {
-        made.push(place_at(schema, *site))?;
-    }
-    Ok(made)
-}
-
-// Where an element stands.
-pub(crate) fn place_at(schema: &Schema, site: Site) -> Place
-    requires { IsSite schema.now site }
-    ensures { result ≡ place_of schema.now site }
-{
-    schema.place(site)
 }

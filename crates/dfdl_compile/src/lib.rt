@@ -8,7 +8,9 @@
 mod compiling;
 mod fault;
 mod gathering;
+mod parts;
 mod primitives;
+mod testing;
 
 pub use compiling::{compile, compile_for_unparse};
 pub use fault::CompileFault;

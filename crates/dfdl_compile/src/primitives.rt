@@ -1,15 +1,16 @@
-// What the rows of a schema name: the primitives that its leaves, their length prefixes and their other representations are read by,
-// and the literals of its delimiters.
+// What the rows of a schema name: the primitives that its leaves, their length prefixes and their other representations are read by, the
+// literals of its delimiters, and its tests.
 ghost use Rattle.std.specs.Prelude.{◌≡◌, [], ◌++◌, All, IfOk, map, unwrap_or};
 ghost use Rattle.dfdl_checks.specs.Numbers as numbers;
 ghost use Rattle.dfdl_compile.specs.Delimiters as delimiters;
 ghost use Rattle.dfdl_compile.specs.Primitives as spec;
+ghost use Rattle.dfdl_compile.specs.Tests.{all_tests};
 
 use dfdl_breaches::Judgement;
 use dfdl_checks::{Delimiting, PrefixForm, Separating};
 use dfdl_forms::{BitOrder, ByteOrder, Encoding, IntForm, Literals, Simple};
 use dfdl_terms::row::default_is_written;
-use dfdl_terms::{Delimiters, Primitive, Tables, TextContent, TextSize};
+use dfdl_terms::{Delimiters, PatternTest, Primitive, Tables, TextContent, TextSize};
 use std::alloc::{AllocError, Global};
 
 // The primitive that stands for an element without one of its own.
@@ -161,6 +162,7 @@ struct Lists {
     initiators: Vec<Delimiters>,
     terminators: Vec<Delimiters>,
     separators: Vec<Delimiters>,
+    tests: Vec<PatternTest>,
 }
 
 impl Lists {
@@ -172,6 +174,7 @@ impl Lists {
         ensures initiators { result.initiators.items ≡ [] }
         ensures terminators { result.terminators.items ≡ [] }
         ensures separators { result.separators.items ≡ [] }
+        ensures tests { result.tests.items ≡ [] }
     {
         Lists {
             own: Vec::new(alloc),
@@ -181,11 +184,13 @@ impl Lists {
             initiators: Vec::new(alloc),
             terminators: Vec::new(alloc),
             separators: Vec::new(alloc),
+            tests: Vec::new(alloc),
         }
     }
 }
 
 // Those of elements of which this is told.
+#[tactic(auto, using(crate::proofs::Fitting::tests_pushed))]
 fn lists_of(alloc: Global, judgements: Vec<Judgement>) -> Result<Lists, AllocError>
     ensures own { IfOk result (λ lists. lists.own.items ≡ map spec.primitive_by judgements.items) }
     ensures prefixes { IfOk result (λ lists. lists.prefixes.items ≡ map spec.prefix_primitive_by judgements.items) }
@@ -194,6 +199,7 @@ fn lists_of(alloc: Global, judgements: Vec<Judgement>) -> Result<Lists, AllocErr
     ensures initiators { IfOk result (λ lists. lists.initiators.items ≡ map delimiters.initiator_list_by judgements.items) }
     ensures terminators { IfOk result (λ lists. lists.terminators.items ≡ map delimiters.terminator_list_by judgements.items) }
     ensures separators { IfOk result (λ lists. lists.separators.items ≡ map delimiters.separator_list_by judgements.items) }
+    ensures tests { IfOk result (λ lists. lists.tests.items ≡ all_tests judgements.items) }
 {
     let mut lists = Lists::new(alloc);
     for judgement in judgements {
@@ -202,6 +208,7 @@ fn lists_of(alloc: Global, judgements: Vec<Judgement>) -> Result<Lists, AllocErr
             markup,
             prefix,
             others,
+            tests,
             ..
         } = judgement;
         lists.own.push(primitive_or_byte(primitive))?;
@@ -213,18 +220,22 @@ fn lists_of(alloc: Global, judgements: Vec<Judgement>) -> Result<Lists, AllocErr
         lists
             .separators
             .push(separator_list_if(alloc, markup.separator))?;
+        let mut own = tests.into_vec();
+        lists.tests.append(&mut own)?;
     }
     Ok(lists)
 }
 
 /// What the rows of elements name of which this is told: their primitives, and behind them those of their length prefixes, of their nil
-/// representations and of their empty ones; the literals of their initiators, and behind them those of their terminators and separators.
+/// representations and of their empty ones; the literals of their initiators, and behind them those of their terminators and separators;
+/// and their tests.
 pub(crate) fn tables(alloc: Global, judgements: Vec<Judgement>) -> Result<Tables, AllocError>
     ensures primitives { IfOk result (λ tables. tables.primitives ≡ map spec.primitive_by judgements.items
         ++ (map spec.prefix_primitive_by judgements.items
         ++ (map spec.nil_primitive_by judgements.items ++ map spec.empty_primitive_by judgements.items))) }
     ensures delimiters { IfOk result (λ tables. tables.delimiters ≡ map delimiters.initiator_list_by judgements.items
         ++ (map delimiters.terminator_list_by judgements.items ++ map delimiters.separator_list_by judgements.items)) }
+    ensures tests { IfOk result (λ tables. tables.tests ≡ all_tests judgements.items) }
     ensures written { IfOk result (λ tables. All spec.HasWrittenText tables.primitives) }
 {
     let Lists {
@@ -235,6 +246,7 @@ pub(crate) fn tables(alloc: Global, judgements: Vec<Judgement>) -> Result<Tables
         mut initiators,
         mut terminators,
         mut separators,
+        tests,
     } = lists_of(alloc, judgements)?;
     nils.append(&mut empties)?;
     prefixes.append(&mut nils)?;
@@ -242,5 +254,5 @@ pub(crate) fn tables(alloc: Global, judgements: Vec<Judgement>) -> Result<Tables
     terminators.append(&mut separators)?;
     initiators.append(&mut terminators)?;
     texts_are_written(own.as_slice());
-    Ok(Tables::new(own, initiators))
+    Ok(Tables::new(own, initiators, tests))
 }

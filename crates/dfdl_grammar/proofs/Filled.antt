@@ -11,12 +11,14 @@ use Rattle.dfdl_terms.specs.declared.representations.Representations.{Representa
 use Rattle.dfdl_value.specs.declared.value.Value.{Value}
 use Rattle.dfdl_terms.specs.declared.row.Primitive.{Primitive}
 use Rattle.dfdl_terms.specs.declared.row.Row.{Row}
-use Rattle.dfdl_terms.specs.declared.row.Row.TheVariants.{Leaf, Elem, Group, Skip, Align, Initiator, Terminator, Separator, Scope, Boxed, PrefixedLeaf, PrefixedBox, Repeat, Optional, Choice as ChoiceRow}
+use Rattle.dfdl_terms.specs.declared.row.Row.TheVariants.{Leaf, Elem, Group, Skip, Align, Initiator, Terminator, Separator, Scope, Boxed, PrefixedLeaf, PrefixedBox, Repeat, Optional, Choice as ChoiceRow, Test, Hidden, Separated}
 use Rattle.dfdl_terms.specs.Leaves.{ReadsBy, leaf as by_leaf, prefixed as by_prefix, grouped, scoped as scoped_reads}
 use Rattle.dfdl_terms.specs.Rows.{AreWithin, IsWithin, NamesWithin, Nests, Table, named_by}
 use Rattle.dfdl_region.specs.declared.node.Content.{Content}
 use Rattle.dfdl_region.specs.declared.node.Content.TheVariants.{Begun, Complex}
 use Rattle.dfdl_region.specs.declared.node.Content.TheVariants as content
+use Rattle.dfdl_separators.specs.declared.policy.SeparatorSuppressionPolicy.{SeparatorSuppressionPolicy}
+use Rattle.dfdl_terms.specs.declared.slots.Slot.{Slot}
 use Rattle.dfdl_terms.specs.declared.text.TextSize.{TextSize}
 use Rattle.dfdl_region.specs.Nodes.{with_content}
 use Rattle.dfdl_looks.specs.Asks.{Ask, Reached, Told, TooFar, Missing, ask}
@@ -25,6 +27,7 @@ use Rattle.dfdl_looks.specs.Tallies.{needs_from, nothing, one_row}
 use Rattle.dfdl_grammar.specs.declared.end.End.{End}
 use Rattle.dfdl_grammar.specs.declared.end.End.TheVariants.{Done, Failed, Stopped}
 use Rattle.dfdl_grammar.specs.declared.instead.Instead.{Instead}
+use Rattle.dfdl_grammar.specs.declared.mark.Mark.{Mark}
 use Rattle.dfdl_grammar.specs.declared.instead.Instead.TheVariants.{Nothing, Nil, Empty}
 use Rattle.dfdl_grammar.specs.States.{Input, State, anchor, anchor_at}
 use Rattle.dfdl_grammar.specs.Documents.{front_at}
@@ -34,20 +37,23 @@ use Rattle.dfdl_grammar.specs.Framing.{aligned, fill_to, has_byte, passed}
 use Rattle.dfdl_grammar.specs.Delimiters.{closes_to, lists_of, markup, opens, scoped, unscoped}
 use Rattle.dfdl_grammar.specs.Boxes.{boxed, boxed_at, bytes_up_to, pass_bytes, past_byte, rest as rest_of, unboxed}
 use Rattle.dfdl_grammar.specs.Choices.{choice}
-use Rattle.dfdl_grammar.specs.Marks.{closed, pointed}
 use Rattle.dfdl_grammar.specs.Occurrences.{occurrences}
+use Rattle.dfdl_grammar.specs.Slots.{Sequence, separated}
 use Rattle.dfdl_grammar.specs.Elements.{attempted, begun, close, element, left}
 use Rattle.dfdl_grammar.specs.Prefixes.{bits_of_units, leaf_of, prefixed, prefixed_leaf, resized, size_of, sized_leaf}
 use Rattle.dfdl_grammar.specs.Rows.{below, group, meaning, row, row_at}
 use Rattle.dfdl_grammar.specs.Trees.{AreRead, HasLeaves, IsInTables}
-use Rattle.dfdl_grammar.proofs.Fine.{Fills, Fine, IsRead, Reads, aside, both, closed_fine, element-ends, fine, moved, put_read, read_as, read_before, read_behind, same_or, unmarked}
+use Rattle.dfdl_grammar.proofs.Fine.{Fills, Fine, IsRead, Reads, aside, both, closed_fine, element-ends, fine, moved, put_read, read_as, read_before, read_behind, same_or, unmarked, as_marked}
 use Rattle.dfdl_grammar.proofs.Towers.{below-meaning}
 use Rattle.dfdl_grammar.proofs.Found.{value-for, whole-told}
 use Rattle.dfdl_grammar.proofs.Going.{below-goes, tried-returns, tried-stays}
 use Rattle.dfdl_grammar.proofs.Grown.{Ends, Goes, Stays}
 use Rattle.dfdl_grammar.proofs.Prefixed.{prefixed-comes}
-use Rattle.dfdl_grammar.proofs.Pointed.{choice-comes, occurrence-comes}
-use Rattle.dfdl_grammar.proofs.Represented.{IsOk, marked_by, pointed_by, represented-comes}
+use Rattle.dfdl_grammar.proofs.Carried.{Carried, Carries}
+use Rattle.dfdl_grammar.proofs.Pointed.{choice-carried, occurrences-carried}
+use Rattle.dfdl_grammar.proofs.Slotted.{separated-carried}
+use Rattle.dfdl_grammar.proofs.Tested.{test-comes}
+use Rattle.dfdl_grammar.proofs.Represented.{IsOk, again_at, represented-comes}
 use Rattle.dfdl_grammar.proofs.Sought.{initiator-comes, separator-comes, terminator-comes}
 
 -- a primitive of so many
@@ -246,28 +252,51 @@ module _ (input : Input) (table : Table) (leaves : HasLeaves table) where
   element-fills id complex tried body goes fills nil_is empty_is s =
       represented-comes (λ (e : End) (t : State). e ≡ Done → Fine s t) (λ (instead : Instead) (e : End) (t : State). e ≡ Done → Fine s t) s
       (attempted input id complex body) IsKnown tt (fills Nothing tt s)
-      (λ instead before known done.
-      unmarked false s (attempted input id complex body instead (marked_by s before)).state before (fills instead known (marked_by s before) done))
+      (λ instead before marks same known done.
+      unmarked s (attempted input id complex body instead (again_at s before marks)).state before marks
+      (fills instead known (again_at s before marks) done))
       (λ instead t over done. closed_fine s t (over done)) (λ cause bit t over done. absurd (cc)) (λ instead cause quantity t over. over)
       (λ instead t over failed. absurd (cc)) (tried-stays input id complex body goes s) (tried-returns input id complex body goes s) tried nil_is empty_is
 
-  choice-fills : (child : ℕ → State → Outcome) → ((id : ℕ) → Fills (child id)) → ((id : ℕ) → Goes (child id)) → (ids : List ℕ) → Fills (choice child ids)
-  choice-fills child fills goes ids s =
-      choice-comes (λ (e : End) (t : State). e ≡ Done → Fine s t) (λ (e : End) (t : State). e ≡ Done → Fine s t) s
-      (λ t over done. closed_fine s t (over done)) (λ cause quantity t over. over) (λ before is done. absurd (cc)) child goes
-      (λ id before is done. unmarked true s (child id (pointed_by s before)).state before (fills id (pointed_by s before) done)) ids
+  -- what was done from a state on, whatever marks are open
+  module _ (s : State) where
+    abbrev FineBy : List Mark → State → Type 0
+    FineBy marks t = Fine s t
 
-  occurrences-fill : (body : State → Outcome) → Fills body → Goes body → (left : ℕ) → Fills (occurrences body left)
-  unfolding occurrences
-  occurrences-fill body fills goes zero s done = fine s
-  occurrences-fill body fills goes (suc left) s done =
-      let o : Outcome = body (pointed s) in
-      occurrence-comes (λ (e : End) (t : State). e ≡ Done → Fine s t) s body goes (λ before is done. read_as s before) (occurrences body left)
-      (λ over done.
-      let first : Fine s o.state = unmarked true s o.state s.instead (fills (pointed s) over) in
-      both s (closed o.state) (occurrences body left (closed o.state)).state (closed_fine s o.state first)
-      (occurrences-fill body fills goes left (closed o.state) done))
-      (λ cause quantity stopped done. absurd (cc)) done
+    abbrev EndsBy : List Mark → End → State → Type 0
+    EndsBy marks e t = e ≡ Done → Fine s t
+
+    filling : Carries FineBy EndsBy
+    filling = record {
+      moves = λ marks t at first. both s t (record t { at = at }) first (moved t at t.stop);
+      again = λ marks others t instead first is same. as_marked s (record t { instead = instead }) others
+          (both s t (record t { instead = instead }) first (read_as t instead));
+      opens = λ marks t mark first. as_marked s t (mark ∷ t.marks) first;
+      closes = λ marks t mark first. closed_fine s t first;
+      ends = λ marks e t first done. first;
+      done = λ marks t first. first refl;
+      closes_end = λ marks e t mark first done. closed_fine s t (first done);
+      stays = λ marks cause quantity t mark first. first;
+    }
+
+    filling-carried : (f : State → Outcome) → Fills f → Carried FineBy EndsBy f
+    filling-carried f fills marks t first done = both s t (f t).state first (fills t done)
+
+  choice-fills : (child : ℕ → State → Outcome) → ((id : ℕ) → Fills (child id)) → ((id : ℕ) → Goes (child id)) → (initiated : Bool) (ids : List ℕ)
+      → Fills (choice child initiated ids)
+  choice-fills child fills goes initiated ids s =
+      choice-carried (FineBy s) (EndsBy s) (filling s) child goes (λ id. filling-carried s (child id) (fills id)) initiated ids s.marks s (fine s)
+
+  occurrences-fill : (body : State → Outcome) → Fills body → Goes body → (initiated : Bool) (left : ℕ) → Fills (occurrences body initiated left)
+  occurrences-fill body fills goes initiated left s =
+      occurrences-carried (FineBy s) (EndsBy s) (filling s) body goes (filling-carried s body fills) initiated left s.marks s (fine s)
+
+  separated-fills : (sequence : Sequence) → ((id : ℕ) → Fills (sequence.child id)) → ((id : ℕ) → Goes (sequence.child id))
+      → (policy : SeparatorSuppressionPolicy) (slots : List Slot) → Fills (separated sequence policy slots)
+  separated-fills sequence fills goes policy slots s =
+      separated-carried (FineBy s) (EndsBy s) (filling s) sequence goes (λ id. filling-carried s (sequence.child id) (fills id)) policy slots
+      s.marks s
+      (fine s)
 
   group-fills : (child : ℕ → State → Outcome) → ((id : ℕ) → Fills (child id)) → (children : List ℕ) → Fills (group child children)
   group-fills child fills [] s done = fine s
@@ -434,13 +463,19 @@ module _ (input : Input) (table : Table) (leaves : HasLeaves table) where
     row-fills id fills (Some (Skip bits)) is s done = pass-fills (s.at + bits) s (nat_le (s.at + bits) s.at) (nat_le (s.at + bits) s.stop) done
     row-fills id fills (Some (Align bits)) is s done = pass-fills (aligned bits s.at) s (nat_le (aligned bits s.at) s.at) (nat_le (aligned bits s.at) s.stop) done
     row-fills id fills (Some (Initiator delimiter)) is s done =
-        initiator-comes (λ (e : End) (t : State). e ≡ Done → Fine s t) s (λ over. fine s) (λ at over. moved s at s.stop) (λ cause over. absurd (cc))
+        initiator-comes (λ (e : End) (t : State). e ≡ Done → Fine s t) s
+        (λ at marks same over. as_marked s (record s { at = at }) marks (moved s at s.stop))
+        (λ cause over. absurd (cc))
         (λ cause quantity over. absurd (cc)) input table.delimiters delimiter done
     row-fills id fills (Some (Terminator delimiter separators)) is s done =
-        terminator-comes (λ (e : End) (t : State). e ≡ Done → Fine s t) s (λ over. fine s) (λ at over. moved s at s.stop) (λ cause over. absurd (cc))
+        terminator-comes (λ (e : End) (t : State). e ≡ Done → Fine s t) s
+        (λ at marks same over. as_marked s (record s { at = at }) marks (moved s at s.stop))
+        (λ cause over. absurd (cc))
         (λ cause quantity over. absurd (cc)) input table.delimiters delimiter separators done
     row-fills id fills (Some Separator) is s done =
-        separator-comes (λ (e : End) (t : State). e ≡ Done → Fine s t) s (λ over. fine s) (λ at over. moved s at s.stop) (λ cause over. absurd (cc))
+        separator-comes (λ (e : End) (t : State). e ≡ Done → Fine s t) s
+        (λ at marks same over. as_marked s (record s { at = at }) marks (moved s at s.stop))
+        (λ cause over. absurd (cc))
         (λ cause quantity over. absurd (cc)) input table.delimiters done
     row-fills id fills (Some (Scope list body)) is s done = scoped-fills list (below input table id body) (fills id (omega arith) body) s done
     row-fills id fills (Some (Boxed bits body)) is s done =
@@ -452,10 +487,19 @@ module _ (input : Input) (table : Table) (leaves : HasLeaves table) where
         (λ units after. sized_leaf input table.delimiters nil primitive (size_of prefix.unit units) after)
         (λ units. sized-fills table.delimiters nil primitive (size_of prefix.unit units)) s done
     row-fills id fills (Some (Repeat count body)) is s done = group-fills (below input table id) (λ i. fills id (omega arith) i) (replicate count body) s done
-    row-fills id fills (Some (Optional most item body)) is s done =
-        occurrences-fill (below input table id body) (fills id (omega arith) body) (below-goes input table id body) most s done
-    row-fills id fills (Some (ChoiceRow branches)) is s done =
-        choice-fills (below input table id) (λ i. fills id (omega arith) i) (below-goes input table id) branches s done
+    row-fills id fills (Some (Optional most item initiated body)) is s done =
+        occurrences-fill (below input table id body) (fills id (omega arith) body) (below-goes input table id body) initiated most s done
+    row-fills id fills (Some (ChoiceRow branches initiated)) is s done =
+        choice-fills (below input table id) (λ i. fills id (omega arith) i) (below-goes input table id) initiated branches s done
+    row-fills id fills (Some (Test number)) is s done =
+        test-comes (λ (e : End) (t : State). e ≡ Done → Fine s t) s (λ marks same over. as_marked s s marks (fine s)) (λ cause over. absurd (cc))
+        (λ cause quantity over. absurd (cc)) input table.tests number done
+    row-fills id fills (Some (Hidden body)) is s done = fills id (omega arith) body s done
+    row-fills id fills (Some (Separated policy position initiated slots)) is s done =
+        let sequence : Sequence =
+        record { input = input; delimiters = table.delimiters; child = below input table id; position = position; initiated = initiated } in
+        separated-fills sequence
+        (λ i. fills id (omega arith) i) (below-goes input table id) policy slots s done
     row-fills id fills (Some (PrefixedBox prefix body)) is s done =
         let inner : State → Outcome = below input table id body in
         prefixed-fills table.delimiters (slice_get table.primitives prefix.prim) prefix.own

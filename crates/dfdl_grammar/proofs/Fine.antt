@@ -1,5 +1,5 @@
 -- A state that follows another, whose elements that began meanwhile are read.
-use Rattle.std.proofs.Common.{◌≡◌, ℕ, zero, suc, ◌+◌, ◌<◌, ◌≤◌, ◌⊎◌, inl, inr, refl, List, [], ◌∷◌, ◌++◌, length, Bool, Some, ap, sym, subst, ◌∙◌, arith, length-append}
+use Rattle.std.proofs.Common.{◌≡◌, ℕ, zero, suc, ◌+◌, ◌<◌, ◌≤◌, ◌⊎◌, inl, inr, refl, List, [], ◌∷◌, ◌++◌, length, Some, ap, sym, subst, ◌∙◌, arith, length-append}
 use Rattle.std.specs.Prelude.{slice_get}
 use Rattle.std.proofs.lemmas.Option.{slice_get_within}
 use Rattle.dfdl_region.specs.declared.node.Node.{Node}
@@ -8,12 +8,12 @@ use Rattle.dfdl_region.specs.declared.node.Content.TheVariants.{Begun}
 use Rattle.dfdl_region.specs.Nodes.{with_content}
 use Rattle.dfdl_grammar.specs.declared.end.End.TheVariants.{Done}
 use Rattle.dfdl_grammar.specs.declared.instead.Instead.{Instead}
+use Rattle.dfdl_grammar.specs.declared.mark.Mark.{Mark}
 use Rattle.dfdl_grammar.specs.States.{State}
 use Rattle.dfdl_grammar.specs.Outcomes.{Outcome}
 use Rattle.dfdl_grammar.specs.Elements.{begun}
 use Rattle.dfdl_grammar.specs.Marks.{closed}
 use Rattle.dfdl_grammar.proofs.Grown.{content-length}
-use Rattle.dfdl_grammar.proofs.Represented.{marked_as}
 
 same_at : (nodes : List Node) (number : ℕ) (content : Content) (node : Node) → slice_get (with_content nodes number content) number ≡ Some node → node.content ≡ content
 same_at [] number content node is = absurd (cc)
@@ -136,9 +136,12 @@ aside s to stop hidden lists = let same = fine s in record { inside = refl; long
 pub moved : (s : State) (to stop : ℕ) → Fine s (record s { at = to; stop = stop })
 moved s to stop = aside s to stop s.hidden s.lists
 
--- the same before a mark, and where it is closed
-pub unmarked : (is_point : Bool) (s t : State) (before : Instead) → Fine (marked_as is_point s before) t → Fine s t
-unmarked is_point s t before same = record { inside = same.inside; longer = same.longer; fresh = same.fresh; kept = same.kept }
+-- the same where other marks are open, and where one is closed
+pub unmarked : (s t : State) (before : Instead) (marks : List Mark) → Fine (record s { instead = before; marks = marks }) t → Fine s t
+unmarked s t before marks same = record { inside = same.inside; longer = same.longer; fresh = same.fresh; kept = same.kept }
+
+pub as_marked : (s t : State) (marks : List Mark) → Fine s t → Fine s (record t { marks = marks })
+as_marked s t marks same = record { inside = same.inside; longer = same.longer; fresh = same.fresh; kept = same.kept }
 
 pub closed_fine : (s t : State) → Fine s t → Fine s (closed t)
 closed_fine s t same = record { inside = same.inside; longer = same.longer; fresh = same.fresh; kept = same.kept }

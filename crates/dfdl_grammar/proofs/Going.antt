@@ -2,16 +2,17 @@
 use Rattle.std.proofs.Common.{◌≡◌, inl, inr, ℕ, zero, suc, ◌+◌, ◌-◌, ◌*◌, ◌/◌, refl, List, [], ◌∷◌, ◌++◌, length, take, Bool, true, false, cond, nat_eq, nat_le, nat_lt, Option, Some, None, ap, sym, subst, ◌∙◌, arith, append-nil, replicate}
 use Rattle.std.proofs.Math.Seq.{take-append_seam}
 use Rattle.std.specs.Prelude.{slice_get}
-use Rattle.dfdl_report.specs.declared.cause.LimitCause.{LimitCause}
 use Rattle.dfdl_report.specs.declared.cause.LimitCause.TheVariants.{Nodes, Text as TextLimit}
 use Rattle.dfdl_report.specs.declared.cause.ParseCause.{ParseCause}
-use Rattle.dfdl_report.specs.declared.cause.ParseCause.TheVariants.{LengthOutOfRange, NoBranch, RequiredEmpty}
+use Rattle.dfdl_report.specs.declared.cause.ParseCause.TheVariants.{LengthOutOfRange, RequiredEmpty}
 use Rattle.dfdl_terms.specs.declared.delimiters.Delimiters.{Delimiters}
 use Rattle.dfdl_terms.specs.declared.representations.Representations.{Representations}
 use Rattle.dfdl_value.specs.declared.value.Value.{Value}
 use Rattle.dfdl_terms.specs.declared.row.Primitive.{Primitive}
 use Rattle.dfdl_terms.specs.declared.row.Row.{Row}
-use Rattle.dfdl_terms.specs.declared.row.Row.TheVariants.{Leaf, Elem, Group, Skip, Align, Initiator, Terminator, Separator, Scope, Boxed, PrefixedLeaf, PrefixedBox, Repeat, Optional, Choice as ChoiceRow}
+use Rattle.dfdl_terms.specs.declared.row.Row.TheVariants.{Leaf, Elem, Group, Skip, Align, Initiator, Terminator, Separator, Scope, Boxed, PrefixedLeaf, PrefixedBox, Repeat, Optional, Choice as ChoiceRow, Test, Hidden, Separated}
+use Rattle.dfdl_separators.specs.declared.policy.SeparatorSuppressionPolicy.{SeparatorSuppressionPolicy}
+use Rattle.dfdl_terms.specs.declared.slots.Slot.{Slot}
 use Rattle.dfdl_terms.specs.declared.text.TextSize.{TextSize}
 use Rattle.dfdl_terms.specs.Rows.{Table}
 use Rattle.dfdl_region.specs.declared.node.Node.{Node}
@@ -28,21 +29,26 @@ use Rattle.dfdl_grammar.specs.declared.instead.Instead.TheVariants.{Nothing, Nil
 use Rattle.dfdl_grammar.specs.declared.mark.Mark.{Mark}
 use Rattle.dfdl_grammar.specs.States.{Input, State, anchor, anchor_at}
 use Rattle.dfdl_grammar.specs.Outcomes.{Outcome, ended, follow, spend, then_do}
-use Rattle.dfdl_grammar.specs.Marks.{back, closed, marked, outer_marks, pointed}
+use Rattle.dfdl_grammar.specs.Marks.{closed, mark_at, marked}
 use Rattle.dfdl_grammar.specs.Leaves.{Find, Fails, Finds, FindsOctets, FindsText, content_begins, has_room, land, leaf, nil_values, program_for, read_by}
 use Rattle.dfdl_grammar.specs.Framing.{aligned, fill_to, has_byte, passed}
 use Rattle.dfdl_grammar.specs.Delimiters.{closes_to, lists_of, markup, opens, scoped, unscoped}
 use Rattle.dfdl_grammar.specs.Boxes.{boxed, boxed_at, bytes_up_to, pass_bytes, past_byte, rest as rest_of, unboxed}
 use Rattle.dfdl_grammar.specs.Choices.{choice}
 use Rattle.dfdl_grammar.specs.Occurrences.{occurrences}
+use Rattle.dfdl_grammar.specs.Slots.{Sequence, separated}
 use Rattle.dfdl_grammar.specs.Elements.{attempted, begun, close, element, has_elements, left}
 use Rattle.dfdl_grammar.specs.Prefixes.{bits_of_units, leaf_of, prefixed, resized, size_of, sized_leaf}
 use Rattle.dfdl_grammar.specs.Rows.{below, group, meaning, row, row_at}
 use Rattle.dfdl_grammar.proofs.Prefixed.{prefixed-comes}
-use Rattle.dfdl_grammar.proofs.Pointed.{choice-comes, occurrence-comes}
-use Rattle.dfdl_grammar.proofs.Represented.{any_ok, marked_by, pointed_by, refused, represented-comes}
+use Rattle.dfdl_grammar.proofs.Pointed.{choice-carried, occurrences-carried}
+use Rattle.dfdl_grammar.proofs.Represented.{AreMarked, GoesBack, again_at, any_ok, marked_by, refused, represented-comes}
+use Rattle.dfdl_grammar.proofs.Resolved.{outer_same}
+use Rattle.dfdl_grammar.proofs.Gone.{EndsBy, GoneBy, going, going-carried}
+use Rattle.dfdl_grammar.proofs.Tested.{test-comes}
+use Rattle.dfdl_grammar.proofs.Slotted.{separated-carried}
 use Rattle.dfdl_grammar.proofs.Sought.{initiator-comes, separator-comes, terminator-comes}
-use Rattle.dfdl_grammar.proofs.Grown.{again, any_one, begun-longer, behind, content-length, content_twice, failed_returns, front_same, grown, grown_twice, is_nothing, moved, other_same, still, twice, unmarked_went, Ends, Goes, Grown, Went}
+use Rattle.dfdl_grammar.proofs.Grown.{any_one, begun-longer, behind, content-length, content_twice, failed_returns, front_same, grown, grown_twice, is_nothing, moved, moved_as, other_same, still, twice, unmarked_went, went_as, Ends, Goes, Grown, Went}
 
 module _ (input : Input) where
   put : (s : State) (at : ℕ) (bytes : List ℕ) (content : Content)
@@ -366,26 +372,35 @@ module _ (input : Input) where
     ends = tt;
   }
 
-  -- where it fails, what is gone back to is the state at the mark
-  pub tried-returns : (id : ℕ) (complex : Bool) (body : State → Outcome) → Goes body → (s : State) (instead before : Instead) (cause : ParseCause) (bit : ℕ)
-      → (attempted input id complex body instead (marked_by s before)).end ≡ Failed cause bit
-      → back (attempted input id complex body instead (marked_by s before)).state
-      ≡ marked_by s (attempted input id complex body instead (marked_by s before)).state.instead
-  tried-returns id complex body goes s instead before cause bit is =
-      let from : State = marked_by s before in
+  -- one from the mark of an element again
+  again_tried : (id : ℕ) (complex : Bool) (body : State → Outcome) → Goes body → (s : State) (instead before : Instead) (marks : List Mark)
+      → AreMarked s marks
+      → (let o : Outcome = attempted input id complex body instead (again_at s before marks) in Tries s.inside (marked s) instead o.end o.state)
+  again_tried id complex body goes s instead before marks same =
+      let from : State = again_at s before marks in
       let o : Outcome = attempted input id complex body instead from in
-      failed_returns false s o.state instead cause bit
-      (subst (λ (e : End). Tries s.inside from instead e o.state) is (any_tried from o.state instead o.end (tried-goes id complex body goes instead from)))
+      went_as s.inside (record (marked s) { instead = tried_by o.end instead }) o.state marks o.end same
+      (any_tried from o.state instead o.end (tried-goes id complex body goes instead from))
+
+  -- where it fails, what is gone back to is the state at the mark
+  pub tried-returns : (id : ℕ) (complex : Bool) (body : State → Outcome) → Goes body → (s : State) (instead before : Instead) (marks : List Mark)
+      → AreMarked s marks → (cause : ParseCause) (bit : ℕ)
+      → (attempted input id complex body instead (again_at s before marks)).end ≡ Failed cause bit
+      → GoesBack s (attempted input id complex body instead (again_at s before marks)).state
+  tried-returns id complex body goes s instead before marks same cause bit is =
+      let o : Outcome = attempted input id complex body instead (again_at s before marks) in
+      let went : Tries s.inside (marked s) instead (Failed cause bit) o.state =
+      subst (λ (e : End). Tries s.inside (marked s) instead e o.state) is (again_tried id complex body goes s instead before marks same) in
+      (failed_returns false false s o.state instead cause bit went, went.ends.marks)
 
   -- where one is done, the marks are those from before
-  pub tried-stays : (id : ℕ) (complex : Bool) (body : State → Outcome) → Goes body → (s : State) (instead before : Instead)
-      → (attempted input id complex body instead (marked_by s before)).end ≡ Done
-      → (attempted input id complex body instead (marked_by s before)).state.marks ≡ (marked s).marks
-  tried-stays id complex body goes s instead before is =
-      let from : State = marked_by s before in
-      let o : Outcome = attempted input id complex body instead from in
-      let went : Tries (length s.nodes) from instead Done o.state =
-      subst (λ (e : End). Tries (length s.nodes) from instead e o.state) is (tried-goes id complex body goes instead from) in
+  pub tried-stays : (id : ℕ) (complex : Bool) (body : State → Outcome) → Goes body → (s : State) (instead before : Instead) (marks : List Mark)
+      → AreMarked s marks → (attempted input id complex body instead (again_at s before marks)).end ≡ Done
+      → AreMarked s (attempted input id complex body instead (again_at s before marks)).state.marks
+  tried-stays id complex body goes s instead before marks same is =
+      let o : Outcome = attempted input id complex body instead (again_at s before marks) in
+      let went : Tries s.inside (marked s) instead Done o.state =
+      subst (λ (e : End). Tries s.inside (marked s) instead e o.state) is (again_tried id complex body goes s instead before marks same) in
       went.ends.marks
 
   refused_went : (s t : State) (instead : Instead) (cause : ParseCause) (bit : ℕ) → Tries s.inside (marked s) instead Done t
@@ -393,7 +408,7 @@ module _ (input : Input) where
   refused_went s t instead cause bit went = record {
     grown = grown_alike s.inside s (refused s t) (marked_by s Nothing) t went.grown refl refl refl refl;
     ends = record {
-      marks = ap (λ (ms : List Mark). outer_marks ms) went.ends.marks;
+      marks = outer_same t.marks (marked s).marks went.ends.marks;
       instead = inr (is_nothing t.instead went.ends.instead);
       lists = went.ends.lists;
       hidden = went.ends.hidden;
@@ -406,12 +421,10 @@ module _ (input : Input) where
       (attempted input id complex body) (λ (instead : Instead). Unit {0}) tt
       (let o : Outcome = attempted input id complex body Nothing s in
       alone_goes s o.state o.end (any_tried s o.state Nothing o.end (tried-goes id complex body goes Nothing s)))
-      (λ instead before one.
-      let from : State = marked_by s before in
-      let o : Outcome = attempted input id complex body instead from in
-      any_tried from o.state instead o.end (tried-goes id complex body goes instead from))
-      (λ instead t went. alone_goes s (closed t) Done (unmarked_went false s Nothing Done t went))
-      (λ cause bit t went. alone_goes s (closed t) (Failed cause bit) (unmarked_went false s Nothing (Failed cause bit) t went))
+      (λ instead before marks same one. again_tried id complex body goes s instead before marks same)
+      (λ instead t went. alone_goes s (closed t) Done (unmarked_went s.inside (mark_at s) (record s { instead = Nothing }) Done t went))
+      (λ cause bit t went. alone_goes s (closed t) (Failed cause bit)
+      (unmarked_went s.inside (mark_at s) (record s { instead = Nothing }) (Failed cause bit) t went))
       (λ instead cause quantity t went. record {
         grown = record { longer = went.grown.longer; kept = went.grown.kept; more = went.grown.more; text = went.grown.text };
         ends = tt;
@@ -419,44 +432,23 @@ module _ (input : Input) where
       (λ instead t went. refused_went s t instead RequiredEmpty s.at went) (tried-stays id complex body goes s) (tried-returns id complex body goes s)
       tried (any_ok Nil tried.nil) (any_ok Empty tried.empty)
 
-  -- where a limit is reached the marks stay open
-  unpointed_went : (s : State) (cause : LimitCause) (quantity : ℕ) (t : State) → Went s.inside (pointed s) (Stopped cause quantity) t
-      → Went s.inside s (Stopped cause quantity) t
-  unpointed_went s cause quantity t went = record {
-    grown = record { longer = went.grown.longer; kept = went.grown.kept; more = went.grown.more; text = went.grown.text };
-    ends = tt;
-  }
-
   -- a choice, each of whose branches begins at the point
-  choice-goes : (child : ℕ → State → Outcome) → ((id : ℕ) → Goes (child id)) → (ids : List ℕ) → Goes (choice child ids)
-  choice-goes child goes ids s =
-      choice-comes (λ (e : End) (t : State). Went s.inside s e t) (λ (e : End) (t : State). Went s.inside (pointed s) e t) s
-      (λ t went. unmarked_went true s s.instead Done t went)
-      (λ cause quantity t went. unpointed_went s cause quantity t went)
-      (λ before is. again s.inside s (Failed NoBranch s.at) before is)
-      child goes
-      (λ id before is.
-      let from : State = pointed_by s before in
-      let o : Outcome = child id from in
-      twice s.inside (pointed s) from o.state o.end (again s.inside (pointed s) Done before is) (goes id from))
-      ids
+  choice-goes : (child : ℕ → State → Outcome) → ((id : ℕ) → Goes (child id)) → (initiated : Bool) (ids : List ℕ) → Goes (choice child initiated ids)
+  choice-goes child goes initiated ids s =
+      choice-carried (GoneBy s) (EndsBy s) (going s) child goes (λ id. going-carried s (child id) (goes id)) initiated ids s.marks s
+      (still s.inside Done s)
 
   -- times that are tried
-  occurrences-go : (body : State → Outcome) → Goes body → (left : ℕ) → Goes (occurrences body left)
-  unfolding occurrences
-  occurrences-go body goes zero s = still s.inside Done s
-  occurrences-go body goes (suc left) s =
-      let o : Outcome = body (pointed s) in
-      let out : State = closed o.state in
-      let next : Outcome = occurrences body left out in
-      occurrence-comes (λ (e : End) (t : State). Went s.inside s e t) s body goes (λ before is. again s.inside s Done before is) (occurrences body left)
-      (λ done.
-      let went : Went s.inside (pointed s) Done o.state = subst (λ (e : End). Went s.inside (pointed s) e o.state) done (goes (pointed s)) in
-      behind s out next.state next.end (unmarked_went true s s.instead Done o.state went) (occurrences-go body goes left out))
-      (λ cause quantity stopped.
-      let went : Went s.inside (pointed s) (Stopped cause quantity) o.state =
-      subst (λ (e : End). Went s.inside (pointed s) e o.state) stopped (goes (pointed s)) in
-      unpointed_went s cause quantity o.state went)
+  occurrences-go : (body : State → Outcome) → Goes body → (initiated : Bool) (left : ℕ) → Goes (occurrences body initiated left)
+  occurrences-go body goes initiated left s =
+      occurrences-carried (GoneBy s) (EndsBy s) (going s) body goes (going-carried s body goes) initiated left s.marks s (still s.inside Done s)
+
+  -- the slots of a sequence with separators
+  separated-goes : (sequence : Sequence) → ((id : ℕ) → Goes (sequence.child id)) → (policy : SeparatorSuppressionPolicy) (slots : List Slot)
+      → Goes (separated sequence policy slots)
+  separated-goes sequence goes policy slots s =
+      separated-carried (GoneBy s) (EndsBy s) (going s) sequence goes (λ id. going-carried s (sequence.child id) (goes id)) policy slots s.marks s
+      (still s.inside Done s)
 
   module _ (table : Table) where
     row-goes : (child : ℕ → State → Outcome) → ((id : ℕ) → Goes (child id)) → (id : ℕ) (r : Option Row) → Goes (row input table child id r)
@@ -468,13 +460,13 @@ module _ (input : Input) where
     row-goes child goes id (Some (Skip bits)) s = pass-goes (s.at + bits) s (nat_le (s.at + bits) s.at) (nat_le (s.at + bits) s.stop)
     row-goes child goes id (Some (Align bits)) s = pass-goes (aligned bits s.at) s (nat_le (aligned bits s.at) s.at) (nat_le (aligned bits s.at) s.stop)
     row-goes child goes id (Some (Initiator delimiter)) s =
-        initiator-comes (λ (e : End) (t : State). Went s.inside s e t) s (still s.inside Done s) (λ at. moved s.inside s at s.stop)
+        initiator-comes (λ (e : End) (t : State). Went s.inside s e t) s (moved_as s.inside s)
         (λ cause. still s.inside (Failed cause s.at) s) (λ cause quantity. still s.inside (Stopped cause quantity) s) input table.delimiters delimiter
     row-goes child goes id (Some (Terminator delimiter separators)) s =
-        terminator-comes (λ (e : End) (t : State). Went s.inside s e t) s (still s.inside Done s) (λ at. moved s.inside s at s.stop)
+        terminator-comes (λ (e : End) (t : State). Went s.inside s e t) s (moved_as s.inside s)
         (λ cause. still s.inside (Failed cause s.at) s) (λ cause quantity. still s.inside (Stopped cause quantity) s) input table.delimiters delimiter separators
     row-goes child goes id (Some Separator) s =
-        separator-comes (λ (e : End) (t : State). Went s.inside s e t) s (still s.inside Done s) (λ at. moved s.inside s at s.stop)
+        separator-comes (λ (e : End) (t : State). Went s.inside s e t) s (moved_as s.inside s)
         (λ cause. still s.inside (Failed cause s.at) s) (λ cause quantity. still s.inside (Stopped cause quantity) s) input table.delimiters
     row-goes child goes id (Some (Scope list body)) s = scoped-goes list (child body) (goes body) s
     row-goes child goes id (Some (Boxed bits body)) s = boxed-goes bits (child body) (goes body) s (nat_le (s.at + bits) s.stop)
@@ -484,8 +476,16 @@ module _ (input : Input) where
         prefixed-goes table.delimiters (slice_get table.primitives prefix.prim) prefix.own (λ units after. sized_leaf input table.delimiters nil primitive (size_of prefix.unit units) after)
         (λ units. sized-goes table.delimiters nil primitive (size_of prefix.unit units)) s
     row-goes child goes id (Some (Repeat count body)) s = group-goes child goes (replicate count body) s
-    row-goes child goes id (Some (Optional most item body)) s = occurrences-go (child body) (goes body) most s
-    row-goes child goes id (Some (ChoiceRow branches)) s = choice-goes child goes branches s
+    row-goes child goes id (Some (Optional most item initiated body)) s = occurrences-go (child body) (goes body) initiated most s
+    row-goes child goes id (Some (ChoiceRow branches initiated)) s = choice-goes child goes initiated branches s
+    row-goes child goes id (Some (Test number)) s =
+        test-comes (λ (e : End) (t : State). Went s.inside s e t) s (moved_as s.inside s s.at)
+        (λ cause. still s.inside (Failed cause s.at) s) (λ cause quantity. still s.inside (Stopped cause quantity) s) input table.tests number
+    row-goes child goes id (Some (Hidden body)) s = goes body s
+    row-goes child goes id (Some (Separated policy position initiated slots)) s =
+        let sequence : Sequence =
+        record { input = input; delimiters = table.delimiters; child = child; position = position; initiated = initiated } in
+        separated-goes sequence goes policy slots s
     row-goes child goes id (Some (PrefixedBox prefix body)) s =
         prefixed-goes table.delimiters (slice_get table.primitives prefix.prim) prefix.own (λ units after. boxed input (bits_of_units prefix.unit units) (child body) after)
         (λ units after. boxed-goes (bits_of_units prefix.unit units) (child body) (goes body) after (nat_le (after.at + bits_of_units prefix.unit units) after.stop)) s

@@ -14,9 +14,10 @@ use Rattle.dfdl_grammar.specs.declared.instead.Instead.TheVariants.{Nothing}
 use Rattle.dfdl_grammar.specs.declared.mark.Mark.{Mark}
 use Rattle.dfdl_grammar.specs.States.{State}
 use Rattle.dfdl_grammar.specs.Outcomes.{Outcome}
-use Rattle.dfdl_grammar.specs.Marks.{back, back_among, closed, content_of, outer_marks}
+use Rattle.dfdl_grammar.specs.Marks.{AreSame, back, back_among, closed, content_of}
 use Rattle.dfdl_grammar.specs.Elements.{begun}
 use Rattle.dfdl_grammar.proofs.Represented.{marked_as}
+use Rattle.dfdl_grammar.proofs.Resolved.{back_same, outer_same}
 
 pub content-length : (nodes : List Node) (number : ℕ) (content : Content) → length (with_content nodes number content) ≡ length nodes
 content-length [] number content = refl
@@ -107,7 +108,7 @@ is_nothing instead (inr same) = same
 -- a state behind what is done: the same element is open, its content is read by what it was read by, or by its own primitive, and the
 -- same lists end it
 pub record Stays (s t : State) : Type 0 where
-  pub marks : t.marks ≡ s.marks
+  pub marks : AreSame t.marks s.marks
   pub inside : t.inside ≡ s.inside
   pub instead : IsKept s t.instead
   pub lists : t.lists ≡ s.lists
@@ -115,7 +116,7 @@ pub record Stays (s t : State) : Type 0 where
 
 -- a state behind what fails
 pub record Falls (s t : State) : Type 0 where
-  pub marks : t.marks ≡ s.marks
+  pub marks : AreSame t.marks s.marks
   pub instead : IsKept s t.instead
   pub lists : t.lists ≡ s.lists
   pub hidden : t.hidden ≡ s.hidden
@@ -146,30 +147,21 @@ ends_here (Stopped cause quantity) s = tt
 pub still : (one : ℕ) (e : End) (s : State) → Went one s e s
 still one e s = record { grown = grown one s; ends = ends_here e s }
 
--- but for what content is read by
-pub again : (one : ℕ) (s : State) (e : End) (before : Instead) → IsKept s before → Went one s e (record s { instead = before })
-again one s Done before is =
-    let same = grown one s in
-    record {
-      grown = record { longer = same.longer; kept = same.kept; more = same.more; text = same.text };
-      ends = record { marks = refl; inside = refl; instead = is; lists = refl; hidden = refl };
-    }
-again one s (Failed cause bit) before is =
-    let same = grown one s in
-    record {
-      grown = record { longer = same.longer; kept = same.kept; more = same.more; text = same.text };
-      ends = record { marks = refl; instead = is; lists = refl; hidden = refl };
-    }
-again one s (Stopped cause quantity) before is =
-    let same = grown one s in
-    record { grown = record { longer = same.longer; kept = same.kept; more = same.more; text = same.text }; ends = tt }
-
 pub moved : (one : ℕ) (s : State) (to stop : ℕ) → Went one s Done (record s { at = to; stop = stop })
 moved one s to stop =
     let same = grown one s in
     record {
       grown = record { longer = same.longer; kept = same.kept; more = same.more; text = same.text };
       ends = record { marks = refl; inside = refl; instead = inl refl; lists = refl; hidden = refl };
+    }
+
+-- where points may be resolved meanwhile
+pub moved_as : (one : ℕ) (s : State) (at : ℕ) (marks : List Mark) → AreSame marks s.marks → Went one s Done (record s { at = at; marks = marks })
+moved_as one s at marks is =
+    let same = grown one s in
+    record {
+      grown = record { longer = same.longer; kept = same.kept; more = same.more; text = same.text };
+      ends = record { marks = is; inside = refl; instead = inl refl; lists = refl; hidden = refl };
     }
 
 pub grown_twice : (one : ℕ) (s t u : State) → Grown one s t → Grown one t u → Grown one s u
@@ -229,36 +221,55 @@ any_one one s t e went = record {
 }
 
 -- behind a mark
-ends_closed : (is_point : Bool) (s : State) (before : Instead) (t : State) (e : End) → Ends e (marked_as is_point s before) t
-    → Ends e (record s { instead = before }) (closed t)
-ends_closed is_point s before t Done ends = record {
-  marks = ap (λ (ms : List Mark). outer_marks ms) ends.marks;
+ends_closed : (mark : Mark) (s t : State) (e : End) → Ends e (record s { marks = mark ∷ s.marks }) t → Ends e s (closed t)
+ends_closed mark s t Done ends = record {
+  marks = outer_same t.marks (mark ∷ s.marks) ends.marks;
   inside = ends.inside;
   instead = ends.instead;
   lists = ends.lists;
   hidden = ends.hidden;
 }
-ends_closed is_point s before t (Failed cause bit) ends = record {
-  marks = ap (λ (ms : List Mark). outer_marks ms) ends.marks;
+ends_closed mark s t (Failed cause bit) ends = record {
+  marks = outer_same t.marks (mark ∷ s.marks) ends.marks;
   instead = ends.instead;
   lists = ends.lists;
   hidden = ends.hidden;
 }
-ends_closed is_point s before t (Stopped cause quantity) ends = tt
+ends_closed mark s t (Stopped cause quantity) ends = tt
 
-pub unmarked_went : (is_point : Bool) (s : State) (before : Instead) (e : End) (t : State) → Went s.inside (marked_as is_point s before) e t
-    → Went s.inside (record s { instead = before }) e (closed t)
-unmarked_went is_point s before e t went = record {
+pub unmarked_went : (one : ℕ) (mark : Mark) (s : State) (e : End) (t : State) → Went one (record s { marks = mark ∷ s.marks }) e t
+    → Went one s e (closed t)
+unmarked_went one mark s e t went = record {
   grown = record { longer = went.grown.longer; kept = went.grown.kept; more = went.grown.more; text = went.grown.text };
-  ends = ends_closed is_point s before t e went.ends;
+  ends = ends_closed mark s t e went.ends;
+}
+
+-- from a state with the same marks
+ends_as : (s t : State) (marks : List Mark) (e : End) → AreSame marks s.marks → Ends e (record s { marks = marks }) t → Ends e s t
+ends_as s t marks Done same ends = record {
+  marks = ends.marks ∙ same;
+  inside = ends.inside;
+  instead = ends.instead;
+  lists = ends.lists;
+  hidden = ends.hidden;
+}
+ends_as s t marks (Failed cause bit) same ends =
+    record { marks = ends.marks ∙ same; instead = ends.instead; lists = ends.lists; hidden = ends.hidden }
+ends_as s t marks (Stopped cause quantity) same ends = tt
+
+pub went_as : (one : ℕ) (s t : State) (marks : List Mark) (e : End) → AreSame marks s.marks → Went one (record s { marks = marks }) e t
+    → Went one s e t
+went_as one s t marks e same went = record {
+  grown = record { longer = went.grown.longer; kept = went.grown.kept; more = went.grown.more; text = went.grown.text };
+  ends = ends_as s t marks e same went.ends;
 }
 
 -- What is gone back to is the state at the mark, where the marks and the lists are those from then: no element before the mark has
 -- changed but for what the open one has.
-pub restored : (is_point : Bool) (s t : State) (before : Instead) → Grown s.inside (marked_as is_point s before) t
-    → t.marks ≡ (marked_as is_point s before).marks → t.lists ≡ s.lists → t.hidden ≡ s.hidden
-    → back t ≡ marked_as is_point s t.instead
-restored is_point s t before grown marks lists hidden =
+pub restored : (is_point initiated : Bool) (s t : State) (before : Instead) → Grown s.inside (marked_as is_point initiated s before) t
+    → AreSame t.marks (marked_as is_point initiated s before).marks → t.lists ≡ s.lists → t.hidden ≡ s.hidden
+    → back t ≡ record s { instead = t.instead; marks = t.marks }
+restored is_point initiated s t before grown marks lists hidden =
     let content : Content = content_of (slice_get s.nodes s.inside) in
     let size : length (with_content s.nodes s.inside content) ≡ length s.nodes = content-length s.nodes s.inside content in
     let whole : List Node = with_content t.nodes s.inside content in
@@ -269,8 +280,8 @@ restored is_point s t before grown marks lists hidden =
     ∙ own_content s.nodes s.inside in
     let text : take (length s.text) t.text ≡ s.text =
     ap (λ (bytes : List ℕ). take (length s.text) bytes) grown.text ∙ take-append_seam s.text grown.more in
-    let there : List Node → List ℕ → List ℕ → ℕ → List Mark → State =
-    λ ns bytes ls h ms. record {
+    let there : List Node → List ℕ → List ℕ → ℕ → State =
+    λ ns bytes ls h. record {
       at = s.at;
       stop = s.stop;
       nodes = ns;
@@ -279,20 +290,22 @@ restored is_point s t before grown marks lists hidden =
       instead = t.instead;
       lists = ls;
       hidden = h;
-      marks = ms;
+      marks = t.marks;
     } in
-    ap (λ (ms : List Mark). back_among ms t) marks
-    ∙ ap (λ (ns : List Node). there ns (take (length s.text) t.text) t.lists t.hidden t.marks) nodes
-    ∙ ap (λ (bytes : List ℕ). there s.nodes bytes t.lists t.hidden t.marks) text
-    ∙ ap (λ (ls : List ℕ). there s.nodes s.text ls t.hidden t.marks) lists
-    ∙ ap (λ (h : ℕ). there s.nodes s.text s.lists h t.marks) hidden
-    ∙ ap (λ (ms : List Mark). there s.nodes s.text s.lists s.hidden ms) marks
+    back_same t.marks t
+    ∙ ap (λ (ms : List Mark). back_among ms t) marks
+    ∙ ap (λ (ns : List Node). there ns (take (length s.text) t.text) t.lists t.hidden) nodes
+    ∙ ap (λ (bytes : List ℕ). there s.nodes bytes t.lists t.hidden) text
+    ∙ ap (λ (ls : List ℕ). there s.nodes s.text ls t.hidden) lists
+    ∙ ap (λ (h : ℕ). there s.nodes s.text s.lists h) hidden
 
 -- so it is behind what is done, and behind what fails
-pub done_returns : (is_point : Bool) (s t : State) (before : Instead) → Went s.inside (marked_as is_point s before) Done t
-    → back t ≡ marked_as is_point s t.instead
-done_returns is_point s t before went = restored is_point s t before went.grown went.ends.marks went.ends.lists went.ends.hidden
+pub done_returns : (is_point initiated : Bool) (s t : State) (before : Instead) → Went s.inside (marked_as is_point initiated s before) Done t
+    → back t ≡ record s { instead = t.instead; marks = t.marks }
+done_returns is_point initiated s t before went =
+    restored is_point initiated s t before went.grown went.ends.marks went.ends.lists went.ends.hidden
 
-pub failed_returns : (is_point : Bool) (s t : State) (before : Instead) (cause : ParseCause) (bit : ℕ)
-    → Went s.inside (marked_as is_point s before) (Failed cause bit) t → back t ≡ marked_as is_point s t.instead
-failed_returns is_point s t before cause bit went = restored is_point s t before went.grown went.ends.marks went.ends.lists went.ends.hidden
+pub failed_returns : (is_point initiated : Bool) (s t : State) (before : Instead) (cause : ParseCause) (bit : ℕ)
+    → Went s.inside (marked_as is_point initiated s before) (Failed cause bit) t → back t ≡ record s { instead = t.instead; marks = t.marks }
+failed_returns is_point initiated s t before cause bit went =
+    restored is_point initiated s t before went.grown went.ends.marks went.ends.lists went.ends.hidden

@@ -24,7 +24,7 @@ use Rattle.dfdl_terms.specs.declared.representations.Representations.{Representa
 use Rattle.dfdl_terms.specs.declared.row.Primitive.{Primitive}
 use Rattle.dfdl_terms.specs.declared.row.Primitive.TheVariants.{Integer, Packed, Truth, Octets, Text as Characters, NilOctets, Default, NilValues, Pattern}
 use Rattle.dfdl_terms.specs.declared.row.Row.{Row}
-use Rattle.dfdl_terms.specs.declared.row.Row.TheVariants.{Leaf, Elem, Group, Skip, Align, Initiator, Terminator, Separator, Scope, Boxed, PrefixedLeaf, PrefixedBox, Repeat, Optional, Choice as ChoiceRow}
+use Rattle.dfdl_terms.specs.declared.row.Row.TheVariants.{Leaf, Elem, Group, Skip, Align, Initiator, Terminator, Separator, Scope, Boxed, PrefixedLeaf, PrefixedBox, Repeat, Optional, Choice as ChoiceRow, Test, Hidden, Separated}
 use Rattle.dfdl_terms.specs.declared.text.NilForm.{NilForm}
 use Rattle.dfdl_terms.specs.declared.text.OctetForm.{OctetForm}
 use Rattle.dfdl_terms.specs.declared.text.PatternForm.{PatternForm}
@@ -32,6 +32,8 @@ use Rattle.dfdl_terms.specs.declared.text.ScanForm.{ScanForm}
 use Rattle.dfdl_terms.specs.declared.text.TextContent.{TextContent}
 use Rattle.dfdl_terms.specs.declared.text.TextContent.TheVariants.{Plain, Octets as TextOctets, Number, Zoned, Truth as TextTruth, Nil}
 use Rattle.dfdl_terms.specs.declared.text.TextForm.{TextForm}
+use Rattle.dfdl_separators.specs.declared.policy.SeparatorSuppressionPolicy.{SeparatorSuppressionPolicy}
+use Rattle.dfdl_terms.specs.declared.slots.Slot.{Slot}
 use Rattle.dfdl_terms.specs.declared.text.TextSize.{TextSize}
 use Rattle.dfdl_terms.specs.declared.text.TextSize.TheVariants.{Bits, Characters as Counted, Delimited}
 use Rattle.dfdl_terms.specs.Rows.{IsPrimitive, IsWritten, Table}
@@ -62,6 +64,7 @@ use Rattle.dfdl_looks.proofs.Sequels.{ask-then}
 use Rattle.dfdl_grammar.specs.declared.end.End.{End}
 use Rattle.dfdl_grammar.specs.declared.end.End.TheVariants.{Done, Failed, Stopped}
 use Rattle.dfdl_grammar.specs.declared.instead.Instead.{Instead}
+use Rattle.dfdl_grammar.specs.declared.mark.Mark.{Mark}
 use Rattle.dfdl_grammar.specs.declared.instead.Instead.TheVariants.{Nothing, Nil as InsteadNil, Empty}
 use Rattle.dfdl_grammar.specs.States.{Input, State, anchor, anchor_at}
 use Rattle.dfdl_grammar.specs.Documents.{front_at}
@@ -72,8 +75,8 @@ use Rattle.dfdl_grammar.specs.Framing.{aligned, fill_to, has_byte, passed}
 use Rattle.dfdl_grammar.specs.Delimiters.{lists_of, markup, opens, scoped, unscoped}
 use Rattle.dfdl_grammar.specs.Boxes.{boxed, boxed_at, bytes_up_to, pass_bytes, past_byte, rest as rest_of, unboxed}
 use Rattle.dfdl_grammar.specs.Choices.{choice}
-use Rattle.dfdl_grammar.specs.Marks.{closed, pointed}
 use Rattle.dfdl_grammar.specs.Occurrences.{occurrences}
+use Rattle.dfdl_grammar.specs.Slots.{Sequence, separated}
 use Rattle.dfdl_grammar.specs.Elements.{attempted, begun, close, element, has_elements, left}
 use Rattle.dfdl_grammar.specs.Nils.{are_nil, is_nil}
 use Rattle.std.specs.List.{list_any}
@@ -84,8 +87,11 @@ use Rattle.dfdl_grammar.proofs.Going.{below-goes, tried-returns, tried-stays}
 use Rattle.dfdl_grammar.proofs.Grown.{Goes}
 use Rattle.dfdl_grammar.proofs.Holding.{both_have, content-has, first_has, last-bytes, rest_has, text-more, trimmed-scalars, utf8}
 use Rattle.dfdl_grammar.proofs.Prefixed.{prefixed-comes}
-use Rattle.dfdl_grammar.proofs.Pointed.{choice-comes, occurrence-comes}
-use Rattle.dfdl_grammar.proofs.Represented.{any_ok, marked_by, pointed_by, represented-comes}
+use Rattle.dfdl_grammar.proofs.Carried.{Carries}
+use Rattle.dfdl_grammar.proofs.Pointed.{choice-carried, occurrences-carried}
+use Rattle.dfdl_grammar.proofs.Slotted.{separated-carried}
+use Rattle.dfdl_grammar.proofs.Tested.{test-comes}
+use Rattle.dfdl_grammar.proofs.Represented.{again_at, any_ok, represented-comes}
 use Rattle.dfdl_grammar.proofs.Scanned.{AreScalars, Says, plain-scalars, scanned-scalars, trimmed-content-scalars}
 use Rattle.dfdl_grammar.proofs.Sought.{initiator-comes, separator-comes, terminator-comes}
 
@@ -592,23 +598,43 @@ module _ (input : Input) (small : All (λ b. b < 256) input.bytes) where
       λ instead t held. room-tried id complex body keeps instead t held (nat_lt (length t.nodes) input.limits.nodes) in
       represented-comes (λ (e : End) (t : State). Has t) (λ (instead : Instead) (e : End) (t : State). Has t) s
       (attempted input id complex body) (λ (instead : Instead). Unit {0}) tt
-      (attempt-keeps Nothing s has) (λ instead before one. attempt-keeps instead (marked_by s before) has)
+      (attempt-keeps Nothing s has) (λ instead before marks same one. attempt-keeps instead (again_at s before marks) has)
       (λ instead t held. held) (λ cause bit t held. held) (λ instead cause quantity t held. held)
       (λ instead t held. held) (tried-stays input id complex body goes s) (tried-returns input id complex body goes s)
       tried (any_ok InsteadNil tried.nil) (any_ok Empty tried.empty)
 
-  choice-keeps : (child : ℕ → State → Outcome) → ((id : ℕ) → Keeps (child id)) → ((id : ℕ) → Goes (child id)) → (ids : List ℕ) → Keeps (choice child ids)
-  choice-keeps child keeps goes ids s has =
-      choice-comes (λ (e : End) (t : State). Has t) (λ (e : End) (t : State). Has t) s
-      (λ t held. held) (λ cause quantity t held. held) (λ before is. has) child goes (λ id before is. keeps id (pointed_by s before) has) ids
+  -- what is held whatever marks are open
+  abbrev HasBy : List Mark → State → Type 0
+  HasBy marks t = Has t
 
-  occurrences-keep : (body : State → Outcome) → Keeps body → Goes body → (left : ℕ) → Keeps (occurrences body left)
-  unfolding occurrences
-  occurrences-keep body keeps goes zero s has = has
-  occurrences-keep body keeps goes (suc left) s has =
-      let held : Has (body (pointed s)).state = keeps (pointed s) has in
-      occurrence-comes (λ (e : End) (t : State). Has t) s body goes (λ before is. has) (occurrences body left)
-      (λ done. occurrences-keep body keeps goes left (closed (body (pointed s)).state) held) (λ cause quantity stopped. held)
+  abbrev EndsBy : List Mark → End → State → Type 0
+  EndsBy marks e t = Has t
+
+  holding : Carries HasBy EndsBy
+  holding = record {
+    moves = λ marks t at has. has;
+    again = λ marks others t instead has is same. has;
+    opens = λ marks t mark has. has;
+    closes = λ marks t mark has. has;
+    ends = λ marks e t has. has;
+    done = λ marks t has. has;
+    closes_end = λ marks e t mark has. has;
+    stays = λ marks cause quantity t mark has. has;
+  }
+
+  choice-keeps : (child : ℕ → State → Outcome) → ((id : ℕ) → Keeps (child id)) → ((id : ℕ) → Goes (child id)) → (initiated : Bool) (ids : List ℕ)
+      → Keeps (choice child initiated ids)
+  choice-keeps child keeps goes initiated ids s has =
+      choice-carried HasBy EndsBy holding child goes (λ id marks t held. keeps id t held) initiated ids s.marks s has
+
+  occurrences-keep : (body : State → Outcome) → Keeps body → Goes body → (initiated : Bool) (left : ℕ) → Keeps (occurrences body initiated left)
+  occurrences-keep body keeps goes initiated left s has =
+      occurrences-carried HasBy EndsBy holding body goes (λ marks t held. keeps t held) initiated left s.marks s has
+
+  separated-keeps : (sequence : Sequence) → ((id : ℕ) → Keeps (sequence.child id)) → ((id : ℕ) → Goes (sequence.child id))
+      → (policy : SeparatorSuppressionPolicy) (slots : List Slot) → Keeps (separated sequence policy slots)
+  separated-keeps sequence keeps goes policy slots s has =
+      separated-carried HasBy EndsBy holding sequence goes (λ id marks t held. keeps id t held) policy slots s.marks s has
 
   group-keeps : (child : ℕ → State → Outcome) → ((id : ℕ) → Keeps (child id)) → (children : List ℕ) → Keeps (group child children)
   group-keeps child keeps [] s has = has
@@ -629,11 +655,13 @@ module _ (input : Input) (small : All (λ b. b < 256) input.bytes) where
     row-keeps child keeps goes id (Some (Align bits)) s has =
         pass-keeps (aligned bits s.at) s has (nat_le (aligned bits s.at) s.at) (nat_le (aligned bits s.at) s.stop)
     row-keeps child keeps goes id (Some (Initiator delimiter)) s has =
-        initiator-comes (λ (e : End) (t : State). Has t) s has (λ at. has) (λ cause. has) (λ cause quantity. has) input table.delimiters delimiter
+        initiator-comes (λ (e : End) (t : State). Has t) s (λ at marks same. has) (λ cause. has) (λ cause quantity. has) input table.delimiters
+        delimiter
     row-keeps child keeps goes id (Some (Terminator delimiter separators)) s has =
-        terminator-comes (λ (e : End) (t : State). Has t) s has (λ at. has) (λ cause. has) (λ cause quantity. has) input table.delimiters delimiter separators
+        terminator-comes (λ (e : End) (t : State). Has t) s (λ at marks same. has) (λ cause. has) (λ cause quantity. has) input table.delimiters
+        delimiter separators
     row-keeps child keeps goes id (Some Separator) s has =
-        separator-comes (λ (e : End) (t : State). Has t) s has (λ at. has) (λ cause. has) (λ cause quantity. has) input table.delimiters
+        separator-comes (λ (e : End) (t : State). Has t) s (λ at marks same. has) (λ cause. has) (λ cause quantity. has) input table.delimiters
     row-keeps child keeps goes id (Some (Scope list body)) s has = scoped-keeps list (child body) (keeps body) s has
     row-keeps child keeps goes id (Some (Boxed bits body)) s has = boxed-keeps bits (child body) (keeps body) s has (nat_le (s.at + bits) s.stop)
     row-keeps child keeps goes id (Some (PrefixedLeaf prefix prim)) s has =
@@ -643,8 +671,16 @@ module _ (input : Input) (small : All (λ b. b < 256) input.bytes) where
         prefixed-keeps table.delimiters (slice_get table.primitives prefix.prim) prefix.own (λ units after. sized_leaf input table.delimiters nil primitive (size_of prefix.unit units) after)
         (λ units. sized-keeps table.delimiters nil primitive (size_of prefix.unit units) (sound-at table.primitives used bounded)) s has
     row-keeps child keeps goes id (Some (Repeat count body)) s has = group-keeps child keeps (replicate count body) s has
-    row-keeps child keeps goes id (Some (Optional most item body)) s has = occurrences-keep (child body) (keeps body) (goes body) most s has
-    row-keeps child keeps goes id (Some (ChoiceRow branches)) s has = choice-keeps child keeps goes branches s has
+    row-keeps child keeps goes id (Some (Optional most item initiated body)) s has =
+        occurrences-keep (child body) (keeps body) (goes body) initiated most s has
+    row-keeps child keeps goes id (Some (ChoiceRow branches initiated)) s has = choice-keeps child keeps goes initiated branches s has
+    row-keeps child keeps goes id (Some (Test number)) s has =
+        test-comes (λ (e : End) (t : State). Has t) s (λ marks same. has) (λ cause. has) (λ cause quantity. has) input table.tests number
+    row-keeps child keeps goes id (Some (Hidden body)) s has = keeps body s has
+    row-keeps child keeps goes id (Some (Separated policy position initiated slots)) s has =
+        let sequence : Sequence =
+        record { input = input; delimiters = table.delimiters; child = child; position = position; initiated = initiated } in
+        separated-keeps sequence keeps goes policy slots s has
     row-keeps child keeps goes id (Some (PrefixedBox prefix body)) s has =
         prefixed-keeps table.delimiters (slice_get table.primitives prefix.prim) prefix.own (λ units after. boxed input (bits_of_units prefix.unit units) (child body) after)
         (λ units after kept. boxed-keeps (bits_of_units prefix.unit units) (child body) (keeps body) after kept

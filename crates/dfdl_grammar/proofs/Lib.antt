@@ -2,10 +2,17 @@ pub mod Spending
 pub mod Towers
 pub mod Found
 pub mod Prefixed
+pub mod Resolved
 pub mod Sought
+pub mod Tested
 pub mod Represented
 pub mod Grown
+pub mod Carried
+pub mod Gone
 pub mod Pointed
+pub mod SlottedMoves
+pub mod SlottedStates
+pub mod Slotted
 pub mod Going
 pub mod Trees
 pub mod Fine

@@ -1,78 +1,101 @@
--- A choice comes to what its branches come to, and times that are tried to what each of them comes to. Each begins in the state at its point.
-use Rattle.std.proofs.Common.{◌≡◌, inl, ℕ, Bool, true, false, cond, List, [], ◌∷◌, refl, sym, subst}
-use Rattle.dfdl_report.specs.declared.cause.LimitCause.{LimitCause}
+-- A choice carries what its branches carry, and times that are tried what each of them does. Each begins in the state at its point.
+use Rattle.std.proofs.Common.{◌≡◌, ℕ, zero, suc, Bool, true, false, cond, List, [], ◌∷◌, refl, sym, subst}
+use Rattle.dfdl_report.specs.declared.cause.ParseCause.{ParseCause}
 use Rattle.dfdl_report.specs.declared.cause.ParseCause.TheVariants.{NoBranch}
 use Rattle.dfdl_grammar.specs.declared.end.End.{End}
 use Rattle.dfdl_grammar.specs.declared.end.End.TheVariants.{Done, Failed, Stopped}
-use Rattle.dfdl_grammar.specs.declared.instead.Instead.{Instead}
+use Rattle.dfdl_grammar.specs.declared.mark.Mark.{Mark}
 use Rattle.dfdl_grammar.specs.States.{State}
 use Rattle.dfdl_grammar.specs.Outcomes.{Outcome, spend}
-use Rattle.dfdl_grammar.specs.Marks.{back, closed, pointed, stays_at}
-use Rattle.dfdl_grammar.specs.Choices.{branches, choice}
-use Rattle.dfdl_grammar.specs.Occurrences.{after_occurrence, dropped}
-use Rattle.dfdl_grammar.specs.Representations.{or_else}
-use Rattle.dfdl_grammar.proofs.Represented.{pointed_by}
-use Rattle.dfdl_grammar.proofs.Grown.{Goes, IsKept, Went, done_returns, failed_returns, instead_twice}
+use Rattle.dfdl_grammar.specs.Marks.{back, closed, is_settled, point_at, pointed, stays_at}
+use Rattle.dfdl_grammar.specs.Choices.{branches, choice, or_branch}
+use Rattle.dfdl_grammar.specs.Occurrences.{after_occurrence, dropped, occurrences}
+use Rattle.dfdl_grammar.proofs.Grown.{Goes, behind, still}
+use Rattle.dfdl_grammar.proofs.Carried.{Carried, Carries, Since, back-failed, back-has, since-failed}
 
--- What holds of the outcome of a branch while the point is open (Q) and of the choice (P).
-module _ (P Q : End → State → Type 0) (s : State)
-    (closes : (t : State) → Q Done t → P Done (closed t))
-    (stays : (cause : LimitCause) (quantity : ℕ) (t : State) → Q (Stopped cause quantity) t → P (Stopped cause quantity) t)
-    (fails : (before : Instead) → IsKept s before → P (Failed NoBranch s.at) (record s { instead = before }))
-    (child : ℕ → State → Outcome) (goes : (id : ℕ) → Goes (child id))
-    (tries : (id : ℕ) (before : Instead) → IsKept s before → Q (child id (pointed_by s before)).end (child id (pointed_by s before)).state) where
-  else-comes : (before : Instead) → IsKept s before → (e : End) (o : Outcome) (next : State → Outcome) → e ≡ o.end → Q o.end o.state
-      → Went s.inside (pointed_by s before) o.end o.state
-      → ((later : Instead) → IsKept s later → P (next (pointed_by s later)).end (next (pointed_by s later)).state)
-      → P (or_else e o next).end (or_else e o next).state
-  else-comes before is Done o next same holds went others =
-      subst (λ (e : End). P e (closed o.state)) same (closes o.state (subst (λ (e : End). Q e o.state) (sym same) holds))
-  else-comes before is (Failed cause bit) o next same holds went others =
-      let failed : Went s.inside (pointed_by s before) (Failed cause bit) o.state =
-      subst (λ (e : End). Went s.inside (pointed_by s before) e o.state) (sym same) went in
-      subst (λ (t : State). P (next t).end (next t).state) (sym (failed_returns true s o.state before cause bit failed))
-      (others o.state.instead (instead_twice s.instead before o.state.instead is failed.ends.instead))
-  else-comes before is (Stopped cause quantity) o next same holds went others =
-      subst (λ (e : End). P e o.state) same (stays cause quantity o.state (subst (λ (e : End). Q e o.state) (sym same) holds))
+module _ (R : List Mark → State → Type 0) (P : List Mark → End → State → Type 0) (carries : Carries R P) where
+  -- from a point that is open
+  module _ (marks : List Mark) (initiated : Bool) (u : State) (at_point : R (point_at initiated u ∷ marks) (pointed initiated u)) where
+    -- what holds of the outcome of what is tried
+    abbrev Tried : Outcome → Type 0
+    Tried o = P (point_at initiated u ∷ marks) o.end o.state × Since initiated u o.end o.state
 
-  branches-come : (ids : List ℕ) (before : Instead) → IsKept s before
-      → P (branches child ids (pointed_by s before)).end (branches child ids (pointed_by s before)).state
-  branches-come [] before is = fails before is
-  branches-come (id ∷ ids) before is =
-      let o : Outcome = child id (pointed_by s before) in
-      else-comes before is o.end o (branches child ids) refl (tries id before is) (goes id (pointed_by s before)) (branches-come ids)
+    settled-comes : (cause : ParseCause) (bit : ℕ) (o : Outcome) (next : State → Outcome) → Failed cause bit ≡ o.end → Tried o
+        → ((t : State) → R (point_at initiated u ∷ marks) t → Since initiated u Done t → P marks (next t).end (next t).state) → (settled : Bool)
+        → (let out : Outcome = cond settled (record o { state = closed o.state }) (spend o.tally (next (back o.state))) in
+        P marks out.end out.state)
+    settled-comes cause bit o next same holds others true = carries.closes_end marks o.end o.state (point_at initiated u) holds.0
+    settled-comes cause bit o next same holds others false =
+        let since : Since initiated u (Failed cause bit) o.state = subst (λ (e : End). Since initiated u e o.state) (sym same) holds.1 in
+        others (back o.state) (back-failed R P carries marks initiated u at_point cause bit o.state since)
+        (since-failed initiated u cause bit o.state since)
 
-  pub choice-comes : (ids : List ℕ) → P (choice child ids s).end (choice child ids s).state
-  choice-comes ids = branches-come ids s.instead (inl refl)
+    branch-comes : (e : End) (o : Outcome) (next : State → Outcome) → e ≡ o.end → Tried o
+        → ((t : State) → R (point_at initiated u ∷ marks) t → Since initiated u Done t → P marks (next t).end (next t).state)
+        → P marks (or_branch e o next).end (or_branch e o next).state
+    branch-comes Done o next same holds others = carries.closes_end marks o.end o.state (point_at initiated u) holds.0
+    branch-comes (Failed cause bit) o next same holds others = settled-comes cause bit o next same holds others (is_settled o.state.marks)
+    branch-comes (Stopped cause quantity) o next same holds others =
+        subst (λ (e : End). P marks e o.state) same
+        (carries.stays marks cause quantity o.state (point_at initiated u)
+        (subst (λ (e : End). P (point_at initiated u ∷ marks) e o.state) (sym same) holds.0))
 
--- What holds of the state of a point whose time is dropped, of what follows a time that is done, and where a limit is reached.
-module _ (P : End → State → Type 0) (s : State) (body : State → Outcome) (goes : Goes body)
-    (drops : (before : Instead) → IsKept s before → P Done (record s { instead = before }))
-    (next : State → Outcome)
-    (more : (body (pointed s)).end ≡ Done → P (next (closed (body (pointed s)).state)).end (next (closed (body (pointed s)).state)).state)
-    (stays : (cause : LimitCause) (quantity : ℕ) → (body (pointed s)).end ≡ Stopped cause quantity → P (Stopped cause quantity) (body (pointed s)).state) where
-  dropped-comes : (t : State) → back t ≡ pointed_by s t.instead → IsKept s t.instead → P Done (dropped t)
-  dropped-comes t same is = subst (λ (u : State). P Done (closed u)) (sym same) (drops t.instead is)
+    branches-come : (child : ℕ → State → Outcome) → ((id : ℕ) → Goes (child id)) → ((id : ℕ) → Carried R P (child id)) → (ids : List ℕ)
+        → (t : State) → R (point_at initiated u ∷ marks) t → Since initiated u Done t
+        → P marks (branches child ids t).end (branches child ids t).state
+    branches-come child goes carried [] t has since =
+        carries.ends marks (Failed NoBranch t.at) (closed t) (carries.closes marks t (point_at initiated u) has)
+    branches-come child goes carried (id ∷ ids) t has since =
+        let o : Outcome = child id t in
+        branch-comes o.end o (branches child ids) refl
+        (carried id (point_at initiated u ∷ marks) t has, behind (pointed initiated u) t o.state o.end since (goes id t))
+        (branches-come child goes carried ids)
 
-  done-comes : (o : Outcome) → Done ≡ o.end → Went s.inside (pointed s) Done o.state → P (next (closed o.state)).end (next (closed o.state)).state → (stay : Bool)
-      → (let out : Outcome = cond stay (record o { state = dropped o.state }) (spend o.tally (next (closed o.state))) in P out.end out.state)
-  done-comes o same went follows true =
-      subst (λ (e : End). P e (dropped o.state)) same (dropped-comes o.state (done_returns true s o.state s.instead went) went.ends.instead)
-  done-comes o same went follows false = follows
+    -- a time that is dropped
+    dropped-comes : (t : State) → R (point_at initiated u ∷ marks) (back t) → P marks Done (dropped t)
+    dropped-comes t has = carries.ends marks Done (dropped t) (carries.closes marks (back t) (point_at initiated u) has)
 
-  after-comes : (e : End) → e ≡ (body (pointed s)).end
-      → P (after_occurrence e (body (pointed s)) next).end (after_occurrence e (body (pointed s)) next).state
-  after-comes Done same =
-      let o : Outcome = body (pointed s) in
-      done-comes o same (subst (λ (e : End). Went s.inside (pointed s) e o.state) (sym same) (goes (pointed s))) (more (sym same))
-      (stays_at o.state.marks o.state.at)
-  after-comes (Failed cause bit) same =
-      let o : Outcome = body (pointed s) in
-      let failed : Went s.inside (pointed s) (Failed cause bit) o.state =
-      subst (λ (e : End). Went s.inside (pointed s) e o.state) (sym same) (goes (pointed s)) in
-      dropped-comes o.state (failed_returns true s o.state s.instead cause bit failed) failed.ends.instead
-  after-comes (Stopped cause quantity) same =
-      subst (λ (e : End). P e (body (pointed s)).state) same (stays cause quantity (sym same))
+    done-comes : (o : Outcome) (next : State → Outcome) → Done ≡ o.end → Tried o → Carried R P next → (stay : Bool)
+        → (let out : Outcome = cond stay (record o { state = dropped o.state }) (spend o.tally (next (closed o.state))) in
+        P marks out.end out.state)
+    done-comes o next same holds follows true =
+        let since : Since initiated u Done o.state = subst (λ (e : End). Since initiated u e o.state) (sym same) holds.1 in
+        subst (λ (e : End). P marks e (dropped o.state)) same (dropped-comes o.state (back-has R P carries marks initiated u at_point o.state since))
+    done-comes o next same holds follows false =
+        let has : R (point_at initiated u ∷ marks) o.state = carries.done (point_at initiated u ∷ marks) o.state
+        (subst (λ (e : End). P (point_at initiated u ∷ marks) e o.state) (sym same) holds.0) in
+        follows marks (closed o.state) (carries.closes marks o.state (point_at initiated u) has)
 
-  pub occurrence-comes : (let o : Outcome = body (pointed s) in P (after_occurrence o.end o next).end (after_occurrence o.end o next).state)
-  occurrence-comes = after-comes (body (pointed s)).end refl
+    failed-comes : (cause : ParseCause) (bit : ℕ) (o : Outcome) → Failed cause bit ≡ o.end → Tried o → (settled : Bool)
+        → (let out : Outcome = cond settled (record o { state = closed o.state }) (record o { end = Done; state = dropped o.state }) in
+        P marks out.end out.state)
+    failed-comes cause bit o same holds true = carries.closes_end marks o.end o.state (point_at initiated u) holds.0
+    failed-comes cause bit o same holds false =
+        dropped-comes o.state (back-failed R P carries marks initiated u at_point cause bit o.state
+        (subst (λ (e : End). Since initiated u e o.state) (sym same) holds.1))
+
+    after-comes : (e : End) (o : Outcome) (next : State → Outcome) → e ≡ o.end → Tried o → Carried R P next
+        → P marks (after_occurrence e o next).end (after_occurrence e o next).state
+    after-comes Done o next same holds follows = done-comes o next same holds follows (stays_at o.state.marks o.state.at)
+    after-comes (Failed cause bit) o next same holds follows = failed-comes cause bit o same holds (is_settled o.state.marks)
+    after-comes (Stopped cause quantity) o next same holds follows =
+        subst (λ (e : End). P marks e o.state) same
+        (carries.stays marks cause quantity o.state (point_at initiated u)
+        (subst (λ (e : End). P (point_at initiated u ∷ marks) e o.state) (sym same) holds.0))
+
+  pub choice-carried : (child : ℕ → State → Outcome) → ((id : ℕ) → Goes (child id)) → ((id : ℕ) → Carried R P (child id))
+      → (initiated : Bool) (ids : List ℕ) → Carried R P (choice child initiated ids)
+  choice-carried child goes carried initiated ids marks t has =
+      let at_point : R (point_at initiated t ∷ marks) (pointed initiated t) = carries.opens marks t (point_at initiated t) has in
+      branches-come marks initiated t at_point child goes carried ids (pointed initiated t) at_point (still t.inside Done (pointed initiated t))
+
+  pub occurrences-carried : (body : State → Outcome) → Goes body → Carried R P body → (initiated : Bool) (left : ℕ)
+      → Carried R P (occurrences body initiated left)
+  unfolding occurrences
+  occurrences-carried body goes carried initiated zero marks t has = carries.ends marks Done t has
+  occurrences-carried body goes carried initiated (suc left) marks t has =
+      let at_point : R (point_at initiated t ∷ marks) (pointed initiated t) = carries.opens marks t (point_at initiated t) has in
+      let o : Outcome = body (pointed initiated t) in
+      after-comes marks initiated t at_point o.end o (occurrences body initiated left) refl
+      (carried (point_at initiated t ∷ marks) (pointed initiated t) at_point, goes (pointed initiated t))
+      (occurrences-carried body goes carried initiated left)

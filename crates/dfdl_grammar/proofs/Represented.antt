@@ -1,5 +1,5 @@
 -- An element comes to what its representations come to, each of which begins in the state at the mark.
-use Rattle.std.proofs.Common.{◌≡◌, ℕ, Bool, true, false, cond, List, ◌∷◌, Option, Some, None, length, refl, sym, subst}
+use Rattle.std.proofs.Common.{◌≡◌, ℕ, Bool, true, false, cond, List, [], ◌∷◌, Option, Some, None, length, refl, ap, sym, subst, ◌∙◌}
 use Rattle.dfdl_report.specs.declared.cause.LimitCause.{LimitCause}
 use Rattle.dfdl_report.specs.declared.cause.ParseCause.{ParseCause}
 use Rattle.dfdl_report.specs.declared.cause.ParseCause.TheVariants.{RequiredEmpty}
@@ -11,20 +11,29 @@ use Rattle.dfdl_grammar.specs.declared.instead.Instead.TheVariants.{Nothing, Nil
 use Rattle.dfdl_grammar.specs.declared.mark.Mark.{Mark}
 use Rattle.dfdl_grammar.specs.States.{State}
 use Rattle.dfdl_grammar.specs.Outcomes.{Outcome}
-use Rattle.dfdl_grammar.specs.Marks.{back, closed, mark_at, marked}
+use Rattle.dfdl_grammar.specs.Marks.{AreSame, back, closed, mark_at, marked, unresolved}
 use Rattle.dfdl_grammar.specs.Representations.{Attempt, after_empty, or_else, refuse, refused_among, represented, the_last, then_empty, then_nil, then_normal}
 
 -- the state with a mark, which is a point of uncertainty or not, where content is read by this in place of its own primitive
-abbrev pub marked_as : Bool → State → Instead → State
-marked_as is_point s instead = record s { instead = instead; marks = record (mark_at s) { is_point = is_point } ∷ s.marks }
+abbrev pub marked_as : Bool → Bool → State → Instead → State
+marked_as is_point initiated s instead =
+    record s { instead = instead; marks = record (mark_at s) { is_point = is_point; is_initiated = initiated } ∷ s.marks }
 
 -- the state at the mark of an element
 abbrev pub marked_by : State → Instead → State
-marked_by s instead = marked_as false s instead
+marked_by s instead = marked_as false false s instead
 
--- the state at a point of uncertainty
-abbrev pub pointed_by : State → Instead → State
-pointed_by s instead = marked_as true s instead
+-- the state with these marks, where content is read by this
+abbrev pub again_at : State → Instead → List Mark → State
+again_at s instead marks = record s { instead = instead; marks = marks }
+
+-- the marks are those of a state and one more at it
+abbrev pub AreMarked : State → List Mark → Type 0
+AreMarked s marks = AreSame marks (marked s).marks
+
+-- what a failure goes back to is a state again, but for what content is read by, and for points that are resolved
+abbrev pub GoesBack : State → State → Type 0
+GoesBack s t = (back t ≡ again_at s t.instead t.marks) × AreMarked s t.marks
 
 -- the state where an element fails whose empty representation is found
 abbrev pub refused : State → State → State
@@ -44,15 +53,21 @@ any_ok made (Some prim) = tt
 -- the mark. The last one is the normal one.
 module _ (P : End → State → Type 0) (Q : Instead → End → State → Type 0) (s : State) (attempt : Attempt) (ok : Instead → Type 0) (none_ok : ok Nothing)
     (alone : P (attempt Nothing s).end (attempt Nothing s).state)
-    (attempts : (instead before : Instead) → ok instead → Q instead (attempt instead (marked_by s before)).end (attempt instead (marked_by s before)).state)
+    (attempts : (instead before : Instead) (marks : List Mark) → AreMarked s marks → ok instead
+    → Q instead (attempt instead (again_at s before marks)).end (attempt instead (again_at s before marks)).state)
     (finds : (instead : Instead) (t : State) → Q instead Done t → P Done (closed t))
     (fails : (cause : ParseCause) (bit : ℕ) (t : State) → Q Nothing (Failed cause bit) t → P (Failed cause bit) (closed t))
     (stays : (instead : Instead) (cause : LimitCause) (quantity : ℕ) (t : State) → Q instead (Stopped cause quantity) t → P (Stopped cause quantity) t)
     (refuses : (instead : Instead) (t : State) → Q instead Done t → P (Failed RequiredEmpty s.at) (refused s t))
-    (marks_stay : (instead before : Instead) → (attempt instead (marked_by s before)).end ≡ Done
-    → (attempt instead (marked_by s before)).state.marks ≡ (marked s).marks)
-    (returns : (instead before : Instead) (cause : ParseCause) (bit : ℕ) → (attempt instead (marked_by s before)).end ≡ Failed cause bit
-    → back (attempt instead (marked_by s before)).state ≡ marked_by s (attempt instead (marked_by s before)).state.instead) where
+    (marks_stay : (instead before : Instead) (marks : List Mark) → AreMarked s marks → (attempt instead (again_at s before marks)).end ≡ Done
+    → AreMarked s (attempt instead (again_at s before marks)).state.marks)
+    (returns : (instead before : Instead) (marks : List Mark) → AreMarked s marks → (cause : ParseCause) (bit : ℕ)
+    → (attempt instead (again_at s before marks)).end ≡ Failed cause bit → GoesBack s (attempt instead (again_at s before marks)).state) where
+  -- what follows from the mark
+  abbrev Others : (State → Outcome) → Type 0
+  Others next =
+      (before : Instead) (marks : List Mark) → AreMarked s marks → P (next (again_at s before marks)).end (next (again_at s before marks)).state
+
   stopped : (instead : Instead) (cause : LimitCause) (quantity : ℕ) (o : Outcome) → Stopped cause quantity ≡ o.end → Q instead o.end o.state → P o.end o.state
   stopped instead cause quantity o same holds =
       subst (λ (e : End). P e o.state) same (stays instead cause quantity o.state (subst (λ (e : End). Q instead e o.state) (sym same) holds))
@@ -68,58 +83,66 @@ module _ (P : End → State → Type 0) (Q : Instead → End → State → Type 
   last-comes (Stopped cause quantity) o same holds = stopped Nothing cause quantity o same holds
 
   else-comes : (instead : Instead) (e : End) (o : Outcome) (next : State → Outcome) → e ≡ o.end → Q instead o.end o.state
-      → ((cause : ParseCause) (bit : ℕ) → o.end ≡ Failed cause bit → back o.state ≡ marked_by s o.state.instead)
-      → ((before : Instead) → P (next (marked_by s before)).end (next (marked_by s before)).state)
+      → ((cause : ParseCause) (bit : ℕ) → o.end ≡ Failed cause bit → GoesBack s o.state)
+      → Others next
       → P (or_else e o next).end (or_else e o next).state
   else-comes instead Done o next same holds goes_back others = done instead o same holds
   else-comes instead (Failed cause bit) o next same holds goes_back others =
-      subst (λ (t : State). P (next t).end (next t).state) (sym (goes_back cause bit (sym same))) (others o.state.instead)
+      let there : GoesBack s o.state = goes_back cause bit (sym same) in
+      subst (λ (t : State). P (next t).end (next t).state) (sym there.0) (others o.state.instead o.state.marks there.1)
   else-comes instead (Stopped cause quantity) o next same holds goes_back others = stopped instead cause quantity o same holds
 
-  normal-comes : (before : Instead) → P (then_normal attempt (marked_by s before)).end (then_normal attempt (marked_by s before)).state
-  normal-comes before = let o : Outcome = attempt Nothing (marked_by s before) in last-comes o.end o refl (attempts Nothing before none_ok)
+  normal-comes : Others (then_normal attempt)
+  normal-comes before marks same =
+      let o : Outcome = attempt Nothing (again_at s before marks) in last-comes o.end o refl (attempts Nothing before marks same none_ok)
+
+  -- where an element is refused doesn't depend on what is resolved
+  refused_same : (marks : List Mark) (o : Outcome) → refused_among marks o ≡ refused_among (unresolved marks) o
+  refused_same [] o = refl
+  refused_same (mark ∷ outer) o = refl
 
   -- the empty representation of an element that has no value to take
   refuse-comes : (instead : Instead) (e : End) (o : Outcome) (next : State → Outcome) → e ≡ o.end → Q instead o.end o.state
-      → (o.end ≡ Done → o.state.marks ≡ (marked s).marks)
-      → ((cause : ParseCause) (bit : ℕ) → o.end ≡ Failed cause bit → back o.state ≡ marked_by s o.state.instead)
-      → ((before : Instead) → P (next (marked_by s before)).end (next (marked_by s before)).state)
+      → (o.end ≡ Done → AreMarked s o.state.marks)
+      → ((cause : ParseCause) (bit : ℕ) → o.end ≡ Failed cause bit → GoesBack s o.state)
+      → Others next
       → P (refuse e o next).end (refuse e o next).state
   refuse-comes instead Done o next same holds stay goes_back others =
       let here : P (Failed RequiredEmpty s.at) (refused s o.state) =
       refuses instead o.state (subst (λ (e : End). Q instead e o.state) (sym same) holds) in
-      subst (λ (ms : List Mark). P (refused_among ms o).end (refused_among ms o).state) (sym (stay (sym same))) here
+      let there : refused_among o.state.marks o ≡ refused_among (marked s).marks o =
+      refused_same o.state.marks o ∙ ap (λ (ms : List Mark). refused_among ms o) (stay (sym same)) in
+      subst (λ (out : Outcome). P out.end out.state) (sym there) here
   refuse-comes instead (Failed cause bit) o next same holds stay goes_back others =
       else-comes instead (Failed cause bit) o next same holds goes_back others
   refuse-comes instead (Stopped cause quantity) o next same holds stay goes_back others = stopped instead cause quantity o same holds
 
   found-comes : (instead : Instead) (refuses_empty : Bool) (o : Outcome) (next : State → Outcome) → Q instead o.end o.state
-      → (o.end ≡ Done → o.state.marks ≡ (marked s).marks)
-      → ((cause : ParseCause) (bit : ℕ) → o.end ≡ Failed cause bit → back o.state ≡ marked_by s o.state.instead)
-      → ((before : Instead) → P (next (marked_by s before)).end (next (marked_by s before)).state)
+      → (o.end ≡ Done → AreMarked s o.state.marks)
+      → ((cause : ParseCause) (bit : ℕ) → o.end ≡ Failed cause bit → GoesBack s o.state)
+      → Others next
       → P (after_empty refuses_empty o next).end (after_empty refuses_empty o next).state
   found-comes instead true o next holds stay goes_back others = refuse-comes instead o.end o next refl holds stay goes_back others
   found-comes instead false o next holds stay goes_back others = else-comes instead o.end o next refl holds goes_back others
 
-  empty-comes : (refuses_empty : Bool) (empty : Option ℕ) → IsOk ok Empty empty → (before : Instead)
-      → P (then_empty refuses_empty empty attempt (marked_by s before)).end (then_empty refuses_empty empty attempt (marked_by s before)).state
-  empty-comes refuses_empty None is before = normal-comes before
-  empty-comes refuses_empty (Some prim) is before =
-      let o : Outcome = attempt (Empty prim) (marked_by s before) in
-      found-comes (Empty prim) refuses_empty o (then_normal attempt) (attempts (Empty prim) before is) (marks_stay (Empty prim) before)
-      (returns (Empty prim) before) normal-comes
+  empty-comes : (refuses_empty : Bool) (empty : Option ℕ) → IsOk ok Empty empty → Others (then_empty refuses_empty empty attempt)
+  empty-comes refuses_empty None is before marks same = normal-comes before marks same
+  empty-comes refuses_empty (Some prim) is before marks same =
+      let o : Outcome = attempt (Empty prim) (again_at s before marks) in
+      found-comes (Empty prim) refuses_empty o (then_normal attempt) (attempts (Empty prim) before marks same is)
+      (marks_stay (Empty prim) before marks same)
+      (returns (Empty prim) before marks same) normal-comes
 
-  nil-comes : (tried : Representations) (nil : Option ℕ) → IsOk ok Nil nil → IsOk ok Empty tried.empty → (before : Instead)
-      → P (then_nil tried nil attempt (marked_by s before)).end (then_nil tried nil attempt (marked_by s before)).state
-  nil-comes tried None nil_is empty_is before = empty-comes tried.refuses_empty tried.empty empty_is before
-  nil-comes tried (Some prim) nil_is empty_is before =
-      let o : Outcome = attempt (Nil prim) (marked_by s before) in
-      else-comes (Nil prim) o.end o (then_empty tried.refuses_empty tried.empty attempt) refl (attempts (Nil prim) before nil_is) (returns (Nil prim) before)
-      (empty-comes tried.refuses_empty tried.empty empty_is)
+  nil-comes : (tried : Representations) (nil : Option ℕ) → IsOk ok Nil nil → IsOk ok Empty tried.empty → Others (then_nil tried nil attempt)
+  nil-comes tried None nil_is empty_is before marks same = empty-comes tried.refuses_empty tried.empty empty_is before marks same
+  nil-comes tried (Some prim) nil_is empty_is before marks same =
+      let o : Outcome = attempt (Nil prim) (again_at s before marks) in
+      else-comes (Nil prim) o.end o (then_empty tried.refuses_empty tried.empty attempt) refl (attempts (Nil prim) before marks same nil_is)
+      (returns (Nil prim) before marks same) (empty-comes tried.refuses_empty tried.empty empty_is)
 
   several-come : (tried : Representations) → IsOk ok Nil tried.nil → IsOk ok Empty tried.empty → (several : Bool)
       → (let o : Outcome = cond several (then_nil tried tried.nil attempt (marked s)) (attempt Nothing s) in P o.end o.state)
-  several-come tried nil_is empty_is true = nil-comes tried tried.nil nil_is empty_is s.instead
+  several-come tried nil_is empty_is true = nil-comes tried tried.nil nil_is empty_is s.instead (marked s).marks refl
   several-come tried nil_is empty_is false = alone
 
   pub represented-comes : (tried : Representations) → IsOk ok Nil tried.nil → IsOk ok Empty tried.empty

@@ -8,7 +8,9 @@ use Rattle.dfdl_terms.specs.declared.representations.Representations.{Representa
 use Rattle.dfdl_value.specs.declared.value.Value.{Value}
 use Rattle.dfdl_terms.specs.declared.row.Primitive.{Primitive}
 use Rattle.dfdl_terms.specs.declared.row.Row.{Row}
-use Rattle.dfdl_terms.specs.declared.row.Row.TheVariants.{Leaf, Elem, Group, Skip, Align, Initiator, Terminator, Separator, Scope, Boxed, PrefixedLeaf, PrefixedBox, Repeat, Optional, Choice as ChoiceRow}
+use Rattle.dfdl_terms.specs.declared.row.Row.TheVariants.{Leaf, Elem, Group, Skip, Align, Initiator, Terminator, Separator, Scope, Boxed, PrefixedLeaf, PrefixedBox, Repeat, Optional, Choice as ChoiceRow, Test, Hidden, Separated}
+use Rattle.dfdl_separators.specs.declared.policy.SeparatorSuppressionPolicy.{SeparatorSuppressionPolicy}
+use Rattle.dfdl_terms.specs.declared.slots.Slot.{Slot}
 use Rattle.dfdl_terms.specs.declared.text.TextSize.{TextSize}
 use Rattle.dfdl_terms.specs.Rows.{IsElementRow, Table}
 use Rattle.dfdl_region.specs.declared.node.Node.{Node}
@@ -21,6 +23,7 @@ use Rattle.dfdl_looks.specs.Tallies.{needs_from, nothing}
 use Rattle.dfdl_grammar.specs.declared.end.End.{End}
 use Rattle.dfdl_grammar.specs.declared.end.End.TheVariants.{Done, Failed, Stopped}
 use Rattle.dfdl_grammar.specs.declared.instead.Instead.{Instead}
+use Rattle.dfdl_grammar.specs.declared.mark.Mark.{Mark}
 use Rattle.dfdl_grammar.specs.declared.instead.Instead.TheVariants.{Nothing, Nil, Empty}
 use Rattle.dfdl_grammar.specs.States.{Input, State, anchor, anchor_at}
 use Rattle.dfdl_grammar.specs.Documents.{front_at}
@@ -30,17 +33,21 @@ use Rattle.dfdl_grammar.specs.Framing.{aligned, fill_to, has_byte, passed}
 use Rattle.dfdl_grammar.specs.Delimiters.{closes_to, lists_of, markup, opens, scoped, unscoped}
 use Rattle.dfdl_grammar.specs.Boxes.{boxed, boxed_at, bytes_up_to, pass_bytes, past_byte, rest as rest_of, unboxed}
 use Rattle.dfdl_grammar.specs.Elements.{attempted, begun, close, element, has_elements, left}
-use Rattle.dfdl_grammar.specs.Marks.{closed, pointed}
+use Rattle.dfdl_grammar.specs.Marks.{closed}
 use Rattle.dfdl_grammar.specs.Choices.{choice}
 use Rattle.dfdl_grammar.specs.Occurrences.{occurrences}
+use Rattle.dfdl_grammar.specs.Slots.{Sequence, separated}
 use Rattle.dfdl_grammar.specs.Prefixes.{bits_of_units, leaf_of, prefixed, resized, size_of, sized_leaf}
 use Rattle.dfdl_grammar.specs.Rows.{below, group, meaning, row, row_at}
 use Rattle.dfdl_grammar.specs.Trees.{IsNode, IsTree}
 use Rattle.dfdl_grammar.proofs.Going.{below-goes, tried-returns, tried-stays}
 use Rattle.dfdl_grammar.proofs.Grown.{Goes, begun-longer, content-length}
 use Rattle.dfdl_grammar.proofs.Prefixed.{prefixed-comes}
-use Rattle.dfdl_grammar.proofs.Pointed.{choice-comes, occurrence-comes}
-use Rattle.dfdl_grammar.proofs.Represented.{any_ok, marked_by, pointed_by, refused, represented-comes}
+use Rattle.dfdl_grammar.proofs.Carried.{Carried, Carries}
+use Rattle.dfdl_grammar.proofs.Pointed.{choice-carried, occurrences-carried}
+use Rattle.dfdl_grammar.proofs.Slotted.{separated-carried}
+use Rattle.dfdl_grammar.proofs.Tested.{test-comes}
+use Rattle.dfdl_grammar.proofs.Represented.{again_at, any_ok, refused, represented-comes}
 use Rattle.dfdl_grammar.proofs.Sought.{initiator-comes, separator-comes, terminator-comes}
 
 -- the elements are a tree, and the innermost open one is among them, where there are any
@@ -253,7 +260,7 @@ module _ (input : Input) (table : Table) where
       represented-comes (λ (e : End) (t : State). Follows s t) (λ (instead : Instead) (e : End) (t : State). Began s e t) s
       (attempted input id complex body) (λ (instead : Instead). Unit {0}) tt
       (attempt-keeps Nothing s good).0
-      (λ instead before one. attempt-keeps instead (marked_by s before) (alike s (marked_by s before) good refl refl))
+      (λ instead before marks same one. attempt-keeps instead (again_at s before marks) (alike s (again_at s before marks) good refl refl))
       (λ instead t began. (alike t (closed t) began.0.0 refl refl, began.0.1))
       (λ cause bit t began. (alike t (closed t) began.0.0 refl refl, began.0.1))
       (λ instead cause quantity t began. began.0)
@@ -318,27 +325,54 @@ module _ (input : Input) (table : Table) where
       (closed.0, omega arith)
   boxed-keeps bits body keeps s good false = (good, same_length (length s.nodes))
 
-  choice-keeps : (child : ℕ → State → Outcome) → ((id : ℕ) → Keeps (child id)) → ((id : ℕ) → Goes (child id)) → (ids : List ℕ) → Keeps (choice child ids)
-  choice-keeps child keeps goes ids s good =
-      choice-comes (λ (e : End) (t : State). Follows s t) (λ (e : End) (t : State). Follows s t) s
-      (λ t grown. (alike t (closed t) grown.0 refl refl, grown.1)) (λ cause quantity t grown. grown)
-      (λ before is. (alike s (record s { instead = before }) good refl refl, same_length (length s.nodes))) child goes
-      (λ id before is. keeps id (pointed_by s before) (alike s (pointed_by s before) good refl refl)) ids
+  -- what was done from a state on
+  module _ (s : State) where
+    abbrev FollowsBy : List Mark → State → Type 0
+    FollowsBy marks t = Follows s t
 
-  occurrences-keep : (body : State → Outcome) → Keeps body → Goes body → (left : ℕ) → Keeps (occurrences body left)
-  unfolding occurrences
-  occurrences-keep body keeps goes zero s good = (good, same_length (length s.nodes))
-  occurrences-keep body keeps goes (suc left) s good =
-      let o : Outcome = body (pointed s) in
-      let first : Follows s o.state = keeps (pointed s) (alike s (pointed s) good refl refl) in
-      occurrence-comes (λ (e : End) (t : State). Follows s t) s body goes
-      (λ before is. (alike s (record s { instead = before }) good refl refl, same_length (length s.nodes))) (occurrences body left)
-      (λ done.
-      let last = occurrences-keep body keeps goes left (closed o.state) (alike o.state (closed o.state) first.0 refl refl) in
-      let a = first.1 in
-      let b = last.1 in
-      (last.0, omega arith))
-      (λ cause quantity stopped. first)
+    abbrev EndsBy : List Mark → End → State → Type 0
+    EndsBy marks e t = Follows s t
+
+    follows-as : (t u : State) → Follows s t → u.nodes ≡ t.nodes → u.inside ≡ t.inside → Follows s u
+    follows-as t u grown nodes inside =
+        (alike t u grown.0 nodes inside, subst (λ (ns : List Node). length s.nodes ≤ length ns) (sym nodes) grown.1)
+
+    growing : Carries FollowsBy EndsBy
+    growing = record {
+      moves = λ marks t at grown. follows-as t (record t { at = at }) grown refl refl;
+      again = λ marks others t instead grown is same. follows-as t (record t { instead = instead; marks = others }) grown refl refl;
+      opens = λ marks t mark grown. follows-as t (record t { marks = mark ∷ t.marks }) grown refl refl;
+      closes = λ marks t mark grown. follows-as t (closed t) grown refl refl;
+      ends = λ marks e t grown. grown;
+      done = λ marks t grown. grown;
+      closes_end = λ marks e t mark grown. follows-as t (closed t) grown refl refl;
+      stays = λ marks cause quantity t mark grown. grown;
+    }
+
+    growing-carried : (f : State → Outcome) → Keeps f → Carried FollowsBy EndsBy f
+    growing-carried f keeps marks t grown =
+        let last = keeps t grown.0 in
+        let a = grown.1 in
+        let b = last.1 in
+        (last.0, omega arith)
+
+  choice-keeps : (child : ℕ → State → Outcome) → ((id : ℕ) → Keeps (child id)) → ((id : ℕ) → Goes (child id)) → (initiated : Bool) (ids : List ℕ)
+      → Keeps (choice child initiated ids)
+  choice-keeps child keeps goes initiated ids s good =
+      choice-carried (FollowsBy s) (EndsBy s) (growing s) child goes (λ id. growing-carried s (child id) (keeps id)) initiated ids s.marks s
+      (good, same_length (length s.nodes))
+
+  occurrences-keep : (body : State → Outcome) → Keeps body → Goes body → (initiated : Bool) (left : ℕ) → Keeps (occurrences body initiated left)
+  occurrences-keep body keeps goes initiated left s good =
+      occurrences-carried (FollowsBy s) (EndsBy s) (growing s) body goes (growing-carried s body keeps) initiated left s.marks s
+      (good, same_length (length s.nodes))
+
+  separated-keeps : (sequence : Sequence) → ((id : ℕ) → Keeps (sequence.child id)) → ((id : ℕ) → Goes (sequence.child id))
+      → (policy : SeparatorSuppressionPolicy) (slots : List Slot) → Keeps (separated sequence policy slots)
+  separated-keeps sequence keeps goes policy slots s good =
+      separated-carried (FollowsBy s) (EndsBy s) (growing s) sequence goes (λ id. growing-carried s (sequence.child id) (keeps id)) policy slots
+      s.marks s
+      (good, same_length (length s.nodes))
 
   group-keeps : (child : ℕ → State → Outcome) → ((id : ℕ) → Keeps (child id)) → (children : List ℕ) → Keeps (group child children)
   group-keeps child keeps [] s good = (good, same_length (length s.nodes))
@@ -361,19 +395,19 @@ module _ (input : Input) (table : Table) where
   row-keeps child keeps goes id (Some (Align bits)) is s good = pass-keeps (aligned bits s.at) s good (nat_le (aligned bits s.at) s.at) (nat_le (aligned bits s.at) s.stop)
   row-keeps child keeps goes id (Some (Initiator delimiter)) is s good =
       let same : Follows s s = (good, same_length (length s.nodes)) in
-      initiator-comes (λ (e : End) (t : State). Follows s t) s same
-      (λ at. (alike s (record s { at = at }) good refl refl, same_length (length s.nodes))) (λ cause. same) (λ cause quantity. same) input
-      table.delimiters delimiter
+      initiator-comes (λ (e : End) (t : State). Follows s t) s
+      (λ at marks is. (alike s (record s { at = at; marks = marks }) good refl refl, same_length (length s.nodes))) (λ cause. same)
+      (λ cause quantity. same) input table.delimiters delimiter
   row-keeps child keeps goes id (Some (Terminator delimiter separators)) is s good =
       let same : Follows s s = (good, same_length (length s.nodes)) in
-      terminator-comes (λ (e : End) (t : State). Follows s t) s same
-      (λ at. (alike s (record s { at = at }) good refl refl, same_length (length s.nodes))) (λ cause. same) (λ cause quantity. same) input
-      table.delimiters delimiter separators
+      terminator-comes (λ (e : End) (t : State). Follows s t) s
+      (λ at marks is. (alike s (record s { at = at; marks = marks }) good refl refl, same_length (length s.nodes))) (λ cause. same)
+      (λ cause quantity. same) input table.delimiters delimiter separators
   row-keeps child keeps goes id (Some Separator) is s good =
       let same : Follows s s = (good, same_length (length s.nodes)) in
-      separator-comes (λ (e : End) (t : State). Follows s t) s same
-      (λ at. (alike s (record s { at = at }) good refl refl, same_length (length s.nodes))) (λ cause. same) (λ cause quantity. same) input
-      table.delimiters
+      separator-comes (λ (e : End) (t : State). Follows s t) s
+      (λ at marks is. (alike s (record s { at = at; marks = marks }) good refl refl, same_length (length s.nodes))) (λ cause. same)
+      (λ cause quantity. same) input table.delimiters
   row-keeps child keeps goes id (Some (Scope list body)) is s good = scoped-keeps list (child body) (keeps body) s good
   row-keeps child keeps goes id (Some (Boxed bits body)) is s good = boxed-keeps bits (child body) (keeps body) s good (nat_le (s.at + bits) s.stop)
   row-keeps child keeps goes id (Some (PrefixedLeaf prefix prim)) is s good =
@@ -382,8 +416,19 @@ module _ (input : Input) (table : Table) where
       prefixed-keeps table.delimiters (slice_get table.primitives prefix.prim) prefix.own (λ units after. sized_leaf input table.delimiters nil primitive (size_of prefix.unit units) after)
       (λ units. sized-keeps table.delimiters nil primitive (size_of prefix.unit units)) s good
   row-keeps child keeps goes id (Some (Repeat count body)) is s good = group-keeps child keeps (replicate count body) s good
-  row-keeps child keeps goes id (Some (Optional most item body)) is s good = occurrences-keep (child body) (keeps body) (goes body) most s good
-  row-keeps child keeps goes id (Some (ChoiceRow branches)) is s good = choice-keeps child keeps goes branches s good
+  row-keeps child keeps goes id (Some (Optional most item initiated body)) is s good =
+      occurrences-keep (child body) (keeps body) (goes body) initiated most s good
+  row-keeps child keeps goes id (Some (ChoiceRow branches initiated)) is s good = choice-keeps child keeps goes initiated branches s good
+  row-keeps child keeps goes id (Some (Test number)) is s good =
+      let same : Follows s s = (good, same_length (length s.nodes)) in
+      test-comes (λ (e : End) (t : State). Follows s t) s
+      (λ marks is. (alike s (record s { marks = marks }) good refl refl, same_length (length s.nodes))) (λ cause. same) (λ cause quantity. same)
+      input table.tests number
+  row-keeps child keeps goes id (Some (Hidden body)) is s good = keeps body s good
+  row-keeps child keeps goes id (Some (Separated policy position initiated slots)) is s good =
+      let sequence : Sequence =
+      record { input = input; delimiters = table.delimiters; child = child; position = position; initiated = initiated } in
+      separated-keeps sequence keeps goes policy slots s good
   row-keeps child keeps goes id (Some (PrefixedBox prefix body)) is s good =
       prefixed-keeps table.delimiters (slice_get table.primitives prefix.prim) prefix.own (λ units after. boxed input (bits_of_units prefix.unit units) (child body) after)
       (λ units after kept. boxed-keeps (bits_of_units prefix.unit units) (child body) (keeps body) after kept

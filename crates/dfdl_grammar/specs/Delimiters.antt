@@ -19,6 +19,7 @@ use Rattle.dfdl_grammar.specs.declared.instead.Instead.TheVariants.{Nothing, Nil
 use Rattle.dfdl_grammar.specs.States.{Input, State, anchor_at}
 use Rattle.dfdl_grammar.specs.Outcomes.{Outcome, ended, spend}
 use Rattle.dfdl_grammar.specs.Framing.{aligned}
+use Rattle.dfdl_grammar.specs.Marks.{initiated}
 
 -- a list of the tables as one that is open
 abbrev pub opened : Delimiters → Opened
@@ -62,11 +63,17 @@ seek input cause lists place s =
     ask (seen_in input.bytes input.limits.window (anchor_at s (aligned 8 s.at))) (sought_among lists s.at s.stop) nothing in
     spend (needs_from (anchor_at s (aligned 8 s.at)) reading.tally) (passed_text cause place input.limits.window reading.reached s)
 
+-- after this end of the search for an initiator: where it is found, it resolves a point that it can resolve
+abbrev pub found_initiator : End → Outcome → Outcome
+found_initiator Done o = record o { state = initiated o.state }
+found_initiator (Failed cause bit) o = o
+found_initiator (Stopped cause quantity) o = o
+
 -- an initiator, where it stands in the representation that is tried: it is sought among its own literals
 abbrev pub initiator : Input → List Delimiters → Delimiter → State → Outcome
 initiator input delimiters delimiter s =
     if stands_in s.instead delimiter
-    then seek input InitiatorMissing (lists_of delimiters (delimiter.list ∷ [])) 0 s
+    then (let o : Outcome = seek input InitiatorMissing (lists_of delimiters (delimiter.list ∷ [])) 0 s in found_initiator o.end o)
     else ended Done s
 
 -- the number of a list, if there is one

@@ -12,6 +12,8 @@ pub mod Boxes
 pub mod Elements
 pub mod Representations
 pub mod Choices
+pub mod Tests
+pub mod Slots
 pub mod Occurrences
 pub mod Prefixes
 pub mod Rows

@@ -1,5 +1,5 @@
 -- Marks are opened, parsing goes back to them, and they are closed. 'Parsing Algorithm'.
-use Rattle.std.specs.Prelude.{◌≡◌, ℕ, nat_le, List, [], ◌∷◌, take, length, Bool, true, false, Option, Some, None, slice_get}
+use Rattle.std.specs.Prelude.{◌≡◌, ℕ, nat_le, List, [], ◌∷◌, take, length, Bool, true, false, Option, Some, None, slice_get, if◌then◌else◌}
 use Rattle.dfdl_region.specs.declared.node.Content.{Content}
 use Rattle.dfdl_region.specs.declared.node.Content.TheVariants.{Begun}
 use Rattle.dfdl_region.specs.declared.node.Node.{Node}
@@ -18,6 +18,7 @@ mark_at s = record {
   at = s.at;
   is_point = false;
   is_resolved = false;
+  is_initiated = false;
   stop = s.stop;
   nodes = length s.nodes;
   text = length s.text;
@@ -29,13 +30,46 @@ mark_at s = record {
 abbrev pub marked : State → State
 marked s = record s { marks = mark_at s ∷ s.marks }
 
--- a mark at this state that is a point of uncertainty
-abbrev pub point_at : State → Mark
-point_at s = record (mark_at s) { is_point = true }
+-- a mark at this state that is a point of uncertainty, which an initiator resolves or not
+abbrev pub point_at : Bool → State → Mark
+point_at initiated s = record (mark_at s) { is_point = true; is_initiated = initiated }
 
 -- the state with such a point
-abbrev pub pointed : State → State
-pointed s = record s { marks = point_at s ∷ s.marks }
+abbrev pub pointed : Bool → State → State
+pointed initiated s = record s { marks = point_at initiated s ∷ s.marks }
+
+-- marks of which the innermost point is resolved
+abbrev pub resolved_among : List Mark → List Mark
+resolved_among [] = []
+resolved_among (mark ∷ outer) =
+    if mark.is_point then record mark { is_resolved = true } ∷ outer else mark ∷ resolved_among outer
+
+-- the innermost point is resolved
+abbrev pub resolved : State → State
+resolved s = record s { marks = resolved_among s.marks }
+
+-- the innermost point of these marks is one that an initiator resolves
+abbrev pub are_initiated : List Mark → Bool
+are_initiated [] = false
+are_initiated (mark ∷ outer) = if mark.is_point then mark.is_initiated else are_initiated outer
+
+-- an initiator was found: it resolves the innermost point where that is one that it can resolve
+abbrev pub initiated : State → State
+initiated s = if are_initiated s.marks then resolved s else s
+
+-- the first of these marks is resolved
+abbrev pub is_settled : List Mark → Bool
+is_settled [] = false
+is_settled (mark ∷ outer) = mark.is_resolved
+
+-- marks of which none is resolved
+abbrev pub unresolved : List Mark → List Mark
+unresolved [] = []
+unresolved (mark ∷ outer) = record mark { is_resolved = false } ∷ unresolved outer
+
+-- these marks are the others, of which some more may be resolved
+abbrev pub AreSame : List Mark → List Mark → Type 0
+AreSame marks others = unresolved marks ≡ unresolved others
 
 -- the state at a mark: the elements that have begun since are gone, so are the bytes of values since, and the element that was open has
 -- what it had
@@ -71,6 +105,7 @@ outer_marks (mark ∷ outer) = outer
 abbrev pub closed : State → State
 closed s = record s { marks = outer_marks s.marks }
 
--- the state is this one again, but for the primitive by which content is read
-abbrev pub IsAgain : State → State → Type 0
-IsAgain s t = record t { instead = s.instead } ≡ s
+-- the state is this one again, but for the primitive by which content is read, and for points that are resolved
+pub record IsAgain (s t : State) : Type 0 where
+  pub same : record t { instead = s.instead; marks = s.marks } ≡ s
+  pub marks : AreSame t.marks s.marks

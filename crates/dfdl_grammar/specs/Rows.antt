@@ -1,7 +1,7 @@
 -- The meaning of each row, by that of the rows inside it, which stand below it. 'DFDL Data Syntax Grammar'.
 use Rattle.std.specs.Prelude.{ℕ, zero, suc, nat_eq, List, [], ◌∷◌, Option, Some, None, slice_get, replicate, if◌then◌else◌}
 use Rattle.dfdl_terms.specs.declared.row.Row.{Row}
-use Rattle.dfdl_terms.specs.declared.row.Row.TheVariants.{Leaf, Elem, Group, Skip, Align, Initiator, Terminator, Separator, Scope, Boxed, PrefixedLeaf, PrefixedBox, Repeat, Optional, Choice as ChoiceRow}
+use Rattle.dfdl_terms.specs.declared.row.Row.TheVariants.{Leaf, Elem, Group, Skip, Align, Initiator, Terminator, Separator, Scope, Boxed, PrefixedLeaf, PrefixedBox, Repeat, Optional, Choice as ChoiceRow, Test, Hidden, Separated}
 use Rattle.dfdl_terms.specs.Rows.{Table}
 use Rattle.dfdl_grammar.specs.declared.end.End.TheVariants.{Done}
 use Rattle.dfdl_looks.specs.Tallies.{one_row}
@@ -15,6 +15,8 @@ use Rattle.dfdl_grammar.specs.Elements.{element, has_elements}
 use Rattle.dfdl_grammar.specs.Prefixes.{prefixed_box, prefixed_leaf}
 use Rattle.dfdl_grammar.specs.Choices.{choice}
 use Rattle.dfdl_grammar.specs.Occurrences.{occurrences}
+use Rattle.dfdl_grammar.specs.Tests.{test}
+use Rattle.dfdl_grammar.specs.Slots.{separated}
 
 -- rows one after another
 abbrev pub group : (ℕ → State → Outcome) → List ℕ → State → Outcome
@@ -41,8 +43,12 @@ row input table child id (Some (PrefixedLeaf prefix prim)) s =
 row input table child id (Some (PrefixedBox prefix body)) s =
     prefixed_box input table.delimiters (slice_get table.primitives prefix.prim) prefix (child body) s
 row input table child id (Some (Repeat count body)) s = group child (replicate count body) s
-row input table child id (Some (Optional most item body)) s = occurrences (child body) most s
-row input table child id (Some (ChoiceRow branches)) s = choice child branches s
+row input table child id (Some (Optional most item initiated body)) s = occurrences (child body) initiated most s
+row input table child id (Some (ChoiceRow branches initiated)) s = choice child initiated branches s
+row input table child id (Some (Test number)) s = test input table.tests number s
+row input table child id (Some (Hidden body)) s = child body s
+row input table child id (Some (Separated policy position initiated slots)) s =
+    separated (record { input = input; delimiters = table.delimiters; child = child; position = position; initiated = initiated }) policy slots s
 
 -- the row of this number of the table, with its cost
 abbrev pub row_at : Input → Table → (ℕ → State → Outcome) → ℕ → State → Outcome

@@ -11,7 +11,7 @@ ghost use Rattle.dfdl_grammar.specs.Documents.{document_from};
 ghost use Rattle.dfdl_grammar.specs.Trees.{AreRead, HasLeaves, IsTree};
 ghost use Rattle.dfdl_grammar.specs.declared.end.End.TheVariants.{Done, Failed};
 ghost use Rattle.dfdl_grammar.specs.Elements.{attempted};
-ghost use Rattle.dfdl_grammar.specs.Marks.{IsAgain, back, marked, pointed};
+ghost use Rattle.dfdl_grammar.specs.Marks.{AreSame, IsAgain, back, marked, pointed};
 ghost use Rattle.dfdl_grammar.specs.Outcomes.{Outcome, spend, then_do};
 ghost use Rattle.dfdl_grammar.specs.Rows.{below, meaning};
 ghost use Rattle.dfdl_grammar.specs.States.{Input, State};
@@ -25,21 +25,22 @@ pub fn rows_mean()
 {}
 
 /// Where a representation of an element fails, going back gives the state at the mark, whatever it did meanwhile: the bit, the
-/// box's end, the elements, the bytes of values, the element that is open and what it has, the lists that are, and the marks. So
+/// box's end, the elements, the bytes of values, the element that is open and what it has, the lists that are, and the marks, of
+/// which more may be resolved. So
 /// it is where a row fails at a point of uncertainty, as a branch of a choice does, or a time of an element that is tried. A row
-/// that is done or fails leaves the marks and the lists as they were.
+/// that is done or fails leaves the marks and the lists as they were, but for points that it resolves.
 pub fn going_back_restores()
     ensures restored { (input : Input) (table : Table) (id body : ℕ) (complex : Bool) (instead : Instead) (s : State)
         (cause : ParseCause) (bit : ℕ)
         → (attempted input id complex (meaning input table body) instead (marked s)).end ≡ Failed cause bit
         → IsAgain (marked s) (back (attempted input id complex (meaning input table body) instead (marked s)).state) }
-    ensures tried { (input : Input) (table : Table) (id : ℕ) (s : State) (cause : ParseCause) (bit : ℕ)
-        → (meaning input table id (pointed s)).end ≡ Failed cause bit
-        → IsAgain (pointed s) (back (meaning input table id (pointed s)).state) }
+    ensures tried { (input : Input) (table : Table) (id : ℕ) (initiated : Bool) (s : State) (cause : ParseCause) (bit : ℕ)
+        → (meaning input table id (pointed initiated s)).end ≡ Failed cause bit
+        → IsAgain (pointed initiated s) (back (meaning input table id (pointed initiated s)).state) }
     ensures done { (input : Input) (table : Table) (id : ℕ) (s : State) → (meaning input table id s).end ≡ Done
-        → (meaning input table id s).state.marks ≡ s.marks }
+        → AreSame (meaning input table id s).state.marks s.marks }
     ensures failed { (input : Input) (table : Table) (id : ℕ) (s : State) (cause : ParseCause) (bit : ℕ)
-        → (meaning input table id s).end ≡ Failed cause bit → (meaning input table id s).state.marks ≡ s.marks }
+        → (meaning input table id s).end ≡ Failed cause bit → AreSame (meaning input table id s).state.marks s.marks }
     ensures closed { (input : Input) (table : Table) (id : ℕ) (s : State) → (meaning input table id s).end ≡ Done
         → markup (meaning input table id s).state ≡ markup s }
     ensures closed_failed { (input : Input) (table : Table) (id : ℕ) (s : State) (cause : ParseCause) (bit : ℕ)

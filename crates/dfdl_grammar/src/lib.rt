@@ -18,6 +18,8 @@
 //! - Representations: nil, empty and normal, in this order from one place ('DFDL Data Syntax Grammar').
 //! - Choices: branches are tried from one place ('Choices').
 //! - Occurrences: times of an element that are tried, one after another ('Arrays and Optional Elements').
+//! - Tests: patterns that have to match at the begin of a component ('DFDL Schema Component Model').
+//! - Slots: the slots of a sequence with separators, some of which may be missing ('Sequence Groups').
 //! - Rows: the meaning of each row, by those below it ('DFDL Data Syntax Grammar').
 //! - Documents: the meaning of the root element's row at the front of the data, or at the byte at which a document begins.
 //! - Trees: the elements of a document are a tree of the schema's elements, each of which is read.

@@ -7,8 +7,10 @@ pub struct Mark {
     pub at: u64,
     /// It is a point of uncertainty.
     pub is_point: bool,
-    /// It is a point of uncertainty that is resolved.
+    /// It is a point of uncertainty that is resolved: what fails behind it fails there, and no further branch or end is sought.
     pub is_resolved: bool,
+    /// An initiator that is found behind it resolves it.
+    pub is_initiated: bool,
     /// the bit at which the innermost box ends
     pub stop: u64,
     /// how many elements have begun

@@ -9,7 +9,10 @@ use Rattle.dfdl_forms.specs.declared.simple.Simple.{Simple}
 use Rattle.dfdl_terms.specs.declared.representations.Representations.{Representations}
 use Rattle.dfdl_terms.specs.declared.delimiters.Delimiter.{Delimiter}
 use Rattle.dfdl_terms.specs.declared.prefix.Prefix.{Prefix}
-use Rattle.dfdl_terms.specs.declared.row.Row.TheVariants.{Leaf, Elem, Group, Skip, Align, Initiator, Terminator, Separator, Scope, Boxed, PrefixedLeaf, PrefixedBox, Repeat, Optional, Choice}
+use Rattle.dfdl_terms.specs.declared.slots.Slot.{Slot}
+use Rattle.dfdl_separators.specs.declared.policy.SeparatorPosition.{SeparatorPosition}
+use Rattle.dfdl_separators.specs.declared.policy.SeparatorSuppressionPolicy.{SeparatorSuppressionPolicy}
+use Rattle.dfdl_terms.specs.declared.row.Row.TheVariants.{Leaf, Elem, Group, Skip, Align, Initiator, Terminator, Separator, Scope, Boxed, PrefixedLeaf, PrefixedBox, Repeat, Optional, Choice, Test, Hidden, Separated}
 use Rattle.dfdl_terms.specs.declared.event.Event.TheVariants.{Start, End}
 use Rattle.dfdl_terms.specs.Rows.{Table}
 use Rattle.dfdl_json.specs.ByRows.{below}
@@ -91,11 +94,22 @@ module _ (t : Table) (row : ℕ) (content : Data) (around : Names) where
   pub repeat_says : (count body : ℕ) → slice_get t.rows row ≡ Some (Repeat count body) → findings t row content around ≡ []
   repeat_says count body is = ap (λ f. f content around) (row_is (findings_by t) (λ c a. []) t.rows row (Some (Repeat count body)) is)
 
-  pub optional_says : (most : ℕ) (item : Bool) (body : ℕ) → slice_get t.rows row ≡ Some (Optional most item body) → findings t row content around ≡ []
-  optional_says most item body is = ap (λ f. f content around) (row_is (findings_by t) (λ c a. []) t.rows row (Some (Optional most item body)) is)
+  pub optional_says : (most : ℕ) (item initiated : Bool) (body : ℕ) → slice_get t.rows row ≡ Some (Optional most item initiated body) → findings t row content around ≡ []
+  optional_says most item initiated body is = ap (λ f. f content around) (row_is (findings_by t) (λ c a. []) t.rows row (Some (Optional most item initiated body)) is)
 
-  pub choice_says : (branches : List ℕ) → slice_get t.rows row ≡ Some (Choice branches) → findings t row content around ≡ []
-  choice_says branches is = ap (λ f. f content around) (row_is (findings_by t) (λ c a. []) t.rows row (Some (Choice branches)) is)
+  pub choice_says : (branches : List ℕ) (initiated : Bool) → slice_get t.rows row ≡ Some (Choice branches initiated) → findings t row content around ≡ []
+  choice_says branches initiated is = ap (λ f. f content around) (row_is (findings_by t) (λ c a. []) t.rows row (Some (Choice branches initiated)) is)
+
+  pub test_says : (test : ℕ) → slice_get t.rows row ≡ Some (Test test) → findings t row content around ≡ []
+  test_says test is = ap (λ f. f content around) (row_is (findings_by t) (λ c a. []) t.rows row (Some (Test test)) is)
+
+  pub hidden_says : (body : ℕ) → slice_get t.rows row ≡ Some (Hidden body) → findings t row content around ≡ []
+  hidden_says body is = ap (λ f. f content around) (row_is (findings_by t) (λ c a. []) t.rows row (Some (Hidden body)) is)
+
+  pub separated_says : (policy : SeparatorSuppressionPolicy) (position : SeparatorPosition) (initiated : Bool) (slots : List Slot)
+      → slice_get t.rows row ≡ Some (Separated policy position initiated slots) → findings t row content around ≡ []
+  separated_says policy position initiated slots is =
+      ap (λ f. f content around) (row_is (findings_by t) (λ c a. []) t.rows row (Some (Separated policy position initiated slots)) is)
 
   pub group_says : (children : List ℕ) → slice_get t.rows row ≡ Some (Group children) → findings t row content around ≡ []
   group_says children is = ap (λ f. f content around) (row_is (findings_by t) (λ c a. []) t.rows row (Some (Group children)) is)

@@ -3,15 +3,19 @@ use Rattle.std.proofs.Common.{◌≡◌, ℕ, ◌+◌, ◌<◌, Bool, List, [], 
 use Rattle.std.specs.List.{flat_map}
 use Rattle.std.proofs.lemmas.Grind.{flat_map-append}
 use Rattle.std.proofs.lemmas.List.{append-nil}
+use Rattle.std.proofs.lemmas.List.Elements.{All-cons, All-head, All-nil, All-tail}
 use Rattle.dfdl_forms.specs.declared.simple.Simple.{Simple}
 use Rattle.dfdl_terms.specs.declared.representations.Representations.{Representations}
 use Rattle.dfdl_terms.specs.declared.delimiters.Delimiter.{Delimiter}
 use Rattle.dfdl_terms.specs.declared.prefix.Prefix.{Prefix}
+use Rattle.dfdl_terms.specs.declared.slots.Slot.{Slot}
+use Rattle.dfdl_separators.specs.declared.policy.SeparatorPosition.{SeparatorPosition}
+use Rattle.dfdl_separators.specs.declared.policy.SeparatorSuppressionPolicy.{SeparatorSuppressionPolicy}
 use Rattle.dfdl_terms.specs.declared.row.Row.{Row}
-use Rattle.dfdl_terms.specs.declared.row.Row.TheVariants.{Leaf, Elem, Group, Skip, Align, Initiator, Terminator, Separator, Scope, Boxed, PrefixedLeaf, PrefixedBox, Repeat, Optional, Choice}
+use Rattle.dfdl_terms.specs.declared.row.Row.TheVariants.{Leaf, Elem, Group, Skip, Align, Initiator, Terminator, Separator, Scope, Boxed, PrefixedLeaf, PrefixedBox, Repeat, Optional, Choice, Test, Hidden, Separated}
 use Rattle.dfdl_terms.specs.Rows.{Table, ChildrenBelow}
 use Rattle.dfdl_json.specs.ByRows.{below}
-use Rattle.dfdl_json.specs.Children.{declared_by, elements_in}
+use Rattle.dfdl_json.specs.Children.{bodies_of, declared_by, elements_in}
 use Rattle.dfdl_json.specs.Steps.{steps_by, steps_of, total}
 use Rattle.dfdl_json.proofs.RowValues.{row_is, below_is, flat_map_same, map_same}
 
@@ -57,10 +61,24 @@ module _ (t : Table) (row : ℕ) where
   repeat_declares count body is less =
       row_is declared_by [] t.rows row (Some (Repeat count body)) is ∙ below_is declared_by [] t.rows row body less
 
-  pub optional_declares : (most : ℕ) (item : Bool) (body : ℕ) → slice_get t.rows row ≡ Some (Optional most item body) → body < row
+  pub optional_declares : (most : ℕ) (item initiated : Bool) (body : ℕ) → slice_get t.rows row ≡ Some (Optional most item initiated body) → body < row
       → elements_in t row ≡ elements_in t body
-  optional_declares most item body is less =
-      row_is declared_by [] t.rows row (Some (Optional most item body)) is ∙ below_is declared_by [] t.rows row body less
+  optional_declares most item initiated body is less =
+      row_is declared_by [] t.rows row (Some (Optional most item initiated body)) is ∙ below_is declared_by [] t.rows row body less
+
+  pub test_declares : (test : ℕ) → slice_get t.rows row ≡ Some (Test test) → elements_in t row ≡ []
+  test_declares test is = row_is declared_by [] t.rows row (Some (Test test)) is
+
+  pub hidden_declares : (body : ℕ) → slice_get t.rows row ≡ Some (Hidden body) → body < row → elements_in t row ≡ elements_in t body
+  hidden_declares body is less =
+      row_is declared_by [] t.rows row (Some (Hidden body)) is ∙ below_is declared_by [] t.rows row body less
+
+  pub separated_declares : (policy : SeparatorSuppressionPolicy) (position : SeparatorPosition) (initiated : Bool) (slots : List Slot)
+      → slice_get t.rows row ≡ Some (Separated policy position initiated slots) → All (λ b. b < row) (bodies_of slots)
+      → elements_in t row ≡ flat_map (elements_in t) (bodies_of slots)
+  separated_declares policy position initiated slots is below_row =
+      row_is declared_by [] t.rows row (Some (Separated policy position initiated slots)) is
+      ∙ flat_map_same row (below declared_by [] t.rows row) (elements_in t) (λ b less. below_is declared_by [] t.rows row b less) (bodies_of slots) below_row
 
   pub elem_declares : (name : List ℕ) (simple : Option Simple) (tried : Representations) (body : ℕ) → slice_get t.rows row ≡ Some (Elem name simple tried body) → elements_in t row ≡ row ∷ []
   elem_declares name simple tried body is = row_is declared_by [] t.rows row (Some (Elem name simple tried body)) is
@@ -71,10 +89,10 @@ module _ (t : Table) (row : ℕ) where
       row_is declared_by [] t.rows row (Some (Group children)) is
       ∙ flat_map_same row (below declared_by [] t.rows row) (elements_in t) (λ c less. below_is declared_by [] t.rows row c less) children below_row
 
-  pub choice_declares : (branches : List ℕ) → slice_get t.rows row ≡ Some (Choice branches) → All (λ b. b < row) branches
+  pub choice_declares : (branches : List ℕ) (initiated : Bool) → slice_get t.rows row ≡ Some (Choice branches initiated) → All (λ b. b < row) branches
       → elements_in t row ≡ flat_map (elements_in t) branches
-  choice_declares branches is below_row =
-      row_is declared_by [] t.rows row (Some (Choice branches)) is
+  choice_declares branches initiated is below_row =
+      row_is declared_by [] t.rows row (Some (Choice branches initiated)) is
       ∙ flat_map_same row (below declared_by [] t.rows row) (elements_in t) (λ b less. below_is declared_by [] t.rows row b less) branches below_row
 
   pub no_row_steps : slice_get t.rows row ≡ None → steps_of t row ≡ 1
@@ -118,16 +136,30 @@ module _ (t : Table) (row : ℕ) where
   repeat_steps count body is less =
       row_is steps_by 0 t.rows row (Some (Repeat count body)) is ∙ ap (λ n. 1 + n) (below_is steps_by 0 t.rows row body less)
 
-  pub optional_steps : (most : ℕ) (item : Bool) (body : ℕ) → slice_get t.rows row ≡ Some (Optional most item body) → body < row
+  pub optional_steps : (most : ℕ) (item initiated : Bool) (body : ℕ) → slice_get t.rows row ≡ Some (Optional most item initiated body) → body < row
       → steps_of t row ≡ 1 + steps_of t body
-  optional_steps most item body is less =
-      row_is steps_by 0 t.rows row (Some (Optional most item body)) is ∙ ap (λ n. 1 + n) (below_is steps_by 0 t.rows row body less)
+  optional_steps most item initiated body is less =
+      row_is steps_by 0 t.rows row (Some (Optional most item initiated body)) is ∙ ap (λ n. 1 + n) (below_is steps_by 0 t.rows row body less)
 
-  pub choice_steps : (branches : List ℕ) → slice_get t.rows row ≡ Some (Choice branches) → All (λ b. b < row) branches
+  pub choice_steps : (branches : List ℕ) (initiated : Bool) → slice_get t.rows row ≡ Some (Choice branches initiated) → All (λ b. b < row) branches
       → steps_of t row ≡ 1 + total (map (steps_of t) branches)
-  choice_steps branches is below_row =
-      row_is steps_by 0 t.rows row (Some (Choice branches)) is
+  choice_steps branches initiated is below_row =
+      row_is steps_by 0 t.rows row (Some (Choice branches initiated)) is
       ∙ ap (λ ns. 1 + total ns) (map_same row (below steps_by 0 t.rows row) (steps_of t) (λ b less. below_is steps_by 0 t.rows row b less) branches below_row)
+
+  pub test_steps : (test : ℕ) → slice_get t.rows row ≡ Some (Test test) → steps_of t row ≡ 1
+  test_steps test is = row_is steps_by 0 t.rows row (Some (Test test)) is
+
+  pub hidden_steps : (body : ℕ) → slice_get t.rows row ≡ Some (Hidden body) → body < row → steps_of t row ≡ 1 + steps_of t body
+  hidden_steps body is less =
+      row_is steps_by 0 t.rows row (Some (Hidden body)) is ∙ ap (λ n. 1 + n) (below_is steps_by 0 t.rows row body less)
+
+  pub separated_steps : (policy : SeparatorSuppressionPolicy) (position : SeparatorPosition) (initiated : Bool) (slots : List Slot)
+      → slice_get t.rows row ≡ Some (Separated policy position initiated slots) → All (λ b. b < row) (bodies_of slots)
+      → steps_of t row ≡ 1 + total (map (steps_of t) (bodies_of slots))
+  separated_steps policy position initiated slots is below_row =
+      row_is steps_by 0 t.rows row (Some (Separated policy position initiated slots)) is
+      ∙ ap (λ ns. 1 + total ns) (map_same row (below steps_by 0 t.rows row) (steps_of t) (λ b less. below_is steps_by 0 t.rows row b less) (bodies_of slots) below_row)
 
   pub elem_steps : (name : List ℕ) (simple : Option Simple) (tried : Representations) (body : ℕ) → slice_get t.rows row ≡ Some (Elem name simple tried body) → body < row
       → steps_of t row ≡ 2 + steps_of t body
@@ -164,11 +196,25 @@ below_prefixed_box bound r prefix body is below_row = subst (λ (x : Row). Child
 pub below_repeat : (bound : ℕ) (r : Row) (count body : ℕ) → r ≡ Repeat count body → ChildrenBelow bound r → body < bound
 below_repeat bound r count body is below_row = subst (λ (x : Row). ChildrenBelow bound x) is below_row
 
-pub below_optional : (bound : ℕ) (r : Row) (most : ℕ) (item : Bool) (body : ℕ) → r ≡ Optional most item body → ChildrenBelow bound r → body < bound
-below_optional bound r most item body is below_row = subst (λ (x : Row). ChildrenBelow bound x) is below_row
+pub below_optional : (bound : ℕ) (r : Row) (most : ℕ) (item initiated : Bool) (body : ℕ) → r ≡ Optional most item initiated body → ChildrenBelow bound r → body < bound
+below_optional bound r most item initiated body is below_row = subst (λ (x : Row). ChildrenBelow bound x) is below_row
 
-pub below_choice : (bound : ℕ) (r : Row) (branches : List ℕ) → r ≡ Choice branches → ChildrenBelow bound r → All (λ b. b < bound) branches
-below_choice bound r branches is below_row = subst (λ (x : Row). ChildrenBelow bound x) is below_row
+pub below_choice : (bound : ℕ) (r : Row) (branches : List ℕ) (initiated : Bool) → r ≡ Choice branches initiated → ChildrenBelow bound r → All (λ b. b < bound) branches
+below_choice bound r branches initiated is below_row = subst (λ (x : Row). ChildrenBelow bound x) is below_row
+
+pub below_hidden : (bound : ℕ) (r : Row) (body : ℕ) → r ≡ Hidden body → ChildrenBelow bound r → body < bound
+below_hidden bound r body is below_row = subst (λ (x : Row). ChildrenBelow bound x) is below_row
+
+pub all_bodies : (bound : ℕ) (slots : List Slot) → All (λ slot. slot.body < bound) slots → All (λ b. b < bound) (bodies_of slots)
+all_bodies bound [] all = All-nil (λ b. b < bound)
+all_bodies bound (slot ∷ slots) all =
+    All-cons (λ b. b < bound) slot.body (bodies_of slots) (All-head (λ s. s.body < bound) slot slots all)
+    (all_bodies bound slots (All-tail (λ s. s.body < bound) slot slots all))
+
+pub below_separated : (bound : ℕ) (r : Row) (policy : SeparatorSuppressionPolicy) (position : SeparatorPosition) (initiated : Bool) (slots : List Slot)
+    → r ≡ Separated policy position initiated slots → ChildrenBelow bound r → All (λ b. b < bound) (bodies_of slots)
+below_separated bound r policy position initiated slots is below_row =
+    all_bodies bound slots (subst (λ (x : Row). ChildrenBelow bound x) is below_row)
 
 pub below_group : (bound : ℕ) (r : Row) (children : List ℕ) → r ≡ Group children → ChildrenBelow bound r → All (λ c. c < bound) children
 below_group bound r children is below_row = subst (λ (x : Row). ChildrenBelow bound x) is below_row

@@ -10,7 +10,7 @@ use Rattle.dfdl_forms.specs.declared.simple.Simple.{Simple}
 use Rattle.dfdl_value.specs.declared.value.Value.{Value}
 use Rattle.dfdl_terms.specs.declared.representations.Representations.{Representations}
 use Rattle.dfdl_terms.specs.declared.row.Row.{Row}
-use Rattle.dfdl_terms.specs.declared.row.Row.TheVariants.{Leaf, Elem, Group, Skip, Align, Initiator, Terminator, Separator, Scope, Boxed, PrefixedLeaf, PrefixedBox, Repeat, Optional, Choice}
+use Rattle.dfdl_terms.specs.declared.row.Row.TheVariants.{Leaf, Elem, Group, Skip, Align, Initiator, Terminator, Separator, Scope, Boxed, PrefixedLeaf, PrefixedBox, Repeat, Optional, Choice, Test, Hidden, Separated}
 use Rattle.dfdl_terms.specs.declared.event.Event.{Event}
 use Rattle.dfdl_terms.specs.declared.event.Event.TheVariants.{Start, End}
 use Rattle.dfdl_terms.specs.Rows.{HasElementLast, IsElementRow, Nests, Table}
@@ -110,8 +110,11 @@ fits_by t nests row each (Some (Boxed bits body)) is content around element none
 fits_by t nests row each (Some (PrefixedLeaf prefix prim)) is content around element none = absurd (subst IsElementRow is element)
 fits_by t nests row each (Some (PrefixedBox prefix body)) is content around element none = absurd (subst IsElementRow is element)
 fits_by t nests row each (Some (Repeat count body)) is content around element none = absurd (subst IsElementRow is element)
-fits_by t nests row each (Some (Optional most item body)) is content around element none = absurd (subst IsElementRow is element)
-fits_by t nests row each (Some (Choice branches)) is content around element none = absurd (subst IsElementRow is element)
+fits_by t nests row each (Some (Optional most item initiated body)) is content around element none = absurd (subst IsElementRow is element)
+fits_by t nests row each (Some (Choice branches initiated)) is content around element none = absurd (subst IsElementRow is element)
+fits_by t nests row each (Some (Test test)) is content around element none = absurd (subst IsElementRow is element)
+fits_by t nests row each (Some (Hidden body)) is content around element none = absurd (subst IsElementRow is element)
+fits_by t nests row each (Some (Separated policy position initiated slots)) is content around element none = absurd (subst IsElementRow is element)
 fits_by t nests row each (Some (Group children)) is content around element none = absurd (subst IsElementRow is element)
 fits_by t nests row each (Some (Elem name (Some kind) tried body)) is content around element none =
     let says = simple_says t row content around name kind tried body is in

@@ -15,8 +15,9 @@ use Rattle.dfdl_region.specs.declared.node.Content.TheVariants.{Begun, Complex, 
 use Rattle.dfdl_terms.specs.Rows.{Table}
 use Rattle.dfdl_terms.specs.Arrays.{MarksItems, is_item, is_marked}
 use Rattle.dfdl_json.specs.Children.{name_of}
+use Rattle.dfdl_json.specs.Hidden.{is_hidden, MarksHidden}
 use Rattle.dfdl_json.specs.Inside.{HaveMembers, all_turned, put_if, turned}
-use Rattle.dfdl_json.specs.Lines.{data_of, infoset_of, items_in, line_of, members_of, put_element, with_element}
+use Rattle.dfdl_json.specs.Lines.{data_of, infoset_of, is_member, items_in, line_of, members_of, put_element, with_element}
 use Rattle.dfdl_json.proofs.Turned.{all_twice, plain_data, put_element_turned}
 
 -- one more element, where it is put
@@ -29,34 +30,37 @@ in_place true items name value entries plain = put_element_turned items name val
 in_place false items name value entries plain = refl
 
 -- the members by a node and those behind it
-more_members : (t : Table) (bytes : List ℕ) (nodes : List Node) (k at : ℕ) (node : Node) (items : Bool) (j : ℕ) → at ≡ suc k → at ≤ length nodes
-    → node ≡ get_or nodes k node → items ≡ is_item t.rows node.element
-    → put_if (nat_eq node.parent j) items (name_of t node.element)
+more_members : (t : Table) (bytes : List ℕ) (nodes : List Node) (k at : ℕ) (node : Node) (items hidden : Bool) (j : ℕ) → at ≡ suc k → at ≤ length nodes
+    → node ≡ get_or nodes k node → items ≡ is_item t.rows node.element → hidden ≡ is_hidden t node.element
+    → put_if (is_member hidden node.parent j) items (name_of t node.element)
     (data_of bytes node.content (all_turned (all_turned (members_of t bytes at (drop at nodes) k)))) (all_turned (members_of t bytes at (drop at nodes) j))
     ≡ all_turned (members_of t bytes k (drop k nodes) j)
-more_members t bytes nodes k at node items j is within node_is items_is =
+more_members t bytes nodes k at node items hidden j is within node_is items_is hidden_is =
     let next : at ≡ k + 1 = omega (arith, is) in
     let inside : Members = members_of t bytes at (drop at nodes) k in
     let behind : Members = members_of t bytes at (drop at nodes) j in
-    ap (λ m. put_if (nat_eq node.parent j) items (name_of t node.element) (data_of bytes node.content m) (all_turned behind)) (all_twice inside)
-    ∙ (ap (λ b. put_if (nat_eq node.parent j) b (name_of t node.element) (data_of bytes node.content inside) (all_turned behind)) items_is
-    ∙ (in_place (nat_eq node.parent j) (is_item t.rows node.element) (name_of t node.element) (data_of bytes node.content inside) behind (plain_data bytes node.content inside)
-    ∙ (ap (λ n. all_turned (elem_if (nat_eq node.parent j) (is_item t.rows node.element) (name_of t node.element)
+    ap (λ m. put_if (is_member hidden node.parent j) items (name_of t node.element) (data_of bytes node.content m) (all_turned behind)) (all_twice inside)
+    ∙ (ap (λ b. put_if (is_member hidden node.parent j) b (name_of t node.element) (data_of bytes node.content inside) (all_turned behind)) items_is
+    ∙ (in_place (is_member hidden node.parent j) (is_item t.rows node.element) (name_of t node.element) (data_of bytes node.content inside) behind (plain_data bytes node.content inside)
+    ∙ (ap (λ n. all_turned (elem_if (is_member hidden node.parent j) (is_item t.rows node.element) (name_of t node.element)
     (data_of bytes node.content (members_of t bytes n (drop at nodes) k)) (members_of t bytes n (drop at nodes) j))) next
-    ∙ ap (λ ns. all_turned (members_of t bytes k ns j)) (sym (left_here is within node_is)))))
+    ∙ (ap (λ b. all_turned (elem_if (is_member b node.parent j) (is_item t.rows node.element) (name_of t node.element)
+    (data_of bytes node.content (members_of t bytes (k + 1) (drop at nodes) k)) (members_of t bytes (k + 1) (drop at nodes) j))) hidden_is
+    ∙ ap (λ ns. all_turned (members_of t bytes k ns j)) (sym (left_here is within node_is))))))
   where
     left_here : at ≡ suc k → at ≤ length nodes → node ≡ get_or nodes k node → drop k nodes ≡ node ∷ drop at nodes
     left_here e w n = drop-cons nodes k node (omega (arith, e, w)) ∙ rw (← n, e) refl
 
-pub node_put : (t : Table) (bytes : List ℕ) (nodes : List Node) (marks : List Bool) (at : ℕ) (node : Node) (objects : List (BTreeMap (String Global) Value)) → 1 ≤ at → at ≤ length nodes
-    → node ≡ get_or nodes (at - 1) node → MarksItems t.rows marks
-    → HaveMembers objects (at - 1) (λ j. put_if (nat_eq node.parent j) (is_marked marks node.element) (name_of t node.element)
+pub node_put : (t : Table) (bytes : List ℕ) (nodes : List Node) (marks hides : List Bool) (at : ℕ) (node : Node) (objects : List (BTreeMap (String Global) Value)) → 1 ≤ at → at ≤ length nodes
+    → node ≡ get_or nodes (at - 1) node → MarksItems t.rows marks → MarksHidden t hides
+    → HaveMembers objects (at - 1) (λ j. put_if (is_member (is_marked hides node.element) node.parent j) (is_marked marks node.element) (name_of t node.element)
     (data_of bytes node.content (all_turned (all_turned (members_of t bytes at (drop at nodes) (at - 1))))) (all_turned (members_of t bytes at (drop at nodes) j)))
     → HaveMembers objects (at - 1) (λ j. all_turned (members_of t bytes (at - 1) (drop (at - 1) nodes) j))
-node_put t bytes nodes marks at node objects some within node_is marked have = record {
+node_put t bytes nodes marks hides at node objects some within node_is marked hidden have = record {
   counted = have.counted;
   each = λ j other here. have.each j other here
-      ∙ more_members t bytes nodes (at - 1) at node (is_marked marks node.element) j (omega (arith, some)) within node_is (marked node.element);
+      ∙ more_members t bytes nodes (at - 1) at node (is_marked marks node.element) (is_marked hides node.element) j (omega (arith, some)) within node_is
+      (marked node.element) (hidden node.element);
 }
 
 -- a count by its predecessor
@@ -114,7 +118,7 @@ elem_if-no_float false items k d ms plain none = none
 members-no_float : (t : Table) (bytes : List ℕ) (from : ℕ) (nodes : List Node) (number : ℕ) → members_have_float (members_of t bytes from nodes number) ≡ false
 members-no_float t bytes from [] number = refl
 members-no_float t bytes from (node ∷ nodes) number =
-    elem_if-no_float (nat_eq node.parent number) (is_item t.rows node.element) (name_of t node.element) (data_of bytes node.content (members_of t bytes (from + 1) nodes from)) (members_of t bytes (from + 1) nodes number)
+    elem_if-no_float (is_member (is_hidden t node.element) node.parent number) (is_item t.rows node.element) (name_of t node.element) (data_of bytes node.content (members_of t bytes (from + 1) nodes from)) (members_of t bytes (from + 1) nodes number)
     (data-no_float bytes node.content (members_of t bytes (from + 1) nodes from) (members-no_float t bytes (from + 1) nodes from)) (members-no_float t bytes (from + 1) nodes number)
 
 infoset-no_float : (t : Table) (nodes : List Node) (bytes : List ℕ) → has_float (infoset_of t nodes bytes) ≡ false

@@ -7,6 +7,7 @@ mod Fitted
 mod Inner
 mod JsonParts
 mod Notes
+mod Passing
 pub mod RowValues
 mod TextReading
 mod Typed

@@ -1,8 +1,9 @@
 -- The elements that a schema declares: their names, and which of them stand in one another.
-use Rattle.std.specs.Prelude.{ℕ, ◌-◌, List, [], ◌∷◌, length, Option, Some, None, slice_get}
+use Rattle.std.specs.Prelude.{ℕ, ◌-◌, List, [], ◌∷◌, length, map, Option, Some, None, slice_get}
 use Rattle.std.specs.List.{flat_map}
+use Rattle.dfdl_terms.specs.declared.slots.Slot.{Slot}
 use Rattle.dfdl_terms.specs.declared.row.Row.{Row}
-use Rattle.dfdl_terms.specs.declared.row.Row.TheVariants.{Leaf, Elem, Group, Skip, Align, Initiator, Terminator, Separator, Scope, Boxed, PrefixedLeaf, PrefixedBox, Repeat, Optional, Choice}
+use Rattle.dfdl_terms.specs.declared.row.Row.TheVariants.{Leaf, Elem, Group, Skip, Align, Initiator, Terminator, Separator, Scope, Boxed, PrefixedLeaf, PrefixedBox, Repeat, Optional, Choice, Test, Hidden, Separated}
 use Rattle.dfdl_terms.specs.Rows.{Table}
 use Rattle.dfdl_json.specs.ByRows.{by_rows}
 
@@ -19,9 +20,13 @@ name_in _ = []
 abbrev pub name_of : Table → ℕ → List ℕ
 name_of t row = name_in (slice_get t.rows row)
 
+-- the rows of slots
+abbrev pub bodies_of : List Slot → List ℕ
+bodies_of slots = map (λ slot. slot.body) slots
+
 -- The elements that a row declares, where `inside` has those of the rows below it: an element declares itself, a
--- group what its children declare, a choice what its branches do, and a scope, a box, with or without a prefix, and a repetition, tried or
--- not, what its body declares. No other row declares anything.
+-- group what its children declare, a choice what its branches do, slots what their rows do, and a scope, a box, with or without a prefix,
+-- a hidden row and a repetition, tried or not, what its body declares. No other row declares anything.
 abbrev pub declared_by : (ℕ → List ℕ) → ℕ → Option Row → List ℕ
 declared_by inside row (Some (Elem name simple tried body)) = row ∷ []
 declared_by inside row (Some (Group children)) = flat_map inside children
@@ -36,8 +41,11 @@ declared_by inside row (Some (Boxed bits body)) = inside body
 declared_by inside row (Some (PrefixedLeaf prefix prim)) = []
 declared_by inside row (Some (PrefixedBox prefix body)) = inside body
 declared_by inside row (Some (Repeat count body)) = inside body
-declared_by inside row (Some (Optional most item body)) = inside body
-declared_by inside row (Some (Choice branches)) = flat_map inside branches
+declared_by inside row (Some (Optional most item initiated body)) = inside body
+declared_by inside row (Some (Choice branches initiated)) = flat_map inside branches
+declared_by inside row (Some (Test test)) = []
+declared_by inside row (Some (Hidden body)) = inside body
+declared_by inside row (Some (Separated policy position initiated slots)) = flat_map inside (bodies_of slots)
 declared_by inside row None = []
 
 -- the elements that the content of this row declares, through groups, choices, scopes and boxes, in schema order

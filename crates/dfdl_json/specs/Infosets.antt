@@ -13,7 +13,7 @@ use Rattle.dfdl_report.specs.declared.cause.InfosetCause.{InfosetCause}
 use Rattle.dfdl_report.specs.declared.cause.InfosetCause.TheVariants.{RootExpected, UnknownMember, ObjectExpected, StringExpected, NotAValue, NullNotAllowed}
 use Rattle.dfdl_terms.specs.Rows.{Table}
 use Rattle.dfdl_terms.specs.declared.row.Row.{Row}
-use Rattle.dfdl_terms.specs.declared.row.Row.TheVariants.{Leaf, Elem, Group, Skip, Align, Initiator, Terminator, Separator, Scope, Boxed, PrefixedLeaf, PrefixedBox, Repeat, Optional, Choice}
+use Rattle.dfdl_terms.specs.declared.row.Row.TheVariants.{Leaf, Elem, Group, Skip, Align, Initiator, Terminator, Separator, Scope, Boxed, PrefixedLeaf, PrefixedBox, Repeat, Optional, Choice, Test, Hidden, Separated}
 use Rattle.dfdl_terms.specs.declared.event.Event.{Event}
 use Rattle.dfdl_terms.specs.declared.event.Event.TheVariants.{Start, Simple as SimpleElement, End}
 use Rattle.dfdl_json.specs.ByRows.{by_rows}
@@ -120,8 +120,11 @@ findings_by t inside row (Some (Boxed bits body)) content around = []
 findings_by t inside row (Some (PrefixedLeaf prefix prim)) content around = []
 findings_by t inside row (Some (PrefixedBox prefix body)) content around = []
 findings_by t inside row (Some (Repeat count body)) content around = []
-findings_by t inside row (Some (Optional most item body)) content around = []
-findings_by t inside row (Some (Choice branches)) content around = []
+findings_by t inside row (Some (Optional most item initiated body)) content around = []
+findings_by t inside row (Some (Choice branches initiated)) content around = []
+findings_by t inside row (Some (Test test)) content around = []
+findings_by t inside row (Some (Hidden body)) content around = []
+findings_by t inside row (Some (Separated policy position initiated slots)) content around = []
 findings_by t inside row None content around = []
 
 -- what content says of the element of this row, which stands in elements of these names

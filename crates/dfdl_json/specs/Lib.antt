@@ -3,9 +3,11 @@ pub mod ByRows
 pub mod Children
 pub mod Fitting
 pub mod Found
+pub mod Hidden
 pub mod Infosets
 pub mod Inside
 pub mod Lines
+pub mod Marking
 pub mod Paths
 pub mod Reading
 pub mod Steps

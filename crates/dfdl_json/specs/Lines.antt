@@ -12,6 +12,7 @@ use Rattle.dfdl_region.specs.declared.node.Content.{Content}
 use Rattle.dfdl_region.specs.declared.node.Content.TheVariants.{Begun, Complex, Nil, Signed, Unsigned, Decimal, Truth, Text, Octets}
 use Rattle.dfdl_region.specs.Bytes.{bytes_at}
 use Rattle.dfdl_json.specs.Children.{name_of}
+use Rattle.dfdl_json.specs.Hidden.{is_hidden}
 
 -- the data of an element with this content, where these are the bytes of the document's text: a value is its text, a nil
 -- element is null, and another element, read to its end or not, has a member for each element in it
@@ -41,12 +42,16 @@ with_element false own behind = own
 abbrev pub put_element : Bool → List ℕ → Data → Members → Members
 put_element items name own entries = put name (with_element items own (get_member name entries)) entries
 
+-- a node is a member of the element of a number: it stands in it, and isn't hidden
+abbrev pub is_member : Bool → ℕ → ℕ → Bool
+is_member hidden parent number = if hidden then false else nat_eq parent number
+
 -- the members that the element of a number has of these nodes, the first of which has the number `from`: one for each
 -- that stands in it, or for all items of an array, whose own members are of the nodes behind it
 abbrev pub members_of : Table → List ℕ → ℕ → List Node → ℕ → Members
 members_of t bytes from [] number = no_members
 members_of t bytes from (node ∷ nodes) number =
-    if nat_eq node.parent number
+    if is_member (is_hidden t node.element) node.parent number
     then put_element (is_item t.rows node.element) (name_of t node.element)
     (data_of bytes node.content (members_of t bytes (from + 1) nodes from)) (members_of t bytes (from + 1) nodes number)
     else members_of t bytes (from + 1) nodes number

@@ -2,8 +2,9 @@
 use Rattle.std.specs.Prelude.{ℕ, ◌+◌, List, [], ◌∷◌, map, Option, None, Some}
 use Rattle.dfdl_terms.specs.Rows.{Table}
 use Rattle.dfdl_terms.specs.declared.row.Row.{Row}
-use Rattle.dfdl_terms.specs.declared.row.Row.TheVariants.{Leaf, Elem, Group, Skip, Align, Initiator, Terminator, Separator, Scope, Boxed, PrefixedLeaf, PrefixedBox, Repeat, Optional, Choice}
+use Rattle.dfdl_terms.specs.declared.row.Row.TheVariants.{Leaf, Elem, Group, Skip, Align, Initiator, Terminator, Separator, Scope, Boxed, PrefixedLeaf, PrefixedBox, Repeat, Optional, Choice, Test, Hidden, Separated}
 use Rattle.dfdl_json.specs.ByRows.{by_rows}
+use Rattle.dfdl_json.specs.Children.{bodies_of}
 
 -- numbers added up
 abbrev pub total : List ℕ → ℕ
@@ -25,8 +26,11 @@ steps_by inside row (Some (Scope list body)) = 1 + inside body
 steps_by inside row (Some (Boxed bits body)) = 1 + inside body
 steps_by inside row (Some (PrefixedBox prefix body)) = 1 + inside body
 steps_by inside row (Some (Repeat count body)) = 1 + inside body
-steps_by inside row (Some (Optional most item body)) = 1 + inside body
-steps_by inside row (Some (Choice branches)) = 1 + total (map inside branches)
+steps_by inside row (Some (Optional most item initiated body)) = 1 + inside body
+steps_by inside row (Some (Choice branches initiated)) = 1 + total (map inside branches)
+steps_by inside row (Some (Test test)) = 1
+steps_by inside row (Some (Hidden body)) = 1 + inside body
+steps_by inside row (Some (Separated policy position initiated slots)) = 1 + total (map inside (bodies_of slots))
 steps_by inside row (Some (Group children)) = 1 + total (map inside children)
 
 -- how many steps the row of this number takes

@@ -5,7 +5,7 @@ ghost use Rattle.dfdl_terms.specs.Rows.{ChildrenBelow, Nests};
 ghost use Rattle.dfdl_json.specs.Children as children;
 ghost use Rattle.dfdl_json.specs.Steps.{steps_of, total};
 
-use dfdl_terms::{Row, RowId, Terms};
+use dfdl_terms::{Row, RowId, Slot, Terms};
 use std::alloc::{AllocError, Global};
 use std::collections::VecDeque;
 
@@ -52,8 +52,8 @@ pub fn elements_in(alloc: Global, terms: &Terms, id: RowId) -> Result<Vec<RowId>
     Ok(elements)
 }
 
-// An element is put behind the others, and the children of a group, the branches of a choice, or the body of a scope, a box or a
-// repetition before the rows that are left.
+// An element is put behind the others, and the children of a group, the branches of a choice, the rows of slots, or the body of a scope,
+// a box, a hidden row or a repetition before the rows that are left.
 fn visit(
     terms: &Terms,
     row: RowId,
@@ -83,9 +83,22 @@ fn visit(
         Some(Row::PrefixedBox { body, .. }) => push_all(left, &[*body]),
         Some(Row::Repeat { body, .. }) => push_all(left, &[*body]),
         Some(Row::Optional { body, .. }) => push_all(left, &[*body]),
-        Some(Row::Choice { branches }) => push_all(left, branches.as_slice()),
+        Some(Row::Choice { branches, .. }) => push_all(left, branches.as_slice()),
+        Some(Row::Test { .. }) => Ok(()),
+        Some(Row::Hidden { body }) => push_all(left, &[*body]),
+        Some(Row::Separated { slots, .. }) => push_slots(left, slots.as_slice()),
         None => Ok(()),
     }
+}
+
+// Puts the rows of slots before those that are left.
+fn push_slots(left: &mut VecDeque<RowId>, slots: &[Slot]) -> Result<(), AllocError>
+    ensures { OnOk result (left.new.items ≡ children.bodies_of slots.now ++ left.old.items) }
+{
+    for at in (0..slots.len()).rev() {
+        left.push_front(slots[at].body)?;
+    }
+    Ok(())
 }
 
 /// Puts rows before those that are left.

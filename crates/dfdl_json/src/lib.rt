@@ -11,6 +11,7 @@ pub mod children;
 mod events;
 pub mod fault;
 mod found;
+mod hidden;
 mod lines;
 mod members;
 pub mod path;

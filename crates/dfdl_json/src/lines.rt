@@ -12,6 +12,7 @@ ghost use Rattle.dfdl_json.specs.Lines as lines;
 
 use crate::arrays::{in_order, put_item};
 use crate::children::name_of;
+use crate::hidden::Hidden;
 use dfdl_decimal::Fixed;
 use dfdl_region::{Content, Node};
 use dfdl_terms::{Items, Terms};
@@ -69,9 +70,10 @@ fn members_of_root(
     ensures { IfOk result (λ members. shown members ≡ all_turned (lines.members_of terms.now text.now 1 (drop 1 nodes.now) 0)) }
 {
     let items = Items::of(alloc, terms)?;
+    let hidden = Hidden::of(alloc, terms)?;
     let mut objects = empty_objects(alloc, nodes.len())?;
     for at in (1..nodes.len()).rev() {
-        put_node(alloc, terms, &items, &mut objects, nodes[at], text)?;
+        put_node(alloc, terms, &items, &hidden, &mut objects, nodes[at], text)?;
     }
     let Some(members) = objects.pop() else {
         unreachable!()
@@ -90,11 +92,12 @@ fn empty_objects(alloc: Global, count: usize) -> Result<Vec<Map<String, Json>>, 
     Ok(objects)
 }
 
-// Puts a node, whose object is the last one, into that of the element around it.
+// Puts a node, whose object is the last one, into that of the element around it, unless it is hidden.
 fn put_node(
     alloc: Global,
     terms: &Terms,
     items: &Items,
+    hidden: &Hidden,
     objects: &mut Vec<Map<String, Json>>,
     node: Node,
     text: &[u8],
@@ -102,12 +105,15 @@ fn put_node(
     requires some { 1 ≤ length objects.old.items }
     requires text { HasText text.now node.content }
     ensures { OnOk result ((told : ℕ → Members) (count : ℕ) → HaveMembers objects.old.items (suc count) told
-        → HaveMembers objects.new.items count (λ j. put_if (nat_eq node.parent j) (is_marked items.now node.element)
+        → HaveMembers objects.new.items count (λ j. put_if (lines.is_member (is_marked hidden.now node.element) node.parent j) (is_marked items.now node.element)
         (children.name_of terms.now node.element) (lines.data_of text.now node.content (all_turned (told count))) (told j))) }
 {
     let Some(members) = objects.pop() else {
         unreachable!()
     };
+    if hidden.has(node.element) {
+        return Ok(());
+    }
     let value = value_with(alloc, node.content, members, text)?;
     put_member(
         alloc,

@@ -154,6 +154,9 @@ impl<'t, 'v> Reading<'t, 'v> {
             Some(Row::Repeat { .. }) => Ok(()),
             Some(Row::Optional { .. }) => Ok(()),
             Some(Row::Choice { .. }) => Ok(()),
+            Some(Row::Test { .. }) => Ok(()),
+            Some(Row::Hidden { .. }) => Ok(()),
+            Some(Row::Separated { .. }) => Ok(()),
             None => Ok(()),
         }
     }

@@ -94,7 +94,8 @@ fn nested(alloc: Global) -> Result<Terms, Fail>
         element(alloc, "r", None, 11)?,
     ]?;
     let forms = vec![in alloc; form(8, Simple::UnsignedByte)]?;
-    Ok(Terms::build(alloc, rows, Tables::new(forms, Vec::new(alloc)))?)
+    let tables = Tables::new(forms, Vec::new(alloc), Vec::new(alloc));
+    Ok(Terms::build(alloc, rows, tables)?)
 }
 
 fn event_shown(alloc: Global, terms: &Terms, event: &Event) -> Result<String, AllocError> {
@@ -288,7 +289,8 @@ fn repeated(alloc: Global) -> Result<Terms, Fail> {
         element(alloc, "r", None, 4)?,
     ]?;
     let forms = vec![in alloc; form(8, Simple::UnsignedByte)]?;
-    Ok(Terms::build(alloc, rows, Tables::new(forms, Vec::new(alloc)))?)
+    let tables = Tables::new(forms, Vec::new(alloc), Vec::new(alloc));
+    Ok(Terms::build(alloc, rows, tables)?)
 }
 
 #[test]
@@ -306,6 +308,37 @@ fn items_of_a_line_are_in_arrays(rt: HostRuntime) -> Result<(), Fail> {
         line.as_str(),
         "{\"r\":{\"x\":[\"1\",\"3\"],\"y\":[\"2\",null]}}\n"
     );
+    Ok(())
+}
+
+// The row 5 is the root element, in which a hidden `x` stands before `y`.
+fn hiding(alloc: Global) -> Result<Terms, Fail> {
+    let byte = Some(Simple::UnsignedByte);
+    let rows = vec![in alloc;
+        Row::Leaf { prim: 0 },
+        element(alloc, "x", byte, 0)?,
+        element(alloc, "y", byte, 0)?,
+        Row::Hidden {
+            body: RowId::new(1)
+        },
+        group(alloc, &[RowId::new(3), RowId::new(2)])?,
+        element(alloc, "r", None, 4)?,
+    ]?;
+    let forms = vec![in alloc; form(8, Simple::UnsignedByte)]?;
+    let tables = Tables::new(forms, Vec::new(alloc), Vec::new(alloc));
+    Ok(Terms::build(alloc, rows, tables)?)
+}
+
+#[test]
+fn a_line_leaves_hidden_elements_out(rt: HostRuntime) -> Result<(), Fail> {
+    let terms = hiding(rt.alloc())?;
+    let nodes = [
+        node(5, 0, Content::Complex),
+        node(1, 0, Content::Unsigned(1)),
+        node(2, 0, Content::Unsigned(2)),
+    ];
+    let line = line_of(rt.alloc(), &terms, &nodes, &[])?;
+    assert_eq!(rt; line.as_str(), "{\"r\":{\"y\":\"2\"}}\n");
     Ok(())
 }
 

@@ -11,35 +11,35 @@ use Rattle.dfdl_terms.specs.declared.row.Primitive.{Primitive}
 use Rattle.dfdl_delims.specs.Lists.{Opened}
 use Rattle.dfdl_terms.specs.declared.delimiters.Delimiters.{Delimiters}
 use Rattle.dfdl_terms.specs.declared.row.Row.{Row}
-use Rattle.dfdl_terms.specs.declared.row.Row.TheVariants.{Leaf, Elem, Group, Skip, Align, Initiator, Terminator, Separator, Scope, Boxed, PrefixedLeaf, PrefixedBox, Repeat, Optional, Choice}
+use Rattle.dfdl_terms.specs.declared.row.Row.TheVariants.{Leaf, Elem, Group, Skip, Align, Initiator, Terminator, Separator, Scope, Boxed, PrefixedLeaf, PrefixedBox, Repeat, Optional, Choice, Test, Hidden, Separated}
 use Rattle.dfdl_terms.specs.Rows.{Table}
 use Rattle.dfdl_looks.specs.Looks.{Agrees}
-use Rattle.dfdl_looks.specs.Asks.{ask}
+use Rattle.dfdl_looks.specs.Asks.{Ask, AsksFrom, Reached, Told, TooFar, Missing, ask}
 use Rattle.dfdl_looks.specs.Tallies.{Tally, first_of, needs_from, nothing, one_row, plus, saw_byte}
 use Rattle.dfdl_looks.proofs.Waiting.{kept}
 use Rattle.dfdl_grammar.specs.declared.end.End.{End}
 use Rattle.dfdl_grammar.specs.declared.end.End.TheVariants.{Done, Failed, Stopped}
 use Rattle.dfdl_grammar.specs.declared.limits.Limits.{Limits}
 use Rattle.dfdl_grammar.specs.States.{State, anchor, anchor_at}
-use Rattle.dfdl_grammar.specs.Marks.{back, closed, marked, pointed, stays_at}
+use Rattle.dfdl_grammar.specs.Marks.{back, closed, is_settled, marked, pointed, stays_at}
 use Rattle.dfdl_grammar.specs.Occurrences.{dropped}
 use Rattle.dfdl_grammar.specs.declared.mark.Mark.{Mark}
 use Rattle.dfdl_grammar.specs.declared.instead.Instead.{Instead}
 use Rattle.dfdl_grammar.specs.declared.instead.Instead.TheVariants.{Nothing, Nil, Empty}
 use Rattle.dfdl_terms.specs.declared.text.TextSize.{TextSize}
-use Rattle.dfdl_grammar.specs.Leaves.{content_begins, has_room, nil_values, program, program_for, read_by}
+use Rattle.dfdl_grammar.specs.Leaves.{content_begins, has_room, nil_values, program, program_for, read_by, text_sought}
 use Rattle.dfdl_grammar.specs.Prefixes.{resized}
 use Rattle.dfdl_grammar.specs.Framing.{aligned}
 use Rattle.dfdl_grammar.specs.Delimiters.{lists_of, markup, sought_among, stands_in}
 use Rattle.dfdl_grammar.specs.Elements.{begun, has_elements}
 use Rattle.dfdl_parse.specs.declared.frame.Frame.{Frame}
-use Rattle.dfdl_parse.specs.declared.frame.Frame.TheVariants.{Rest, Element, Box, Scope as ScopeFrame, Trial, Branch, Occurrence}
+use Rattle.dfdl_parse.specs.declared.frame.Frame.TheVariants.{Rest, Element, Box, Scope as ScopeFrame, Trial, Branch, Occurrence, Before, Content, Closing}
 use Rattle.dfdl_parse.specs.declared.frame.Outside.{Outside}
 use Rattle.dfdl_parse.specs.declared.frame.Next.{Next}
 use Rattle.dfdl_parse.specs.declared.frame.Next.TheVariants as next
 use Rattle.dfdl_parse.specs.declared.frame.Parts.{Parts}
 use Rattle.dfdl_parse.specs.declared.frame.Focus.{Focus}
-use Rattle.dfdl_parse.specs.declared.frame.Focus.TheVariants.{Enter, Pass, PassRest, Sized, Seek, Leave}
+use Rattle.dfdl_parse.specs.declared.frame.Focus.TheVariants.{Enter, Pass, PassRest, Sized, Seek, LookIn, LookBehind, Leave}
 use Rattle.dfdl_parse.specs.declared.frame.Behind.TheVariants as behind
 use Rattle.dfdl_parse.specs.Boxing.{back_outside}
 use Rattle.dfdl_parse.specs.declared.frame.Sought.{Sought}
@@ -50,11 +50,21 @@ use Rattle.dfdl_parse.specs.Prefixed.{behind_units, prefix_move, read_prefix, re
 use Rattle.dfdl_parse.specs.Machines.{children_of, enter, enter_group, fill, fill_move, go_on, leave, pass_rest, past_one, rest_move, seen_beyond, step}
 use Rattle.dfdl_parse.specs.Trials.{attempt, parts_of, refused, retry, trial_done, try_empty, try_nil, try_normal, two_rows}
 use Rattle.dfdl_parse.specs.Points.{try_branch, try_occurrence}
+use Rattle.dfdl_parse.specs.Testing.{read_test}
+use Rattle.dfdl_terms.specs.declared.asserting.PatternTest.{PatternTest}
+use Rattle.dfdl_parse.proofs.TestSteps.{test-from}
 use Rattle.dfdl_parse.specs.Running.{Slid}
 use Rattle.dfdl_parse.proofs.Windows.{agrees_from, end_from}
 use Rattle.dfdl_parse.proofs.Beyond.{beyond-byte, beyond-end}
 use Rattle.dfdl_parse.proofs.Programs.{program_for-from}
 use Rattle.dfdl_parse.proofs.Seeks.{sought-from}
+use Rattle.dfdl_report.specs.declared.cause.LimitCause.TheVariants.{Window}
+use Rattle.dfdl_grammar.specs.Slots.{is_empty_at, separator_follows}
+use Rattle.dfdl_terms.specs.declared.slots.Slot.{Slot}
+use Rattle.dfdl_parse.specs.declared.frame.SlotPlace.{SlotPlace}
+use Rattle.dfdl_parse.specs.Slots.{look_behind, look_in, separation_at, slots_from, told_move}
+use Rattle.dfdl_parse.proofs.SlotAsks.{empty-from, question-agrees, question-kept, question-slid, separator-from}
+use Rattle.dfdl_parse.proofs.SlotMoves.{Passes, closing-passes, done-passes, ended-passes, failed-passes, occurs-passes, separated-passes, settled-passes}
 use Rattle.dfdl_parse.proofs.Finishes.{Anchored, Stands}
 
 -- the window behind a step, and what the step cost while the end of the data wasn't told
@@ -72,22 +82,38 @@ pass-keeps t held focus k s tail far = record {
   far = λ on. omega arith;
 }
 
+-- a step that looks at nothing besides its cost
+passing-keeps : {held : Held} (cost : Tally) → cost.tail ≡ 0 → cost.far ≡ 0 → (move : Move) → Passes cost held move → Keeps held move
+passing-keeps {held = held} cost no_tail no_far move passes = record {
+  slid = subst (λ (h : Held). Slid held h) (sym passes.held_are) (record { size = refl; ended = refl; end = refl; base = omega arith });
+  agrees = λ whole agrees. subst (λ (h : Held). Agrees h whole) (sym passes.held_are) agrees;
+  tail = λ on. passes.tail ∙ no_tail;
+  far = λ on. let far = passes.far in omega arith;
+}
+
 module _ (held : Held) (s : State) where
+  -- a step that asks from the first byte on that is needed
+  pub asked-keeps : {F : Type 0} → Anchored held s → (cost : Tally) → cost.tail ≡ 0 → cost.far ≡ 0 → (asks : Ask F) → AsksFrom (anchor s) asks → (machine : Machine) (waits : Bool)
+      → let sight : Held = from_byte held (anchor s) in
+      Keeps held (record { tally = plus cost (needs_from (anchor s) (ask (seen_at sight) asks nothing).tally); machine = machine; held = sight; waits = waits })
+  asked-keeps stands cost no_tail no_far asks from machine waits =
+      let sight : Held = from_byte held (anchor s) in
+      let ends : end_of sight ≡ end_of held = end_from held (anchor s) stands.base stands.end in
+      let here : Tally = (ask (seen_at sight) asks nothing).tally in
+      record {
+        slid = record { size = refl; ended = refl; end = ends; base = stands.base };
+        agrees = λ whole agrees. agrees_from held whole (anchor s) stands.base stands.end agrees;
+        tail = λ on. ap (λ (n : ℕ). first_of n here.tail) no_tail ∙ (kept sight on asks from nothing).0;
+        far = λ on. let most = (kept sight on asks from nothing).1 in omega (arith, most, ends);
+      }
+
   -- a step that looks at a leaf
   looked-keeps : Anchored held s → (cost : Tally) → cost.tail ≡ 0 → cost.far ≡ 0 → (delimiters : List Delimiters) (nil : Option (List Value)) (primitive : Primitive) (machine : Machine) (waits : Bool)
       → let sight : Held = from_byte held (anchor s) in
       Keeps held (record { tally = plus cost (needs_from (anchor s) (ask (seen_at sight) (program_for nil (lists_of delimiters (markup s)) primitive s.at s.stop) nothing).tally); machine = machine; held = sight; waits = waits })
   looked-keeps stands cost no_tail no_far delimiters nil primitive machine waits =
-      let sight : Held = from_byte held (anchor s) in
-      let ends : end_of sight ≡ end_of held = end_from held (anchor s) stands.base stands.end in
-      let from = program_for-from (anchor s) nil (lists_of delimiters (markup s)) primitive s.at s.stop stands.low in
-      let here : Tally = (ask (seen_at sight) (program_for nil (lists_of delimiters (markup s)) primitive s.at s.stop) nothing).tally in
-      record {
-        slid = record { size = refl; ended = refl; end = ends; base = stands.base };
-        agrees = λ whole agrees. agrees_from held whole (anchor s) stands.base stands.end agrees;
-        tail = λ on. ap (λ (n : ℕ). first_of n here.tail) no_tail ∙ (kept sight on (program_for nil (lists_of delimiters (markup s)) primitive s.at s.stop) from nothing).0;
-        far = λ on. let most = (kept sight on (program_for nil (lists_of delimiters (markup s)) primitive s.at s.stop) from nothing).1 in omega (arith, most, ends);
-      }
+      asked-keeps stands cost no_tail no_far (program_for nil (lists_of delimiters (markup s)) primitive s.at s.stop)
+      (program_for-from (anchor s) nil (lists_of delimiters (markup s)) primitive s.at s.stop stands.low) machine waits
 
   leaf-keeps : Anchored held s → (cost : Tally) → cost.tail ≡ 0 → cost.far ≡ 0 → (limits : Limits) (focus : Focus) (delimiters : List Delimiters) (nil : Option (List Value)) (primitive : Option Primitive) (k : List Frame)
       → Keeps held (read_leaf cost limits focus held delimiters nil primitive k s)
@@ -277,15 +303,28 @@ module _ (held : Held) (s : State) where
   branch-keeps cost no_tail no_far id place None k t = pass-keeps cost held _ _ _ no_tail no_far
   branch-keeps cost no_tail no_far id place (Some child) k t = pass-keeps cost held _ _ _ no_tail no_far
 
-  occurrence-keeps : (cost : Tally) → cost.tail ≡ 0 → cost.far ≡ 0 → (body left : ℕ) (k : List Frame) (t : State) (none : Bool)
-      → Keeps held (cond none (pass cost held (Leave Done) k t) (pass cost held (Enter body) (Occurrence body (left - 1) ∷ k) (pointed t)))
-  occurrence-keeps cost no_tail no_far body left k t true = pass-keeps cost held _ _ _ no_tail no_far
-  occurrence-keeps cost no_tail no_far body left k t false = pass-keeps cost held _ _ _ no_tail no_far
+  occurrence-keeps : (cost : Tally) → cost.tail ≡ 0 → cost.far ≡ 0 → (body : ℕ) (initiated : Bool) (left : ℕ) (k : List Frame) (t : State) (none : Bool)
+      → Keeps held (cond none (pass cost held (Leave Done) k t) (pass cost held (Enter body) (Occurrence body initiated (left - 1) ∷ k) (pointed initiated t)))
+  occurrence-keeps cost no_tail no_far body initiated left k t true = pass-keeps cost held _ _ _ no_tail no_far
+  occurrence-keeps cost no_tail no_far body initiated left k t false = pass-keeps cost held _ _ _ no_tail no_far
 
-  passed-keeps : (body left : ℕ) (k : List Frame) (stays : Bool)
-      → Keeps held (cond stays (pass nothing held (Leave Done) k (dropped s)) (try_occurrence nothing held body left k (closed s)))
-  passed-keeps body left k true = pass-keeps nothing held _ _ _ refl refl
-  passed-keeps body left k false = occurrence-keeps nothing refl refl body left k (closed s) (nat_eq left 0)
+  -- what has failed at a point that is resolved, or not
+  failed-keeps : (end_told : End) (k : List Frame) (other : Move) → Keeps held other → (settled : Bool)
+      → Keeps held (cond settled (pass nothing held (Leave end_told) k (closed s)) other)
+  failed-keeps end_told k other keeps true = pass-keeps nothing held _ _ _ refl refl
+  failed-keeps end_told k other keeps false = keeps
+
+  -- a test
+  test-keeps : Anchored held s → (limits : Limits) (id number : ℕ) (test : Option PatternTest) (k : List Frame)
+      → Keeps held (read_test one_row limits (Enter id) held number test k s)
+  test-keeps stands limits id number None k = pass-keeps one_row held _ _ _ refl refl
+  test-keeps stands limits id number (Some test) k =
+      asked-keeps stands one_row refl refl (text_sought test.form (aligned 8 s.at) s.stop) (test-from (anchor s) test.form s.at s.stop stands.low) _ _
+
+  passed-keeps : (body : ℕ) (initiated : Bool) (left : ℕ) (k : List Frame) (stays : Bool)
+      → Keeps held (cond stays (pass nothing held (Leave Done) k (dropped s)) (try_occurrence nothing held body initiated left k (closed s)))
+  passed-keeps body initiated left k true = pass-keeps nothing held _ _ _ refl refl
+  passed-keeps body initiated left k false = occurrence-keeps nothing refl refl body initiated left k (closed s) (nat_eq left 0)
 
   delimiter-keeps : (what : Sought) (k : List Frame) (does_stand : Bool)
       → Keeps held (cond does_stand (pass one_row held (Seek what) k s) (pass one_row held (Leave Done) k s))
@@ -335,10 +374,14 @@ module _ (held : Held) (s : State) where
   enter-keeps stands limits table id (Some (PrefixedLeaf prefix prim)) k =
       prefix-keeps stands limits table.delimiters id prefix.own (behind_units table.primitives prefix.unit (behind.Leaf (read_by table.primitives s.instead prim))) (slice_get table.primitives prefix.prim) k
   enter-keeps stands limits table id (Some (Repeat count body)) k = group-keeps id (replicate count body) k
-  enter-keeps stands limits table id (Some (Optional most item body)) k = occurrence-keeps one_row refl refl body most k s (nat_eq most 0)
-  enter-keeps stands limits table id (Some (Choice rows)) k = branch-keeps one_row refl refl id 0 (slice_get rows 0) k (pointed s)
+  enter-keeps stands limits table id (Some (Optional most item initiated body)) k = occurrence-keeps one_row refl refl body initiated most k s (nat_eq most 0)
+  enter-keeps stands limits table id (Some (Choice rows initiated)) k = branch-keeps one_row refl refl id 0 (slice_get rows 0) k (pointed initiated s)
   enter-keeps stands limits table id (Some (PrefixedBox prefix body)) k =
       prefix-keeps stands limits table.delimiters id prefix.own (behind_units table.primitives prefix.unit (behind.Box body)) (slice_get table.primitives prefix.prim) k
+  enter-keeps stands limits table id (Some (Test test)) k = test-keeps stands limits id test (slice_get table.tests test) k
+  enter-keeps stands limits table id (Some (Hidden body)) k = pass-keeps one_row held _ _ _ refl refl
+  enter-keeps stands limits table id (Some (Separated policy position initiated slots)) k =
+      passing-keeps one_row refl refl _ (separated-passes held initiated k id policy position slots s)
 
   go-keeps : (id next : ℕ) (child : Option ℕ) (k : List Frame) → Keeps held (go_on held id next child k s)
   go-keeps id next None k = pass-keeps nothing held _ _ _ refl refl
@@ -358,10 +401,79 @@ module _ (held : Held) (s : State) where
       retry-keeps limits.nodes id (parts_of (slice_get table.rows id)) next (Failed cause bit) k
   leave-keeps limits table (Branch id next) Done k = pass-keeps nothing held _ _ _ refl refl
   leave-keeps limits table (Branch id next) (Failed cause bit) k =
-      branch-keeps nothing refl refl id next (slice_get (children_of (slice_get table.rows id)) next) k (back s)
-  leave-keeps limits table (Occurrence body left) Done k = passed-keeps body left k (stays_at s.marks s.at)
-  leave-keeps limits table (Occurrence body left) (Failed cause bit) k = pass-keeps nothing held _ _ _ refl refl
+      failed-keeps (Failed cause bit) k _ (branch-keeps nothing refl refl id next (slice_get (children_of (slice_get table.rows id)) next) k (back s))
+      (is_settled s.marks)
+  leave-keeps limits table (Occurrence body initiated left) Done k = passed-keeps body initiated left k (stays_at s.marks s.at)
+  leave-keeps limits table (Occurrence body initiated left) (Failed cause bit) k =
+      failed-keeps (Failed cause bit) k _ (pass-keeps nothing held _ _ _ refl refl) (is_settled s.marks)
+  leave-keeps limits table (Before slot) Done k = passing-keeps nothing refl refl _ (done-passes held false k slot (slots_from table slot) s)
+  leave-keeps limits table (Before slot) (Failed cause bit) k =
+      passing-keeps nothing refl refl _ (failed-passes held (separation_at table slot).initiated k slot (slots_from table slot) (Failed cause bit) s)
+  leave-keeps limits table (Content slot bit empty) Done k =
+      passing-keeps nothing refl refl _
+      (ended-passes held (separation_at table slot).initiated k slot bit empty (slots_from table slot) (nat_lt bit s.at) None Done s)
+  leave-keeps limits table (Content slot bit empty) (Failed cause at) k =
+      passing-keeps nothing refl refl _
+      (ended-passes held (separation_at table slot).initiated k slot bit empty (slots_from table slot) false (Some cause) (Failed cause at) s)
+  leave-keeps limits table (Closing slot bit) Done k =
+      passing-keeps nothing refl refl _ (closing-passes held (separation_at table slot).initiated k slot bit (slots_from table slot) true Done s)
+  leave-keeps limits table (Closing slot bit) (Failed cause at) k =
+      passing-keeps nothing refl refl _ (closing-passes held (separation_at table slot).initiated k slot bit (slots_from table slot) false (Failed cause at) s)
   leave-keeps limits table frame (Stopped cause quantity) k = pass-keeps nothing held _ _ _ refl refl
+
+  -- a question of a slot
+  answered-keeps : (stands : Anchored held s) (question : Ask Bool) (from : AsksFrom (anchor s) question) (move : Move)
+      → Passes (needs_from (anchor s) (ask (seen_at (from_byte held (anchor s))) question nothing).tally) (from_byte held (anchor s)) move → Keeps held move
+  answered-keeps stands question from move passes =
+      let sight : Held = from_byte held (anchor s) in
+      let held_are : move.held ≡ sight = passes.held_are in
+      record {
+        slid = subst (λ (h : Held). Slid held h) (sym held_are) (question-slid held s question stands from);
+        agrees = λ all agrees. subst (λ (h : Held). Agrees h all) (sym held_are) (question-agrees held s question stands from all agrees);
+        tail = λ on. passes.tail ∙ (question-kept held s question stands from on).0;
+        far = λ on. let few = (question-kept held s question stands from on).1 in let far = passes.far in omega arith;
+      }
+
+  waiting-passes : (limits : Limits) (focus : Focus) (sight : Held) (cost : Tally) (moves : Bool → Move) (k : List Frame)
+      → ((answer : Bool) → Passes cost sight (moves answer)) → (reached : Reached Bool)
+      → (P : Move → Type 0) → ((move : Move) → Passes cost sight move → P move)
+      → P (record { tally = cost; machine = record { focus = focus; stack = k; state = s }; held = sight; waits = true })
+      → P (told_move limits focus sight cost moves reached k s)
+  waiting-passes limits focus sight cost moves k each (Told answer) P keeps waits = keeps (moves answer) (each answer)
+  waiting-passes limits focus sight cost moves k each TooFar P keeps waits =
+      keeps (pass cost sight (Leave (Stopped Window limits.window)) k s) (record { looks = refl; far = refl; tail = refl; held_are = refl; waits = refl })
+  waiting-passes limits focus sight cost moves k each Missing P keeps waits = waits
+
+  question-keeps : (stands : Anchored held s) (question : Ask Bool) (from : AsksFrom (anchor s) question) (limits : Limits) (focus : Focus) (moves : Bool → Move) (k : List Frame)
+      → ((answer : Bool) → Passes (needs_from (anchor s) (ask (seen_at (from_byte held (anchor s))) question nothing).tally) (from_byte held (anchor s)) (moves answer))
+      → Keeps held (told_move limits focus (from_byte held (anchor s)) (needs_from (anchor s) (ask (seen_at (from_byte held (anchor s))) question nothing).tally) moves
+      (ask (seen_at (from_byte held (anchor s))) question nothing).reached k s)
+  question-keeps stands question from limits focus moves k each =
+      waiting-passes limits focus (from_byte held (anchor s)) _ moves k each (ask (seen_at (from_byte held (anchor s))) question nothing).reached (Keeps held)
+      (answered-keeps stands question from)
+      (record {
+        slid = question-slid held s question stands from;
+        agrees = question-agrees held s question stands from;
+        tail = λ on. (question-kept held s question stands from on).0;
+        far = λ on. (question-kept held s question stands from on).1;
+      })
+
+  look_in-keeps : Anchored held s → (limits : Limits) (delimiters : List Delimiters) (initiated : Bool) (slot : SlotPlace) (slots : List Slot) (k : List Frame)
+      → Keeps held (look_in limits delimiters held initiated slot slots k s)
+  look_in-keeps stands limits delimiters initiated slot [] k = pass-keeps nothing held _ _ _ refl refl
+  look_in-keeps stands limits delimiters initiated slot (own ∷ slots) k =
+      let lists : List Opened = lists_of delimiters (markup s) in
+      question-keeps stands (is_empty_at lists s.at s.stop) (empty-from lists (anchor s) s.at s.stop stands.low) limits (LookIn slot) _ k
+      (λ empty. occurs-passes (from_byte held (anchor s)) initiated k _ slot own.body s empty)
+
+  look_behind-keeps : Anchored held s → (limits : Limits) (delimiters : List Delimiters) (initiated : Bool) (slot : SlotPlace) (bit : ℕ) (slots : List Slot) (k : List Frame)
+      → Keeps held (look_behind limits delimiters held initiated slot bit slots k s)
+  look_behind-keeps stands limits delimiters initiated slot bit [] k = pass-keeps nothing held _ _ _ refl refl
+  look_behind-keeps stands limits delimiters initiated slot bit (own ∷ slots) k =
+      let lists : List Opened = lists_of delimiters (markup s) in
+      let place : ℕ = length (markup s) - 1 in
+      question-keeps stands (separator_follows lists place s.at s.stop) (separator-from lists place (anchor s) s.at s.stop stands.low) limits (LookBehind slot bit) _ k
+      (λ found. settled-passes (from_byte held (anchor s)) initiated k _ slot bit own slots found Done s)
 
   pub step-keeps : (limits : Limits) (table : Table) (focus : Focus) (k : List Frame) → Stands held focus s → Keeps held (step limits table held focus k s)
   step-keeps limits table (Enter id) k stands = enter-keeps stands limits table id (slice_get table.rows id) k
@@ -369,5 +481,9 @@ module _ (held : Held) (s : State) where
   step-keeps limits table (PassRest bit outer) k stands = rest-keeps limits bit outer k stands
   step-keeps limits table (Sized prim size) k stands = sized-keeps stands limits prim size table.delimiters (nil_values table.primitives s.instead) (slice_get table.primitives prim) k
   step-keeps limits table (Seek what) k stands = seek-keeps stands limits table.delimiters what k
+  step-keeps limits table (LookIn slot) k stands =
+      look_in-keeps stands limits table.delimiters (separation_at table slot).initiated slot (slots_from table slot) k
+  step-keeps limits table (LookBehind slot bit) k stands =
+      look_behind-keeps stands limits table.delimiters (separation_at table slot).initiated slot bit (slots_from table slot) k
   step-keeps limits table (Leave end_told) [] stands = pass-keeps nothing held _ _ _ refl refl
   step-keeps limits table (Leave end_told) (frame ∷ k) stands = leave-keeps limits table frame end_told k

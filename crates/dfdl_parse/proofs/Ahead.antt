@@ -14,7 +14,7 @@ use Rattle.dfdl_value.specs.declared.value.Value.{Value}
 use Rattle.dfdl_terms.specs.declared.row.Primitive.{Primitive}
 use Rattle.dfdl_grammar.specs.Leaves.{nil_values, read_by}
 use Rattle.dfdl_terms.specs.declared.row.Row.{Row}
-use Rattle.dfdl_terms.specs.declared.row.Row.TheVariants.{Leaf, Elem, Group, Skip, Align, Initiator, Terminator, Separator, Scope, Boxed, PrefixedLeaf, PrefixedBox, Repeat, Optional, Choice}
+use Rattle.dfdl_terms.specs.declared.row.Row.TheVariants.{Leaf, Elem, Group, Skip, Align, Initiator, Terminator, Separator, Scope, Boxed, PrefixedLeaf, PrefixedBox, Repeat, Optional, Choice, Test, Hidden, Separated}
 use Rattle.dfdl_terms.specs.Rows.{Table, Nests}
 use Rattle.dfdl_looks.specs.Looks.{seen_in}
 use Rattle.dfdl_looks.specs.Asks.{Answer, Reading}
@@ -23,8 +23,7 @@ use Rattle.dfdl_looks.proofs.Resumed.{on_seen}
 use Rattle.dfdl_grammar.specs.declared.end.End.{End}
 use Rattle.dfdl_grammar.specs.declared.end.End.TheVariants.{Done, Failed, Stopped}
 use Rattle.dfdl_grammar.specs.States.{Input, State, anchor_at}
-use Rattle.dfdl_grammar.specs.Marks.{back, closed, marked, pointed, stays_at}
-use Rattle.dfdl_grammar.specs.Occurrences.{dropped}
+use Rattle.dfdl_grammar.specs.Marks.{back, closed, is_settled, marked, pointed, stays_at}
 use Rattle.dfdl_grammar.specs.declared.mark.Mark.{Mark}
 use Rattle.dfdl_grammar.specs.Delimiters.{closes_to, stands_in}
 use Rattle.dfdl_grammar.specs.declared.instead.Instead.{Instead}
@@ -40,13 +39,13 @@ use Rattle.dfdl_grammar.specs.Rows.{below, group, meaning, row}
 use Rattle.dfdl_grammar.proofs.Spending.{spend-nothing, spend-spend}
 use Rattle.dfdl_grammar.proofs.Towers.{below-meaning}
 use Rattle.dfdl_parse.specs.declared.frame.Frame.{Frame}
-use Rattle.dfdl_parse.specs.declared.frame.Frame.TheVariants.{Rest, Element, Box, Scope as ScopeFrame, Trial, Branch, Occurrence}
+use Rattle.dfdl_parse.specs.declared.frame.Frame.TheVariants.{Rest, Element, Box, Scope as ScopeFrame, Trial, Branch, Occurrence, Before, Content, Closing}
 use Rattle.dfdl_parse.specs.declared.frame.Outside.{Outside}
 use Rattle.dfdl_parse.specs.declared.frame.Next.{Next}
 use Rattle.dfdl_parse.specs.declared.frame.Next.TheVariants as next
 use Rattle.dfdl_parse.specs.declared.frame.Parts.{Parts}
 use Rattle.dfdl_parse.specs.declared.frame.Focus.{Focus}
-use Rattle.dfdl_parse.specs.declared.frame.Focus.TheVariants.{Enter, Pass, PassRest, Sized, Seek, Leave}
+use Rattle.dfdl_parse.specs.declared.frame.Focus.TheVariants.{Enter, Pass, PassRest, Sized, Seek, LookIn, LookBehind, Leave}
 use Rattle.dfdl_parse.specs.declared.frame.Behind.TheVariants as behind
 use Rattle.dfdl_parse.specs.Boxing.{back_outside, hides}
 use Rattle.dfdl_parse.specs.declared.frame.Sought.TheVariants as sought
@@ -58,9 +57,13 @@ use Rattle.dfdl_parse.specs.Ahead.{finish, focused, retried, trial_of}
 use Rattle.dfdl_parse.proofs.Lists.{drop_some, drop_none, all_at}
 use Rattle.dfdl_parse.proofs.Beyond.{beyond-same}
 use Rattle.dfdl_parse.proofs.Finishes.{Anchored, Does, Fits, after_nothing, finish-spend, from_here, retried-spend, unboxed-spend}
-use Rattle.dfdl_parse.proofs.PointSteps.{branch-ahead, first-ahead, passed-ahead}
+use Rattle.dfdl_parse.specs.Slots.{slots_from}
+use Rattle.dfdl_parse.proofs.SlotRows.{all-below, slots-below}
+use Rattle.dfdl_parse.proofs.SlotSteps.{before_done-ahead, before_failed-ahead, before_stopped-ahead, closing_done-ahead, closing_failed-ahead, closing_stopped-ahead, content_done-ahead, content_failed-ahead, content_stopped-ahead, look_behind-ahead, look_in-ahead, separated-ahead}
+use Rattle.dfdl_parse.proofs.PointSteps.{branch-ahead, failed-branch-ahead, failed-occurrence-ahead, first-ahead, passed-ahead}
 use Rattle.dfdl_parse.proofs.SeekSteps.{delimiter-ahead, scope-ahead, seek-ahead, separator-ahead}
 use Rattle.dfdl_parse.proofs.LeafSteps.{Sees, box-ahead, leaf-of, prefix-of, sized-begin, sized-of}
+use Rattle.dfdl_parse.proofs.TestSteps.{test-ahead}
 
 module _ (input : Input) (table : Table) where
   -- one representation of an element, where the costs before it are given
@@ -142,8 +145,11 @@ module _ (input : Input) (table : Table) where
   body-below nests id parts (Some (PrefixedLeaf prefix prim)) is told = absurd (cc)
   body-below nests id parts (Some (PrefixedBox prefix body)) is told = absurd (cc)
   body-below nests id parts (Some (Repeat count body)) is told = absurd (cc)
-  body-below nests id parts (Some (Optional most item body)) is told = absurd (cc)
-  body-below nests id parts (Some (Choice rows)) is told = absurd (cc)
+  body-below nests id parts (Some (Optional most item initiated body)) is told = absurd (cc)
+  body-below nests id parts (Some (Choice rows initiated)) is told = absurd (cc)
+  body-below nests id parts (Some (Test test)) is told = absurd (cc)
+  body-below nests id parts (Some (Hidden body)) is told = absurd (cc)
+  body-below nests id parts (Some (Separated policy position initiated slots)) is told = absurd (cc)
 
   -- a representation that is done
   refused-trial : (held : Held) (marks : List Mark) (k : List Frame) (s : State)
@@ -351,8 +357,11 @@ module _ (input : Input) (table : Table) where
   children-below nests id (Some (PrefixedBox prefix body)) is = λ i row less. absurd (omega arith)
   children-below nests id (Some (Repeat count body)) is =
       All-replicate (λ c. c < id) count body (nests id (Repeat count body) (slice_get_within table.rows id (Repeat count body) is) is)
-  children-below nests id (Some (Optional most item body)) is = λ i row less. absurd (omega arith)
-  children-below nests id (Some (Choice rows)) is = nests id (Choice rows) (slice_get_within table.rows id (Choice rows) is) is
+  children-below nests id (Some (Optional most item initiated body)) is = λ i row less. absurd (omega arith)
+  children-below nests id (Some (Choice rows initiated)) is = nests id (Choice rows initiated) (slice_get_within table.rows id (Choice rows initiated) is) is
+  children-below nests id (Some (Test test)) is = λ i row less. absurd (omega arith)
+  children-below nests id (Some (Hidden body)) is = λ i row less. absurd (omega arith)
+  children-below nests id (Some (Separated policy position initiated slots)) is = λ i row less. absurd (omega arith)
 
   enter-ahead : Nests table.rows → (held : Held) (id : ℕ) (r : Option Row) (k : List Frame) (s : State) → slice_get table.rows id ≡ r → Fits held input (Enter id) s
       → (enter input.limits table held id r k s).waits ≡ false
@@ -390,11 +399,11 @@ module _ (input : Input) (table : Table) where
       held (slice_get table.primitives prefix.prim) (sees held s fits.stands fits) going
   enter-ahead nests held id (Some (Repeat count body)) k s is fits going =
       group-ahead held id (replicate count body) k s (ap children_of is) (children-below nests id (Some (Repeat count body)) is)
-  enter-ahead nests held id (Some (Optional most item body)) k s is fits going =
-      let less : body < id = nests id (Optional most item body) (slice_get_within table.rows id (Optional most item body) is) is in
-      first-ahead input table held id body most k s less
-  enter-ahead nests held id (Some (Choice rows)) k s is fits going =
-      branch-ahead input table one_row held id 0 rows (slice_get rows 0) k (pointed s) (ap children_of is) (children-below nests id (Some (Choice rows)) is) refl
+  enter-ahead nests held id (Some (Optional most item initiated body)) k s is fits going =
+      let less : body < id = nests id (Optional most item initiated body) (slice_get_within table.rows id (Optional most item initiated body) is) is in
+      first-ahead input table held id body initiated most k s less
+  enter-ahead nests held id (Some (Choice rows initiated)) k s is fits going =
+      branch-ahead input table one_row held id 0 rows (slice_get rows 0) k (pointed initiated s) (ap children_of is) (children-below nests id (Some (Choice rows initiated)) is) refl
   enter-ahead nests held id (Some (PrefixedBox prefix body)) k s is fits going =
       let less : body < id = nests id (PrefixedBox prefix body) (slice_get_within table.rows id (PrefixedBox prefix body) is) is in
       prefix-of input table id prefix.own (λ units after. boxed input (bits_of_units prefix.unit units) (below input table id body) after)
@@ -402,6 +411,15 @@ module _ (input : Input) (table : Table) where
       (λ units at. box-ahead input table id (bits_of_units prefix.unit units) body k (record s { at = at }) less
       (nat_le (at + bits_of_units prefix.unit units) s.stop))
       held (slice_get table.primitives prefix.prim) (sees held s fits.stands fits) going
+  enter-ahead nests held id (Some (Test test)) k s is fits going =
+      test-ahead input table (Enter id) held test (slice_get table.tests test) k s (sees held s fits.stands fits) going
+  enter-ahead nests held id (Some (Hidden body)) k s is fits going =
+      let less : body < id = nests id (Hidden body) (slice_get_within table.rows id (Hidden body) is) is in
+      finish-spend input table k one_row (below input table id body s)
+      ∙ ap (λ (o : Outcome). spend one_row (finish input table k o)) (below-meaning input table id body s less)
+  enter-ahead nests held id (Some (Separated policy position initiated slots)) k s is fits going =
+      separated-ahead input table held id policy position initiated slots k s is
+      (all-below id slots (nests id (Separated policy position initiated slots) (slice_get_within table.rows id (Separated policy position initiated slots) is) is))
 
   rest-ahead : Nests table.rows → (held : Held) (id next : ℕ) (child : Option ℕ) (k : List Frame) (s : State)
       → slice_get (children_of (slice_get table.rows id)) next ≡ child
@@ -445,11 +463,29 @@ module _ (input : Input) (table : Table) where
   leave-ahead nests held (Branch id next) Done k s = after_nothing input table k (ended Done (closed s))
   leave-ahead nests held (Branch id next) (Failed cause bit) k s =
       let rows : List ℕ = children_of (slice_get table.rows id) in
-      branch-ahead input table nothing held id next rows (slice_get rows next) k (back s) refl (children-below nests id (slice_get table.rows id) refl) refl
+      failed-branch-ahead input table held id next rows (slice_get rows next) cause bit k s refl (children-below nests id (slice_get table.rows id) refl) refl
+      (is_settled s.marks)
   leave-ahead nests held (Branch id next) (Stopped cause quantity) k s = after_nothing input table k (ended (Stopped cause quantity) s)
-  leave-ahead nests held (Occurrence body left) Done k s = passed-ahead input table held body left k s (stays_at s.marks s.at)
-  leave-ahead nests held (Occurrence body left) (Failed cause bit) k s = after_nothing input table k (ended Done (dropped s))
-  leave-ahead nests held (Occurrence body left) (Stopped cause quantity) k s = after_nothing input table k (ended (Stopped cause quantity) s)
+  leave-ahead nests held (Occurrence body initiated left) Done k s = passed-ahead input table held body initiated left k s (stays_at s.marks s.at)
+  leave-ahead nests held (Occurrence body initiated left) (Failed cause bit) k s = failed-occurrence-ahead input table held cause bit k s (is_settled s.marks)
+  leave-ahead nests held (Occurrence body initiated left) (Stopped cause quantity) k s = after_nothing input table k (ended (Stopped cause quantity) s)
+  leave-ahead nests held (Before slot) Done k s = before_done-ahead input table held slot k s (slots_from table slot) refl (slots-below table nests slot)
+  leave-ahead nests held (Before slot) (Failed cause bit) k s =
+      before_failed-ahead input table held slot k s cause bit (slots_from table slot) refl (slots-below table nests slot)
+  leave-ahead nests held (Before slot) (Stopped cause quantity) k s =
+      before_stopped-ahead input table held slot k s cause quantity
+  leave-ahead nests held (Content slot bit empty) Done k s =
+      content_done-ahead input table held slot k s bit empty (slots_from table slot) refl (slots-below table nests slot)
+  leave-ahead nests held (Content slot bit empty) (Failed cause at) k s =
+      content_failed-ahead input table held slot k s bit empty cause at (slots_from table slot) refl (slots-below table nests slot)
+  leave-ahead nests held (Content slot bit empty) (Stopped cause quantity) k s =
+      content_stopped-ahead input table held slot k s bit empty cause quantity
+  leave-ahead nests held (Closing slot bit) Done k s =
+      closing_done-ahead input table held slot k s bit (slots_from table slot) refl (slots-below table nests slot)
+  leave-ahead nests held (Closing slot bit) (Failed cause at) k s =
+      closing_failed-ahead input table held slot k s bit cause at (slots_from table slot) refl (slots-below table nests slot)
+  leave-ahead nests held (Closing slot bit) (Stopped cause quantity) k s =
+      closing_stopped-ahead input table held slot k s bit cause quantity
 
   pub step-ahead : Nests table.rows → (held : Held) (focus : Focus) (k : List Frame) (s : State) → Fits held input focus s
       → (step input.limits table held focus k s).waits ≡ false
@@ -462,5 +498,9 @@ module _ (input : Input) (table : Table) where
       sized-of input table held prim size (nil_values table.primitives s.instead) (slice_get table.primitives prim) k s (sees held s fits.stands fits) going
   step-ahead nests held (Seek what) k s fits going =
       seek-ahead input table held what k s fits.agrees fits.size fits.stands going
+  step-ahead nests held (LookIn slot) k s fits going =
+      look_in-ahead input table held slot k s fits.agrees fits.size fits.stands (slots_from table slot) refl (slots-below table nests slot) going
+  step-ahead nests held (LookBehind slot bit) k s fits going =
+      look_behind-ahead input table held slot k s fits.agrees fits.size fits.stands bit (slots_from table slot) refl (slots-below table nests slot) going
   step-ahead nests held (Leave end) [] s fits going = after_nothing input table [] (ended end s)
   step-ahead nests held (Leave end) (frame ∷ k) s fits going = leave-ahead nests held frame end k s

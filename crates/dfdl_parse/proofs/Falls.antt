@@ -5,14 +5,14 @@ use Rattle.dfdl_bits.specs.Window.{Held, end_of, from_byte, seen_at}
 use Rattle.dfdl_bits.specs.declared.window.Seen.{Seen}
 use Rattle.dfdl_bits.specs.declared.window.Seen.TheVariants.{Byte, End as DataEnded, NotYet, Over}
 use Rattle.dfdl_report.specs.declared.cause.LimitCause.TheVariants.{Nodes}
+use Rattle.dfdl_report.specs.declared.cause.ParseCause.{ParseCause}
 use Rattle.dfdl_report.specs.declared.cause.ParseCause.TheVariants.{LengthOutOfRange}
 use Rattle.dfdl_value.specs.declared.value.Value.{Value}
 use Rattle.dfdl_terms.specs.declared.delimiters.Delimiters.{Delimiters}
 use Rattle.dfdl_terms.specs.declared.row.Primitive.{Primitive}
-use Rattle.dfdl_report.specs.declared.cause.ParseCause.{ParseCause}
 use Rattle.dfdl_delims.specs.Longest.{Longest}
 use Rattle.dfdl_terms.specs.declared.row.Row.{Row}
-use Rattle.dfdl_terms.specs.declared.row.Row.TheVariants.{Leaf, Elem, Group, Skip, Align, Initiator, Terminator, Separator, Scope, Boxed, PrefixedLeaf, PrefixedBox, Repeat, Optional, Choice}
+use Rattle.dfdl_terms.specs.declared.row.Row.TheVariants.{Leaf, Elem, Group, Skip, Align, Initiator, Terminator, Separator, Scope, Boxed, PrefixedLeaf, PrefixedBox, Repeat, Optional, Choice, Test, Hidden, Separated}
 use Rattle.dfdl_terms.specs.Rows.{Table, Nests}
 use Rattle.dfdl_looks.specs.Asks.{Reached, Told, TooFar, Missing, Reading, ask}
 use Rattle.dfdl_looks.specs.Tallies.{Tally, needs_from, nothing, one_row, saw_byte}
@@ -20,7 +20,7 @@ use Rattle.dfdl_grammar.specs.declared.end.End.{End}
 use Rattle.dfdl_grammar.specs.declared.end.End.TheVariants.{Done, Failed, Stopped}
 use Rattle.dfdl_grammar.specs.declared.limits.Limits.{Limits}
 use Rattle.dfdl_grammar.specs.States.{Input, State, anchor, anchor_at}
-use Rattle.dfdl_grammar.specs.Marks.{back, closed, marked, pointed, stays_at}
+use Rattle.dfdl_grammar.specs.Marks.{back, closed, is_settled, marked, pointed, stays_at}
 use Rattle.dfdl_grammar.specs.Occurrences.{dropped}
 use Rattle.dfdl_grammar.specs.declared.mark.Mark.{Mark}
 use Rattle.dfdl_grammar.specs.declared.instead.Instead.{Instead}
@@ -34,52 +34,63 @@ use Rattle.dfdl_grammar.specs.Boxes.{boxed_at}
 use Rattle.dfdl_grammar.specs.Delimiters.{lists_of, markup, sought_among, stands_in}
 use Rattle.dfdl_grammar.specs.Elements.{begun, has_elements}
 use Rattle.dfdl_parse.specs.declared.frame.Frame.{Frame}
-use Rattle.dfdl_parse.specs.declared.frame.Frame.TheVariants.{Rest, Element, Box, Scope as ScopeFrame, Trial, Branch, Occurrence}
+use Rattle.dfdl_parse.specs.declared.frame.Frame.TheVariants.{Rest, Element, Box, Scope as ScopeFrame, Trial, Branch, Occurrence, Before, Content, Closing}
 use Rattle.dfdl_parse.specs.declared.frame.Outside.{Outside}
 use Rattle.dfdl_parse.specs.declared.frame.Next.{Next}
 use Rattle.dfdl_parse.specs.declared.frame.Next.TheVariants as next
 use Rattle.dfdl_parse.specs.declared.frame.Parts.{Parts}
 use Rattle.dfdl_parse.specs.declared.frame.Focus.{Focus}
-use Rattle.dfdl_parse.specs.declared.frame.Focus.TheVariants.{Enter, Pass, PassRest, Sized, Seek, Leave}
+use Rattle.dfdl_parse.specs.declared.frame.Focus.TheVariants.{Enter, Pass, PassRest, Sized, Seek, LookIn, LookBehind, Leave}
 use Rattle.dfdl_parse.specs.declared.frame.Behind.TheVariants as behind
 use Rattle.dfdl_parse.specs.Boxing.{back_outside, outside}
 use Rattle.dfdl_parse.specs.declared.frame.Sought.{Sought}
 use Rattle.dfdl_parse.specs.declared.frame.Sought.TheVariants as sought
-use Rattle.dfdl_parse.specs.Searches.{among, cause_of, found_text, is_cut, place_of}
+use Rattle.dfdl_parse.specs.Searches.{among, found_text, is_cut, place_of}
 use Rattle.dfdl_parse.specs.Moves.{Machine, Move, is_missing, landed, pass, read_leaf, read_move}
 use Rattle.dfdl_parse.specs.Prefixed.{at_end, behind_units, can_fit, landed_prefix, prefix_move, read_prefix, read_resized, read_sized, sized_begins, units_begin}
 use Rattle.dfdl_parse.specs.Machines.{HasEnded, children_of, enter, enter_group, fill_move, go_on, leave, rest_move, seen_beyond, step}
 use Rattle.dfdl_parse.specs.Trials.{attempt, parts_of, refused, retry, trial_done, try_empty, try_nil, try_normal, two_rows}
-use Rattle.dfdl_parse.specs.Points.{occurrence_done, try_branch, try_occurrence}
+use Rattle.dfdl_parse.specs.Points.{try_branch, try_occurrence}
+use Rattle.dfdl_parse.specs.Testing.{is_unknown, landed_test, read_test, verdict_in}
+use Rattle.dfdl_terms.specs.declared.asserting.PatternTest.{PatternTest}
+use Rattle.dfdl_texts.specs.Texts.{Text}
+use Rattle.dfdl_grammar.specs.Leaves.{text_sought}
 use Rattle.dfdl_parse.specs.Ahead.{ahead}
+use Rattle.dfdl_grammar.specs.Slots.{is_empty_at, separator_follows}
+use Rattle.dfdl_terms.specs.declared.slots.Slot.{Slot}
+use Rattle.dfdl_parse.specs.declared.frame.SlotPlace.{SlotPlace}
+use Rattle.dfdl_parse.specs.Slots.{content_ended, look_behind, look_in, occurs, separation_at, settled, slots_from, told_move}
+use Rattle.dfdl_parse.proofs.SlotComes.{Ways, closing-has, content_ended-has, done-has, failed-has, separated-has, settled-has}
 use Rattle.dfdl_parse.proofs.Finishes.{Fits}
 use Rattle.dfdl_parse.proofs.Ahead.{step-ahead}
 
 -- what is done next, besides the rows that are ahead
 abbrev pub mode : Focus → ℕ
 mode (Enter id) = 0
-mode (Pass to) = 2
-mode (PassRest bit outer) = 2
-mode (Sized prim size) = 2
-mode (Seek what) = 2
-mode (Leave end) = 1
+mode (Pass to) = 4
+mode (PassRest bit outer) = 4
+mode (Sized prim size) = 4
+mode (Seek what) = 4
+mode (LookIn slot) = 4
+mode (LookBehind slot bit) = 5
+mode (Leave end) = 3
 
 -- what is left to be done over some data
 abbrev pub measure : Input → Table → Machine → ℕ
-measure input table m = 4 * ((ahead input table m).tally.rows + (ahead input table m).tally.looks) + (2 * length m.stack + mode m.focus)
+measure input table m = 16 * ((ahead input table m).tally.rows + (ahead input table m).tally.looks) + (3 * length m.stack + mode m.focus)
 
 -- a step falls by its rows, its looks and the stack
 abbrev Falls : Focus → List Frame → Move → Type 0
-Falls focus k move = 2 * length move.machine.stack + mode move.machine.focus < 4 * (move.tally.rows + move.tally.looks) + (2 * length k + mode focus)
+Falls focus k move = 3 * length move.machine.stack + mode move.machine.focus < 16 * (move.tally.rows + move.tally.looks) + (3 * length k + mode focus)
 
 landed-falls : (limits : Limits) (focus : Focus) (first : ℕ) (reached : Reached Find) (k : List Frame) (s : State) → is_missing reached ≡ false
-    → 2 * length (landed limits focus first reached k s).stack + mode (landed limits focus first reached k s).focus ≡ 2 * length k + 1
+    → 3 * length (landed limits focus first reached k s).stack + mode (landed limits focus first reached k s).focus ≡ 3 * length k + 3
 landed-falls limits focus first (Told found) k s going = refl
 landed-falls limits focus first TooFar k s going = refl
 landed-falls limits focus first Missing k s going = absurd (cc)
 
 -- a leaf falls by its row, or from the focus in which it waits
-read-falls : (cost : Tally) (limits : Limits) (focus : Focus) (held : Held) (delimiters : List Delimiters) (nil : Option (List Value)) (primitive : Primitive) (k : List Frame) (s : State) → 1 < 4 * cost.rows + mode focus → (room : Bool)
+read-falls : (cost : Tally) (limits : Limits) (focus : Focus) (held : Held) (delimiters : List Delimiters) (nil : Option (List Value)) (primitive : Primitive) (k : List Frame) (s : State) → 3 < 16 * cost.rows + mode focus → (room : Bool)
     → let sight : Held = from_byte held (anchor s) in
     let move : Move = cond room
     (read_move cost limits focus (content_begins primitive s.at) sight (ask (seen_at sight) (program_for nil (lists_of delimiters (markup s)) primitive s.at s.stop) nothing) k s)
@@ -91,7 +102,7 @@ read-falls cost limits focus held delimiters nil primitive k s some true going =
     omega arith
 read-falls cost limits focus held delimiters nil primitive k s some false going = omega arith
 
-leaf-falls : (cost : Tally) (limits : Limits) (focus : Focus) (held : Held) (delimiters : List Delimiters) (nil : Option (List Value)) (primitive : Option Primitive) (k : List Frame) (s : State) → 1 < 4 * cost.rows + mode focus
+leaf-falls : (cost : Tally) (limits : Limits) (focus : Focus) (held : Held) (delimiters : List Delimiters) (nil : Option (List Value)) (primitive : Option Primitive) (k : List Frame) (s : State) → 3 < 16 * cost.rows + mode focus
     → (read_leaf cost limits focus held delimiters nil primitive k s).waits ≡ false → Falls focus k (read_leaf cost limits focus held delimiters nil primitive k s)
 leaf-falls cost limits focus held delimiters nil None k s some going = omega arith
 leaf-falls cost limits focus held delimiters nil (Some primitive) k s some going = read-falls cost limits focus held delimiters nil primitive k s some (has_room primitive s.at s.stop) going
@@ -108,29 +119,56 @@ sized-falls limits held prim size delimiters nil (Some primitive) k s going = re
 
 -- what is left of a machine besides its rows
 abbrev left_of : Machine → ℕ
-left_of m = 2 * length m.stack + mode m.focus
+left_of m = 3 * length m.stack + mode m.focus
+
+-- a step falls below a bound, by its rows and its looks
+abbrev HasFallen : ℕ → Move → Type 0
+HasFallen bound move = left_of move.machine < 16 * (move.tally.rows + move.tally.looks) + bound
+
+-- of any state
+abbrev Any : State → Type 0
+Any s = Unit {0}
+
+-- the steps of slots, where their cost is enough for what they put on the stack
+slot-ways : (cost : Tally) (held : Held) (k : List Frame) (bound : ℕ) → 3 * length k + 4 < 16 * (cost.rows + cost.looks) + bound
+    → Ways (HasFallen bound) Any cost held k
+slot-ways cost held k bound some = record {
+  leaves = λ end t any. omega arith;
+  looks = λ slot t any. omega arith;
+  enters = λ slot body bit empty t any. omega arith;
+  seeks = λ slot t any. omega arith;
+}
+
+-- and of those that have ended
+content-falls : (held : Held) (initiated : Bool) (k : List Frame) (slot : SlotPlace) (s : State) (bit : ℕ) (empty : Bool) (slots : List Slot) (moved : Bool)
+    (failure : Option ParseCause) (end : End)
+    → Falls (Leave end) (Content slot bit empty ∷ k) (content_ended held initiated slot bit empty slots moved failure end k s)
+content-falls held initiated k slot s bit empty slots moved failure end =
+    let bound : ℕ = 3 * length (Content slot bit empty ∷ k) + mode (Leave end) in
+    content_ended-has (HasFallen bound) Any held initiated k (λ here t any. tt) (slot-ways nothing held k bound (omega arith)) slot s tt (λ here. tt) (λ here. tt)
+    (record { closes = λ slot bit t any. omega arith; asks = λ slot bit t any. omega arith }) bit tt (λ here. tt) empty slots moved failure end
 
 -- what stands behind a prefix
-begun-falls : (prim : ℕ) (size : TextSize) (primitive : Option Primitive) (k : List Frame) (s : State) → left_of (sized_begins primitive prim size k s) ≤ 2 * length k + 2
+begun-falls : (prim : ℕ) (size : TextSize) (primitive : Option Primitive) (k : List Frame) (s : State) → left_of (sized_begins primitive prim size k s) ≤ 3 * length k + 4
 begun-falls prim size None k s = omega arith
 begun-falls prim size (Some primitive) k s = by (can_fit size s.at s.stop)
   where
-    by : (fits : Bool) → left_of (cond fits (record { focus = Sized prim size; stack = k; state = s }) (at_end (Failed LengthOutOfRange s.at) k s)) ≤ 2 * length k + 2
+    by : (fits : Bool) → left_of (cond fits (record { focus = Sized prim size; stack = k; state = s }) (at_end (Failed LengthOutOfRange s.at) k s)) ≤ 3 * length k + 4
     by true = omega arith
     by false = omega arith
 
 box-begun-falls : (bits body : ℕ) (k : List Frame) (s : State) (inside : Bool)
-    → left_of (cond inside (record { focus = Enter body; stack = Box (outside s) ∷ k; state = boxed_at (s.at + bits) s }) (at_end (Failed LengthOutOfRange s.at) k s)) ≤ 2 * length k + 2
+    → left_of (cond inside (record { focus = Enter body; stack = Box (outside s) ∷ k; state = boxed_at (s.at + bits) s }) (at_end (Failed LengthOutOfRange s.at) k s)) ≤ 3 * length k + 4
 box-begun-falls bits body k s true = omega arith
 box-begun-falls bits body k s false = omega arith
 
 module _ (limits : Limits) (delimiters : List Delimiters) (id own : ℕ) (next : ℕ → List Frame → State → Machine) (k : List Frame)
-    (few : (units : ℕ) (s : State) → left_of (next units k s) ≤ 2 * length k + 2) where
-  units-falls : (end : ℕ) (units : Option ℕ) (s : State) → left_of (units_begin end next units k s) ≤ 2 * length k + 2
+    (few : (units : ℕ) (s : State) → left_of (next units k s) ≤ 3 * length k + 4) where
+  units-falls : (end : ℕ) (units : Option ℕ) (s : State) → left_of (units_begin end next units k s) ≤ 3 * length k + 4
   units-falls end None s = omega arith
   units-falls end (Some units) s = few units (record s { at = end })
 
-  prefix-landed-falls : (first : ℕ) (reached : Reached Find) (s : State) → left_of (landed_prefix limits id own first next reached k s) ≤ 2 * length k + 2
+  prefix-landed-falls : (first : ℕ) (reached : Reached Find) (s : State) → left_of (landed_prefix limits id own first next reached k s) ≤ 3 * length k + 4
   prefix-landed-falls first (Told (Fails cause)) s = omega arith
   prefix-landed-falls first (Told (Finds content end)) s = units-falls end (units_told own content) s
   prefix-landed-falls first (Told (FindsOctets bytes end)) s = omega arith
@@ -155,18 +193,18 @@ module _ (limits : Limits) (delimiters : List Delimiters) (id own : ℕ) (next :
 
 -- one representation of an element, where its cost is enough for what it puts on the stack
 attempt-falls : (cost : Tally) (most : ℕ) (held : Held) (id : ℕ) (parts : Parts) (instead : Instead) (k : List Frame) (s : State) (bound : ℕ)
-    → 2 * length k + 2 < 4 * (cost.rows + cost.looks) + bound → (room : Bool)
+    → 3 * length k + 3 < 16 * (cost.rows + cost.looks) + bound → (room : Bool)
     → let move : Move = cond room
     (pass cost held (Enter parts.body) (Element s.inside parts.complex ∷ k) (begun id instead s))
     (pass cost held (Leave (Stopped Nodes most)) k s) in
-    left_of move.machine < 4 * (move.tally.rows + move.tally.looks) + bound
+    left_of move.machine < 16 * (move.tally.rows + move.tally.looks) + bound
 attempt-falls cost most held id parts instead k s bound some true = omega arith
 attempt-falls cost most held id parts instead k s bound some false = omega arith
 
 module _ (cost : Tally) (most : ℕ) (held : Held) (id : ℕ) (parts : Parts) (k : List Frame) (s : State) (bound : ℕ)
-    (some : 2 * length k + 4 < 4 * (cost.rows + cost.looks) + bound) where
+    (some : 3 * length k + 6 < 16 * (cost.rows + cost.looks) + bound) where
   abbrev HasLess : Move → Type 0
-  HasLess move = left_of move.machine < 4 * (move.tally.rows + move.tally.looks) + bound
+  HasLess move = left_of move.machine < 16 * (move.tally.rows + move.tally.looks) + bound
 
   normal-falls : HasLess (try_normal cost most held id parts k s)
   normal-falls = attempt-falls cost most held id parts Nothing (Trial id next.Nothing ∷ k) s bound (omega arith) (nat_lt (length s.nodes) most)
@@ -182,15 +220,15 @@ module _ (cost : Tally) (most : ℕ) (held : Held) (id : ℕ) (parts : Parts) (k
 element-falls : (most : ℕ) (held : Held) (id : ℕ) (parts : Parts) (k : List Frame) (s : State) (several : Bool)
     → Falls (Enter id) k (cond several
     (try_nil two_rows most held id parts parts.tried.nil k (marked s)) (attempt two_rows most held id parts Nothing k s))
-element-falls most held id parts k s true = nil-falls two_rows most held id parts k (marked s) (2 * length k + mode (Enter id)) (omega arith) parts.tried.nil
-element-falls most held id parts k s false = attempt-falls two_rows most held id parts Nothing k s (2 * length k + mode (Enter id)) (omega arith) (nat_lt (length s.nodes) most)
+element-falls most held id parts k s true = nil-falls two_rows most held id parts k (marked s) (3 * length k + mode (Enter id)) (omega arith) parts.tried.nil
+element-falls most held id parts k s false = attempt-falls two_rows most held id parts Nothing k s (3 * length k + mode (Enter id)) (omega arith) (nat_lt (length s.nodes) most)
 
 retry-falls : (most : ℕ) (held : Held) (id : ℕ) (parts : Option Parts) (follows : Next) (end : End) (k : List Frame) (s : State)
     → Falls (Leave end) (Trial id follows ∷ k) (retry most held id parts follows end k s)
 retry-falls most held id None follows end k s = omega arith
 retry-falls most held id (Some parts) next.Empty end k s =
-    empty-falls one_row most held id parts k (back s) (2 * length (Trial id next.Empty ∷ k) + mode (Leave end)) (omega arith) parts.tried.empty
-retry-falls most held id (Some parts) next.Normal end k s = normal-falls one_row most held id parts k (back s) (2 * length (Trial id next.Normal ∷ k) + mode (Leave end)) (omega arith)
+    empty-falls one_row most held id parts k (back s) (3 * length (Trial id next.Empty ∷ k) + mode (Leave end)) (omega arith) parts.tried.empty
+retry-falls most held id (Some parts) next.Normal end k s = normal-falls one_row most held id parts k (back s) (3 * length (Trial id next.Normal ∷ k) + mode (Leave end)) (omega arith)
 retry-falls most held id (Some parts) next.Nothing end k s = omega arith
 
 -- a representation that is done
@@ -212,32 +250,53 @@ done-falls held id (Some parts) next.Nothing k s = omega arith
 
 -- a branch, where its cost is enough for what it puts on the stack
 branch-falls : (cost : Tally) (held : Held) (id place : ℕ) (child : Option ℕ) (k : List Frame) (s : State) (bound : ℕ)
-    → 2 * length k + 2 < 4 * (cost.rows + cost.looks) + bound
+    → 3 * length k + 3 < 16 * (cost.rows + cost.looks) + bound
     → left_of (try_branch cost held id place child k s).machine
-    < 4 * ((try_branch cost held id place child k s).tally.rows + (try_branch cost held id place child k s).tally.looks) + bound
+    < 16 * ((try_branch cost held id place child k s).tally.rows + (try_branch cost held id place child k s).tally.looks) + bound
 branch-falls cost held id place None k s bound some = omega arith
 branch-falls cost held id place (Some child) k s bound some = omega arith
 
 -- the same of an occurrence
-begun-occurrence-falls : (cost : Tally) (held : Held) (body left : ℕ) (k : List Frame) (s : State) (bound : ℕ)
-    → 2 * length k + 2 < 4 * (cost.rows + cost.looks) + bound → (none : Bool)
-    → let move : Move = cond none (pass cost held (Leave Done) k s) (pass cost held (Enter body) (Occurrence body (left - 1) ∷ k) (pointed s)) in
-    left_of move.machine < 4 * (move.tally.rows + move.tally.looks) + bound
-begun-occurrence-falls cost held body left k s bound some true = omega arith
-begun-occurrence-falls cost held body left k s bound some false = omega arith
+begun-occurrence-falls : (cost : Tally) (held : Held) (body : ℕ) (initiated : Bool) (left : ℕ) (k : List Frame) (s : State) (bound : ℕ)
+    → 3 * length k + 3 < 16 * (cost.rows + cost.looks) + bound → (none : Bool)
+    → let move : Move = cond none (pass cost held (Leave Done) k s) (pass cost held (Enter body) (Occurrence body initiated (left - 1) ∷ k) (pointed initiated s)) in
+    left_of move.machine < 16 * (move.tally.rows + move.tally.looks) + bound
+begun-occurrence-falls cost held body initiated left k s bound some true = omega arith
+begun-occurrence-falls cost held body initiated left k s bound some false = omega arith
 
-occurrence-falls : (cost : Tally) (held : Held) (body left : ℕ) (k : List Frame) (s : State) (bound : ℕ)
-    → 2 * length k + 2 < 4 * (cost.rows + cost.looks) + bound
-    → left_of (try_occurrence cost held body left k s).machine
-    < 4 * ((try_occurrence cost held body left k s).tally.rows + (try_occurrence cost held body left k s).tally.looks) + bound
-occurrence-falls cost held body left k s bound some = begun-occurrence-falls cost held body left k s bound some (nat_eq left 0)
+occurrence-falls : (cost : Tally) (held : Held) (body : ℕ) (initiated : Bool) (left : ℕ) (k : List Frame) (s : State) (bound : ℕ)
+    → 3 * length k + 3 < 16 * (cost.rows + cost.looks) + bound
+    → left_of (try_occurrence cost held body initiated left k s).machine
+    < 16 * ((try_occurrence cost held body initiated left k s).tally.rows + (try_occurrence cost held body initiated left k s).tally.looks) + bound
+occurrence-falls cost held body initiated left k s bound some = begun-occurrence-falls cost held body initiated left k s bound some (nat_eq left 0)
 
-passed-falls : (held : Held) (body left : ℕ) (k : List Frame) (s : State) (stays : Bool)
-    → Falls (Leave Done) (Occurrence body left ∷ k)
-    (cond stays (pass nothing held (Leave Done) k (dropped s)) (try_occurrence nothing held body left k (closed s)))
-passed-falls held body left k s true = omega arith
-passed-falls held body left k s false =
-    occurrence-falls nothing held body left k (closed s) (2 * length (Occurrence body left ∷ k) + mode (Leave Done)) (omega arith)
+-- what has failed at a point that is resolved, or not
+failed-falls : (held : Held) (frame : Frame) (end : End) (k : List Frame) (s : State) (other : Move) → Falls (Leave end) (frame ∷ k) other → (settled : Bool)
+    → Falls (Leave end) (frame ∷ k) (cond settled (pass nothing held (Leave end) k (closed s)) other)
+failed-falls held frame end k s other falls true = omega arith
+failed-falls held frame end k s other falls false = falls
+
+-- a test
+verdict-falls : (limits : Limits) (focus : Focus) (test : PatternTest) (number : ℕ) (reached : Reached Bool) (k : List Frame) (s : State) → is_unknown reached ≡ false
+    → left_of (landed_test limits focus test number reached k s) ≡ 3 * length k + 3
+verdict-falls limits focus test number (Told holds) k s going = refl
+verdict-falls limits focus test number TooFar k s going = refl
+verdict-falls limits focus test number Missing k s going = absurd (cc)
+
+test-falls : (limits : Limits) (held : Held) (id number : ℕ) (test : Option PatternTest) (k : List Frame) (s : State)
+    → (read_test one_row limits (Enter id) held number test k s).waits ≡ false → Falls (Enter id) k (read_test one_row limits (Enter id) held number test k s)
+test-falls limits held id number None k s going = omega arith
+test-falls limits held id number (Some test) k s going =
+    let here : Reading Text = ask (seen_at (from_byte held (anchor s))) (text_sought test.form (aligned 8 s.at) s.stop) nothing in
+    let falls = verdict-falls limits (Enter id) test number (verdict_in test.form here.reached) k s going in
+    omega arith
+
+passed-falls : (held : Held) (body : ℕ) (initiated : Bool) (left : ℕ) (k : List Frame) (s : State) (stays : Bool)
+    → Falls (Leave Done) (Occurrence body initiated left ∷ k)
+    (cond stays (pass nothing held (Leave Done) k (dropped s)) (try_occurrence nothing held body initiated left k (closed s)))
+passed-falls held body initiated left k s true = omega arith
+passed-falls held body initiated left k s false =
+    occurrence-falls nothing held body initiated left k (closed s) (3 * length (Occurrence body initiated left ∷ k) + mode (Leave Done)) (omega arith)
 
 -- a delimiter falls by its row, and then from the focus in which it waits
 delimiter-falls : (held : Held) (id : ℕ) (what : Sought) (k : List Frame) (s : State) (does_stand : Bool)
@@ -245,11 +304,11 @@ delimiter-falls : (held : Held) (id : ℕ) (what : Sought) (k : List Frame) (s :
 delimiter-falls held id what k s true = omega arith
 delimiter-falls held id what k s false = omega arith
 
-text-falls : (window : ℕ) (focus : Focus) (cause : ParseCause) (place : ℕ) (reached : Reached Longest) (k : List Frame) (s : State) → is_cut reached ≡ false
-    → 2 * length (found_text window focus cause place reached k s).stack + mode (found_text window focus cause place reached k s).focus ≡ 2 * length k + 1
-text-falls window focus cause place (Told found) k s going = refl
-text-falls window focus cause place TooFar k s going = refl
-text-falls window focus cause place Missing k s going = absurd (cc)
+text-falls : (window : ℕ) (focus : Focus) (what : Sought) (place : ℕ) (reached : Reached Longest) (k : List Frame) (s : State) → is_cut reached ≡ false
+    → 3 * length (found_text window focus what place reached k s).stack + mode (found_text window focus what place reached k s).focus ≡ 3 * length k + 3
+text-falls window focus what place (Told found) k s going = refl
+text-falls window focus what place TooFar k s going = refl
+text-falls window focus what place Missing k s going = absurd (cc)
 
 group-falls : (held : Held) (id : ℕ) (children : List ℕ) (k : List Frame) (s : State) → Falls (Enter id) k (enter_group held id children k s)
 group-falls held id [] k s = omega arith
@@ -313,14 +372,19 @@ enter-falls limits table held id (Some (PrefixedLeaf prefix prim)) k s going =
     (λ units after. begun-falls (read_by table.primitives s.instead prim) (size_of prefix.unit units) (slice_get table.primitives (read_by table.primitives s.instead prim)) k after)
     held (slice_get table.primitives prefix.prim) s
 enter-falls limits table held id (Some (Repeat count body)) k s going = group-falls held id (replicate count body) k s
-enter-falls limits table held id (Some (Optional most item body)) k s going =
-    occurrence-falls one_row held body most k s (2 * length k + mode (Enter id)) (omega arith)
-enter-falls limits table held id (Some (Choice rows)) k s going =
-    branch-falls one_row held id 0 (slice_get rows 0) k (pointed s) (2 * length k + mode (Enter id)) (omega arith)
+enter-falls limits table held id (Some (Optional most item initiated body)) k s going =
+    occurrence-falls one_row held body initiated most k s (3 * length k + mode (Enter id)) (omega arith)
+enter-falls limits table held id (Some (Choice rows initiated)) k s going =
+    branch-falls one_row held id 0 (slice_get rows 0) k (pointed initiated s) (3 * length k + mode (Enter id)) (omega arith)
 enter-falls limits table held id (Some (PrefixedBox prefix body)) k s going =
     prefix-falls limits table.delimiters id prefix.own (behind_units table.primitives prefix.unit (behind.Box body)) k
     (λ units after. box-begun-falls (bits_of_units prefix.unit units) body k after (nat_le (after.at + bits_of_units prefix.unit units) after.stop))
     held (slice_get table.primitives prefix.prim) s
+enter-falls limits table held id (Some (Test test)) k s going = test-falls limits held id test (slice_get table.tests test) k s going
+enter-falls limits table held id (Some (Hidden body)) k s going = omega arith
+enter-falls limits table held id (Some (Separated policy position initiated slots)) k s going =
+    separated-has (HasFallen (3 * length k + mode (Enter id))) Any held initiated k (λ here t any. tt)
+    (slot-ways one_row held k (3 * length k + mode (Enter id)) (omega arith)) id policy position slots s tt
 
 go-falls : (held : Held) (id next : ℕ) (child : Option ℕ) (k : List Frame) (s : State) → Falls (Leave Done) (Rest id next ∷ k) (go_on held id next child k s)
 go-falls held id next None k s = omega arith
@@ -340,11 +404,71 @@ leave-falls limits table held (Trial id next) (Failed cause bit) k s =
     retry-falls limits.nodes held id (parts_of (slice_get table.rows id)) next (Failed cause bit) k s
 leave-falls limits table held (Branch id next) Done k s = omega arith
 leave-falls limits table held (Branch id next) (Failed cause bit) k s =
-    branch-falls nothing held id next (slice_get (children_of (slice_get table.rows id)) next) k (back s)
-    (2 * length (Branch id next ∷ k) + mode (Leave (Failed cause bit))) (omega arith)
-leave-falls limits table held (Occurrence body left) Done k s = passed-falls held body left k s (stays_at s.marks s.at)
-leave-falls limits table held (Occurrence body left) (Failed cause bit) k s = omega arith
+    failed-falls held (Branch id next) (Failed cause bit) k s (try_branch nothing held id next (slice_get (children_of (slice_get table.rows id)) next) k (back s))
+    (branch-falls nothing held id next (slice_get (children_of (slice_get table.rows id)) next) k (back s)
+    (3 * length (Branch id next ∷ k) + mode (Leave (Failed cause bit))) (omega arith)) (is_settled s.marks)
+leave-falls limits table held (Occurrence body initiated left) Done k s = passed-falls held body initiated left k s (stays_at s.marks s.at)
+leave-falls limits table held (Occurrence body initiated left) (Failed cause bit) k s =
+    failed-falls held (Occurrence body initiated left) (Failed cause bit) k s (pass nothing held (Leave Done) k (dropped s)) (omega arith) (is_settled s.marks)
+leave-falls limits table held (Before slot) Done k s =
+    let bound : ℕ = 3 * length (Before slot ∷ k) + mode (Leave Done) in
+    done-has (HasFallen bound) Any held false k (λ here t any. tt) (slot-ways nothing held k bound (omega arith)) slot s tt (λ here. tt) (slots_from table slot)
+leave-falls limits table held (Before slot) (Failed cause bit) k s =
+    let bound : ℕ = 3 * length (Before slot ∷ k) + mode (Leave (Failed cause bit)) in
+    failed-has (HasFallen bound) Any held (separation_at table slot).initiated k (λ here t any. tt) (slot-ways nothing held k bound (omega arith))
+    slot s tt (λ here. tt) (λ here. tt) (slots_from table slot) (Failed cause bit)
+leave-falls limits table held (Content slot bit empty) Done k s =
+    content-falls held (separation_at table slot).initiated k slot s bit empty (slots_from table slot) (nat_lt bit s.at) None Done
+leave-falls limits table held (Content slot bit empty) (Failed cause at) k s =
+    content-falls held (separation_at table slot).initiated k slot s bit empty (slots_from table slot) false (Some cause) (Failed cause at)
+leave-falls limits table held (Closing slot bit) Done k s =
+    let bound : ℕ = 3 * length (Closing slot bit ∷ k) + mode (Leave Done) in
+    closing-has (HasFallen bound) Any held (separation_at table slot).initiated k (λ here t any. tt) (slot-ways nothing held k bound (omega arith))
+    slot s tt (λ here. tt) (λ here. tt) bit (slots_from table slot) true Done
+leave-falls limits table held (Closing slot bit) (Failed cause at) k s =
+    let bound : ℕ = 3 * length (Closing slot bit ∷ k) + mode (Leave (Failed cause at)) in
+    closing-has (HasFallen bound) Any held (separation_at table slot).initiated k (λ here t any. tt) (slot-ways nothing held k bound (omega arith))
+    slot s tt (λ here. tt) (λ here. tt) bit (slots_from table slot) false (Failed cause at)
 leave-falls limits table held frame (Stopped cause quantity) k s = omega arith
+
+-- a question of a slot falls from the focus in which it waits
+in-falls : (limits : Limits) (sight : Held) (initiated : Bool) (slot : SlotPlace) (body : ℕ) (cost : Tally) (reached : Reached Bool) (k : List Frame) (s : State)
+    → (told_move limits (LookIn slot) sight cost (occurs cost sight initiated slot body k s) reached k s).waits ≡ false
+    → Falls (LookIn slot) k (told_move limits (LookIn slot) sight cost (occurs cost sight initiated slot body k s) reached k s)
+in-falls limits sight initiated slot body cost (Told empty) k s going = omega arith
+in-falls limits sight initiated slot body cost TooFar k s going = omega arith
+in-falls limits sight initiated slot body cost Missing k s going = absurd (cc)
+
+look_in-falls : (limits : Limits) (delimiters : List Delimiters) (held : Held) (initiated : Bool) (slot : SlotPlace) (slots : List Slot) (k : List Frame) (s : State)
+    → (look_in limits delimiters held initiated slot slots k s).waits ≡ false → Falls (LookIn slot) k (look_in limits delimiters held initiated slot slots k s)
+look_in-falls limits delimiters held initiated slot [] k s going =
+    omega arith
+look_in-falls limits delimiters held initiated slot (own ∷ slots) k s going =
+    let sight : Held = from_byte held (anchor s) in
+    let reading : Reading Bool = ask (seen_at sight) (is_empty_at (lists_of delimiters (markup s)) s.at s.stop) nothing in
+    in-falls limits sight initiated slot own.body (needs_from sight.base reading.tally) reading.reached k s going
+
+behind-falls : (limits : Limits) (sight : Held) (initiated : Bool) (slot : SlotPlace) (bit : ℕ) (own : Slot) (slots : List Slot) (cost : Tally)
+    (reached : Reached Bool) (k : List Frame) (s : State)
+    → (told_move limits (LookBehind slot bit) sight cost (λ found. settled cost sight initiated slot bit own slots found Done k s) reached k s).waits ≡ false
+    → Falls (LookBehind slot bit) k
+    (told_move limits (LookBehind slot bit) sight cost (λ found. settled cost sight initiated slot bit own slots found Done k s) reached k s)
+behind-falls limits sight initiated slot bit own slots cost (Told found) k s going =
+    let bound : ℕ = 3 * length k + mode (LookBehind slot bit) in
+    settled-has (HasFallen bound) Any sight initiated k (λ here t any. tt) cost (slot-ways cost sight k bound (omega arith)) slot bit own slots found Done s tt
+    (λ here. tt) (λ here. tt)
+behind-falls limits sight initiated slot bit own slots cost TooFar k s going = omega arith
+behind-falls limits sight initiated slot bit own slots cost Missing k s going = absurd (cc)
+
+look_behind-falls : (limits : Limits) (delimiters : List Delimiters) (held : Held) (initiated : Bool) (slot : SlotPlace) (bit : ℕ) (slots : List Slot)
+    (k : List Frame) (s : State) → (look_behind limits delimiters held initiated slot bit slots k s).waits ≡ false
+    → Falls (LookBehind slot bit) k (look_behind limits delimiters held initiated slot bit slots k s)
+look_behind-falls limits delimiters held initiated slot bit [] k s going = omega arith
+look_behind-falls limits delimiters held initiated slot bit (own ∷ slots) k s going =
+    let sight : Held = from_byte held (anchor s) in
+    let reading : Reading Bool =
+    ask (seen_at sight) (separator_follows (lists_of delimiters (markup s)) (length (markup s) - 1) s.at s.stop) nothing in
+    behind-falls limits sight initiated slot bit own slots (needs_from sight.base reading.tally) reading.reached k s going
 
 step-falls : (limits : Limits) (table : Table) (held : Held) (focus : Focus) (k : List Frame) (s : State) → (HasEnded focus k → ⊥)
     → (step limits table held focus k s).waits ≡ false → Falls focus k (step limits table held focus k s)
@@ -358,8 +482,12 @@ step-falls limits table held (Pass to) k s on going =
 step-falls limits table held (Sized prim size) k s on going = sized-falls limits held prim size table.delimiters (nil_values table.primitives s.instead) (slice_get table.primitives prim) k s going
 step-falls limits table held (Seek what) k s on going =
     let here : Reading Longest = ask (seen_at (from_byte held (anchor_at s (aligned 8 s.at)))) (sought_among (among table.delimiters what s) s.at s.stop) nothing in
-    let falls = text-falls limits.window (Seek what) (cause_of what) (place_of what s) here.reached k s going in
+    let falls = text-falls limits.window (Seek what) what (place_of what s) here.reached k s going in
     omega arith
+step-falls limits table held (LookIn slot) k s on going =
+    look_in-falls limits table.delimiters held (separation_at table slot).initiated slot (slots_from table slot) k s going
+step-falls limits table held (LookBehind slot bit) k s on going =
+    look_behind-falls limits table.delimiters held (separation_at table slot).initiated slot bit (slots_from table slot) k s going
 step-falls limits table held (Leave end) [] s on going = absurd (on refl)
 step-falls limits table held (Leave end) (frame ∷ k) s on going = leave-falls limits table held frame end k s
 
@@ -375,8 +503,8 @@ smaller input table nests held focus k s fits on going =
     let looks = ap (λ (o : Outcome). o.tally.looks) does in
     grow (ahead input table move.machine).tally.rows move.tally.rows (ahead input table (record { focus = focus; stack = k; state = s })).tally.rows
     (ahead input table move.machine).tally.looks move.tally.looks (ahead input table (record { focus = focus; stack = k; state = s })).tally.looks
-    (2 * length move.machine.stack + mode move.machine.focus) (2 * length k + mode focus) falls rows looks
+    (3 * length move.machine.stack + mode move.machine.focus) (3 * length k + mode focus) falls rows looks
   where
-    grow : (left made all further seen whole small large : ℕ) → small < 4 * (made + seen) + large → all ≡ made + left → whole ≡ seen + further
-        → 4 * (left + further) + small < 4 * (all + whole) + large
+    grow : (left made all further seen whole small large : ℕ) → small < 16 * (made + seen) + large → all ≡ made + left → whole ≡ seen + further
+        → 16 * (left + further) + small < 16 * (all + whole) + large
     grow left made all further seen whole small large falls rows looks = omega arith

@@ -17,23 +17,26 @@ use Rattle.dfdl_grammar.specs.States.{Input, State, anchor, anchor_at}
 use Rattle.dfdl_grammar.specs.Outcomes.{Outcome, ended, spend, then_do}
 use Rattle.dfdl_grammar.specs.Leaves.{Find, Fails, Finds, FindsOctets, FindsText, land}
 use Rattle.dfdl_grammar.specs.Boxes.{rest, unboxed}
-use Rattle.dfdl_grammar.specs.Marks.{back, closed, stays_at}
-use Rattle.dfdl_grammar.specs.Choices.{branches}
+use Rattle.dfdl_grammar.specs.Marks.{back, closed, is_settled, stays_at}
+use Rattle.dfdl_grammar.specs.Choices.{branches, or_branch}
 use Rattle.dfdl_grammar.specs.Occurrences.{after_occurrence, dropped, occurrences}
 use Rattle.dfdl_grammar.specs.Representations.{after_empty, or_else, refuse, refused_among, the_last, then_empty, then_normal}
 use Rattle.dfdl_grammar.specs.Rows.{below, group, meaning}
 use Rattle.dfdl_grammar.proofs.Spending.{spend-nothing, spend-spend, follow-spend, close-spend}
 use Rattle.dfdl_parse.specs.declared.frame.Frame.{Frame}
-use Rattle.dfdl_parse.specs.declared.frame.Frame.TheVariants.{Rest, Element, Box, Scope as ScopeFrame, Trial, Branch, Occurrence}
+use Rattle.dfdl_parse.specs.declared.frame.Frame.TheVariants.{Rest, Element, Box, Scope as ScopeFrame, Trial, Branch, Occurrence, Before, Content, Closing}
 use Rattle.dfdl_parse.specs.declared.frame.Next.{Next}
 use Rattle.dfdl_parse.specs.declared.frame.Next.TheVariants as next
 use Rattle.dfdl_parse.specs.declared.frame.Parts.{Parts}
 use Rattle.dfdl_parse.specs.declared.frame.Focus.{Focus}
-use Rattle.dfdl_parse.specs.declared.frame.Focus.TheVariants.{Enter, Pass, PassRest, Sized, Seek, Leave}
+use Rattle.dfdl_parse.specs.declared.frame.Focus.TheVariants.{Enter, Pass, PassRest, Sized, Seek, LookIn, LookBehind, Leave}
 use Rattle.dfdl_parse.specs.Moves.{Move, is_missing}
 use Rattle.dfdl_parse.specs.Machines.{children_of}
 use Rattle.dfdl_parse.specs.Trials.{parts_of}
+use Rattle.dfdl_parse.specs.Slots.{slots_from}
+use Rattle.dfdl_parse.specs.SlotsAhead.{sequence_of}
 use Rattle.dfdl_parse.specs.Ahead.{resume, retried, trial_of, finish, ahead}
+use Rattle.dfdl_parse.proofs.SlotMoves.{before_slot-spend, closing_slot-spend, content_slot-spend}
 
 -- the window holds the bytes that a row at this state needs
 pub record Anchored (held : Held) (s : State) : Type 0 where
@@ -48,6 +51,8 @@ Stands held (Pass to) s = (held.base ≤ anchor_at s (to - 1)) × (anchor_at s (
 Stands held (PassRest bit outer) s = (held.base ≤ anchor_at s (8 * (bit / 8))) × ((bit < s.stop) × (anchor_at s (8 * (bit / 8)) ≤ bit / 8))
 Stands held (Sized prim size) s = Anchored held s
 Stands held (Seek what) s = Anchored held (record s { at = aligned 8 s.at })
+Stands held (LookIn slot) s = Anchored held s
+Stands held (LookBehind slot bit) s = Anchored held s
 Stands held (Leave end) s = Unit {0}
 
 -- the window shows the data at this state: it agrees with them, has the size of the limit, and holds the bytes that are needed
@@ -105,6 +110,18 @@ else-spend Done t o next = refl
 else-spend (Failed cause bit) t o next = sym (spend-spend t o.tally (next (back o.state)))
 else-spend (Stopped cause quantity) t o next = refl
 
+-- and in a branch
+settled-spend : (t : Tally) (o : Outcome) (next : State → Outcome) (settled : Bool)
+    → cond settled (record (spend t o) { state = closed o.state }) (spend (spend t o).tally (next (back o.state)))
+    ≡ spend t (cond settled (record o { state = closed o.state }) (spend o.tally (next (back o.state))))
+settled-spend t o next true = refl
+settled-spend t o next false = sym (spend-spend t o.tally (next (back o.state)))
+
+branch-spend : (end : End) (t : Tally) (o : Outcome) (next : State → Outcome) → or_branch end (spend t o) next ≡ spend t (or_branch end o next)
+branch-spend Done t o next = refl
+branch-spend (Failed cause bit) t o next = settled-spend t o next (is_settled o.state.marks)
+branch-spend (Stopped cause quantity) t o next = refl
+
 -- and in an empty representation that is refused
 refused-spend : (marks : List Mark) (t : Tally) (o : Outcome) → refused_among marks (spend t o) ≡ spend t (refused_among marks o)
 refused-spend [] t o = refl
@@ -126,9 +143,15 @@ stayed-spend : (t : Tally) (o : Outcome) (next : State → Outcome) (stays : Boo
 stayed-spend t o next true = refl
 stayed-spend t o next false = sym (spend-spend t o.tally (next (closed o.state)))
 
+lost-spend : (t : Tally) (o : Outcome) (settled : Bool)
+    → cond settled (record (spend t o) { state = closed o.state }) (record (spend t o) { end = Done; state = dropped o.state })
+    ≡ spend t (cond settled (record o { state = closed o.state }) (record o { end = Done; state = dropped o.state }))
+lost-spend t o true = refl
+lost-spend t o false = refl
+
 occurrence-spend : (end : End) (t : Tally) (o : Outcome) (next : State → Outcome) → after_occurrence end (spend t o) next ≡ spend t (after_occurrence end o next)
 occurrence-spend Done t o next = stayed-spend t o next (stays_at o.state.marks o.state.at)
-occurrence-spend (Failed cause bit) t o next = refl
+occurrence-spend (Failed cause bit) t o next = lost-spend t o (is_settled o.state.marks)
 occurrence-spend (Stopped cause quantity) t o next = refl
 
 module _ (input : Input) (table : Table) where
@@ -147,8 +170,11 @@ module _ (input : Input) (table : Table) where
       ∙ unboxed-spend (then_do o (rest input)).end t outer.stop outer.hidden (then_do o (rest input))
   resume-spend (ScopeFrame count) t o = unscoped-spend o.end t count o
   resume-spend (Trial id next) t o = retried-spend id (parts_of (slice_get table.rows id)) next t o
-  resume-spend (Branch id next) t o = else-spend o.end t o (branches (below input table id) (drop next (children_of (slice_get table.rows id))))
-  resume-spend (Occurrence body left) t o = occurrence-spend o.end t o (occurrences (meaning input table body) left)
+  resume-spend (Branch id next) t o = branch-spend o.end t o (branches (below input table id) (drop next (children_of (slice_get table.rows id))))
+  resume-spend (Occurrence body initiated left) t o = occurrence-spend o.end t o (occurrences (meaning input table body) initiated left)
+  resume-spend (Before slot) t o = before_slot-spend (sequence_of input table slot.sequence) slot (slots_from table slot) t o
+  resume-spend (Content slot bit empty) t o = content_slot-spend (sequence_of input table slot.sequence) slot bit empty (slots_from table slot) t o
+  resume-spend (Closing slot bit) t o = closing_slot-spend (sequence_of input table slot.sequence) slot bit (slots_from table slot) t o
 
   pub finish-spend : (k : List Frame) (t : Tally) (o : Outcome) → finish input table k (spend t o) ≡ spend t (finish input table k o)
   unfolding finish

@@ -9,7 +9,7 @@ use Rattle.dfdl_terms.specs.declared.prefix.LengthUnit.{LengthUnit}
 use Rattle.dfdl_value.specs.declared.value.Value.{Value}
 use Rattle.dfdl_terms.specs.declared.row.Primitive.{Primitive}
 use Rattle.dfdl_terms.specs.declared.row.Row.{Row}
-use Rattle.dfdl_terms.specs.declared.row.Row.TheVariants.{Leaf, Boxed, Scope}
+use Rattle.dfdl_terms.specs.declared.row.Row.TheVariants.{Leaf, Boxed, Scope, Separated, Test}
 use Rattle.dfdl_terms.specs.declared.text.TextSize.{TextSize}
 use Rattle.dfdl_terms.specs.Rows.{Table}
 use Rattle.dfdl_looks.specs.Asks.{Ask, ask}
@@ -31,9 +31,14 @@ use Rattle.dfdl_parse.specs.declared.frame.Behind.TheVariants as behind
 use Rattle.dfdl_parse.specs.declared.parser.Parser.{Parser}
 use Rattle.dfdl_parse.specs.declared.frame.Sought.{Sought}
 use Rattle.dfdl_parse.specs.Moves.{Move, pass, read_leaf}
-use Rattle.dfdl_parse.specs.Searches.{among, cause_of, place_of, search, search_move}
+use Rattle.dfdl_parse.specs.Searches.{among, place_of, search, search_move}
 use Rattle.dfdl_parse.specs.Machines.{enter, enter_box}
+use Rattle.dfdl_parse.specs.Testing.{read_test}
 use Rattle.dfdl_parse.specs.Prefixed.{behind_units, box_begins, read_resized, read_sized, sized_begins}
+use Rattle.dfdl_separators.specs.declared.policy.SeparatorPosition.{SeparatorPosition}
+use Rattle.dfdl_separators.specs.declared.policy.SeparatorSuppressionPolicy.{SeparatorSuppressionPolicy}
+use Rattle.dfdl_terms.specs.declared.slots.Slot.{Slot}
+use Rattle.dfdl_parse.specs.Slots.{enter_separated}
 use Rattle.dfdl_parse.specs.Steps.{Moved}
 use Rattle.dfdl_parse.specs.Shown.{Becomes, HasSameLimits, limits_of, shown, state_of}
 
@@ -48,6 +53,15 @@ moved-at old mid new begins first held there waited looks move same at is moved 
     let two : Moved (move (record old { scratch = mid.scratch; candidates = mid.candidates }) begins there) waited old.far new there looks =
     subst (λ (n : ℕ). Moved (move (record old { scratch = mid.scratch; candidates = mid.candidates }) n there) waited old.far new there looks) at one in
     subst (λ (h : Held). Moved (move (record old { scratch = mid.scratch; candidates = mid.candidates }) begins h) waited old.far new there looks) is two
+
+-- the same of a step that differs in what it has read, over the window that the clause speaks of
+pub asked-moved : (old mid new : Parser) (held there : Held) (waited : Bool) (looks : ℕ) (move : Parser → Held → Move)
+    → mid ≡ record old { scratch = mid.scratch } → there ≡ held → Moved (move mid there) waited mid.far new there looks
+    → Moved (move (record old { scratch = mid.scratch }) held) waited old.far new there looks
+asked-moved old mid new held there waited looks move same is moved =
+    let one : Moved (move (record old { scratch = mid.scratch }) there) waited old.far new there looks =
+    subst (λ (p : Parser). Moved (move p there) waited p.far new there looks) same moved in
+    subst (λ (h : Held). Moved (move (record old { scratch = mid.scratch }) h) waited old.far new there looks) is one
 
 -- a leaf that has the size that was told
 pub sized-moved : (limits : Limits) (held : Held) (delimiters : List Delimiters) (nil : Option (List Value)) (focus : Focus) (prim : ℕ) (size : TextSize) (primitives : List Primitive) (first primitive : Primitive) (k : List Frame) (s : State)
@@ -118,6 +132,15 @@ module _ (limits : Limits) (table : Table) (held : Held) (id : ℕ) (r : Row) (k
       (subst (λ (f : Focus). Moved (read_leaf one_row limits f held table.delimiters (nil_values table.primitives s.instead)
       (slice_get table.primitives (read_by table.primitives s.instead prim)) k s) waited far new now_held looks) enters moved)
 
+  -- a test is entered
+  pub test-entered : (focus : Focus) (number : ℕ) (waited : Bool) (now_held : Held) (looks : ℕ) → r ≡ Test number → focus ≡ Enter id
+      → Moved (read_test one_row limits focus held number (slice_get table.tests number) k s) waited far new now_held looks
+      → Moved (enter limits table held id (slice_get table.rows id) k s) waited far new now_held looks
+  test-entered focus number waited now_held looks is enters moved =
+      let row_is : slice_get table.rows id ≡ Some (Test number) = at ∙ ap (λ (x : Row). Some x) is in
+      subst (λ (o : Option Row). Moved (enter limits table held id o k s) waited far new now_held looks) (sym row_is)
+      (subst (λ (f : Focus). Moved (read_test one_row limits f held number (slice_get table.tests number) k s) waited far new now_held looks) enters moved)
+
   -- a box is entered
   pub box-entered : (bits body looks : ℕ) → r ≡ Boxed bits body → looks ≡ 0
       → Moved (enter_box held bits body k s) false far new held 0 → Moved (enter limits table held id (slice_get table.rows id) k s) false far new held looks
@@ -135,18 +158,28 @@ module _ (limits : Limits) (table : Table) (held : Held) (id : ℕ) (r : Row) (k
       subst (λ (o : Option Row). Moved (enter limits table held id o k s) false far new held looks) (sym row_is)
       (subst (λ (n : ℕ). Moved (pass one_row held (Enter body) (ScopeFrame (length s.lists) ∷ k) (opens list s)) false far new held n) (sym none) moved)
 
+  -- a sequence with separators is entered
+  pub separated-entered : (policy : SeparatorSuppressionPolicy) (position : SeparatorPosition) (initiated : Bool) (slots : List Slot) (looks : ℕ)
+      → r ≡ Separated policy position initiated slots → looks ≡ 0
+      → Moved (enter_separated held id policy position initiated slots k s) false far new held 0
+      → Moved (enter limits table held id (slice_get table.rows id) k s) false far new held looks
+  separated-entered policy position initiated slots looks is none moved =
+      let row_is : slice_get table.rows id ≡ Some (Separated policy position initiated slots) = at ∙ ap (λ (x : Row). Some x) is in
+      subst (λ (o : Option Row). Moved (enter limits table held id o k s) false far new held looks) (sym row_is)
+      (subst (λ (n : ℕ). Moved (enter_separated held id policy position initiated slots k s) false far new held n) (sym none) moved)
+
 -- a text is sought, over the window and at the state that the clause speaks of
 pub sought-moved : (old mid new : Parser) (delimiters : List Delimiters) (held there : Held) (what : Sought) (waited : Bool) (looks : ℕ)
     → mid ≡ record old { candidates = mid.candidates } → there ≡ from_byte held (anchor_at (state_of old) (aligned 8 old.at)) → old.focus ≡ Seek what
-    → Moved (search_move there.size mid.focus (cause_of what) (place_of what (state_of mid)) there
+    → Moved (search_move there.size mid.focus what (place_of what (state_of mid)) there
     (ask (seen_at there) (sought_among (among delimiters what (state_of old)) old.at old.stop) nothing) mid.stack (state_of mid)) waited mid.far new there looks
     → Moved (search (limits_of old held) delimiters held what old.stack (state_of old)) waited old.far new there looks
 sought-moved old mid new delimiters held there what waited looks same is seeks moved =
     let s : State = state_of old in
     let asks : Ask Longest = sought_among (among delimiters what s) old.at old.stop in
-    let one : Moved (search_move there.size old.focus (cause_of what) (place_of what s) there (ask (seen_at there) asks nothing) old.stack s) waited old.far new there looks =
-    subst (λ (p : Parser). Moved (search_move there.size p.focus (cause_of what) (place_of what (state_of p)) there
+    let one : Moved (search_move there.size old.focus what (place_of what s) there (ask (seen_at there) asks nothing) old.stack s) waited old.far new there looks =
+    subst (λ (p : Parser). Moved (search_move there.size p.focus what (place_of what (state_of p)) there
     (ask (seen_at there) asks nothing) p.stack (state_of p)) waited p.far new there looks) same moved in
-    let two : Moved (search_move there.size (Seek what) (cause_of what) (place_of what s) there (ask (seen_at there) asks nothing) old.stack s) waited old.far new there looks =
-    subst (λ (f : Focus). Moved (search_move there.size f (cause_of what) (place_of what s) there (ask (seen_at there) asks nothing) old.stack s) waited old.far new there looks) seeks one in
-    subst (λ (h : Held). Moved (search_move h.size (Seek what) (cause_of what) (place_of what s) h (ask (seen_at h) asks nothing) old.stack s) waited old.far new there looks) is two
+    let two : Moved (search_move there.size (Seek what) what (place_of what s) there (ask (seen_at there) asks nothing) old.stack s) waited old.far new there looks =
+    subst (λ (f : Focus). Moved (search_move there.size f what (place_of what s) there (ask (seen_at there) asks nothing) old.stack s) waited old.far new there looks) seeks one in
+    subst (λ (h : Held). Moved (search_move h.size (Seek what) what (place_of what s) h (ask (seen_at h) asks nothing) old.stack s) waited old.far new there looks) is two

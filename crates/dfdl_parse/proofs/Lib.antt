@@ -1,5 +1,7 @@
 pub mod Windows
 pub mod Opens
+pub mod Innermost
+pub mod Resolved
 pub mod Beyond
 pub mod Ends
 pub mod Leaves
@@ -20,6 +22,19 @@ pub mod SeekLies
 pub mod SeekSteps
 pub mod LeafSteps
 pub mod PointSteps
+pub mod SlotMoves
+pub mod SlotRows
+pub mod SlotAsks
+pub mod SlotSteps
+pub mod SlotComes
+pub mod SlotGlances
+pub mod SlotTakes
+pub mod SlotVerdicts
+pub mod SlotLows
+pub mod SlotBacks
+pub mod SlotCloses
+pub mod SlotBegins
+pub mod TestSteps
 pub mod Ahead
 pub mod Falls
 pub mod Advances

@@ -1,5 +1,5 @@
 -- A step leaves the bytes that are needed behind it.
-use Rattle.std.proofs.Common.{◌≡◌, ℕ, suc, ap, sym, ◌∙◌, ◌+◌, ◌-◌, ◌*◌, ◌/◌, ◌<◌, ◌≤◌, min, nat_eq, nat_le, nat_lt, ◌&&◌, refl, subst, List, [], ◌∷◌, length, Bool, true, false, cond, Option, Some, None, arith, replicate}
+use Rattle.std.proofs.Common.{◌≡◌, ℕ, ap, sym, ◌∙◌, ◌+◌, ◌-◌, ◌*◌, ◌/◌, ◌<◌, ◌≤◌, min, nat_eq, nat_le, nat_lt, ◌&&◌, refl, subst, List, [], ◌∷◌, length, map, Bool, true, false, cond, Option, Some, None, arith, replicate}
 use Rattle.std.specs.Prelude.{slice_get}
 use Rattle.std.proofs.lemmas.Bool.Decides.{nat_tests}
 use Rattle.dfdl_bits.specs.Window.{Held, end_of, from_byte, seen_at}
@@ -7,13 +7,13 @@ use Rattle.dfdl_bits.specs.declared.window.Seen.{Seen}
 use Rattle.dfdl_bits.specs.declared.window.Seen.TheVariants.{Byte, End as DataEnded, NotYet, Over}
 use Rattle.dfdl_report.specs.declared.cause.ParseCause.{ParseCause}
 use Rattle.dfdl_report.specs.declared.cause.ParseCause.TheVariants.{LengthOutOfRange}
-use Rattle.dfdl_report.specs.declared.cause.LimitCause.TheVariants.{Nodes, Text as TextLimit}
+use Rattle.dfdl_report.specs.declared.cause.LimitCause.TheVariants.{Nodes, Text as TextLimit, Window}
 use Rattle.dfdl_value.specs.declared.value.Value.{Value}
 use Rattle.dfdl_terms.specs.declared.delimiters.Delimiters.{Delimiters}
 use Rattle.dfdl_terms.specs.declared.row.Primitive.{Primitive}
 use Rattle.dfdl_delims.specs.Longest.{Longest, Text, NoText}
 use Rattle.dfdl_terms.specs.declared.row.Row.{Row}
-use Rattle.dfdl_terms.specs.declared.row.Row.TheVariants.{Leaf, Elem, Group, Skip, Align, Initiator, Terminator, Separator, Scope, Boxed, PrefixedLeaf, PrefixedBox, Repeat, Optional, Choice}
+use Rattle.dfdl_terms.specs.declared.row.Row.TheVariants.{Leaf, Elem, Group, Skip, Align, Initiator, Terminator, Separator, Scope, Boxed, PrefixedLeaf, PrefixedBox, Repeat, Optional, Choice, Test, Hidden, Separated}
 use Rattle.dfdl_terms.specs.Rows.{Table}
 use Rattle.dfdl_looks.specs.Asks.{Reached, Told, TooFar, Missing, ask}
 use Rattle.dfdl_looks.specs.Tallies.{Tally, needs_from, nothing, one_row, saw_byte}
@@ -22,26 +22,26 @@ use Rattle.dfdl_grammar.specs.declared.end.End.TheVariants.{Done, Failed, Stoppe
 use Rattle.dfdl_grammar.specs.declared.limits.Limits.{Limits}
 use Rattle.dfdl_grammar.specs.Outcomes.{Outcome, ended}
 use Rattle.dfdl_grammar.specs.States.{State, anchor, anchor_at}
-use Rattle.dfdl_grammar.specs.Marks.{back, closed, mark_at, marked, point_at, pointed, stays_at}
+use Rattle.dfdl_grammar.specs.Marks.{back, closed, is_settled, mark_at, marked, point_at, pointed, resolved, stays_at}
 use Rattle.dfdl_grammar.specs.Occurrences.{dropped}
 use Rattle.dfdl_grammar.specs.declared.mark.Mark.{Mark}
 use Rattle.dfdl_grammar.specs.declared.instead.Instead.{Instead}
 use Rattle.dfdl_grammar.specs.declared.instead.Instead.TheVariants.{Nothing, Nil, Empty}
 use Rattle.dfdl_terms.specs.declared.text.TextSize.{TextSize}
 use Rattle.dfdl_grammar.specs.Prefixes.{bits_of_units, resized, size_of, units_told}
-use Rattle.dfdl_grammar.specs.Leaves.{Find, Fails, Finds, FindsOctets, FindsText, content_begins, has_room, nil_values, program, program_for, read_by}
+use Rattle.dfdl_grammar.specs.Leaves.{Find, Fails, Finds, FindsOctets, FindsText, content_begins, has_room, nil_values, program, program_for, read_by, text_sought}
 use Rattle.dfdl_grammar.specs.Framing.{aligned}
 use Rattle.dfdl_grammar.specs.Boxes.{boxed_at}
-use Rattle.dfdl_grammar.specs.Delimiters.{lists_of, markup, opens, sought_among, stands_in}
+use Rattle.dfdl_grammar.specs.Delimiters.{lists_of, markup, opens, passed_text, sought_among, stands_in}
 use Rattle.dfdl_grammar.specs.Elements.{begun, has_elements}
 use Rattle.dfdl_parse.specs.declared.frame.Frame.{Frame}
-use Rattle.dfdl_parse.specs.declared.frame.Frame.TheVariants.{Rest, Element, Box, Scope as ScopeFrame, Trial, Branch, Occurrence}
+use Rattle.dfdl_parse.specs.declared.frame.Frame.TheVariants.{Rest, Element, Box, Scope as ScopeFrame, Trial, Branch, Occurrence, Before, Content, Closing}
 use Rattle.dfdl_parse.specs.declared.frame.Outside.{Outside}
 use Rattle.dfdl_parse.specs.declared.frame.Next.{Next}
 use Rattle.dfdl_parse.specs.declared.frame.Next.TheVariants as next
 use Rattle.dfdl_parse.specs.declared.frame.Parts.{Parts}
 use Rattle.dfdl_parse.specs.declared.frame.Focus.{Focus}
-use Rattle.dfdl_parse.specs.declared.frame.Focus.TheVariants.{Enter, Pass, PassRest, Sized, Seek, Leave}
+use Rattle.dfdl_parse.specs.declared.frame.Focus.TheVariants.{Enter, Pass, PassRest, Sized, Seek, LookIn, LookBehind, Leave}
 use Rattle.dfdl_parse.specs.declared.frame.Behind.TheVariants as behind
 use Rattle.dfdl_parse.specs.Boxing.{back_outside, outside}
 use Rattle.dfdl_parse.specs.declared.frame.Sought.{Sought}
@@ -50,13 +50,25 @@ use Rattle.dfdl_parse.specs.Searches.{among, cause_of, found_text, place_of}
 use Rattle.dfdl_parse.specs.Moves.{Machine, Move, landed, pass, read_leaf, read_move}
 use Rattle.dfdl_parse.specs.Prefixed.{at_end, behind_units, can_fit, landed_prefix, prefix_move, read_prefix, read_resized, read_sized, sized_begins, units_begin}
 use Rattle.dfdl_parse.specs.Machines.{children_of, enter, enter_group, fill, fill_move, go_on, leave, pass_rest, rest_move, seen_beyond, step}
-use Rattle.dfdl_parse.specs.Opens.{AreOpen, IsHeld, NeedsBehind, NeedsFrom, marks_of}
+use Rattle.dfdl_parse.specs.Opens.{AreOpen, IsHeld, NeedsBehind, NeedsFrom, points_of}
 use Rattle.dfdl_parse.specs.Trials.{attempt, parts_of, refused, retry, trial_done, try_empty, try_nil, try_normal, two_rows}
 use Rattle.dfdl_parse.specs.Points.{try_branch, try_occurrence}
+use Rattle.dfdl_parse.specs.Testing.{landed_test, read_test, verdict_in}
+use Rattle.dfdl_parse.proofs.Resolved.{sought-comes, tested-comes}
+use Rattle.dfdl_terms.specs.declared.asserting.PatternTest.{PatternTest}
 use Rattle.dfdl_parse.proofs.Beyond.{beyond-byte}
-use Rattle.dfdl_parse.proofs.Opens.{IsMarked, back-closed, back-open, closed-open, later, lower, mark-open, risen}
+use Rattle.dfdl_parse.proofs.Opens.{IsMarked, back-closed, back-open, closed-open, later, lower, mark-back-open, mark-open, resolved-open, risen, some-mark, stayed-closed}
 use Rattle.dfdl_parse.proofs.Texts.{EndsBehind, program_for-ends}
+use Rattle.dfdl_parse.specs.Slots.{separation_at, slots_from}
+use Rattle.dfdl_parse.proofs.SlotLows.{separated-low}
+use Rattle.dfdl_parse.proofs.SlotBacks.{content-low}
+use Rattle.dfdl_parse.proofs.SlotCloses.{closing_done-low, closing_failed-low}
+use Rattle.dfdl_parse.proofs.SlotBegins.{before_done-low, before_failed-low, look_behind-low, look_in-low}
 use Rattle.dfdl_parse.proofs.Finishes.{Anchored, Stands}
+
+-- no bit was passed over
+not-moved : (bit at : ℕ) → nat_lt bit at ≡ false → at ≤ bit
+not-moved bit at is = grind (arith, nat_tests)
 
 -- the bytes that are needed behind a step are held
 abbrev IsLow : Move → Type 0
@@ -146,13 +158,38 @@ one-text-low : (cause : ParseCause) (bits low : ℕ) (k : List Frame) (s : State
 one-text-low cause bits low k s base opens true = (omega arith, later low s.at (aligned 8 s.at + bits) k s.marks (omega arith) opens)
 one-text-low cause bits low k s base opens false = opens
 
+-- the bytes that are needed behind an end, and where a point is resolved then
+abbrev LowBehind : ℕ → List Frame → End → State → Type 0
+LowBehind low k end s = NeedsBehind low end k s
+
+resolved-low : (low : ℕ) (k : List Frame) (s : State) → LowBehind low k Done s → LowBehind low k Done (resolved s)
+resolved-low low k s needs = (needs.0, resolved-open low s.at k s.marks needs.1)
+
 text-low : (window : ℕ) (what : Sought) (low : ℕ) (reached : Reached Longest) (k : List Frame) (s : State) → low ≤ aligned 8 s.at / 8 → AreOpen low s.at k s.marks
-    → IsLowFrom low (found_text window (Seek what) (cause_of what) (place_of what s) reached k s)
+    → IsLowFrom low (found_text window (Seek what) what (place_of what s) reached k s)
 text-low window what low (Told (Text which bits)) k s base opens =
-    one-text-low (cause_of what) bits low k s base opens (nat_eq which (place_of what s) && nat_lt 0 bits)
-text-low window what low (Told NoText) k s base opens = opens
-text-low window what low TooFar k s base opens = tt
+    sought-comes (LowBehind low k) (resolved-low low k) what (passed_text (cause_of what) (place_of what s) window (Told (Text which bits)) s)
+    (one-text-low (cause_of what) bits low k s base opens (nat_eq which (place_of what s) && nat_lt 0 bits))
+text-low window what low (Told NoText) k s base opens =
+    sought-comes (LowBehind low k) (resolved-low low k) what (ended (Failed (cause_of what) s.at) s) opens
+text-low window what low TooFar k s base opens = sought-comes (LowBehind low k) (resolved-low low k) what (ended (Stopped Window window) s) tt
 text-low window what low Missing k s base opens = (base, opens)
+
+-- a test
+verdict-low : (limits : Limits) (id number low : ℕ) (test : PatternTest) (reached : Reached Bool) (k : List Frame) (s : State) → low ≤ s.at / 8 → AreOpen low s.at k s.marks
+    → IsLowFrom low (landed_test limits (Enter id) test number reached k s)
+verdict-low limits id number low test (Told holds) k s is opens =
+    tested-comes (LowBehind low k) (resolved-low low k) test number holds s (is, opens) opens
+verdict-low limits id number low test TooFar k s is opens = tt
+verdict-low limits id number low test Missing k s is opens = (is, opens)
+
+test-low : (limits : Limits) (held : Held) (id number : ℕ) (test : Option PatternTest) (k : List Frame) (s : State) → Anchored held s → held.base ≤ s.at / 8
+    → AreOpen held.base s.at k s.marks → IsLow (read_test one_row limits (Enter id) held number test k s)
+test-low limits held id number None k s stands low opens = (low, opens)
+test-low limits held id number (Some test) k s stands low opens =
+    verdict-low limits id number (anchor s) test
+    (verdict_in test.form (ask (seen_at (from_byte held (anchor s))) (text_sought test.form (aligned 8 s.at) s.stop) nothing).reached) k s stands.low
+    (risen held.base s.at s.at k s.marks opens)
 
 -- one representation of an element
 attempt-low : (cost : Tally) (most : ℕ) (held : Held) (id : ℕ) (parts : Parts) (instead : Instead) (k : List Frame) (s : State)
@@ -163,11 +200,11 @@ attempt-low : (cost : Tally) (most : ℕ) (held : Held) (id : ℕ) (parts : Part
 attempt-low cost most held id parts instead k s low opens true = (low, opens)
 attempt-low cost most held id parts instead k s low opens false = tt
 
--- the bytes from a mark on are held, for what is tried from it
-abbrev IsTried : ℕ → List Frame → State → Type 0
-IsTried base k s = (base ≤ s.at / 8) × IsMarked base s.at k s.marks
+-- the bytes from a mark on are held, for what is tried from it, where it is a point or none
+abbrev IsTried : Bool → ℕ → List Frame → State → Type 0
+IsTried point base k s = (base ≤ s.at / 8) × IsMarked point base s.at k s.marks
 
-module _ (cost : Tally) (most : ℕ) (held : Held) (id : ℕ) (parts : Parts) (k : List Frame) (s : State) (opens : IsTried held.base k s) where
+module _ (cost : Tally) (most : ℕ) (held : Held) (id : ℕ) (parts : Parts) (k : List Frame) (s : State) (opens : IsTried false held.base k s) where
   normal-low : IsLow (try_normal cost most held id parts k s)
   normal-low = attempt-low cost most held id parts Nothing (Trial id next.Nothing ∷ k) s opens.0 opens.1 (nat_lt (length s.nodes) most)
 
@@ -180,39 +217,54 @@ module _ (cost : Tally) (most : ℕ) (held : Held) (id : ℕ) (parts : Parts) (k
   nil-low (Some prim) = attempt-low cost most held id parts (Nil prim) (Trial id next.Empty ∷ k) s opens.0 opens.1 (nat_lt (length s.nodes) most)
 
 -- a mark that is opened here
-opened : (base : ℕ) (k : List Frame) (s : State) → base ≤ s.at / 8 → AreOpen base s.at k s.marks → IsTried base k (marked s)
+opened : (base : ℕ) (k : List Frame) (s : State) → base ≤ s.at / 8 → AreOpen base s.at k s.marks → IsTried false base k (marked s)
 opened base k s low opens = (low, mark-open base k s (mark_at s) refl refl low opens)
 
 -- a point that is opened here
-point-opened : (base : ℕ) (k : List Frame) (s : State) → base ≤ s.at / 8 → AreOpen base s.at k s.marks → IsTried base k (pointed s)
-point-opened base k s low opens = (low, mark-open base k s (point_at s) refl refl low opens)
+point-opened : (base : ℕ) (initiated : Bool) (k : List Frame) (s : State) → base ≤ s.at / 8 → AreOpen base s.at k s.marks
+    → IsTried true base k (pointed initiated s)
+point-opened base initiated k s low opens = (low, mark-open base k s (point_at initiated s) refl refl low opens)
 
 -- a branch of a choice
-branch-low : (cost : Tally) (held : Held) (id place : ℕ) (child : Option ℕ) (k : List Frame) (s : State) → IsTried held.base k s
+branch-low : (cost : Tally) (held : Held) (id place : ℕ) (child : Option ℕ) (k : List Frame) (s : State) → IsTried true held.base k s
     → IsLow (try_branch cost held id place child k s)
-branch-low cost held id place None k s opens = closed-open held.base s.at k s.marks opens.1
+branch-low cost held id place None k s opens = closed-open true held.base s.at k s.marks opens.1
 branch-low cost held id place (Some child) k s opens = opens
 
--- an occurrence
-occurrence-low : (cost : Tally) (held : Held) (body left : ℕ) (k : List Frame) (s : State) → held.base ≤ s.at / 8 → AreOpen held.base s.at k s.marks → (none : Bool)
-    → IsLow (cond none (pass cost held (Leave Done) k s) (pass cost held (Enter body) (Occurrence body (left - 1) ∷ k) (pointed s)))
-occurrence-low cost held body left k s low opens true = (low, opens)
-occurrence-low cost held body left k s low opens false = point-opened held.base k s low opens
+branch-failed-low : (held : Held) (id place : ℕ) (child : Option ℕ) (cause : ParseCause) (bit : ℕ) (k : List Frame) (s : State) → IsMarked true held.base s.at k s.marks
+    → (settled : Bool) → is_settled s.marks ≡ settled
+    → IsLow (cond settled (pass nothing held (Leave (Failed cause bit)) k (closed s)) (try_branch nothing held id place child k (back s)))
+branch-failed-low held id place child cause bit k s opens true is = closed-open true held.base s.at k s.marks opens
+branch-failed-low held id place child cause bit k s opens false is =
+    branch-low nothing held id place child k (back s) (back-open true held.base k s opens is)
 
-passed-low : (held : Held) (body left : ℕ) (k : List Frame) (s : State) → held.base ≤ s.at / 8 → IsMarked held.base s.at k s.marks → (stays : Bool)
-    → IsLow (cond stays (pass nothing held (Leave Done) k (dropped s)) (try_occurrence nothing held body left k (closed s)))
-passed-low held body left k s low opens true = back-closed held.base k s opens
-passed-low held body left k s low opens false =
-    occurrence-low nothing held body left k (closed s) low (closed-open held.base s.at k s.marks opens) (nat_eq left 0)
+-- an occurrence
+occurrence-low : (cost : Tally) (held : Held) (body : ℕ) (initiated : Bool) (left : ℕ) (k : List Frame) (s : State) → held.base ≤ s.at / 8 → AreOpen held.base s.at k s.marks → (none : Bool)
+    → IsLow (cond none (pass cost held (Leave Done) k s) (pass cost held (Enter body) (Occurrence body initiated (left - 1) ∷ k) (pointed initiated s)))
+occurrence-low cost held body initiated left k s low opens true = (low, opens)
+occurrence-low cost held body initiated left k s low opens false = point-opened held.base initiated k s low opens
+
+passed-low : (held : Held) (body : ℕ) (initiated : Bool) (left : ℕ) (k : List Frame) (s : State) → held.base ≤ s.at / 8 → IsMarked true held.base s.at k s.marks → (stays : Bool)
+    → stays_at s.marks s.at ≡ stays
+    → IsLow (cond stays (pass nothing held (Leave Done) k (dropped s)) (try_occurrence nothing held body initiated left k (closed s)))
+passed-low held body initiated left k s low opens true is = stayed-closed true held.base k s opens low is
+passed-low held body initiated left k s low opens false is =
+    occurrence-low nothing held body initiated left k (closed s) low (closed-open true held.base s.at k s.marks opens) (nat_eq left 0)
+
+occurrence-failed-low : (held : Held) (cause : ParseCause) (bit : ℕ) (k : List Frame) (s : State) → IsMarked true held.base s.at k s.marks
+    → (settled : Bool) → is_settled s.marks ≡ settled
+    → IsLow (cond settled (pass nothing held (Leave (Failed cause bit)) k (closed s)) (pass nothing held (Leave Done) k (dropped s)))
+occurrence-failed-low held cause bit k s opens true is = closed-open true held.base s.at k s.marks opens
+occurrence-failed-low held cause bit k s opens false is = back-closed true held.base k s opens is
 
 retry-low : (most : ℕ) (held : Held) (id : ℕ) (parts : Option Parts) (follows : Next) (cause : ParseCause) (bit : ℕ) (k : List Frame) (s : State)
     → AreOpen held.base s.at (Trial id follows ∷ k) s.marks → IsLow (retry most held id parts follows (Failed cause bit) k s)
-retry-low most held id None follows cause bit k s opens = closed-open held.base s.at k s.marks opens
+retry-low most held id None follows cause bit k s opens = closed-open false held.base s.at k s.marks opens
 retry-low most held id (Some parts) next.Empty cause bit k s opens =
-    empty-low one_row most held id parts k (back s) (back-open held.base k s opens) parts.tried.empty
+    empty-low one_row most held id parts k (back s) (mark-back-open held.base k s opens) parts.tried.empty
 retry-low most held id (Some parts) next.Normal cause bit k s opens =
-    normal-low one_row most held id parts k (back s) (back-open held.base k s opens)
-retry-low most held id (Some parts) next.Nothing cause bit k s opens = closed-open held.base s.at k s.marks opens
+    normal-low one_row most held id parts k (back s) (mark-back-open held.base k s opens)
+retry-low most held id (Some parts) next.Nothing cause bit k s opens = closed-open false held.base s.at k s.marks opens
 
 module _ (held : Held) (s : State) where
   read-low : (cost : Tally) (limits : Limits) (focus : Focus) (delimiters : List Delimiters) (nil : Option (List Value)) (primitive : Primitive) (k : List Frame) → Anchored held s → NeedsFrom (anchor s) focus k s
@@ -281,21 +333,20 @@ module _ (held : Held) (s : State) where
   refused-low : (id : ℕ) (follows : Next) (marks : List Mark) (k : List Frame) → s.marks ≡ marks → AreOpen held.base s.at (Trial id follows ∷ k) s.marks
       → IsLow (refused marks held k s)
   refused-low id follows [] k is opens =
-      let none : 0 ≡ suc (marks_of k) = ap (λ (ms : List Mark). length ms) (sym is) ∙ opens.0 in
-      absurd (omega arith)
-  refused-low id follows (mark ∷ outer) k is opens = closed-open held.base s.at k s.marks opens
+      some-mark false (points_of k) (ap (λ (ms : List Mark). map (λ mark. mark.is_point) ms) (sym is) ∙ opens.0.0)
+  refused-low id follows (mark ∷ outer) k is opens = closed-open false held.base s.at k s.marks opens
 
   empty-found-low : (id : ℕ) (follows : Next) (refuses : Bool) (k : List Frame) → held.base ≤ s.at / 8 → AreOpen held.base s.at (Trial id follows ∷ k) s.marks
       → IsLow (cond refuses (refused s.marks held k s) (pass nothing held (Leave Done) k (closed s)))
   empty-found-low id follows true k low opens = refused-low id follows s.marks k refl opens
-  empty-found-low id follows false k low opens = (low, closed-open held.base s.at k s.marks opens)
+  empty-found-low id follows false k low opens = (low, closed-open false held.base s.at k s.marks opens)
 
   done-low : (id : ℕ) (parts : Option Parts) (follows : Next) (k : List Frame) → held.base ≤ s.at / 8 → AreOpen held.base s.at (Trial id follows ∷ k) s.marks
       → IsLow (trial_done held parts follows k s)
-  done-low id None follows k low opens = (low, closed-open held.base s.at k s.marks opens)
-  done-low id (Some parts) next.Empty k low opens = (low, closed-open held.base s.at k s.marks opens)
+  done-low id None follows k low opens = (low, closed-open false held.base s.at k s.marks opens)
+  done-low id (Some parts) next.Empty k low opens = (low, closed-open false held.base s.at k s.marks opens)
   done-low id (Some parts) next.Normal k low opens = empty-found-low id next.Normal parts.tried.refuses_empty k low opens
-  done-low id (Some parts) next.Nothing k low opens = (low, closed-open held.base s.at k s.marks opens)
+  done-low id (Some parts) next.Nothing k low opens = (low, closed-open false held.base s.at k s.marks opens)
 
   -- a delimiter begins
   delimiter-low : (what : Sought) (k : List Frame) → held.base ≤ s.at / 8 → AreOpen held.base s.at k s.marks → (does_stand : Bool)
@@ -326,12 +377,16 @@ module _ (held : Held) (s : State) where
       prefix-low limits table.delimiters id prefix.own (behind_units table.primitives prefix.unit (behind.Leaf by)) (slice_get table.primitives prefix.prim) k stands opens
       (λ units after is still. sized-low (anchor s) by (size_of prefix.unit units) (slice_get table.primitives by) k after is still)
   enter-low limits table id (Some (Repeat count body)) k stands low opens = group-low id (replicate count body) k low opens
-  enter-low limits table id (Some (Optional most item body)) k stands low opens = occurrence-low one_row held body most k s low opens (nat_eq most 0)
-  enter-low limits table id (Some (Choice rows)) k stands low opens =
-      branch-low one_row held id 0 (slice_get rows 0) k (pointed s) (point-opened held.base k s low opens)
+  enter-low limits table id (Some (Optional most item initiated body)) k stands low opens = occurrence-low one_row held body initiated most k s low opens (nat_eq most 0)
+  enter-low limits table id (Some (Choice rows initiated)) k stands low opens =
+      branch-low one_row held id 0 (slice_get rows 0) k (pointed initiated s) (point-opened held.base initiated k s low opens)
   enter-low limits table id (Some (PrefixedBox prefix body)) k stands low opens =
       prefix-low limits table.delimiters id prefix.own (behind_units table.primitives prefix.unit (behind.Box body)) (slice_get table.primitives prefix.prim) k stands opens
       (λ units after is still. box-begun-low (anchor s) (bits_of_units prefix.unit units) body k after is still (nat_le (after.at + bits_of_units prefix.unit units) after.stop))
+  enter-low limits table id (Some (Test test)) k stands low opens = test-low limits held id test (slice_get table.tests test) k s stands low opens
+  enter-low limits table id (Some (Hidden body)) k stands low opens = (low, opens)
+  enter-low limits table id (Some (Separated policy position initiated slots)) k stands low opens =
+      separated-low held initiated k s low opens id policy position slots
 
   go-low : (id next : ℕ) (child : Option ℕ) (k : List Frame) → held.base ≤ s.at / 8 → AreOpen held.base s.at k s.marks → IsLow (go_on held id next child k s)
   go-low id next None k low opens = (low, opens)
@@ -355,11 +410,27 @@ module _ (held : Held) (s : State) where
   leave-low limits table (Trial id next) Done k needs = done-low id (parts_of (slice_get table.rows id)) next k needs.0 needs.1
   leave-low limits table (Trial id next) (Failed cause bit) k needs =
       retry-low limits.nodes held id (parts_of (slice_get table.rows id)) next cause bit k s needs
-  leave-low limits table (Branch id next) Done k needs = (needs.0, closed-open held.base s.at k s.marks needs.1)
+  leave-low limits table (Branch id next) Done k needs = (needs.0, closed-open true held.base s.at k s.marks needs.1)
   leave-low limits table (Branch id next) (Failed cause bit) k needs =
-      branch-low nothing held id next (slice_get (children_of (slice_get table.rows id)) next) k (back s) (back-open held.base k s needs)
-  leave-low limits table (Occurrence body left) Done k needs = passed-low held body left k s needs.0 needs.1 (stays_at s.marks s.at)
-  leave-low limits table (Occurrence body left) (Failed cause bit) k needs = back-closed held.base k s needs
+      branch-failed-low held id next (slice_get (children_of (slice_get table.rows id)) next) cause bit k s needs (is_settled s.marks) refl
+  leave-low limits table (Occurrence body initiated left) Done k needs = passed-low held body initiated left k s needs.0 needs.1 (stays_at s.marks s.at) refl
+  leave-low limits table (Occurrence body initiated left) (Failed cause bit) k needs =
+      occurrence-failed-low held cause bit k s needs (is_settled s.marks) refl
+  leave-low limits table (Before slot) Done k needs =
+      before_done-low held slot k s (record { such = needs.1.0; lies = needs.1.1.1 }) needs.1.1.0.0 needs.0 (slots_from table slot)
+  leave-low limits table (Before slot) (Failed cause bit) k needs =
+      before_failed-low held slot k s (record { such = needs.0; lies = needs.1.1 }) (separation_at table slot).initiated needs.1.0.0 needs.1.0.1 cause bit
+      (slots_from table slot)
+  leave-low limits table (Content slot bit empty) Done k needs =
+      content-low held (separation_at table slot).initiated slot bit empty k s needs.1.1.0 (record { such = needs.1.0; lies = needs.1.1.1 }) (nat_lt bit s.at) Done
+      (λ none. needs.0) (λ none unmoved. not-moved bit s.at unmoved) (slots_from table slot)
+  leave-low limits table (Content slot bit empty) (Failed cause at) k needs =
+      content-low held (separation_at table slot).initiated slot bit empty k s needs.1.0 (record { such = needs.0; lies = needs.1.1 }) false (Failed cause at)
+      (λ none. absurd (cc)) (λ none unmoved. absurd (cc)) (slots_from table slot)
+  leave-low limits table (Closing slot bit) Done k needs =
+      closing_done-low held (separation_at table slot).initiated slot bit k s needs.1.1.0 (record { such = needs.1.0; lies = needs.1.1.1 }) needs.0 (slots_from table slot)
+  leave-low limits table (Closing slot bit) (Failed cause at) k needs =
+      closing_failed-low held (separation_at table slot).initiated slot bit k s needs.1.0 (record { such = needs.0; lies = needs.1.1 }) cause at (slots_from table slot)
   leave-low limits table frame (Stopped cause quantity) k needs = tt
 
   -- the bytes before the first one that is needed at a bit are given up, as far as they have come
@@ -385,6 +456,10 @@ module _ (held : Held) (s : State) where
       text-low limits.window what low
       (ask (seen_at (from_byte held low)) (sought_among (among table.delimiters what s) s.at s.stop) nothing).reached k s stands.low
       (risen held.base s.at (aligned 8 s.at) k s.marks needs.1)
+  step-low limits table (LookIn slot) k stands needs =
+      look_in-low held slot k s stands limits table.delimiters (separation_at table slot).initiated needs (slots_from table slot)
+  step-low limits table (LookBehind slot bit) k stands needs =
+      look_behind-low held slot k s stands limits table.delimiters (separation_at table slot).initiated bit needs (slots_from table slot)
   step-low limits table (Leave told) [] stands needs = needs
   step-low limits table (Leave told) (frame ∷ k) stands needs = leave-low limits table frame told k needs
 

@@ -11,7 +11,7 @@ use Rattle.dfdl_grammar.specs.Framing.{aligned}
 use Rattle.dfdl_grammar.specs.Patterns.{most_sought}
 use Rattle.dfdl_texts.specs.Readings.{Answers as TextAnswers, found_shown as text_shown}
 use Rattle.dfdl_texts.specs.declared.found.Glance.{Glance as TextGlance}
-use Rattle.dfdl_grammar.specs.Leaves.{Find, pattern_find, sought, text_sought}
+use Rattle.dfdl_grammar.specs.Leaves.{Find, pattern_find, text_sought}
 use Rattle.dfdl_parse.specs.declared.leaf.Found.{Found}
 use Rattle.dfdl_parse.specs.declared.leaf.Scratch.{Scratch}
 use Rattle.dfdl_parse.specs.Patterned.{pattern_reached}
@@ -40,13 +40,11 @@ module _ (look : ℕ → Seen) (form : PatternForm) (bit : ℕ) where
         far = ap (λ (r : Reading Find). r.tally.far) whole ∙ answers.far;
       }
 
--- the same of a pattern at a bit, which is sought from the next whole byte on, up to the end of its box or of so many bits
-pub sought-read : (look : ℕ → Seen) (form : PatternForm) (bit stop first last : ℕ) → first ≡ aligned 8 bit → last ≡ min stop (first + most_sought)
-    → (chars : List ℕ) (glance : TextGlance) (looks : ℕ) (scratch : Scratch) (found : Found)
+-- the text in which a pattern is sought from the next whole byte on, up to the end of its box or of so many bits
+pub text-read : (look : ℕ → Seen) (form : PatternForm) (stop first last : ℕ) → (bit : ℕ) → first ≡ aligned 8 bit → last ≡ min stop (first + most_sought)
+    → (chars : List ℕ) (glance : TextGlance) (looks : ℕ)
     → TextAnswers (ask look (text_at form.encoding false extent.Front last (first / 8)) nothing) chars glance looks
-    → found_shown scratch found ≡ pattern_reached form bit (text_shown chars glance.found)
-    → Answers (ask look (sought form bit stop) nothing) scratch (record { found = found; far = glance.far }) looks
-sought-read look form bit stop first last at ends chars glance looks scratch found answers shown =
-    pattern-read look form bit (text_sought form (aligned 8 bit) stop) chars glance looks scratch found
-    (subst (λ (f : ℕ). TextAnswers (ask look (text_sought form f stop) nothing) chars glance looks) at
-    (subst (λ (l : ℕ). TextAnswers (ask look (text_at form.encoding false extent.Front l (first / 8)) nothing) chars glance looks) ends answers)) shown
+    → TextAnswers (ask look (text_sought form (aligned 8 bit) stop) nothing) chars glance looks
+text-read look form stop first last bit at ends chars glance looks answers =
+    subst (λ (f : ℕ). TextAnswers (ask look (text_sought form f stop) nothing) chars glance looks) at
+    (subst (λ (l : ℕ). TextAnswers (ask look (text_at form.encoding false extent.Front l (first / 8)) nothing) chars glance looks) ends answers)

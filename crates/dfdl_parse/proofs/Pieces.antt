@@ -1,5 +1,5 @@
 -- What a session promises of a piece, of the end of the data and of the next document.
-use Rattle.std.proofs.Common.{◌≡◌, ℕ, suc, ◌+◌, ◌-◌, ◌*◌, ◌/◌, ◌<◌, ◌≤◌, ◌⊎◌, inl, inr, max, not, refl, List, [], ◌∷◌, ◌++◌, length, take, Bool, true, false, ap, sym, subst, ◌∙◌, arith, length-append}
+use Rattle.std.proofs.Common.{◌≡◌, ℕ, ◌+◌, ◌-◌, ◌*◌, ◌/◌, ◌<◌, ◌≤◌, ◌⊎◌, inl, inr, max, not, refl, List, [], ◌∷◌, ◌++◌, length, map, take, Bool, true, false, ap, sym, subst, ◌∙◌, arith, length-append}
 use Rattle.std.proofs.lemmas.List.{append-nil, get_or-take, get_or_append_left, length-take-le}
 use Rattle.std.proofs.Math.Seq.{take-append-add}
 use Rattle.dfdl_bits.specs.Window.{Held, end_of, from_byte, up_to_byte, with_more}
@@ -12,7 +12,7 @@ use Rattle.dfdl_grammar.specs.States.{State}
 use Rattle.dfdl_grammar.specs.Documents.{document_from, front_at}
 use Rattle.dfdl_parse.specs.declared.frame.Frame.{Frame}
 use Rattle.dfdl_parse.specs.declared.frame.Focus.{Focus}
-use Rattle.dfdl_parse.specs.declared.frame.Focus.TheVariants.{Enter, Pass, PassRest, Sized, Seek, Leave}
+use Rattle.dfdl_parse.specs.declared.frame.Focus.TheVariants.{Enter, Pass, PassRest, Sized, Seek, LookIn, LookBehind, Leave}
 use Rattle.dfdl_parse.specs.declared.outcome.Fed.TheVariants.{Done as FedDone}
 use Rattle.dfdl_parse.specs.declared.outcome.Outcome.TheVariants.{Done as AllDone}
 use Rattle.dfdl_parse.specs.declared.session.Session.{Session}
@@ -24,6 +24,7 @@ use Rattle.dfdl_parse.specs.Runs.{Runs}
 use Rattle.dfdl_parse.specs.Running.{Advanced, Reaches, Slid, Waited}
 use Rattle.dfdl_parse.specs.Registered.{IsRegistered}
 use Rattle.dfdl_parse.specs.Sessions.{CanFollow, ComesTo, Ends, Finished, HasTaken, IsReady, IsSound, StandsFor, byte_behind, document_of, input_of, still_needed}
+use Rattle.dfdl_parse.proofs.Opens.{some-mark}
 use Rattle.dfdl_parse.proofs.Feeds.{fed, over, stands_first, told}
 use Rattle.dfdl_parse.proofs.Windows.{agrees_from, end_from}
 
@@ -181,6 +182,8 @@ done_at (Pass to) k is = absurd (cc)
 done_at (PassRest bit outer) k is = absurd (cc)
 done_at (Sized prim size) k is = absurd (cc)
 done_at (Seek what) k is = absurd (cc)
+done_at (LookIn slot) k is = absurd (cc)
+done_at (LookBehind slot bit) k is = absurd (cc)
 done_at (Leave Done) [] is = (refl, refl)
 done_at (Leave (Failed cause bit)) [] is = absurd (cc)
 done_at (Leave (Stopped cause quantity)) [] is = absurd (cc)
@@ -188,7 +191,7 @@ done_at (Leave end) (frame ∷ k) is = absurd (cc)
 
 none_open : (base at : ℕ) (marks : List Mark) → AreOpen base at [] marks → marks ≡ []
 none_open base at [] opens = refl
-none_open base at (mark ∷ outer) opens = let none : suc (length outer) ≡ 0 = opens.0 in absurd (omega arith)
+none_open base at (mark ∷ outer) opens = some-mark mark.is_point (map (λ m. m.is_point) outer) (sym opens.0.0)
 
 -- a session that is done, before the next document
 module _ (s : Session) (sound : IsSound s) (done : answer_at s.parser.focus s.parser.stack ≡ AllDone) where
@@ -241,7 +244,7 @@ module _ (old new : Session) (done : answer_at old.parser.focus old.parser.stack
         low = subst (λ (f : Focus). NeedsFrom new.sight.base f new.parser.stack (state_of new.parser)) (sym focus)
             (subst (λ (k : List Frame). NeedsFrom new.sight.base (Enter (length old.terms.now.rows - 1)) k (state_of new.parser)) (sym stack)
             (subst (λ (s : State). NeedsFrom new.sight.base (Enter (length old.terms.now.rows - 1)) [] s) (sym front_is)
-            (let base : new.sight.base ≡ start = ap (λ (h : Held). h.base) is in omega arith, (refl, tt))));
+            (let base : new.sight.base ≡ start = ap (λ (h : Held). h.base) is in omega arith, ((refl, tt), tt))));
         at = omega (arith, ends);
         registered = subst (λ (t : Table). IsRegistered t new.parser) (sym rows) registered;
         window = ap (λ (h : Held). h.size) is ∙ sound.window ∙ ap (λ (l : Limits). l.window) (sym limits);
@@ -276,6 +279,8 @@ ended_reaches last held (Pass to) k s over_here reaches = absurd over_here
 ended_reaches last held (PassRest bit outer) k s over_here reaches = absurd over_here
 ended_reaches last held (Sized prim size) k s over_here reaches = absurd over_here
 ended_reaches last held (Seek what) k s over_here reaches = absurd over_here
+ended_reaches last held (LookIn slot) k s over_here reaches = absurd over_here
+ended_reaches last held (LookBehind slot bit) k s over_here reaches = absurd over_here
 ended_reaches last held (Leave told) k s over_here reaches = reaches
 
 -- before a piece the window holds what it holds
@@ -285,6 +290,8 @@ reaches_now s (Pass to) sound = sound.at
 reaches_now s (PassRest bit outer) sound = sound.at
 reaches_now s (Sized prim size) sound = sound.at
 reaches_now s (Seek what) sound = sound.at
+reaches_now s (LookIn slot) sound = sound.at
+reaches_now s (LookBehind slot bit) sound = sound.at
 reaches_now s (Leave told) sound = (omega arith, sound.at)
 
 -- and comes to no byte behind those, or behind the last that it looks at
@@ -328,6 +335,8 @@ module _ (old mid : Session) (sight : Held) (piece : List ℕ) (ready : IsReady 
   reaches_more last (PassRest bit outer) s at = at
   reaches_more last (Sized prim size) s at = at
   reaches_more last (Seek what) s at = at
+  reaches_more last (LookIn slot) s at = at
+  reaches_more last (LookBehind slot bit) s at = at
   reaches_more last (Leave told) s reaches = (subst (λ (h : Held). h.base ≤ last) (sym is) reaches.0, reaches.1)
 
   pub ran_reaches : (before : ℕ) → before ≡ end_of old.sight → HasEnded mid.parser.focus mid.parser.stack

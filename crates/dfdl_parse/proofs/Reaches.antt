@@ -7,14 +7,14 @@ use Rattle.dfdl_bits.specs.declared.window.Seen.{Seen}
 use Rattle.dfdl_bits.specs.declared.window.Seen.TheVariants.{Byte, End as DataEnded, NotYet, Over}
 use Rattle.dfdl_report.specs.declared.cause.ParseCause.{ParseCause}
 use Rattle.dfdl_report.specs.declared.cause.ParseCause.TheVariants.{LengthOutOfRange}
-use Rattle.dfdl_report.specs.declared.cause.LimitCause.TheVariants.{Nodes, Text as TextLimit}
+use Rattle.dfdl_report.specs.declared.cause.LimitCause.TheVariants.{Nodes, Text as TextLimit, Window}
 use Rattle.dfdl_value.specs.declared.value.Value.{Value}
 use Rattle.dfdl_delims.specs.Lists.{Opened}
 use Rattle.dfdl_delims.specs.Longest.{Longest, Text, NoText}
 use Rattle.dfdl_terms.specs.declared.delimiters.Delimiters.{Delimiters}
 use Rattle.dfdl_terms.specs.declared.row.Primitive.{Primitive}
 use Rattle.dfdl_terms.specs.declared.row.Row.{Row}
-use Rattle.dfdl_terms.specs.declared.row.Row.TheVariants.{Leaf, Elem, Group, Skip, Align, Initiator, Terminator, Separator, Scope, Boxed, PrefixedLeaf, PrefixedBox, Repeat, Optional, Choice}
+use Rattle.dfdl_terms.specs.declared.row.Row.TheVariants.{Leaf, Elem, Group, Skip, Align, Initiator, Terminator, Separator, Scope, Boxed, PrefixedLeaf, PrefixedBox, Repeat, Optional, Choice, Test, Hidden, Separated}
 use Rattle.dfdl_terms.specs.Rows.{Table}
 use Rattle.dfdl_terms.specs.declared.prefix.LengthUnit.{LengthUnit}
 use Rattle.dfdl_terms.specs.declared.text.TextSize.{TextSize}
@@ -29,22 +29,22 @@ use Rattle.dfdl_grammar.specs.declared.limits.Limits.{Limits}
 use Rattle.dfdl_grammar.specs.declared.mark.Mark.{Mark}
 use Rattle.dfdl_grammar.specs.Outcomes.{Outcome, ended}
 use Rattle.dfdl_grammar.specs.States.{State, anchor, anchor_at, held_from}
-use Rattle.dfdl_grammar.specs.Marks.{back, back_among, closed, marked, pointed, stays_at}
+use Rattle.dfdl_grammar.specs.Marks.{back, back_among, closed, is_settled, marked, pointed, stays_at}
 use Rattle.dfdl_grammar.specs.Occurrences.{dropped}
 use Rattle.dfdl_grammar.specs.Prefixes.{bits_of_units, resized, size_of, units_told}
-use Rattle.dfdl_grammar.specs.Leaves.{Find, Fails, Finds, FindsOctets, FindsText, content_begins, has_room, nil_values, program, program_for, read_by}
+use Rattle.dfdl_grammar.specs.Leaves.{Find, Fails, Finds, FindsOctets, FindsText, content_begins, has_room, nil_values, program, program_for, read_by, text_sought}
 use Rattle.dfdl_grammar.specs.Framing.{aligned}
-use Rattle.dfdl_grammar.specs.Delimiters.{lists_of, markup, opens, sought_among, stands_in}
+use Rattle.dfdl_grammar.specs.Delimiters.{lists_of, markup, opens, passed_text, sought_among, stands_in}
 use Rattle.dfdl_grammar.specs.Boxes.{boxed_at}
 use Rattle.dfdl_grammar.specs.Elements.{begun, has_elements}
 use Rattle.dfdl_parse.specs.declared.frame.Frame.{Frame}
-use Rattle.dfdl_parse.specs.declared.frame.Frame.TheVariants.{Rest, Element, Box, Scope as ScopeFrame, Trial, Branch, Occurrence}
+use Rattle.dfdl_parse.specs.declared.frame.Frame.TheVariants.{Rest, Element, Box, Scope as ScopeFrame, Trial, Branch, Occurrence, Before, Content, Closing}
 use Rattle.dfdl_parse.specs.declared.frame.Next.{Next}
 use Rattle.dfdl_parse.specs.declared.frame.Next.TheVariants as next
 use Rattle.dfdl_parse.specs.declared.frame.Parts.{Parts}
 use Rattle.dfdl_parse.specs.declared.frame.Outside.{Outside}
 use Rattle.dfdl_parse.specs.declared.frame.Focus.{Focus}
-use Rattle.dfdl_parse.specs.declared.frame.Focus.TheVariants.{Enter, Pass, PassRest, Sized, Seek, Leave}
+use Rattle.dfdl_parse.specs.declared.frame.Focus.TheVariants.{Enter, Pass, PassRest, Sized, Seek, LookIn, LookBehind, Leave}
 use Rattle.dfdl_parse.specs.declared.frame.Behind.{Behind}
 use Rattle.dfdl_parse.specs.declared.frame.Behind.TheVariants as behind
 use Rattle.dfdl_parse.specs.Boxing.{back_outside, outside}
@@ -58,6 +58,17 @@ use Rattle.dfdl_parse.specs.Opens.{AreOpen, GoesBack, IsBefore, NeedsFrom}
 use Rattle.dfdl_parse.specs.Running.{Reaches}
 use Rattle.dfdl_parse.specs.Trials.{attempt, is_refused, parts_of, refused, retry, try_empty, try_nil, try_normal, two_rows}
 use Rattle.dfdl_parse.specs.Points.{try_branch, try_occurrence}
+use Rattle.dfdl_parse.specs.Testing.{landed_test, read_test, verdict_in}
+use Rattle.dfdl_parse.proofs.Resolved.{sought-comes, tested-comes}
+use Rattle.dfdl_terms.specs.declared.asserting.PatternTest.{PatternTest}
+use Rattle.dfdl_texts.specs.Texts.{Text as TextRead}
+use Rattle.dfdl_separators.specs.declared.verdict.Here.{Here}
+use Rattle.dfdl_separators.specs.Groups.{here_of}
+use Rattle.dfdl_terms.specs.declared.slots.Slot.{Slot}
+use Rattle.dfdl_grammar.specs.Slots.{closed_slot, has_mark, is_empty_at, is_tried, opens_before, separator_follows}
+use Rattle.dfdl_parse.specs.declared.frame.SlotPlace.{SlotPlace}
+use Rattle.dfdl_parse.specs.Slots.{closing_ended, content_ended, look_behind, look_in, opened_at, separation_at, slots_from, told_move}
+use Rattle.dfdl_parse.proofs.SlotComes.{Ways, closing-has, content_ended-has, done-has, failed-has, separated-has, settled-has, unslotted_end-has, unsought_end-has}
 use Rattle.dfdl_parse.proofs.Ends.{AtEnd}
 use Rattle.dfdl_parse.proofs.Finishes.{Anchored, Stands}
 use Rattle.dfdl_parse.proofs.Lies.{found-lies}
@@ -134,6 +145,8 @@ both m held (Pass to) s base at = at
 both m held (PassRest bit outer) s base at = at
 both m held (Sized prim size) s base at = at
 both m held (Seek what) s base at = at
+both m held (LookIn slot) s base at = at
+both m held (LookBehind slot bit) s base at = at
 both m held (Leave end) s base at = (base, at)
 
 -- a look is too far by its place
@@ -227,10 +240,44 @@ module _ (m : ℕ) (held : Held) (base : held.base ≤ m) where
   branch-reaches cost id place None k s at = (omega arith, omega arith)
   branch-reaches cost id place (Some child) k s at = pass-reaches cost (Enter child) (Branch id (place + 1) ∷ k) s at
 
-  occurrence-reaches : (cost : Tally) (body left : ℕ) (k : List Frame) (s : State) → s.at ≤ 8 * m → (none : Bool)
-      → Within m (cond none (pass cost held (Leave Done) k s) (pass cost held (Enter body) (Occurrence body (left - 1) ∷ k) (pointed s)))
-  occurrence-reaches cost body left k s at true = pass-reaches cost (Leave Done) k s at
-  occurrence-reaches cost body left k s at false = pass-reaches cost (Enter body) (Occurrence body (left - 1) ∷ k) (pointed s) at
+  occurrence-reaches : (cost : Tally) (body : ℕ) (initiated : Bool) (left : ℕ) (k : List Frame) (s : State) → s.at ≤ 8 * m → (none : Bool)
+      → Within m (cond none (pass cost held (Leave Done) k s) (pass cost held (Enter body) (Occurrence body initiated (left - 1) ∷ k) (pointed initiated s)))
+  occurrence-reaches cost body initiated left k s at true = pass-reaches cost (Leave Done) k s at
+  occurrence-reaches cost body initiated left k s at false = pass-reaches cost (Enter body) (Occurrence body initiated (left - 1) ∷ k) (pointed initiated s) at
+
+  -- the steps of slots
+  abbrev UpTo : State → Type 0
+  UpTo t = t.at ≤ 8 * m
+
+  opened-up : (initiated tried mark : Bool) (t : State) → t.at ≤ 8 * m → (cond tried (pointed initiated (cond mark (marked t) t)) t).at ≤ 8 * m
+  opened-up initiated true true t at = at
+  opened-up initiated true false t at = at
+  opened-up initiated false mark t at = at
+
+  slot-at : (initiated : Bool) (here : Here) (t : State) → t.at ≤ 8 * m → (opened_at initiated here t).at ≤ 8 * m
+  slot-at initiated here t at = opened-up initiated (is_tried here.rule) (has_mark here) t at
+
+  shut-up : (tried mark : Bool) (t : State) → t.at ≤ 8 * m → (cond tried (cond mark (closed (closed t)) (closed t)) t).at ≤ 8 * m
+  shut-up true true t at = at
+  shut-up true false t at = at
+  shut-up false mark t at = at
+
+  closed-at : (here : Here) (t : State) → t.at ≤ 8 * m → (closed_slot here t).at ≤ 8 * m
+  closed-at here t at = shut-up (is_tried here.rule) (has_mark here) t at
+
+  slot-ways : (cost : Tally) (k : List Frame) → Ways (Within m) UpTo cost held k
+  slot-ways cost k = record {
+    leaves = λ told t at. pass-reaches cost (Leave told) k t at;
+    looks = λ slot t at. pass-reaches cost (LookIn slot) k t at;
+    enters = λ slot body bit empty t at. pass-reaches cost (Enter body) (Content slot bit empty ∷ k) t at;
+    seeks = λ slot t at. pass-reaches (plus cost one_row) (Seek sought.Separator) (Before slot ∷ k) t at;
+  }
+
+  -- what has failed at a point that is resolved, or not
+  failed-reaches : (told : End) (k : List Frame) (s : State) (other : Move) → s.at ≤ 8 * m → Within m other → (settled : Bool)
+      → Within m (cond settled (pass nothing held (Leave told) k (closed s)) other)
+  failed-reaches told k s other at within true = (omega arith, omega arith)
+  failed-reaches told k s other at within false = within
 
   module _ (s : State) (at : s.at ≤ 8 * m) where
     -- a leaf, by where what it finds ends
@@ -309,6 +356,25 @@ module _ (m : ℕ) (held : Held) (base : held.base ≤ m) where
     delimiter-reaches what k true = pass-reaches one_row (Seek what) k s at
     delimiter-reaches what k false = pass-reaches one_row (Leave Done) k s at
 
+    -- a test
+    verdict-reaches : (last : ℕ) (limits : Limits) (id number : ℕ) (test : PatternTest) (sight : Held) (reached : Reached Bool) (k : List Frame)
+        → sight.base ≤ last → s.at ≤ 8 * last
+        → let machine : Machine = landed_test limits (Enter id) test number reached k s in Reaches last sight machine.focus machine.state
+    verdict-reaches last limits id number test sight (Told holds) k base before =
+        tested-comes (λ told t. Reaches last sight (Leave told) t) (λ t there. there) test number holds s (base, before) (base, before)
+    verdict-reaches last limits id number test sight TooFar k base before = (base, before)
+    verdict-reaches last limits id number test sight Missing k base before = before
+
+    test-reaches : Anchored held s → (limits : Limits) (id number : ℕ) (test : Option PatternTest) (k : List Frame)
+        → Within m (read_test one_row limits (Enter id) held number test k s)
+    test-reaches stands limits id number None k = pass-reaches one_row (Leave Done) k s at
+    test-reaches stands limits id number (Some test) k =
+        let sight : Held = from_byte held (anchor s) in
+        let reading : Reading TextRead = ask (seen_at sight) (text_sought test.form (aligned 8 s.at) s.stop) nothing in
+        let low = stands.low in
+        verdict-reaches (max m (plus one_row (needs_from (anchor s) reading.tally)).far) limits id number test sight (verdict_in test.form reading.reached) k
+        (omega arith) (omega arith)
+
     group-reaches : (id : ℕ) (children : List ℕ) (k : List Frame) → Within m (enter_group held id children k s)
     group-reaches id [] k = pass-reaches one_row (Leave Done) k s at
     group-reaches id (child ∷ rest) k = pass-reaches one_row (Enter child) (Rest id 1 ∷ k) s at
@@ -332,11 +398,15 @@ module _ (m : ℕ) (held : Held) (base : held.base ≤ m) where
         prefix-reaches stands limits table.delimiters id prefix.own (behind_units table.primitives prefix.unit what) (slice_get table.primitives prefix.prim) k
         (λ last units after before. behind-at last table prefix.unit what units k after before)
     enter-reaches stands limits table id (Some (Repeat count body)) k = group-reaches id (replicate count body) k
-    enter-reaches stands limits table id (Some (Optional most item body)) k = occurrence-reaches one_row body most k s at (nat_eq most 0)
-    enter-reaches stands limits table id (Some (Choice rows)) k = branch-reaches one_row id 0 (slice_get rows 0) k (pointed s) at
+    enter-reaches stands limits table id (Some (Optional most item initiated body)) k = occurrence-reaches one_row body initiated most k s at (nat_eq most 0)
+    enter-reaches stands limits table id (Some (Choice rows initiated)) k = branch-reaches one_row id 0 (slice_get rows 0) k (pointed initiated s) at
     enter-reaches stands limits table id (Some (PrefixedBox prefix body)) k =
         prefix-reaches stands limits table.delimiters id prefix.own (behind_units table.primitives prefix.unit (behind.Box body)) (slice_get table.primitives prefix.prim) k
         (λ last units after before. behind-at last table prefix.unit (behind.Box body) units k after before)
+    enter-reaches stands limits table id (Some (Test test)) k = test-reaches stands limits id test (slice_get table.tests test) k
+    enter-reaches stands limits table id (Some (Hidden body)) k = pass-reaches one_row (Enter body) k s at
+    enter-reaches stands limits table id (Some (Separated policy position initiated slots)) k =
+        separated-has (Within m) UpTo held initiated k (λ here t. slot-at initiated here t) (slot-ways one_row k) id policy position slots s at
 
     go-reaches : (id next : ℕ) (child : Option ℕ) (k : List Frame) → Within m (go_on held id next child k s)
     go-reaches id next None k = pass-reaches nothing (Leave Done) k s at
@@ -371,12 +441,30 @@ module _ (m : ℕ) (held : Held) (base : held.base ≤ m) where
     dropped-reaches : (k : List Frame) → IsBefore s.marks s.at → Within m (pass nothing held (Leave Done) k (dropped s))
     dropped-reaches k less = pass-reaches nothing (Leave Done) k (dropped s) (back-at s.marks less)
 
-    passed-reaches : (body left : ℕ) (k : List Frame) → IsBefore s.marks s.at → (stays : Bool)
-        → Within m (cond stays (pass nothing held (Leave Done) k (dropped s)) (try_occurrence nothing held body left k (closed s)))
-    passed-reaches body left k less true = dropped-reaches k less
-    passed-reaches body left k less false = occurrence-reaches nothing body left k (closed s) at (nat_eq left 0)
+    passed-reaches : (body : ℕ) (initiated : Bool) (left : ℕ) (k : List Frame) → IsBefore s.marks s.at → (stays : Bool)
+        → Within m (cond stays (pass nothing held (Leave Done) k (dropped s)) (try_occurrence nothing held body initiated left k (closed s)))
+    passed-reaches body initiated left k less true = dropped-reaches k less
+    passed-reaches body initiated left k less false = occurrence-reaches nothing body initiated left k (closed s) at (nat_eq left 0)
 
-    pub leave-reaches : (limits : Limits) (table : Table) (frame : Frame) (told : End) (k : List Frame) → GoesBack told s → Within m (leave limits table held frame told k s)
+    -- what waits in a slot takes an end
+    content-reaches : (initiated : Bool) (k : List Frame) (slot : SlotPlace) (bit : ℕ) (empty : Bool) (slots : List Slot) (moved : Bool) (failure : Option ParseCause) (told : End)
+        → IsBefore s.marks s.at → bit ≤ s.at → Within m (content_ended held initiated slot bit empty slots moved failure told k s)
+    content-reaches initiated k slot bit empty slots moved failure told less within =
+        content_ended-has (Within m) UpTo held initiated k (λ here t. slot-at initiated here t) (slot-ways nothing k) slot s at (λ here. closed-at here s at)
+        (λ here. closed-at here (back s) (back-at s.marks less))
+        (record {
+          closes = λ slot bit t there. pass-reaches one_row (Seek sought.Separator) (Closing slot bit ∷ k) t there;
+          asks = λ slot bit t there. pass-reaches nothing (LookBehind slot bit) k t there;
+        }) bit (omega arith) (λ here. closed-at here (record (back s) { at = bit }) (omega arith)) empty slots moved failure told
+
+    closing-reaches : (initiated : Bool) (k : List Frame) (slot : SlotPlace) (bit : ℕ) (slots : List Slot) (found : Bool) (told : End)
+        → IsBefore s.marks s.at → Within m (closing_ended held initiated slot bit slots found told k s)
+    closing-reaches initiated k slot bit slots found told less =
+        closing-has (Within m) UpTo held initiated k (λ here t. slot-at initiated here t) (slot-ways nothing k) slot s at (λ here. closed-at here s at)
+        (λ here. closed-at here (back s) (back-at s.marks less)) bit slots found told
+
+    pub leave-reaches : (limits : Limits) (table : Table) (frame : Frame) (told : End) (k : List Frame) → GoesBack told (frame ∷ k) s
+        → Within m (leave limits table held frame told k s)
     leave-reaches limits table (Rest id next) Done k goes = go-reaches id next (slice_get (children_of (slice_get table.rows id)) next) k
     leave-reaches limits table (Rest id next) (Failed cause bit) k goes = (omega arith, omega arith)
     leave-reaches limits table (Element outer complex) Done k goes = (omega arith, omega arith)
@@ -387,12 +475,27 @@ module _ (m : ℕ) (held : Held) (base : held.base ≤ m) where
     leave-reaches limits table (ScopeFrame count) (Failed cause bit) k goes = (omega arith, omega arith)
     leave-reaches limits table (Trial id next) Done k goes = done-reaches k (is_refused (parts_of (slice_get table.rows id)) next)
     leave-reaches limits table (Trial id next) (Failed cause bit) k goes =
-        retry-reaches limits.nodes id (parts_of (slice_get table.rows id)) next (Failed cause bit) k goes
+        retry-reaches limits.nodes id (parts_of (slice_get table.rows id)) next (Failed cause bit) k goes.0
     leave-reaches limits table (Branch id next) Done k goes = (omega arith, omega arith)
     leave-reaches limits table (Branch id next) (Failed cause bit) k goes =
-        branch-reaches nothing id next (slice_get (children_of (slice_get table.rows id)) next) k (back s) (back-at s.marks goes)
-    leave-reaches limits table (Occurrence body left) Done k goes = passed-reaches body left k goes (stays_at s.marks s.at)
-    leave-reaches limits table (Occurrence body left) (Failed cause bit) k goes = dropped-reaches k goes
+        failed-reaches (Failed cause bit) k s _ at
+        (branch-reaches nothing id next (slice_get (children_of (slice_get table.rows id)) next) k (back s) (back-at s.marks goes.0)) (is_settled s.marks)
+    leave-reaches limits table (Occurrence body initiated left) Done k goes = passed-reaches body initiated left k goes.0 (stays_at s.marks s.at)
+    leave-reaches limits table (Occurrence body initiated left) (Failed cause bit) k goes =
+        failed-reaches (Failed cause bit) k s _ at (dropped-reaches k goes.0) (is_settled s.marks)
+    leave-reaches limits table (Before slot) Done k goes =
+        done-has (Within m) UpTo held false k (λ here t. slot-at false here t) (slot-ways nothing k) slot s at (λ here. closed-at here s at) (slots_from table slot)
+    leave-reaches limits table (Before slot) (Failed cause bit) k goes =
+        failed-has (Within m) UpTo held (separation_at table slot).initiated k (λ here t. slot-at (separation_at table slot).initiated here t) (slot-ways nothing k) slot s at
+        (λ here. closed-at here s at) (λ here. closed-at here (back s) (back-at s.marks goes.0)) (slots_from table slot) (Failed cause bit)
+    leave-reaches limits table (Content slot bit empty) Done k goes =
+        content-reaches (separation_at table slot).initiated k slot bit empty (slots_from table slot) (nat_lt bit s.at) None Done goes.0 goes.1
+    leave-reaches limits table (Content slot bit empty) (Failed cause told) k goes =
+        content-reaches (separation_at table slot).initiated k slot bit empty (slots_from table slot) false (Some cause) (Failed cause told) goes.0 goes.1
+    leave-reaches limits table (Closing slot bit) Done k goes =
+        closing-reaches (separation_at table slot).initiated k slot bit (slots_from table slot) true Done goes.0
+    leave-reaches limits table (Closing slot bit) (Failed cause told) k goes =
+        closing-reaches (separation_at table slot).initiated k slot bit (slots_from table slot) false (Failed cause told) goes.0
     leave-reaches limits table frame (Stopped cause quantity) k goes = (omega arith, omega arith)
 
 -- a search, by where the text that it finds ends
@@ -402,15 +505,18 @@ module _ (m : ℕ) (held : Held) (s : State) (at : s.at ≤ 8 * m) where
   text-reaches last bits sight t base before behind told true = (base, behind)
   text-reaches last bits sight t base before behind told false = (base, before)
 
-  found-reaches : (window place last : ℕ) (focus : Focus) (cause : ParseCause) (sight : Held) (k : List Frame) (r : Reached Longest)
+  found-reaches : (window place last : ℕ) (focus : Focus) (what : Sought) (sight : Held) (k : List Frame) (r : Reached Longest)
       → sight.base ≤ last → s.at ≤ 8 * last → AtText (aligned 8 s.at) last r
       → (is_cut r ≡ true → Reaches last sight focus s)
-      → Reaches last sight (found_text window focus cause place r k s).focus (found_text window focus cause place r k s).state
-  found-reaches window place last focus cause sight k (Told (Text which bits)) base before ends waits =
-      text-reaches last bits sight (record s { at = aligned 8 s.at + bits }) base before ends (Failed cause s.at) (nat_eq which place && nat_lt 0 bits)
-  found-reaches window place last focus cause sight k (Told NoText) base before ends waits = (base, before)
-  found-reaches window place last focus cause sight k TooFar base before ends waits = (base, before)
-  found-reaches window place last focus cause sight k Missing base before ends waits = waits refl
+      → Reaches last sight (found_text window focus what place r k s).focus (found_text window focus what place r k s).state
+  found-reaches window place last focus what sight k (Told (Text which bits)) base before ends waits =
+      sought-comes (λ told t. Reaches last sight (Leave told) t) (λ t there. there) what (passed_text (cause_of what) place window (Told (Text which bits)) s)
+      (text-reaches last bits sight (record s { at = aligned 8 s.at + bits }) base before ends (Failed (cause_of what) s.at) (nat_eq which place && nat_lt 0 bits))
+  found-reaches window place last focus what sight k (Told NoText) base before ends waits =
+      sought-comes (λ told t. Reaches last sight (Leave told) t) (λ t there. there) what (ended (Failed (cause_of what) s.at) s) (base, before)
+  found-reaches window place last focus what sight k TooFar base before ends waits =
+      sought-comes (λ told t. Reaches last sight (Leave told) t) (λ t there. there) what (ended (Stopped Window window) s) (base, before)
+  found-reaches window place last focus what sight k Missing base before ends waits = waits refl
 
   pub search-reaches : Anchored held (record s { at = aligned 8 s.at }) → (limits : Limits) (delimiters : List Delimiters) (what : Sought) (k : List Frame)
       → Within m (search limits delimiters held what k s)
@@ -420,8 +526,52 @@ module _ (m : ℕ) (held : Held) (s : State) (at : s.at ≤ 8 * m) where
       let reading : Reading Longest = ask (seen_at sight) (sought_among lists s.at s.stop) nothing in
       let last : ℕ = max m reading.tally.far in
       let low = stands.low in
-      found-reaches limits.window (place_of what s) last (Seek what) (cause_of what) sight k reading.reached (omega arith) (omega arith)
+      found-reaches limits.window (place_of what s) last (Seek what) what sight k reading.reached (omega arith) (omega arith)
       (sought-lies (seen_at sight) last lists s.at s.stop (omega arith) (omega arith)) (λ cut. omega arith)
+
+-- a question of a slot
+told-reaches-by : (m : ℕ) (limits : Limits) (focus : Focus) (sight : Held) (cost : Tally) (moves : Bool → Move) (reached : Reached Bool) (k : List Frame) (s : State)
+    → sight.base ≤ m → s.at ≤ 8 * m → ((answer : Bool) → Within m (moves answer)) → Reaches (max m cost.far) sight focus s
+    → Within m (told_move limits focus sight cost moves reached k s)
+told-reaches-by m limits focus sight cost moves (Told answer) k s base at each waits = each answer
+told-reaches-by m limits focus sight cost moves TooFar k s base at each waits = (omega arith, omega arith)
+told-reaches-by m limits focus sight cost moves Missing k s base at each waits = waits
+
+module _ (m : ℕ) (held : Held) (s : State) (at : s.at ≤ 8 * m) (stands : Anchored held s) where
+  abbrev seen_from : Held
+  seen_from = from_byte held (anchor s)
+
+  few : seen_from.base ≤ m
+  few = let low = stands.low in omega arith
+
+  occurs-reaches : (cost : Tally) (initiated : Bool) (slot : SlotPlace) (body : ℕ) (k : List Frame) (empty before : Bool) (here : Here)
+      → Within m (pass cost seen_from (Enter body) (Content slot s.at empty ∷ k) (cond before s (opened_at initiated here s)))
+  occurs-reaches cost initiated slot body k empty true here = pass-reaches m seen_from few cost (Enter body) (Content slot s.at empty ∷ k) s at
+  occurs-reaches cost initiated slot body k empty false here =
+      pass-reaches m seen_from few cost (Enter body) (Content slot s.at empty ∷ k) (opened_at initiated here s) (slot-at m seen_from few initiated here s at)
+
+  look_in-reaches : held.base ≤ m → (limits : Limits) (delimiters : List Delimiters) (initiated : Bool) (slot : SlotPlace) (slots : List Slot) (k : List Frame)
+      → Within m (look_in limits delimiters held initiated slot slots k s)
+  look_in-reaches base limits delimiters initiated slot [] k =
+      unsought_end-has (Within m) (UpTo m held base) held initiated k (λ here t. slot-at m held base initiated here t) (slot-ways m held base nothing k) slot s at
+      (λ here. closed-at m held base here s at) Done
+  look_in-reaches base limits delimiters initiated slot (own ∷ slots) k =
+      told-reaches-by m limits (LookIn slot) seen_from _ _
+      (ask (seen_at seen_from) (is_empty_at (lists_of delimiters (markup s)) s.at s.stop) nothing).reached k s few at
+      (λ empty. occurs-reaches (needs_from (anchor s) (ask (seen_at seen_from) (is_empty_at (lists_of delimiters (markup s)) s.at s.stop) nothing).tally)
+      initiated slot own.body k empty (opens_before (here_of slot.progress slot.rule)) (here_of slot.progress slot.rule)) (omega arith)
+
+  look_behind-reaches : held.base ≤ m → IsBefore s.marks s.at → (limits : Limits) (delimiters : List Delimiters) (initiated : Bool) (slot : SlotPlace) (bit : ℕ)
+      (slots : List Slot) (k : List Frame) → Within m (look_behind limits delimiters held initiated slot bit slots k s)
+  look_behind-reaches base less limits delimiters initiated slot bit [] k =
+      unslotted_end-has (Within m) (UpTo m held base) held initiated k (λ here t. slot-at m held base initiated here t) (slot-ways m held base nothing k) slot s at
+      (λ here. closed-at m held base here s at) Done
+  look_behind-reaches base less limits delimiters initiated slot bit (own ∷ slots) k =
+      told-reaches-by m limits (LookBehind slot bit) seen_from _ _
+      (ask (seen_at seen_from) (separator_follows (lists_of delimiters (markup s)) (length (markup s) - 1) s.at s.stop) nothing).reached k s few at
+      (λ found. settled-has (Within m) (UpTo m seen_from few) seen_from initiated k (λ here t. slot-at m seen_from few initiated here t) _
+      (slot-ways m seen_from few _ k) slot bit own slots found Done s at (λ here. closed-at m seen_from few here s at)
+      (λ here. closed-at m seen_from few here (back s) (back-at m seen_from few s at s.marks less))) (omega arith)
 
 pub step-reaches : (m : ℕ) (held : Held) (s : State) → 0 < held.size → (limits : Limits) (table : Table) (focus : Focus) (k : List Frame) → Stands held focus s
     → NeedsFrom held.base focus k s → Reaches m held focus s → Within m (step limits table held focus k s)
@@ -434,6 +584,13 @@ step-reaches m held s some limits table (Sized prim size) k stands needs at =
     let low : held.base ≤ s.at / 8 = needs.0 in
     told-reaches m held (omega arith) s at stands limits prim size table.delimiters (nil_values table.primitives s.instead) (slice_get table.primitives prim) k
 step-reaches m held s some limits table (Seek what) k stands needs at = search-reaches m held s at stands limits table.delimiters what k
+step-reaches m held s some limits table (LookIn slot) k stands needs at =
+    let low : held.base ≤ s.at / 8 = needs.0 in
+    look_in-reaches m held s at stands (omega arith) limits table.delimiters (separation_at table slot).initiated slot (slots_from table slot) k
+step-reaches m held s some limits table (LookBehind slot bit) k stands needs at =
+    let low : held.base ≤ s.at / 8 = needs.0 in
+    look_behind-reaches m held s at stands (omega arith) (holds held.base (LookBehind slot bit) k s needs).1 limits table.delimiters (separation_at table slot).initiated slot bit
+    (slots_from table slot) k
 step-reaches m held s some limits table (Leave told) [] stands needs reaches = both (max m 0) held (Leave told) s (let low = reaches.0 in omega arith) (let at = reaches.1 in omega arith)
 step-reaches m held s some limits table (Leave told) (frame ∷ k) stands needs reaches =
     leave-reaches m held reaches.0 s reaches.1 limits table frame told k (holds held.base (Leave told) (frame ∷ k) s needs)
@@ -445,6 +602,8 @@ further m n held (Pass to) s less at = omega arith
 further m n held (PassRest bit outer) s less at = omega arith
 further m n held (Sized prim size) s less at = omega arith
 further m n held (Seek what) s less at = omega arith
+further m n held (LookIn slot) s less at = omega arith
+further m n held (LookBehind slot bit) s less at = omega arith
 further m n held (Leave end) s less reaches = let low = reaches.0 in let at = reaches.1 in (omega arith, omega arith)
 
 -- a step that waits leaves what is done next
@@ -455,5 +614,7 @@ waiting-reaches table last held after s limits (Pass to) k waits at = at
 waiting-reaches table last held after s limits (PassRest bit outer) k waits at = at
 waiting-reaches table last held after s limits (Sized prim size) k waits at = at
 waiting-reaches table last held after s limits (Seek what) k waits at = at
+waiting-reaches table last held after s limits (LookIn slot) k waits at = at
+waiting-reaches table last held after s limits (LookBehind slot bit) k waits at = at
 waiting-reaches table last held after s limits (Leave told) [] waits reaches = absurd (cc)
 waiting-reaches table last held after s limits (Leave told) (frame ∷ k) waits reaches = absurd (leave-on table held s limits frame told k waits)

@@ -15,7 +15,7 @@ use Rattle.dfdl_delims.specs.Longest.{Longest, Text, NoText}
 use Rattle.dfdl_terms.specs.declared.delimiters.Delimiters.{Delimiters}
 use Rattle.dfdl_terms.specs.declared.row.Primitive.{Primitive}
 use Rattle.dfdl_terms.specs.declared.row.Row.{Row}
-use Rattle.dfdl_terms.specs.declared.row.Row.TheVariants.{Leaf, Elem, Group, Skip, Align, Initiator, Terminator, Separator, Scope, Boxed, PrefixedLeaf, PrefixedBox, Repeat, Optional, Choice}
+use Rattle.dfdl_terms.specs.declared.row.Row.TheVariants.{Leaf, Elem, Group, Skip, Align, Initiator, Terminator, Separator, Scope, Boxed, PrefixedLeaf, PrefixedBox, Repeat, Optional, Choice, Test, Hidden, Separated}
 use Rattle.dfdl_terms.specs.declared.text.TextSize.{TextSize}
 use Rattle.dfdl_terms.specs.Rows.{IsWithin, NamesWithin, Table, named_by}
 use Rattle.dfdl_looks.specs.Asks.{Reached, Told, TooFar, Missing, ask}
@@ -28,22 +28,22 @@ use Rattle.dfdl_grammar.specs.declared.limits.Limits.{Limits}
 use Rattle.dfdl_grammar.specs.declared.mark.Mark.{Mark}
 use Rattle.dfdl_grammar.specs.States.{State, anchor, anchor_at}
 use Rattle.dfdl_grammar.specs.Outcomes.{Outcome, ended}
-use Rattle.dfdl_grammar.specs.Marks.{back, back_among, closed, marked, pointed, stays_at}
+use Rattle.dfdl_grammar.specs.Marks.{back, back_among, closed, is_settled, marked, pointed, resolved, stays_at}
 use Rattle.dfdl_grammar.specs.Occurrences.{dropped}
-use Rattle.dfdl_grammar.specs.Leaves.{Find, Fails, Finds, FindsOctets, FindsText, content_begins, has_room, nil_values, program, program_for, read_by}
+use Rattle.dfdl_grammar.specs.Leaves.{Find, Fails, Finds, FindsOctets, FindsText, content_begins, has_room, nil_values, program, program_for, read_by, text_sought}
 use Rattle.dfdl_grammar.specs.Framing.{aligned}
-use Rattle.dfdl_grammar.specs.Delimiters.{lists_of, markup, numbers_of, opened, sought_among, stands_in}
+use Rattle.dfdl_grammar.specs.Delimiters.{passed_text, lists_of, markup, numbers_of, opened, sought_among, stands_in}
 use Rattle.dfdl_grammar.specs.Boxes.{boxed_at}
 use Rattle.dfdl_grammar.specs.Elements.{begun, has_elements}
 use Rattle.dfdl_grammar.specs.Prefixes.{bits_of_units, resized, size_of, units_told}
 use Rattle.dfdl_parse.specs.declared.frame.Frame.{Frame}
-use Rattle.dfdl_parse.specs.declared.frame.Frame.TheVariants.{Rest, Element, Box, Scope as ScopeFrame, Trial, Branch, Occurrence}
+use Rattle.dfdl_parse.specs.declared.frame.Frame.TheVariants.{Rest, Element, Box, Scope as ScopeFrame, Trial, Branch, Occurrence, Before, Content, Closing}
 use Rattle.dfdl_parse.specs.declared.frame.Outside.{Outside}
 use Rattle.dfdl_parse.specs.declared.frame.Next.{Next}
 use Rattle.dfdl_parse.specs.declared.frame.Next.TheVariants as next
 use Rattle.dfdl_parse.specs.declared.frame.Parts.{Parts}
 use Rattle.dfdl_parse.specs.declared.frame.Focus.{Focus}
-use Rattle.dfdl_parse.specs.declared.frame.Focus.TheVariants.{Enter, Pass, PassRest, Sized, Seek, Leave}
+use Rattle.dfdl_parse.specs.declared.frame.Focus.TheVariants.{Enter, Pass, PassRest, Sized, Seek, LookIn, LookBehind, Leave}
 use Rattle.dfdl_parse.specs.declared.frame.Behind.TheVariants as behind
 use Rattle.dfdl_parse.specs.declared.parser.Parser.{Parser}
 use Rattle.dfdl_parse.specs.Boxing.{back_outside, outside}
@@ -52,11 +52,22 @@ use Rattle.dfdl_parse.specs.declared.frame.Sought.TheVariants as sought
 use Rattle.dfdl_parse.specs.Moves.{Machine, Move, landed, pass, read_leaf, read_move}
 use Rattle.dfdl_parse.specs.Prefixed.{at_end, behind_units, can_fit, landed_prefix, prefix_move, read_prefix, read_resized, read_sized, sized_begins, units_begin}
 use Rattle.dfdl_parse.specs.Machines.{children_of, enter, enter_group, fill_move, go_on, leave, rest_move, seen_beyond, step}
+use Rattle.dfdl_separators.specs.declared.verdict.Here.{Here}
+use Rattle.dfdl_separators.specs.Groups.{here_of}
+use Rattle.dfdl_terms.specs.declared.slots.Slot.{Slot}
+use Rattle.dfdl_grammar.specs.Slots.{closed_slot, has_mark, is_empty_at, is_tried, opens_before, separator_follows}
+use Rattle.dfdl_parse.specs.declared.frame.SlotPlace.{SlotPlace}
+use Rattle.dfdl_parse.specs.Slots.{closing_ended, content_ended, look_behind, look_in, opened_at, separation_at, slots_from, told_move}
+use Rattle.dfdl_parse.proofs.SlotComes.{Ways, closing-has, content_ended-has, done-has, failed-has, separated-has, settled-has, unslotted_end-has, unsought_end-has}
 use Rattle.dfdl_parse.specs.Registered.{IsRegistered, ListsWithin, SeeksWithin}
 use Rattle.dfdl_parse.specs.Searches.{among, cause_of, found_text, place_of, put_behind}
 use Rattle.dfdl_parse.specs.Shown.{HasSameLimits, limits_of, state_of}
 use Rattle.dfdl_parse.specs.Steps.{Moved}
 use Rattle.dfdl_parse.specs.Points.{try_branch, try_occurrence}
+use Rattle.dfdl_parse.specs.Testing.{landed_test, read_test, verdict_in}
+use Rattle.dfdl_parse.proofs.Resolved.{sought-comes, tested-comes}
+use Rattle.dfdl_terms.specs.declared.asserting.PatternTest.{PatternTest}
+use Rattle.dfdl_report.specs.declared.cause.LimitCause.TheVariants.{Window}
 use Rattle.dfdl_parse.specs.Trials.{attempt, parts_of, refused, retry, trial_done, try_empty, try_nil, try_normal, two_rows}
 
 -- the numbers of the row of a table are in the tables
@@ -221,15 +232,15 @@ module _ (count : ℕ) where
   branch-names cost held id place None k s lists = left_at _ k (closed s) lists
   branch-names cost held id place (Some child) k s lists = record { sought = tt; open_lists = lists }
 
-  occurrence-names : (cost : Tally) (held : Held) (body left : ℕ) (k : List Frame) (s : State) → All IsOne s.lists → (none : Bool)
-      → Names (cond none (pass cost held (Leave Done) k s) (pass cost held (Enter body) (Occurrence body (left - 1) ∷ k) (pointed s)))
-  occurrence-names cost held body left k s lists true = left_at Done k s lists
-  occurrence-names cost held body left k s lists false = record { sought = tt; open_lists = lists }
+  occurrence-names : (cost : Tally) (held : Held) (body : ℕ) (initiated : Bool) (left : ℕ) (k : List Frame) (s : State) → All IsOne s.lists → (none : Bool)
+      → Names (cond none (pass cost held (Leave Done) k s) (pass cost held (Enter body) (Occurrence body initiated (left - 1) ∷ k) (pointed initiated s)))
+  occurrence-names cost held body initiated left k s lists true = left_at Done k s lists
+  occurrence-names cost held body initiated left k s lists false = record { sought = tt; open_lists = lists }
 
-  passed-names : (held : Held) (body left : ℕ) (k : List Frame) (s : State) → All IsOne s.lists → (stays : Bool)
-      → Names (cond stays (pass nothing held (Leave Done) k (dropped s)) (try_occurrence nothing held body left k (closed s)))
-  passed-names held body left k s lists true = left_at Done k (dropped s) (back-lists s.marks s lists)
-  passed-names held body left k s lists false = occurrence-names nothing held body left k (closed s) lists (nat_eq left 0)
+  passed-names : (held : Held) (body : ℕ) (initiated : Bool) (left : ℕ) (k : List Frame) (s : State) → All IsOne s.lists → (stays : Bool)
+      → Names (cond stays (pass nothing held (Leave Done) k (dropped s)) (try_occurrence nothing held body initiated left k (closed s)))
+  passed-names held body initiated left k s lists true = left_at Done k (dropped s) (back-lists s.marks s lists)
+  passed-names held body initiated left k s lists false = occurrence-names nothing held body initiated left k (closed s) lists (nat_eq left 0)
 
   -- fill, and the rest of a box
   begin-names : (held : Held) (to : ℕ) (k : List Frame) (s : State) → All IsOne s.lists → (over inside : Bool)
@@ -287,13 +298,42 @@ module _ (count : ℕ) where
   one-text-names cause bits k s lists true = left_at Done k _ lists
   one-text-names cause bits k s lists false = left_at _ k s lists
 
+  -- the lists behind an end
+  abbrev Leaves : List Frame → End → State → Type 0
+  Leaves k end s = ListsWithin count (record { focus = Leave end; stack = k; state = s })
+
   text-names : (window : ℕ) (what : Sought) (reached : Reached Longest) (k : List Frame) (s : State) → All IsOne (put_behind what) → All IsOne s.lists
-      → ListsWithin count (found_text window (Seek what) (cause_of what) (place_of what s) reached k s)
+      → ListsWithin count (found_text window (Seek what) what (place_of what s) reached k s)
   text-names window what (Told (Text which bits)) k s less lists =
-      one-text-names (cause_of what) bits k s lists (nat_eq which (place_of what s) && nat_lt 0 bits)
-  text-names window what (Told NoText) k s less lists = left_at _ k s lists
-  text-names window what TooFar k s less lists = left_at _ k s lists
+      sought-comes (Leaves k) (λ t within. left_at Done k (resolved t) within.open_lists) what
+      (passed_text (cause_of what) (place_of what s) window (Told (Text which bits)) s)
+      (one-text-names (cause_of what) bits k s lists (nat_eq which (place_of what s) && nat_lt 0 bits))
+  text-names window what (Told NoText) k s less lists =
+      sought-comes (Leaves k) (λ t within. left_at Done k (resolved t) within.open_lists) what (ended (Failed (cause_of what) s.at) s) (left_at _ k s lists)
+  text-names window what TooFar k s less lists =
+      sought-comes (Leaves k) (λ t within. left_at Done k (resolved t) within.open_lists) what (ended (Stopped Window window) s) (left_at _ k s lists)
   text-names window what Missing k s less lists = record { sought = less; open_lists = lists }
+
+  -- a test
+  verdict-names : (limits : Limits) (id number : ℕ) (test : PatternTest) (reached : Reached Bool) (k : List Frame) (s : State) → All IsOne s.lists
+      → ListsWithin count (landed_test limits (Enter id) test number reached k s)
+  verdict-names limits id number test (Told holds) k s lists =
+      tested-comes (Leaves k) (λ t within. left_at Done k (resolved t) within.open_lists) test number holds s (left_at Done k s lists) (left_at _ k s lists)
+  verdict-names limits id number test TooFar k s lists = left_at _ k s lists
+  verdict-names limits id number test Missing k s lists = record { sought = tt; open_lists = lists }
+
+  test-names : (limits : Limits) (held : Held) (id number : ℕ) (test : Option PatternTest) (k : List Frame) (s : State) → All IsOne s.lists
+      → Names (read_test one_row limits (Enter id) held number test k s)
+  test-names limits held id number None k s lists = left_at Done k s lists
+  test-names limits held id number (Some test) k s lists =
+      verdict-names limits id number test
+      (verdict_in test.form (ask (seen_at (from_byte held (anchor s))) (text_sought test.form (aligned 8 s.at) s.stop) nothing).reached) k s lists
+
+  -- what has failed at a point that is resolved, or not
+  failed-names : (held : Held) (end : End) (k : List Frame) (s : State) (other : Move) → All IsOne s.lists → Names other → (settled : Bool)
+      → Names (cond settled (pass nothing held (Leave end) k (closed s)) other)
+  failed-names held end k s other lists names true = left_at end k (closed s) lists
+  failed-names held end k s other lists names false = names
 
   group-names : (held : Held) (id : ℕ) (children : List ℕ) (k : List Frame) (s : State) → All IsOne s.lists → Names (enter_group held id children k s)
   group-names held id [] k s lists = left_at Done k s lists
@@ -302,6 +342,50 @@ module _ (count : ℕ) where
   go-names : (held : Held) (id next : ℕ) (child : Option ℕ) (k : List Frame) (s : State) → All IsOne s.lists → Names (go_on held id next child k s)
   go-names held id next None k s lists = left_at Done k s lists
   go-names held id next (Some child) k s lists = record { sought = tt; open_lists = lists }
+
+  -- the steps of slots
+  opened-lists : (initiated tried mark : Bool) (s : State) → All IsOne s.lists → All IsOne (cond tried (pointed initiated (cond mark (marked s) s)) s).lists
+  opened-lists initiated true true s lists = lists
+  opened-lists initiated true false s lists = lists
+  opened-lists initiated false mark s lists = lists
+
+  slot-lists : (initiated : Bool) (here : Here) (s : State) → All IsOne s.lists → All IsOne (opened_at initiated here s).lists
+  slot-lists initiated here s lists = opened-lists initiated (is_tried here.rule) (has_mark here) s lists
+
+  shut-lists : (tried mark : Bool) (s : State) → All IsOne s.lists → All IsOne (cond tried (cond mark (closed (closed s)) (closed s)) s).lists
+  shut-lists true true s lists = lists
+  shut-lists true false s lists = lists
+  shut-lists false mark s lists = lists
+
+  closed-lists : (s : State) → All IsOne s.lists → (here : Here) → All IsOne (closed_slot here s).lists
+  closed-lists s lists here = shut-lists (is_tried here.rule) (has_mark here) s lists
+
+  slot-ways : (cost : Tally) (held : Held) (k : List Frame) → Ways Names (λ s. All IsOne s.lists) cost held k
+  slot-ways cost held k = record {
+    leaves = λ end t lists. left_at end k t lists;
+    looks = λ slot t lists. record { sought = tt; open_lists = lists };
+    enters = λ slot body bit empty t lists. record { sought = tt; open_lists = lists };
+    seeks = λ slot t lists. record { sought = no-names; open_lists = lists };
+  }
+
+  abbrev HasLists : State → Type 0
+  HasLists s = All IsOne s.lists
+
+  ended-names : (held : Held) (initiated : Bool) (k : List Frame) (slot : SlotPlace) (s : State) → All IsOne s.lists → (bit : ℕ) (empty : Bool) (slots : List Slot)
+      (moved : Bool) (failure : Option ParseCause) (end : End) → Names (content_ended held initiated slot bit empty slots moved failure end k s)
+  ended-names held initiated k slot s lists bit empty slots moved failure end =
+      content_ended-has Names HasLists held initiated k (slot-lists initiated) (slot-ways nothing held k) slot s lists (closed-lists s lists)
+      (closed-lists (back s) (back-lists s.marks s lists))
+      (record {
+        closes = λ slot bit t there. record { sought = no-names; open_lists = there };
+        asks = λ slot bit t there. record { sought = tt; open_lists = there };
+      }) bit (back-lists s.marks s lists) (closed-lists (record (back s) { at = bit }) (back-lists s.marks s lists)) empty slots moved failure end
+
+  closing-names : (held : Held) (initiated : Bool) (k : List Frame) (slot : SlotPlace) (s : State) → All IsOne s.lists → (bit : ℕ) (slots : List Slot) (found : Bool)
+      (end : End) → Names (closing_ended held initiated slot bit slots found end k s)
+  closing-names held initiated k slot s lists bit slots found end =
+      closing-has Names HasLists held initiated k (slot-lists initiated) (slot-ways nothing held k) slot s lists (closed-lists s lists)
+      (closed-lists (back s) (back-lists s.marks s lists)) bit slots found end
 
   leave-names : (limits : Limits) (table : Table) (held : Held) (frame : Frame) (end : End) (k : List Frame) (s : State) → All IsOne s.lists
       → Names (leave limits table held frame end k s)
@@ -318,10 +402,59 @@ module _ (count : ℕ) where
       retry-names limits.nodes held id (parts_of (slice_get table.rows id)) next (Failed cause bit) k s lists
   leave-names limits table held (Branch id next) Done k s lists = left_at Done k (closed s) lists
   leave-names limits table held (Branch id next) (Failed cause bit) k s lists =
-      branch-names nothing held id next (slice_get (children_of (slice_get table.rows id)) next) k (back s) (back-lists s.marks s lists)
-  leave-names limits table held (Occurrence body left) Done k s lists = passed-names held body left k s lists (stays_at s.marks s.at)
-  leave-names limits table held (Occurrence body left) (Failed cause bit) k s lists = left_at Done k (dropped s) (back-lists s.marks s lists)
+      failed-names held (Failed cause bit) k s _ lists
+      (branch-names nothing held id next (slice_get (children_of (slice_get table.rows id)) next) k (back s) (back-lists s.marks s lists))
+      (is_settled s.marks)
+  leave-names limits table held (Occurrence body initiated left) Done k s lists = passed-names held body initiated left k s lists (stays_at s.marks s.at)
+  leave-names limits table held (Occurrence body initiated left) (Failed cause bit) k s lists =
+      failed-names held (Failed cause bit) k s _ lists (left_at Done k (dropped s) (back-lists s.marks s lists)) (is_settled s.marks)
+  leave-names limits table held (Before slot) Done k s lists =
+      done-has Names HasLists held false k (slot-lists false) (slot-ways nothing held k) slot s lists (closed-lists s lists) (slots_from table slot)
+  leave-names limits table held (Before slot) (Failed cause bit) k s lists =
+      failed-has Names HasLists held (separation_at table slot).initiated k (slot-lists (separation_at table slot).initiated) (slot-ways nothing held k) slot s lists
+      (closed-lists s lists) (closed-lists (back s) (back-lists s.marks s lists)) (slots_from table slot) (Failed cause bit)
+  leave-names limits table held (Content slot bit empty) Done k s lists =
+      ended-names held (separation_at table slot).initiated k slot s lists bit empty (slots_from table slot) (nat_lt bit s.at) None Done
+  leave-names limits table held (Content slot bit empty) (Failed cause at) k s lists =
+      ended-names held (separation_at table slot).initiated k slot s lists bit empty (slots_from table slot) false (Some cause) (Failed cause at)
+  leave-names limits table held (Closing slot bit) Done k s lists =
+      closing-names held (separation_at table slot).initiated k slot s lists bit (slots_from table slot) true Done
+  leave-names limits table held (Closing slot bit) (Failed cause at) k s lists =
+      closing-names held (separation_at table slot).initiated k slot s lists bit (slots_from table slot) false (Failed cause at)
   leave-names limits table held frame (Stopped cause quantity) k s lists = left_at _ k s lists
+
+  -- a question of a slot
+  told-names : (limits : Limits) (focus : Focus) (sight : Held) (cost : Tally) (moves : Bool → Move) (reached : Reached Bool) (k : List Frame) (s : State) → All IsOne s.lists
+      → ((answer : Bool) → Names (moves answer)) → SeeksWithin count focus → Names (told_move limits focus sight cost moves reached k s)
+  told-names limits focus sight cost moves (Told answer) k s lists each seeks = each answer
+  told-names limits focus sight cost moves TooFar k s lists each seeks = left_at _ k s lists
+  told-names limits focus sight cost moves Missing k s lists each seeks = record { sought = seeks; open_lists = lists }
+
+  occurs-names : (cost : Tally) (sight : Held) (initiated : Bool) (slot : SlotPlace) (body : ℕ) (k : List Frame) (s : State) → All IsOne s.lists → (empty before : Bool) (here : Here)
+      → Names (pass cost sight (Enter body) (Content slot s.at empty ∷ k) (cond before s (opened_at initiated here s)))
+  occurs-names cost sight initiated slot body k s lists empty true here = record { sought = tt; open_lists = lists }
+  occurs-names cost sight initiated slot body k s lists empty false here = record { sought = tt; open_lists = slot-lists initiated here s lists }
+
+  look_in-names : (limits : Limits) (delimiters : List Delimiters) (held : Held) (initiated : Bool) (slot : SlotPlace) (slots : List Slot) (k : List Frame) (s : State) → All IsOne s.lists
+      → Names (look_in limits delimiters held initiated slot slots k s)
+  look_in-names limits delimiters held initiated slot [] k s lists =
+      unsought_end-has Names HasLists held initiated k (slot-lists initiated) (slot-ways nothing held k) slot s lists (closed-lists s lists) Done
+  look_in-names limits delimiters held initiated slot (own ∷ slots) k s lists =
+      told-names limits (LookIn slot) (from_byte held (anchor s)) _ _
+      (ask (seen_at (from_byte held (anchor s))) (is_empty_at (lists_of delimiters (markup s)) s.at s.stop) nothing).reached k s lists
+      (λ empty. occurs-names
+      (needs_from (anchor s) (ask (seen_at (from_byte held (anchor s))) (is_empty_at (lists_of delimiters (markup s)) s.at s.stop) nothing).tally)
+      (from_byte held (anchor s)) initiated slot own.body k s lists empty (opens_before (here_of slot.progress slot.rule)) (here_of slot.progress slot.rule)) tt
+
+  look_behind-names : (limits : Limits) (delimiters : List Delimiters) (held : Held) (initiated : Bool) (slot : SlotPlace) (bit : ℕ) (slots : List Slot) (k : List Frame) (s : State)
+      → All IsOne s.lists → Names (look_behind limits delimiters held initiated slot bit slots k s)
+  look_behind-names limits delimiters held initiated slot bit [] k s lists =
+      unslotted_end-has Names HasLists held initiated k (slot-lists initiated) (slot-ways nothing held k) slot s lists (closed-lists s lists) Done
+  look_behind-names limits delimiters held initiated slot bit (own ∷ slots) k s lists =
+      told-names limits (LookBehind slot bit) (from_byte held (anchor s)) _ _
+      (ask (seen_at (from_byte held (anchor s))) (separator_follows (lists_of delimiters (markup s)) (length (markup s) - 1) s.at s.stop) nothing).reached k s lists
+      (λ found. settled-has Names HasLists (from_byte held (anchor s)) initiated k (slot-lists initiated) _ (slot-ways _ (from_byte held (anchor s)) k) slot bit own slots found Done s
+      lists (closed-lists s lists) (closed-lists (back s) (back-lists s.marks s lists))) tt
 
 module _ (limits : Limits) (table : Table) (held : Held) (named : All (NamesWithin (named_by table)) table.rows) where
   abbrev count : ℕ
@@ -358,12 +491,16 @@ module _ (limits : Limits) (table : Table) (held : Held) (named : All (NamesWith
       (λ units after still. begun-names count by (size_of prefix.unit units) (slice_get table.primitives by) k after still)
       held (slice_get table.primitives prefix.prim) s lists
   enter-names id (Some (Repeat times body)) k s is lists = group-names count held id (replicate times body) k s lists
-  enter-names id (Some (Optional most item body)) k s is lists = occurrence-names count one_row held body most k s lists (nat_eq most 0)
-  enter-names id (Some (Choice rows)) k s is lists = branch-names count one_row held id 0 (slice_get rows 0) k (pointed s) lists
+  enter-names id (Some (Optional most item initiated body)) k s is lists = occurrence-names count one_row held body initiated most k s lists (nat_eq most 0)
+  enter-names id (Some (Choice rows initiated)) k s is lists = branch-names count one_row held id 0 (slice_get rows 0) k (pointed initiated s) lists
   enter-names id (Some (PrefixedBox prefix body)) k s is lists =
       prefix-names count limits table.delimiters id prefix.own (behind_units table.primitives prefix.unit (behind.Box body)) k
       (λ units after still. box-names count (bits_of_units prefix.unit units) body k after still (nat_le (after.at + bits_of_units prefix.unit units) after.stop))
       held (slice_get table.primitives prefix.prim) s lists
+  enter-names id (Some (Test test)) k s is lists = test-names count limits held id test (slice_get table.tests test) k s lists
+  enter-names id (Some (Hidden body)) k s is lists = record { sought = tt; open_lists = lists }
+  enter-names id (Some (Separated policy position initiated slots)) k s is lists =
+      separated-has (Names count) (HasLists count) held initiated k (slot-lists count initiated) (slot-ways count one_row held k) id policy position slots s lists
 
   pub step-names : (focus : Focus) (k : List Frame) (s : State) → ListsWithin count (record { focus = focus; stack = k; state = s })
       → ListsWithin count (step limits table held focus k s).machine
@@ -380,6 +517,10 @@ module _ (limits : Limits) (table : Table) (held : Held) (named : All (NamesWith
       text-names count limits.window what
       (ask (seen_at (from_byte held (anchor_at s (aligned 8 s.at)))) (sought_among (among table.delimiters what s) s.at s.stop) nothing).reached k s
       within.sought within.open_lists
+  step-names (LookIn slot) k s within =
+      look_in-names count limits table.delimiters held (separation_at table slot).initiated slot (slots_from table slot) k s within.open_lists
+  step-names (LookBehind slot bit) k s within =
+      look_behind-names count limits table.delimiters held (separation_at table slot).initiated slot bit (slots_from table slot) k s within.open_lists
   step-names (Leave end) [] s within = within
   step-names (Leave end) (frame ∷ k) s within = leave-names count limits table held frame end k s within.open_lists
 

@@ -24,11 +24,12 @@ use Rattle.dfdl_parse.specs.declared.frame.Focus.TheVariants.{Enter, Seek, Leave
 use Rattle.dfdl_parse.specs.declared.frame.Sought.{Sought}
 use Rattle.dfdl_parse.specs.declared.frame.Sought.TheVariants.{Separator}
 use Rattle.dfdl_parse.specs.Moves.{pass}
-use Rattle.dfdl_parse.specs.Searches.{among, cause_of, found_text, is_cut, place_of, search, sought_text}
+use Rattle.dfdl_parse.specs.Searches.{among, at_outcome, cause_of, found_text, is_cut, place_of, search, sought_by, sought_text}
 use Rattle.dfdl_parse.specs.Ahead.{ahead, finish}
 use Rattle.dfdl_parse.proofs.Windows.{agrees_from, end_from}
 use Rattle.dfdl_parse.proofs.Finishes.{Anchored, Does, finish-spend, from_here}
 use Rattle.dfdl_parse.proofs.Seeks.{sought-from}
+use Rattle.dfdl_parse.proofs.Resolved.{sought-nothing, sought-spend}
 
 -- what a search makes of the state costs nothing more
 one-nothing : (cause : ParseCause) (bits : ℕ) (s : State) (is : Bool)
@@ -81,14 +82,23 @@ module _ (input : Input) (table : Table) where
       finish-spend input table k one_row (scoped list (below input table id body) s)
       ∙ ap (λ (o : Outcome). spend one_row (finish input table k (unscoped o.end (length s.lists) o))) (below-meaning input table id body (opens list s) less)
 
-  text-ahead : (focus : Focus) (cause : ParseCause) (place : ℕ) (reached : Reached Longest) (k : List Frame) (s : State) → is_cut reached ≡ false
-      → finish input table k (passed_text cause place input.limits.window reached s)
-      ≡ ahead input table (found_text input.limits.window focus cause place reached k s)
-  text-ahead focus cause place (Told found) k s is =
-      let o : Outcome = passed_text cause place input.limits.window (Told found) s in
-      ap (λ (t : Tally). finish input table k (record { end = o.end; state = o.state; tally = t })) (text-nothing cause place input.limits.window (Told found) s)
-  text-ahead focus cause place TooFar k s is = refl
-  text-ahead focus cause place Missing k s is = absurd (cc)
+  -- what is sought, behind its search
+  resolved-ahead : (what : Sought) (o : Outcome) (k : List Frame) → o.tally ≡ nothing
+      → finish input table k (sought_by what o) ≡ ahead input table (at_outcome (sought_by what o) k)
+  resolved-ahead what o k free =
+      let p : Outcome = sought_by what o in
+      ap (λ (t : Tally). finish input table k (record { end = p.end; state = p.state; tally = t }))
+      (ap (λ (t : Tally). (sought_by what (record { end = o.end; state = o.state; tally = t })).tally) free ∙ sought-nothing what o.end o.state)
+
+  text-ahead : (focus : Focus) (what : Sought) (place : ℕ) (reached : Reached Longest) (k : List Frame) (s : State) → is_cut reached ≡ false
+      → finish input table k (sought_by what (passed_text (cause_of what) place input.limits.window reached s))
+      ≡ ahead input table (found_text input.limits.window focus what place reached k s)
+  text-ahead focus what place (Told found) k s is =
+      resolved-ahead what (passed_text (cause_of what) place input.limits.window (Told found) s) k
+      (text-nothing (cause_of what) place input.limits.window (Told found) s)
+  text-ahead focus what place TooFar k s is =
+      resolved-ahead what (passed_text (cause_of what) place input.limits.window TooFar s) k (text-nothing (cause_of what) place input.limits.window TooFar s)
+  text-ahead focus what place Missing k s is = absurd (cc)
 
   -- a search over whole data
   abbrev pub whole_of : Sought → State → Reading Longest
@@ -120,10 +130,11 @@ module _ (input : Input) (table : Table) where
     seek-ahead going =
         let cause : ParseCause = cause_of what in
         let place : ℕ = place_of what s in
-        ap (λ (r : Reading Longest). finish input table k (spend (needs_from low r.tally) (passed_text cause place input.limits.window r.reached s)))
+        ap (λ (r : Reading Longest). finish input table k (sought_by what (spend (needs_from low r.tally) (passed_text cause place input.limits.window r.reached s))))
         (sym (seek-reads (came here.reached going)))
-        ∙ finish-spend input table k (needs_from low here.tally) (passed_text cause place input.limits.window here.reached s)
-        ∙ ap (spend (needs_from low here.tally)) (text-ahead (Seek what) cause place here.reached k s going)
+        ∙ ap (finish input table k) (sought-spend what (needs_from low here.tally) (passed_text cause place input.limits.window here.reached s))
+        ∙ finish-spend input table k (needs_from low here.tally) (sought_by what (passed_text cause place input.limits.window here.reached s))
+        ∙ ap (spend (needs_from low here.tally)) (text-ahead (Seek what) what place here.reached k s going)
 
     -- a search that was in vain is one for the end of the data that have come
     pub seek-lost : length input.bytes ≡ end_of held → held.ended ≡ false → here.reached ≡ Missing
@@ -141,9 +152,10 @@ module _ (input : Input) (table : Table) where
         let far : length input.bytes < whole.tally.far = subst (λ (r : Reading Longest). length input.bytes < r.tally.far) same told.1 in
         let some : 0 < here.tally.looks = counted (seen_at sight) asks nothing missing in
         let o : Outcome = passed_text (cause_of what) (place_of what s) input.limits.window whole.reached s in
-        let rest : Outcome = finish input table k o in
+        let rest : Outcome = finish input table k (sought_by what o) in
         let is : from_here input table (Seek what) k s ≡ spend (needs_from low whole.tally) rest =
-        finish-spend input table k (needs_from low whole.tally) o in
+        ap (finish input table k) (sought-spend what (needs_from low whole.tally) o)
+        ∙ finish-spend input table k (needs_from low whole.tally) (sought_by what o) in
         let is_tail : (from_here input table (Seek what) k s).tally.tail ≡ first_of whole.tally.tail rest.tally.tail =
         ap (λ (o : Outcome). o.tally.tail) is in
         let is_far : (from_here input table (Seek what) k s).tally.far ≡ max whole.tally.far rest.tally.far =

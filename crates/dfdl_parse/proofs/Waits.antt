@@ -10,10 +10,10 @@ use Rattle.dfdl_value.specs.declared.value.Value.{Value}
 use Rattle.dfdl_terms.specs.declared.row.Primitive.{Primitive}
 use Rattle.dfdl_delims.specs.Longest.{Longest}
 use Rattle.dfdl_terms.specs.declared.row.Row.{Row}
-use Rattle.dfdl_terms.specs.declared.row.Row.TheVariants.{Leaf, Elem, Group, Skip, Align, Initiator, Terminator, Separator, Scope, Boxed, PrefixedLeaf, PrefixedBox, Repeat, Optional, Choice}
+use Rattle.dfdl_terms.specs.declared.row.Row.TheVariants.{Leaf, Elem, Group, Skip, Align, Initiator, Terminator, Separator, Scope, Boxed, PrefixedLeaf, PrefixedBox, Repeat, Optional, Choice, Test, Hidden, Separated}
 use Rattle.dfdl_terms.specs.Rows.{Table}
 use Rattle.dfdl_looks.specs.Looks.{seen_in}
-use Rattle.dfdl_looks.specs.Asks.{Reached, Told, TooFar, Missing, Reading, ask}
+use Rattle.dfdl_looks.specs.Asks.{Ask, AsksFrom, Reached, Told, TooFar, Missing, Reading, ask}
 use Rattle.dfdl_looks.specs.Tallies.{Tally, beside_first, first_of, needs_from, nothing, one_row, plus, saw_byte, saw_end}
 use Rattle.dfdl_looks.proofs.Waiting.{missed, waits_while, counted}
 use Rattle.dfdl_grammar.specs.declared.end.End.{End}
@@ -35,18 +35,18 @@ use Rattle.dfdl_grammar.specs.Elements.{begun, has_elements}
 use Rattle.dfdl_grammar.specs.Rows.{below, meaning, row}
 use Rattle.dfdl_grammar.proofs.Spending.{spend-spend, spend-nothing}
 use Rattle.dfdl_parse.specs.declared.frame.Frame.{Frame}
-use Rattle.dfdl_parse.specs.declared.frame.Frame.TheVariants.{Rest, Element, Box, Scope as ScopeFrame, Trial, Branch, Occurrence}
+use Rattle.dfdl_parse.specs.declared.frame.Frame.TheVariants.{Rest, Element, Box, Scope as ScopeFrame, Trial, Branch, Occurrence, Before, Content, Closing}
 use Rattle.dfdl_parse.specs.declared.frame.Outside.{Outside}
 use Rattle.dfdl_parse.specs.declared.frame.Next.{Next}
 use Rattle.dfdl_parse.specs.declared.frame.Next.TheVariants as next
 use Rattle.dfdl_parse.specs.declared.frame.Parts.{Parts}
 use Rattle.dfdl_parse.specs.declared.frame.Focus.{Focus}
-use Rattle.dfdl_parse.specs.declared.frame.Focus.TheVariants.{Enter, Pass, PassRest, Sized, Seek, Leave}
+use Rattle.dfdl_parse.specs.declared.frame.Focus.TheVariants.{Enter, Pass, PassRest, Sized, Seek, LookIn, LookBehind, Leave}
 use Rattle.dfdl_parse.specs.declared.frame.Behind.TheVariants as behind
 use Rattle.dfdl_parse.specs.Boxing.{back_outside, hides}
 use Rattle.dfdl_parse.specs.declared.frame.Sought.{Sought}
 use Rattle.dfdl_parse.specs.declared.frame.Sought.TheVariants as sought
-use Rattle.dfdl_parse.specs.Searches.{among, cause_of, found_text, place_of, search}
+use Rattle.dfdl_parse.specs.Searches.{among, found_text, place_of, search}
 use Rattle.dfdl_parse.specs.Moves.{Machine, Move, is_missing, landed, pass, read_leaf, read_move}
 use Rattle.dfdl_parse.specs.Prefixed.{behind_units, landed_prefix, prefix_move, read_prefix, read_resized, read_sized}
 use Rattle.dfdl_parse.specs.Machines.{children_of, enter, enter_group, fill, fill_move, go_on, leave, pass_rest, rest_move, seen_beyond, step}
@@ -55,10 +55,23 @@ use Rattle.dfdl_parse.specs.Ahead.{finish}
 use Rattle.dfdl_parse.proofs.Windows.{agrees_from, end_from}
 use Rattle.dfdl_parse.proofs.Beyond.{beyond-missed, beyond-waits}
 use Rattle.dfdl_parse.proofs.Programs.{program_for-from}
-use Rattle.dfdl_parse.proofs.Finishes.{Fits, finish-spend, from_here}
-use Rattle.dfdl_parse.proofs.PointSteps.{branch-on, occurrence-done-on, occurrence-on}
+use Rattle.dfdl_grammar.specs.Slots.{is_empty_at, peek, separator_follows, settled_by}
+use Rattle.dfdl_terms.specs.declared.slots.Slot.{Slot}
+use Rattle.dfdl_parse.specs.declared.frame.SlotPlace.{SlotPlace}
+use Rattle.dfdl_parse.specs.Slots.{look_behind, look_in, separation_at, slots_from, told_move}
+use Rattle.dfdl_parse.specs.SlotsAhead.{asked_behind, asked_in, course_of, occur_in, sequence_of, turn_of}
+use Rattle.dfdl_parse.proofs.SlotAsks.{empty-from, peek-lost, separator-from}
+use Rattle.dfdl_parse.proofs.SlotMoves.{closing-passes, done-passes, ended-passes, failed-passes, separated-passes, settled-passes}
+use Rattle.dfdl_parse.proofs.Finishes.{Anchored, Fits, finish-spend, from_here}
+use Rattle.dfdl_parse.proofs.PointSteps.{branch-on, failed-branch-on, failed-occurrence-on, occurrence-done-on, occurrence-on}
 use Rattle.dfdl_parse.proofs.SeekSteps.{is_lost as text_lost, seek-lost, seek-room}
 use Rattle.dfdl_parse.proofs.LeafSteps.{Sees}
+use Rattle.dfdl_parse.proofs.TestSteps.{test-from, unknown}
+use Rattle.dfdl_parse.specs.Testing.{landed_test, read_test, verdict_in}
+use Rattle.dfdl_terms.specs.declared.asserting.PatternTest.{PatternTest}
+use Rattle.dfdl_texts.specs.Texts.{Text}
+use Rattle.dfdl_grammar.specs.Leaves.{text_sought}
+use Rattle.dfdl_grammar.specs.Tests.{land_test, test_of}
 use Rattle.dfdl_parse.proofs.Ahead.{filled, rest-seen, rested}
 
 -- a step that waits
@@ -70,6 +83,11 @@ pub record Waits (table : Table) (held : Held) (focus : Focus) (k : List Frame) 
       → ((from_here input table focus k s).tally.tail ≡ move.tally.looks)
       × ((end_of held < (from_here input table focus k s).tally.far)
       × (length move.held.bytes ≡ end_of held - (from_here input table focus k s).tally.anchor))
+
+-- a step doesn't wait
+not-waiting : (waits : Bool) → waits ≡ false → waits ≡ true → ⊥
+not-waiting true is waits = absurd (cc)
+not-waiting false is waits = absurd (cc)
 
 is_lost : (reached : Reached Find) → is_missing reached ≡ true → reached ≡ Missing
 is_lost (Told f) is = absurd (cc)
@@ -92,26 +110,30 @@ module _ (table : Table) (held : Held) (s : State) where
   abbrev whole_of : Input → Option (List Value) → Primitive → Reading Find
   whole_of input nil primitive = ask (seen_in input.bytes input.limits.window (anchor s)) (program_for nil (lists_of table.delimiters (markup s)) primitive s.at s.stop) nothing
 
-  -- the outcome of a look at a leaf that was in vain, behind a cost that missed nothing, whatever is made of it
-  look-lost : (input : Input) (cost : Tally) → cost.tail ≡ 0 → (nil : Option (List Value)) (primitive : Primitive) (k : List Frame) (o : Outcome) → Sees held input s → length input.bytes ≡ end_of held
-      → (ask (seen_at (from_byte held (anchor s))) (program_for nil (lists_of table.delimiters (markup s)) primitive s.at s.stop) nothing).reached ≡ Missing → held.ended ≡ false
-      → ((finish input table k (spend cost (spend (needs_from (anchor s) (whole_of input nil primitive).tally) o))).tally.tail
-      ≡ (ask (seen_at (from_byte held (anchor s))) (program_for nil (lists_of table.delimiters (markup s)) primitive s.at s.stop) nothing).tally.looks)
-      × ((end_of held < (finish input table k (spend cost (spend (needs_from (anchor s) (whole_of input nil primitive).tally) o))).tally.far)
+  -- what is asked over whole data from the first byte on that is needed
+  abbrev asked_whole : {F : Type 0} → Input → Ask F → Reading F
+  asked_whole input asks = ask (seen_in input.bytes input.limits.window (anchor s)) asks nothing
+
+  -- the outcome of a look that was in vain, behind a cost that missed nothing, whatever is made of it
+  asked-lost : {F : Type 0} → (input : Input) (cost : Tally) → cost.tail ≡ 0 → (asks : Ask F) → AsksFrom (anchor s) asks → (k : List Frame) (o : Outcome) → Sees held input s
+      → length input.bytes ≡ end_of held → (ask (seen_at (from_byte held (anchor s))) asks nothing).reached ≡ Missing → held.ended ≡ false
+      → ((finish input table k (spend cost (spend (needs_from (anchor s) (asked_whole input asks).tally) o))).tally.tail
+      ≡ (ask (seen_at (from_byte held (anchor s))) asks nothing).tally.looks)
+      × ((end_of held < (finish input table k (spend cost (spend (needs_from (anchor s) (asked_whole input asks).tally) o))).tally.far)
       × (length (from_byte held (anchor s)).bytes
-      ≡ end_of held - (finish input table k (spend cost (spend (needs_from (anchor s) (whole_of input nil primitive).tally) o))).tally.anchor))
-  look-lost input cost no_tail nil primitive k o sees all missing on =
+      ≡ end_of held - (finish input table k (spend cost (spend (needs_from (anchor s) (asked_whole input asks).tally) o))).tally.anchor))
+  asked-lost {F} input cost no_tail asks from k o sees all missing on =
       let sight : Held = from_byte held (anchor s) in
-      let here : Reading Find = ask (seen_at sight) (program_for nil (lists_of table.delimiters (markup s)) primitive s.at s.stop) nothing in
-      let whole : Reading Find = whole_of input nil primitive in
+      let here : Reading F = ask (seen_at sight) asks nothing in
+      let whole : Reading F = asked_whole input asks in
       let ends : end_of sight ≡ end_of held = end_from held (anchor s) sees.stands.base sees.stands.end in
       let told = missed sight input.bytes (agrees_from held input.bytes (anchor s) sees.stands.base sees.stands.end sees.agrees) (all ∙ sym ends) on
-      (program_for nil (lists_of table.delimiters (markup s)) primitive s.at s.stop) (program_for-from (anchor s) nil (lists_of table.delimiters (markup s)) primitive s.at s.stop sees.stands.low) nothing refl missing in
-      let same : ask (seen_in input.bytes held.size (anchor s)) (program_for nil (lists_of table.delimiters (markup s)) primitive s.at s.stop) nothing ≡ whole =
-      ap (λ (size : ℕ). ask (seen_in input.bytes size (anchor s)) (program_for nil (lists_of table.delimiters (markup s)) primitive s.at s.stop) nothing) sees.size in
-      let tail : whole.tally.tail ≡ here.tally.looks = ap (λ (r : Reading Find). r.tally.tail) (sym same) ∙ told.0 in
-      let far : length input.bytes < whole.tally.far = subst (λ (r : Reading Find). length input.bytes < r.tally.far) same told.1 in
-      let some : 0 < here.tally.looks = counted (seen_at sight) (program_for nil (lists_of table.delimiters (markup s)) primitive s.at s.stop) nothing missing in
+      asks from nothing refl missing in
+      let same : ask (seen_in input.bytes held.size (anchor s)) asks nothing ≡ whole =
+      ap (λ (size : ℕ). ask (seen_in input.bytes size (anchor s)) asks nothing) sees.size in
+      let tail : whole.tally.tail ≡ here.tally.looks = ap (λ (r : Reading F). r.tally.tail) (sym same) ∙ told.0 in
+      let far : length input.bytes < whole.tally.far = subst (λ (r : Reading F). length input.bytes < r.tally.far) same told.1 in
+      let some : 0 < here.tally.looks = counted (seen_at sight) asks nothing missing in
       let rest : Outcome = finish input table k o in
       let spent : Tally = needs_from (anchor s) whole.tally in
       let is : finish input table k (spend cost (spend spent o)) ≡ spend (plus cost spent) rest =
@@ -131,6 +153,40 @@ module _ (table : Table) (held : Held) (s : State) where
         (omega arith, omega (arith, kept, is_anchor)),
       )
 
+  -- a step whose look was in vain
+  pub asked-waits : {F : Type 0} → (cost : Tally) → cost.tail ≡ 0 → cost.looks ≡ 0 → (focus : Focus) (asks : Ask F) → (Anchored held s → AsksFrom (anchor s) asks)
+      → (k : List Frame) (machine : Machine) (waits : Bool) → machine ≡ record { focus = focus; stack = k; state = s }
+      → ((input : Input) → Fits held input focus s → Sees held input s) → (made : Input → Outcome)
+      → ((input : Input) → from_here input table focus k s ≡ finish input table k (spend cost (spend (needs_from (anchor s) (asked_whole input asks).tally) (made input))))
+      → (ask (seen_at (from_byte held (anchor s))) asks nothing).reached ≡ Missing
+      → Waits table held focus k s (record {
+        tally = plus cost (needs_from (anchor s) (ask (seen_at (from_byte held (anchor s))) asks nothing).tally);
+        machine = machine;
+        held = from_byte held (anchor s);
+        waits = waits;
+      })
+  asked-waits {F} cost no_tail no_looks focus asks from k machine waits stays sees made is missing =
+      let sight : Held = from_byte held (anchor s) in
+      let here : Reading F = ask (seen_at sight) asks nothing in
+      let stands = waits_while sight asks nothing missing in
+      let short : length sight.bytes < sight.size = stands.1 in
+      record {
+        machine = stays;
+        on = stands.0;
+        room = omega arith;
+        missed = λ input fits all.
+            let seen = sees input fits in
+            let lost = asked-lost input cost no_tail asks (from seen.stands) k (made input) seen all missing stands.0 in
+            let looks : here.tally.looks ≡ (plus cost here.tally).looks = omega arith in
+            let same = sym (is input) in (
+              ap (λ (o : Outcome). o.tally.tail) (is input) ∙ lost.0 ∙ looks,
+              (
+                subst (λ (o : Outcome). end_of held < o.tally.far) same lost.1.0,
+                subst (λ (o : Outcome). length sight.bytes ≡ end_of held - o.tally.anchor) same lost.1.1,
+              ),
+            );
+      }
+
   -- a step whose look at a leaf was in vain
   look-waits : (cost : Tally) → cost.tail ≡ 0 → cost.looks ≡ 0 → (focus : Focus) (nil : Option (List Value)) (primitive : Primitive) (k : List Frame) (machine : Machine) (waits : Bool)
       → machine ≡ record { focus = focus; stack = k; state = s }
@@ -144,25 +200,26 @@ module _ (table : Table) (held : Held) (s : State) where
         waits = waits;
       })
   look-waits cost no_tail no_looks focus nil primitive k machine waits stays sees made is missing =
-      let sight : Held = from_byte held (anchor s) in
-      let here : Reading Find = ask (seen_at sight) (program_for nil (lists_of table.delimiters (markup s)) primitive s.at s.stop) nothing in
-      let stands = waits_while sight (program_for nil (lists_of table.delimiters (markup s)) primitive s.at s.stop) nothing missing in
-      let short : length sight.bytes < sight.size = stands.1 in
-      record {
-        machine = stays;
-        on = stands.0;
-        room = omega arith;
-        missed = λ input fits all.
-            let lost = look-lost input cost no_tail nil primitive k (made input) (sees input fits) all missing stands.0 in
-            let looks : here.tally.looks ≡ (plus cost here.tally).looks = omega arith in
-            let same = sym (is input) in (
-              ap (λ (o : Outcome). o.tally.tail) (is input) ∙ lost.0 ∙ looks,
-              (
-                subst (λ (o : Outcome). end_of held < o.tally.far) same lost.1.0,
-                subst (λ (o : Outcome). length sight.bytes ≡ end_of held - o.tally.anchor) same lost.1.1,
-              ),
-            );
-      }
+      asked-waits cost no_tail no_looks focus (program_for nil (lists_of table.delimiters (markup s)) primitive s.at s.stop)
+      (λ stands. program_for-from (anchor s) nil (lists_of table.delimiters (markup s)) primitive s.at s.stop stands.low) k machine waits stays sees made is missing
+
+  -- a test that waits
+  test-waits : (limits : Limits) (id number : ℕ) (test : Option PatternTest) (k : List Frame) → slice_get table.tests number ≡ test
+      → slice_get table.rows id ≡ Some (Test number) → (read_test one_row limits (Enter id) held number test k s).waits ≡ true
+      → Waits table held (Enter id) k s (read_test one_row limits (Enter id) held number test k s)
+  unfolding meaning
+  test-waits limits id number None k is at waits = absurd (cc)
+  test-waits limits id number (Some test) k is at waits =
+      let asks : Ask Text = text_sought test.form (aligned 8 s.at) s.stop in
+      let here : Reading Text = ask (seen_at (from_byte held (anchor s))) asks nothing in
+      let missing : here.reached ≡ Missing = unknown test.form here.reached waits in
+      asked-waits one_row refl refl (Enter id) asks (λ stands. test-from (anchor s) test.form s.at s.stop stands.low) k _ _
+      (ap (λ (r : Reached Text). landed_test limits (Enter id) test number (verdict_in test.form r) k s) missing)
+      (λ input fits. record { agrees = fits.agrees; size = fits.size; stands = fits.stands })
+      (λ input. land_test input.limits test number (asked_whole input asks).reached s)
+      (λ input. ap (λ (r : Option Row). finish input table k (spend one_row (row input table (below input table id) id r s))) at
+      ∙ ap (λ (t : Option PatternTest). finish input table k (spend one_row (test_of input number t s))) is)
+      missing
 
   -- the values that are nil, if a leaf has to have one of them
   abbrev nil : Option (List Value)
@@ -424,7 +481,7 @@ module _ (table : Table) (held : Held) (s : State) where
       let missing : here.reached ≡ Missing = text_lost here.reached waits in
       let stands = seek-room table.delimiters held what s missing in
       record {
-        machine = ap (λ (r : Reached Longest). found_text limits.window (Seek what) (cause_of what) (place_of what s) r k s) missing;
+        machine = ap (λ (r : Reached Longest). found_text limits.window (Seek what) what (place_of what s) r k s) missing;
         on = stands.0;
         room = stands.1;
         missed = λ input fits all. seek-lost input table held what k s fits.agrees fits.size fits.stands all stands.0 missing;
@@ -458,14 +515,18 @@ module _ (table : Table) (held : Held) (s : State) where
       (λ input. ap (λ (r : Option Row). finish input table k (spend one_row (row input table (below input table id) id r s))) at)
       by refl waits
   enter-waits limits id (Some (Repeat count body)) k at waits = absurd (group-on id (replicate count body) k waits)
-  enter-waits limits id (Some (Optional most item body)) k at waits = absurd (occurrence-on held k one_row body most s waits)
-  enter-waits limits id (Some (Choice rows)) k at waits = absurd (branch-on held k one_row id 0 (slice_get rows 0) (pointed s) waits)
+  enter-waits limits id (Some (Optional most item initiated body)) k at waits = absurd (occurrence-on held k one_row body initiated most s waits)
+  enter-waits limits id (Some (Choice rows initiated)) k at waits = absurd (branch-on held k one_row id 0 (slice_get rows 0) (pointed initiated s) waits)
   enter-waits limits id (Some (PrefixedBox prefix body)) k at waits =
       let by : Option Primitive = slice_get table.primitives prefix.prim in
       prefix-waits limits id prefix.own (λ input units after. boxed input (bits_of_units prefix.unit units) (below input table id body) after)
       (behind_units table.primitives prefix.unit (behind.Box body)) k by
       (λ input. ap (λ (r : Option Row). finish input table k (spend one_row (row input table (below input table id) id r s))) at)
       by refl waits
+  enter-waits limits id (Some (Test test)) k at waits = test-waits limits id test (slice_get table.tests test) k refl at waits
+  enter-waits limits id (Some (Hidden body)) k at waits = absurd (cc)
+  enter-waits limits id (Some (Separated policy position initiated slots)) k at waits =
+      absurd (not-waiting _ (separated-passes held initiated k id policy position slots s).waits waits)
 
   go-on : (id next : ℕ) (child : Option ℕ) (k : List Frame) → (go_on held id next child k s).waits ≡ true → ⊥
   go-on id next None k waits = absurd (cc)
@@ -484,10 +545,77 @@ module _ (table : Table) (held : Held) (s : State) where
   leave-on limits (Trial id next) (Failed cause bit) k waits = retry-on limits.nodes id (parts_of (slice_get table.rows id)) next (Failed cause bit) k waits
   leave-on limits (Branch id next) Done k waits = absurd (cc)
   leave-on limits (Branch id next) (Failed cause bit) k waits =
-      branch-on held k nothing id next (slice_get (children_of (slice_get table.rows id)) next) (back s) waits
-  leave-on limits (Occurrence body left) Done k waits = occurrence-done-on held k body left s waits
-  leave-on limits (Occurrence body left) (Failed cause bit) k waits = absurd (cc)
+      failed-branch-on held k id next (slice_get (children_of (slice_get table.rows id)) next) (Failed cause bit) s waits
+  leave-on limits (Occurrence body initiated left) Done k waits = occurrence-done-on held k body initiated left s waits
+  leave-on limits (Occurrence body initiated left) (Failed cause bit) k waits = failed-occurrence-on held k (Failed cause bit) s waits
+  leave-on limits (Before slot) Done k waits = not-waiting _ (done-passes held false k slot (slots_from table slot) s).waits waits
+  leave-on limits (Before slot) (Failed cause bit) k waits =
+      not-waiting _ (failed-passes held (separation_at table slot).initiated k slot (slots_from table slot) (Failed cause bit) s).waits waits
+  leave-on limits (Content slot bit empty) Done k waits =
+      not-waiting _ (ended-passes held (separation_at table slot).initiated k slot bit empty (slots_from table slot) (nat_lt bit s.at) None Done s).waits waits
+  leave-on limits (Content slot bit empty) (Failed cause at) k waits =
+      not-waiting _ (ended-passes held (separation_at table slot).initiated k slot bit empty (slots_from table slot) false (Some cause) (Failed cause at) s).waits waits
+  leave-on limits (Closing slot bit) Done k waits =
+      not-waiting _ (closing-passes held (separation_at table slot).initiated k slot bit (slots_from table slot) true Done s).waits waits
+  leave-on limits (Closing slot bit) (Failed cause at) k waits =
+      not-waiting _ (closing-passes held (separation_at table slot).initiated k slot bit (slots_from table slot) false (Failed cause at) s).waits waits
   leave-on limits frame (Stopped cause quantity) k waits = absurd (cc)
+
+  -- a question of a slot that waits
+  in_vain-told : (limits : Limits) (focus : Focus) (sight : Held) (cost : Tally) (moves : Bool → Move) (reached : Reached Bool) (k : List Frame)
+      → ((answer : Bool) → (moves answer).waits ≡ false) → (told_move limits focus sight cost moves reached k s).waits ≡ true → reached ≡ Missing
+  in_vain-told limits focus sight cost moves (Told answer) k each waits = absurd (not-waiting _ (each answer) waits)
+  in_vain-told limits focus sight cost moves TooFar k each waits = absurd (cc)
+  in_vain-told limits focus sight cost moves Missing k each waits = refl
+
+  question-waits : (limits : Limits) (focus : Focus) (question : Ask Bool) (moves : Bool → Move) (next : Input → Bool → State → Outcome) (k : List Frame)
+      → ((input : Input) → from_here input table focus k s ≡ finish input table k (peek input question (next input) s))
+      → ((input : Input) → Fits held input focus s → Anchored held s) → (Anchored held s → AsksFrom (anchor s) question)
+      → ((answer : Bool) → (moves answer).waits ≡ false)
+      → (told_move limits focus (from_byte held (anchor s)) (needs_from (anchor s) (ask (seen_at (from_byte held (anchor s))) question nothing).tally) moves
+      (ask (seen_at (from_byte held (anchor s))) question nothing).reached k s).waits ≡ true
+      → Waits table held focus k s
+      (told_move limits focus (from_byte held (anchor s)) (needs_from (anchor s) (ask (seen_at (from_byte held (anchor s))) question nothing).tally) moves
+      (ask (seen_at (from_byte held (anchor s))) question nothing).reached k s)
+  question-waits limits focus question moves next k is stands from each waits =
+      let sight : Held = from_byte held (anchor s) in
+      let here : Reading Bool = ask (seen_at sight) question nothing in
+      let cost : Tally = needs_from (anchor s) here.tally in
+      let missing : here.reached ≡ Missing = in_vain-told limits focus sight cost moves here.reached k each waits in
+      let waiting = waits_while sight question nothing missing in
+      let short : length sight.bytes < sight.size = waiting.1 in
+      subst (λ (r : Reached Bool). Waits table held focus k s (told_move limits focus sight cost moves r k s)) (sym missing) (record {
+        machine = refl;
+        on = waiting.0;
+        room = omega arith;
+        missed = λ input fits all.
+            let anchored : Anchored held s = stands input fits in
+            let lost = peek-lost held s question anchored (from anchored) input table fits.agrees fits.size (next input) k all waiting.0 missing in
+            subst (λ (o : Outcome). (o.tally.tail ≡ here.tally.looks) × ((end_of held < o.tally.far) × (length sight.bytes ≡ end_of held - o.tally.anchor)))
+            (sym (is input)) lost;
+      })
+
+  look_in-waits : (limits : Limits) (slot : SlotPlace) (slots : List Slot) (k : List Frame) → slots_from table slot ≡ slots
+      → (look_in limits table.delimiters held (separation_at table slot).initiated slot slots k s).waits ≡ true
+      → Waits table held (LookIn slot) k s (look_in limits table.delimiters held (separation_at table slot).initiated slot slots k s)
+  look_in-waits limits slot [] k is waits = absurd (cc)
+  look_in-waits limits slot (own ∷ slots) k is waits =
+      question-waits limits (LookIn slot) (is_empty_at (lists_of table.delimiters (markup s)) s.at s.stop) _
+      (λ input. occur_in (sequence_of input table slot.sequence) slot own slots) k
+      (λ input. ap (λ (all : List Slot). finish input table k (asked_in (sequence_of input table slot.sequence) slot all s)) is)
+      (λ input fits. fits.stands) (λ anchored. empty-from (lists_of table.delimiters (markup s)) (anchor s) s.at s.stop anchored.low) (λ empty. refl) waits
+
+  look_behind-waits : (limits : Limits) (slot : SlotPlace) (bit : ℕ) (slots : List Slot) (k : List Frame) → slots_from table slot ≡ slots
+      → (look_behind limits table.delimiters held (separation_at table slot).initiated slot bit slots k s).waits ≡ true
+      → Waits table held (LookBehind slot bit) k s (look_behind limits table.delimiters held (separation_at table slot).initiated slot bit slots k s)
+  look_behind-waits limits slot bit [] k is waits = absurd (cc)
+  look_behind-waits limits slot bit (own ∷ slots) k is waits =
+      question-waits limits (LookBehind slot bit) (separator_follows (lists_of table.delimiters (markup s)) (length (markup s) - 1) s.at s.stop) _
+      (λ input found t. settled_by (turn_of (sequence_of input table slot.sequence) slot own slots) (course_of slot) bit found (ended Done t)) k
+      (λ input. ap (λ (all : List Slot). finish input table k (asked_behind (sequence_of input table slot.sequence) slot bit all s)) is)
+      (λ input fits. fits.stands)
+      (λ anchored. separator-from (lists_of table.delimiters (markup s)) (length (markup s) - 1) (anchor s) s.at s.stop anchored.low)
+      (λ found. (settled-passes (from_byte held (anchor s)) (separation_at table slot).initiated k _ slot bit own slots found Done s).waits) waits
 
   pub step-waits : (limits : Limits) (focus : Focus) (k : List Frame) → (step limits table held focus k s).waits ≡ true
       → Waits table held focus k s (step limits table held focus k s)
@@ -496,5 +624,7 @@ module _ (table : Table) (held : Held) (s : State) where
   step-waits limits (PassRest bit outer) k waits = rest-waits limits bit outer k waits
   step-waits limits (Sized prim size) k waits = sized-waits limits prim size (slice_get table.primitives prim) k refl waits
   step-waits limits (Seek what) k waits = seek-waits limits what k waits
+  step-waits limits (LookIn slot) k waits = look_in-waits limits slot (slots_from table slot) k refl waits
+  step-waits limits (LookBehind slot bit) k waits = look_behind-waits limits slot bit (slots_from table slot) k refl waits
   step-waits limits (Leave told) [] waits = absurd (cc)
   step-waits limits (Leave told) (frame ∷ k) waits = absurd (leave-on limits frame told k waits)

@@ -11,19 +11,21 @@ use Rattle.dfdl_grammar.specs.Elements.{attempted, close}
 use Rattle.dfdl_grammar.specs.Representations.{after_empty, or_else, the_last, then_empty, then_normal}
 use Rattle.dfdl_grammar.specs.Leaves.{nil_values}
 use Rattle.dfdl_grammar.specs.Prefixes.{sized_leaf}
-use Rattle.dfdl_grammar.specs.Choices.{branches}
+use Rattle.dfdl_grammar.specs.Choices.{branches, or_branch}
 use Rattle.dfdl_grammar.specs.Occurrences.{after_occurrence, occurrences}
 use Rattle.dfdl_grammar.specs.Rows.{below, group, meaning}
 use Rattle.dfdl_parse.specs.declared.frame.Frame.{Frame}
-use Rattle.dfdl_parse.specs.declared.frame.Frame.TheVariants.{Rest, Element, Box, Scope as ScopeFrame, Trial, Branch, Occurrence}
+use Rattle.dfdl_parse.specs.declared.frame.Frame.TheVariants.{Rest, Element, Box, Scope as ScopeFrame, Trial, Branch, Occurrence, Before, Content, Closing}
 use Rattle.dfdl_parse.specs.declared.frame.Next.{Next}
 use Rattle.dfdl_parse.specs.declared.frame.Next.TheVariants as next
 use Rattle.dfdl_parse.specs.declared.frame.Parts.{Parts}
 use Rattle.dfdl_parse.specs.declared.frame.Focus.{Focus}
-use Rattle.dfdl_parse.specs.declared.frame.Focus.TheVariants.{Enter, Pass, PassRest, Sized, Seek, Leave}
+use Rattle.dfdl_parse.specs.declared.frame.Focus.TheVariants.{Enter, Pass, PassRest, Sized, Seek, LookIn, LookBehind, Leave}
 use Rattle.dfdl_parse.specs.Moves.{Machine}
 use Rattle.dfdl_parse.specs.Machines.{children_of}
 use Rattle.dfdl_parse.specs.Searches.{sought_text}
+use Rattle.dfdl_parse.specs.Slots.{slots_from}
+use Rattle.dfdl_parse.specs.SlotsAhead.{asked_behind, asked_in, before_slot, closing_slot, content_slot, sequence_of}
 use Rattle.dfdl_parse.specs.Trials.{parts_of}
 
 -- one representation of an element by its row
@@ -45,8 +47,11 @@ resume input table (Box outer) o = let whole : Outcome = then_do o (rest input) 
 resume input table (ScopeFrame count) o = unscoped o.end count o
 resume input table (Trial id next) o = retried input table id (parts_of (slice_get table.rows id)) next o
 resume input table (Branch id next) o =
-    or_else o.end o (branches (below input table id) (drop next (children_of (slice_get table.rows id))))
-resume input table (Occurrence body left) o = after_occurrence o.end o (occurrences (meaning input table body) left)
+    or_branch o.end o (branches (below input table id) (drop next (children_of (slice_get table.rows id))))
+resume input table (Occurrence body initiated left) o = after_occurrence o.end o (occurrences (meaning input table body) initiated left)
+resume input table (Before slot) o = before_slot (sequence_of input table slot.sequence) slot (slots_from table slot) o
+resume input table (Content slot bit empty) o = content_slot (sequence_of input table slot.sequence) slot bit empty (slots_from table slot) o
+resume input table (Closing slot bit) o = closing_slot (sequence_of input table slot.sequence) slot bit (slots_from table slot) o
 
 -- what a stack makes of the outcome of the row before it
 unfoldable pub finish : Input → Table → List Frame → Outcome → Outcome
@@ -61,6 +66,8 @@ focused input table (PassRest bit outer) s =
     let passed : Outcome = pass_bytes input (bytes_up_to s.stop (bit / 8)) (bit / 8) s in unboxed passed.end outer.stop outer.hidden passed
 focused input table (Sized prim size) s = sized_leaf input table.delimiters (nil_values table.primitives s.instead) (slice_get table.primitives prim) size s
 focused input table (Seek what) s = sought_text input table.delimiters what s
+focused input table (LookIn slot) s = asked_in (sequence_of input table slot.sequence) slot (slots_from table slot) s
+focused input table (LookBehind slot bit) s = asked_behind (sequence_of input table slot.sequence) slot bit (slots_from table slot) s
 focused input table (Leave end) s = ended end s
 
 -- the outcome of the whole

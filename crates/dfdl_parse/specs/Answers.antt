@@ -4,7 +4,7 @@ use Rattle.dfdl_grammar.specs.declared.end.End.{End}
 use Rattle.dfdl_grammar.specs.declared.end.End.TheVariants.{Done, Failed, Stopped}
 use Rattle.dfdl_parse.specs.declared.frame.Frame.{Frame}
 use Rattle.dfdl_parse.specs.declared.frame.Focus.{Focus}
-use Rattle.dfdl_parse.specs.declared.frame.Focus.TheVariants.{Enter, Pass, PassRest, Sized, Seek, Leave}
+use Rattle.dfdl_parse.specs.declared.frame.Focus.TheVariants.{Enter, Pass, PassRest, Sized, Seek, LookIn, LookBehind, Leave}
 use Rattle.dfdl_parse.specs.declared.outcome.Outcome.{Outcome as Answer}
 use Rattle.dfdl_parse.specs.declared.outcome.Outcome.TheVariants.{Open, Done as AllDone, Failed as HasFailed, Limit}
 use Rattle.dfdl_parse.specs.Machines.{is_none}
@@ -22,4 +22,6 @@ answer_at (Pass to) k = Open
 answer_at (PassRest bit outer) k = Open
 answer_at (Sized prim size) k = Open
 answer_at (Seek what) k = Open
+answer_at (LookIn slot) k = Open
+answer_at (LookBehind slot bit) k = Open
 answer_at (Leave end) k = if is_none k then answer_of end else Open

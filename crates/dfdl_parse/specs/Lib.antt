@@ -5,6 +5,11 @@ pub mod Searches
 pub mod Prefixed
 pub mod Trials
 pub mod Points
+pub mod Testing
+pub mod Slots
+pub mod SlotsAhead
+pub mod SlotLooks
+pub mod Resolving
 pub mod Machines
 pub mod Opens
 pub mod Answers

@@ -1,12 +1,12 @@
 -- One step of the machine.
-use Rattle.std.specs.Prelude.{◌≡◌, ℕ, ◌+◌, ◌-◌, ◌*◌, ◌/◌, min, nat_le, Bool, true, false, List, [], ◌∷◌, length, Option, Some, None, slice_get, if◌then◌else◌, replicate}
+use Rattle.std.specs.Prelude.{◌≡◌, ℕ, ◌+◌, ◌-◌, ◌*◌, ◌/◌, min, nat_le, nat_lt, Bool, true, false, List, [], ◌∷◌, length, Option, Some, None, slice_get, if◌then◌else◌, replicate}
 use Rattle.dfdl_bits.specs.Window.{Held, end_of, from_byte, seen_at}
 use Rattle.dfdl_bits.specs.declared.window.Seen.{Seen}
 use Rattle.dfdl_bits.specs.declared.window.Seen.TheVariants.{Byte, End as DataEnded, NotYet, Over}
 use Rattle.dfdl_report.specs.declared.cause.LimitCause.TheVariants.{Window}
 use Rattle.dfdl_report.specs.declared.cause.ParseCause.TheVariants.{DataEnds, LengthOutOfRange}
 use Rattle.dfdl_terms.specs.declared.row.Row.{Row}
-use Rattle.dfdl_terms.specs.declared.row.Row.TheVariants.{Leaf, Elem, Group, Skip, Align, Initiator, Terminator, Separator, Scope, Boxed, PrefixedLeaf, PrefixedBox, Repeat, Optional, Choice}
+use Rattle.dfdl_terms.specs.declared.row.Row.TheVariants.{Leaf, Elem, Group, Skip, Align, Initiator, Terminator, Separator, Scope, Boxed, PrefixedLeaf, PrefixedBox, Repeat, Optional, Choice, Test, Hidden, Separated}
 use Rattle.dfdl_terms.specs.Rows.{Table}
 use Rattle.dfdl_looks.specs.Tallies.{needs_from, nothing, one_row, saw_byte, saw_end, saw_none}
 use Rattle.dfdl_grammar.specs.declared.end.End.{End}
@@ -14,21 +14,22 @@ use Rattle.dfdl_grammar.specs.declared.end.End.TheVariants.{Done, Failed, Stoppe
 use Rattle.dfdl_grammar.specs.declared.limits.Limits.{Limits}
 use Rattle.dfdl_grammar.specs.States.{State, anchor_at}
 use Rattle.dfdl_grammar.specs.Leaves.{nil_values, read_by}
-use Rattle.dfdl_grammar.specs.Marks.{back, closed, pointed}
-use Rattle.dfdl_grammar.specs.Occurrences.{dropped}
+use Rattle.dfdl_grammar.specs.Marks.{closed, pointed}
 use Rattle.dfdl_grammar.specs.Framing.{aligned}
 use Rattle.dfdl_grammar.specs.Delimiters.{closes_to, opens}
 use Rattle.dfdl_grammar.specs.Elements.{has_elements, left}
 use Rattle.dfdl_parse.specs.declared.frame.Frame.{Frame}
-use Rattle.dfdl_parse.specs.declared.frame.Frame.TheVariants.{Rest, Element, Box, Scope as ScopeFrame, Trial, Branch, Occurrence}
+use Rattle.dfdl_parse.specs.declared.frame.Frame.TheVariants.{Rest, Element, Box, Scope as ScopeFrame, Trial, Branch, Occurrence, Before, Content, Closing}
 use Rattle.dfdl_parse.specs.declared.frame.Outside.{Outside}
 use Rattle.dfdl_parse.specs.declared.frame.Focus.{Focus}
-use Rattle.dfdl_parse.specs.declared.frame.Focus.TheVariants.{Enter, Pass, PassRest, Sized, Seek, Leave}
+use Rattle.dfdl_parse.specs.declared.frame.Focus.TheVariants.{Enter, Pass, PassRest, Sized, Seek, LookIn, LookBehind, Leave}
 use Rattle.dfdl_parse.specs.declared.frame.Behind.TheVariants as behind
 use Rattle.dfdl_parse.specs.declared.frame.Sought.TheVariants as sought
 use Rattle.dfdl_parse.specs.Moves.{Move, pass, read_leaf}
 use Rattle.dfdl_parse.specs.Trials.{enter_element, parts_of, retry, trial_done}
-use Rattle.dfdl_parse.specs.Points.{occurrence_done, try_branch, try_occurrence}
+use Rattle.dfdl_parse.specs.Points.{branch_failed, occurrence_done, occurrence_failed, try_branch, try_occurrence}
+use Rattle.dfdl_parse.specs.Testing.{read_test}
+use Rattle.dfdl_parse.specs.Slots.{before_done, before_failed, cause_of, closing_ended, content_ended, enter_separated, look_behind, look_in, separation_at, slots_from}
 use Rattle.dfdl_parse.specs.Boxing.{back_outside, hides}
 use Rattle.dfdl_parse.specs.Searches.{enter_delimiter, search}
 use Rattle.dfdl_parse.specs.Prefixed.{behind_units, box_begins, read_prefix, read_sized}
@@ -49,8 +50,11 @@ children_of (Some (Boxed bits body)) = []
 children_of (Some (PrefixedLeaf prefix prim)) = []
 children_of (Some (PrefixedBox prefix body)) = []
 children_of (Some (Repeat count body)) = replicate count body
-children_of (Some (Optional most item body)) = []
-children_of (Some (Choice branches)) = branches
+children_of (Some (Optional most item initiated body)) = []
+children_of (Some (Choice branches initiated)) = branches
+children_of (Some (Test test)) = []
+children_of (Some (Hidden body)) = []
+children_of (Some (Separated policy position initiated slots)) = []
 
 -- fill up to a bit begins, where there is any; it can't pass the end of the box
 abbrev pub enter_fill : Held → ℕ → List Frame → State → Move
@@ -148,10 +152,13 @@ enter limits table held id (Some (PrefixedLeaf prefix prim)) k s =
     read_prefix limits id held table.delimiters prefix.own (behind_units table.primitives prefix.unit (behind.Leaf (read_by table.primitives s.instead prim)))
     (slice_get table.primitives prefix.prim) k s
 enter limits table held id (Some (Repeat count body)) k s = enter_group held id (replicate count body) k s
-enter limits table held id (Some (Optional most item body)) k s = try_occurrence one_row held body most k s
-enter limits table held id (Some (Choice branches)) k s = try_branch one_row held id 0 (slice_get branches 0) k (pointed s)
+enter limits table held id (Some (Optional most item initiated body)) k s = try_occurrence one_row held body initiated most k s
+enter limits table held id (Some (Choice branches initiated)) k s = try_branch one_row held id 0 (slice_get branches 0) k (pointed initiated s)
 enter limits table held id (Some (PrefixedBox prefix body)) k s =
     read_prefix limits id held table.delimiters prefix.own (behind_units table.primitives prefix.unit (behind.Box body)) (slice_get table.primitives prefix.prim) k s
+enter limits table held id (Some (Test test)) k s = read_test one_row limits (Enter id) held test (slice_get table.tests test) k s
+enter limits table held id (Some (Hidden body)) k s = pass one_row held (Enter body) k s
+enter limits table held id (Some (Separated policy position initiated slots)) k s = enter_separated held id policy position initiated slots k s
 
 -- a group goes on with its next child, or ends
 abbrev pub go_on : Held → ℕ → ℕ → Option ℕ → List Frame → State → Move
@@ -166,7 +173,11 @@ leave_done table held (Box outer) k s = leave_box held outer k s
 leave_done table held (ScopeFrame count) k s = pass nothing held (Leave Done) k (closes_to count s)
 leave_done table held (Trial id next) k s = trial_done held (parts_of (slice_get table.rows id)) next k s
 leave_done table held (Branch id next) k s = pass nothing held (Leave Done) k (closed s)
-leave_done table held (Occurrence body left) k s = occurrence_done held body left k s
+leave_done table held (Occurrence body initiated left) k s = occurrence_done held body initiated left k s
+leave_done table held (Before slot) k s = before_done held slot (slots_from table slot) k s
+leave_done table held (Content slot bit empty) k s =
+    content_ended held (separation_at table slot).initiated slot bit empty (slots_from table slot) (nat_lt bit s.at) None Done k s
+leave_done table held (Closing slot bit) k s = closing_ended held (separation_at table slot).initiated slot bit (slots_from table slot) true Done k s
 
 -- a row that failed, at this end, before what stands on the stack
 abbrev pub leave_failed : ℕ → Table → Held → Frame → End → List Frame → State → Move
@@ -176,8 +187,13 @@ leave_failed most table held (Box outer) end k s = pass nothing held (Leave end)
 leave_failed most table held (ScopeFrame count) end k s = pass nothing held (Leave end) k (closes_to count s)
 leave_failed most table held (Trial id next) end k s = retry most held id (parts_of (slice_get table.rows id)) next end k s
 leave_failed most table held (Branch id next) end k s =
-    try_branch nothing held id next (slice_get (children_of (slice_get table.rows id)) next) k (back s)
-leave_failed most table held (Occurrence body left) end k s = pass nothing held (Leave Done) k (dropped s)
+    branch_failed held id next (slice_get (children_of (slice_get table.rows id)) next) end k s
+leave_failed most table held (Occurrence body initiated left) end k s = occurrence_failed held end k s
+leave_failed most table held (Before slot) end k s = before_failed held (separation_at table slot).initiated slot (slots_from table slot) end k s
+leave_failed most table held (Content slot bit empty) end k s =
+    content_ended held (separation_at table slot).initiated slot bit empty (slots_from table slot) false (cause_of end) end k s
+leave_failed most table held (Closing slot bit) end k s =
+    closing_ended held (separation_at table slot).initiated slot bit (slots_from table slot) false end k s
 
 -- what stands on the stack takes the end of the row before it
 abbrev pub leave : Limits → Table → Held → Frame → End → List Frame → State → Move
@@ -193,6 +209,10 @@ step limits table held (PassRest bit outer) k s = pass_rest limits held bit oute
 step limits table held (Sized prim size) k s =
     read_sized limits held table.delimiters prim size (nil_values table.primitives s.instead) (slice_get table.primitives prim) k s
 step limits table held (Seek what) k s = search limits table.delimiters held what k s
+step limits table held (LookIn slot) k s =
+    look_in limits table.delimiters held (separation_at table slot).initiated slot (slots_from table slot) k s
+step limits table held (LookBehind slot bit) k s =
+    look_behind limits table.delimiters held (separation_at table slot).initiated slot bit (slots_from table slot) k s
 step limits table held (Leave end) [] s = pass nothing held (Leave end) [] s
 step limits table held (Leave end) (frame ∷ k) s = leave limits table held frame end k s
 
@@ -203,6 +223,8 @@ HasEnded (Pass to) k = ⊥
 HasEnded (PassRest bit outer) k = ⊥
 HasEnded (Sized prim size) k = ⊥
 HasEnded (Seek what) k = ⊥
+HasEnded (LookIn slot) k = ⊥
+HasEnded (LookBehind slot bit) k = ⊥
 HasEnded (Leave end) k = k ≡ []
 
 -- whether there are no frames

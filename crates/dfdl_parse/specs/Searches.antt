@@ -16,7 +16,7 @@ use Rattle.dfdl_grammar.specs.declared.limits.Limits.{Limits}
 use Rattle.dfdl_grammar.specs.States.{Input, State, anchor_at}
 use Rattle.dfdl_grammar.specs.Outcomes.{Outcome}
 use Rattle.dfdl_grammar.specs.Framing.{aligned}
-use Rattle.dfdl_grammar.specs.Delimiters.{lists_of, markup, numbers_of, passed_text, seek, sought_among, stands_in}
+use Rattle.dfdl_grammar.specs.Delimiters.{found_initiator, lists_of, markup, numbers_of, passed_text, seek, sought_among, stands_in}
 use Rattle.dfdl_parse.specs.declared.frame.Frame.{Frame}
 use Rattle.dfdl_parse.specs.declared.frame.Focus.{Focus}
 use Rattle.dfdl_parse.specs.declared.frame.Focus.TheVariants.{Seek, Leave}
@@ -58,9 +58,15 @@ cause_of (Initiator list) = InitiatorMissing
 cause_of (Terminator list separators) = TerminatorMissing
 cause_of Separator = SeparatorMissing
 
+-- what a search comes to of what is sought: an initiator that is found resolves a point that it can resolve
+abbrev pub sought_by : Sought → Outcome → Outcome
+sought_by (Initiator list) o = found_initiator o.end o
+sought_by (Terminator list separators) o = o
+sought_by Separator o = o
+
 -- a delimiter that is sought, as it is in the data
 abbrev pub sought_text : Input → List Delimiters → Sought → State → Outcome
-sought_text input delimiters sought s = seek input (cause_of sought) (among delimiters sought s) (place_of sought s) s
+sought_text input delimiters sought s = sought_by sought (seek input (cause_of sought) (among delimiters sought s) (place_of sought s) s)
 
 -- a delimiter begins: it is sought, where it stands in the representation that is tried
 abbrev pub enter_delimiter : Held → Delimiter → Sought → List Frame → State → Move
@@ -78,16 +84,16 @@ abbrev pub at_outcome : Outcome → List Frame → Machine
 at_outcome o k = record { focus = Leave o.end; stack = k; state = o.state }
 
 -- the machine behind a search: as it was, where a byte hasn't come
-abbrev pub found_text : ℕ → Focus → ParseCause → ℕ → Reached Longest → List Frame → State → Machine
-found_text window focus cause place Missing k s = record { focus = focus; stack = k; state = s }
-found_text window focus cause place (Told found) k s = at_outcome (passed_text cause place window (Told found) s) k
-found_text window focus cause place TooFar k s = at_outcome (passed_text cause place window TooFar s) k
+abbrev pub found_text : ℕ → Focus → Sought → ℕ → Reached Longest → List Frame → State → Machine
+found_text window focus sought place Missing k s = record { focus = focus; stack = k; state = s }
+found_text window focus sought place (Told found) k s = at_outcome (sought_by sought (passed_text (cause_of sought) place window (Told found) s)) k
+found_text window focus sought place TooFar k s = at_outcome (sought_by sought (passed_text (cause_of sought) place window TooFar s)) k
 
 -- the step of a search whose reading this is, with these bytes held behind it
-abbrev pub search_move : ℕ → Focus → ParseCause → ℕ → Held → Reading Longest → List Frame → State → Move
-search_move window focus cause place sight reading k s = record {
+abbrev pub search_move : ℕ → Focus → Sought → ℕ → Held → Reading Longest → List Frame → State → Move
+search_move window focus sought place sight reading k s = record {
   tally = needs_from sight.base reading.tally;
-  machine = found_text window focus cause place reading.reached k s;
+  machine = found_text window focus sought place reading.reached k s;
   held = sight;
   waits = is_cut reading.reached;
 }
@@ -96,7 +102,7 @@ search_move window focus cause place sight reading k s = record {
 abbrev pub search : Limits → List Delimiters → Held → Sought → List Frame → State → Move
 search limits delimiters held sought k s =
     let sight : Held = from_byte held (anchor_at s (aligned 8 s.at)) in
-    search_move limits.window (Seek sought) (cause_of sought) (place_of sought s) sight
+    search_move limits.window (Seek sought) sought (place_of sought s) sight
     (ask (seen_at sight) (sought_among (among delimiters sought s) s.at s.stop) nothing) k s
 
 -- a text that is found at a bit ends before this byte

@@ -4,7 +4,7 @@ use Rattle.dfdl_bits.specs.Window.{Held}
 use Rattle.dfdl_report.specs.declared.cause.LimitCause.TheVariants.{Nodes}
 use Rattle.dfdl_report.specs.declared.cause.ParseCause.TheVariants.{RequiredEmpty}
 use Rattle.dfdl_terms.specs.declared.row.Row.{Row}
-use Rattle.dfdl_terms.specs.declared.row.Row.TheVariants.{Leaf, Elem, Group, Skip, Align, Initiator, Terminator, Separator, Scope, Boxed, PrefixedLeaf, PrefixedBox, Repeat, Optional, Choice}
+use Rattle.dfdl_terms.specs.declared.row.Row.TheVariants.{Leaf, Elem, Group, Skip, Align, Initiator, Terminator, Separator, Scope, Boxed, PrefixedLeaf, PrefixedBox, Repeat, Optional, Choice, Test, Hidden, Separated}
 use Rattle.dfdl_looks.specs.Tallies.{Tally, nothing, one_row, plus}
 use Rattle.dfdl_grammar.specs.declared.end.End.{End}
 use Rattle.dfdl_grammar.specs.declared.end.End.TheVariants.{Done, Failed, Stopped}
@@ -38,8 +38,11 @@ parts_of (Some (Boxed bits body)) = None
 parts_of (Some (PrefixedLeaf prefix prim)) = None
 parts_of (Some (PrefixedBox prefix body)) = None
 parts_of (Some (Repeat count body)) = None
-parts_of (Some (Optional most item body)) = None
-parts_of (Some (Choice branches)) = None
+parts_of (Some (Optional most item initiated body)) = None
+parts_of (Some (Choice branches initiated)) = None
+parts_of (Some (Test test)) = None
+parts_of (Some (Hidden body)) = None
+parts_of (Some (Separated policy position initiated slots)) = None
 
 -- the cost of an element's row and of its first representation
 abbrev pub two_rows : Tally

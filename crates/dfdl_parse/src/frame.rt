@@ -1,24 +1,92 @@
 use dfdl_grammar::End;
+use dfdl_separators::{Here, Progress, SlotRule};
 use dfdl_terms::{Representations, RowId, TextSize};
 
 /// What is left to be done behind a row.
 #[derive(Debug, Clone, Copy, PartialEq, Eq)]
 pub enum Frame {
     /// The children of a group from this one on.
-    Rest { group: RowId, next: usize },
+    Rest {
+        group: RowId,
+        next: usize,
+    },
     /// An element ends, and the one of this number is the innermost open one again.
-    Element { outer: u32, complex: bool },
+    Element {
+        outer: u32,
+        complex: bool,
+    },
     /// A box ends, and this is around it.
-    Box { outer: Outside },
+    Box {
+        outer: Outside,
+    },
     /// A component with a terminator ends, and so many lists are open again.
-    Scope { count: usize },
+    Scope {
+        count: usize,
+    },
     /// A representation of the element of this row ends, for which a mark is open.
-    Trial { element: RowId, next: Next },
+    Trial {
+        element: RowId,
+        next: Next,
+    },
     /// A branch of the choice of this row ends, for which a point is open. Where it fails, the branch of this place follows ('Choices').
-    Branch { choice: RowId, next: usize },
-    /// An occurrence of this row ends, for which a point is open. Where it is done, at most so many more follow ('Arrays and
-    /// Optional Elements').
-    Occurrence { body: RowId, left: u64 },
+    Branch {
+        choice: RowId,
+        next: usize,
+    },
+    /// An occurrence of this row ends, for which a point is open, which an initiator resolves or not. Where it is done, at most so
+    /// many more follow ('Arrays and Optional Elements').
+    Occurrence {
+        body: RowId,
+        initiated: bool,
+        left: u64,
+    },
+    /// The separator that a slot begins with was sought ('Sequence Groups').
+    Before {
+        slot: SlotPlace,
+    },
+    /// The occurrence of a slot ends, whose content began at this bit, and which was empty there or not.
+    Content {
+        slot: SlotPlace,
+        bit: u64,
+        empty: bool,
+    },
+    /// The separator that a slot ends with was sought. Its content began at this bit.
+    Closing {
+        slot: SlotPlace,
+        bit: u64,
+    },
+}
+
+/// A slot of a sequence with separators whose occurrences are tried, and how far the sequence has come ('Sequence Groups').
+#[derive(Debug, Clone, Copy, PartialEq, Eq)]
+pub struct SlotPlace {
+    /// the number of the sequence's row
+    pub sequence: u32,
+    /// the place of the slot's row among those of the sequence
+    pub place: usize,
+    /// it is one of those that are tried
+    pub optional: bool,
+    pub rule: SlotRule,
+    /// how many more of these there may be behind it
+    pub left: u64,
+    pub progress: Progress,
+    /// the bit at which the content of the slot began that was there last
+    pub last: u64,
+}
+
+/// Which slot of a sequence comes next.
+#[derive(Debug, Clone, Copy, PartialEq, Eq)]
+pub(crate) enum Coming {
+    /// None of those that were asked for, and the sequence has come this far.
+    Past(Progress),
+    /// One that begins with a separator.
+    Seeks { slot: SlotPlace, here: Here },
+    /// One that begins with its content, of the row of this number.
+    Parses { slot: SlotPlace, body: u32 },
+    /// One without the separator that it has to begin with.
+    Lacks,
+    /// None at all.
+    Over,
 }
 
 /// What is around a box.
@@ -83,6 +151,10 @@ pub enum Focus {
     Sized { prim: u32, size: TextSize },
     /// A delimiter is sought.
     Seek { sought: Sought },
+    /// It is looked whether a slot is empty whose content comes next.
+    LookIn { slot: SlotPlace },
+    /// It is looked whether a separator follows behind a slot, whose content began at this bit.
+    LookBehind { slot: SlotPlace, bit: u64 },
     /// A row has ended.
     Leave(End),
 }

@@ -1,11 +1,11 @@
 // A row has ended, and what stands on the stack takes its end.
-ghost use Rattle.std.specs.Prelude.{replicate, ◌≡◌, ◌^◌, ◌<◌, ◌≤◌, false, IfSome, OnOk, slice_get};
+ghost use Rattle.std.specs.Prelude.{replicate, ◌≡◌, ◌∷◌, ◌^◌, ◌<◌, ◌≤◌, false, IfSome, OnOk, slice_get};
 ghost use Rattle.dfdl_bits.specs.Window.{Held};
 ghost use Rattle.dfdl_grammar.specs.declared.end.End.TheVariants.{Done};
 ghost use Rattle.dfdl_grammar.specs.Elements.{left};
 ghost use Rattle.dfdl_looks.specs.Tallies.{nothing};
 ghost use Rattle.dfdl_parse.specs.Machines.{children_of, step, leave, leave_done, leave_failed, go_on};
-ghost use Rattle.dfdl_parse.specs.Opens.{GoesBack, IsBefore};
+ghost use Rattle.dfdl_parse.specs.Opens.{ComesBack, GoesBack, IsBefore};
 ghost use Rattle.dfdl_parse.specs.Moves.{pass};
 ghost use Rattle.dfdl_parse.specs.Steps.{Moved};
 ghost use Rattle.dfdl_parse.specs.Shown.{HasSameLimits, limits_of, state_of};
@@ -26,7 +26,7 @@ impl Parser {
             (step (limits_of self.old held) terms.now held (Focus.Leave end) self.old.stack (state_of self.old))
             false self.old.far self.new held 0) }
         ensures most { OnOk result (HasSameLimits self.old self.new) }
-        ensures at { OnOk result (GoesBack end (state_of self.old) → self.new.at ≤ self.old.at) }
+        ensures at { OnOk result (GoesBack end self.old.stack (state_of self.old) → self.new.at ≤ self.old.at) }
     {
         match self.stack.pop() {
             None => Ok(()),
@@ -39,7 +39,7 @@ impl Parser {
         ensures moved { (held : Held) → OnOk result (Moved
             (leave (limits_of self.old held) terms.now held frame end self.old.stack (state_of self.old)) false self.old.far self.new held 0) }
         ensures most { OnOk result (HasSameLimits self.old self.new) }
-        ensures at { OnOk result (GoesBack end (state_of self.old) → self.new.at ≤ self.old.at) }
+        ensures at { OnOk result (GoesBack end (frame ∷ self.old.stack) (state_of self.old) → self.new.at ≤ self.old.at) }
     {
         match end {
             End::Done => self.go_on(terms, frame),
@@ -56,18 +56,23 @@ impl Parser {
         ensures moved { (held : Held) → OnOk result (Moved
             (leave_failed self.old.region.most terms.now held frame end self.old.stack (state_of self.old)) false self.old.far self.new held 0) }
         ensures most { OnOk result (HasSameLimits self.old self.new) }
-        ensures at { OnOk result (IsBefore self.old.marks self.old.at → self.new.at ≤ self.old.at) }
+        ensures at { OnOk result (IsBefore self.old.marks self.old.at → ComesBack frame self.old.at → self.new.at ≤ self.old.at) }
     {
         match frame {
             Frame::Trial { element, next } => {
                 let parts = parts_of(terms, element);
                 self.retry(parts, element, next, end)
             }
-            Frame::Branch { choice, next } => self.next_branch(terms, choice, next),
+            Frame::Branch { choice, next } => self.fail_branch(terms, choice, next, end),
             Frame::Occurrence { .. } => {
-                self.drop_occurrence();
+                self.fail_occurrence(end);
                 Ok(())
             }
+            Frame::Before { slot } => self.fail_before(terms, slot, end),
+            Frame::Content { slot, bit, empty } => {
+                self.end_content(terms, slot, bit, empty, false, end)
+            }
+            Frame::Closing { slot, bit } => self.end_closing(terms, slot, bit, false, end),
             Frame::Rest { .. } => {
                 self.focus = Focus::Leave(end);
                 Ok(())
@@ -93,7 +98,7 @@ impl Parser {
         ensures moved { (held : Held) → OnOk result (Moved
             (leave_done terms.now held frame self.old.stack (state_of self.old)) false self.old.far self.new held 0) }
         ensures most { OnOk result (HasSameLimits self.old self.new) }
-        ensures at { OnOk result (IsBefore self.old.marks self.old.at → self.new.at ≤ self.old.at) }
+        ensures at { OnOk result (IsBefore self.old.marks self.old.at → ComesBack frame self.old.at → self.new.at ≤ self.old.at) }
     {
         match frame {
             Frame::Rest { group, next } => self.next_child(terms, group, next),
@@ -118,7 +123,17 @@ impl Parser {
                 self.end_trial(End::Done);
                 Ok(())
             }
-            Frame::Occurrence { body, left } => self.finish_occurrence(body, left),
+            Frame::Occurrence {
+                body,
+                initiated,
+                left,
+            } => self.finish_occurrence(body, initiated, left),
+            Frame::Before { slot } => self.finish_before(terms, slot),
+            Frame::Content { slot, bit, empty } => {
+                let moved = bit < self.at;
+                self.end_content(terms, slot, bit, empty, moved, End::Done)
+            }
+            Frame::Closing { slot, bit } => self.end_closing(terms, slot, bit, true, End::Done),
         }
     }
 
@@ -184,7 +199,10 @@ pub(crate) fn child_of(terms: &Terms, group: RowId, place: usize) -> Option<RowI
         Row::PrefixedBox { .. } => None,
         Row::Repeat { count, body } => repeated(*count, *body, place),
         Row::Optional { .. } => None,
-        Row::Choice { branches } => branches.as_slice().get(place).copied(),
+        Row::Choice { branches, .. } => branches.as_slice().get(place).copied(),
+        Row::Test { .. } => None,
+        Row::Hidden { .. } => None,
+        Row::Separated { .. } => None,
     }
 }
 

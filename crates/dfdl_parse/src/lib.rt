@@ -30,8 +30,13 @@ pub mod scopes;
 mod scoping;
 mod searches;
 pub mod session;
+mod slots;
+mod slots_ends;
+mod slots_looks;
+mod slots_steps;
 pub mod stack;
 mod strings;
+mod testing;
 mod trials;
 mod view;
 

@@ -127,6 +127,8 @@ impl Parser {
             Focus::PassRest { .. } => Outcome::Open,
             Focus::Sized { .. } => Outcome::Open,
             Focus::Seek { .. } => Outcome::Open,
+            Focus::LookIn { .. } => Outcome::Open,
+            Focus::LookBehind { .. } => Outcome::Open,
             Focus::Leave(end) => {
                 if self.stack.is_empty() {
                     answer_of(end)
@@ -147,6 +149,8 @@ impl Parser {
             Focus::PassRest { .. } => false,
             Focus::Sized { .. } => false,
             Focus::Seek { .. } => false,
+            Focus::LookIn { .. } => false,
+            Focus::LookBehind { .. } => false,
             Focus::Leave(_) => self.stack.is_empty(),
         }
     }
@@ -158,7 +162,7 @@ impl Parser {
         sight: &mut Window,
         steps: &mut Steps<L>,
     ) -> Result<bool, AllocError>
-        requires base { Holds sight.old.base self.old.focus (state_of self.old) }
+        requires base { Holds sight.old.base self.old.focus self.old.stack (state_of self.old) }
         requires at { self.old.at ≤ 8 * end_of sight.old }
         requires registered { IsRegistered terms.now self.old }
         ensures moved { IfOk result (λ waits. Moved
@@ -182,6 +186,14 @@ impl Parser {
             }
             Focus::Seek { sought } => {
                 let waits = self.seek(terms, sought, sight, steps)?;
+                Ok(waits)
+            }
+            Focus::LookIn { slot } => {
+                let waits = self.look_in(terms, slot, sight, steps)?;
+                Ok(waits)
+            }
+            Focus::LookBehind { slot, bit } => {
+                let waits = self.look_behind(terms, slot, bit, sight, steps)?;
                 Ok(waits)
             }
             Focus::Leave(end) => {
@@ -287,12 +299,38 @@ impl Parser {
                 self.first_time(id, *count, *body)?;
                 Ok(false)
             }
-            Row::Optional { most, body, .. } => {
-                self.try_occurrence(*body, *most)?;
+            Row::Optional {
+                most,
+                initiated,
+                body,
+                ..
+            } => {
+                self.try_occurrence(*body, *initiated, *most)?;
                 Ok(false)
             }
-            Row::Choice { branches } => {
-                self.begin_choice(id, branches.as_slice())?;
+            Row::Choice {
+                branches,
+                initiated,
+            } => {
+                self.begin_choice(id, branches.as_slice(), *initiated)?;
+                Ok(false)
+            }
+            Row::Test { test } => {
+                let waits = self.begin_test(terms, *test, sight, steps)?;
+                Ok(waits)
+            }
+            Row::Hidden { body } => {
+                let _end = sight.end();
+                self.focus = Focus::Enter(*body);
+                Ok(false)
+            }
+            Row::Separated {
+                policy,
+                position,
+                initiated,
+                slots,
+            } => {
+                self.begin_separated(id, *policy, *position, *initiated, slots.as_slice())?;
                 Ok(false)
             }
         }

@@ -91,6 +91,9 @@ fn push_name(
         Row::Repeat { .. } => Ok(()),
         Row::Optional { .. } => Ok(()),
         Row::Choice { .. } => Ok(()),
+        Row::Test { .. } => Ok(()),
+        Row::Hidden { .. } => Ok(()),
+        Row::Separated { .. } => Ok(()),
     }
 }
 

@@ -2,12 +2,13 @@
 ghost use Rattle.std.specs.Prelude.{◌≡◌, ℕ, ◌+◌, ◌-◌, ◌*◌, ◌/◌, ◌^◌, ◌≤◌, ◌&&◌, nat_le, nat_lt, IfOk, OnOk, if◌then◌else◌, option_map, string_bytes};
 ghost use Rattle.dfdl_bits.specs.Window.{end_of, seen_at};
 ghost use Rattle.dfdl_chars.specs.Encodings.{width_in};
-ghost use Rattle.dfdl_grammar.specs.Leaves.{matched_from, sought};
+ghost use Rattle.dfdl_grammar.specs.Framing.{aligned};
+ghost use Rattle.dfdl_grammar.specs.Leaves.{matched_from, sought, text_sought};
 ghost use Rattle.dfdl_grammar.specs.Patterns.{matched_width, width_between, width_of_match};
 ghost use Rattle.dfdl_looks.specs.Asks.{ask};
 ghost use Rattle.dfdl_looks.specs.Tallies.{nothing};
 ghost use Rattle.dfdl_region.specs.Bytes.{utf8_of};
-ghost use Rattle.dfdl_texts.specs.Readings.{found_shown as text_shown};
+ghost use Rattle.dfdl_texts.specs.Readings.{Answers as TextAnswers, found_shown as text_shown};
 ghost use Rattle.dfdl_parse.specs.declared.leaf.Scratch.{Scratch as AnyScratch};
 ghost use Rattle.dfdl_parse.specs.Patterned.{pattern_reached};
 ghost use Rattle.dfdl_parse.specs.Steps.{Answers, HasPiece, IsWithin, found_shown};
@@ -21,7 +22,7 @@ use dfdl_length_patterns::PatternMatch;
 use dfdl_region::Content;
 use dfdl_report::ParseCause;
 use dfdl_terms::PatternForm;
-use dfdl_texts::{Extent, Found as TextFound, read_text};
+use dfdl_texts::{Extent, Found as TextFound, Glance as TextGlance, read_text};
 use std::alloc::AllocError;
 use std::sync::ledger::Ledger;
 
@@ -46,6 +47,31 @@ pub(crate) fn read_pattern<L: Ledger>(
     ensures within { IfOk result (λ g. IsWithin g.found (end_of sight.now)) }
     ensures pieces { IfOk result (λ g. HasPiece g.found scratch.new) }
 {
+    let text = read_sought(form, bit, stop, sight, scratch, steps)?;
+    let found = pattern_found(form, bit, text.found, scratch)?;
+    Ok(Glance {
+        found,
+        far: text.far,
+    })
+}
+
+/// Reads the text in which a pattern is sought from the next whole byte behind a bit on, in a box that ends at bit `stop`, up to the first
+/// bad unit. The characters stand in the scratch then.
+pub(crate) fn read_sought<L: Ledger>(
+    form: &PatternForm,
+    bit: u64,
+    stop: u64,
+    sight: &Window,
+    scratch: &mut Scratch,
+    steps: &mut Steps<L>,
+) -> Result<TextGlance, AllocError>
+    requires base { sight.now.base ≤ bit / 8 }
+    requires at { bit ≤ 8 * end_of sight.now }
+    requires bound { end_of sight.now ≤ 2 ^ 60 }
+    ensures answers { IfOk result (λ g. TextAnswers (ask (seen_at sight.now) (text_sought form.now (aligned 8 bit) stop) nothing)
+        scratch.new.characters.items g (steps.new - steps.old)) }
+    ensures steps { steps.old ≤ steps.new }
+{
     let first = aligned(8, bit);
     let last = stop.min(first + MOST_SOUGHT);
     let text = read_text(
@@ -58,11 +84,7 @@ pub(crate) fn read_pattern<L: Ledger>(
         &mut scratch.characters,
         steps,
     )?;
-    let found = pattern_found(form, bit, text.found, scratch)?;
-    Ok(Glance {
-        found,
-        far: text.far,
-    })
+    Ok(text)
 }
 
 // What the pattern of a content that begins at a bit is found as, in a text of these characters.

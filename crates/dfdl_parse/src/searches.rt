@@ -4,13 +4,16 @@ ghost use Rattle.dfdl_bits.specs.Window.{Held, end_of, seen_at};
 ghost use Rattle.dfdl_looks.specs.Asks.{Reading, ask};
 ghost use Rattle.dfdl_looks.specs.Tallies.{nothing};
 ghost use Rattle.dfdl_delims.specs.Longest.{Answers, Longest};
+ghost use Rattle.dfdl_grammar.specs.declared.end.End.TheVariants.{Done};
 ghost use Rattle.dfdl_grammar.specs.Delimiters.{numbers_of, sought_among, stands_in};
+ghost use Rattle.dfdl_grammar.specs.Marks.{initiated};
+ghost use Rattle.dfdl_grammar.specs.Outcomes.{ended};
 ghost use Rattle.dfdl_grammar.specs.Framing.{aligned};
 ghost use Rattle.dfdl_parse.specs.Opens.{IsHeld};
 ghost use Rattle.dfdl_parse.specs.Registered.{IsRegistered};
-ghost use Rattle.dfdl_parse.specs.Searches.{EndsWithin, among, cause_of, enter_delimiter, first_open, place_of, put_behind, search, search_move};
+ghost use Rattle.dfdl_parse.specs.Searches.{EndsWithin, among, at_outcome, cause_of, enter_delimiter, first_open, place_of, put_behind, search, search_move, sought_by};
 ghost use Rattle.dfdl_parse.specs.Steps.{Moved};
-ghost use Rattle.dfdl_parse.specs.Shown.{HasSameLimits, limits_of, state_of};
+ghost use Rattle.dfdl_parse.specs.Shown.{Becomes, HasSameLimits, limits_of, state_of};
 
 use crate::frame::{Focus, Sought};
 use crate::framing::aligned;
@@ -100,7 +103,7 @@ impl Parser {
     }
 
     // The longest text is found at a bit that is a whole byte. What it comes to isn't taken.
-    fn glance_at_text<L: Ledger>(
+    pub(crate) fn glance_at_text<L: Ledger>(
         &mut self,
         terms: &Terms,
         sought: Sought,
@@ -150,7 +153,7 @@ impl Parser {
     fn pass_text(&mut self, sought: Sought, glance: Glance, bit: u64, sight: &Window) -> bool
         requires within { EndsWithin glance.found bit (end_of sight.now) }
         ensures moved { (held : Held) (looks : ℕ) (reading : Reading Longest) → Answers reading glance looks → bit ≡ aligned 8 self.old.at
-            → Moved (search_move sight.now.size self.old.focus (cause_of sought) (place_of sought (state_of self.old)) held reading
+            → Moved (search_move sight.now.size self.old.focus sought (place_of sought (state_of self.old)) held reading
             self.old.stack (state_of self.old)) result self.old.far self.new held looks }
         ensures most { HasSameLimits self.old self.new }
         ensures at { self.old.at ≤ 8 * end_of sight.now → self.new.at ≤ 8 * end_of sight.now }
@@ -162,7 +165,7 @@ impl Parser {
             Found::Match { which, bits } => {
                 if which == self.place_of(sought) && 0 < bits {
                     self.at = bit + bits;
-                    self.focus = Focus::Leave(End::Done);
+                    self.take_text(sought);
                 } else {
                     self.fail(cause);
                 }
@@ -174,8 +177,30 @@ impl Parser {
         false
     }
 
+    // A text that was sought is found, and an initiator resolves a point that it can resolve.
+    fn take_text(&mut self, sought: Sought)
+        ensures { Becomes self.old (at_outcome (sought_by sought (ended Done (state_of self.old))) self.old.stack) self.new }
+    {
+        match sought {
+            Sought::Initiator { .. } => self.resolve_initiated(),
+            Sought::Terminator { .. } => {}
+            Sought::Separator => {}
+        }
+        self.focus = Focus::Leave(End::Done);
+    }
+
+    // An initiator was found: it resolves the innermost point where that is one that it can resolve.
+    fn resolve_initiated(&mut self)
+        ensures { Becomes self.old (record { focus = self.old.focus; stack = self.old.stack; state = initiated (state_of self.old) }) self.new }
+    {
+        let initiated = self.marks.are_initiated();
+        if initiated {
+            self.marks.resolve();
+        }
+    }
+
     // The place of the list that is sought among those whose texts are found.
-    fn place_of(&self, sought: Sought) -> usize
+    pub(crate) fn place_of(&self, sought: Sought) -> usize
         ensures { result ≡ place_of sought (state_of self.now) }
     {
         let open = self.lists.from(self.hidden).len();

@@ -26,23 +26,25 @@ impl Parser {
         ensures at { OnOk result (self.new.at ≡ self.old.at) }
     {
         if parts.tried.are_several {
-            self.open_mark(false)?;
+            self.open_mark(false, false)?;
             self.try_nil(id, parts, parts.tried.nil)
         } else {
             self.attempt(id, parts, Instead::Nothing)
         }
     }
 
-    // A mark is opened here, which is a point of uncertainty or none.
-    pub(crate) fn open_mark(&mut self, is_point: bool) -> Result<(), AllocError>
-        ensures { OnOk result (self.new
-            ≡ record self.old { marks = record (mark_at (state_of self.old)) { is_point = is_point } ∷ self.old.marks }) }
+    // A mark is opened here, which is a point of uncertainty or none, and which an initiator resolves or not.
+    pub(crate) fn open_mark(&mut self, is_point: bool, is_initiated: bool) -> Result<(), AllocError>
+        ensures { OnOk result (self.new ≡ record self.old {
+          marks = record (mark_at (state_of self.old)) { is_point = is_point; is_initiated = is_initiated } ∷ self.old.marks;
+        }) }
     {
         let content = self.content();
         self.marks.push(Mark {
             at: self.at,
             is_point,
             is_resolved: false,
+            is_initiated,
             stop: self.stop,
             nodes: self.region.count(),
             text: self.text.count(),
@@ -307,5 +309,8 @@ pub(crate) fn parts_of(terms: &Terms, id: RowId) -> Option<Parts>
         Row::Repeat { .. } => None,
         Row::Optional { .. } => None,
         Row::Choice { .. } => None,
+        Row::Test { .. } => None,
+        Row::Hidden { .. } => None,
+        Row::Separated { .. } => None,
     }
 }

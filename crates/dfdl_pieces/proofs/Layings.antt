@@ -6,6 +6,7 @@ use Rattle.dfdl_terms.specs.declared.representations.Representations.{Representa
 use Rattle.dfdl_terms.specs.Rows.{Table}
 use Rattle.dfdl_terms.specs.declared.delimiters.Delimiter.{Delimiter}
 use Rattle.dfdl_terms.specs.declared.prefix.Prefix.{Prefix}
+use Rattle.dfdl_terms.specs.declared.row.Row.{Row}
 use Rattle.dfdl_terms.specs.declared.row.Row.TheVariants.{Leaf, Elem, Group, Skip, Align, Initiator, Terminator, Separator, Scope, Boxed, PrefixedLeaf, PrefixedBox, Repeat, Optional, Choice}
 use Rattle.dfdl_json.specs.ByRows.{below}
 use Rattle.dfdl_json.specs.Paths.{Names}
@@ -81,12 +82,19 @@ module _ (t : Table) (row : ℕ) (around : Names) (more : Laying) where
       ap (λ (h : Names → Laying → Laying). h around more)
       (row_is (laying_by t) (λ a m. m) t.rows row (Some (Repeat count body)) is ∙ below_is (laying_by t) (λ a m. m) t.rows row body less)
 
-  pub laid_optional : (most : ℕ) (item : Bool) (body : ℕ) → slice_get t.rows row ≡ Some (Optional most item body) → laying t row around more ≡ more
-  laid_optional most item body is =
-      ap (λ (h : Names → Laying → Laying). h around more) (row_is (laying_by t) (λ a m. m) t.rows row (Some (Optional most item body)) is)
+  pub laid_optional : (most : ℕ) (item initiated : Bool) (body : ℕ) → slice_get t.rows row ≡ Some (Optional most item initiated body)
+      → laying t row around more ≡ more
+  laid_optional most item initiated body is =
+      ap (λ (h : Names → Laying → Laying). h around more) (row_is (laying_by t) (λ a m. m) t.rows row (Some (Optional most item initiated body)) is)
 
-  pub laid_choice : (branches : List ℕ) → slice_get t.rows row ≡ Some (Choice branches) → laying t row around more ≡ more
-  laid_choice branches is = ap (λ (h : Names → Laying → Laying). h around more) (row_is (laying_by t) (λ a m. m) t.rows row (Some (Choice branches)) is)
+  pub laid_choice : (branches : List ℕ) (initiated : Bool) → slice_get t.rows row ≡ Some (Choice branches initiated) → laying t row around more ≡ more
+  laid_choice branches initiated is =
+      ap (λ (h : Names → Laying → Laying). h around more) (row_is (laying_by t) (λ a m. m) t.rows row (Some (Choice branches initiated)) is)
+
+  -- a row of which nothing is laid
+  pub laid_nothing : (r : Row) → slice_get t.rows row ≡ Some r
+      → laying_by t (below (laying_by t) (λ a m. m) t.rows row) row (Some r) around more ≡ more → laying t row around more ≡ more
+  laid_nothing r is nothing = ap (λ (h : Names → Laying → Laying). h around more) (row_is (laying_by t) (λ a m. m) t.rows row (Some r) is) ∙ nothing
 
   pub laid_no_row : slice_get t.rows row ≡ None → laying t row around more ≡ more
   laid_no_row is = ap (λ (h : Names → Laying → Laying). h around more) (row_is (laying_by t) (λ a m. m) t.rows row None is)

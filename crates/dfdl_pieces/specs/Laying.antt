@@ -8,7 +8,7 @@ use Rattle.dfdl_terms.specs.declared.event.Event.TheVariants.{Start, Simple, Nil
 use Rattle.dfdl_terms.specs.declared.row.Primitive.{Primitive}
 use Rattle.dfdl_terms.specs.declared.row.Primitive.TheVariants.{Integer, Packed, Truth, Octets, Text, NilOctets, Default, NilValues, Pattern}
 use Rattle.dfdl_terms.specs.declared.row.Row.{Row}
-use Rattle.dfdl_terms.specs.declared.row.Row.TheVariants.{Leaf, Elem, Group, Skip, Align, Initiator, Terminator, Separator, Scope, Boxed, PrefixedLeaf, PrefixedBox, Repeat, Optional, Choice}
+use Rattle.dfdl_terms.specs.declared.row.Row.TheVariants.{Leaf, Elem, Group, Skip, Align, Initiator, Terminator, Separator, Scope, Boxed, PrefixedLeaf, PrefixedBox, Repeat, Optional, Choice, Test, Hidden, Separated}
 use Rattle.dfdl_terms.specs.Rows.{Table}
 use Rattle.dfdl_json.specs.ByRows.{by_rows}
 use Rattle.dfdl_json.specs.Children.{root_row}
@@ -54,8 +54,11 @@ form_in t (Some (Boxed bits body)) = None
 form_in t (Some (PrefixedLeaf prefix prim)) = None
 form_in t (Some (PrefixedBox prefix body)) = None
 form_in t (Some (Repeat count body)) = None
-form_in t (Some (Optional most item body)) = None
-form_in t (Some (Choice branches)) = None
+form_in t (Some (Optional most item initiated body)) = None
+form_in t (Some (Choice branches initiated)) = None
+form_in t (Some (Test test)) = None
+form_in t (Some (Hidden body)) = None
+form_in t (Some (Separated policy position initiated slots)) = None
 form_in t None = None
 
 -- the form of the binary integer that the row of this number writes
@@ -116,8 +119,11 @@ laying_by t inside row (Some (Boxed bits body)) around more = more
 laying_by t inside row (Some (PrefixedLeaf prefix prim)) around more = more
 laying_by t inside row (Some (PrefixedBox prefix body)) around more = more
 laying_by t inside row (Some (Repeat count body)) around more = inside body around more
-laying_by t inside row (Some (Optional most item body)) around more = more
-laying_by t inside row (Some (Choice branches)) around more = more
+laying_by t inside row (Some (Optional most item initiated body)) around more = more
+laying_by t inside row (Some (Choice branches initiated)) around more = more
+laying_by t inside row (Some (Test test)) around more = more
+laying_by t inside row (Some (Hidden body)) around more = more
+laying_by t inside row (Some (Separated policy position initiated slots)) around more = more
 laying_by t inside row None around more = more
 
 -- how the row of this number is laid before others

@@ -62,7 +62,11 @@ fn one_field(alloc: Global, bytes_by: ByteOrder) -> Result<Terms, Fail>
         element(alloc, "r", None, 2)?,
     ]?;
     let forms = vec![in alloc; Primitive::Integer(form(bytes_by))]?;
-    Ok(Terms::build(alloc, rows, Tables::new(forms, Vec::new(alloc)))?)
+    Ok(Terms::build(
+        alloc,
+        rows,
+        Tables::new(forms, Vec::new(alloc), Vec::new(alloc)),
+    )?)
 }
 
 // The bytes of each piece, and the missing element.

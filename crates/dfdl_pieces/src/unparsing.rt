@@ -180,6 +180,9 @@ impl<'t> Unparser<'t> {
             Some(Row::Repeat { body, .. }) => self.lay_group(&[*body]),
             Some(Row::Optional { .. }) => Ok(None),
             Some(Row::Choice { .. }) => Ok(None),
+            Some(Row::Test { .. }) => Ok(None),
+            Some(Row::Hidden { .. }) => Ok(None),
+            Some(Row::Separated { .. }) => Ok(None),
             None => Ok(None),
         }
     }

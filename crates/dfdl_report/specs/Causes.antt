@@ -2,7 +2,7 @@
 use Rattle.std.specs.Prelude.{ℕ, List, codes}
 use Rattle.dfdl_report.specs.declared.cause.ParseCause.{ParseCause}
 use Rattle.dfdl_report.specs.declared.cause.ParseCause.TheVariants.{InitiatorMissing, TerminatorMissing, SeparatorMissing, DataEnds, BadCharacter, NotANumber, BadNibble}
-use Rattle.dfdl_report.specs.declared.cause.ParseCause.TheVariants.{LengthOutOfRange, PastType, NoBranch, EmptyTrailingSlot, UnknownBoolean, RequiredEmpty, NotFilled}
+use Rattle.dfdl_report.specs.declared.cause.ParseCause.TheVariants.{LengthOutOfRange, PastType, AssertionFalse, DiscriminatorFalse, NoBranch, EmptyTrailingSlot, UnknownBoolean, RequiredEmpty, NotFilled}
 use Rattle.dfdl_report.specs.declared.cause.UnparseCause.{UnparseCause}
 use Rattle.dfdl_report.specs.declared.cause.UnparseCause.TheVariants.{WrongOccurrences}
 use Rattle.dfdl_report.specs.declared.cause.SchemaCause.{SchemaCause}
@@ -10,7 +10,7 @@ use Rattle.dfdl_report.specs.declared.cause.SchemaCause.TheVariants.{NameNotFoun
 use Rattle.dfdl_report.specs.declared.cause.SchemaCause.TheVariants.{UnknownAnnotation, PropertyNotCarried, ExpressionNotAllowed, LiteralMalformed, EmptyDelimiter, TypeNotCarried, MaxLengthMissing, LengthKind}
 use Rattle.dfdl_report.specs.declared.cause.SchemaCause.TheVariants.{LengthUnits, ConstantLength, PrefixType, PrefixLength, PatternRefused, OrdersApart, SecondBitOrder}
 use Rattle.dfdl_report.specs.declared.cause.SchemaCause.TheVariants.{EncodingNotAllowed, Alignment, NumberPattern, SignCodes, BooleanRepresentations, PadCharacter, NilNotAllowed}
-use Rattle.dfdl_report.specs.declared.cause.SchemaCause.TheVariants.{DefaultNotAValue, OccurrenceBounds, ElementTwice, EscapeScheme}
+use Rattle.dfdl_report.specs.declared.cause.SchemaCause.TheVariants.{DefaultNotAValue, UnboundedElement, OccurrenceBounds, TestsTogether, NoInitiator, ElementTwice, EscapeScheme}
 use Rattle.dfdl_report.specs.declared.cause.DocCause.{DocCause}
 use Rattle.dfdl_report.specs.declared.cause.DocCause.TheVariants.{NotUtf8, CharacterNotAllowed, Malformed, EndTagMismatch, AttributeTwice}
 use Rattle.dfdl_report.specs.declared.cause.DocCause.TheVariants.{UnknownReference, PrefixNotDeclared, DocumentType, EncodingRefused, OneRoot, TooDeep, DocumentEnds}
@@ -30,6 +30,8 @@ parse_number NotANumber = 6
 parse_number BadNibble = 7
 parse_number LengthOutOfRange = 8
 parse_number PastType = 9
+parse_number (AssertionFalse test) = 10
+parse_number (DiscriminatorFalse test) = 11
 parse_number NoBranch = 12
 parse_number EmptyTrailingSlot = 16
 parse_number UnknownBoolean = 17
@@ -47,6 +49,8 @@ parse_text NotANumber = codes "not a number of the pattern"
 parse_text BadNibble = codes "bad nibble or zone"
 parse_text LengthOutOfRange = codes "length out of range"
 parse_text PastType = codes "value past its type"
+parse_text (AssertionFalse test) = codes "assertion false"
+parse_text (DiscriminatorFalse test) = codes "discriminator false"
 parse_text NoBranch = codes "no branch"
 parse_text EmptyTrailingSlot = codes "empty trailing slot"
 parse_text UnknownBoolean = codes "unknown boolean"
@@ -93,7 +97,10 @@ schema_number BooleanRepresentations = 27
 schema_number PadCharacter = 28
 schema_number NilNotAllowed = 29
 schema_number DefaultNotAValue = 30
+schema_number UnboundedElement = 31
 schema_number OccurrenceBounds = 32
+schema_number TestsTogether = 33
+schema_number NoInitiator = 39
 schema_number ElementTwice = 40
 schema_number EscapeScheme = 42
 
@@ -129,7 +136,10 @@ schema_text BooleanRepresentations = codes "boolean representations malformed"
 schema_text PadCharacter = codes "pad character malformed"
 schema_text NilNotAllowed = codes "nil not allowed"
 schema_text DefaultNotAValue = codes "default is not a value"
+schema_text UnboundedElement = codes "unbounded element not allowed"
 schema_text OccurrenceBounds = codes "occurrence bounds not allowed"
+schema_text TestsTogether = codes "assert and discriminator together"
+schema_text NoInitiator = codes "initiator missing in initiated content"
 schema_text ElementTwice = codes "element name twice"
 schema_text EscapeScheme = codes "escape scheme malformed"
 

@@ -21,6 +21,12 @@ parse_line cause bit path =
     codes "error P" ++ (decimal (parse_number cause) ++ (codes " at bit " ++ (decimal bit ++ (codes " in "
     ++ (path ++ (codes ": " ++ ended (parse_text cause)))))))
 
+-- a test that fails at this bit, in the element of this path, with what the schema says of it
+abbrev pub test_line : ParseCause → ℕ → List ℕ → List ℕ → List ℕ
+test_line cause bit path message =
+    codes "error P" ++ (decimal (parse_number cause) ++ (codes " at bit " ++ (decimal bit ++ (codes " in "
+    ++ (path ++ (codes ": " ++ (parse_text cause ++ (codes ": " ++ ended message))))))))
+
 -- an unparse error in the element of this path
 abbrev pub unparse_line : UnparseCause → List ℕ → List ℕ
 unparse_line cause path =

@@ -26,6 +26,10 @@ pub enum ParseCause {
     LengthOutOfRange,
     /// A number that is no value of its type.
     PastType,
+    /// An assertion doesn't hold: the test of the row of this number.
+    AssertionFalse { test: u32 },
+    /// A discriminator doesn't hold: the test of the row of this number.
+    DiscriminatorFalse { test: u32 },
     /// Each branch of a choice failed.
     NoBranch,
     /// A slot at the end of a separated group that is empty, where none may be.
@@ -108,8 +112,14 @@ pub enum SchemaCause {
     NilNotAllowed,
     /// A default that is no value of the element's type.
     DefaultNotAValue,
+    /// An element that may occur any number of times, where the slots of its group have to be counted.
+    UnboundedElement,
     /// Bounds on occurrences that the kind of their count does not have.
     OccurrenceBounds,
+    /// A component with a discriminator and another test.
+    TestsTogether,
+    /// A child without an initiator, in a group whose initiators tell what stands there.
+    NoInitiator,
     /// An element has the name of an earlier one of its group.
     ElementTwice,
     /// An escape scheme that lacks a character of its kind, or has something else than one where one stands.
@@ -203,6 +213,8 @@ impl ParseCause {
             ParseCause::BadNibble => 7,
             ParseCause::LengthOutOfRange => 8,
             ParseCause::PastType => 9,
+            ParseCause::AssertionFalse { .. } => 10,
+            ParseCause::DiscriminatorFalse { .. } => 11,
             ParseCause::NoBranch => 12,
             ParseCause::EmptyTrailingSlot => 16,
             ParseCause::UnknownBoolean => 17,
@@ -224,6 +236,8 @@ impl ParseCause {
             ParseCause::BadNibble => "bad nibble or zone",
             ParseCause::LengthOutOfRange => "length out of range",
             ParseCause::PastType => "value past its type",
+            ParseCause::AssertionFalse { .. } => "assertion false",
+            ParseCause::DiscriminatorFalse { .. } => "discriminator false",
             ParseCause::NoBranch => "no branch",
             ParseCause::EmptyTrailingSlot => "empty trailing slot",
             ParseCause::UnknownBoolean => "unknown boolean",
@@ -288,7 +302,10 @@ impl SchemaCause {
             SchemaCause::PadCharacter => 28,
             SchemaCause::NilNotAllowed => 29,
             SchemaCause::DefaultNotAValue => 30,
+            SchemaCause::UnboundedElement => 31,
             SchemaCause::OccurrenceBounds => 32,
+            SchemaCause::TestsTogether => 33,
+            SchemaCause::NoInitiator => 39,
             SchemaCause::ElementTwice => 40,
             SchemaCause::EscapeScheme => 42,
         }
@@ -328,7 +345,10 @@ impl SchemaCause {
             SchemaCause::PadCharacter => "pad character malformed",
             SchemaCause::NilNotAllowed => "nil not allowed",
             SchemaCause::DefaultNotAValue => "default is not a value",
+            SchemaCause::UnboundedElement => "unbounded element not allowed",
             SchemaCause::OccurrenceBounds => "occurrence bounds not allowed",
+            SchemaCause::TestsTogether => "assert and discriminator together",
+            SchemaCause::NoInitiator => "initiator missing in initiated content",
             SchemaCause::ElementTwice => "element name twice",
             SchemaCause::EscapeScheme => "escape scheme malformed",
         }

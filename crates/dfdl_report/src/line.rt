@@ -2,7 +2,7 @@
 ghost use Rattle.std.specs.Prelude.{◌≡◌, IfOk, string_bytes};
 ghost use Rattle.dfdl_report.specs.Lines.{document_line};
 ghost use Rattle.dfdl_report.specs.Lines.{files_line, infoset_line, left_over_line, limit_line, memory_line};
-ghost use Rattle.dfdl_report.specs.Lines.{parse_line, schema_line, sink_line, source_line, unparse_line, usage_line};
+ghost use Rattle.dfdl_report.specs.Lines.{parse_line, schema_line, sink_line, source_line, test_line, unparse_line, usage_line};
 
 use crate::cause::{DocCause, InfosetCause, LimitCause, ParseCause, SchemaCause, UnparseCause};
 use std::alloc::{AllocError, Global};
@@ -19,6 +19,21 @@ pub fn of_parse(
     let number = cause.number();
     let text = cause.text();
     format!(in alloc; "error P{number} at bit {bit} in {path}: {text}\n")
+}
+
+/// A test that fails at this bit, in the element of this path, with what the schema says of it.
+pub fn of_test(
+    alloc: Global,
+    cause: ParseCause,
+    bit: u64,
+    path: &str,
+    message: &str,
+) -> Result<String, AllocError>
+    ensures { IfOk result (λ line. string_bytes line ≡ test_line cause bit path.now message.now) }
+{
+    let number = cause.number();
+    let text = cause.text();
+    format!(in alloc; "error P{number} at bit {bit} in {path}: {text}: {message}\n")
 }
 
 /// An unparse error in the element of this path.

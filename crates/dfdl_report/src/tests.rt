@@ -8,6 +8,12 @@ fn lines_are_told(rt: HostRuntime) -> Result<(), Fail> {
     let alloc = rt.alloc();
     let told = line::of_parse(alloc, ParseCause::DataEnds, 8, "/r/b")?;
     assert_eq!(rt; told.as_str(), "error P4 at bit 8 in /r/b: data ends\n");
+    let cause = ParseCause::AssertionFalse { test: 3 };
+    let told = line::of_test(alloc, cause, 8, "/r/b", "too big")?;
+    assert_eq!(rt;
+        told.as_str(),
+        "error P10 at bit 8 in /r/b: assertion false: too big\n"
+    );
     let told = line::of_unparse(alloc, UnparseCause::WrongOccurrences, "/r/b")?;
     assert_eq!(rt;
         told.as_str(),

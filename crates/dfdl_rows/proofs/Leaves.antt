@@ -1,5 +1,5 @@
 -- What holds of the body of each simple element among the rows of components, wherever the rows begin.
-use Rattle.std.proofs.Common.{◌≡◌, ℕ, zero, suc, ◌+◌, ◌-◌, ◌<◌, Bool, List, [], ◌∷◌, ◌++◌, length, map, slice_get, get_or, All, Option, None, Some, sym, ap, subst, ◌∙◌, arith, append_assoc, inl, inr}
+use Rattle.std.proofs.Common.{◌≡◌, ℕ, zero, suc, ◌+◌, ◌-◌, ◌<◌, Bool, false, List, [], ◌∷◌, ◌++◌, length, map, slice_get, get_or, All, Option, None, Some, sym, ap, subst, ◌∙◌, arith, append_assoc, inl, inr}
 use Rattle.std.proofs.lemmas.Bool.{cases_lt}
 use Rattle.std.proofs.lemmas.List.Elements.{All-tail, All-cons, All-nil, All-append}
 use Rattle.std.proofs.lemmas.Option.{slice_get_within, slice_get-get_or, get_or_from_slice_get}
@@ -11,15 +11,16 @@ use Rattle.dfdl_terms.specs.declared.framing.Framing.{Framing}
 use Rattle.dfdl_terms.specs.declared.occurs.Occurs.{Occurs}
 use Rattle.dfdl_terms.specs.declared.prefix.Prefix.{Prefix}
 use Rattle.dfdl_terms.specs.declared.row.Row.{Row}
-use Rattle.dfdl_terms.specs.declared.row.Row.TheVariants.{Elem, Scope}
+use Rattle.dfdl_terms.specs.declared.row.Row.TheVariants.{Elem, Scope, Hidden as HiddenRow}
 use Rattle.dfdl_terms.specs.Framing.{no_fill}
 use Rattle.dfdl_rows.specs.Components.{Schema, component_at, slots_at, AreOfOne, HasOrder, IsBareComponent}
 use Rattle.dfdl_rows.specs.declared.component.Component.{Component}
-use Rattle.dfdl_rows.specs.declared.component.Component.TheVariants.{Sequence, Choice, ComplexElement, SimpleElement}
+use Rattle.dfdl_rows.specs.declared.component.Component.TheVariants.{Sequence, Choice, ComplexElement, SimpleElement, Hidden}
 use Rattle.dfdl_rows.specs.Framing.{framed, framed_row}
 use Rattle.dfdl_rows.specs.Scopes.{list_of, scanned_list, scope_rows, scoped_row, scope_size}
-use Rattle.dfdl_rows.specs.Slots.{laid_of, row_of, separator_list, slots_size}
+use Rattle.dfdl_rows.specs.Slots.{grouped, separator_list, slots_size}
 use Rattle.dfdl_rows.specs.declared.component.Separated.{Separated}
+use Rattle.dfdl_rows.specs.declared.times.Times.{Times}
 use Rattle.dfdl_rows.specs.declared.slots.Grouping.{Grouping}
 use Rattle.dfdl_rows.specs.declared.slots.Grouping.TheVariants as grouping
 use Rattle.dfdl_rows.specs.RowLists.{Numbered, leaf_row, boxed_rows, element_rows, scoped, sequence_rows, group_rows, own_rows, in_turn, last_rows, rows_at, rows_of}
@@ -27,7 +28,7 @@ use Rattle.dfdl_rows.specs.Leaves.{IsAmong, IsLeafOf, HaveLeaves, HaveBareLeaves
 use Rattle.dfdl_rows.proofs.Framed.{unframed_row, framed_all}
 use Rattle.dfdl_rows.proofs.Boxed.{leaf_holds, boxed_all}
 use Rattle.dfdl_rows.proofs.Scoped.{none_scanned, scoped_all}
-use Rattle.dfdl_rows.proofs.Slotted.{laid_all}
+use Rattle.dfdl_rows.proofs.Grouped.{grouped_all}
 use Rattle.dfdl_rows.proofs.Placed.{left, right, nothing_there, Sits, sits_left, sits_right, sits_first, sits_tail, framed_reads}
 use Rattle.dfdl_rows.proofs.Parts.{by_parts}
 use Rattle.dfdl_rows.proofs.RowsOf.{rows_step}
@@ -56,7 +57,7 @@ only_last (row ∷ rows) last (suc i) name simple tried body all is = only_last 
 
 framed_not_simple : (f : Framing) (separators : Option ℕ) (content first : ℕ) → All IsNotSimple (framed f separators content first)
 framed_not_simple f separators content first = framed_all IsNotSimple (λ bits name simple tried body is. absurd (cc)) (λ bits name simple tried body is. absurd (cc))
-    f separators (λ own there name simple tried body is. absurd (cc)) (λ own there name simple tried body is. absurd (cc))
+    f separators (λ test less name simple tried body is. absurd (cc)) (λ own there name simple tried body is. absurd (cc)) (λ own there name simple tried body is. absurd (cc))
     (λ children name simple tried body is. absurd (cc)) content first
 
 scoped_not_simple : (list : Option ℕ) (around : ℕ → ℕ → List Row) → ((content first : ℕ) → All IsNotSimple (around content first))
@@ -67,10 +68,6 @@ sequence_not_simple : (f : Framing) (separators : Option ℕ) (content first : �
 sequence_not_simple f separators =
     scoped_not_simple separators (scoped (list_of f.terminator) (framed f separators))
     (scoped_not_simple (list_of f.terminator) (framed f separators) (framed_not_simple f separators))
-
-group_not_simple : (kind : Grouping) (children : List ℕ) → IsNotSimple (row_of kind children)
-group_not_simple grouping.Sequence children name simple tried body is = absurd (cc)
-group_not_simple grouping.Choice children name simple tried body is = absurd (cc)
 
 leaf_not_simple : (prefix : Option Prefix) (prim : ℕ) → IsNotSimple (leaf_row prefix prim)
 leaf_not_simple prefix prim = leaf_holds IsNotSimple prefix prim (λ name simple tried body is. absurd (cc)) (λ own has name simple tried body is. absurd (cc))
@@ -101,8 +98,8 @@ scoped_reads rows IsOne f (Some list) content first sits reads =
 
 -- among all rows, this holds of the body of a simple element of the components
 module _ (components : List Component) (all : List Row) (Q : Simple → ℕ → Type 0)
-    (holds : (number content prim : ℕ) (name : List ℕ) (simple : Simple) (f : Framing) (prefix : Option Prefix) (tried : Representations) (scanned : Bool) (occurs : Occurs)
-    → slice_get components number ≡ Some (SimpleElement name simple prim f prefix tried scanned occurs) → slice_get all content ≡ Some (leaf_row prefix prim)
+    (holds : (number content prim : ℕ) (name : List ℕ) (simple : Simple) (f : Framing) (prefix : Option Prefix) (tried : Representations) (scanned : Bool) (occurs : Occurs) (parsed : Bool)
+    → slice_get components number ≡ Some (SimpleElement name simple prim f prefix tried scanned occurs parsed) → slice_get all content ≡ Some (leaf_row prefix prim)
     → Sits all (content + 1) (scoped_frame scanned f content) → Q simple (scoped_whole scanned f content)) where
   -- it holds of each simple element of the rows, where these stand among all rows
   abbrev pub BodiesFrom : ℕ → List Row → Type 0
@@ -130,31 +127,31 @@ module _ (components : List Component) (all : List Row) (Q : Simple → ℕ → 
       bodies_append first (f p first) (in_turn (map f ps) (first + length (f p first))) (each 0 p (omega arith) first)
       (turn_bodies f ps (All-tail (λ (q : ℕ). HasBodies (f q)) p ps each) (first + length (f p first)))
 
-  group_bodies : (kind : Grouping) (f : Framing) (separated : Option Separated) (slots : List Occurs) (lasts : List ℕ) (first : ℕ)
-      → BodiesFrom first (group_rows kind f separated slots lasts first)
-  group_bodies kind f separated slots lasts first =
+  group_bodies : (kind : Grouping) (f : Framing) (separated : Option Separated) (initiated : Bool) (slots : List Times) (lasts : List ℕ) (first : ℕ)
+      → BodiesFrom first (group_rows kind f separated initiated slots lasts first)
+  group_bodies kind f separated initiated slots lasts first =
       let size : ℕ = slots_size separated slots in
-      let own : List Row = (laid_of separated slots lasts first).rows in
-      let children : List ℕ = (laid_of separated slots lasts first).children in
+      let own : List Row = grouped kind initiated separated slots lasts first in
       let others : List Row = sequence_rows f (separator_list separated) (first + size) (first + size + 1) in
-      bodies_none first (own ++ row_of kind children ∷ others)
-      (All-append IsNotSimple own (row_of kind children ∷ others)
-      (laid_all IsNotSimple (λ name simple tried body is. absurd (cc)) (λ children name simple tried body is. absurd (cc))
-      (λ count body name simple tried other is. absurd (cc)) (λ most item body name simple tried other is. absurd (cc)) separated slots lasts first)
-      (All-cons IsNotSimple (row_of kind children) others (group_not_simple kind children)
-      (sequence_not_simple f (separator_list separated) (first + size) (first + size + 1))))
+      bodies_none first (own ++ others)
+      (All-append IsNotSimple own others
+      (grouped_all IsNotSimple (λ children name simple tried body is. absurd (cc)) (λ branches told name simple tried body is. absurd (cc))
+      (λ name simple tried body is. absurd (cc)) (λ count body name simple tried other is. absurd (cc))
+      (λ most item told body name simple tried other is. absurd (cc)) (λ policy position told all name simple tried other is. absurd (cc))
+      kind initiated separated slots lasts first)
+      (sequence_not_simple f (separator_list separated) (first + size) (first + size + 1)))
 
-  own_bodies : (component : Component) (slots : List Occurs) (lasts : List ℕ) (first number : ℕ) → slice_get components number ≡ Some component
+  own_bodies : (component : Component) (slots : List Times) (lasts : List ℕ) (first number : ℕ) → slice_get components number ≡ Some component
       → BodiesFrom first (own_rows component slots lasts first)
-  own_bodies (Sequence f separated) slots lasts first number there = group_bodies grouping.Sequence f separated slots lasts first
-  own_bodies (Choice f) slots lasts first number there = group_bodies grouping.Choice f None slots lasts first
-  own_bodies (ComplexElement own f box occurs) slots lasts first number there =
+  own_bodies (Sequence f separated initiated) slots lasts first number there = group_bodies grouping.Sequence f separated initiated slots lasts first
+  own_bodies (Choice f initiated) slots lasts first number there = group_bodies grouping.Choice f None initiated slots lasts first
+  own_bodies (ComplexElement own f box occurs parsed) slots lasts first number there =
       bodies_none first (scoped (list_of f.terminator) (boxed_rows own f box) (get_or lasts 0 0) first)
       (scoped_not_simple (list_of f.terminator) (boxed_rows own f box)
       (boxed_all IsNotSimple own f box (λ bits row name simple tried body is. absurd (cc)) (λ prefix row there name simple tried body is. absurd (cc))
       (framed_not_simple f None) (λ row name simple tried body is. absurd (cc)))
       (get_or lasts 0 0) first)
-  own_bodies (SimpleElement own kind prim f prefix trials scanned occurs) slots lasts first number there = λ sits i name simple tried body is.
+  own_bodies (SimpleElement own kind prim f prefix trials scanned occurs parsed) slots lasts first number there = λ sits i name simple tried body is.
       let list : Option ℕ = scanned_list scanned f.terminator in
       let whole : ℕ = scoped_whole scanned f first in
       let last : Row = Elem own (Some kind) trials (scoped_whole scanned f first) in
@@ -174,17 +171,20 @@ module _ (components : List Component) (all : List Row) (Q : Simple → ℕ → 
       let behind : Sits all (first + 1) (scoped_frame scanned f first)
       = sits_left all (first + 1) (scoped_frame scanned f first) (last ∷ []) (sits_tail all first (leaf_row prefix prim) (scoped_frame scanned f first ++ last ∷ []) all_sit) in
       subst (λ (k : Simple). Q k body) kinds (subst (λ (n : ℕ). Q kind n) bodies
-      (holds number first prim own kind f prefix trials scanned occurs there
+      (holds number first prim own kind f prefix trials scanned occurs parsed there
       (sits_first all first (leaf_row prefix prim) (scoped_frame scanned f first ++ last ∷ []) all_sit) behind))
+  own_bodies Hidden slots lasts first number there =
+      bodies_none first (HiddenRow (get_or lasts 0 0) ∷ [])
+      (All-cons IsNotSimple (HiddenRow (get_or lasts 0 0)) [] (λ name simple tried body is. absurd (cc)) (All-nil IsNotSimple))
 
 -- the rows of each component of a schema
 module _ (s : Schema) (ordered : HasOrder s.uses) (one : AreOfOne s.uses s.components s.refusals s.places) where
   there : (c : ℕ) → c < length s.uses → slice_get s.components c ≡ Some (component_at s.components c)
-  there c within = slice_get-get_or s.components c (Sequence no_fill None) (omega (arith, within, one.counted))
+  there c within = slice_get-get_or s.components c (Sequence no_fill None false) (omega (arith, within, one.counted))
 
   bodies_at : (all : List Row) (Q : Simple → ℕ → Type 0)
-      → ((number content prim : ℕ) (name : List ℕ) (simple : Simple) (f : Framing) (prefix : Option Prefix) (tried : Representations) (scanned : Bool) (occurs : Occurs)
-      → slice_get s.components number ≡ Some (SimpleElement name simple prim f prefix tried scanned occurs) → slice_get all content ≡ Some (leaf_row prefix prim)
+      → ((number content prim : ℕ) (name : List ℕ) (simple : Simple) (f : Framing) (prefix : Option Prefix) (tried : Representations) (scanned : Bool) (occurs : Occurs) (parsed : Bool)
+      → slice_get s.components number ≡ Some (SimpleElement name simple prim f prefix tried scanned occurs parsed) → slice_get all content ≡ Some (leaf_row prefix prim)
       → Sits all (content + 1) (scoped_frame scanned f content) → Q simple (scoped_whole scanned f content))
       → (c : ℕ) → c < length s.uses → (first : ℕ) → Sits all first (rows_at s c first) → (i : ℕ) (name : List ℕ) (simple : Simple) (tried : Representations) (body : ℕ)
       → slice_get (rows_at s c first) i ≡ Some (Elem name (Some simple) tried body) → Q simple body
@@ -206,9 +206,9 @@ module _ (s : Schema) (ordered : HasOrder s.uses) (one : AreOfOne s.uses s.compo
   pub rows_have_leaves : (root : ℕ) → root < length s.uses → HaveLeaves s.components (rows_of s root)
   rows_have_leaves root within =
       bodies_at (rows_of s root) (λ simple body. ReadsBy (rows_of s root) (IsAmong s.components simple) body)
-      (λ number content prim name simple f prefix tried scanned occurs component is sits.
+      (λ number content prim name simple f prefix tried scanned occurs parsed component is sits.
       scoped_reads (rows_of s root) (IsAmong s.components simple) f (scanned_list scanned f.terminator) content (content + 1) sits
-      (leaf_reads (rows_of s root) (IsAmong s.components simple) content prim prefix is (number, name, f, prefix, tried, scanned, occurs, component)))
+      (leaf_reads (rows_of s root) (IsAmong s.components simple) content prim prefix is (number, name, f, prefix, tried, scanned, occurs, parsed, component)))
       root within 0 (root_sits (rows_of s root))
 
   -- where there is neither fill nor a delimiter nor a box nor a prefix, the component of a number has none
@@ -220,12 +220,12 @@ module _ (s : Schema) (ordered : HasOrder s.uses) (one : AreOfOne s.uses s.compo
   pub rows_have_bare_leaves : All IsBareComponent s.components → (root : ℕ) → root < length s.uses → HaveBareLeaves s.components (rows_of s root)
   rows_have_bare_leaves bare root within =
       bodies_at (rows_of s root) (λ simple body. IsLeafOf s.components simple (slice_get (rows_of s root) body))
-      (λ number content prim name simple f prefix tried scanned occurs component is sits.
-      let own = bare_at bare number (SimpleElement name simple prim f prefix tried scanned occurs) component in
+      (λ number content prim name simple f prefix tried scanned occurs parsed component is sits.
+      let own = bare_at bare number (SimpleElement name simple prim f prefix tried scanned occurs parsed) component in
       let content_is : scoped_whole scanned f content ≡ content
       = ap (λ (list : Option ℕ). framed_row f None (scoped_row list content (content + 1)) (content + 1 + scope_size list)) (none_scanned scanned f own.unframed)
       ∙ unframed_row f None content (content + 1 + 0) own.unframed in
       let leaf_is : leaf_row prefix prim ≡ leaf_row None prim = ap (λ (own : Option Prefix). leaf_row own prim) own.unprefixed in
       subst (λ (n : ℕ). IsLeafOf s.components simple (slice_get (rows_of s root) n)) (sym content_is)
-      (subst (IsLeafOf s.components simple) (sym (is ∙ ap (λ (row : Row). Some row) leaf_is)) (number, name, f, prefix, tried, scanned, occurs, component)))
+      (subst (IsLeafOf s.components simple) (sym (is ∙ ap (λ (row : Row). Some row) leaf_is)) (number, name, f, prefix, tried, scanned, occurs, parsed, component)))
       root within 0 (root_sits (rows_of s root))

@@ -8,6 +8,7 @@ mod Counts
 mod Tables
 mod RowsOf
 mod Slotted
+mod Grouped
 mod Walks
 mod Looks
 mod Named

@@ -10,7 +10,7 @@ use Rattle.dfdl_rows.specs.Refusals.{Names, Behind, Look, go_on, go_beside, with
 use Rattle.dfdl_rows.specs.Looking.{is_plain, are_all, idle_from, idle_of, looks_from, looks_of, looks_left, visits, branch_tasks}
 use Rattle.dfdl_rows.specs.Sizes.{total}
 use Rattle.dfdl_rows.specs.declared.component.Component.{Component}
-use Rattle.dfdl_rows.specs.declared.component.Component.TheVariants.{Sequence, Choice, ComplexElement, SimpleElement}
+use Rattle.dfdl_rows.specs.declared.component.Component.TheVariants.{Sequence, Choice, ComplexElement, SimpleElement, Hidden}
 use Rattle.dfdl_rows.specs.declared.looking.Task.{Task}
 use Rattle.dfdl_rows.specs.declared.looking.Task.TheVariants.{Visit, Turn, Close}
 use Rattle.dfdl_rows.specs.declared.refusal.Refusal.{Refusal}
@@ -58,10 +58,11 @@ module _ (s : Schema) (order : Places) (is : IsOrder s.uses order) where
       → (is_none own && (is_plain component && b)) ≡ true
       → (b ≡ true → in_order parts names ≡ Behind []) → (b ≡ true → in_branches parts names ≡ Behind [])
       → unless_refused own (at_component component place parts) names ≡ Behind []
-  idle_at None (Sequence framing separated) place parts b names are order_is branches_are = order_is are
-  idle_at None (Choice framing) place parts b names are order_is branches_are = branches_are are
-  idle_at None (ComplexElement name framing box occurs) place parts b names are order_is branches_are = absurd (cc)
-  idle_at None (SimpleElement name simple prim framing prefix tried scanned occurs) place parts b names are order_is branches_are = absurd (cc)
+  idle_at None (Sequence framing separated initiated) place parts b names are order_is branches_are = order_is are
+  idle_at None (Choice framing initiated) place parts b names are order_is branches_are = branches_are are
+  idle_at None Hidden place parts b names are order_is branches_are = order_is are
+  idle_at None (ComplexElement name framing box occurs parsed) place parts b names are order_is branches_are = absurd (cc)
+  idle_at None (SimpleElement name simple prim framing prefix tried scanned occurs parsed) place parts b names are order_is branches_are = absurd (cc)
   idle_at (Some refusal) component place parts b names are order_is branches_are = absurd (cc)
 
   idle_next : (c : ℕ) → c < length s.uses → All IsIdle (uses_of s.uses c) → IsIdle c

@@ -8,18 +8,18 @@ use Rattle.dfdl_order.specs.Parts.{uses_of}
 use Rattle.dfdl_terms.specs.declared.representations.Representations.{Representations}
 use Rattle.dfdl_terms.specs.Tables.{Named}
 use Rattle.dfdl_terms.specs.declared.framing.Framing.{Framing}
-use Rattle.dfdl_terms.specs.declared.occurs.Occurs.{Occurs}
 use Rattle.dfdl_terms.specs.declared.row.Row.{Row}
-use Rattle.dfdl_terms.specs.declared.row.Row.TheVariants.{Elem, Group, Scope, Boxed, PrefixedBox}
+use Rattle.dfdl_terms.specs.declared.row.Row.TheVariants.{Elem, Group, Scope, Boxed, PrefixedBox, Hidden as HiddenRow}
 use Rattle.dfdl_terms.specs.Rows.{ChildrenBelow, Nests, NamesWithin, IsPlainRow, IsWithin, HasPlainRows}
 use Rattle.dfdl_terms.specs.Framing.{no_fill}
-use Rattle.dfdl_rows.specs.Components.{Schema, component_at, slots_at, CanHave, AreOfOne, HasOrder, HasPrimitive, HasBoxPrimitive, HasPrefixPrimitive, HasList, HasSeparators, HasDelimiters, IsBareComponent, no_trials, occurs_in}
-use Rattle.dfdl_rows.specs.Slots.{laid_of, row_of, separator_list, slots_of, slots_of_group, slots_size}
+use Rattle.dfdl_rows.specs.Components.{Schema, component_at, slots_at, CanHave, AreOfOne, HasOrder, HasPrimitive, HasBoxPrimitive, HasPrefixPrimitive, HasList, HasSeparators, HasDelimiters, HasTests, IsBareComponent, no_trials, occurs_in}
+use Rattle.dfdl_rows.specs.Slots.{grouped, laid_of, separator_list, slots_of, slots_of_group, slots_size}
 use Rattle.dfdl_rows.specs.declared.slots.Grouping.{Grouping}
 use Rattle.dfdl_rows.specs.declared.slots.Grouping.TheVariants as grouping
 use Rattle.dfdl_rows.specs.declared.component.Separated.{Separated}
+use Rattle.dfdl_rows.specs.declared.times.Times.{Times}
 use Rattle.dfdl_rows.specs.declared.component.Component.{Component}
-use Rattle.dfdl_rows.specs.declared.component.Component.TheVariants.{Sequence, Choice, ComplexElement, SimpleElement}
+use Rattle.dfdl_rows.specs.declared.component.Component.TheVariants.{Sequence, Choice, ComplexElement, SimpleElement, Hidden}
 use Rattle.dfdl_rows.specs.declared.component.ContentBox.{ContentBox}
 use Rattle.dfdl_rows.specs.declared.component.ContentBox.TheVariants.{Unbounded, Sized, Prefixed}
 use Rattle.dfdl_rows.specs.Boxes.{box_rows, boxed_row, box_size}
@@ -31,7 +31,8 @@ use Rattle.dfdl_rows.proofs.Framed.{framed_cases, unframed, length_framed, frame
 use Rattle.dfdl_rows.proofs.Boxed.{length_box, box_end, box_below, leaf_holds, element_all, boxed_all}
 use Rattle.dfdl_rows.proofs.Scoped.{length_scope, scope_end, scope_below, scoped_all, no_terminator, none_scanned, listed, scanned_holds}
 use Rattle.dfdl_rows.proofs.Nests.{NestsFrom, nests_none, nests_cons, nests_append}
-use Rattle.dfdl_rows.proofs.Slotted.{IsSingle, laid_all, laid_nests, length_laid, none_laid}
+use Rattle.dfdl_rows.proofs.Slotted.{IsSingle}
+use Rattle.dfdl_rows.proofs.Grouped.{grouped_all, grouped_nests, length_grouped, none_grouped}
 use Rattle.dfdl_rows.proofs.Parts.{by_parts, parts_within}
 use Rattle.dfdl_rows.proofs.RowsOf.{rows_step, length_rows, length_lasts, some_rows}
 
@@ -82,9 +83,9 @@ module _ (f : Framing) (separators : Option ℕ) (content first : ℕ) (low : co
   nests_framed = framed_cases f separators content first (λ rows whole size. NestsFrom first rows) (λ none. nests_none first)
       (λ some.
       nests_append (rows_before f) (rows_behind f separators ++ Group (in_group f separators content first) ∷ []) first
-      (nests_flat (rows_before f) first (before_all (λ row. (n : ℕ) → ChildrenBelow n row) (λ bits n. tt) (λ bits n. tt) f separators (λ own is n. tt) (λ own is n. tt)))
+      (nests_flat (rows_before f) first (before_all (λ row. (n : ℕ) → ChildrenBelow n row) (λ bits n. tt) (λ bits n. tt) f separators (λ test less n. tt) (λ own is n. tt) (λ own is n. tt)))
       (nests_append (rows_behind f separators) (Group (in_group f separators content first) ∷ []) (first + length (rows_before f))
-      (nests_flat (rows_behind f separators) (first + length (rows_before f)) (behind_all (λ row. (n : ℕ) → ChildrenBelow n row) (λ bits n. tt) (λ bits n. tt) f separators (λ own is n. tt) (λ own is n. tt)))
+      (nests_flat (rows_behind f separators) (first + length (rows_before f)) (behind_all (λ row. (n : ℕ) → ChildrenBelow n row) (λ bits n. tt) (λ bits n. tt) f separators (λ test less n. tt) (λ own is n. tt) (λ own is n. tt)))
       (nests_cons (first + length (rows_before f) + length (rows_behind f separators)) (Group (in_group f separators content first)) [] group_below
       (nests_none (first + length (rows_before f) + length (rows_behind f separators) + 1)))))
 
@@ -129,38 +130,31 @@ nests_sequence f separators =
     nests_scoped separators (scoped (list_of f.terminator) (framed f separators))
     (nests_scoped (list_of f.terminator) (framed f separators) (nests_framed f separators))
 
--- the row of a group stands behind what is in it
-below_group : (kind : Grouping) (children : List ℕ) (n : ℕ) → All (λ k. k < n) children → ChildrenBelow n (row_of kind children)
-below_group grouping.Sequence children n all = all
-below_group grouping.Choice children n all = all
-
--- the group of a sequence or choice, with its separators and what repeats and tries its parts
-nests_slots : (kind : Grouping) (f : Framing) (separated : Option Separated) (slots : List Occurs) (lasts : List ℕ) (first : ℕ) → length slots ≡ length lasts
-    → All (λ n. n < first) lasts → NestsFrom first (group_rows kind f separated slots lasts first)
-nests_slots kind f separated slots lasts first long below =
-    let own : List Row = (laid_of separated slots lasts first).rows in
-    let children : List ℕ = (laid_of separated slots lasts first).children in
+-- the group of a sequence or choice, and what is around it
+nests_slots : (kind : Grouping) (f : Framing) (separated : Option Separated) (initiated : Bool) (slots : List Times) (lasts : List ℕ) (first : ℕ)
+    → length slots ≡ length lasts → All (λ n. n < first) lasts → NestsFrom first (group_rows kind f separated initiated slots lasts first)
+nests_slots kind f separated initiated slots lasts first long below =
     let size : ℕ = slots_size separated slots in
     let others : List Row = sequence_rows f (separator_list separated) (first + size) (first + size + 1) in
-    let nest = laid_nests separated slots lasts first long below in
-    let count : length own ≡ slots_size separated slots = length_laid separated slots lasts first in
-    nests_append own (row_of kind children ∷ others) first nest.nests
-    (nests_cons (first + length own) (row_of kind children) others (below_group kind children (first + length own) nest.below)
-    (subst (λ (n : ℕ). NestsFrom (first + n + 1) others) (sym count)
-    (nests_sequence f (separator_list separated) (first + size) (first + size + 1) (omega arith))))
+    let after : first + length (grouped kind initiated separated slots lasts first) ≡ first + size + 1
+    = omega (arith, length_grouped kind initiated separated slots lasts first) in
+    nests_append (grouped kind initiated separated slots lasts first) others first (grouped_nests kind initiated separated slots lasts first long below)
+    (subst (λ (n : ℕ). NestsFrom n others) (sym after) (nests_sequence f (separator_list separated) (first + size) (first + size + 1) (omega arith)))
 
-own_nest : (component : Component) (slots : List Occurs) (ps lasts : List ℕ) (first : ℕ) → CanHave component ps → length lasts ≡ length ps → length slots ≡ length ps
+own_nest : (component : Component) (slots : List Times) (ps lasts : List ℕ) (first : ℕ) → CanHave component ps → length lasts ≡ length ps → length slots ≡ length ps
     → All (λ n. n < first) lasts → NestsFrom first (own_rows component slots lasts first)
-own_nest (Sequence f separated) slots ps lasts first can long many below = nests_slots grouping.Sequence f separated slots lasts first (omega (arith, long, many)) below
-own_nest (Choice f) slots ps lasts first can long many below = nests_slots grouping.Choice f None slots lasts first (omega (arith, long, many)) below
-own_nest (ComplexElement name f box occurs) slots ps lasts first can long many below =
+own_nest (Sequence f separated initiated) slots ps lasts first can long many below = nests_slots grouping.Sequence f separated initiated slots lasts first (omega (arith, long, many)) below
+own_nest (Choice f initiated) slots ps lasts first can long many below = nests_slots grouping.Choice f None initiated slots lasts first (omega (arith, long, many)) below
+own_nest (ComplexElement name f box occurs parsed) slots ps lasts first can long many below =
     nests_scoped (list_of f.terminator) (boxed_rows name f box) (nests_boxed name f box) (get_or lasts 0 0) first (below 0 0 (omega (arith, can, long)))
-own_nest (SimpleElement name simple prim f prefix tried scanned occurs) slots ps lasts first can long many below =
+own_nest (SimpleElement name simple prim f prefix tried scanned occurs parsed) slots ps lasts first can long many below =
     let list : Option ℕ = scanned_list scanned f.terminator in
     nests_cons first (leaf_row prefix prim) (scoped list (element_rows name (Some simple) tried f) first (first + 1))
     (leaf_holds (ChildrenBelow first) prefix prim tt (λ own is. tt))
     (nests_scoped list (element_rows name (Some simple) tried f) (λ content from low. nests_element f content from low name (Some simple) tried)
     first (first + 1) (omega arith))
+own_nest Hidden slots ps lasts first can long many below =
+    nests_cons first (HiddenRow (get_or lasts 0 0)) [] (below 0 0 (omega (arith, can, long))) (nests_none (first + 1))
 
 -- each part has its slots
 length_slots : (s : Schema) (c : ℕ) → length (slots_at s c) ≡ length (uses_of s.uses c)
@@ -213,9 +207,9 @@ rows_all s ordered P own = by_parts s.uses ordered.0 ordered.1 (λ c. IsAll P (r
 -- what rows name is there
 module _ (named : Named) (f : Framing) (separators : Option ℕ)
     (has : HasList (length named.delimiters) f.initiator × HasList (length named.delimiters) f.terminator)
-    (within : IsWithin (length named.delimiters) separators) where
+    (within : IsWithin (length named.delimiters) separators) (tests : f.tests.first + f.tests.count ≤ length named.tests) where
   framed_named : (content first : ℕ) → All (NamesWithin named) (framed f separators content first)
-  framed_named = framed_all (NamesWithin named) (λ bits. tt) (λ bits. tt) f separators (λ own is. subst (HasList (length named.delimiters)) is has.0)
+  framed_named = framed_all (NamesWithin named) (λ bits. tt) (λ bits. tt) f separators (λ test less. omega (arith, less, tests)) (λ own is. subst (HasList (length named.delimiters)) is has.0)
       (λ own is. (subst (HasList (length named.delimiters)) is has.1, within)) (λ children. tt)
 
   scoped_named : (around : ℕ → ℕ → List Row) → ((content first : ℕ) → All (NamesWithin named) (around content first))
@@ -235,43 +229,40 @@ separators_within : (count : ℕ) (separated : Option Separated) → HasSeparato
 separators_within count None has = tt
 separators_within count (Some own) has = has
 
-named_row : (named : Named) (kind : Grouping) (children : List ℕ) → NamesWithin named (row_of kind children)
-named_row named grouping.Sequence children = tt
-named_row named grouping.Choice children = tt
-
 -- the rows of a sequence or choice of its own
-group_named : (named : Named) (kind : Grouping) (f : Framing) (separated : Option Separated) (slots : List Occurs) (lasts : List ℕ) (first : ℕ)
+group_named : (named : Named) (kind : Grouping) (f : Framing) (separated : Option Separated) (initiated : Bool) (slots : List Times) (lasts : List ℕ) (first : ℕ)
     → HasList (length named.delimiters) f.initiator → HasList (length named.delimiters) f.terminator → HasSeparators (length named.delimiters) separated
-    → All (NamesWithin named) (group_rows kind f separated slots lasts first)
-group_named named kind f separated slots lasts first initiator terminator separators =
+    → f.tests.first + f.tests.count ≤ length named.tests → All (NamesWithin named) (group_rows kind f separated initiated slots lasts first)
+group_named named kind f separated initiated slots lasts first initiator terminator separators tests =
     let size : ℕ = slots_size separated slots in
-    let own : List Row = (laid_of separated slots lasts first).rows in
-    let children : List ℕ = (laid_of separated slots lasts first).children in
     let within : IsWithin (length named.delimiters) (separator_list separated) = separators_within (length named.delimiters) separated separators in
-    All-append (NamesWithin named) own (row_of kind children ∷ sequence_rows f (separator_list separated) (first + size) (first + size + 1))
-    (laid_all (NamesWithin named) tt (λ own. tt) (λ count body. tt) (λ most item body. tt) separated slots lasts first)
-    (All-cons (NamesWithin named) (row_of kind children) (sequence_rows f (separator_list separated) (first + size) (first + size + 1)) (named_row named kind children)
-    (sequence_named named f (separator_list separated) (initiator, terminator) within (first + size) (first + size + 1)))
+    All-append (NamesWithin named) (grouped kind initiated separated slots lasts first) (sequence_rows f (separator_list separated) (first + size) (first + size + 1))
+    (grouped_all (NamesWithin named) (λ children. tt) (λ branches own. tt) tt (λ count body. tt) (λ most item own body. tt) (λ policy position own all. tt)
+    kind initiated separated slots lasts first)
+    (sequence_named named f (separator_list separated) (initiator, terminator) within tests (first + size) (first + size + 1))
 
-own_named : (named : Named) (component : Component) (slots : List Occurs) (lasts : List ℕ) (first : ℕ) → HasPrimitive (length named.primitives) component
-    → HasDelimiters (length named.delimiters) component → All (NamesWithin named) (own_rows component slots lasts first)
-own_named named (Sequence f separated) slots lasts first has lists = group_named named grouping.Sequence f separated slots lasts first lists.0 lists.1 lists.2
-own_named named (Choice f) slots lasts first has lists = group_named named grouping.Choice f None slots lasts first lists.0 lists.1 tt
-own_named named (ComplexElement name f box occurs) slots lasts first has lists =
-    scoped_named named f None (lists.0, lists.1) tt (boxed_rows name f box)
+own_named : (named : Named) (component : Component) (slots : List Times) (lasts : List ℕ) (first : ℕ) → HasPrimitive (length named.primitives) component
+    → HasDelimiters (length named.delimiters) component → HasTests (length named.tests) component → All (NamesWithin named) (own_rows component slots lasts first)
+own_named named (Sequence f separated initiated) slots lasts first has lists tests =
+    group_named named grouping.Sequence f separated initiated slots lasts first lists.0 lists.1 lists.2 tests
+own_named named (Choice f initiated) slots lasts first has lists tests =
+    group_named named grouping.Choice f None initiated slots lasts first lists.0 lists.1 tt tests
+own_named named (ComplexElement name f box occurs parsed) slots lasts first has lists tests =
+    scoped_named named f None (lists.0, lists.1) tt tests (boxed_rows name f box)
     (boxed_all (NamesWithin named) name f box (λ bits body. tt) (λ own body is. subst (HasBoxPrimitive (length named.primitives)) is has)
-    (framed_named named f None (lists.0, lists.1) tt) (λ body. (tt, tt)))
+    (framed_named named f None (lists.0, lists.1) tt tests) (λ body. (tt, tt)))
     (get_or lasts 0 0) first
-own_named named (SimpleElement name simple prim f prefix tried scanned occurs) slots lasts first has lists =
+own_named named (SimpleElement name simple prim f prefix tried scanned occurs parsed) slots lasts first has lists tests =
     let list : Option ℕ = scanned_list scanned f.terminator in
     All-cons (NamesWithin named) (leaf_row prefix prim) (scoped list (element_rows name (Some simple) tried f) first (first + 1))
     (leaf_holds (NamesWithin named) prefix prim has.0 (λ own is. (subst (HasPrefixPrimitive (length named.primitives)) is has.1, has.0)))
     (scoped_all (NamesWithin named) list (element_rows name (Some simple) tried f)
     (λ n body is. scanned_holds (λ n. n < length named.delimiters) scanned f.terminator n is (λ own there. subst (HasList (length named.delimiters)) there lists.1))
-    (λ content from. element_all (NamesWithin named) name (Some simple) tried f content from (framed_named named f None (lists.0, lists.1) tt content from) has.2)
+    (λ content from. element_all (NamesWithin named) name (Some simple) tried f content from (framed_named named f None (lists.0, lists.1) tt tests content from) has.2)
     first (first + 1))
+own_named named Hidden slots lasts first has lists tests = All-cons (NamesWithin named) (HiddenRow (get_or lasts 0 0)) [] tt (All-nil (NamesWithin named))
 
--- each row is plain where there is neither fill nor a delimiter nor a box nor a prefix
+-- each row is plain where there is neither a test nor fill nor a delimiter nor a box nor a prefix
 module _ (f : Framing) (none : has_framing f ≡ false) where
   unframed_plain : (content first : ℕ) → All IsPlainRow (framed f None content first)
   unframed_plain content first = subst (All IsPlainRow) (sym (unframed f None content first none)) (All-nil IsPlainRow)
@@ -287,22 +278,23 @@ module _ (f : Framing) (none : has_framing f ≡ false) where
       → All IsPlainRow (element_rows name simple tried f content first)
   element_plain name simple tried content first = element_all IsPlainRow name simple tried f content first (unframed_plain content first) tt
 
-own_bare : (component : Component) (slots : List Occurs) (lasts : List ℕ) (first : ℕ) → IsBareComponent component → All IsSingle slots
+own_bare : (component : Component) (slots : List Times) (lasts : List ℕ) (first : ℕ) → IsBareComponent component → All IsSingle slots
     → All IsPlainRow (own_rows component slots lasts first)
-own_bare (Sequence f None) slots lasts first bare few =
+own_bare (Sequence f None initiated) slots lasts first bare few =
     let size : ℕ = slots_size None slots in
-    let others : List Row = Group (laid_of None slots lasts first).children ∷ sequence_rows f None (first + size) (first + size + 1) in
-    subst (λ (own : List Row). All IsPlainRow (own ++ others)) (sym (none_laid slots lasts first few))
-    (All-cons IsPlainRow (Group (laid_of None slots lasts first).children) (sequence_rows f None (first + size) (first + size + 1)) tt
+    let others : List Row = sequence_rows f None (first + size) (first + size + 1) in
+    subst (λ (own : List Row). All IsPlainRow (own ++ others)) (sym (none_grouped grouping.Sequence initiated slots lasts first few))
+    (All-cons IsPlainRow (Group (laid_of initiated None slots lasts first).children) (sequence_rows f None (first + size) (first + size + 1)) tt
     (unscoped_plain f bare.unframed (framed f None) (unframed_plain f bare.unframed) (first + size) (first + size + 1 + 0)))
-own_bare (Choice f) slots lasts first bare few = absurd (let none = bare.unchosen in cc)
-own_bare (Sequence f (Some own)) slots lasts first bare few = absurd (let none = bare.unseparated in cc)
-own_bare (ComplexElement name f Unbounded occurs) slots lasts first bare few =
+own_bare (Choice f initiated) slots lasts first bare few = absurd (let none = bare.unchosen in cc)
+own_bare Hidden slots lasts first bare few = absurd (let none = bare.unhidden in cc)
+own_bare (Sequence f (Some own) initiated) slots lasts first bare few = absurd (let none = bare.unseparated in cc)
+own_bare (ComplexElement name f Unbounded occurs parsed) slots lasts first bare few =
     unscoped_plain f bare.unframed (boxed_rows name f Unbounded) (λ content n. element_plain f bare.unframed name None no_trials content (n + 0))
     (get_or lasts 0 0) first
-own_bare (ComplexElement name f (Sized bits) occurs) slots lasts first bare few = absurd (let none = bare.unboxed in cc)
-own_bare (ComplexElement name f (Prefixed prefix) occurs) slots lasts first bare few = absurd (let none = bare.unboxed in cc)
-own_bare (SimpleElement name simple prim f prefix tried scanned occurs) slots lasts first bare few =
+own_bare (ComplexElement name f (Sized bits) occurs parsed) slots lasts first bare few = absurd (let none = bare.unboxed in cc)
+own_bare (ComplexElement name f (Prefixed prefix) occurs parsed) slots lasts first bare few = absurd (let none = bare.unboxed in cc)
+own_bare (SimpleElement name simple prim f prefix tried scanned occurs parsed) slots lasts first bare few =
     let list : Option ℕ = scanned_list scanned f.terminator in
     All-cons IsPlainRow (leaf_row prefix prim) (scoped list (element_rows name (Some simple) tried f) first (first + 1))
     (leaf_holds IsPlainRow prefix prim tt (λ own is. absurd (let none = bare.unprefixed in cc)))
@@ -319,13 +311,19 @@ once_group f [] = by (has_framing f)
     by false = omega arith
 once_group f (part ∷ parts) = omega arith
 
-once_slots : (component : Component) (parts : List ℕ) → IsSingle (occurs_in component) → IsSingle (slots_of component parts)
-once_slots (Sequence f separated) parts is = record { few = once_group f parts; untried = refl }
-once_slots (Choice f) parts is = record { few = once_group f parts; untried = refl }
-once_slots (ComplexElement name f box occurs) parts is = is
-once_slots (SimpleElement name simple prim f prefix tried scanned occurs) parts is = is
+-- an element occurs once or never, and none of its occurrences is tried
+record IsOnce (component : Component) : Type 0 where
+  few : (occurs_in component).least ≤ 1
+  untried : (occurs_in component).further ≡ 0
 
-bare_once : (components : List Component) (p : ℕ) → All IsBareComponent components → IsSingle (occurs_in (component_at components p))
+once_slots : (component : Component) (parts : List ℕ) → IsOnce component → IsSingle (slots_of component parts)
+once_slots (Sequence f separated initiated) parts is = record { few = once_group f parts; untried = refl }
+once_slots (Choice f initiated) parts is = record { few = once_group f parts; untried = refl }
+once_slots (ComplexElement name f box occurs parsed) parts is = record { few = is.few; untried = is.untried }
+once_slots (SimpleElement name simple prim f prefix tried scanned occurs parsed) parts is = record { few = is.few; untried = is.untried }
+once_slots Hidden parts is = record { few = omega arith; untried = refl }
+
+bare_once : (components : List Component) (p : ℕ) → All IsBareComponent components → IsOnce (component_at components p)
 bare_once [] p bare = record { few = omega arith; untried = refl }
 bare_once (k ∷ components) zero bare = let own = bare 0 k (omega arith) in record { few = own.once; untried = own.untried }
 bare_once (k ∷ components) (suc p) bare = bare_once components p (All-tail IsBareComponent k components bare)
@@ -341,16 +339,17 @@ slots_once s bare c = all (uses_of s.uses c)
 
 module _ (s : Schema) (ordered : HasOrder s.uses) (one : AreOfOne s.uses s.components s.refusals s.places) where
   pub rows_named : (named : Named) → All (HasPrimitive (length named.primitives)) s.components → All (HasDelimiters (length named.delimiters)) s.components
-      → (c : ℕ) → c < length s.uses → IsAll (NamesWithin named) (rows_at s c)
-  rows_named named has lists = rows_all s ordered (NamesWithin named)
+      → All (HasTests (length named.tests)) s.components → (c : ℕ) → c < length s.uses → IsAll (NamesWithin named) (rows_at s c)
+  rows_named named has lists tests = rows_all s ordered (NamesWithin named)
       (λ c within lasts first. own_named named (component_at s.components c) (slots_at s c) lasts first
-      (All-get_or (HasPrimitive (length named.primitives)) s.components c (Sequence no_fill None) (omega (arith, within, one.counted)) has)
-      (All-get_or (HasDelimiters (length named.delimiters)) s.components c (Sequence no_fill None) (omega (arith, within, one.counted)) lists))
+      (All-get_or (HasPrimitive (length named.primitives)) s.components c (Sequence no_fill None false) (omega (arith, within, one.counted)) has)
+      (All-get_or (HasDelimiters (length named.delimiters)) s.components c (Sequence no_fill None false) (omega (arith, within, one.counted)) lists)
+      (All-get_or (HasTests (length named.tests)) s.components c (Sequence no_fill None false) (omega (arith, within, one.counted)) tests))
 
   pub rows_bare : All IsBareComponent s.components → (root : ℕ) → root < length s.uses → HasPlainRows (rows_of s root)
   rows_bare bare root within = rows_all s ordered IsPlainRow
       (λ c within lasts first. own_bare (component_at s.components c) (slots_at s c) lasts first
-      (All-get_or IsBareComponent s.components c (Sequence no_fill None) (omega (arith, within, one.counted)) bare) (slots_once s bare c))
+      (All-get_or IsBareComponent s.components c (Sequence no_fill None false) (omega (arith, within, one.counted)) bare) (slots_once s bare c))
       root within 0
 
 -- an element's own row is the last one
@@ -407,14 +406,15 @@ turn_some f (p ∷ ps) one all =
     let here : 0 < length (f p 0) = all 0 p (omega arith) in
     omega (arith, here, length-append (f p 0) (in_turn (map f ps) (0 + length (f p 0))))
 
-own_last : (component : Component) (slots : List Occurs) (f : ℕ → Numbered) (ps : List ℕ) → CanHave component ps → All (λ p. 0 < length (f p 0)) ps
+own_last : (component : Component) (slots : List Times) (f : ℕ → Numbered) (ps : List ℕ) → CanHave component ps → All (λ p. 0 < length (f p 0)) ps
     → EndsWith component (in_turn (map f ps) 0 ++ own_rows component slots (last_rows (map f ps) 0) (0 + length (in_turn (map f ps) 0)))
-own_last (Sequence framing separated) slots f ps can some = tt
-own_last (Choice framing) slots f ps can some = tt
-own_last (ComplexElement name framing box occurs) slots f ps can some =
+own_last (Sequence framing separated initiated) slots f ps can some = tt
+own_last (Choice framing initiated) slots f ps can some = tt
+own_last Hidden slots f ps can some = tt
+own_last (ComplexElement name framing box occurs parsed) slots f ps can some =
     complex_last name framing box (in_turn (map f ps) 0) (get_or (last_rows (map f ps) 0) 0 0) (0 + length (in_turn (map f ps) 0)) (omega arith)
     (omega (arith, one_part f ps can, turn_some f ps can some))
-own_last (SimpleElement name simple prim framing prefix tried scanned occurs) slots f ps can some =
+own_last (SimpleElement name simple prim framing prefix tried scanned occurs parsed) slots f ps can some =
     let turn : List Row = in_turn (map f ps) 0 in
     let first : ℕ = 0 + length (in_turn (map f ps) 0) in
     let list : Option ℕ = scanned_list scanned framing.terminator in

@@ -1,11 +1,11 @@
 -- The rows that frame a content are pushed, a row at a time.
-use Rattle.std.proofs.Common.{Option, ◌≡◌, ℕ, ◌+◌, ◌<◌, Bool, true, false, if◌then◌else◌, List, [], ◌∷◌, ◌++◌, length, sym, ap, ◌∙◌, arith, append_assoc, length-append}
+use Rattle.std.proofs.Common.{Option, ◌≡◌, ℕ, suc, ◌+◌, ◌-◌, ◌<◌, ◌≤◌, Bool, true, false, if◌then◌else◌, List, [], ◌∷◌, ◌++◌, length, refl, sym, ap, ◌∙◌, arith, append_assoc, length-append}
 use Rattle.std.proofs.lemmas.List.{append-nil}
 use Rattle.dfdl_terms.specs.declared.framing.Framing.{Framing}
 use Rattle.dfdl_terms.specs.declared.row.Row.{Row}
-use Rattle.dfdl_terms.specs.declared.row.Row.TheVariants.{Group}
-use Rattle.dfdl_rows.specs.Framing.{has_framing, skip_rows, align_rows, initiator_rows, terminator_rows, rows_before, rows_behind, numbers, in_group, framed, framed_row, framing_size}
-use Rattle.dfdl_rows.proofs.Framed.{filled, unframed}
+use Rattle.dfdl_terms.specs.declared.row.Row.TheVariants.{Group, Test}
+use Rattle.dfdl_rows.specs.Framing.{has_framing, tests_from, test_rows, skip_rows, align_rows, initiator_rows, terminator_rows, fill_rows, rows_before, rows_behind, numbers, in_group, framed, framed_row, framing_size}
+use Rattle.dfdl_rows.proofs.Framed.{filled, length_tests, unframed}
 
 -- where nothing frames a content
 pub none_size : (f : Framing) (separators : Option ℕ) → has_framing f ≡ false → 0 ≡ framing_size f separators
@@ -32,14 +32,73 @@ pub some_size : (f : Framing) (separators : Option ℕ) (before behind : ℕ) �
     → before + behind + 1 ≡ framing_size f separators
 some_size f separators before behind some befores behinds = omega (arith, befores, behinds, size_is f separators some)
 
-pub before_size : (f : Framing) (leading align initiator : ℕ) → leading ≡ length (skip_rows f.leading_skip) → align ≡ length (align_rows f.alignment)
-    → initiator ≡ length (initiator_rows f.initiator) → leading + align + initiator ≡ length (rows_before f)
-before_size f leading align initiator leads aligns begins =
+pub before_size : (f : Framing) (tests leading align initiator : ℕ) → tests ≡ length (test_rows f.tests) → leading ≡ length (skip_rows f.leading_skip)
+    → align ≡ length (align_rows f.alignment) → initiator ≡ length (initiator_rows f.initiator) → tests + (leading + align) + initiator ≡ length (rows_before f)
+before_size f tests leading align initiator tested leads aligns begins =
     let rest : length (align_rows f.alignment ++ initiator_rows f.initiator) ≡ length (align_rows f.alignment) + length (initiator_rows f.initiator)
     = length-append (align_rows f.alignment) (initiator_rows f.initiator) in
-    let whole : length (rows_before f) ≡ length (skip_rows f.leading_skip) + length (align_rows f.alignment ++ initiator_rows f.initiator)
+    let fill : length (fill_rows f) ≡ length (skip_rows f.leading_skip) + length (align_rows f.alignment ++ initiator_rows f.initiator)
     = length-append (skip_rows f.leading_skip) (align_rows f.alignment ++ initiator_rows f.initiator) in
-    omega (arith, leads, aligns, begins, rest, whole)
+    let whole : length (rows_before f) ≡ length (test_rows f.tests) + length (fill_rows f) = length-append (test_rows f.tests) (fill_rows f) in
+    omega (arith, tested, leads, aligns, begins, rest, fill, whole)
+
+-- the first of the tests that are left
+module _ (first count behind : ℕ) where
+  tests_step : behind < count → tests_from (first + behind) (count - behind) ≡ Test (first + behind) ∷ tests_from (first + (behind + 1)) (count - (behind + 1))
+  unfolding tests_from
+  tests_step less =
+      let more : count - behind ≡ suc (count - (behind + 1)) = omega (arith, less) in
+      let next : first + behind + 1 ≡ first + (behind + 1) = omega arith in
+      ap (tests_from (first + behind)) more ∙ ap (λ (n : ℕ). Test (first + behind) ∷ tests_from n (count - (behind + 1))) next
+
+  tests_end : count ≤ behind → tests_from (first + behind) (count - behind) ≡ []
+  unfolding tests_from
+  tests_end all =
+      let none : count - behind ≡ 0 = omega (arith, all) in
+      ap (tests_from (first + behind)) none
+
+  -- one is pushed
+  module _ (test : ℕ) (rows next whole : List Row) (is : test ≡ first + behind) (less : behind < count) (next_is : next ≡ rows ++ Test test ∷ []) where
+    pub test_rows_more : rows ++ tests_from (first + behind) (count - behind) ≡ whole → next ++ tests_from (first + (behind + 1)) (count - (behind + 1)) ≡ whole
+    test_rows_more same =
+        let rest : List Row = tests_from (first + (behind + 1)) (count - (behind + 1)) in
+        ap (λ (rs : List Row). rs ++ rest) next_is
+        ∙ (append_assoc rows (Test test ∷ []) rest
+        ∙ (ap (λ (n : ℕ). rows ++ Test n ∷ rest) is
+        ∙ (ap (λ (rs : List Row). rows ++ rs) (sym (tests_step less)) ∙ same)))
+
+    pub test_numbers_more : (g h all : List ℕ) → h ≡ g ++ length rows ∷ [] → g ++ numbers (tests_from (first + behind) (count - behind)) (length rows) ≡ all
+        → h ++ numbers (tests_from (first + (behind + 1)) (count - (behind + 1))) (length next) ≡ all
+    test_numbers_more g h all h_is same =
+        let rest : List Row = tests_from (first + (behind + 1)) (count - (behind + 1)) in
+        let long : length next ≡ length rows + 1 = ap (λ (rs : List Row). length rs) next_is ∙ length-append rows (Test test ∷ []) in
+        ap (λ (ns : List ℕ). ns ++ numbers rest (length next)) h_is
+        ∙ (ap (λ (n : ℕ). (g ++ length rows ∷ []) ++ numbers rest n) long
+        ∙ (append_assoc g (length rows ∷ []) (numbers rest (length rows + 1))
+        ∙ (ap (λ (rs : List Row). g ++ numbers rs (length rows)) (sym (tests_step less)) ∙ same)))
+
+  -- all are pushed
+  pub test_rows_all : (rows whole : List Row) → count ≤ behind → rows ++ tests_from (first + behind) (count - behind) ≡ whole → rows ≡ whole
+  test_rows_all rows whole all same = sym (append-nil rows) ∙ (ap (λ (rs : List Row). rows ++ rs) (sym (tests_end all)) ∙ same)
+
+  pub test_numbers_all : (g all : List ℕ) (from : ℕ) → count ≤ behind → g ++ numbers (tests_from (first + behind) (count - behind)) from ≡ all → g ≡ all
+  test_numbers_all g whole from all same = sym (append-nil g) ∙ (ap (λ (rs : List Row). g ++ numbers rs from) (sym (tests_end all)) ∙ same)
+
+  -- there is room for one
+  pub tests_few : (rows old : List Row) (most : ℕ) → behind < count → rows ++ tests_from (first + behind) (count - behind) ≡ old ++ tests_from first count
+      → length old + length (tests_from first count) < most → length rows < most
+  tests_few rows old most less same few =
+      let long : length (rows ++ tests_from (first + behind) (count - behind)) ≡ length (old ++ tests_from first count) = ap (λ (rs : List Row). length rs) same in
+      omega (
+        arith,
+        few,
+        less,
+        long,
+        length-append rows (tests_from (first + behind) (count - behind)),
+        length-append old (tests_from first count),
+        length_tests (first + behind) (count - behind),
+        length_tests first count,
+      )
 
 pub behind_size : (f : Framing) (separators : Option ℕ) (terminator trailing : ℕ) → terminator ≡ length (terminator_rows f.terminator separators) → trailing ≡ length (skip_rows f.trailing_skip)
     → terminator + trailing ≡ length (rows_behind f separators)

@@ -1,19 +1,19 @@
 -- The rows of a component by those of its parts: how many they are, and that there is one.
-use Rattle.std.proofs.Common.{◌≡◌, ℕ, ◌+◌, ◌<◌, List, [], ◌∷◌, ◌++◌, length, map, get_or, Option, None, Some, All, sym, ap, subst, ◌∙◌, refl, arith, append_assoc, length-append}
+use Rattle.std.proofs.Common.{◌≡◌, ℕ, ◌+◌, ◌<◌, Bool, List, [], ◌∷◌, ◌++◌, length, map, get_or, Option, None, Some, All, sym, ap, subst, ◌∙◌, refl, arith, append_assoc, length-append}
 use Rattle.std.proofs.lemmas.List.Elements.{All-tail}
 use Rattle.dfdl_order.specs.Parts.{uses_of}
 use Rattle.dfdl_order.proofs.Over.{value_step}
 use Rattle.dfdl_terms.specs.declared.framing.Framing.{Framing}
-use Rattle.dfdl_terms.specs.declared.occurs.Occurs.{Occurs}
 use Rattle.dfdl_terms.specs.declared.row.Row.{Row}
+use Rattle.dfdl_rows.specs.declared.times.Times.{Times}
 use Rattle.dfdl_rows.specs.Components.{Schema, component_at, slots_at, HasOrder}
 use Rattle.dfdl_rows.specs.declared.component.Component.{Component}
-use Rattle.dfdl_rows.specs.declared.component.Component.TheVariants.{Sequence, Choice, ComplexElement, SimpleElement}
+use Rattle.dfdl_rows.specs.declared.component.Component.TheVariants.{Sequence, Choice, ComplexElement, SimpleElement, Hidden}
 use Rattle.dfdl_rows.specs.Sizes.{total, group_size, own_size, size_from, size_of}
 use Rattle.dfdl_rows.specs.Boxes.{box_size}
 use Rattle.dfdl_rows.specs.Framing.{framed, framing_size}
 use Rattle.dfdl_rows.specs.Scopes.{list_of, scanned_list, scope_size}
-use Rattle.dfdl_rows.specs.Slots.{laid_of, row_of, separator_list, slots_size}
+use Rattle.dfdl_rows.specs.Slots.{grouped, separator_list, slots_size}
 use Rattle.dfdl_rows.specs.declared.slots.Grouping.{Grouping}
 use Rattle.dfdl_rows.specs.declared.slots.Grouping.TheVariants as grouping
 use Rattle.dfdl_rows.specs.declared.component.Separated.{Separated}
@@ -21,7 +21,7 @@ use Rattle.dfdl_rows.specs.RowLists.{Numbered, boxed_rows, element_rows, scoped,
 use Rattle.dfdl_rows.proofs.Framed.{length_framed}
 use Rattle.dfdl_rows.proofs.Boxed.{length_boxed, length_element}
 use Rattle.dfdl_rows.proofs.Scoped.{length_scoped}
-use Rattle.dfdl_rows.proofs.Slotted.{length_laid}
+use Rattle.dfdl_rows.proofs.Grouped.{length_grouped}
 use Rattle.dfdl_rows.proofs.Parts.{by_parts}
 
 pub rows_step : (s : Schema) → HasOrder s.uses → (c : ℕ) → c < length s.uses → rows_at s c ≡ rows_from s c (map (rows_at s) (uses_of s.uses c))
@@ -41,33 +41,34 @@ length_sequence f separators =
     length_scoped separators (scoped (list_of f.terminator) (framed f separators)) (scope_size (list_of f.terminator) + framing_size f separators)
     (length_scoped (list_of f.terminator) (framed f separators) (framing_size f separators) (length_framed f separators))
 
-length_group : (kind : Grouping) (framing : Framing) (separated : Option Separated) (slots : List Occurs) (parts : List ℕ) (first : ℕ)
-    → length (group_rows kind framing separated slots parts first) ≡ group_size framing separated slots
-length_group kind framing separated slots parts first =
+length_group : (kind : Grouping) (framing : Framing) (separated : Option Separated) (initiated : Bool) (slots : List Times) (parts : List ℕ) (first : ℕ)
+    → length (group_rows kind framing separated initiated slots parts first) ≡ group_size framing separated slots
+length_group kind framing separated initiated slots parts first =
     let size : ℕ = slots_size separated slots in
     let others : List Row = sequence_rows framing (separator_list separated) (first + size) (first + size + 1) in
     omega (
       arith,
-      length-append (laid_of separated slots parts first).rows (row_of kind (laid_of separated slots parts first).children ∷ others),
-      length_laid separated slots parts first,
+      length-append (grouped kind initiated separated slots parts first) others,
+      length_grouped kind initiated separated slots parts first,
       length_sequence framing (separator_list separated) (first + size) (first + size + 1),
     )
 
-pub length_own : (component : Component) (slots : List Occurs) (parts : List ℕ) (first : ℕ) → length (own_rows component slots parts first) ≡ own_size component slots
-length_own (Sequence framing separated) slots parts first = length_group grouping.Sequence framing separated slots parts first
-length_own (Choice framing) slots parts first = length_group grouping.Choice framing None slots parts first
-length_own (ComplexElement name framing box occurs) slots parts first =
+pub length_own : (component : Component) (slots : List Times) (parts : List ℕ) (first : ℕ) → length (own_rows component slots parts first) ≡ own_size component slots
+length_own (Sequence framing separated initiated) slots parts first = length_group grouping.Sequence framing separated initiated slots parts first
+length_own (Choice framing initiated) slots parts first = length_group grouping.Choice framing None initiated slots parts first
+length_own (ComplexElement name framing box occurs parsed) slots parts first =
     omega (
       arith,
       length_scoped (list_of framing.terminator) (boxed_rows name framing box) (1 + box_size box + framing_size framing None) (length_boxed name framing box)
           (get_or parts 0 0) first,
     )
-length_own (SimpleElement name simple prim framing prefix tried scanned occurs) slots parts first =
+length_own (SimpleElement name simple prim framing prefix tried scanned occurs parsed) slots parts first =
     omega (
       arith,
       length_scoped (scanned_list scanned framing.terminator) (element_rows name (Some simple) tried framing) (1 + framing_size framing None)
           (length_element name (Some simple) tried framing) first (first + 1),
     )
+length_own Hidden slots parts first = refl
 
 -- so many rows, wherever they begin
 abbrev pub IsLong : Numbered → ℕ → Type 0
@@ -93,11 +94,12 @@ length_rows s ordered = by_parts s.uses ordered.0 ordered.1 (λ c. IsLong (rows_
     let sum : size_of s c ≡ own_size (component_at s.components c) (slots_at s c) + total (map (size_of s) (uses_of s.uses c)) = size_step s ordered c within in
     omega (arith, whole, length-append turn own, parts, last, sum))
 
-some_own : (component : Component) (slots : List Occurs) (parts : ℕ) → 0 < own_size component slots + parts
-some_own (Sequence framing separated) slots parts = omega arith
-some_own (Choice framing) slots parts = omega arith
-some_own (ComplexElement name framing box occurs) slots parts = omega arith
-some_own (SimpleElement name simple prim framing prefix tried scanned occurs) slots parts = omega arith
+some_own : (component : Component) (slots : List Times) (parts : ℕ) → 0 < own_size component slots + parts
+some_own (Sequence framing separated initiated) slots parts = omega arith
+some_own (Choice framing initiated) slots parts = omega arith
+some_own (ComplexElement name framing box occurs parsed) slots parts = omega arith
+some_own (SimpleElement name simple prim framing prefix tried scanned occurs parsed) slots parts = omega arith
+some_own Hidden slots parts = omega arith
 
 -- each component has a row
 pub some_rows : (s : Schema) → HasOrder s.uses → (c : ℕ) → c < length s.uses → 0 < size_of s c
@@ -105,30 +107,29 @@ some_rows s ordered c within =
     subst (λ n. 0 < n) (sym (size_step s ordered c within))
     (some_own (component_at s.components c) (slots_at s c) (total (map (size_of s) (uses_of s.uses c))))
 
--- the rows of a sequence or choice are added: those of its separators and those that repeat and try its parts, that of its group, and
--- those around it
-module _ (kind : Grouping) (f : Framing) (separated : Option Separated) (slots : List Occurs) (parts : List ℕ) (rows next : List Row)
-    (next_is : next ≡ rows ++ ((laid_of separated slots parts (length rows)).rows ++ row_of kind (laid_of separated slots parts (length rows)).children ∷ [])) where
+-- the rows of a sequence or choice are added: those of its group, and those around it
+module _ (kind : Grouping) (f : Framing) (separated : Option Separated) (initiated : Bool) (slots : List Times) (parts : List ℕ) (rows next : List Row)
+    (next_is : next ≡ rows ++ grouped kind initiated separated slots parts (length rows)) where
   next_long : length next ≡ length rows + slots_size separated slots + 1
   next_long =
-      let own : List Row = (laid_of separated slots parts (length rows)).rows in
-      let children : List ℕ = (laid_of separated slots parts (length rows)).children in
-      let whole : length next ≡ length (rows ++ (own ++ row_of kind children ∷ [])) = ap (λ (rs : List Row). length rs) next_is in
-      omega (arith, whole, length-append rows (own ++ row_of kind children ∷ []), length-append own (row_of kind children ∷ []), length_laid separated slots parts (length rows))
+      let whole : length next ≡ length (rows ++ grouped kind initiated separated slots parts (length rows)) = ap (λ (rs : List Row). length rs) next_is in
+      omega (
+        arith,
+        whole,
+        length-append rows (grouped kind initiated separated slots parts (length rows)),
+        length_grouped kind initiated separated slots parts (length rows),
+      )
 
   pub around_few : (most : ℕ) → length rows + group_size f separated slots < most
       → length next + scope_size (separator_list separated) + scope_size (list_of f.terminator) + framing_size f (separator_list separated) < most
   around_few most few = omega (arith, few, next_long)
 
   pub sequence_whole : (content : ℕ) (all : List Row) → content ≡ length rows + slots_size separated slots
-      → all ≡ next ++ sequence_rows f (separator_list separated) content (length next) → all ≡ rows ++ group_rows kind f separated slots parts (length rows)
+      → all ≡ next ++ sequence_rows f (separator_list separated) content (length next) → all ≡ rows ++ group_rows kind f separated initiated slots parts (length rows)
   sequence_whole content all content_is all_is =
-      let own : List Row = (laid_of separated slots parts (length rows)).rows in
-      let group : Row = row_of kind (laid_of separated slots parts (length rows)).children in
-      let size : ℕ = slots_size separated slots in
       let others : List Row = sequence_rows f (separator_list separated) (length rows + slots_size separated slots) (length rows + slots_size separated slots + 1) in
       all_is
       ∙ (ap (λ (n : ℕ). next ++ sequence_rows f (separator_list separated) n (length next)) content_is
       ∙ (ap (λ (n : ℕ). next ++ sequence_rows f (separator_list separated) (length rows + slots_size separated slots) n) next_long
       ∙ (ap (λ (rs : List Row). rs ++ others) next_is
-      ∙ (append_assoc rows (own ++ group ∷ []) others ∙ ap (λ (rs : List Row). rows ++ rs) (append_assoc own (group ∷ []) others)))))
+      ∙ append_assoc rows (grouped kind initiated separated slots parts (length rows)) others)))

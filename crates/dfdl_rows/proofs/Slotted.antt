@@ -4,30 +4,30 @@ use Rattle.std.proofs.lemmas.List.{append-nil}
 use Rattle.std.proofs.lemmas.List.Elements.{All-nil, All-tail, All-cons, All-append}
 use Rattle.dfdl_separators.specs.declared.policy.SeparatorPosition.{SeparatorPosition}
 use Rattle.dfdl_separators.specs.declared.policy.SeparatorPosition.TheVariants.{Prefix, Infix, Postfix}
-use Rattle.dfdl_terms.specs.declared.occurs.Occurs.{Occurs}
 use Rattle.dfdl_terms.specs.declared.row.Row.{Row}
 use Rattle.dfdl_terms.specs.declared.row.Row.TheVariants.{Group, Repeat, Optional, Separator}
-use Rattle.dfdl_terms.specs.Occurs.{has_tried}
-use Rattle.dfdl_rows.specs.Slots.{Laid, laid, lay, with_part, all_laid, laid_of, needed, begins, ends, row_if, separator_rows, separator_size, part_rows, part_size, parts_size, repeating_rows, repeating_size, required_rows, required_size, required_children, tried_rows, tried_size, slots_size, part_children, repeated, single, with_separators}
+use Rattle.dfdl_rows.specs.Times.{has_tried}
+use Rattle.dfdl_rows.specs.declared.times.Times.{Times}
+use Rattle.dfdl_rows.specs.Slots.{Laid, laid, lay, with_part, all_laid, laid_of, needed, begins, ends, row_if, separator_rows, separator_size, part_rows, part_size, parts_size, repeating_rows, repeating_size, required_rows, required_size, required_children, tried_rows, tried_size, laid_size, part_children, repeated, single, with_separators}
 use Rattle.dfdl_rows.specs.declared.component.Separated.{Separated}
 use Rattle.dfdl_rows.proofs.Nests.{NestsFrom, nests_none, nests_cons, nests_append}
 
 -- what each part keeps, all of them keep
-pub lay_keeps : (P : Laid → Type 0) (way : Option SeparatorPosition) (first : ℕ) (parts : List ℕ)
-    → ((n : Occurs) (part : ℕ) (a : Laid) → P a → P (with_part way first n part a)) → (slots : List Occurs) (at : ℕ) (a : Laid) → P a → P (lay way first parts slots at a)
+pub lay_keeps : (P : Laid → Type 0) (initiated : Bool) (way : Option SeparatorPosition) (first : ℕ) (parts : List ℕ)
+    → ((n : Times) (part : ℕ) (a : Laid) → P a → P (with_part initiated way first n part a)) → (slots : List Times) (at : ℕ) (a : Laid) → P a → P (lay initiated way first parts slots at a)
 unfolding lay
-lay_keeps P way first parts keeps [] at a has = has
-lay_keeps P way first parts keeps (n ∷ slots) at a has =
-    lay_keeps P way first parts keeps slots (at + 1) (with_part way first n (get_or parts at 0) a) (keeps n (get_or parts at 0) a has)
+lay_keeps P initiated way first parts keeps [] at a has = has
+lay_keeps P initiated way first parts keeps (n ∷ slots) at a has =
+    lay_keeps P initiated way first parts keeps slots (at + 1) (with_part initiated way first n (get_or parts at 0) a) (keeps n (get_or parts at 0) a has)
 
 -- the same, where each part is one of some
-pub lay_keeps_within : (P : Laid → Type 0) (way : Option SeparatorPosition) (first : ℕ) (parts : List ℕ)
-    → ((n : Occurs) (at : ℕ) → at < length parts → (a : Laid) → P a → P (with_part way first n (get_or parts at 0) a))
-    → (slots : List Occurs) (at : ℕ) (a : Laid) → at + length slots ≤ length parts → P a → P (lay way first parts slots at a)
+pub lay_keeps_within : (P : Laid → Type 0) (initiated : Bool) (way : Option SeparatorPosition) (first : ℕ) (parts : List ℕ)
+    → ((n : Times) (at : ℕ) → at < length parts → (a : Laid) → P a → P (with_part initiated way first n (get_or parts at 0) a))
+    → (slots : List Times) (at : ℕ) (a : Laid) → at + length slots ≤ length parts → P a → P (lay initiated way first parts slots at a)
 unfolding lay
-lay_keeps_within P way first parts keeps [] at a few has = has
-lay_keeps_within P way first parts keeps (n ∷ slots) at a few has =
-    lay_keeps_within P way first parts keeps slots (at + 1) (with_part way first n (get_or parts at 0) a) (omega (arith, few))
+lay_keeps_within P initiated way first parts keeps [] at a few has = has
+lay_keeps_within P initiated way first parts keeps (n ∷ slots) at a few has =
+    lay_keeps_within P initiated way first parts keeps slots (at + 1) (with_part initiated way first n (get_or parts at 0) a) (omega (arith, few))
     (keeps n at (omega (arith, few)) a has)
 
 -- how many rows repeat a part
@@ -45,49 +45,50 @@ length_required way separator n part from = by (nat_lt 1 n)
     by false = refl
 
 -- how many rows try a part
-length_tried : (n : Occurs) (part from : ℕ) → length (tried_rows n part from) ≡ tried_size n
-length_tried n part from = by (nat_lt 0 n.least)
+length_tried : (initiated : Bool) (n : Times) (part from : ℕ) → length (tried_rows initiated n part from) ≡ tried_size n
+length_tried initiated n part from = by (nat_lt 0 n.least)
   where
     by : (b : Bool)
-        → length (if b then Repeat n.least part ∷ Optional n.further n.is_item part ∷ Group (from ∷ (from + 1) ∷ []) ∷ [] else Optional n.further n.is_item part ∷ [])
+        → length (if b then Repeat n.least part ∷ Optional n.further n.is_item initiated part ∷ Group (from ∷ (from + 1) ∷ []) ∷ [] else Optional n.further n.is_item initiated part ∷ [])
         ≡ (if b then 3 else 1)
     by true = refl
     by false = refl
 
-pub length_part : (way : Option SeparatorPosition) (separator : ℕ) (n : Occurs) (part from : ℕ) → length (part_rows way separator n part from) ≡ part_size way n
-length_part way separator n part from = by (has_tried n)
+pub length_part : (initiated : Bool) (way : Option SeparatorPosition) (separator : ℕ) (n : Times) (part from : ℕ) → length (part_rows initiated way separator n part from) ≡ part_size way n
+length_part initiated way separator n part from = by (has_tried n)
   where
     by : (b : Bool)
-        → length (if b then tried_rows n part from else required_rows way separator n.least part from) ≡ (if b then tried_size n else required_size way n.least)
-    by true = length_tried n part from
+        → length (if b then tried_rows initiated n part from else required_rows way separator n.least part from) ≡ (if b then tried_size n else required_size way n.least)
+    by true = length_tried initiated n part from
     by false = length_required way separator n.least part from
 
 -- how many rows are made
-pub length_lay : (way : Option SeparatorPosition) (first : ℕ) (parts : List ℕ) (slots : List Occurs) (at : ℕ) (a : Laid)
-    → length (lay way first parts slots at a).rows ≡ length a.rows + parts_size way slots
+pub length_lay : (initiated : Bool) (way : Option SeparatorPosition) (first : ℕ) (parts : List ℕ) (slots : List Times) (at : ℕ) (a : Laid)
+    → length (lay initiated way first parts slots at a).rows ≡ length a.rows + parts_size way slots
 unfolding lay
-length_lay way first parts [] at a = omega arith
-length_lay way first parts (n ∷ slots) at a =
-    let own : List Row = part_rows way first n (get_or parts at 0) (first + length a.rows) in
+length_lay initiated way first parts [] at a = omega arith
+length_lay initiated way first parts (n ∷ slots) at a =
+    let own : List Row = part_rows initiated way first n (get_or parts at 0) (first + length a.rows) in
     omega (
       arith,
-      length_lay way first parts slots (at + 1) (with_part way first n (get_or parts at 0) a),
+      length_lay initiated way first parts slots (at + 1) (with_part initiated way first n (get_or parts at 0) a),
       length-append a.rows own,
-      length_part way first n (get_or parts at 0) (first + length a.rows),
+      length_part initiated way first n (get_or parts at 0) (first + length a.rows),
     )
 
 pub length_separators : (way : Option SeparatorPosition) → length (separator_rows way) ≡ separator_size way
 length_separators None = refl
 length_separators (Some position) = refl
 
-pub length_laid : (separated : Option Separated) (slots : List Occurs) (parts : List ℕ) (first : ℕ) → length (laid_of separated slots parts first).rows ≡ slots_size separated slots
-length_laid separated slots parts first =
+pub length_laid : (initiated : Bool) (separated : Option Separated) (slots : List Times) (parts : List ℕ) (first : ℕ)
+    → length (laid_of initiated separated slots parts first).rows ≡ laid_size separated slots
+length_laid initiated separated slots parts first =
     let way : Option SeparatorPosition = needed separated slots in
-    omega (arith, length_lay way first parts slots 0 (laid (separator_rows way) [] false), length_separators way)
+    omega (arith, length_lay initiated way first parts slots 0 (laid (separator_rows way) [] false), length_separators way)
 
 -- what holds of each row
 module _ (P : Row → Type 0) (own : P Separator) (group : (children : List ℕ) → P (Group children)) (repeat : (count body : ℕ) → P (Repeat count body))
-    (optional : (most : ℕ) (item : Bool) (body : ℕ) → P (Optional most item body)) where
+    (optional : (most : ℕ) (item initiated : Bool) (body : ℕ) → P (Optional most item initiated body)) where
   repeating_all : (way : Option SeparatorPosition) (separator n part from : ℕ) → All P (repeating_rows way separator n part from)
   repeating_all None separator n part from = All-cons P (Repeat n part) [] (repeat n part) (All-nil P)
   repeating_all (Some Prefix) separator n part from =
@@ -98,16 +99,16 @@ module _ (P : Row → Type 0) (own : P Separator) (group : (children : List ℕ)
   repeating_all (Some Postfix) separator n part from =
       All-cons P (Group (part ∷ separator ∷ [])) (Repeat n from ∷ []) (group (part ∷ separator ∷ [])) (All-cons P (Repeat n from) [] (repeat n from) (All-nil P))
 
-  tried_all : (n : Occurs) (part from : ℕ) → All P (tried_rows n part from)
-  tried_all n part from = by (nat_lt 0 n.least)
+  tried_all : (initiated : Bool) (n : Times) (part from : ℕ) → All P (tried_rows initiated n part from)
+  tried_all initiated n part from = by (nat_lt 0 n.least)
     where
-      last : (rows : List Row) → All P rows → All P (Optional n.further n.is_item part ∷ rows)
-      last rows all = All-cons P (Optional n.further n.is_item part) rows (optional n.further n.is_item part) all
+      last : (rows : List Row) → All P rows → All P (Optional n.further n.is_item initiated part ∷ rows)
+      last rows all = All-cons P (Optional n.further n.is_item initiated part) rows (optional n.further n.is_item initiated part) all
 
       by : (b : Bool)
-          → All P (if b then Repeat n.least part ∷ Optional n.further n.is_item part ∷ Group (from ∷ (from + 1) ∷ []) ∷ [] else Optional n.further n.is_item part ∷ [])
+          → All P (if b then Repeat n.least part ∷ Optional n.further n.is_item initiated part ∷ Group (from ∷ (from + 1) ∷ []) ∷ [] else Optional n.further n.is_item initiated part ∷ [])
       by true =
-          All-cons P (Repeat n.least part) (Optional n.further n.is_item part ∷ Group (from ∷ (from + 1) ∷ []) ∷ []) (repeat n.least part)
+          All-cons P (Repeat n.least part) (Optional n.further n.is_item initiated part ∷ Group (from ∷ (from + 1) ∷ []) ∷ []) (repeat n.least part)
           (last (Group (from ∷ (from + 1) ∷ []) ∷ []) (All-cons P (Group (from ∷ (from + 1) ∷ [])) [] (group (from ∷ (from + 1) ∷ [])) (All-nil P)))
       by false = last [] (All-nil P)
 
@@ -118,48 +119,48 @@ module _ (P : Row → Type 0) (own : P Separator) (group : (children : List ℕ)
       by true = repeating_all way separator n part from
       by false = All-nil P
 
-  part_all : (way : Option SeparatorPosition) (separator : ℕ) (n : Occurs) (part from : ℕ) → All P (part_rows way separator n part from)
-  part_all way separator n part from = by (has_tried n)
+  part_all : (initiated : Bool) (way : Option SeparatorPosition) (separator : ℕ) (n : Times) (part from : ℕ) → All P (part_rows initiated way separator n part from)
+  part_all initiated way separator n part from = by (has_tried n)
     where
-      by : (b : Bool) → All P (if b then tried_rows n part from else required_rows way separator n.least part from)
-      by true = tried_all n part from
+      by : (b : Bool) → All P (if b then tried_rows initiated n part from else required_rows way separator n.least part from)
+      by true = tried_all initiated n part from
       by false = required_all way separator n.least part from
 
   separators_all : (way : Option SeparatorPosition) → All P (separator_rows way)
   separators_all None = All-nil P
   separators_all (Some position) = All-cons P Separator [] own (All-nil P)
 
-  pub laid_all : (separated : Option Separated) (slots : List Occurs) (parts : List ℕ) (first : ℕ) → All P (laid_of separated slots parts first).rows
-  laid_all separated slots parts first =
+  pub laid_all : (initiated : Bool) (separated : Option Separated) (slots : List Times) (parts : List ℕ) (first : ℕ) → All P (laid_of initiated separated slots parts first).rows
+  laid_all initiated separated slots parts first =
       let way : Option SeparatorPosition = needed separated slots in
-      lay_keeps (λ a. All P a.rows) way first parts
-      (λ n part a has. All-append P a.rows (part_rows way first n part (first + length a.rows)) has (part_all way first n part (first + length a.rows)))
+      lay_keeps (λ a. All P a.rows) initiated way first parts
+      (λ n part a has. All-append P a.rows (part_rows initiated way first n part (first + length a.rows)) has (part_all initiated way first n part (first + length a.rows)))
       slots 0 (laid (separator_rows way) [] false) (separators_all way)
 
 -- the part occurs once or never, and none of its occurrences is tried
-pub record IsSingle (n : Occurs) : Type 0 where
+pub record IsSingle (n : Times) : Type 0 where
   pub few : n.least ≤ 1
   pub untried : n.further ≡ 0
 
 -- without separators, parts that occur more than once and those that are tried there are no rows
-pub none_laid : (slots : List Occurs) (parts : List ℕ) (first : ℕ) → All IsSingle slots → (laid_of None slots parts first).rows ≡ []
+pub none_laid : (initiated : Bool) (slots : List Times) (parts : List ℕ) (first : ℕ) → All IsSingle slots → (laid_of initiated None slots parts first).rows ≡ []
 unfolding lay
-none_laid slots parts first few = all slots 0 (laid [] [] false) few
+none_laid initiated slots parts first few = all slots 0 (laid [] [] false) few
   where
     one : (n part from : ℕ) → n ≤ 1 → required_rows None first n part from ≡ []
     one zero part from low = refl
     one (suc zero) part from low = refl
     one (suc (suc n)) part from low = absurd (omega (arith, low))
 
-    single_rows : (n : Occurs) (part from : ℕ) → IsSingle n → part_rows None first n part from ≡ []
+    single_rows : (n : Times) (part from : ℕ) → IsSingle n → part_rows initiated None first n part from ≡ []
     single_rows n part from is =
-        ap (λ (k : ℕ). if nat_lt 0 k then tried_rows n part from else required_rows None first n.least part from) is.untried
+        ap (λ (k : ℕ). if nat_lt 0 k then tried_rows initiated n part from else required_rows None first n.least part from) is.untried
         ∙ one n.least part from is.few
 
-    all : (ns : List Occurs) (at : ℕ) (a : Laid) → All IsSingle ns → (lay None first parts ns at a).rows ≡ a.rows
+    all : (ns : List Times) (at : ℕ) (a : Laid) → All IsSingle ns → (lay initiated None first parts ns at a).rows ≡ a.rows
     all [] at a low = refl
     all (n ∷ ns) at a low =
-        all ns (at + 1) (with_part None first n (get_or parts at 0) a) (All-tail IsSingle n ns low)
+        all ns (at + 1) (with_part initiated None first n (get_or parts at 0) a) (All-tail IsSingle n ns low)
         ∙ (ap (λ (rows : List Row). a.rows ++ rows) (single_rows n (get_or parts at 0) (first + length a.rows) (low 0 n (omega arith)))
         ∙ append-nil a.rows)
 
@@ -190,20 +191,20 @@ module _ (separator part from : ℕ) (low : part < from) where
   nests_repeating (Some Infix) n own = nests_pair (separator ∷ part ∷ []) (n - 1) (pairs_below own).0
   nests_repeating (Some Postfix) n own = nests_pair (part ∷ separator ∷ []) n (pairs_below own).1
 
-  nests_tried : (n : Occurs) → NestsFrom from (tried_rows n part from)
-  nests_tried n = by (nat_lt 0 n.least)
+  nests_tried : (initiated : Bool) (n : Times) → NestsFrom from (tried_rows initiated n part from)
+  nests_tried initiated n = by (nat_lt 0 n.least)
     where
       pair : All (λ c. c < from + 1 + 1) (from ∷ (from + 1) ∷ [])
       pair = All-cons (λ c. c < from + 1 + 1) from ((from + 1) ∷ []) (omega arith)
           (All-cons (λ c. c < from + 1 + 1) (from + 1) [] (omega arith) (All-nil (λ c. c < from + 1 + 1)))
 
       by : (b : Bool)
-          → NestsFrom from (if b then Repeat n.least part ∷ Optional n.further n.is_item part ∷ Group (from ∷ (from + 1) ∷ []) ∷ [] else Optional n.further n.is_item part ∷ [])
+          → NestsFrom from (if b then Repeat n.least part ∷ Optional n.further n.is_item initiated part ∷ Group (from ∷ (from + 1) ∷ []) ∷ [] else Optional n.further n.is_item initiated part ∷ [])
       by true =
-          nests_cons from (Repeat n.least part) (Optional n.further n.is_item part ∷ Group (from ∷ (from + 1) ∷ []) ∷ []) low
-          (nests_cons (from + 1) (Optional n.further n.is_item part) (Group (from ∷ (from + 1) ∷ []) ∷ []) (omega (arith, low))
+          nests_cons from (Repeat n.least part) (Optional n.further n.is_item initiated part ∷ Group (from ∷ (from + 1) ∷ []) ∷ []) low
+          (nests_cons (from + 1) (Optional n.further n.is_item initiated part) (Group (from ∷ (from + 1) ∷ []) ∷ []) (omega (arith, low))
           (nests_cons (from + 1 + 1) (Group (from ∷ (from + 1) ∷ [])) [] pair (nests_none (from + 1 + 1 + 1))))
-      by false = nests_cons from (Optional n.further n.is_item part) [] low (nests_none (from + 1))
+      by false = nests_cons from (Optional n.further n.is_item initiated part) [] low (nests_none (from + 1))
 
   nests_required : (way : Option SeparatorPosition) (n : ℕ) → SeparatorBelow way separator from → NestsFrom from (required_rows way separator n part from)
   nests_required way n own = by (nat_lt 1 n)
@@ -212,11 +213,11 @@ module _ (separator part from : ℕ) (low : part < from) where
       by true = nests_repeating way n own
       by false = nests_none from
 
-  nests_part : (way : Option SeparatorPosition) (n : Occurs) → SeparatorBelow way separator from → NestsFrom from (part_rows way separator n part from)
-  nests_part way n own = by (has_tried n)
+  nests_part : (initiated : Bool) (way : Option SeparatorPosition) (n : Times) → SeparatorBelow way separator from → NestsFrom from (part_rows initiated way separator n part from)
+  nests_part initiated way n own = by (has_tried n)
     where
-      by : (b : Bool) → NestsFrom from (if b then tried_rows n part from else required_rows way separator n.least part from)
-      by true = nests_tried n
+      by : (b : Bool) → NestsFrom from (if b then tried_rows initiated n part from else required_rows way separator n.least part from)
+      by true = nests_tried initiated n
       by false = nests_required way n.least own
 
 -- the rows of the group stand below a number
@@ -256,7 +257,7 @@ module _ (separator part bound : ℕ) (low : part < bound) where
       by true few = repeated_below way taken from own few
       by false few = single_below way taken (nat_lt 0 n) own
 
-  children_below : (way : Option SeparatorPosition) (taken : Bool) (n : Occurs) (from : ℕ) → SeparatorBelow way separator bound → from + part_size way n ≤ bound
+  children_below : (way : Option SeparatorPosition) (taken : Bool) (n : Times) (from : ℕ) → SeparatorBelow way separator bound → from + part_size way n ≤ bound
       → All (λ k. k < bound) (part_children way separator taken n part from)
   children_below way taken n from own = by (has_tried n)
     where
@@ -275,16 +276,16 @@ pub record LaidNest (way : Option SeparatorPosition) (first : ℕ) (a : Laid) : 
   pub below : All (λ k. k < first + length a.rows) a.children
   pub own : SeparatorBelow way first (first + length a.rows)
 
-part_nests : (way : Option SeparatorPosition) (first : ℕ) (n : Occurs) (part : ℕ) (a : Laid) → part < first → LaidNest way first a → LaidNest way first (with_part way first n part a)
-part_nests way first n part a low has =
+part_nests : (initiated : Bool) (way : Option SeparatorPosition) (first : ℕ) (n : Times) (part : ℕ) (a : Laid) → part < first → LaidNest way first a → LaidNest way first (with_part initiated way first n part a)
+part_nests initiated way first n part a low has =
     let from : ℕ = first + length a.rows in
-    let more : List Row = part_rows way first n part (first + length a.rows) in
+    let more : List Row = part_rows initiated way first n part (first + length a.rows) in
     let count : length (a.rows ++ more) ≡ length a.rows + part_size way n
-    = length-append a.rows more ∙ ap (λ (k : ℕ). length a.rows + k) (length_part way first n part (first + length a.rows)) in
+    = length-append a.rows more ∙ ap (λ (k : ℕ). length a.rows + k) (length_part initiated way first n part (first + length a.rows)) in
     let bound : ℕ = first + length (a.rows ++ more) in
     let few : first + length a.rows ≤ first + length (a.rows ++ more) = omega (arith, count) in
     record {
-      nests = nests_append a.rows more first has.nests (nests_part first part (first + length a.rows) (omega (arith, low)) way n has.own);
+      nests = nests_append a.rows more first has.nests (nests_part first part (first + length a.rows) (omega (arith, low)) initiated way n has.own);
       below = All-append (λ k. k < first + length (a.rows ++ more)) a.children (part_children way first a.taken n part (first + length a.rows))
           (λ i d less. let here = has.below i d less in omega (arith, here, few))
           (children_below first part (first + length (a.rows ++ more)) (omega (arith, low, few)) way a.taken n (first + length a.rows)
@@ -300,36 +301,36 @@ begin_nests (Some position) first = record {
   own = omega arith;
 }
 
-pub laid_nests : (separated : Option Separated) (slots : List Occurs) (parts : List ℕ) (first : ℕ) → length slots ≡ length parts → All (λ n. n < first) parts
-    → LaidNest (needed separated slots) first (laid_of separated slots parts first)
-laid_nests separated slots parts first long low =
+pub laid_nests : (initiated : Bool) (separated : Option Separated) (slots : List Times) (parts : List ℕ) (first : ℕ) → length slots ≡ length parts → All (λ n. n < first) parts
+    → LaidNest (needed separated slots) first (laid_of initiated separated slots parts first)
+laid_nests initiated separated slots parts first long low =
     let way : Option SeparatorPosition = needed separated slots in
-    lay_keeps_within (LaidNest way first) way first parts (λ n at within a has. part_nests way first n (get_or parts at 0) a (low at 0 within) has)
+    lay_keeps_within (LaidNest way first) initiated way first parts (λ n at within a has. part_nests initiated way first n (get_or parts at 0) a (low at 0 within) has)
     slots 0 (laid (separator_rows way) [] false) (omega (arith, long)) (begin_nests way first)
 
 -- no occurrence
-abbrev pub never : Occurs
-never = record { least = 0; further = 0; is_item = false }
+abbrev pub never : Times
+never = record { least = 0; further = 0; is_item = false; is_parsed = false }
 
 -- one part is laid behind others
-pub lay_step : (way : Option SeparatorPosition) (first : ℕ) (parts : List ℕ) (slots : List Occurs) (at : ℕ) (a : Laid) → at < length slots
-    → lay way first parts (drop at slots) at a ≡ lay way first parts (drop (at + 1) slots) (at + 1) (with_part way first (get_or slots at never) (get_or parts at 0) a)
+pub lay_step : (initiated : Bool) (way : Option SeparatorPosition) (first : ℕ) (parts : List ℕ) (slots : List Times) (at : ℕ) (a : Laid) → at < length slots
+    → lay initiated way first parts (drop at slots) at a ≡ lay initiated way first parts (drop (at + 1) slots) (at + 1) (with_part initiated way first (get_or slots at never) (get_or parts at 0) a)
 unfolding lay
-lay_step way first parts slots at a within = ap (λ (ns : List Occurs). lay way first parts ns at a) (drops slots at within) ∙ once
+lay_step initiated way first parts slots at a within = ap (λ (ns : List Times). lay initiated way first parts ns at a) (drops slots at within) ∙ once
   where
-    drops : (ns : List Occurs) (i : ℕ) → i < length ns → drop i ns ≡ get_or ns i never ∷ drop (i + 1) ns
+    drops : (ns : List Times) (i : ℕ) → i < length ns → drop i ns ≡ get_or ns i never ∷ drop (i + 1) ns
     drops [] i less = absurd (omega (arith, less))
     drops (n ∷ ns) zero less = refl
     drops (n ∷ ns) (suc i) less =
         let same : suc (i + 1) ≡ suc i + 1 = omega arith in
         drops ns i (omega (arith, less)) ∙ ap (λ (k : ℕ). get_or ns i never ∷ drop k (n ∷ ns)) same
 
-    once : lay way first parts (get_or slots at never ∷ drop (at + 1) slots) at a
-        ≡ lay way first parts (drop (at + 1) slots) (at + 1) (with_part way first (get_or slots at never) (get_or parts at 0) a)
+    once : lay initiated way first parts (get_or slots at never ∷ drop (at + 1) slots) at a
+        ≡ lay initiated way first parts (drop (at + 1) slots) (at + 1) (with_part initiated way first (get_or slots at never) (get_or parts at 0) a)
     once = refl
 
 -- so many rows are left to be made
-pub size_step : (way : Option SeparatorPosition) (slots : List Occurs) (at : ℕ) → at < length slots
+pub size_step : (way : Option SeparatorPosition) (slots : List Times) (at : ℕ) → at < length slots
     → parts_size way (drop at slots) ≡ part_size way (get_or slots at never) + parts_size way (drop (at + 1) slots)
 size_step way [] at less = absurd (omega (arith, less))
 size_step way (n ∷ ns) zero less = refl
@@ -338,54 +339,54 @@ size_step way (n ∷ ns) (suc i) less =
     size_step way ns i (omega (arith, less)) ∙ ap (λ (k : ℕ). part_size way (get_or ns i never) + parts_size way (drop k (n ∷ ns))) same
 
 -- a part is laid behind others, by what is added
-module _ (way : Option SeparatorPosition) (first : ℕ) (parts : List ℕ) (slots : List Occurs) (at part : ℕ) (rows next : List Row) (children others : List ℕ) (taken more : Bool)
-    (within : at < length slots) (next_is : next ≡ rows ++ part_rows way first (get_or slots at never) part (first + length rows)) where
+module _ (initiated : Bool) (way : Option SeparatorPosition) (first : ℕ) (parts : List ℕ) (slots : List Times) (at part : ℕ) (rows next : List Row) (children others : List ℕ) (taken more : Bool)
+    (within : at < length slots) (next_is : next ≡ rows ++ part_rows initiated way first (get_or slots at never) part (first + length rows)) where
   pub laid_more : (whole : Laid) → part ≡ get_or parts at 0
       → others ≡ children ++ part_children way first taken (get_or slots at never) part (first + length rows) → more ≡ (taken || nat_lt 0 (get_or slots at never).least)
-      → lay way first parts (drop at slots) at (laid rows children taken) ≡ whole
-      → lay way first parts (drop (at + 1) slots) (at + 1) (laid next others more) ≡ whole
+      → lay initiated way first parts (drop at slots) at (laid rows children taken) ≡ whole
+      → lay initiated way first parts (drop (at + 1) slots) (at + 1) (laid next others more) ≡ whole
   laid_more whole part_is others_is more_is same =
-      let rows_are : next ≡ rows ++ part_rows way first (get_or slots at never) (get_or parts at 0) (first + length rows)
-      = next_is ∙ ap (λ (p : ℕ). rows ++ part_rows way first (get_or slots at never) p (first + length rows)) part_is in
+      let rows_are : next ≡ rows ++ part_rows initiated way first (get_or slots at never) (get_or parts at 0) (first + length rows)
+      = next_is ∙ ap (λ (p : ℕ). rows ++ part_rows initiated way first (get_or slots at never) p (first + length rows)) part_is in
       let children_are : others ≡ children ++ part_children way first taken (get_or slots at never) (get_or parts at 0) (first + length rows)
       = others_is ∙ ap (λ (p : ℕ). children ++ part_children way first taken (get_or slots at never) p (first + length rows)) part_is in
-      let made : laid next others more ≡ with_part way first (get_or slots at never) (get_or parts at 0) (laid rows children taken)
+      let made : laid next others more ≡ with_part initiated way first (get_or slots at never) (get_or parts at 0) (laid rows children taken)
       = λ i. laid (rows_are i) (children_are i) (more_is i) in
-      ap (lay way first parts (drop (at + 1) slots) (at + 1)) made ∙ (sym (lay_step way first parts slots at (laid rows children taken) within) ∙ same)
+      ap (lay initiated way first parts (drop (at + 1) slots) (at + 1)) made ∙ (sym (lay_step initiated way first parts slots at (laid rows children taken) within) ∙ same)
 
   pub laid_few : (most : ℕ) → first + length rows + parts_size way (drop at slots) < most → first + length next + parts_size way (drop (at + 1) slots) < most
   laid_few most few =
-      let long : length next ≡ length (rows ++ part_rows way first (get_or slots at never) part (first + length rows)) = ap (λ (rs : List Row). length rs) next_is in
+      let long : length next ≡ length (rows ++ part_rows initiated way first (get_or slots at never) part (first + length rows)) = ap (λ (rs : List Row). length rs) next_is in
       omega (
         arith,
         few,
         long,
-        length-append rows (part_rows way first (get_or slots at never) part (first + length rows)),
-        length_part way first (get_or slots at never) part (first + length rows),
+        length-append rows (part_rows initiated way first (get_or slots at never) part (first + length rows)),
+        length_part initiated way first (get_or slots at never) part (first + length rows),
         size_step way slots at within,
       )
 
 -- nothing is left to be laid
-pub laid_end : (way : Option SeparatorPosition) (first : ℕ) (parts : List ℕ) (slots : List Occurs) (at : ℕ) (a whole : Laid) → length slots ≤ at
-    → lay way first parts (drop at slots) at a ≡ whole → a ≡ whole
+pub laid_end : (initiated : Bool) (way : Option SeparatorPosition) (first : ℕ) (parts : List ℕ) (slots : List Times) (at : ℕ) (a whole : Laid) → length slots ≤ at
+    → lay initiated way first parts (drop at slots) at a ≡ whole → a ≡ whole
 unfolding lay
-laid_end way first parts slots at a whole end same = sym (ap (λ (ns : List Occurs). lay way first parts ns at a) (none slots at end) ∙ done) ∙ same
+laid_end initiated way first parts slots at a whole end same = sym (ap (λ (ns : List Times). lay initiated way first parts ns at a) (none slots at end) ∙ done) ∙ same
   where
-    none : (ns : List Occurs) (i : ℕ) → length ns ≤ i → drop i ns ≡ []
+    none : (ns : List Times) (i : ℕ) → length ns ≤ i → drop i ns ≡ []
     none [] zero less = refl
     none [] (suc i) less = refl
     none (n ∷ ns) zero less = absurd (omega (arith, less))
     none (n ∷ ns) (suc i) less = none ns i (omega (arith, less))
 
-    done : lay way first parts [] at a ≡ a
+    done : lay initiated way first parts [] at a ≡ a
     done = refl
 
 -- so many rows are there when all parts are laid
-pub after_laid : (way : Option SeparatorPosition) (separated : Option Separated) (slots : List Occurs) (parts : List ℕ) (first : ℕ) (rows own next : List Row)
-    → way ≡ needed separated slots → own ≡ (all_laid way slots parts first).rows → next ≡ rows ++ own → length next ≡ length rows + slots_size separated slots
-after_laid way separated slots parts first rows own next way_is own_is next_is =
+pub after_laid : (initiated : Bool) (way : Option SeparatorPosition) (separated : Option Separated) (slots : List Times) (parts : List ℕ) (first : ℕ) (rows own next : List Row)
+    → way ≡ needed separated slots → own ≡ (all_laid initiated way slots parts first).rows → next ≡ rows ++ own → length next ≡ length rows + laid_size separated slots
+after_laid initiated way separated slots parts first rows own next way_is own_is next_is =
     let long : length next ≡ length (rows ++ own) = ap (λ (rs : List Row). length rs) next_is in
-    let made : length own ≡ length (all_laid way slots parts first).rows = ap (λ (rs : List Row). length rs) own_is in
-    let sized : separator_size way + parts_size way slots ≡ slots_size separated slots
+    let made : length own ≡ length (all_laid initiated way slots parts first).rows = ap (λ (rs : List Row). length rs) own_is in
+    let sized : separator_size way + parts_size way slots ≡ laid_size separated slots
     = ap (λ (w : Option SeparatorPosition). separator_size w + parts_size w slots) way_is in
-    omega (arith, long, made, sized, length-append rows own, length_lay way first parts slots 0 (laid (separator_rows way) [] false), length_separators way)
+    omega (arith, long, made, sized, length-append rows own, length_lay initiated way first parts slots 0 (laid (separator_rows way) [] false), length_separators way)

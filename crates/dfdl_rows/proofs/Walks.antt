@@ -5,10 +5,10 @@ use Rattle.std.proofs.lemmas.List.Elements.{All-tail, All-cons}
 use Rattle.std.proofs.Math.Seq.{take-append_seam, drop-append_seam}
 use Rattle.dfdl_order.specs.Parts.{uses_of}
 use Rattle.dfdl_order.proofs.Over.{value_step}
-use Rattle.dfdl_terms.specs.declared.occurs.Occurs.{Occurs}
 use Rattle.dfdl_terms.specs.declared.row.Row.{Row}
 use Rattle.dfdl_rows.specs.Components.{Schema, component_at, slots_at, HasOrder}
 use Rattle.dfdl_rows.specs.declared.component.Component.{Component}
+use Rattle.dfdl_rows.specs.declared.times.Times.{Times}
 use Rattle.dfdl_rows.specs.Sizes.{total, own_size, size_of}
 use Rattle.dfdl_rows.specs.RowLists.{Numbered, own_rows, in_turn, last_rows, rows_at, rows_of}
 use Rattle.dfdl_rows.specs.Walk.{Made, made, with_rows, entered, kept, closed, done, all_done, component_of, steps_from, steps_of, steps_left}
@@ -164,7 +164,7 @@ closed_few s task c ts m most is few =
     omega (arith, whole, few, all_done_grows s ts (closed s c m))
 
 -- there is room for the rows of a component's own
-pub closed_room : (s : Schema) (c : ℕ) (component : Component) (slots : List Occurs) (m : Made) (most : ℕ) → component ≡ component_at s.components c
+pub closed_room : (s : Schema) (c : ℕ) (component : Component) (slots : List Times) (m : Made) (most : ℕ) → component ≡ component_at s.components c
     → slots ≡ slots_at s c → length (closed s c m).rows < most → length m.rows + own_size component slots < most
 closed_room s c component slots m most is slots_are few =
     let parts : List ℕ = drop (kept s c m.lasts) m.lasts in

@@ -1,5 +1,5 @@
 -- The components of a schema: what each one is, and which components it has as its parts ('DFDL Schema Component Model').
-use Rattle.std.specs.Prelude.{◌≡◌, ℕ, ◌<◌, ◌≤◌, Bool, true, false, List, [], length, map, get_or, Option, None, Some}
+use Rattle.std.specs.Prelude.{◌≡◌, ℕ, ◌+◌, ◌<◌, ◌≤◌, Bool, true, false, List, [], length, map, get_or, Option, None, Some}
 use Rattle.dfdl_report.specs.declared.place.Place.{Place}
 use Rattle.dfdl_terms.specs.declared.delimiters.Delimiter.{Delimiter}
 use Rattle.dfdl_terms.specs.declared.framing.Framing.{Framing}
@@ -11,12 +11,13 @@ use Rattle.dfdl_terms.specs.Occurs.{occurs_once}
 use Rattle.dfdl_terms.specs.Rows.{AreWithin}
 use Rattle.dfdl_order.specs.Parts.{uses_of, IsOrder, Places}
 use Rattle.dfdl_rows.specs.declared.component.Component.{Component}
-use Rattle.dfdl_rows.specs.declared.component.Component.TheVariants.{Sequence, Choice, ComplexElement, SimpleElement}
+use Rattle.dfdl_rows.specs.declared.component.Component.TheVariants.{Sequence, Choice, ComplexElement, SimpleElement, Hidden}
 use Rattle.dfdl_rows.specs.declared.component.Separated.{Separated}
 use Rattle.dfdl_rows.specs.declared.component.ContentBox.{ContentBox}
 use Rattle.dfdl_rows.specs.declared.component.ContentBox.TheVariants.{Unbounded, Sized, Prefixed}
 use Rattle.dfdl_rows.specs.Framing.{has_framing}
 use Rattle.dfdl_rows.specs.Slots.{slots_of}
+use Rattle.dfdl_rows.specs.declared.times.Times.{Times}
 use Rattle.dfdl_rows.specs.declared.refusal.Refusal.{Refusal}
 
 -- no representation is tried before the normal one
@@ -32,18 +33,19 @@ pub record Schema : Type 0 where
 
 -- what a component is
 abbrev pub component_at : List Component → ℕ → Component
-component_at components c = get_or components c (Sequence no_fill None)
+component_at components c = get_or components c (Sequence no_fill None false)
 
 -- where a component begins
 abbrev pub place_at : List Place → ℕ → Place
 place_at places c = get_or places c (record { document = 0; at = 0 })
 
--- a component of this kind can have these parts: a complex element its content, and a simple element none
+-- a component of this kind can have these parts: a complex element its content, a hidden group that group, and a simple element none
 abbrev pub CanHave : Component → List ℕ → Type 0
-CanHave (Sequence framing separated) parts = Unit {0}
-CanHave (Choice framing) parts = Unit {0}
-CanHave (ComplexElement name framing box occurs) parts = length parts ≡ 1
-CanHave (SimpleElement name simple prim framing prefix tried scanned occurs) parts = parts ≡ []
+CanHave (Sequence framing separated initiated) parts = Unit {0}
+CanHave (Choice framing initiated) parts = Unit {0}
+CanHave (ComplexElement name framing box occurs parsed) parts = length parts ≡ 1
+CanHave (SimpleElement name simple prim framing prefix tried scanned occurs parsed) parts = parts ≡ []
+CanHave Hidden parts = length parts ≡ 1
 
 -- the lists are those of one schema
 pub record AreOfOne (uses : List (List ℕ)) (components : List Component) (refusals : List (Option Refusal)) (places : List Place) : Type 0 where
@@ -70,17 +72,19 @@ HasBoxPrimitive count (Prefixed prefix) = prefix.prim < count
 -- the primitives of a component are some of so many: those of a simple element, whose representations are tried by some too,
 -- and those of length prefixes
 abbrev pub HasPrimitive : ℕ → Component → Type 0
-HasPrimitive count (Sequence framing separated) = Unit {0}
-HasPrimitive count (Choice framing) = Unit {0}
-HasPrimitive count (ComplexElement name framing box occurs) = HasBoxPrimitive count box
-HasPrimitive count (SimpleElement name simple prim framing prefix tried scanned occurs) = (prim < count) × HasPrefixPrimitive count prefix × AreWithin count tried
+HasPrimitive count (Sequence framing separated initiated) = Unit {0}
+HasPrimitive count (Choice framing initiated) = Unit {0}
+HasPrimitive count (ComplexElement name framing box occurs parsed) = HasBoxPrimitive count box
+HasPrimitive count (SimpleElement name simple prim framing prefix tried scanned occurs parsed) = (prim < count) × HasPrefixPrimitive count prefix × AreWithin count tried
+HasPrimitive count Hidden = Unit {0}
 
 -- what frames the content of a component
 abbrev pub framing_in : Component → Framing
-framing_in (Sequence framing separated) = framing
-framing_in (Choice framing) = framing
-framing_in (ComplexElement name framing box occurs) = framing
-framing_in (SimpleElement name simple prim framing prefix tried scanned occurs) = framing
+framing_in (Sequence framing separated initiated) = framing
+framing_in (Choice framing initiated) = framing
+framing_in (ComplexElement name framing box occurs parsed) = framing
+framing_in (SimpleElement name simple prim framing prefix tried scanned occurs parsed) = framing
+framing_in Hidden = no_fill
 
 -- the list of a delimiter, where there is one, is one of so many
 abbrev pub HasList : ℕ → Option Delimiter → Type 0
@@ -89,10 +93,11 @@ HasList count (Some delimiter) = delimiter.list < count
 
 -- the separators in the content of a component, where it is a sequence with some
 abbrev pub separated_in : Component → Option Separated
-separated_in (Sequence framing separated) = separated
-separated_in (Choice framing) = None
-separated_in (ComplexElement name framing box occurs) = None
-separated_in (SimpleElement name simple prim framing prefix tried scanned occurs) = None
+separated_in (Sequence framing separated initiated) = separated
+separated_in (Choice framing initiated) = None
+separated_in (ComplexElement name framing box occurs parsed) = None
+separated_in (SimpleElement name simple prim framing prefix tried scanned occurs parsed) = None
+separated_in Hidden = None
 
 -- the list of separators, where there are some, is one of so many
 abbrev pub HasSeparators : ℕ → Option Separated → Type 0
@@ -104,45 +109,62 @@ abbrev pub HasDelimiters : ℕ → Component → Type 0
 HasDelimiters count component =
     HasList count (framing_in component).initiator × HasList count (framing_in component).terminator × HasSeparators count (separated_in component)
 
+-- the tests of a component are some of so many
+abbrev pub HasTests : ℕ → Component → Type 0
+HasTests count component = (framing_in component).tests.first + (framing_in component).tests.count ≤ count
+
 -- the box around the content of a component
 abbrev pub box_in : Component → ContentBox
-box_in (Sequence framing separated) = Unbounded
-box_in (Choice framing) = Unbounded
-box_in (ComplexElement name framing box occurs) = box
-box_in (SimpleElement name simple prim framing prefix tried scanned occurs) = Unbounded
+box_in (Sequence framing separated initiated) = Unbounded
+box_in (Choice framing initiated) = Unbounded
+box_in (ComplexElement name framing box occurs parsed) = box
+box_in (SimpleElement name simple prim framing prefix tried scanned occurs parsed) = Unbounded
+box_in Hidden = Unbounded
 
 -- the length prefix before the content of a simple element, where there is one
 abbrev pub prefix_in : Component → Option Prefix
-prefix_in (Sequence framing separated) = None
-prefix_in (Choice framing) = None
-prefix_in (ComplexElement name framing box occurs) = None
-prefix_in (SimpleElement name simple prim framing prefix tried scanned occurs) = prefix
+prefix_in (Sequence framing separated initiated) = None
+prefix_in (Choice framing initiated) = None
+prefix_in (ComplexElement name framing box occurs parsed) = None
+prefix_in (SimpleElement name simple prim framing prefix tried scanned occurs parsed) = prefix
+prefix_in Hidden = None
 
 -- how often a component occurs where it stands in a group
 abbrev pub occurs_in : Component → Occurs
-occurs_in (Sequence framing separated) = occurs_once
-occurs_in (Choice framing) = occurs_once
-occurs_in (ComplexElement name framing box occurs) = occurs
-occurs_in (SimpleElement name simple prim framing prefix tried scanned occurs) = occurs
+occurs_in (Sequence framing separated initiated) = occurs_once
+occurs_in (Choice framing initiated) = occurs_once
+occurs_in (ComplexElement name framing box occurs parsed) = occurs
+occurs_in (SimpleElement name simple prim framing prefix tried scanned occurs parsed) = occurs
+occurs_in Hidden = occurs_once
 
 -- a component is a choice
 abbrev pub is_choice : Component → Bool
-is_choice (Sequence framing separated) = false
-is_choice (Choice framing) = true
-is_choice (ComplexElement name framing box occurs) = false
-is_choice (SimpleElement name simple prim framing prefix tried scanned occurs) = false
+is_choice (Sequence framing separated initiated) = false
+is_choice (Choice framing initiated) = true
+is_choice (ComplexElement name framing box occurs parsed) = false
+is_choice (SimpleElement name simple prim framing prefix tried scanned occurs parsed) = false
+is_choice Hidden = false
 
--- there is neither fill nor a delimiter nor a box around the content of a component, no separator in it, and no length prefix before it,
--- it is no choice, and it occurs no more than once, and no occurrence of it is tried
+-- a component is a hidden group
+abbrev pub is_hidden : Component → Bool
+is_hidden (Sequence framing separated initiated) = false
+is_hidden (Choice framing initiated) = false
+is_hidden (ComplexElement name framing box occurs parsed) = false
+is_hidden (SimpleElement name simple prim framing prefix tried scanned occurs parsed) = false
+is_hidden Hidden = true
+
+-- there is neither a test nor fill nor a delimiter nor a box around the content of a component, no separator in it, and no length prefix
+-- before it, it is no choice and no hidden group, and it occurs no more than once, and no occurrence of it is tried
 pub record IsBareComponent (component : Component) : Type 0 where
   pub unframed : has_framing (framing_in component) ≡ false
   pub unboxed : box_in component ≡ Unbounded
   pub unprefixed : prefix_in component ≡ None
   pub unseparated : separated_in component ≡ None
   pub unchosen : is_choice component ≡ false
+  pub unhidden : is_hidden component ≡ false
   pub once : (occurs_in component).least ≤ 1
   pub untried : (occurs_in component).further ≡ 0
 
 -- how often each part of a component occurs in it, in schema order
-abbrev pub slots_at : Schema → ℕ → List Occurs
+abbrev pub slots_at : Schema → ℕ → List Times
 slots_at s c = map (λ p. slots_of (component_at s.components p) (uses_of s.uses p)) (uses_of s.uses c)

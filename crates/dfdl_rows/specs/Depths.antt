@@ -3,14 +3,15 @@ use Rattle.std.specs.Prelude.{ℕ, ◌+◌, List, [], ◌∷◌, max}
 use Rattle.dfdl_order.specs.Folds.{value_by}
 use Rattle.dfdl_rows.specs.Components.{Schema, component_at}
 use Rattle.dfdl_rows.specs.declared.component.Component.{Component}
-use Rattle.dfdl_rows.specs.declared.component.Component.TheVariants.{Sequence, Choice, ComplexElement, SimpleElement}
+use Rattle.dfdl_rows.specs.declared.component.Component.TheVariants.{Sequence, Choice, ComplexElement, SimpleElement, Hidden}
 
 -- one for an element
 abbrev pub own_depth : Component → ℕ
-own_depth (Sequence framing separated) = 0
-own_depth (Choice framing) = 0
-own_depth (ComplexElement name framing box occurs) = 1
-own_depth (SimpleElement name simple prim framing prefix tried scanned occurs) = 1
+own_depth (Sequence framing separated initiated) = 0
+own_depth (Choice framing initiated) = 0
+own_depth (ComplexElement name framing box occurs parsed) = 1
+own_depth (SimpleElement name simple prim framing prefix tried scanned occurs parsed) = 1
+own_depth Hidden = 0
 
 -- the greatest of some numbers
 abbrev pub greatest : List ℕ → ℕ

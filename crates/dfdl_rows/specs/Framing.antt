@@ -1,16 +1,27 @@
--- The rows around the content of a component: those of fill, of its initiator and of its terminator, which has the number of the list of
--- the separators that stand in the content, if some do. They and the content's row are one group, in the order of the data; what there is
--- none of has no row ('Framing').
-use Rattle.std.specs.Prelude.{ℕ, ◌+◌, Bool, ◌||◌, nat_lt, List, [], ◌∷◌, ◌++◌, length, Option, None, Some, is_some, if◌then◌else◌}
+-- The rows around the content of a component: those of its tests, before all others, of fill, of its initiator and of its terminator, which
+-- has the number of the list of the separators that stand in the content, if some do. They and the content's row are one group, in the
+-- order of the data; what there is none of has no row ('Framing', 'DFDL Schema Component Model').
+use Rattle.std.specs.Prelude.{ℕ, zero, suc, ◌+◌, Bool, ◌||◌, nat_lt, List, [], ◌∷◌, ◌++◌, length, Option, None, Some, is_some, if◌then◌else◌}
+use Rattle.dfdl_terms.specs.declared.asserting.Tests.{Tests}
 use Rattle.dfdl_terms.specs.declared.delimiters.Delimiter.{Delimiter}
 use Rattle.dfdl_terms.specs.declared.framing.Framing.{Framing}
 use Rattle.dfdl_terms.specs.declared.row.Row.{Row}
-use Rattle.dfdl_terms.specs.declared.row.Row.TheVariants.{Group, Skip, Align, Initiator, Terminator}
+use Rattle.dfdl_terms.specs.declared.row.Row.TheVariants.{Group, Skip, Align, Initiator, Terminator, Test}
 
--- there is a skip, an alignment to more than one bit, an initiator or a terminator
+-- there is a test, a skip, an alignment to more than one bit, an initiator or a terminator
 abbrev pub has_framing : Framing → Bool
 has_framing f =
-    nat_lt 0 f.leading_skip || nat_lt 1 f.alignment || is_some f.initiator || is_some f.terminator || nat_lt 0 f.trailing_skip
+    nat_lt 0 f.tests.count || nat_lt 0 f.leading_skip || nat_lt 1 f.alignment || is_some f.initiator || is_some f.terminator
+    || nat_lt 0 f.trailing_skip
+
+-- so many tests, of which the first has this number
+unfoldable pub tests_from : ℕ → ℕ → List Row
+tests_from first zero = []
+tests_from first (suc count) = Test first ∷ tests_from (first + 1) count
+
+-- the tests of a component, one after the other
+abbrev pub test_rows : Tests → List Row
+test_rows tests = tests_from tests.first tests.count
 
 -- a skip of so many bits, where they are some
 abbrev pub skip_rows : ℕ → List Row
@@ -30,9 +41,13 @@ abbrev pub terminator_rows : Option Delimiter → Option ℕ → List Row
 terminator_rows None separators = []
 terminator_rows (Some delimiter) separators = Terminator delimiter separators ∷ []
 
--- the rows before a content, in the order of the data
+-- fill before a content and its initiator, in the order of the data
+abbrev pub fill_rows : Framing → List Row
+fill_rows f = skip_rows f.leading_skip ++ (align_rows f.alignment ++ initiator_rows f.initiator)
+
+-- the rows before a content, in the order of the data: its tests stand before all others
 abbrev pub rows_before : Framing → List Row
-rows_before f = skip_rows f.leading_skip ++ (align_rows f.alignment ++ initiator_rows f.initiator)
+rows_before f = test_rows f.tests ++ fill_rows f
 
 -- the rows behind a content, in the order of the data
 abbrev pub rows_behind : Framing → Option ℕ → List Row

@@ -7,7 +7,7 @@ use Rattle.dfdl_terms.specs.declared.framing.Framing.{Framing}
 use Rattle.dfdl_terms.specs.declared.occurs.Occurs.{Occurs}
 use Rattle.dfdl_terms.specs.declared.prefix.Prefix.{Prefix}
 use Rattle.dfdl_terms.specs.declared.row.Row.{Row}
-use Rattle.dfdl_terms.specs.declared.row.Row.TheVariants.{Leaf, Elem, Group, Skip, Align, Initiator, Terminator, Separator, Scope, Boxed, PrefixedLeaf, PrefixedBox, Repeat, Optional, Choice}
+use Rattle.dfdl_terms.specs.declared.row.Row.TheVariants.{Leaf, Elem, Group, Skip, Align, Initiator, Terminator, Separator, Scope, Boxed, PrefixedLeaf, PrefixedBox, Repeat, Optional, Choice, Test, Hidden, Separated}
 use Rattle.dfdl_rows.specs.declared.component.Component.{Component}
 use Rattle.dfdl_rows.specs.declared.component.Component.TheVariants.{SimpleElement}
 
@@ -15,7 +15,7 @@ use Rattle.dfdl_rows.specs.declared.component.Component.TheVariants.{SimpleEleme
 abbrev pub IsAmong : List Component → Simple → ℕ → Type 0
 IsAmong components simple prim =
     (number : ℕ) × (name : List ℕ) × (framing : Framing) × (prefix : Option Prefix) × (tried : Representations)
-    × (scanned : Bool) × (occurs : Occurs) × (slice_get components number ≡ Some (SimpleElement name simple prim framing prefix tried scanned occurs))
+    × (scanned : Bool) × (occurs : Occurs) × (parsed : Bool) × (slice_get components number ≡ Some (SimpleElement name simple prim framing prefix tried scanned occurs parsed))
 
 -- the body of each simple element reads a value by the primitive of a component of its type
 abbrev pub HaveLeaves : List Component → List Row → Type 0
@@ -37,8 +37,11 @@ IsLeafOf components simple (Some (Boxed bits body)) = ⊥
 IsLeafOf components simple (Some (PrefixedLeaf prefix prim)) = ⊥
 IsLeafOf components simple (Some (PrefixedBox prefix body)) = ⊥
 IsLeafOf components simple (Some (Repeat count body)) = ⊥
-IsLeafOf components simple (Some (Optional most item body)) = ⊥
-IsLeafOf components simple (Some (Choice branches)) = ⊥
+IsLeafOf components simple (Some (Optional most item initiated body)) = ⊥
+IsLeafOf components simple (Some (Choice branches initiated)) = ⊥
+IsLeafOf components simple (Some (Test test)) = ⊥
+IsLeafOf components simple (Some (Hidden body)) = ⊥
+IsLeafOf components simple (Some (Separated policy position initiated slots)) = ⊥
 IsLeafOf components simple None = ⊥
 
 -- the body of each simple element is itself the leaf of a component of its type

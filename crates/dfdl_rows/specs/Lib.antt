@@ -1,5 +1,7 @@
 pub mod Framing
 pub mod Scopes
+pub mod Times
+pub mod Apart
 pub mod Slots
 pub mod Boxes
 pub mod Components

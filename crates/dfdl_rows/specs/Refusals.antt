@@ -1,18 +1,15 @@
 -- Which refusal of several counts: the first in schema order. Beside the refusals of components by themselves there is one
 -- of an element whose name an earlier element of the same complex element has, through sequences, choices and groups in one
--- another, unless they stand in different branches of a choice ('DFDL Schema Component Model').
-use Rattle.std.specs.Prelude.{ℕ, Bool, false, List, [], ◌∷◌, ◌++◌, get_or, Option, None, Some, if◌then◌else◌}
+-- another, hidden or not, unless they stand in different branches of a choice ('DFDL Schema Component Model').
+use Rattle.std.specs.Prelude.{ℕ, Bool, List, [], ◌∷◌, ◌++◌, get_or, Option, None, Some, if◌then◌else◌}
 use Rattle.std.specs.List.{list_any}
 use Rattle.std.specs.Str.{bytes_eq}
-use Rattle.dfdl_report.specs.declared.cause.SchemaCause.TheVariants.{ElementTwice, OutsideSubset}
+use Rattle.dfdl_report.specs.declared.cause.SchemaCause.TheVariants.{ElementTwice}
 use Rattle.dfdl_report.specs.declared.place.Place.{Place}
 use Rattle.dfdl_order.specs.Folds.{value_by}
-use Rattle.dfdl_terms.specs.declared.occurs.Occurs.{Occurs}
-use Rattle.dfdl_rows.specs.Components.{Schema, component_at, place_at, separated_in, slots_at}
-use Rattle.dfdl_rows.specs.Slots.{have_tried}
+use Rattle.dfdl_rows.specs.Components.{Schema, component_at, place_at}
 use Rattle.dfdl_rows.specs.declared.component.Component.{Component}
-use Rattle.dfdl_rows.specs.declared.component.Component.TheVariants.{Sequence, Choice, ComplexElement, SimpleElement}
-use Rattle.dfdl_rows.specs.declared.component.Separated.{Separated}
+use Rattle.dfdl_rows.specs.declared.component.Component.TheVariants.{Sequence, Choice, ComplexElement, SimpleElement, Hidden}
 use Rattle.dfdl_rows.specs.declared.refusal.Refusal.{Refusal}
 
 -- the local names of the elements so far that stand in one complex element
@@ -70,23 +67,15 @@ at_element place name inside names =
 
 -- a component that isn't refused by itself, where its parts are looked at so
 abbrev pub at_component : Component → Place → List Look → Look
-at_component (Sequence framing separated) place parts = in_order parts
-at_component (Choice framing) place parts = in_branches parts
-at_component (ComplexElement name framing box occurs) place parts = at_element place name (in_order parts)
-at_component (SimpleElement name simple prim framing prefix tried scanned occurs) place parts = at_element place name (in_order parts)
+at_component (Sequence framing separated initiated) place parts = in_order parts
+at_component (Choice framing initiated) place parts = in_branches parts
+at_component (ComplexElement name framing box occurs parsed) place parts = at_element place name (in_order parts)
+at_component (SimpleElement name simple prim framing prefix tried scanned occurs parsed) place parts = at_element place name (in_order parts)
+at_component Hidden place parts = in_order parts
 
--- there are separators, and some of the occurrences of some part are tried
-abbrev pub are_apart : Option Separated → List Occurs → Bool
-are_apart None slots = false
-are_apart (Some own) slots = have_tried slots
-
--- the refusal of a component's own: that of a sequence with separators one of whose parts is tried, which is outside of the subset,
--- and else the one that is known of it
+-- the refusal of a component's own
 abbrev pub own_refusal : Schema → ℕ → Option Refusal
-own_refusal s c =
-    if are_apart (separated_in (component_at s.components c)) (slots_at s c)
-    then Some (record { cause = OutsideSubset; place = place_at s.places c })
-    else get_or s.refusals c None
+own_refusal s c = get_or s.refusals c None
 
 -- a refusal of a component's own ends it before all else
 abbrev pub unless_refused : Option Refusal → Look → Look

@@ -1,23 +1,23 @@
 -- The rows of components: children first, in schema order, the component's own row last, once for each use ('DFDL Data
 -- Syntax Grammar').
-use Rattle.std.specs.Prelude.{ℕ, ◌+◌, ◌-◌, List, [], ◌∷◌, ◌++◌, length, get_or, Option, None, Some}
+use Rattle.std.specs.Prelude.{ℕ, ◌+◌, ◌-◌, Bool, List, [], ◌∷◌, ◌++◌, length, get_or, Option, None, Some}
 use Rattle.dfdl_forms.specs.declared.simple.Simple.{Simple}
 use Rattle.dfdl_order.specs.Folds.{value_by}
 use Rattle.dfdl_terms.specs.declared.framing.Framing.{Framing}
-use Rattle.dfdl_terms.specs.declared.occurs.Occurs.{Occurs}
 use Rattle.dfdl_terms.specs.declared.prefix.Prefix.{Prefix}
 use Rattle.dfdl_terms.specs.declared.representations.Representations.{Representations}
 use Rattle.dfdl_terms.specs.declared.row.Row.{Row}
-use Rattle.dfdl_terms.specs.declared.row.Row.TheVariants.{Leaf, Elem, PrefixedLeaf}
+use Rattle.dfdl_terms.specs.declared.row.Row.TheVariants.{Leaf, Elem, PrefixedLeaf, Hidden as HiddenRow}
 use Rattle.dfdl_rows.specs.Components.{Schema, component_at, no_trials, slots_at}
 use Rattle.dfdl_rows.specs.Boxes.{box_rows, boxed_row, box_size}
 use Rattle.dfdl_rows.specs.Framing.{framed, framed_row}
 use Rattle.dfdl_rows.specs.Scopes.{list_of, scanned_list, scope_rows, scoped_row, scope_size}
-use Rattle.dfdl_rows.specs.Slots.{laid_of, row_of, separator_list, slots_size}
+use Rattle.dfdl_rows.specs.Slots.{grouped, separator_list, slots_size}
 use Rattle.dfdl_rows.specs.declared.component.ContentBox.{ContentBox}
 use Rattle.dfdl_rows.specs.declared.component.Separated.{Separated}
+use Rattle.dfdl_rows.specs.declared.times.Times.{Times}
 use Rattle.dfdl_rows.specs.declared.component.Component.{Component}
-use Rattle.dfdl_rows.specs.declared.component.Component.TheVariants.{Sequence, Choice, ComplexElement, SimpleElement}
+use Rattle.dfdl_rows.specs.declared.component.Component.TheVariants.{Sequence, Choice, ComplexElement, SimpleElement, Hidden}
 use Rattle.dfdl_rows.specs.declared.slots.Grouping.{Grouping}
 use Rattle.dfdl_rows.specs.declared.slots.Grouping.TheVariants as grouping
 
@@ -51,26 +51,26 @@ scoped list around content first =
 abbrev pub sequence_rows : Framing → Option ℕ → ℕ → ℕ → List Row
 sequence_rows framing separators = scoped separators (scoped (list_of framing.terminator) (framed framing separators))
 
--- the rows of a sequence or choice of its own, from a number on, where these are the last rows of its parts, which occur so often: that
--- of its separators, those that repeat and try parts, that of its group, and those around it
-abbrev pub group_rows : Grouping → Framing → Option Separated → List Occurs → List ℕ → ℕ → List Row
-group_rows kind framing separated slots parts first =
-    (laid_of separated slots parts first).rows
-    ++ row_of kind (laid_of separated slots parts first).children
-    ∷ sequence_rows framing (separator_list separated) (first + slots_size separated slots) (first + slots_size separated slots + 1)
+-- the rows of a sequence or choice of its own, from a number on, where these are the last rows of its parts, which occur so often: those of
+-- its group, and those around it
+abbrev pub group_rows : Grouping → Framing → Option Separated → Bool → List Times → List ℕ → ℕ → List Row
+group_rows kind framing separated initiated slots parts first =
+    grouped kind initiated separated slots parts first
+    ++ sequence_rows framing (separator_list separated) (first + slots_size separated slots) (first + slots_size separated slots + 1)
 
 -- the rows of a component's own, from a number on, where these are the last rows of its parts, which occur so often: that of its
 -- content, which is that of a group for a sequence or choice, and a part's for a complex element; those of the scopes of its
 -- separators and of its terminator around it, the latter for a simple element only where markup ends its content, for a complex element
--- that of a box around this, then those that frame it, and for an element its own
-abbrev pub own_rows : Component → List Occurs → List ℕ → ℕ → List Row
-own_rows (Sequence framing separated) slots parts first = group_rows grouping.Sequence framing separated slots parts first
-own_rows (Choice framing) slots parts first = group_rows grouping.Choice framing None slots parts first
-own_rows (ComplexElement name framing box occurs) slots parts first =
+-- that of a box around this, then those that frame it, and for an element its own; and for a hidden group that which hides it
+abbrev pub own_rows : Component → List Times → List ℕ → ℕ → List Row
+own_rows (Sequence framing separated initiated) slots parts first = group_rows grouping.Sequence framing separated initiated slots parts first
+own_rows (Choice framing initiated) slots parts first = group_rows grouping.Choice framing None initiated slots parts first
+own_rows (ComplexElement name framing box occurs parsed) slots parts first =
     scoped (list_of framing.terminator) (boxed_rows name framing box) (get_or parts 0 0) first
-own_rows (SimpleElement name simple prim framing prefix tried scanned occurs) slots parts first =
+own_rows (SimpleElement name simple prim framing prefix tried scanned occurs parsed) slots parts first =
     leaf_row prefix prim
     ∷ scoped (scanned_list scanned framing.terminator) (element_rows name (Some simple) tried framing) first (first + 1)
+own_rows Hidden slots parts first = HiddenRow (get_or parts 0 0) ∷ []
 
 -- the rows of parts, one part after the other
 abbrev pub in_turn : List Numbered → Numbered

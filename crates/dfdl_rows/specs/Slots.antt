@@ -1,18 +1,18 @@
 -- The slots of a group, the separators at them, and the rows that repeat elements there, and those that try them ('Sequence Groups',
--- 'Arrays and Optional Elements').
+-- 'Arrays and Optional Elements'). Separators are rows of their own where all occurrences are required; else Apart says what the sequence is.
 use Rattle.std.specs.Prelude.{ℕ, ◌+◌, ◌-◌, Bool, true, false, ◌&&◌, ◌||◌, nat_lt, List, [], ◌∷◌, ◌++◌, length, get_or, Option, None, Some, option_map, if◌then◌else◌}
-use Rattle.std.specs.List.{list_any}
 use Rattle.dfdl_separators.specs.declared.policy.SeparatorPosition.{SeparatorPosition}
 use Rattle.dfdl_separators.specs.declared.policy.SeparatorPosition.TheVariants.{Prefix, Infix, Postfix}
 use Rattle.dfdl_terms.specs.declared.framing.Framing.{Framing}
-use Rattle.dfdl_terms.specs.declared.occurs.Occurs.{Occurs}
 use Rattle.dfdl_terms.specs.declared.row.Row.{Row}
 use Rattle.dfdl_terms.specs.declared.row.Row.TheVariants.{Group, Repeat, Separator, Optional, Choice as Chosen}
-use Rattle.dfdl_terms.specs.Occurs.{has_tried, required_times}
 use Rattle.dfdl_rows.specs.Framing.{has_framing}
 use Rattle.dfdl_rows.specs.declared.component.Component.{Component}
-use Rattle.dfdl_rows.specs.declared.component.Component.TheVariants.{Sequence, Choice, ComplexElement, SimpleElement}
+use Rattle.dfdl_rows.specs.declared.component.Component.TheVariants.{Sequence, Choice, ComplexElement, SimpleElement, Hidden}
 use Rattle.dfdl_rows.specs.declared.component.Separated.{Separated}
+use Rattle.dfdl_rows.specs.declared.times.Times.{Times}
+use Rattle.dfdl_rows.specs.Times.{has_tried, required_times, times_of}
+use Rattle.dfdl_rows.specs.Apart.{apart, apart_row}
 use Rattle.dfdl_rows.specs.declared.slots.Grouping.{Grouping}
 use Rattle.dfdl_rows.specs.declared.slots.Grouping.TheVariants as grouping
 
@@ -22,21 +22,18 @@ abbrev pub slots_of_group : Framing → List ℕ → ℕ
 slots_of_group framing [] = if has_framing framing then 1 else 0
 slots_of_group framing (part ∷ parts) = 1
 
--- how often a component with these parts occurs in the group that it stands in: a group once for each of its slots
-abbrev pub slots_of : Component → List ℕ → Occurs
-slots_of (Sequence framing separated) parts = required_times (slots_of_group framing parts)
-slots_of (Choice framing) parts = required_times (slots_of_group framing parts)
-slots_of (ComplexElement name framing box occurs) parts = occurs
-slots_of (SimpleElement name simple prim framing prefix tried scanned occurs) parts = occurs
+-- how often a component with these parts occurs in the group that it stands in: a group once for each of its slots, and a hidden one once
+abbrev pub slots_of : Component → List ℕ → Times
+slots_of (Sequence framing separated initiated) parts = required_times (slots_of_group framing parts)
+slots_of (Choice framing initiated) parts = required_times (slots_of_group framing parts)
+slots_of (ComplexElement name framing box occurs parsed) parts = times_of occurs parsed
+slots_of (SimpleElement name simple prim framing prefix tried scanned occurs parsed) parts = times_of occurs parsed
+slots_of Hidden parts = required_times 1
 
 -- how many required slots parts have together
-abbrev pub count_slots : List Occurs → ℕ
+abbrev pub count_slots : List Times → ℕ
 count_slots [] = 0
 count_slots (n ∷ slots) = n.least + count_slots slots
-
--- some of the occurrences of some part are tried
-abbrev pub have_tried : List Occurs → Bool
-have_tried slots = list_any has_tried slots
 
 -- so many slots need separators: between them they need some where there are two
 abbrev pub need_separators : SeparatorPosition → ℕ → Bool
@@ -66,7 +63,7 @@ with_separators position separator taken slot part =
     row_if (slot && begins position taken) separator ++ part ∷ row_if (slot && ends position) separator
 
 -- where the separators of a sequence stand, if it has some and its parts, with so many slots, need one
-abbrev pub needed : Option Separated → List Occurs → Option SeparatorPosition
+abbrev pub needed : Option Separated → List Times → Option SeparatorPosition
 needed None slots = None
 needed (Some own) slots = if need_separators own.position (count_slots slots) then Some own.position else None
 
@@ -95,15 +92,16 @@ abbrev pub single : Option SeparatorPosition → ℕ → Bool → Bool → ℕ �
 single None separator taken slot part = part ∷ []
 single (Some position) separator taken slot part = with_separators position separator taken slot part
 
--- the rows of a part some of whose occurrences are tried, from a number on: those that are required stand before them in a group
-abbrev pub tried_rows : Occurs → ℕ → ℕ → List Row
-tried_rows occurs part first =
+-- the rows of a part some of whose occurrences are tried, from a number on: those that are required stand before them in a group; initiators
+-- tell what stands there, or don't
+abbrev pub tried_rows : Bool → Times → ℕ → ℕ → List Row
+tried_rows initiated occurs part first =
     if nat_lt 0 occurs.least
-    then Repeat occurs.least part ∷ Optional occurs.further occurs.is_item part ∷ Group (first ∷ (first + 1) ∷ []) ∷ []
-    else Optional occurs.further occurs.is_item part ∷ []
+    then Repeat occurs.least part ∷ Optional occurs.further occurs.is_item initiated part ∷ Group (first ∷ (first + 1) ∷ []) ∷ []
+    else Optional occurs.further occurs.is_item initiated part ∷ []
 
 -- how many they are
-abbrev pub tried_size : Occurs → ℕ
+abbrev pub tried_size : Times → ℕ
 tried_size occurs = if nat_lt 0 occurs.least then 3 else 1
 
 -- the rows of a part whose occurrences are required, where it has more slots than one
@@ -115,13 +113,13 @@ abbrev pub required_children : Option SeparatorPosition → ℕ → Bool → ℕ
 required_children way separator taken slots part first =
     if nat_lt 1 slots then repeated way separator taken part first else single way separator taken (nat_lt 0 slots) part
 
--- The rows that repeat and try a part. Where it is tried there is no separator: a sequence that has some is refused.
-abbrev pub part_rows : Option SeparatorPosition → ℕ → Occurs → ℕ → ℕ → List Row
-part_rows way separator occurs part first =
-    if has_tried occurs then tried_rows occurs part first else required_rows way separator occurs.least part first
+-- the rows that repeat and try a part; where it is tried there is no separator
+abbrev pub part_rows : Bool → Option SeparatorPosition → ℕ → Times → ℕ → ℕ → List Row
+part_rows initiated way separator occurs part first =
+    if has_tried occurs then tried_rows initiated occurs part first else required_rows way separator occurs.least part first
 
 -- the rows of the group that stand for a part, where rows that repeat it or try it have this number on: for one that is tried the last
-abbrev pub part_children : Option SeparatorPosition → ℕ → Bool → Occurs → ℕ → ℕ → List ℕ
+abbrev pub part_children : Option SeparatorPosition → ℕ → Bool → Times → ℕ → ℕ → List ℕ
 part_children way separator taken occurs part first =
     if has_tried occurs then (first + tried_size occurs - 1) ∷ [] else required_children way separator taken occurs.least part first
 
@@ -137,23 +135,24 @@ abbrev pub laid : List Row → List ℕ → Bool → Laid
 laid rows children taken = record { rows = rows; children = children; taken = taken }
 
 -- a part that occurs so often comes behind others, where the rows have a number on; the first is that of the separators
-abbrev pub with_part : Option SeparatorPosition → ℕ → Occurs → ℕ → Laid → Laid
-with_part way first occurs part a =
-    laid (a.rows ++ part_rows way first occurs part (first + length a.rows)) (a.children ++ part_children way first a.taken occurs part (first + length a.rows))
+abbrev pub with_part : Bool → Option SeparatorPosition → ℕ → Times → ℕ → Laid → Laid
+with_part initiated way first occurs part a =
+    laid (a.rows ++ part_rows initiated way first occurs part (first + length a.rows)) (a.children ++ part_children way first a.taken occurs part (first + length a.rows))
     (a.taken || nat_lt 0 occurs.least)
 
 -- so do the parts from one on
-unfoldable pub lay : Option SeparatorPosition → ℕ → List ℕ → List Occurs → ℕ → Laid → Laid
-lay way first parts [] at a = a
-lay way first parts (n ∷ slots) at a = lay way first parts slots (at + 1) (with_part way first n (get_or parts at 0) a)
+unfoldable pub lay : Bool → Option SeparatorPosition → ℕ → List ℕ → List Times → ℕ → Laid → Laid
+lay initiated way first parts [] at a = a
+lay initiated way first parts (n ∷ slots) at a =
+    lay initiated way first parts slots (at + 1) (with_part initiated way first n (get_or parts at 0) a)
 
 -- what is made of all parts of a group, which occur so often
-abbrev pub all_laid : Option SeparatorPosition → List Occurs → List ℕ → ℕ → Laid
-all_laid way slots parts first = lay way first parts slots 0 (laid (separator_rows way) [] false)
+abbrev pub all_laid : Bool → Option SeparatorPosition → List Times → List ℕ → ℕ → Laid
+all_laid initiated way slots parts first = lay initiated way first parts slots 0 (laid (separator_rows way) [] false)
 
 -- the same, where the group has these separators, if it has some
-abbrev pub laid_of : Option Separated → List Occurs → List ℕ → ℕ → Laid
-laid_of separated slots parts first = all_laid (needed separated slots) slots parts first
+abbrev pub laid_of : Bool → Option Separated → List Times → List ℕ → ℕ → Laid
+laid_of initiated separated slots parts first = all_laid initiated (needed separated slots) slots parts first
 
 -- how many rows the separators are
 abbrev pub separator_size : Option SeparatorPosition → ℕ
@@ -170,23 +169,43 @@ abbrev pub required_size : Option SeparatorPosition → ℕ → ℕ
 required_size way slots = if nat_lt 1 slots then repeating_size way else 0
 
 -- how many rows repeat and try a part
-abbrev pub part_size : Option SeparatorPosition → Occurs → ℕ
+abbrev pub part_size : Option SeparatorPosition → Times → ℕ
 part_size way occurs = if has_tried occurs then tried_size occurs else required_size way occurs.least
 
 -- how many rows repeat and try the parts
-abbrev pub parts_size : Option SeparatorPosition → List Occurs → ℕ
+abbrev pub parts_size : Option SeparatorPosition → List Times → ℕ
 parts_size way [] = 0
 parts_size way (n ∷ slots) = part_size way n + parts_size way slots
 
 -- how many rows the separators are and those that repeat and try parts
-abbrev pub slots_size : Option Separated → List Occurs → ℕ
-slots_size separated slots = separator_size (needed separated slots) + parts_size (needed separated slots) slots
+abbrev pub laid_size : Option Separated → List Times → ℕ
+laid_size separated slots = separator_size (needed separated slots) + parts_size (needed separated slots) slots
+
+-- how many rows of a group stand before its own, where the sequence is one row of slots with these separators, or isn't
+abbrev pub size_by : Option Separated → Option Separated → List Times → ℕ
+size_by None separated slots = laid_size separated slots
+size_by (Some own) separated slots = 0
+
+-- how many rows of a group stand before its own
+unfoldable pub slots_size : Option Separated → List Times → ℕ
+slots_size separated slots = size_by (apart separated slots) separated slots
 
 -- the number of the list of a sequence's separators, where it has some
 abbrev pub separator_list : Option Separated → Option ℕ
 separator_list separated = option_map (λ own. own.list) separated
 
--- the row of a group of rows, by what they are in it
-abbrev pub row_of : Grouping → List ℕ → Row
-row_of grouping.Sequence children = Group children
-row_of grouping.Choice children = Chosen children
+-- the row of a group of rows, by what they are in it; initiators tell what stands in it, or don't
+abbrev pub row_of : Grouping → Bool → List ℕ → Row
+row_of grouping.Sequence initiated children = Group children
+row_of grouping.Choice initiated children = Chosen children initiated
+
+-- the rows of a group from a number on, where the sequence is one row of slots with these separators, or isn't
+abbrev pub grouped_by : Option Separated → Grouping → Bool → Option Separated → List Times → List ℕ → ℕ → List Row
+grouped_by None kind initiated separated slots parts first =
+    (laid_of initiated separated slots parts first).rows ++ row_of kind initiated (laid_of initiated separated slots parts first).children ∷ []
+grouped_by (Some own) kind initiated separated slots parts first = apart_row initiated slots parts own ∷ []
+
+-- the rows of a group from a number on, where these are the last rows of its parts, which occur so often: those of its separators and those
+-- that repeat and try parts, and its own; a sequence with separators some of whose occurrences are tried has its own alone
+unfoldable pub grouped : Grouping → Bool → Option Separated → List Times → List ℕ → ℕ → List Row
+grouped kind initiated separated slots parts first = grouped_by (apart separated slots) kind initiated separated slots parts first

@@ -1,5 +1,5 @@
 use dfdl_forms::Simple;
-use dfdl_separators::SeparatorPosition;
+use dfdl_separators::{SeparatorPosition, SeparatorSuppressionPolicy};
 use dfdl_terms::{Framing, Occurs, Prefix, Representations};
 use dfdl_value::TextValue;
 
@@ -21,6 +21,8 @@ pub struct Separated {
     pub list: u32,
     /// Where they stand.
     pub position: SeparatorPosition,
+    /// Which slots may be there without content or be missing, where some occurrences are tried.
+    pub policy: SeparatorSuppressionPolicy,
 }
 
 /// What a schema component is, with what its own rows need. Its parts are other components.
@@ -32,11 +34,15 @@ pub enum Component {
         framing: Framing,
         /// Its separators, if it has some.
         separated: Option<Separated>,
+        /// Initiators tell what stands in it ('Sequence Groups', on initiatedContent).
+        initiated: bool,
     },
     /// A choice of one of its parts.
     Choice {
         /// What frames its row.
         framing: Framing,
+        /// Initiators tell what stands in it ('Sequence Groups', on initiatedContent).
+        initiated: bool,
     },
     /// An element whose one part is its content.
     ComplexElement {
@@ -48,6 +54,8 @@ pub enum Component {
         content_box: ContentBox,
         /// How often it occurs where it stands in a group ('Arrays and Optional Elements').
         occurs: Occurs,
+        /// The occurrences that are tried are of occursCountKind parsed.
+        is_parsed: bool,
     },
     /// An element without parts.
     SimpleElement {
@@ -66,5 +74,9 @@ pub enum Component {
         is_scanned: bool,
         /// How often it occurs where it stands in a group ('Arrays and Optional Elements').
         occurs: Occurs,
+        /// The occurrences that are tried are of occursCountKind parsed.
+        is_parsed: bool,
     },
+    /// A sequence that hides the group that is its one part ('Sequence Groups', on hidden groups).
+    Hidden,
 }

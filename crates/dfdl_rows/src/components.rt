@@ -2,18 +2,18 @@
 ghost use Rattle.std.specs.Prelude.{◌≡◌, ◌<◌, ◌↔◌, length, All, IfOk, IsTrue, false};
 ghost use Rattle.dfdl_order.specs.Parts.{uses_of, IsOrder};
 ghost use Rattle.dfdl_terms.specs.Rows.{AreWithin, IsWithin};
-ghost use Rattle.dfdl_terms.specs.Occurs.{required_times};
 ghost use Rattle.dfdl_rows.specs.Components.{AreOfOne, CanHave, HasOrder, component_at, framing_in, place_at, separated_in, slots_at};
 ghost use Rattle.dfdl_rows.specs.Refusals.{own_refusal};
-ghost use Rattle.dfdl_rows.specs.Components.{HasPrimitive, HasBoxPrimitive, HasPrefixPrimitive, HasDelimiters, HasList, HasSeparators};
+ghost use Rattle.dfdl_rows.specs.Components.{HasPrimitive, HasBoxPrimitive, HasPrefixPrimitive, HasDelimiters, HasList, HasSeparators, HasTests};
 ghost use Rattle.dfdl_rows.specs.Slots as slots;
 
 use crate::component::Separated;
 use crate::framing::has_framing;
+use crate::times::{Times, required_times, times_of};
 use crate::{Component, ContentBox, Refusal};
 use dfdl_order::{Order, Uses};
-use dfdl_report::{Place, SchemaCause};
-use dfdl_terms::{Delimiter, Framing, Occurs, Prefix, Representations};
+use dfdl_report::Place;
+use dfdl_terms::{Delimiter, Framing, Prefix, Representations};
 use std::alloc::{AllocError, Global};
 use std::marker::Model;
 
@@ -104,7 +104,7 @@ impl Components {
     }
 
     /// How often each part of a component occurs in it.
-    pub(crate) fn slots(&self, alloc: Global, number: u32) -> Result<Vec<Occurs>, AllocError>
+    pub(crate) fn slots(&self, alloc: Global, number: u32) -> Result<Vec<Times>, AllocError>
         requires { number < length self.now.uses }
         ensures { IfOk result (λ made. made.items ≡ slots_at self.now number) }
     {
@@ -115,31 +115,11 @@ impl Components {
         Ok(slots)
     }
 
-    // Whether some of the occurrences of some part of a component are tried.
-    fn have_tried(&self, number: u32) -> bool
-        requires { number < length self.now.uses }
-        ensures { result ≡ slots.have_tried (slots_at self.now number) }
-    {
-        for part in self.parts(number) {
-            if slots_of(self.component(*part), self.parts(*part)).further > 0 {
-                return true;
-            }
-        }
-        false
-    }
-
-    /// The refusal of a component's own: that of a sequence with separators one of whose parts is tried, and else the one that is
-    /// known of it.
+    /// The refusal of a component's own.
     pub(crate) fn refusal(&self, number: u32) -> Option<Refusal>
         requires { number < length self.now.uses }
         ensures { result ≡ own_refusal self.now number }
     {
-        if separated_in(self.component(number)).is_some() && self.have_tried(number) {
-            return Some(Refusal {
-                cause: SchemaCause::OutsideSubset,
-                place: self.place(number),
-            });
-        }
         self.refusals[number as usize]
     }
 
@@ -175,27 +155,25 @@ pub fn are_of_one(
     true
 }
 
-// So many times, each of which is required.
-fn required_times(count: u32) -> Occurs
-    ensures { result ≡ required_times count }
-{
-    Occurs {
-        least: count,
-        further: 0,
-        is_item: count > 1,
-    }
-}
-
 // How often a component with these parts occurs in the group that it stands in.
-fn slots_of(component: &Component, parts: &[u32]) -> Occurs
+fn slots_of(component: &Component, parts: &[u32]) -> Times
     ensures { result ≡ slots.slots_of component.now parts.now }
 {
     match component {
-        Component::Sequence { framing, .. } | Component::Choice { framing } => {
+        Component::Sequence { framing, .. } | Component::Choice { framing, .. } => {
             required_times(slots_of_group(*framing, parts))
         }
-        Component::ComplexElement { occurs, .. } => *occurs,
-        Component::SimpleElement { occurs, .. } => *occurs,
+        Component::ComplexElement {
+            occurs,
+            is_parsed,
+            ..
+        } => times_of(*occurs, *is_parsed),
+        Component::SimpleElement {
+            occurs,
+            is_parsed,
+            ..
+        } => times_of(*occurs, *is_parsed),
+        Component::Hidden => required_times(1),
     }
 }
 
@@ -219,6 +197,7 @@ fn can_have(component: &Component, parts: &[u32]) -> bool
         Component::Sequence { .. } | Component::Choice { .. } => true,
         Component::ComplexElement { .. } => parts.len() == 1,
         Component::SimpleElement { .. } => parts.is_empty(),
+        Component::Hidden => parts.len() == 1,
     }
 }
 
@@ -237,7 +216,7 @@ fn has_primitive(component: &Component, count: u32) -> bool
     ensures { IsTrue result ↔ HasPrimitive count component.now }
 {
     match component {
-        Component::Sequence { .. } | Component::Choice { .. } => true,
+        Component::Sequence { .. } | Component::Choice { .. } | Component::Hidden => true,
         Component::ComplexElement { content_box, .. } => has_box_primitive(*content_box, count),
         Component::SimpleElement {
             prim,
@@ -310,6 +289,24 @@ fn has_delimiters(component: &Component, count: u32) -> bool
         && has_separators(separated_in(component), count)
 }
 
+/// Whether the tests of each component are some of so many.
+pub fn have_tests(components: &[Component], count: u32) -> bool
+    ensures have { IsTrue result → All (HasTests count) components.now }
+    ensures other { result ≡ false → All (HasTests count) components.now → ⊥ }
+{
+    components
+        .iter()
+        .all(|component| has_tests(component, count))
+}
+
+// Whether the tests of a component are some of so many.
+fn has_tests(component: &Component, count: u32) -> bool
+    ensures { IsTrue result ↔ HasTests count component.now }
+{
+    let tests = framing_in(component).tests;
+    u64::from(tests.first) + u64::from(tests.count) <= u64::from(count)
+}
+
 // The separators in the content of a component, where it is a sequence with some.
 fn separated_in(component: &Component) -> Option<Separated>
     ensures { result ≡ separated_in component.now }
@@ -319,6 +316,7 @@ fn separated_in(component: &Component) -> Option<Separated>
         Component::Choice { .. } => None,
         Component::ComplexElement { .. } => None,
         Component::SimpleElement { .. } => None,
+        Component::Hidden => None,
     }
 }
 
@@ -338,9 +336,10 @@ fn framing_in(component: &Component) -> Framing
 {
     match component {
         Component::Sequence { framing, .. } => *framing,
-        Component::Choice { framing } => *framing,
+        Component::Choice { framing, .. } => *framing,
         Component::ComplexElement { framing, .. } => *framing,
         Component::SimpleElement { framing, .. } => *framing,
+        Component::Hidden => Framing::none(),
     }
 }
 

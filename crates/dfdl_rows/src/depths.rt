@@ -11,7 +11,7 @@ fn own_depth(component: &Component) -> u64
     ensures { result ≡ depths.own_depth component.now }
 {
     match component {
-        Component::Sequence { .. } | Component::Choice { .. } => 0,
+        Component::Sequence { .. } | Component::Choice { .. } | Component::Hidden => 0,
         Component::ComplexElement { .. } => 1,
         Component::SimpleElement { .. } => 1,
     }

@@ -1,19 +1,28 @@
-// The rows around the content of a component: fill, its initiator and its terminator.
+// The rows around the content of a component: tests, fill, its initiator and its terminator.
 ghost use Rattle.std.specs.Prelude.{◌≡◌, ◌<◌, ◌≤◌, ◌+◌, ◌^◌, ◌++◌, ◌∷◌, [], length, IfOk, OnOk};
 ghost use Rattle.dfdl_rows.specs.Framing as spec;
 
-use dfdl_terms::{Delimiter, Framing, Row, RowId, RowList};
+use dfdl_terms::{Delimiter, Framing, Row, RowId, RowList, Tests};
 use std::alloc::{AllocError, Global};
 
-/// There is a skip, an alignment to more than one bit, an initiator or a terminator.
+/// There is a test, a skip, an alignment to more than one bit, an initiator or a terminator.
 pub(crate) fn has_framing(framing: Framing) -> bool
     ensures { result ≡ spec.has_framing framing }
 {
-    framing.leading_skip > 0
+    framing.tests.count > 0
+        || framing.leading_skip > 0
         || framing.alignment > 1
         || framing.initiator.is_some()
         || framing.terminator.is_some()
         || framing.trailing_skip > 0
+}
+
+// How many rows tests are.
+fn tests_size(tests: Tests) -> u64
+    ensures size { result ≡ length (spec.test_rows tests) }
+    ensures few { result < 2 ^ 32 }
+{
+    u64::from(tests.count)
 }
 
 // How many rows a skip of so many bits is.
@@ -46,10 +55,10 @@ fn initiator_size(initiator: Option<Delimiter>) -> u64
 // How many rows stand before a content.
 fn size_before(framing: Framing) -> u64
     ensures size { result ≡ length (spec.rows_before framing) }
-    ensures few { result ≤ 3 }
+    ensures few { result < 2 ^ 32 + 3 }
 {
     let fill = skip_size(framing.leading_skip) + align_size(framing.alignment);
-    fill + initiator_size(framing.initiator)
+    tests_size(framing.tests) + fill + initiator_size(framing.initiator)
 }
 
 // How many rows a terminator is behind a content with separators of a list, or with none.
@@ -75,7 +84,7 @@ fn size_behind(framing: Framing, separators: Option<u32>) -> u64
 /// How many rows frame a content.
 pub(crate) fn framing_size(framing: Framing, separators: Option<u32>) -> u64
     ensures size { result ≡ spec.framing_size framing separators }
-    ensures few { result ≤ 6 }
+    ensures few { result < 2 ^ 32 + 6 }
 {
     if !has_framing(framing) {
         return 0;
@@ -91,6 +100,30 @@ fn push_row(rows: &mut Vec<Row>, group: &mut Vec<RowId>, row: Row) -> Result<(),
 {
     group.push(RowId::new(rows.len() as u32))?;
     rows.push(row)?;
+    Ok(())
+}
+
+// The number of a test so many behind the first. There is no memory for 2^32 tests.
+fn test_behind(first: u32, behind: u32) -> Result<u32, AllocError>
+    ensures { IfOk result (λ test. test ≡ first + behind) }
+{
+    match first.checked_add(behind) {
+        Some(test) => Ok(test),
+        None => Err(AllocError),
+    }
+}
+
+// Adds the tests of a component.
+fn push_tests(rows: &mut Vec<Row>, group: &mut Vec<RowId>, tests: Tests) -> Result<(), AllocError>
+    requires { length rows.old.items + length (spec.test_rows tests) < 2 ^ 32 }
+    ensures rows { OnOk result (rows.new.items ≡ rows.old.items ++ spec.test_rows tests) }
+    ensures group { OnOk result (group.new.items
+        ≡ group.old.items ++ spec.numbers (spec.test_rows tests) (length rows.old.items)) }
+{
+    for behind in 0..tests.count {
+        let test = test_behind(tests.first, behind)?;
+        push_row(rows, group, Row::Test { test })?;
+    }
     Ok(())
 }
 
@@ -172,6 +205,22 @@ fn push_before(
     ensures rows { OnOk result (rows.new.items ≡ rows.old.items ++ spec.rows_before framing) }
     ensures group { OnOk result (group.new.items
         ≡ group.old.items ++ spec.numbers (spec.rows_before framing) (length rows.old.items)) }
+{
+    push_tests(rows, group, framing.tests)?;
+    push_fill(rows, group, framing)?;
+    Ok(())
+}
+
+// Adds the rows before a content that aren't tests.
+fn push_fill(
+    rows: &mut Vec<Row>,
+    group: &mut Vec<RowId>,
+    framing: Framing,
+) -> Result<(), AllocError>
+    requires { length rows.old.items + length (spec.fill_rows framing) < 2 ^ 32 }
+    ensures rows { OnOk result (rows.new.items ≡ rows.old.items ++ spec.fill_rows framing) }
+    ensures group { OnOk result (group.new.items
+        ≡ group.old.items ++ spec.numbers (spec.fill_rows framing) (length rows.old.items)) }
 {
     push_skip(rows, group, framing.leading_skip)?;
     push_align(rows, group, framing.alignment)?;

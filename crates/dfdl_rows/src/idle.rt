@@ -10,7 +10,7 @@ fn is_plain(component: &Component) -> bool
     ensures { result ≡ spec.is_plain component.now }
 {
     match component {
-        Component::Sequence { .. } | Component::Choice { .. } => true,
+        Component::Sequence { .. } | Component::Choice { .. } | Component::Hidden => true,
         Component::ComplexElement { .. } | Component::SimpleElement { .. } => false,
     }
 }

@@ -6,6 +6,7 @@
 //! rows. What components share is computed once.
 #![tactic(auto)]
 
+mod apart;
 mod boxes;
 mod component;
 mod components;
@@ -19,26 +20,13 @@ mod refusals;
 mod rows;
 mod scopes;
 mod sizes;
+mod slot_sizes;
 mod slots;
+mod times;
 mod walk;
 
 pub use component::{Component, ContentBox, Separated};
-pub use components::{Components, are_of_one, have_delimiters, have_primitives};
+pub use components::{Components, are_of_one, have_delimiters, have_primitives, have_tests};
 pub use fault::RowsFault;
 pub use refusal::Refusal;
 pub use rows::{rows_of, terms_of};
-
-#[cfg(test)]
-mod array_tests;
-#[cfg(test)]
-mod choice_tests;
-#[cfg(test)]
-mod framing_tests;
-#[cfg(test)]
-mod prefix_tests;
-#[cfg(test)]
-mod separator_tests;
-#[cfg(test)]
-mod tests;
-#[cfg(test)]
-mod tried_tests;

@@ -307,6 +307,10 @@ impl<'c> Looking<'c> {
                 let found = add_element(names, own, name.as_str(), place, inside)?;
                 Ok(found)
             }
+            Component::Hidden => {
+                visit_all(&mut self.tasks, components.parts(number))?;
+                Ok(None)
+            }
         }
     }
 

@@ -15,7 +15,7 @@ fn is_element(component: &Component) -> bool
     ensures { result ≡ is_element component.now }
 {
     match component {
-        Component::Sequence { .. } | Component::Choice { .. } => false,
+        Component::Sequence { .. } | Component::Choice { .. } | Component::Hidden => false,
         Component::ComplexElement { .. } | Component::SimpleElement { .. } => true,
     }
 }

@@ -2,7 +2,7 @@
 ghost use Rattle.std.specs.Prelude.{◌≡◌, ◌<◌, ◌≤◌, ℕ, length, All, IfOk, IfErr, vec_len};
 ghost use Rattle.dfdl_terms.specs.Rows.{most_rows as table_rows, Nests, NamesWithin, IsPrimitive, HasPlainRows, named_by, table_of};
 ghost use Rattle.dfdl_terms.specs.Tables.{Named};
-ghost use Rattle.dfdl_rows.specs.Components.{component_at, HasPrimitive, HasDelimiters, IsBareComponent};
+ghost use Rattle.dfdl_rows.specs.Components.{component_at, HasPrimitive, HasDelimiters, HasTests, IsBareComponent};
 ghost use Rattle.dfdl_rows.specs.Leaves.{HaveLeaves, HaveBareLeaves};
 ghost use Rattle.dfdl_rows.specs.Answers.{asked, AreRowsOf, IsFaultOf, EndsWith};
 
@@ -33,6 +33,7 @@ pub fn rows_of(
     ensures root { IfOk result (λ made. EndsWith (component_at components.now.components root) made.items) }
     ensures named { (named : Named) → All (HasPrimitive (length named.primitives)) components.now.components
         → All (HasDelimiters (length named.delimiters)) components.now.components
+        → All (HasTests (length named.tests)) components.now.components
         → IfOk result (λ made. All (NamesWithin named) made.items) }
     ensures leaves { IfOk result (λ made. HaveLeaves components.now.components made.items) }
     ensures bare { All IsBareComponent components.now.components
@@ -71,6 +72,7 @@ pub fn terms_of(
     requires few { most_rows ≤ table_rows }
     requires primitives { All (HasPrimitive (length tables.primitives)) components.now.components }
     requires delimiters { All (HasDelimiters (length tables.delimiters)) components.now.components }
+    requires tests { All (HasTests (length tables.tests)) components.now.components }
     requires bounded { All IsPrimitive tables.primitives }
     ensures rows { IfOk result (λ made. AreRowsOf (asked components.now root most_depth most_rows) made.rows) }
     ensures tables { IfOk result (λ made. named_by made ≡ tables) }

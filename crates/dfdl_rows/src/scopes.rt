@@ -1,7 +1,9 @@
 // The row around a content inside of which a text of a list ends a content: of a terminator or of separators.
 ghost use Rattle.std.specs.Prelude.{◌≡◌, ◌<◌, ◌≤◌, ◌+◌, ◌^◌, ◌++◌, length, IfOk, OnOk};
 ghost use Rattle.dfdl_rows.specs.Scopes as spec;
+ghost use Rattle.dfdl_rows.specs.Slots as slots;
 
+use crate::component::Separated;
 use dfdl_terms::{Delimiter, Row, RowId};
 use std::alloc::AllocError;
 
@@ -23,6 +25,16 @@ pub(crate) fn scanned_list(is_scanned: bool, terminator: Option<Delimiter>) -> O
         list_of(terminator)
     } else {
         None
+    }
+}
+
+/// The number of the list of a sequence's separators, where it has some.
+pub(crate) fn separator_list(separated: Option<Separated>) -> Option<u32>
+    ensures { result ≡ slots.separator_list separated }
+{
+    match separated {
+        Some(own) => Some(own.list),
+        None => None,
     }
 }
 

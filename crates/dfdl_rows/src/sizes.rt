@@ -6,14 +6,15 @@ ghost use Rattle.dfdl_rows.specs.Saturated.{saturated};
 use crate::boxes::box_size;
 use crate::component::Separated;
 use crate::framing::framing_size;
-use crate::scopes::{list_of, scanned_list, scope_size};
-use crate::slots::{separator_list, slots_size};
+use crate::scopes::{list_of, scanned_list, scope_size, separator_list};
+use crate::slot_sizes::slots_size;
+use crate::times::Times;
 use crate::{Component, Components};
-use dfdl_terms::{Framing, Occurs};
+use dfdl_terms::Framing;
 use std::alloc::{AllocError, Global};
 
 // The rows of a sequence or choice that are not its parts', which occur so often, as far as 64 bits count.
-fn group_size(framing: Framing, separated: Option<Separated>, slots: &[Occurs]) -> u64
+fn group_size(framing: Framing, separated: Option<Separated>, slots: &[Times]) -> u64
     ensures { result ≡ saturated (sizes.group_size framing separated slots.now) }
 {
     let separators = separator_list(separated);
@@ -24,12 +25,16 @@ fn group_size(framing: Framing, separated: Option<Separated>, slots: &[Occurs]) 
 
 // The rows of a component that are not its parts', which occur so often, as far as 64 bits count: those of separators, of scopes,
 // of a box and of what frames its content among them, and those that repeat and try its parts.
-fn own_size(component: &Component, slots: &[Occurs]) -> u64
+fn own_size(component: &Component, slots: &[Times]) -> u64
     ensures { result ≡ saturated (sizes.own_size component.now slots.now) }
 {
     match component {
-        Component::Sequence { framing, separated } => group_size(*framing, *separated, slots),
-        Component::Choice { framing } => group_size(*framing, None, slots),
+        Component::Sequence {
+            framing,
+            separated,
+            ..
+        } => group_size(*framing, *separated, slots),
+        Component::Choice { framing, .. } => group_size(*framing, None, slots),
         Component::ComplexElement {
             framing,
             content_box,
@@ -46,6 +51,7 @@ fn own_size(component: &Component, slots: &[Occurs]) -> u64
             let scope = scope_size(scanned_list(*is_scanned, framing.terminator));
             2 + scope + framing_size(*framing, None)
         }
+        Component::Hidden => 1,
     }
 }
 
@@ -62,7 +68,7 @@ fn total(parts: &[u32], known: &[u64]) -> u64
 }
 
 // The number of a component's rows, where it is known for its parts, as far as 64 bits count.
-fn size_at(component: &Component, slots: &[Occurs], parts: &[u32], known: &[u64]) -> u64
+fn size_at(component: &Component, slots: &[Times], parts: &[u32], known: &[u64]) -> u64
     requires { All (λ p. p < length known.now) parts.now }
     ensures { result ≡ saturated (sizes.own_size component.now slots.now
         + sizes.total (map (λ p. get_or known.now p 0) parts.now)) }

@@ -3,9 +3,12 @@ ghost use Rattle.std.specs.Prelude.{◌≡◌, ◌≤◌, ◌<◌, ◌+◌, ◌-
 ghost use Rattle.dfdl_rows.specs.Saturated.{saturated};
 ghost use Rattle.dfdl_rows.specs.Slots as spec;
 
+use crate::apart::{apart, apart_row, part_at};
 use crate::component::Separated;
+use crate::slot_sizes::{needed, tried_size};
+use crate::times::Times;
 use dfdl_separators::SeparatorPosition;
-use dfdl_terms::{Occurs, Row, RowId, RowList};
+use dfdl_terms::{Row, RowId, RowList};
 use std::alloc::{AllocError, Global};
 
 /// What rows are in the group that they stand in.
@@ -17,41 +20,14 @@ pub(crate) enum Grouping {
     Choice,
 }
 
-// How many required slots parts have together, as far as 64 bits count.
-fn count_slots(slots: &[Occurs]) -> u64
-    ensures { result ≡ saturated (spec.count_slots slots.now) }
-{
-    let mut count = 0u64;
-    for occurs in slots {
-        count = count.saturating_add(u64::from(occurs.least));
-    }
-    count
-}
-
-// Whether parts with so many slots need separators.
-fn need_separators(position: SeparatorPosition, slots: &[Occurs]) -> bool
-    ensures { result ≡ spec.need_separators position (spec.count_slots slots.now) }
-{
-    match position {
-        SeparatorPosition::Prefix | SeparatorPosition::Postfix => count_slots(slots) > 0,
-        SeparatorPosition::Infix => count_slots(slots) > 1,
-    }
-}
-
-// Where the separators of a sequence stand, if it has some and its parts, with so many slots, need one.
-fn needed(separated: Option<Separated>, slots: &[Occurs]) -> Option<SeparatorPosition>
-    ensures { result ≡ spec.needed separated slots.now }
-{
-    match separated {
-        Some(own) => {
-            if need_separators(own.position, slots) {
-                Some(own.position)
-            } else {
-                None
-            }
-        }
-        None => None,
-    }
+/// What a sequence or choice is, without what frames it and its parts.
+#[derive(Clone, Copy)]
+pub(crate) struct Group {
+    pub(crate) kind: Grouping,
+    /// Its separators, if it has some.
+    pub(crate) separated: Option<Separated>,
+    /// Initiators tell what stands in it.
+    pub(crate) initiated: bool,
 }
 
 // Whether a slot begins with a separator, where a slot came before it or none did.
@@ -72,90 +48,6 @@ fn ends(position: SeparatorPosition) -> bool
     match position {
         SeparatorPosition::Prefix | SeparatorPosition::Infix => false,
         SeparatorPosition::Postfix => true,
-    }
-}
-
-// How many rows repeat and try a part.
-fn part_size(way: Option<SeparatorPosition>, occurs: Occurs) -> u64
-    ensures size { result ≡ spec.part_size way occurs }
-    ensures few { result ≤ 3 }
-{
-    if occurs.further > 0 {
-        u64::from(tried_size(occurs.least))
-    } else {
-        required_size(way, occurs.least)
-    }
-}
-
-// How many rows try a part, with so many occurrences that are required.
-fn tried_size(least: u32) -> u32
-    ensures size { result ≡ (if nat_lt 0 least then 3 else 1) }
-    ensures few { result ≤ 3 }
-{
-    if least > 0 { 3 } else { 1 }
-}
-
-// How many rows repeat a part with so many slots.
-fn required_size(way: Option<SeparatorPosition>, slots: u32) -> u64
-    ensures size { result ≡ spec.required_size way slots }
-    ensures few { result ≤ 2 }
-{
-    if slots <= 1 {
-        return 0;
-    }
-    match way {
-        Some(_) => 2,
-        None => 1,
-    }
-}
-
-// How many rows repeat and try the parts, as far as 64 bits count.
-fn parts_size(way: Option<SeparatorPosition>, slots: &[Occurs]) -> u64
-    ensures { result ≡ saturated (spec.parts_size way slots.now) }
-{
-    let mut size = 0u64;
-    for occurs in slots {
-        size = size.saturating_add(part_size(way, *occurs));
-    }
-    size
-}
-
-// How many rows the separators are.
-fn separator_size(way: Option<SeparatorPosition>) -> u64
-    ensures { result ≡ spec.separator_size way }
-{
-    match way {
-        Some(_) => 1,
-        None => 0,
-    }
-}
-
-/// How many rows the separators of a group are and those that repeat and try its parts, which occur so often, as far as 64 bits count.
-pub(crate) fn slots_size(separated: Option<Separated>, slots: &[Occurs]) -> u64
-    ensures { result ≡ saturated (spec.slots_size separated slots.now) }
-{
-    let way = needed(separated, slots);
-    separator_size(way).saturating_add(parts_size(way, slots))
-}
-
-/// The number of the list of a sequence's separators, where it has some.
-pub(crate) fn separator_list(separated: Option<Separated>) -> Option<u32>
-    ensures { result ≡ spec.separator_list separated }
-{
-    match separated {
-        Some(own) => Some(own.list),
-        None => None,
-    }
-}
-
-// The row of the part of a number.
-fn part_at(parts: &[RowId], at: usize) -> RowId
-    ensures { result ≡ get_or parts.now at 0 }
-{
-    if at < parts.len() {
-        parts[at]
-    } else {
-        RowId::new(0)
     }
 }
 
@@ -294,27 +186,29 @@ fn push_repeated(
     Ok(())
 }
 
-// Adds the rows that try a part, from a number on.
+// Adds the rows that try a part, from a number on. Initiators tell what stands there, or don't.
 fn push_tried(
     alloc: Global,
     rows: &mut Vec<Row>,
-    occurs: Occurs,
+    initiated: bool,
+    times: Times,
     part: RowId,
     first: u32,
 ) -> Result<(), AllocError>
     requires { first + 1 < 2 ^ 32 }
-    ensures { OnOk result (rows.new.items ≡ rows.old.items ++ spec.tried_rows occurs part first) }
+    ensures { OnOk result (rows.new.items ≡ rows.old.items ++ spec.tried_rows initiated times part first) }
 {
     let tried = Row::Optional {
-        most: occurs.further,
-        is_item: occurs.is_item,
+        most: times.further,
+        is_item: times.is_item,
+        initiated,
         body: part,
     };
-    if occurs.least == 0 {
+    if times.least == 0 {
         rows.push(tried)?;
         return Ok(());
     }
-    let count = occurs.least;
+    let count = times.least;
     rows.push(Row::Repeat { count, body: part })?;
     rows.push(tried)?;
     let children = pair(alloc, RowId::new(first), RowId::new(first + 1))?;
@@ -353,24 +247,25 @@ fn push_part(
     alloc: Global,
     rows: &mut Vec<Row>,
     children: &mut Vec<RowId>,
+    initiated: bool,
     way: Option<SeparatorPosition>,
     first: u32,
     taken: bool,
-    occurs: Occurs,
+    times: Times,
     part: RowId,
 ) -> Result<(), AllocError>
-    requires { first + length rows.old.items + spec.part_size way occurs < 2 ^ 32 }
+    requires { first + length rows.old.items + spec.part_size way times < 2 ^ 32 }
     ensures rows { OnOk result (rows.new.items
-        ≡ rows.old.items ++ spec.part_rows way first occurs part (first + length rows.old.items)) }
+        ≡ rows.old.items ++ spec.part_rows initiated way first times part (first + length rows.old.items)) }
     ensures children { OnOk result (children.new.items
-        ≡ children.old.items ++ spec.part_children way first taken occurs part (first + length rows.old.items)) }
+        ≡ children.old.items ++ spec.part_children way first taken times part (first + length rows.old.items)) }
 {
-    if occurs.further == 0 {
-        return push_required(alloc, rows, children, way, first, taken, occurs.least, part);
+    if times.further == 0 {
+        return push_required(alloc, rows, children, way, first, taken, times.least, part);
     }
     let number = first + rows.len() as u32;
-    push_tried(alloc, rows, occurs, part, number)?;
-    children.push(RowId::new(number + tried_size(occurs.least) - 1))?;
+    push_tried(alloc, rows, initiated, times, part, number)?;
+    children.push(RowId::new(number + tried_size(times.least) - 1))?;
     Ok(())
 }
 
@@ -402,78 +297,102 @@ struct Laid {
 // What is made of the parts of a group, which occur so often, where the rows of its own begin at a number.
 fn lay(
     alloc: Global,
+    initiated: bool,
     way: Option<SeparatorPosition>,
-    slots: &[Occurs],
+    slots: &[Times],
     parts: &[RowId],
     first: u32,
 ) -> Result<Laid, AllocError>
     requires { first + spec.separator_size way + spec.parts_size way slots.now < 2 ^ 32 }
-    ensures rows { IfOk result (λ made. made.rows.items ≡ (spec.all_laid way slots.now parts.now first).rows) }
-    ensures children { IfOk result (λ made. made.children.items ≡ (spec.all_laid way slots.now parts.now first).children) }
+    ensures rows { IfOk result (λ made. made.rows.items ≡ (spec.all_laid initiated way slots.now parts.now first).rows) }
+    ensures children { IfOk result (λ made. made.children.items ≡ (spec.all_laid initiated way slots.now parts.now first).children) }
 {
     let mut rows = separator_rows(alloc, way)?;
     let mut children = Vec::new(alloc);
     let mut taken = false;
     for at in 0..slots.len() {
         let part = part_at(parts, at);
-        let occurs = slots[at];
+        let times = slots[at];
         push_part(
             alloc,
             &mut rows,
             &mut children,
+            initiated,
             way,
             first,
             taken,
-            occurs,
+            times,
             part,
         )?;
-        taken = is_taken(taken, occurs.least);
+        taken = is_taken(taken, times.least);
     }
     Ok(Laid { rows, children })
 }
 
-// The row of a group of rows.
-fn row_of(kind: Grouping, rows: Vec<RowId>) -> Row
-    ensures { result ≡ spec.row_of kind rows.items }
+// The row of a group of rows. Initiators tell what stands in it, or don't.
+fn row_of(kind: Grouping, initiated: bool, rows: Vec<RowId>) -> Row
+    ensures { result ≡ spec.row_of kind initiated rows.items }
 {
     let list = RowList::new(rows);
     match kind {
         Grouping::Sequence => Row::Group { children: list },
-        Grouping::Choice => Row::Choice { branches: list },
+        Grouping::Choice => Row::Choice {
+            branches: list,
+            initiated,
+        },
     }
 }
 
 // Adds the row of a group.
-fn push_last(rows: &mut Vec<Row>, kind: Grouping, children: Vec<RowId>) -> Result<RowId, AllocError>
+fn push_last(rows: &mut Vec<Row>, row: Row) -> Result<RowId, AllocError>
     requires { length rows.old.items < 2 ^ 32 }
-    ensures rows { OnOk result (rows.new.items ≡ rows.old.items ++ spec.row_of kind children.items ∷ []) }
+    ensures rows { OnOk result (rows.new.items ≡ rows.old.items ++ row ∷ []) }
     ensures number { IfOk result (λ number. number ≡ length rows.old.items) }
 {
     let number = RowId::new(rows.len() as u32);
-    rows.push(row_of(kind, children))?;
+    rows.push(row)?;
     Ok(number)
 }
 
-/// Adds the row of a sequence or choice, where these are the last rows of its parts, which occur so often, with those of its separators
-/// and those that repeat and try parts before it; gives the row of the group.
+// Adds the rows of a group that isn't one row of slots.
+fn push_laid(
+    alloc: Global,
+    rows: &mut Vec<Row>,
+    group: Group,
+    slots: &[Times],
+    parts: &[RowId],
+) -> Result<RowId, AllocError>
+    requires { length rows.old.items + spec.laid_size group.separated slots.now + 1 < 2 ^ 32 }
+    ensures rows { OnOk result (rows.new.items ≡ rows.old.items
+        ++ spec.grouped_by None group.kind group.initiated group.separated slots.now parts.now (length rows.old.items)) }
+    ensures number { IfOk result (λ number. number ≡ length rows.old.items + spec.laid_size group.separated slots.now) }
+{
+    let first = rows.len() as u32;
+    let way = needed(group.separated, slots);
+    let laid = lay(alloc, group.initiated, way, slots, parts, first)?;
+    let mut own = laid.rows;
+    rows.append(&mut own)?;
+    push_last(rows, row_of(group.kind, group.initiated, laid.children))
+}
+
+/// Adds the rows of the group of a sequence or choice, where these are the last rows of its parts, which occur so often; gives its own row.
 pub(crate) fn push_group(
     alloc: Global,
     rows: &mut Vec<Row>,
-    kind: Grouping,
-    separated: Option<Separated>,
-    slots: &[Occurs],
+    group: Group,
+    slots: &[Times],
     parts: &[RowId],
 ) -> Result<RowId, AllocError>
-    requires { length rows.old.items + spec.slots_size separated slots.now + 1 < 2 ^ 32 }
+    requires { length rows.old.items + spec.slots_size group.separated slots.now + 1 < 2 ^ 32 }
     ensures rows { OnOk result (rows.new.items ≡ rows.old.items
-        ++ ((spec.laid_of separated slots.now parts.now (length rows.old.items)).rows
-        ++ spec.row_of kind (spec.laid_of separated slots.now parts.now (length rows.old.items)).children ∷ [])) }
-    ensures number { IfOk result (λ number. number ≡ length rows.old.items + spec.slots_size separated slots.now) }
+        ++ spec.grouped group.kind group.initiated group.separated slots.now parts.now (length rows.old.items)) }
+    ensures number { IfOk result (λ number. number ≡ length rows.old.items + spec.slots_size group.separated slots.now) }
 {
-    let first = rows.len() as u32;
-    let way = needed(separated, slots);
-    let laid = lay(alloc, way, slots, parts, first)?;
-    let mut own = laid.rows;
-    rows.append(&mut own)?;
-    push_last(rows, kind, laid.children)
+    match apart(group.separated, slots) {
+        Some(own) => {
+            let row = apart_row(alloc, group.initiated, slots, parts, own)?;
+            push_last(rows, row)
+        }
+        None => push_laid(alloc, rows, group, slots, parts),
+    }
 }

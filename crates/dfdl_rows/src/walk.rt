@@ -13,11 +13,12 @@ ghost use Rattle.dfdl_rows.specs.declared.walk.Task.TheVariants.{Enter, Close};
 
 use crate::boxes::push_boxed;
 use crate::framing::push_framed;
-use crate::scopes::{list_of, push_scoped, scanned_list};
-use crate::slots::{Grouping, push_group, separator_list};
-use crate::{Component, Components, Separated};
+use crate::scopes::{list_of, push_scoped, scanned_list, separator_list};
+use crate::slots::{Group, Grouping, push_group};
+use crate::times::Times;
+use crate::{Component, Components};
 use dfdl_forms::Simple;
-use dfdl_terms::{Framing, Occurs, Prefix, Representations, Row, RowId};
+use dfdl_terms::{Framing, Prefix, Representations, Row, RowId};
 use dfdl_value::TextValue;
 use std::alloc::{AllocError, Global};
 use std::collections::VecDeque;
@@ -168,7 +169,7 @@ fn push_own(
     alloc: Global,
     rows: &mut Vec<Row>,
     component: &Component,
-    slots: &[Occurs],
+    slots: &[Times],
     parts: &[RowId],
 ) -> Result<(), AllocError>
     requires { length rows.old.items + own_size component.now slots.now < 2 ^ 32 }
@@ -176,12 +177,25 @@ fn push_own(
         ≡ rows.old.items ++ lists.own_rows component.now slots.now parts.now (length rows.old.items)) }
 {
     match component {
-        Component::Sequence { framing, separated } => {
-            let kind = Grouping::Sequence;
-            push_grouped(alloc, rows, kind, *framing, *separated, slots, parts)
+        Component::Sequence {
+            framing,
+            separated,
+            initiated,
+        } => {
+            let group = Group {
+                kind: Grouping::Sequence,
+                separated: *separated,
+                initiated: *initiated,
+            };
+            push_grouped(alloc, rows, group, *framing, slots, parts)
         }
-        Component::Choice { framing } => {
-            push_grouped(alloc, rows, Grouping::Choice, *framing, None, slots, parts)
+        Component::Choice { framing, initiated } => {
+            let group = Group {
+                kind: Grouping::Choice,
+                separated: None,
+                initiated: *initiated,
+            };
+            push_grouped(alloc, rows, group, *framing, slots, parts)
         }
         Component::ComplexElement {
             name,
@@ -211,6 +225,11 @@ fn push_own(
             let body = push_framed(alloc, rows, *framing, None, scoped)?;
             push_element(alloc, rows, name, Some(*simple), *tried, body)
         }
+        Component::Hidden => {
+            let body = first_of(parts);
+            rows.push(Row::Hidden { body })?;
+            Ok(())
+        }
     }
 }
 
@@ -218,18 +237,19 @@ fn push_own(
 fn push_grouped(
     alloc: Global,
     rows: &mut Vec<Row>,
-    kind: Grouping,
+    group: Group,
     framing: Framing,
-    separated: Option<Separated>,
-    slots: &[Occurs],
+    slots: &[Times],
     parts: &[RowId],
 ) -> Result<(), AllocError>
-    requires { length rows.old.items + group_size framing separated slots.now < 2 ^ 32 }
+    requires { length rows.old.items + group_size framing group.separated slots.now < 2 ^ 32 }
     ensures { OnOk result (rows.new.items
-        ≡ rows.old.items ++ lists.group_rows kind framing separated slots.now parts.now (length rows.old.items)) }
+        ≡ rows.old.items ++ lists.group_rows group.kind framing group.separated group.initiated slots.now parts.now
+        (length rows.old.items)) }
 {
-    let content = push_group(alloc, rows, kind, separated, slots, parts)?;
-    push_around(alloc, rows, framing, separator_list(separated), content)
+    let content = push_group(alloc, rows, group, slots, parts)?;
+    let separators = separator_list(group.separated);
+    push_around(alloc, rows, framing, separators, content)
 }
 
 // Adds the rows around the row of the group of a sequence or choice: the scopes of its separators and of its terminator, and what frames it.

@@ -71,7 +71,7 @@ memory_excused words refused told _ (meant order documents table bytes orders th
 of_data : (answer : Answer) → IsTrue (is_of_data (status_of (Ok answer)))
 of_data (Done line) = refl
 of_data (LeftOver line bit) = refl
-of_data (Failed cause bit path) = refl
+of_data (Failed cause bit path message) = refl
 of_data (Unparsed pieces) = refl
 of_data (NotUnparsed pieces cause path) = refl
 of_data (NoInfoset cause path) = refl
@@ -113,7 +113,7 @@ nothing_written (Ok (LeftOver line bit)) _ _ not_over = absurd (not_over refl)
 nothing_written (Ok (Unparsed pieces)) not_done _ _ = absurd (not_done refl)
 nothing_written (Ok (NotUnparsed pieces cause path)) _ not_failed _ = absurd (not_failed refl)
 nothing_written (Ok (NoInfoset cause path)) _ _ _ = refl
-nothing_written (Ok (Failed cause bit path)) _ _ _ = refl
+nothing_written (Ok (Failed cause bit path message)) _ _ _ = refl
 nothing_written (Err stop) _ _ _ = refl
 
 unwritten_stop : (stop : Stop) → Writes (Err stop) → ⊥
@@ -145,7 +145,7 @@ stop_early OutOfMemory of = cc
 answer_late : (answer : Answer) → IsTrue (is_before_data (status_of (Ok answer))) → ⊥
 answer_late (Done line) early = cc
 answer_late (LeftOver line bit) early = cc
-answer_late (Failed cause bit path) early = cc
+answer_late (Failed cause bit path message) early = cc
 answer_late (Unparsed pieces) early = cc
 answer_late (NotUnparsed pieces cause path) early = cc
 answer_late (NoInfoset cause path) early = cc

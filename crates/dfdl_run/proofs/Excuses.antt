@@ -7,7 +7,8 @@ use Rattle.dfdl_grammar.specs.declared.end.End.{End as DocumentEnd}
 use Rattle.dfdl_grammar.specs.declared.end.End.TheVariants.{Done as IsDone, Failed as Fails, Stopped}
 use Rattle.dfdl_grammar.specs.States.{State}
 use Rattle.dfdl_grammar.specs.Documents.{document}
-use Rattle.dfdl_run.proofs.Stops.{StopsByData, document-stops}
+use Rattle.dfdl_run.proofs.Stopping.{StopsByData}
+use Rattle.dfdl_run.proofs.Stops.{document-stops}
 use Rattle.dfdl_run.specs.declared.command.Verb.{Verb}
 use Rattle.dfdl_run.specs.declared.command.Verb.TheVariants.{Parse, Unparse}
 use Rattle.dfdl_run.specs.declared.stop.Stop.TheVariants.{Limit}

@@ -7,6 +7,9 @@ pub mod Parses
 pub mod PieceLemmas
 pub mod Rankings
 pub mod Rests
+pub mod SlottedStops
+pub mod SoughtStops
+pub mod Stopping
 pub mod Stops
 pub mod Tables
 pub mod Words

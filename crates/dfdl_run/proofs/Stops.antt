@@ -1,15 +1,10 @@
 -- A document stops by a limit on data alone.
-use Rattle.std.proofs.Common.{ℕ, zero, suc, ◌+◌, ◌-◌, ◌*◌, ◌/◌, nat_eq, nat_le, nat_lt, ◌&&◌, true, false, Bool, if◌then◌else◌, List, [], ◌∷◌, ◌++◌, length, Option, None, Some, slice_get, replicate}
-use Rattle.dfdl_report.specs.declared.cause.LimitCause.{LimitCause}
-use Rattle.dfdl_report.specs.declared.cause.LimitCause.TheVariants.{Window, Nodes, Text}
-use Rattle.dfdl_report.specs.declared.cause.ParseCause.{ParseCause}
-use Rattle.dfdl_report.specs.declared.cause.ParseCause.TheVariants.{LengthOutOfRange, InitiatorMissing, SeparatorMissing, TerminatorMissing}
+use Rattle.std.proofs.Common.{ℕ, zero, suc, ◌+◌, ◌-◌, ◌*◌, ◌/◌, nat_eq, nat_le, nat_lt, true, false, Bool, if◌then◌else◌, List, [], ◌∷◌, ◌++◌, length, Option, None, Some, slice_get, replicate}
+use Rattle.dfdl_report.specs.declared.cause.LimitCause.TheVariants.{Nodes, Text}
+use Rattle.dfdl_report.specs.declared.cause.ParseCause.TheVariants.{LengthOutOfRange}
 use Rattle.dfdl_looks.specs.Asks.{Reached, Told, TooFar, Missing, ask}
 use Rattle.dfdl_looks.specs.Looks.{seen_in}
 use Rattle.dfdl_looks.specs.Tallies.{needs_from, nothing}
-use Rattle.dfdl_delims.specs.Lists.{Opened}
-use Rattle.dfdl_delims.specs.Longest.{Longest, Text as FoundText, NoText}
-use Rattle.dfdl_terms.specs.declared.delimiters.Delimiter.{Delimiter}
 use Rattle.dfdl_terms.specs.declared.delimiters.Delimiters.{Delimiters}
 use Rattle.dfdl_terms.specs.Rows.{Table}
 use Rattle.dfdl_value.specs.declared.value.Value.{Value}
@@ -17,7 +12,7 @@ use Rattle.dfdl_terms.specs.declared.row.Primitive.{Primitive}
 use Rattle.dfdl_terms.specs.declared.representations.Representations.{Representations}
 use Rattle.dfdl_terms.specs.declared.row.Row.{Row}
 use Rattle.dfdl_terms.specs.declared.text.TextSize.{TextSize}
-use Rattle.dfdl_terms.specs.declared.row.Row.TheVariants.{Leaf, Elem, Group, Skip, Align, Initiator, Terminator, Separator, Scope, Boxed, PrefixedLeaf, PrefixedBox, Repeat, Optional, Choice as ChoiceRow}
+use Rattle.dfdl_terms.specs.declared.row.Row.TheVariants.{Leaf, Elem, Group, Skip, Align, Initiator, Terminator, Separator, Scope, Boxed, PrefixedLeaf, PrefixedBox, Repeat, Optional, Choice as ChoiceRow, Test, Hidden, Separated}
 use Rattle.dfdl_region.specs.declared.node.Content.{Content}
 use Rattle.dfdl_region.specs.declared.node.Content.TheVariants as content
 use Rattle.dfdl_region.specs.Nodes.{with_content}
@@ -31,29 +26,20 @@ use Rattle.dfdl_grammar.specs.States.{Input, State, anchor, anchor_at}
 use Rattle.dfdl_grammar.specs.Outcomes.{Outcome, ended, follow, spend, then_do}
 use Rattle.dfdl_grammar.specs.Leaves.{Find, Fails, Finds, FindsOctets, FindsText, content_begins, has_room, land, leaf, nil_values, program, program_for, read_by}
 use Rattle.dfdl_grammar.specs.Framing.{aligned, fill_to, has_byte, pass_to, passed}
-use Rattle.dfdl_grammar.specs.Delimiters.{initiator, lists_of, markup, numbers_of, opens, passed_text, scoped, seek, separator, sought_among, stands_in, terminator, unscoped}
+use Rattle.dfdl_grammar.specs.Delimiters.{lists_of, markup, opens, scoped, unscoped}
 use Rattle.dfdl_grammar.specs.Boxes.{boxed_at, bytes_up_to, pass_bytes, past_byte, rest as rest_of, unboxed}
 use Rattle.dfdl_grammar.specs.Elements.{attempted, begun, close, has_elements}
-use Rattle.dfdl_grammar.specs.Marks.{back, closed, marked, pointed, stays_at}
-use Rattle.dfdl_grammar.specs.Choices.{branches, choice}
+use Rattle.dfdl_grammar.specs.Marks.{back, closed, is_settled, marked, pointed, stays_at}
+use Rattle.dfdl_grammar.specs.Choices.{branches, choice, or_branch}
 use Rattle.dfdl_grammar.specs.Occurrences.{after_occurrence, dropped, occurrences}
+use Rattle.dfdl_grammar.specs.Slots.{Sequence}
 use Rattle.dfdl_grammar.specs.Representations.{Attempt, after_empty, or_else, refuse, refused_among, represented, the_last, then_empty, then_nil, then_normal}
 use Rattle.dfdl_grammar.specs.Prefixes.{behind_prefix, bits_of_units, land_prefix, leaf_of, prefixed, resized, size_of, sized_leaf, units_told}
 use Rattle.dfdl_grammar.specs.Rows.{below, group, meaning, row, row_at}
 use Rattle.dfdl_grammar.specs.Documents.{document}
-
--- a limit on data
-abbrev pub IsOfData : LimitCause → Type 0
-IsOfData Window = Unit {0}
-IsOfData Nodes = Unit {0}
-IsOfData Text = Unit {0}
-IsOfData _ = ⊥
-
--- where work is stopped, it is by a limit on data
-abbrev pub StopsByData : End → Type 0
-StopsByData Done = Unit {0}
-StopsByData (Failed cause bit) = Unit {0}
-StopsByData (Stopped cause quantity) = IsOfData cause
+use Rattle.dfdl_run.proofs.Stopping.{StopsByData}
+use Rattle.dfdl_run.proofs.SlottedStops.{separated-stops}
+use Rattle.dfdl_run.proofs.SoughtStops.{initiator-stops, separator-stops, terminator-stops, test-stops}
 
 hold-stops : (most : ℕ) (made : ℕ → ℕ → Content) (bytes : List ℕ) (end : ℕ) (s : State) (room : Bool)
     → StopsByData (let whole : Outcome = (if room then ended Done (record s {
@@ -203,14 +189,26 @@ represented-stops tried attempt each s = elim tried.are_several as (λ (b : Bool
       | false ↦ each Nothing s
     ]
 
+-- behind a branch that fails
+settled-stops : (o : Outcome) (next : State → Outcome) → StopsByData o.end → ((s : State) → StopsByData (next s).end) → (settled : Bool)
+    → StopsByData (let whole : Outcome = (if settled then record o { state = closed o.state } else spend o.tally (next (back o.state))) in whole.end)
+settled-stops o next own after true = own
+settled-stops o next own after false = after (back o.state)
+
+branch-stops : (end : End) (o : Outcome) (next : State → Outcome) → StopsByData o.end → ((s : State) → StopsByData (next s).end)
+    → StopsByData (or_branch end o next).end
+branch-stops Done o next own after = own
+branch-stops (Failed cause bit) o next own after = settled-stops o next own after (is_settled o.state.marks)
+branch-stops (Stopped cause quantity) o next own after = own
+
 branches-stop : (child : ℕ → State → Outcome) → ((id : ℕ) (s : State) → StopsByData (child id s).end) → (ids : List ℕ) (s : State)
     → StopsByData (branches child ids s).end
 branches-stop child each [] s = tt
-branches-stop child each (id ∷ ids) s = else-stops (child id s).end (child id s) (branches child ids) (each id s) (branches-stop child each ids)
+branches-stop child each (id ∷ ids) s = branch-stops (child id s).end (child id s) (branches child ids) (each id s) (branches-stop child each ids)
 
-choice-stops : (child : ℕ → State → Outcome) → ((id : ℕ) (s : State) → StopsByData (child id s).end) → (ids : List ℕ) (s : State)
-    → StopsByData (choice child ids s).end
-choice-stops child each ids s = branches-stop child each ids (pointed s)
+choice-stops : (child : ℕ → State → Outcome) → ((id : ℕ) (s : State) → StopsByData (child id s).end) → (initiated : Bool) (ids : List ℕ) (s : State)
+    → StopsByData (choice child initiated ids s).end
+choice-stops child each initiated ids s = branches-stop child each ids (pointed initiated s)
 
 -- behind a time that is done
 done-stops : (o : Outcome) (next : State → Outcome) → StopsByData o.end → ((s : State) → StopsByData (next s).end) → (stays : Bool)
@@ -218,53 +216,26 @@ done-stops : (o : Outcome) (next : State → Outcome) → StopsByData o.end → 
 done-stops o next own after true = own
 done-stops o next own after false = after (closed o.state)
 
+-- behind one that fails
+dropped-stops : (o : Outcome) → StopsByData o.end → (settled : Bool)
+    → StopsByData (let whole : Outcome = (if settled then record o { state = closed o.state }
+    else record o { end = Done; state = dropped o.state }) in whole.end)
+dropped-stops o own true = own
+dropped-stops o own false = tt
+
 occurrence-stops : (end : End) (o : Outcome) (next : State → Outcome) → StopsByData o.end → ((s : State) → StopsByData (next s).end)
     → StopsByData (after_occurrence end o next).end
 occurrence-stops Done o next own after = done-stops o next own after (stays_at o.state.marks o.state.at)
-occurrence-stops (Failed cause bit) o next own after = tt
+occurrence-stops (Failed cause bit) o next own after = dropped-stops o own (is_settled o.state.marks)
 occurrence-stops (Stopped cause quantity) o next own after = own
 
-occurrences-stop : (body : State → Outcome) → ((s : State) → StopsByData (body s).end) → (most : ℕ) (s : State) → StopsByData (occurrences body most s).end
+occurrences-stop : (body : State → Outcome) → ((s : State) → StopsByData (body s).end) → (initiated : Bool) (most : ℕ) (s : State)
+    → StopsByData (occurrences body initiated most s).end
 unfolding occurrences
-occurrences-stop body each zero s = tt
-occurrences-stop body each (suc most) s =
-    let o : Outcome = body (pointed s) in
-    occurrence-stops o.end o (occurrences body most) (each (pointed s)) (occurrences-stop body each most)
-
-text-stops : (cause : ParseCause) (window bits : ℕ) (s : State) (is : Bool)
-    → StopsByData (let whole : Outcome = (if is then ended Done (record s { at = aligned 8 s.at + bits }) else ended (Failed cause s.at) s) in whole.end)
-text-stops cause window bits s true = tt
-text-stops cause window bits s false = tt
-
-search-stops : (cause : ParseCause) (place window : ℕ) (reached : Reached Longest) (s : State) → StopsByData (passed_text cause place window reached s).end
-search-stops cause place window (Told (FoundText which bits)) s = text-stops cause window bits s (nat_eq which place && nat_lt 0 bits)
-search-stops cause place window (Told NoText) s = tt
-search-stops cause place window TooFar s = tt
-search-stops cause place window Missing s = tt
-
-seek-stops : (input : Input) (cause : ParseCause) (lists : List Opened) (place : ℕ) (s : State) → StopsByData (seek input cause lists place s).end
-seek-stops input cause lists place s =
-    search-stops cause place input.limits.window
-    (ask (seen_in input.bytes input.limits.window (anchor_at s (aligned 8 s.at))) (sought_among lists s.at s.stop) nothing).reached s
-
-standing-stops : (input : Input) (cause : ParseCause) (lists : List Opened) (place : ℕ) (s : State) (stands : Bool)
-    → StopsByData (let whole : Outcome = (if stands then seek input cause lists place s else ended Done s) in whole.end)
-standing-stops input cause lists place s true = seek-stops input cause lists place s
-standing-stops input cause lists place s false = tt
-
-initiator-stops : (input : Input) (delimiters : List Delimiters) (delimiter : Delimiter) (s : State)
-    → StopsByData (initiator input delimiters delimiter s).end
-initiator-stops input delimiters delimiter s =
-    standing-stops input InitiatorMissing (lists_of delimiters (delimiter.list ∷ [])) 0 s (stands_in s.instead delimiter)
-
-terminator-stops : (input : Input) (delimiters : List Delimiters) (delimiter : Delimiter) (separators : Option ℕ) (s : State)
-    → StopsByData (terminator input delimiters delimiter separators s).end
-terminator-stops input delimiters delimiter separators s =
-    standing-stops input TerminatorMissing (lists_of delimiters (markup s ++ delimiter.list ∷ numbers_of separators)) (length (markup s)) s
-    (stands_in s.instead delimiter)
-
-separator-stops : (input : Input) (delimiters : List Delimiters) (s : State) → StopsByData (separator input delimiters s).end
-separator-stops input delimiters s = seek-stops input SeparatorMissing (lists_of delimiters (markup s)) (length (markup s) - 1) s
+occurrences-stop body each initiated zero s = tt
+occurrences-stop body each initiated (suc most) s =
+    let o : Outcome = body (pointed initiated s) in
+    occurrence-stops o.end o (occurrences body initiated most) (each (pointed initiated s)) (occurrences-stop body each initiated most)
 
 unscoped-stops : (end : End) (count : ℕ) (o : Outcome) → StopsByData o.end → StopsByData (unscoped end count o).end
 unscoped-stops Done count o own = own
@@ -339,8 +310,14 @@ row-stops input table child each id (Some (Elem name simple tried body)) s =
     represented-stops tried (attempted input id (has_elements simple) (child body)) (attempted-stops input id (has_elements simple) (child body) (each body)) s
 row-stops input table child each id (Some (Group children)) s = group-stops child each children s
 row-stops input table child each id (Some (Repeat count body)) s = group-stops child each (replicate count body) s
-row-stops input table child each id (Some (Optional most item body)) s = occurrences-stop (child body) (each body) most s
-row-stops input table child each id (Some (ChoiceRow ids)) s = choice-stops child each ids s
+row-stops input table child each id (Some (Optional most item initiated body)) s = occurrences-stop (child body) (each body) initiated most s
+row-stops input table child each id (Some (ChoiceRow ids initiated)) s = choice-stops child each initiated ids s
+row-stops input table child each id (Some (Test number)) s = test-stops input table.tests number s
+row-stops input table child each id (Some (Hidden body)) s = each body s
+row-stops input table child each id (Some (Separated policy position initiated slots)) s =
+    let sequence : Sequence =
+    record { input = input; delimiters = table.delimiters; child = child; position = position; initiated = initiated } in
+    separated-stops sequence each (separator-stops input table.delimiters) policy slots s
 row-stops input table child each id (Some (Skip bits)) s = pass-stops input (s.at + bits) s
 row-stops input table child each id (Some (Align bits)) s = pass-stops input (aligned bits s.at) s
 row-stops input table child each id (Some (Initiator delimiter)) s = initiator-stops input table.delimiters delimiter s

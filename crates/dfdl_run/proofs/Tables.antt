@@ -9,7 +9,7 @@ use Rattle.dfdl_terms.specs.Rows.{Table}
 use Rattle.dfdl_terms.specs.declared.row.Primitive.{Primitive}
 use Rattle.dfdl_terms.specs.declared.row.Primitive.TheVariants.{Integer, Packed, Truth, Octets, Text, NilOctets, Default, NilValues, Pattern}
 use Rattle.dfdl_terms.specs.declared.row.Row.{Row}
-use Rattle.dfdl_terms.specs.declared.row.Row.TheVariants.{Leaf, Elem, Group, Skip, Align, Initiator, Terminator, Separator, Scope, Boxed, PrefixedLeaf, PrefixedBox, Repeat, Optional, Choice}
+use Rattle.dfdl_terms.specs.declared.row.Row.TheVariants.{Leaf, Elem, Group, Skip, Align, Initiator, Terminator, Separator, Scope, Boxed, PrefixedLeaf, PrefixedBox, Repeat, Optional, Choice, Test, Hidden, Separated}
 use Rattle.dfdl_checks.specs.Forms.{IsWhole, IsWholeUnsigned}
 use Rattle.dfdl_compile.specs.Primitives.{HasBareTypedLeaves, IsLeafOfType, IsOfType}
 use Rattle.dfdl_pieces.specs.Laying.{form_in, integer_form}
@@ -74,8 +74,11 @@ whole_row t wholes simple (Some (Boxed bits body)) leaf = absurd leaf
 whole_row t wholes simple (Some (PrefixedLeaf prefix prim)) leaf = absurd leaf
 whole_row t wholes simple (Some (PrefixedBox prefix body)) leaf = absurd leaf
 whole_row t wholes simple (Some (Repeat count body)) leaf = absurd leaf
-whole_row t wholes simple (Some (Optional most item body)) leaf = absurd leaf
-whole_row t wholes simple (Some (Choice branches)) leaf = absurd leaf
+whole_row t wholes simple (Some (Optional most item initiated body)) leaf = absurd leaf
+whole_row t wholes simple (Some (Choice branches initiated)) leaf = absurd leaf
+whole_row t wholes simple (Some (Test test)) leaf = absurd leaf
+whole_row t wholes simple (Some (Hidden body)) leaf = absurd leaf
+whole_row t wholes simple (Some (Separated policy position initiated slots)) leaf = absurd leaf
 whole_row t wholes simple None leaf = absurd leaf
 
 -- rows whose simple elements have leaves of their types, which are all whole

@@ -1,11 +1,12 @@
 -- How a run can end, with its exit status, what it writes to `out`, and its line on the notes.
-use Rattle.std.specs.Prelude.{ℕ, List, [], Bool, true, false, Result, Ok, Err}
+use Rattle.std.specs.Prelude.{ℕ, List, [], Bool, true, false, Option, Some, None, Result, Ok, Err}
+use Rattle.dfdl_report.specs.declared.cause.ParseCause.{ParseCause}
 use Rattle.dfdl_report.specs.declared.status.Status.{Status}
 use Rattle.dfdl_report.specs.declared.status.Status.TheVariants as status
 use Rattle.dfdl_report.specs.Statuses.{status_number}
 use Rattle.dfdl_report.specs.Lines.{document_line, files_line, infoset_line, left_over_line, limit_line}
 use Rattle.dfdl_report.specs.Lines.{memory_line}
-use Rattle.dfdl_report.specs.Lines.{parse_line, schema_line, source_line, unparse_line, usage_line}
+use Rattle.dfdl_report.specs.Lines.{parse_line, schema_line, source_line, test_line, unparse_line, usage_line}
 use Rattle.dfdl_pieces.specs.Pieces.{joined}
 use Rattle.dfdl_run.specs.declared.answer.Answer.{Answer}
 use Rattle.dfdl_run.specs.declared.answer.Answer.TheVariants.{Done, LeftOver, Failed, Unparsed}
@@ -23,7 +24,7 @@ End = Result Answer Stop
 abbrev pub answer_status : Answer → Status
 answer_status (Done line) = status.Done
 answer_status (LeftOver line bit) = status.LeftOver
-answer_status (Failed cause bit path) = status.ProcessingError
+answer_status (Failed cause bit path message) = status.ProcessingError
 answer_status (Unparsed pieces) = status.Done
 answer_status (NotUnparsed pieces cause path) = status.UnparseError
 answer_status (NoInfoset cause path) = status.InfosetRefused
@@ -47,7 +48,7 @@ status_of (Err stop) = status_number (stop_status stop)
 abbrev pub answer_bytes : Answer → List ℕ
 answer_bytes (Done line) = line
 answer_bytes (LeftOver line bit) = line
-answer_bytes (Failed cause bit path) = []
+answer_bytes (Failed cause bit path message) = []
 answer_bytes (Unparsed pieces) = joined pieces
 answer_bytes (NotUnparsed pieces cause path) = joined pieces
 answer_bytes (NoInfoset cause path) = []
@@ -61,16 +62,21 @@ written_of (Err stop) = []
 abbrev pub is_written : Answer → Bool
 is_written (Done line) = true
 is_written (LeftOver line bit) = true
-is_written (Failed cause bit path) = false
+is_written (Failed cause bit path message) = false
 is_written (Unparsed pieces) = true
 is_written (NotUnparsed pieces cause path) = true
 is_written (NoInfoset cause path) = false
+
+-- the line that tells a processing error, with what the schema says of it
+abbrev pub failed_note : ParseCause → ℕ → List ℕ → Option (List ℕ) → List ℕ
+failed_note cause bit path None = parse_line cause bit path
+failed_note cause bit path (Some message) = test_line cause bit path message
 
 -- the line that tells an answer
 abbrev pub answer_note : Answer → List ℕ
 answer_note (Done line) = []
 answer_note (LeftOver line bit) = left_over_line bit
-answer_note (Failed cause bit path) = parse_line cause bit path
+answer_note (Failed cause bit path message) = failed_note cause bit path message
 answer_note (Unparsed pieces) = []
 answer_note (NotUnparsed pieces cause path) = unparse_line cause path
 answer_note (NoInfoset cause path) = infoset_line cause path

@@ -5,6 +5,7 @@ pub mod Decided
 pub mod Expects
 pub mod Fed
 pub mod Finished
+pub mod Said
 pub mod Meaning
 pub mod Outside
 pub mod Parsed

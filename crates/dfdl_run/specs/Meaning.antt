@@ -23,6 +23,7 @@ use Rattle.dfdl_run.specs.declared.stop.Stop.TheVariants.{Limit}
 use Rattle.dfdl_run.specs.declared.command.Verb.{Verb}
 use Rattle.dfdl_run.specs.declared.command.Verb.TheVariants.{Parse, Unparse}
 use Rattle.dfdl_run.specs.Answer.{End}
+use Rattle.dfdl_run.specs.Said.{said_of}
 
 -- the most bytes that are held of the data, the most elements of a document, and the most bytes of its strings and hexBinary values
 abbrev pub limits : Limits
@@ -36,7 +37,7 @@ answer_at t bits s =
 -- what the end of a document comes to, of so many bits of data
 abbrev pub document_end : Table → ℕ → DocumentEnd → State → End
 document_end t bits IsDone s = Ok (answer_at t bits s)
-document_end t bits (Fails cause at) s = Ok (Failed cause at (path_of t s.nodes s.inside))
+document_end t bits (Fails cause at) s = Ok (Failed cause at (path_of t s.nodes s.inside) (said_of t cause))
 document_end t bits (Stopped cause quantity) s = Err (Limit cause quantity)
 
 -- what an outcome comes to, of so many bits of data

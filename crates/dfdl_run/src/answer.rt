@@ -1,5 +1,5 @@
 ghost use Rattle.std.specs.Prelude.{◌≡◌, IfOk, string_bytes};
-ghost use Rattle.dfdl_run.specs.Answer.{answer_note, answer_status, is_written};
+ghost use Rattle.dfdl_run.specs.Answer.{answer_note, answer_status, failed_note, is_written};
 
 use dfdl_pieces::PieceList;
 use dfdl_report::{InfosetCause, ParseCause, Status, UnparseCause, line};
@@ -23,6 +23,8 @@ pub enum Answer {
         cause: ParseCause,
         bit: u64,
         path: TextValue,
+        /// What the schema says of it, where it is a test that fails.
+        message: Option<TextValue>,
     },
     /// The data of an infoset, in the pieces that are written.
     Unparsed {
@@ -62,13 +64,32 @@ impl Answer {
         match self {
             Answer::Done { .. } | Answer::Unparsed { .. } => Ok(String::new(alloc)),
             Answer::LeftOver { bit, .. } => line::of_left_over(alloc, *bit),
-            Answer::Failed { cause, bit, path } => {
-                line::of_parse(alloc, *cause, *bit, path.as_str())
-            }
+            Answer::Failed {
+                cause,
+                bit,
+                path,
+                message,
+            } => failed_note(alloc, *cause, *bit, path, message),
             Answer::NotUnparsed { cause, path, .. } => {
                 line::of_unparse(alloc, *cause, path.as_str())
             }
             Answer::NoInfoset { cause, path } => line::of_infoset(alloc, *cause, path.as_str()),
         }
+    }
+}
+
+// The line of a processing error, with what the schema says of it.
+fn failed_note(
+    alloc: Global,
+    cause: ParseCause,
+    bit: u64,
+    path: &TextValue,
+    message: &Option<TextValue>,
+) -> Result<String, AllocError>
+    ensures { IfOk result (λ note. string_bytes note ≡ failed_note cause bit path.now message.now) }
+{
+    match message {
+        None => line::of_parse(alloc, cause, bit, path.as_str()),
+        Some(message) => line::of_test(alloc, cause, bit, path.as_str(), message.as_str()),
     }
 }

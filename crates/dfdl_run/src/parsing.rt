@@ -1,7 +1,9 @@
 // What parsed data come to.
-ghost use Rattle.std.specs.Prelude.{◌≡◌, ◌⊎◌, ◌+◌, ◌*◌, ◌^◌, ◌≤◌, ℕ, List, nat_le, if◌then◌else◌, Err, string_bytes};
+ghost use Rattle.std.specs.Prelude.{◌≡◌, ◌⊎◌, ◌+◌, ◌*◌, ◌^◌, ◌≤◌, ℕ, List, nat_le, if◌then◌else◌, Err, IfOk, Ok, string_bytes};
 ghost use Rattle.dfdl_run.specs.Fed.{HasCome, HasEnded};
 ghost use Rattle.dfdl_run.specs.Meaning.{parse_end};
+ghost use Rattle.dfdl_run.specs.Said.{said_of, test_in};
+ghost use Rattle.dfdl_terms.specs.Messages.{message_of};
 ghost use Rattle.dfdl_run.specs.declared.answer.Answer.TheVariants.{Done, LeftOver};
 ghost use Rattle.dfdl_run.specs.declared.stop.Stop.TheVariants.{OutOfMemory};
 
@@ -15,7 +17,7 @@ use dfdl_parse::Outcome;
 use dfdl_report::ParseCause;
 use dfdl_terms::Terms;
 use dfdl_value::TextValue;
-use std::alloc::Global;
+use std::alloc::{AllocError, Global};
 
 // The answer where a document was read up to a bit, of so many bytes of data.
 fn answer_of(line: TextValue, bit: u64, bytes: u64) -> Answer
@@ -46,7 +48,7 @@ pub(crate) fn parse(alloc: Global, terms: &Terms, feeding: &Feeding<'_>) -> Resu
             Err(_) => Err(Stop::OutOfMemory),
         },
         Outcome::Failed { cause, bit } => match session.path(alloc) {
-            Ok(path) => Ok(failed(cause, bit, path)),
+            Ok(path) => failed(alloc, terms, cause, bit, path),
             Err(_) => Err(Stop::OutOfMemory),
         },
         Outcome::Limit { cause, quantity } => Err(limit(cause, quantity)),
@@ -54,10 +56,54 @@ pub(crate) fn parse(alloc: Global, terms: &Terms, feeding: &Feeding<'_>) -> Resu
     }
 }
 
-// The answer of a processing error.
-fn failed(cause: ParseCause, bit: u64, path: String) -> Answer
-    ensures { result ≡ Answer.Failed cause bit (string_bytes path) }
+// The answer of a processing error, with what the schema says of the test that fails.
+fn failed(
+    alloc: Global,
+    terms: &Terms,
+    cause: ParseCause,
+    bit: u64,
+    path: String,
+) -> Result<Answer, Stop>
+    ensures { (result ≡ Err OutOfMemory) ⊎ (result ≡ Ok (Answer.Failed cause bit (string_bytes path) (said_of terms.now cause))) }
 {
-    let path = TextValue::from_string(path);
-    Answer::Failed { cause, bit, path }
+    match said(alloc, terms, cause) {
+        Ok(message) => Ok(Answer::Failed {
+            cause,
+            bit,
+            path: TextValue::from_string(path),
+            message,
+        }),
+        Err(_) => Err(Stop::OutOfMemory),
+    }
+}
+
+// What the schema says of the test that fails, if one does.
+fn said(alloc: Global, terms: &Terms, cause: ParseCause) -> Result<Option<TextValue>, AllocError>
+    ensures { IfOk result (λ message. message ≡ said_of terms.now cause) }
+{
+    match test_in(cause) {
+        Some(test) => message_of(alloc, terms, test),
+        None => Ok(None),
+    }
+}
+
+// What the schema says of the test of a number, if it says anything.
+fn message_of(alloc: Global, terms: &Terms, test: u32) -> Result<Option<TextValue>, AllocError>
+    ensures { IfOk result (λ message. message ≡ message_of terms.now test) }
+{
+    match terms.message(test) {
+        Some(message) => Ok(Some(TextValue::from_str(alloc, message)?)),
+        None => Ok(None),
+    }
+}
+
+// The number of the test that fails, if one does.
+fn test_in(cause: ParseCause) -> Option<u32>
+    ensures { result ≡ test_in cause }
+{
+    match cause {
+        ParseCause::AssertionFalse { test } => Some(test),
+        ParseCause::DiscriminatorFalse { test } => Some(test),
+        _ => None,
+    }
 }

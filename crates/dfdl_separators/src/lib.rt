@@ -15,7 +15,9 @@ mod verdict;
 
 pub use moves::{SlotFault, SlotMove, SlotSeen};
 pub use policy::{SeparatorPosition, SeparatorSuppressionPolicy};
+pub use progress::{Progress, Stage};
 pub use slots::Slots;
+pub use verdict::{Here, SlotRule, Tried, rule_of};
 
 #[cfg(test)]
 mod tests;

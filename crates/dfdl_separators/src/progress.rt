@@ -2,6 +2,7 @@
 ghost use Rattle.std.specs.Prelude.{◌≡◌};
 ghost use Rattle.dfdl_separators.specs.Groups.{CanSee, here_of, sought, tried_in, subject, ending, move_by, is_trailing};
 ghost use Rattle.dfdl_separators.specs.Groups.{with_slot, without_slot, seeking, was_empty, moved_by, group_by};
+ghost use Rattle.dfdl_separators.specs.Groups.{begun, group_after, move_at};
 
 use crate::course::{Known, course};
 use crate::moves::{SlotFault, SlotMove, SlotSeen};
@@ -95,6 +96,36 @@ fn is_trailing(rule: SlotRule) -> bool
 }
 
 impl Progress {
+    /// A group before its first slot.
+    pub fn open(policy: SeparatorSuppressionPolicy, position: SeparatorPosition) -> Progress
+        ensures { result ≡ begun policy position }
+    {
+        Progress {
+            policy,
+            position,
+            taken: false,
+            absent: false,
+            blank: false,
+            stage: Stage::Between,
+        }
+    }
+
+    /// What to do next, where this is told.
+    pub fn move_at(self, seen: SlotSeen) -> SlotMove
+        ensures { result ≡ move_at self seen }
+    {
+        self.move_by(self.subject(seen))
+    }
+
+    /// The group after what is told.
+    pub fn after(self, seen: SlotSeen) -> Progress
+        ensures { result ≡ group_after self seen }
+    {
+        let slot = self.subject(seen);
+        let to = self.move_by(slot);
+        self.group_by(slot, to)
+    }
+
     // The slot that is told of, and what is then known of it.
     pub(crate) fn subject(self, seen: SlotSeen) -> Option<(SlotRule, Known)>
         ensures { result ≡ subject self seen }
@@ -122,8 +153,8 @@ impl Progress {
         }
     }
 
-    // The group at its end.
-    fn ending(self) -> SlotMove
+    /// The group at its end.
+    pub fn ending(self) -> SlotMove
         ensures { result ≡ ending self }
     {
         match self.policy {
@@ -149,7 +180,8 @@ impl Progress {
         }
     }
 
-    fn here_of(self, rule: SlotRule) -> Here
+    /// A slot of a rule, next in the group.
+    pub fn here_of(self, rule: SlotRule) -> Here
         ensures { result ≡ here_of self rule }
     {
         Here {

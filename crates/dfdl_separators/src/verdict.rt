@@ -59,8 +59,8 @@ pub enum Outcome {
     Resolved(ParseCause),
 }
 
-// The rule of a slot under a policy.
-pub(crate) fn rule_of(policy: SeparatorSuppressionPolicy, optional: bool, parsed: bool) -> SlotRule
+/// The rule of a slot under a policy.
+pub fn rule_of(policy: SeparatorSuppressionPolicy, optional: bool, parsed: bool) -> SlotRule
     ensures { result ≡ rule_of policy optional parsed }
 {
     if parsed {
@@ -178,8 +178,8 @@ fn by_rule(rule: SlotRule, tried: Tried, closed: bool, marked: bool) -> SlotMove
 }
 
 impl Here {
-    // Whether the slot begins with a separator.
-    pub(crate) fn begins(self) -> bool
+    /// Whether the slot begins with a separator.
+    pub fn begins(self) -> bool
         ensures { result ≡ begins self }
     {
         match self.position {
@@ -189,8 +189,8 @@ impl Here {
         }
     }
 
-    // Whether the slot ends with a separator.
-    pub(crate) fn ends(self) -> bool
+    /// Whether the slot ends with a separator.
+    pub fn ends(self) -> bool
         ensures { result ≡ ends self }
     {
         match self.position {

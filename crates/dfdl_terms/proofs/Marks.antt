@@ -5,7 +5,8 @@ use Rattle.std.specs.List.{list_any}
 use Rattle.std.proofs.lemmas.List.Folds.{list_any_more}
 use Rattle.std.proofs.lemmas.Option.{get_or_from_slice_get}
 use Rattle.dfdl_terms.specs.declared.row.Row.{Row}
-use Rattle.dfdl_terms.specs.Arrays.{is_item_of, is_marked}
+use Rattle.dfdl_terms.specs.declared.slots.Slot.{Slot}
+use Rattle.dfdl_terms.specs.Arrays.{is_item_in, is_item_of, is_marked}
 
 or_false : (b : Bool) → b ≡ (b || false)
 or_false true = refl
@@ -43,6 +44,24 @@ next_marked before marks rows at row some other less is within so_far =
     ∙ (ap (λ b. b || eqb other row) so_far
     ∙ (or_both (is_marked before other) (list_any (eqb other) (take at rows)) (eqb other row)
     ∙ ap (λ b. is_marked before other || b) (ap (λ r. list_any (eqb other) (take at rows) || eqb other r) is ∙ sym (list_any_more (eqb other) rows at some less))))
+
+-- the next slot of a list
+pub next_slot : (before marks after : List Bool) (slots : List Slot) (at other : ℕ) (slot : Slot) → at < length slots → slot ≡ get_or slots at slot
+    → is_marked marks other ≡ (is_marked before other || list_any (is_item_in other) (take at slots))
+    → is_marked after other ≡ (is_marked marks other || is_item_in other slot)
+    → is_marked after other ≡ (is_marked before other || list_any (is_item_in other) (take (at + 1) slots))
+next_slot before marks after slots at other slot less there so_far adds =
+    adds
+    ∙ (ap (λ b. b || is_item_in other slot) so_far
+    ∙ (or_both (is_marked before other) (list_any (is_item_in other) (take at slots)) (is_item_in other slot)
+    ∙ ap (λ b. is_marked before other || b) (ap (λ r. list_any (is_item_in other) (take at slots) || is_item_in other r) there
+    ∙ sym (list_any_more (is_item_in other) slots at slot less))))
+
+-- all slots of a list
+pub all_slots : (before marks : List Bool) (slots : List Slot) (at other : ℕ) → length slots ≤ at
+    → is_marked marks other ≡ (is_marked before other || list_any (is_item_in other) (take at slots))
+    → is_marked marks other ≡ (is_marked before other || list_any (is_item_in other) slots)
+all_slots before marks slots at other past so_far = so_far ∙ ap (λ xs. is_marked before other || list_any (is_item_in other) xs) (take_all at slots past)
 
 pub nothing_more : (b : Bool) → b ≡ (b || false)
 nothing_more b = or_false b

@@ -2,18 +2,24 @@
 use Rattle.std.specs.Prelude.{◌≡◌, ◌&&◌, ℕ, Bool, false, nat_eq, List, [], ◌∷◌, Option, Some, slice_get, slice_index_or}
 use Rattle.std.specs.List.{list_any}
 use Rattle.dfdl_terms.specs.declared.row.Row.{Row}
-use Rattle.dfdl_terms.specs.declared.row.Row.TheVariants.{Group, Repeat, Optional}
+use Rattle.dfdl_terms.specs.declared.slots.Slot.{Slot}
+use Rattle.dfdl_terms.specs.declared.row.Row.TheVariants.{Group, Repeat, Optional, Separated}
 
 -- the children of a group; other rows have none
 abbrev pub children_in : Option Row → List ℕ
 children_in (Some (Group children)) = children
 children_in _ = []
 
+-- the row of this number is that of a slot whose occurrences are items
+abbrev pub is_item_in : ℕ → Slot → Bool
+is_item_in element slot = slot.is_item && nat_eq element slot.body
+
 -- The row of this number is the one that a row repeats, or a child of the group that it repeats. A row whose times are tried says
--- itself whether what it repeats is an item.
+-- itself whether what it repeats is an item, and so does a slot.
 abbrev pub is_item_of : List Row → ℕ → Row → Bool
 is_item_of rows element (Repeat count body) = list_any (nat_eq element) (body ∷ children_in (slice_get rows body))
-is_item_of rows element (Optional most item body) = item && nat_eq element body
+is_item_of rows element (Optional most item initiated body) = item && nat_eq element body
+is_item_of rows element (Separated policy position initiated slots) = list_any (is_item_in element) slots
 is_item_of rows element _ = false
 
 -- the elements of the row of this number are items of an array ('Arrays and Optional Elements')

@@ -15,8 +15,9 @@ use Rattle.dfdl_terms.specs.declared.text.TextSize.TheVariants.{Bits, Characters
 use Rattle.dfdl_terms.specs.declared.row.Primitive.{Primitive}
 use Rattle.dfdl_terms.specs.declared.row.Primitive.TheVariants.{Integer, Packed, Truth, Octets, Text, NilOctets, Default, NilValues, Pattern}
 use Rattle.dfdl_terms.specs.declared.row.Row.{Row}
-use Rattle.dfdl_terms.specs.declared.row.Row.TheVariants.{Leaf, Elem, Group, Skip, Align, Initiator, Terminator, Separator, Scope, Boxed, PrefixedLeaf, PrefixedBox, Repeat, Optional, Choice}
+use Rattle.dfdl_terms.specs.declared.row.Row.TheVariants.{Leaf, Elem, Group, Skip, Align, Initiator, Terminator, Separator, Scope, Boxed, PrefixedLeaf, PrefixedBox, Repeat, Optional, Choice, Test, Hidden, Separated}
 use Rattle.dfdl_terms.specs.declared.delimiters.Delimiters.{Delimiters}
+use Rattle.dfdl_terms.specs.declared.asserting.PatternTest.{PatternTest}
 use Rattle.dfdl_terms.specs.Tables.{Named}
 
 -- the rows of a schema, and what they name by numbers
@@ -24,14 +25,15 @@ pub record Table : Type 0 where
   pub rows : List Row
   pub primitives : List Primitive
   pub delimiters : List Delimiters
+  pub tests : List PatternTest
 
 -- rows, and what they name
 abbrev pub table_of : List Row → Named → Table
-table_of rows named = record { rows = rows; primitives = named.primitives; delimiters = named.delimiters }
+table_of rows named = record { rows = rows; primitives = named.primitives; delimiters = named.delimiters; tests = named.tests }
 
 -- what the rows of a table name
 abbrev pub named_by : Table → Named
-named_by t = record { primitives = t.primitives; delimiters = t.delimiters }
+named_by t = record { primitives = t.primitives; delimiters = t.delimiters; tests = t.tests }
 
 -- the most rows of one schema
 abbrev pub most_rows : ℕ
@@ -52,8 +54,11 @@ ChildrenBelow bound (Boxed bits body) = body < bound
 ChildrenBelow bound (PrefixedLeaf prefix prim) = Unit {0}
 ChildrenBelow bound (PrefixedBox prefix body) = body < bound
 ChildrenBelow bound (Repeat count body) = body < bound
-ChildrenBelow bound (Optional most item body) = body < bound
-ChildrenBelow bound (Choice branches) = All (λ b. b < bound) branches
+ChildrenBelow bound (Optional most item initiated body) = body < bound
+ChildrenBelow bound (Choice branches initiated) = All (λ b. b < bound) branches
+ChildrenBelow bound (Test test) = Unit {0}
+ChildrenBelow bound (Hidden body) = body < bound
+ChildrenBelow bound (Separated policy position initiated slots) = All (λ slot. slot.body < bound) slots
 
 -- each child is below its row, for the first so many rows
 abbrev pub NestsBelow : ℕ → List Row → Type 0
@@ -94,8 +99,11 @@ NamesWithin named (Boxed bits body) = Unit {0}
 NamesWithin named (PrefixedLeaf prefix prim) = (prefix.prim < length named.primitives) × (prim < length named.primitives)
 NamesWithin named (PrefixedBox prefix body) = prefix.prim < length named.primitives
 NamesWithin named (Repeat count body) = Unit {0}
-NamesWithin named (Optional most item body) = Unit {0}
-NamesWithin named (Choice branches) = Unit {0}
+NamesWithin named (Optional most item initiated body) = Unit {0}
+NamesWithin named (Choice branches initiated) = Unit {0}
+NamesWithin named (Test test) = test < length named.tests
+NamesWithin named (Hidden body) = Unit {0}
+NamesWithin named (Separated policy position initiated slots) = Unit {0}
 
 -- the greatest constant length, in bits (profile)
 abbrev pub most_length : ℕ
@@ -162,8 +170,11 @@ IsElementRow (Some (Boxed bits body)) = ⊥
 IsElementRow (Some (PrefixedLeaf prefix prim)) = ⊥
 IsElementRow (Some (PrefixedBox prefix body)) = ⊥
 IsElementRow (Some (Repeat count body)) = ⊥
-IsElementRow (Some (Optional most item body)) = ⊥
-IsElementRow (Some (Choice branches)) = ⊥
+IsElementRow (Some (Optional most item initiated body)) = ⊥
+IsElementRow (Some (Choice branches initiated)) = ⊥
+IsElementRow (Some (Test test)) = ⊥
+IsElementRow (Some (Hidden body)) = ⊥
+IsElementRow (Some (Separated policy position initiated slots)) = ⊥
 IsElementRow None = ⊥
 
 -- the last row is an element
@@ -193,8 +204,11 @@ IsPlainRow (Boxed bits body) = ⊥
 IsPlainRow (PrefixedLeaf prefix prim) = ⊥
 IsPlainRow (PrefixedBox prefix body) = ⊥
 IsPlainRow (Repeat count body) = ⊥
-IsPlainRow (Optional most item body) = ⊥
-IsPlainRow (Choice branches) = ⊥
+IsPlainRow (Optional most item initiated body) = ⊥
+IsPlainRow (Choice branches initiated) = ⊥
+IsPlainRow (Test test) = ⊥
+IsPlainRow (Hidden body) = ⊥
+IsPlainRow (Separated policy position initiated slots) = ⊥
 
 -- each row is of the content alone
 abbrev pub HasPlainRows : List Row → Type 0

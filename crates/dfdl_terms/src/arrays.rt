@@ -1,10 +1,11 @@
 // Which elements of a schema are items of arrays ('Arrays and Optional Elements').
-ghost use Rattle.dfdl_terms.specs.Arrays.{is_item_of, is_marked, MarksItems};
+ghost use Rattle.dfdl_terms.specs.Arrays.{is_item_in, is_item_of, is_marked, MarksItems};
 ghost use Rattle.dfdl_terms.specs.Rows.{ChildrenBelow};
 ghost use Rattle.std.specs.Prelude.{◌≡◌, ◌<◌, ◌||◌, ℕ, All, IfOk, IsTrue, length, nat_eq, slice_get, vec_len};
 ghost use Rattle.std.specs.List.{list_any};
 
 use super::row::{Row, RowId};
+use super::slots::Slot;
 use super::terms::Terms;
 use std::alloc::{AllocError, Global};
 use std::marker::Model;
@@ -65,7 +66,30 @@ fn mark_repeated(terms: &Terms, row: &Row, marks: &mut Vec<bool>)
             body,
             ..
         } => mark(marks, &[*body]),
+        Row::Separated { slots, .. } => mark_slots(marks, slots.as_slice()),
         _ => {}
+    }
+}
+
+// Marks the rows of the slots whose occurrences are items.
+fn mark_slots(marks: &mut Vec<bool>, slots: &[Slot])
+    requires { All (λ slot. slot.body < vec_len marks.old) slots.now }
+    ensures marked { (e : ℕ) → is_marked marks.new.items e ≡ (is_marked marks.old.items e || list_any (is_item_in e) slots.now) }
+    ensures many { vec_len marks.new ≡ vec_len marks.old }
+{
+    for slot in slots {
+        mark_slot(marks, slot);
+    }
+}
+
+// Marks the row of a slot whose occurrences are items.
+fn mark_slot(marks: &mut Vec<bool>, slot: &Slot)
+    requires { slot.now.body < vec_len marks.old }
+    ensures marked { (e : ℕ) → is_marked marks.new.items e ≡ (is_marked marks.old.items e || is_item_in e slot.now) }
+    ensures many { vec_len marks.new ≡ vec_len marks.old }
+{
+    if slot.is_item {
+        mark(marks, &[slot.body]);
     }
 }
 

@@ -1,11 +1,14 @@
 ghost use Rattle.std.specs.Prelude.{◌≡◌, None};
 ghost use Rattle.dfdl_terms.specs.Framing.{no_fill};
 
+use crate::asserting::Tests;
 use crate::delimiters::Delimiter;
 
-/// What stands around the content of a component: fill, in bits, and its initiator and terminator ('Framing').
+/// What stands around the content of a component: tests of patterns before all else, fill, in bits, and its initiator and terminator
+/// ('Framing').
 #[derive(Debug, Clone, Copy, PartialEq, Eq)]
 pub struct Framing {
+    pub tests: Tests,
     /// How many bits are passed over before the alignment.
     pub leading_skip: u32,
     /// The initiator, or the content without one, begins at a multiple of so many bits; with 1 it begins anywhere.
@@ -19,11 +22,12 @@ pub struct Framing {
 }
 
 impl Framing {
-    /// Neither fill nor a delimiter.
+    /// Neither a test nor fill nor a delimiter.
     pub fn none() -> Framing
         ensures { result ≡ no_fill }
     {
         Framing {
+            tests: Tests { first: 0, count: 0 },
             leading_skip: 0,
             alignment: 1,
             initiator: None,

@@ -5,6 +5,7 @@
 #![tactic(auto)]
 
 pub mod arrays;
+pub mod asserting;
 pub mod delimiters;
 pub mod event;
 pub mod framing;
@@ -12,11 +13,13 @@ pub mod occurs;
 pub mod prefix;
 pub mod representations;
 pub mod row;
+pub mod slots;
 pub mod terms;
 pub mod text;
 pub mod value_list;
 
 pub use arrays::Items;
+pub use asserting::{PatternTest, Tests};
 pub use delimiters::{Delimiter, Delimiters};
 pub use event::Event;
 pub use framing::Framing;
@@ -24,6 +27,7 @@ pub use occurs::Occurs;
 pub use prefix::{LengthUnit, Prefix};
 pub use representations::Representations;
 pub use row::{Primitive, Row, RowId, RowList, Tables};
+pub use slots::{Slot, SlotList};
 pub use terms::{TermFault, Terms};
 pub use text::{
     DefaultForm, NilForm, NilOctets, NilTexts, NilValues, OctetForm, PatternForm, ScanForm,

@@ -1,13 +1,16 @@
 ghost use Rattle.std.specs.Prelude.{◌≡◌, ◌<◌, List};
 ghost use Rattle.dfdl_terms.specs.Rows.{IsWritten};
 
+use crate::asserting::PatternTest;
 use crate::delimiters::{Delimiter, Delimiters};
 use crate::prefix::Prefix;
 use crate::representations::Representations;
+use crate::slots::SlotList;
 use crate::text::{
     DefaultForm, NilOctets, NilValues, OctetForm, PatternForm, TextForm, text_is_written,
 };
 use dfdl_forms::{BitTruthForm, IntForm, PackedForm};
+use dfdl_separators::{SeparatorPosition, SeparatorSuppressionPolicy};
 use dfdl_value::{Simple, TextValue};
 use std::marker::Model;
 
@@ -173,11 +176,32 @@ pub enum Row {
         most: u64,
         /// The row is that of an item of an array.
         is_item: bool,
+        /// An initiator that is found at the begin of one tells that it is the one that stands there.
+        initiated: bool,
         body: RowId,
     },
     /// Rows that are tried in this order at one place, the first of which that doesn't fail is taken ('Choices').
     Choice {
         branches: RowList,
+        /// An initiator that is found at the begin of one tells that it is the one that stands there.
+        initiated: bool,
+    },
+    /// Tests whether the pattern of this number in the tables matches in the data from here on ('DFDL Schema Component Model', on
+    /// asserts and discriminators).
+    Test {
+        test: u32,
+    },
+    /// A row whose elements the infoset doesn't have ('Sequence Groups', on hidden groups).
+    Hidden {
+        body: RowId,
+    },
+    /// The children of a sequence with separators, some of whose occurrences are tried ('Sequence Groups').
+    Separated {
+        policy: SeparatorSuppressionPolicy,
+        position: SeparatorPosition,
+        /// An initiator that is found at the begin of one that is tried tells that it is the one that stands there.
+        initiated: bool,
+        slots: SlotList,
     },
 }
 
@@ -186,6 +210,7 @@ pub enum Row {
 pub struct Tables {
     primitives: Vec<Primitive>,
     delimiters: Vec<Delimiters>,
+    tests: Vec<PatternTest>,
 }
 
 impl Model for Tables {
@@ -193,16 +218,21 @@ impl Model for Tables {
 
     ghost Value = { Named };
 
-    ghost view = { λ t. record { primitives = t.primitives.items; delimiters = t.delimiters.items } };
+    ghost view = { λ t. record { primitives = t.primitives.items; delimiters = t.delimiters.items; tests = t.tests.items } };
 }
 
 impl Tables {
-    pub fn new(primitives: Vec<Primitive>, delimiters: Vec<Delimiters>) -> Tables
-        ensures { result ≡ record { primitives = primitives.items; delimiters = delimiters.items } }
+    pub fn new(
+        primitives: Vec<Primitive>,
+        delimiters: Vec<Delimiters>,
+        tests: Vec<PatternTest>,
+    ) -> Tables
+        ensures { result ≡ record { primitives = primitives.items; delimiters = delimiters.items; tests = tests.items } }
     {
         Tables {
             primitives,
             delimiters,
+            tests,
         }
     }
 
@@ -212,10 +242,17 @@ impl Tables {
         self.primitives.as_slice()
     }
 
-    /// The lists of literals of initiators and terminators.
+    /// The lists of literals of initiators, terminators and separators.
     pub fn delimiters(&self) -> &[Delimiters]
         ensures { result.now ≡ self.now.delimiters }
     {
         self.delimiters.as_slice()
+    }
+
+    /// The tests of patterns.
+    pub fn tests(&self) -> &[PatternTest]
+        ensures { result.now ≡ self.now.tests }
+    {
+        self.tests.as_slice()
     }
 }

@@ -1,7 +1,10 @@
 ghost use Rattle.dfdl_terms.specs.Rows.{most_rows, Nests, IsFirstBad, ChildrenBelow};
-ghost use Rattle.std.specs.Prelude.{ℕ, IfSome, IfNone, ◌≡◌, ◌<◌, ◌≤◌, ◌↔◌, ◌-◌, List, length, All, IsTrue, IfOk, IsOk, IsErrOf, Some, slice_get, vec_len};
+ghost use Rattle.dfdl_terms.specs.Messages.{message_of};
+ghost use Rattle.std.specs.Prelude.{ℕ, option_map, IfSome, IfNone, ◌≡◌, ◌<◌, ◌≤◌, ◌↔◌, ◌-◌, List, length, All, IsTrue, IfOk, IsOk, IsErrOf, Some, slice_get, vec_len};
 
+use super::asserting::PatternTest;
 use super::row::{Row, RowId, Tables};
+use super::slots::Slot;
 use std::alloc::Global;
 use std::marker::Model;
 use thiserror::Error;
@@ -74,7 +77,20 @@ fn has_children_below(row: &Row, bound: RowId) -> bool
         Row::PrefixedBox { body, .. } => body.number() < bound.number(),
         Row::Repeat { body, .. } => body.number() < bound.number(),
         Row::Optional { body, .. } => body.number() < bound.number(),
-        Row::Choice { branches } => are_below(branches.as_slice(), bound),
+        Row::Choice { branches, .. } => are_below(branches.as_slice(), bound),
+        Row::Test { .. } => true,
+        Row::Hidden { body } => body.number() < bound.number(),
+        Row::Separated { slots, .. } => slots_are_below(slots.as_slice(), bound),
+    }
+}
+
+// What the schema says of a test, if it says anything.
+fn said(test: &PatternTest) -> Option<&str>
+    ensures { option_map (λ m. m.now) result ≡ test.now.message }
+{
+    match &test.message {
+        Some(message) => Some(message.as_str()),
+        None => None,
     }
 }
 
@@ -83,6 +99,13 @@ fn are_below(rows: &[RowId], bound: RowId) -> bool
     ensures { IsTrue result ↔ All (λ row. row < bound) rows.now }
 {
     rows.iter().all(|row| row.number() < bound.number())
+}
+
+// Whether the row of each of the slots is below the bound.
+fn slots_are_below(slots: &[Slot], bound: RowId) -> bool
+    ensures { IsTrue result ↔ All (λ slot. slot.body < bound) slots.now }
+{
+    slots.iter().all(|slot| slot.body.number() < bound.number())
 }
 
 impl Terms {
@@ -128,5 +151,15 @@ impl Terms {
         ensures bounded { All IsPrimitive result.now.primitives }
     {
         &self.tables
+    }
+
+    /// What the schema says of the test of a number in the tables, if it says anything.
+    pub fn message(&self, test: u32) -> Option<&str>
+        ensures { option_map (λ m. m.now) result ≡ message_of self.now test }
+    {
+        match self.tables.tests().get(test as usize) {
+            Some(test) => said(test),
+            None => None,
+        }
     }
 }

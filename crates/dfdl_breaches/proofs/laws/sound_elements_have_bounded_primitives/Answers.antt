@@ -1,7 +1,10 @@
-use Rattle.std.proofs.Common.{refl}
+use Rattle.std.proofs.Common.{refl, sym, ◌∙◌}
+use Rattle.dfdl_chains.specs.Kinds.{kind_at}
+use Rattle.dfdl_breaches.specs.Hidden.{hides, hiding_at}
 use Rattle.dfdl_breaches.specs.Judging.{judged_at}
 use Rattle.dfdl_checks.specs.declared.purpose.Purpose.TheVariants.{Unparsing}
 use Rattle.dfdl_breaches.proofs.Forms.{bounded_before, none_before}
+use Rattle.dfdl_breaches.proofs.HiddenKinds.{first_none, same_type, still_simple}
 use Rattle.dfdl_breaches.proofs.laws.sound_elements_have_bounded_primitives.Goals as goal
 
 pub returns-clause-whole : goal.returns-clause-whole
@@ -16,7 +19,14 @@ pub returns-clause-parsing : goal.returns-clause-parsing
 returns-clause-parsing c = λ refused documents own. none_before c.prefixes_are_bounded.ensures.parsing (judged_at Unparsing refused documents own) refl
 
 pub returns-clause-kind : goal.returns-clause-kind
-returns-clause-kind c = λ purpose refused documents own p is. c.primitives_are_bounded.ensures.kind (judged_at purpose refused documents own) p is
+returns-clause-kind c = λ purpose refused documents own p is.
+    sym (same_type (hides (hiding_at purpose documents own)) (kind_at documents own))
+    ∙ c.primitives_are_bounded.ensures.kind (judged_at purpose refused documents own) p is
+
+pub returns-clause-sound : goal.returns-clause-sound
+returns-clause-sound c = λ purpose refused documents own sound simple.
+    c.sound_elements_have_primitives.ensures.primitive (judged_at purpose refused documents own) (first_none _ _ sound)
+    (still_simple (hides (hiding_at purpose documents own)) (kind_at documents own) ∙ simple)
 
 pub returns-clause-nil : goal.returns-clause-nil
 returns-clause-nil c = λ purpose refused documents own p is. c.representations_are_bounded.ensures.nil (judged_at purpose refused documents own) p is

@@ -12,3 +12,6 @@ returns-in_err-entries-clause-part g c = err_part c.from_residual-in_err-entries
 
 pub returns-in_err-bits_by-clause-part : goal.returns-in_err-bits_by-clause-part
 returns-in_err-bits_by-clause-part g c = err_part c.from_residual-in_err-bits_by.result _ (no_part c.args.purpose c.args.schema.now _)
+
+pub returns-in_err-standings-clause-part : goal.returns-in_err-standings-clause-part
+returns-in_err-standings-clause-part g c = err_part c.from_residual-in_err-standings.result _ (no_part c.args.purpose c.args.schema.now _)

@@ -1,11 +1,12 @@
 use Rattle.dfdl_checks.proofs.AlikeChains.{three}
+use Rattle.dfdl_terms.specs.Framing.{no_fill}
 use Rattle.dfdl_terms.specs.declared.framing.Framing.{Framing}
 use Rattle.std.proofs.Common.{ℕ, None}
 use Rattle.dfdl_checks.proofs.fill.fill_of.Goals as goal
 
 -- fill by its parts
 abbrev fill : ℕ → ℕ → ℕ → Framing
-fill leading alignment trailing = record { leading_skip = leading; alignment = alignment; initiator = None; terminator = None; trailing_skip = trailing }
+fill leading alignment trailing = record { tests = no_fill.tests; leading_skip = leading; alignment = alignment; initiator = None; terminator = None; trailing_skip = trailing }
 
 pub returns : goal.returns
 returns c = three fill c.skip_of.ensures c.alignment_of.ensures c.skip_of-2.ensures

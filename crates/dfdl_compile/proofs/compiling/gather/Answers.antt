@@ -9,7 +9,7 @@ use Rattle.dfdl_compile.proofs.Fitting.{sites_within, twice}
 use Rattle.dfdl_compile.proofs.compiling.gather.Goals as goal
 
 pub components-requires-clause-sites : goal.components-requires-clause-sites
-components-requires-clause-sites c = sites_within c.args.schema.now c.as_slice.result.now (c.as_slice.ensures.value ∙ c.in_ok-sites.ensures)
+components-requires-clause-sites c = c.as_slice.ensures.value ∙ c.in_ok-sites.ensures
 
 pub components-requires-clause-told : goal.components-requires-clause-told
 components-requires-clause-told c =
@@ -21,6 +21,10 @@ places-requires c = sites_within c.args.schema.now c.as_slice-2.result.now (c.as
 pub uses-requires-clause-sites : goal.uses-requires-clause-sites
 uses-requires-clause-sites c = sites_within c.args.schema.now c.as_slice-3.result.now (c.as_slice-3.ensures.value ∙ c.in_ok-sites.ensures)
 
+pub uses-requires-clause-told : goal.uses-requires-clause-told
+uses-requires-clause-told c =
+    c.requires.told ∙ ap (λ (sites : List Site). length sites) (sym (c.as_slice-3.ensures.value ∙ c.in_ok-sites.ensures))
+
 pub returns-clause-gathered : goal.returns-clause-gathered
 unfolding components_of
 returns-clause-gathered c = λ refused told.
@@ -28,7 +32,8 @@ returns-clause-gathered c = λ refused told.
     let judged = told ∙ ap (map (judgement_at c.args.purpose refused c.args.schema.now)) (sym (c.as_slice.ensures.value ∙ sites)) in
     record {
       sites = sites;
-      uses = c.in-Ok.ensures.uses ∙ ap (map (part_numbers c.args.schema.now)) (c.as_slice-3.ensures.value ∙ sites);
+      uses = c.in-Ok.ensures.uses refused (told ∙ ap (map (judgement_at c.args.purpose refused c.args.schema.now)) (sym (c.as_slice-3.ensures.value ∙ sites)))
+          ∙ ap (map (part_numbers c.args.purpose refused c.args.schema.now)) (c.as_slice-3.ensures.value ∙ sites);
       components = c.in_ok-components.ensures refused judged
           ∙ ap (map (component_at c.args.purpose refused c.args.schema.now)) (c.as_slice.ensures.value ∙ sites);
       refusals = c.in_ok-refusals.ensures

@@ -9,7 +9,8 @@ use Rattle.dfdl_compile.proofs.Searches.{none_recursive, is_recursive}
 use Rattle.dfdl_compile.proofs.compiling.ordered.Goals as goal
 
 pub order_of-requires : goal.order_of-requires
-order_of-requires c = closed c.args.gathered.purpose c.requires.0 c.args.schema.now c.args.gathered.uses c.requires.1.uses
+order_of-requires c = closed c.args.gathered.purpose c.requires.0 c.args.schema.now
+    (λ purpose own content is. c.hidden_groups_are_within.ensures purpose c.args.schema.now own content is) c.args.gathered.uses c.requires.1.uses
 
 pub new-requires-clause-of_one : goal.new-requires-clause-of_one
 new-requires-clause-of_one c = are_of_one c.args.gathered.purpose c.requires.0 c.args.schema.now c.args.gathered.uses c.args.gathered.components.items c.args.gathered.refusals.items

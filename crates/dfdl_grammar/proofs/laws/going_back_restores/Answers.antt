@@ -1,23 +1,34 @@
-use Rattle.std.proofs.Common.{◌∙◌, ℕ, List, true, ap, drop, subst}
+use Rattle.std.proofs.Common.{◌∙◌, refl, ℕ, List, true, ap, drop, subst, sym}
 use Rattle.dfdl_grammar.specs.declared.end.End.{End}
+use Rattle.dfdl_grammar.specs.declared.end.End.TheVariants.{Failed}
 use Rattle.dfdl_grammar.specs.States.{State}
-use Rattle.dfdl_grammar.specs.Marks.{pointed}
+use Rattle.dfdl_grammar.specs.Marks.{AreSame, marked, pointed}
 use Rattle.dfdl_grammar.specs.Rows.{meaning}
 use Rattle.dfdl_grammar.proofs.Going.{meaning-goes, tried-returns}
 use Rattle.dfdl_grammar.proofs.Grown.{Ends, Went, failed_returns}
+use Rattle.dfdl_grammar.proofs.Represented.{AreMarked}
 use Rattle.dfdl_grammar.proofs.laws.going_back_restores.Goals as goal
 
 pub returns-clause-restored : goal.returns-clause-restored
 returns-clause-restored c input table id body complex instead s cause bit failed =
-    ap (λ (t : State). record t { instead = s.instead })
-    (tried-returns input id complex (meaning input table body) (meaning-goes input table body) s instead s.instead cause bit failed)
+    let there =
+    tried-returns input id complex (meaning input table body) (meaning-goes input table body) s instead s.instead (marked s).marks refl
+    cause bit failed in
+    record {
+      same = ap (λ (t : State). record t { instead = s.instead; marks = (marked s).marks }) there.0;
+      marks = subst (λ (t : State). AreMarked s t.marks) (sym there.0) there.1;
+    }
 
 pub returns-clause-tried : goal.returns-clause-tried
-returns-clause-tried c input table id s cause bit failed =
-    let t : State = (meaning input table id (pointed s)).state in
-    ap (λ (t : State). record t { instead = s.instead })
-    (failed_returns true s t s.instead cause bit
-    (subst (λ (e : End). Went s.inside (pointed s) e t) failed (meaning-goes input table id (pointed s))))
+returns-clause-tried c input table id initiated s cause bit failed =
+    let t : State = (meaning input table id (pointed initiated s)).state in
+    let went : Went s.inside (pointed initiated s) (Failed cause bit) t =
+    subst (λ (e : End). Went s.inside (pointed initiated s) e t) failed (meaning-goes input table id (pointed initiated s)) in
+    let same = failed_returns true initiated s t s.instead cause bit went in
+    record {
+      same = ap (λ (t : State). record t { instead = s.instead; marks = (pointed initiated s).marks }) same;
+      marks = subst (λ (t : State). AreSame t.marks (pointed initiated s).marks) (sym same) went.ends.marks;
+    }
 
 pub returns-clause-done : goal.returns-clause-done
 returns-clause-done c input table id s done =

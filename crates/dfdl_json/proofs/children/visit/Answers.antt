@@ -1,5 +1,6 @@
-use Rattle.dfdl_json.proofs.Declares.{there, on_ok, below_elem, below_group, elem_visited, elem_less, parts_visited, parts_less, group_declares, group_steps, bare_visited, bare_less, leaf_declares, leaf_steps, skip_declares, skip_steps, align_declares, align_steps, initiator_declares, initiator_steps, terminator_declares, separator_declares, terminator_steps, separator_steps, below_scope, scope_declares, scope_steps, below_box, box_declares, box_steps, body_visited, body_less, prefixed_leaf_declares, prefixed_leaf_steps, below_prefixed_box, prefixed_box_declares, prefixed_box_steps, below_repeat, repeat_declares, repeat_steps, below_optional, optional_declares, optional_steps, below_choice, choice_declares, choice_steps, no_row_declares, no_row_steps}
+use Rattle.dfdl_json.proofs.Declares.{there, on_ok, below_elem, below_group, elem_visited, elem_less, parts_visited, parts_less, group_declares, group_steps, bare_visited, bare_less, leaf_declares, leaf_steps, skip_declares, skip_steps, align_declares, align_steps, initiator_declares, initiator_steps, terminator_declares, separator_declares, terminator_steps, separator_steps, below_scope, scope_declares, scope_steps, below_box, box_declares, box_steps, body_visited, body_less, prefixed_leaf_declares, prefixed_leaf_steps, below_prefixed_box, prefixed_box_declares, prefixed_box_steps, below_repeat, repeat_declares, repeat_steps, below_optional, optional_declares, optional_steps, below_choice, choice_declares, choice_steps, test_declares, test_steps, below_hidden, hidden_declares, hidden_steps, below_separated, separated_declares, separated_steps, no_row_declares, no_row_steps}
 use Rattle.std.proofs.Common.{sym, ◌∙◌, ap, [], ◌++◌}
+use Rattle.dfdl_json.specs.Children.{bodies_of}
 use Rattle.dfdl_json.proofs.children.visit.Goals as goal
 
 pub returns-in_ok-push-in-Some-Elem-clause-same : goal.returns-in_ok-push-in-Some-Elem-clause-same
@@ -109,26 +110,26 @@ returns-in-Some-Repeat-clause-less c = on_ok c.push_all-in-Some-Repeat.result _ 
 pub returns-in-Some-Optional-clause-same : goal.returns-in-Some-Optional-clause-same
 returns-in-Some-Optional-clause-same c = on_ok c.push_all-in-Some-Optional.result _ _ c.push_all-in-Some-Optional.ensures
     (body_visited c.args.terms.now c.args.row c.args.elements.now.items _ c.in-Some-Optional.body _
-    (optional_declares c.args.terms.now c.args.row _ _ _ (there _ _ _ c.in-Some-Optional.ensures.row c.in-Some-Optional.field-0-is)
-    (below_optional _ _ _ _ _ c.in-Some-Optional.field-0-is c.in-Some-Optional.ensures.nests)))
+    (optional_declares c.args.terms.now c.args.row _ _ _ _ (there _ _ _ c.in-Some-Optional.ensures.row c.in-Some-Optional.field-0-is)
+    (below_optional _ _ _ _ _ _ c.in-Some-Optional.field-0-is c.in-Some-Optional.ensures.nests)))
 
 pub returns-in-Some-Optional-clause-less : goal.returns-in-Some-Optional-clause-less
 returns-in-Some-Optional-clause-less c = on_ok c.push_all-in-Some-Optional.result _ _ c.push_all-in-Some-Optional.ensures
     (body_less c.args.terms.now c.args.row [] _ c.in-Some-Optional.body _
-    (optional_steps c.args.terms.now c.args.row _ _ _ (there _ _ _ c.in-Some-Optional.ensures.row c.in-Some-Optional.field-0-is)
-    (below_optional _ _ _ _ _ c.in-Some-Optional.field-0-is c.in-Some-Optional.ensures.nests)))
+    (optional_steps c.args.terms.now c.args.row _ _ _ _ (there _ _ _ c.in-Some-Optional.ensures.row c.in-Some-Optional.field-0-is)
+    (below_optional _ _ _ _ _ _ c.in-Some-Optional.field-0-is c.in-Some-Optional.ensures.nests)))
 
 pub returns-in-Some-Choice-clause-same : goal.returns-in-Some-Choice-clause-same
 returns-in-Some-Choice-clause-same c = on_ok c.push_all-in-Some-Choice.result _ _ c.push_all-in-Some-Choice.ensures
     (λ now_is. parts_visited c.args.terms.now c.args.row c.args.elements.now.items _ _ _
-    (choice_declares c.args.terms.now c.args.row _ (there _ _ _ c.in-Some-Choice.ensures.row c.in-Some-Choice.field-0-is)
-    (below_choice _ _ _ c.in-Some-Choice.field-0-is c.in-Some-Choice.ensures.nests)) (now_is ∙ ap (λ xs. xs ++ c.args.left.now.items) c.as_slice-in-Some-Choice.ensures))
+    (choice_declares c.args.terms.now c.args.row _ _ (there _ _ _ c.in-Some-Choice.ensures.row c.in-Some-Choice.field-0-is)
+    (below_choice _ _ _ _ c.in-Some-Choice.field-0-is c.in-Some-Choice.ensures.nests)) (now_is ∙ ap (λ xs. xs ++ c.args.left.now.items) c.as_slice-in-Some-Choice.ensures))
 
 pub returns-in-Some-Choice-clause-less : goal.returns-in-Some-Choice-clause-less
 returns-in-Some-Choice-clause-less c = on_ok c.push_all-in-Some-Choice.result _ _ c.push_all-in-Some-Choice.ensures
     (λ now_is. parts_less c.args.terms.now c.args.row [] _ _ _
-    (choice_steps c.args.terms.now c.args.row _ (there _ _ _ c.in-Some-Choice.ensures.row c.in-Some-Choice.field-0-is)
-    (below_choice _ _ _ c.in-Some-Choice.field-0-is c.in-Some-Choice.ensures.nests)) (now_is ∙ ap (λ xs. xs ++ c.args.left.now.items) c.as_slice-in-Some-Choice.ensures))
+    (choice_steps c.args.terms.now c.args.row _ _ (there _ _ _ c.in-Some-Choice.ensures.row c.in-Some-Choice.field-0-is)
+    (below_choice _ _ _ _ c.in-Some-Choice.field-0-is c.in-Some-Choice.ensures.nests)) (now_is ∙ ap (λ xs. xs ++ c.args.left.now.items) c.as_slice-in-Some-Choice.ensures))
 
 pub returns-in-Some-PrefixedLeaf-clause-same : goal.returns-in-Some-PrefixedLeaf-clause-same
 returns-in-Some-PrefixedLeaf-clause-same c =
@@ -151,6 +152,40 @@ returns-in-Some-PrefixedBox-clause-less c = on_ok c.push_all-in-Some-PrefixedBox
     (body_less c.args.terms.now c.args.row [] _ c.in-Some-PrefixedBox.body _
     (prefixed_box_steps c.args.terms.now c.args.row _ _ (there _ _ _ c.in-Some-PrefixedBox.ensures.row c.in-Some-PrefixedBox.field-0-is)
     (below_prefixed_box _ _ _ _ c.in-Some-PrefixedBox.field-0-is c.in-Some-PrefixedBox.ensures.nests)))
+
+pub returns-in-Some-Test-clause-same : goal.returns-in-Some-Test-clause-same
+returns-in-Some-Test-clause-same c =
+    bare_visited c.args.terms.now c.args.row _ _ (test_declares c.args.terms.now c.args.row _ (there _ _ _ c.in-Some-Test.ensures.row c.in-Some-Test.field-0-is))
+
+pub returns-in-Some-Test-clause-less : goal.returns-in-Some-Test-clause-less
+returns-in-Some-Test-clause-less c =
+    bare_less c.args.terms.now c.args.row [] _ (test_steps c.args.terms.now c.args.row _ (there _ _ _ c.in-Some-Test.ensures.row c.in-Some-Test.field-0-is))
+
+pub returns-in-Some-Hidden-clause-same : goal.returns-in-Some-Hidden-clause-same
+returns-in-Some-Hidden-clause-same c = on_ok c.push_all-in-Some-Hidden.result _ _ c.push_all-in-Some-Hidden.ensures
+    (body_visited c.args.terms.now c.args.row c.args.elements.now.items _ c.in-Some-Hidden.body _
+    (hidden_declares c.args.terms.now c.args.row _ (there _ _ _ c.in-Some-Hidden.ensures.row c.in-Some-Hidden.field-0-is)
+    (below_hidden _ _ _ c.in-Some-Hidden.field-0-is c.in-Some-Hidden.ensures.nests)))
+
+pub returns-in-Some-Hidden-clause-less : goal.returns-in-Some-Hidden-clause-less
+returns-in-Some-Hidden-clause-less c = on_ok c.push_all-in-Some-Hidden.result _ _ c.push_all-in-Some-Hidden.ensures
+    (body_less c.args.terms.now c.args.row [] _ c.in-Some-Hidden.body _
+    (hidden_steps c.args.terms.now c.args.row _ (there _ _ _ c.in-Some-Hidden.ensures.row c.in-Some-Hidden.field-0-is)
+    (below_hidden _ _ _ c.in-Some-Hidden.field-0-is c.in-Some-Hidden.ensures.nests)))
+
+pub returns-in-Some-Separated-clause-same : goal.returns-in-Some-Separated-clause-same
+returns-in-Some-Separated-clause-same c = on_ok c.push_slots.result _ _ c.push_slots.ensures
+    (λ now_is. parts_visited c.args.terms.now c.args.row c.args.elements.now.items _ _ _
+    (separated_declares c.args.terms.now c.args.row _ _ _ _ (there _ _ _ c.in-Some-Separated.ensures.row c.in-Some-Separated.field-0-is)
+    (below_separated _ _ _ _ _ _ c.in-Some-Separated.field-0-is c.in-Some-Separated.ensures.nests))
+    (now_is ∙ ap (λ xs. bodies_of xs ++ c.args.left.now.items) c.as_slice-in-Some-Separated.ensures))
+
+pub returns-in-Some-Separated-clause-less : goal.returns-in-Some-Separated-clause-less
+returns-in-Some-Separated-clause-less c = on_ok c.push_slots.result _ _ c.push_slots.ensures
+    (λ now_is. parts_less c.args.terms.now c.args.row [] _ _ _
+    (separated_steps c.args.terms.now c.args.row _ _ _ _ (there _ _ _ c.in-Some-Separated.ensures.row c.in-Some-Separated.field-0-is)
+    (below_separated _ _ _ _ _ _ c.in-Some-Separated.field-0-is c.in-Some-Separated.ensures.nests))
+    (now_is ∙ ap (λ xs. bodies_of xs ++ c.args.left.now.items) c.as_slice-in-Some-Separated.ensures))
 
 pub returns-in-None-clause-same : goal.returns-in-None-clause-same
 returns-in-None-clause-same c = bare_visited c.args.terms.now c.args.row _ _ (no_row_declares c.args.terms.now c.args.row (sym c.in-None.ensures.row))

@@ -14,6 +14,6 @@ loop-at-preserved c =
     record {
       some = omega (arith, c.loop-at-test.true);
       within = omega (arith, before.within);
-      objects = node_put t text nodes c.in_ok-items.items at c.index-nodes-at.result c.put_node.new.objects.items before.some before.within c.index-nodes-at.is c.in_ok-items.ensures
+      objects = node_put t text nodes c.in_ok-items.items c.in_ok-hidden.hidden at c.index-nodes-at.result c.put_node.new.objects.items before.some before.within c.index-nodes-at.is c.in_ok-items.ensures c.in_ok-hidden.ensures
           (c.in_ok-put_node.ensures (λ j. all_turned (members_of t text at (drop at nodes) j)) (at - 1) (counted_up c.loop-at.objects.items at (λ j. all_turned (members_of t text at (drop at nodes) j)) before.some before.objects));
     }

@@ -38,8 +38,8 @@ all_thirteen P a b c d e f g h i j k l m at_a at_b at_c at_d at_e at_f at_g at_h
 
 pub build-requires-clause-named : goal.build-requires-clause-named
 build-requires-clause-named c =
-    let P : Row → Type 0 = NamesWithin c.new-10.result in
-    let one : length c.new-10.result.primitives ≡ 1 = ap (λ (n : Named). length n.primitives) c.new-10.ensures ∙ ap length c.in_ok-forms.ensures.items in
+    let P : Row → Type 0 = NamesWithin c.new-tables.result in
+    let one : length c.new-tables.result.primitives ≡ 1 = ap (λ (n : Named). length n.primitives) c.new-tables.ensures ∙ ap length c.in_ok-forms.ensures.items in
     all_at P c.in_ok-rows.rows.items _ c.in_ok-rows.ensures.items
     (all_thirteen P _ _ _ _ _ _ _ _ _ _ _ _ _ (rw one (lit< tt)) (element_named _ _ _ _ _ c.in_ok-element.ensures) (element_named _ _ _ _ _ c.in_ok-element-2.ensures)
     (group_named _ _ _ c.in_ok-group.ensures) (group_named _ _ _ c.in_ok-group-2.ensures) tt (element_named _ _ _ _ _ c.in_ok-element-3.ensures)
@@ -47,7 +47,7 @@ build-requires-clause-named c =
 
 pub build-requires-clause-bounded : goal.build-requires-clause-bounded
 build-requires-clause-bounded c =
-    all_at IsPrimitive c.new-10.result.primitives (c.form.result ∷ []) (ap (λ (n : Named). n.primitives) c.new-10.ensures ∙ c.in_ok-forms.ensures.items)
+    all_at IsPrimitive c.new-tables.result.primitives (c.form.result ∷ []) (ap (λ (n : Named). n.primitives) c.new-tables.ensures ∙ c.in_ok-forms.ensures.items)
     (All-cons IsPrimitive c.form.result [] c.form.ensures (All-nil IsPrimitive))
 
 pub returns : goal.returns

@@ -12,7 +12,7 @@ use Rattle.dfdl_parse.proofs.run.run.Given as goal
 abbrev pub invariant-steps : goal.invariant-steps
 invariant-steps g l = record {
   low : NeedsFrom l.sight.base l.parser.focus l.parser.stack (state_of l.parser);
-  holds : Holds l.sight.base l.parser.focus (state_of l.parser);
+  holds : Holds l.sight.base l.parser.focus l.parser.stack (state_of l.parser);
   at : l.parser.at ≤ 8 * end_of l.sight;
   most : HasSameLimits l.fn.parser l.parser;
   registered : IsRegistered l.terms l.parser;

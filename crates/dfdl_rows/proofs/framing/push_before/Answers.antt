@@ -1,34 +1,23 @@
-use Rattle.std.proofs.Common.{◌^◌, ◌++◌, arith}
-use Rattle.dfdl_rows.specs.Framing.{skip_rows, align_rows, initiator_rows}
+use Rattle.std.proofs.Common.{◌^◌, arith, length-append}
+use Rattle.dfdl_rows.specs.Framing.{fill_rows, test_rows}
 use Rattle.dfdl_rows.proofs.Pushed.{others_few, both_rows, both_numbers}
 use Rattle.dfdl_rows.proofs.framing.push_before.Goals as goal
 
-pub push_align-requires : goal.push_align-requires
-push_align-requires c =
-    let few = others_few c.args.rows.now.items (skip_rows c.args.framing.leading_skip) (align_rows c.args.framing.alignment ++ initiator_rows c.args.framing.initiator)
-    c.push_skip.new.rows.items c.in_ok-push_skip.ensures.rows (2 ^ 32) c.requires in
-    omega (arith, few)
+pub push_tests-requires : goal.push_tests-requires
+push_tests-requires c = omega (arith, c.requires, length-append (test_rows c.args.framing.tests) (fill_rows c.args.framing))
 
-pub push_initiator-requires : goal.push_initiator-requires
-push_initiator-requires c =
-    let first = others_few c.args.rows.now.items (skip_rows c.args.framing.leading_skip) (align_rows c.args.framing.alignment ++ initiator_rows c.args.framing.initiator)
-    c.push_skip.new.rows.items c.in_ok-push_skip.ensures.rows (2 ^ 32) c.requires in
-    let few = others_few c.push_skip.new.rows.items (align_rows c.args.framing.alignment) (initiator_rows c.args.framing.initiator)
-    c.push_align.new.rows.items c.in_ok-push_align.ensures.rows (2 ^ 32) first in
-    omega (arith, few)
+pub push_fill-requires : goal.push_fill-requires
+push_fill-requires c =
+    others_few c.args.rows.now.items (test_rows c.args.framing.tests) (fill_rows c.args.framing)
+    c.push_tests.new.rows.items c.in_ok-push_tests.ensures.rows (2 ^ 32) c.requires
 
 pub returns-clause-rows : goal.returns-clause-rows
 returns-clause-rows c =
-    both_rows c.args.rows.now.items (skip_rows c.args.framing.leading_skip) (align_rows c.args.framing.alignment ++ initiator_rows c.args.framing.initiator)
-    c.push_skip.new.rows.items c.in_ok-push_skip.ensures.rows c.push_initiator.new.rows.items
-    (both_rows c.push_skip.new.rows.items (align_rows c.args.framing.alignment) (initiator_rows c.args.framing.initiator)
-    c.push_align.new.rows.items c.in_ok-push_align.ensures.rows c.push_initiator.new.rows.items c.in_ok-push_initiator.ensures.rows)
+    both_rows c.args.rows.now.items (test_rows c.args.framing.tests) (fill_rows c.args.framing)
+    c.push_tests.new.rows.items c.in_ok-push_tests.ensures.rows c.push_fill.new.rows.items c.in_ok-push_fill.ensures.rows
 
 pub returns-clause-group : goal.returns-clause-group
 returns-clause-group c =
-    both_numbers c.args.rows.now.items (skip_rows c.args.framing.leading_skip) (align_rows c.args.framing.alignment ++ initiator_rows c.args.framing.initiator)
-    c.push_skip.new.rows.items c.in_ok-push_skip.ensures.rows
-    c.args.group.now.items c.push_skip.new.group.items c.push_initiator.new.group.items c.in_ok-push_skip.ensures.group
-    (both_numbers c.push_skip.new.rows.items (align_rows c.args.framing.alignment) (initiator_rows c.args.framing.initiator)
-    c.push_align.new.rows.items c.in_ok-push_align.ensures.rows
-    c.push_skip.new.group.items c.push_align.new.group.items c.push_initiator.new.group.items c.in_ok-push_align.ensures.group c.in_ok-push_initiator.ensures.group)
+    both_numbers c.args.rows.now.items (test_rows c.args.framing.tests) (fill_rows c.args.framing)
+    c.push_tests.new.rows.items c.in_ok-push_tests.ensures.rows
+    c.args.group.now.items c.push_tests.new.group.items c.push_fill.new.group.items c.in_ok-push_tests.ensures.group c.in_ok-push_fill.ensures.group

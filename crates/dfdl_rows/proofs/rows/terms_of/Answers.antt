@@ -4,7 +4,7 @@ use Rattle.dfdl_rows.specs.Leaves.{HaveLeaves, HaveBareLeaves}
 use Rattle.dfdl_rows.proofs.rows.terms_of.Goals as goal
 
 pub built-requires-clause-named : goal.built-requires-clause-named
-built-requires-clause-named c = c.in-Ok.ensures.named c.args.tables c.requires.primitives c.requires.delimiters
+built-requires-clause-named c = c.in-Ok.ensures.named c.args.tables c.requires.primitives c.requires.delimiters c.requires.tests
 
 pub returns-in-Ok-clause-leaves : goal.returns-in-Ok-clause-leaves
 returns-in-Ok-clause-leaves c =

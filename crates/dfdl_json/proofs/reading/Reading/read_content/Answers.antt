@@ -6,7 +6,7 @@ use Rattle.dfdl_json.specs.Found.{noted}
 use Rattle.dfdl_json.specs.Infosets.{simple_findings, complex_findings, findings, value_in}
 use Rattle.dfdl_json.specs.Reading.{coming, data_at}
 use Rattle.dfdl_json.proofs.Declares.{there, on_ok, on_ok_four, below_elem}
-use Rattle.dfdl_json.proofs.Contents.{left_same, simple_less, complex_less, simple_comes, complex_comes, bare_comes, leaf_says, group_says, skip_says, align_says, initiator_says, terminator_says, separator_says, scope_says, repeat_says, optional_says, choice_says, box_says, prefixed_leaf_says, prefixed_box_says, no_row_says, less_left}
+use Rattle.dfdl_json.proofs.Contents.{left_same, simple_less, complex_less, simple_comes, complex_comes, bare_comes, leaf_says, group_says, skip_says, align_says, initiator_says, terminator_says, separator_says, scope_says, repeat_says, optional_says, choice_says, test_says, hidden_says, separated_says, box_says, prefixed_leaf_says, prefixed_box_says, no_row_says, less_left}
 use Rattle.dfdl_json.proofs.reading.Reading.read_content.Goals as goal
 
 pub returns-in-Some-clause-same : goal.returns-in-Some-clause-same
@@ -134,7 +134,7 @@ pub returns-in-Some-Optional-clause-same : goal.returns-in-Some-Optional-clause-
 returns-in-Some-Optional-clause-same c =
     bare_comes c.args.terms.now c.args.row (view c.args.content.now) c.args.self.now.around c.args.self.now.found c.args.self.now.tasks.items
     (data_at c.args.self.now.contents.items)
-    (optional_says c.args.terms.now c.args.row (view c.args.content.now) c.args.self.now.around _ _ _ (there _ _ _ c.in-Some-Optional.ensures.row c.in-Some-Optional.field-0-is))
+    (optional_says c.args.terms.now c.args.row (view c.args.content.now) c.args.self.now.around _ _ _ _ (there _ _ _ c.in-Some-Optional.ensures.row c.in-Some-Optional.field-0-is))
 
 pub returns-in-Some-Optional-clause-less : goal.returns-in-Some-Optional-clause-less
 returns-in-Some-Optional-clause-less c = less_left c.args.terms.now c.args.row c.args.self.now.tasks.items
@@ -143,7 +143,7 @@ pub returns-in-Some-Choice-clause-same : goal.returns-in-Some-Choice-clause-same
 returns-in-Some-Choice-clause-same c =
     bare_comes c.args.terms.now c.args.row (view c.args.content.now) c.args.self.now.around c.args.self.now.found c.args.self.now.tasks.items
     (data_at c.args.self.now.contents.items)
-    (choice_says c.args.terms.now c.args.row (view c.args.content.now) c.args.self.now.around _ (there _ _ _ c.in-Some-Choice.ensures.row c.in-Some-Choice.field-0-is))
+    (choice_says c.args.terms.now c.args.row (view c.args.content.now) c.args.self.now.around _ _ (there _ _ _ c.in-Some-Choice.ensures.row c.in-Some-Choice.field-0-is))
 
 pub returns-in-Some-Choice-clause-less : goal.returns-in-Some-Choice-clause-less
 returns-in-Some-Choice-clause-less c = less_left c.args.terms.now c.args.row c.args.self.now.tasks.items
@@ -167,6 +167,33 @@ returns-in-Some-PrefixedBox-clause-same c =
 
 pub returns-in-Some-PrefixedBox-clause-less : goal.returns-in-Some-PrefixedBox-clause-less
 returns-in-Some-PrefixedBox-clause-less c = less_left c.args.terms.now c.args.row c.args.self.now.tasks.items
+
+pub returns-in-Some-Test-clause-same : goal.returns-in-Some-Test-clause-same
+returns-in-Some-Test-clause-same c =
+    bare_comes c.args.terms.now c.args.row (view c.args.content.now) c.args.self.now.around c.args.self.now.found c.args.self.now.tasks.items
+    (data_at c.args.self.now.contents.items)
+    (test_says c.args.terms.now c.args.row (view c.args.content.now) c.args.self.now.around _ (there _ _ _ c.in-Some-Test.ensures.row c.in-Some-Test.field-0-is))
+
+pub returns-in-Some-Test-clause-less : goal.returns-in-Some-Test-clause-less
+returns-in-Some-Test-clause-less c = less_left c.args.terms.now c.args.row c.args.self.now.tasks.items
+
+pub returns-in-Some-Hidden-clause-same : goal.returns-in-Some-Hidden-clause-same
+returns-in-Some-Hidden-clause-same c =
+    bare_comes c.args.terms.now c.args.row (view c.args.content.now) c.args.self.now.around c.args.self.now.found c.args.self.now.tasks.items
+    (data_at c.args.self.now.contents.items)
+    (hidden_says c.args.terms.now c.args.row (view c.args.content.now) c.args.self.now.around _ (there _ _ _ c.in-Some-Hidden.ensures.row c.in-Some-Hidden.field-0-is))
+
+pub returns-in-Some-Hidden-clause-less : goal.returns-in-Some-Hidden-clause-less
+returns-in-Some-Hidden-clause-less c = less_left c.args.terms.now c.args.row c.args.self.now.tasks.items
+
+pub returns-in-Some-Separated-clause-same : goal.returns-in-Some-Separated-clause-same
+returns-in-Some-Separated-clause-same c =
+    bare_comes c.args.terms.now c.args.row (view c.args.content.now) c.args.self.now.around c.args.self.now.found c.args.self.now.tasks.items
+    (data_at c.args.self.now.contents.items)
+    (separated_says c.args.terms.now c.args.row (view c.args.content.now) c.args.self.now.around _ _ _ _ (there _ _ _ c.in-Some-Separated.ensures.row c.in-Some-Separated.field-0-is))
+
+pub returns-in-Some-Separated-clause-less : goal.returns-in-Some-Separated-clause-less
+returns-in-Some-Separated-clause-less c = less_left c.args.terms.now c.args.row c.args.self.now.tasks.items
 
 pub returns-in-None-clause-same : goal.returns-in-None-clause-same
 returns-in-None-clause-same c =

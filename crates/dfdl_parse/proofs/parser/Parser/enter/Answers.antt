@@ -1,7 +1,13 @@
-use Rattle.std.proofs.Common.{◌-◌, refl, arith}
+use Rattle.std.proofs.Common.{◌-◌, ◌∙◌, refl, sym, ap, arith}
 use Rattle.dfdl_looks.specs.Tallies.{one_row}
 use Rattle.dfdl_parse.specs.Shown.{limits_of, state_of}
-use Rattle.dfdl_parse.proofs.Landings.{box-entered, leaf-entered, scope-entered}
+use Rattle.dfdl_parse.proofs.Landings.{box-entered, leaf-entered, scope-entered, separated-entered, test-entered}
+use Rattle.std.proofs.Common.{List}
+use Rattle.dfdl_terms.specs.declared.row.Row.TheVariants.{Separated}
+use Rattle.dfdl_terms.specs.declared.slots.Slot.{Slot}
+use Rattle.dfdl_parse.specs.Slots.{enter_separated}
+use Rattle.dfdl_parse.proofs.SlotMoves.{separated-passes}
+use Rattle.dfdl_parse.proofs.SlotTakes.{row-moved}
 use Rattle.dfdl_parse.proofs.parser.Parser.enter.Goals as goal
 
 pub returns-in_ok-waits-in-Leaf-clause-moved : goal.returns-in_ok-waits-in-Leaf-clause-moved
@@ -24,3 +30,26 @@ returns-in_ok-begin_scope-in-Scope-clause-moved g c =
     scope-entered (limits_of old c.args.sight.now) c.args.terms.now c.args.sight.now c.args.id c.row.result.now old.stack (state_of old) old.far c.begin_scope.new.self
     c.row.ensures.row c.in-Scope.list c.in-Scope.body (c.args.steps.now - c.args.steps.now) c.in-Scope.is (omega arith)
     (c.in_ok-begin_scope-in-Scope.ensures.moved c.args.sight.now one_row (refl, refl))
+
+pub returns-in_ok-begin_separated-in-Separated-clause-moved : goal.returns-in_ok-begin_separated-in-Separated-clause-moved
+returns-in_ok-begin_separated-in-Separated-clause-moved g c =
+    let old = c.args.self.now in
+    let held = c.args.sight.now in
+    let slots : List Slot = c.as_slice-in-Separated.result.now in
+    separated-entered (limits_of old held) c.args.terms.now held c.args.id c.row.result.now old.stack (state_of old) old.far c.begin_separated.new.self
+    c.row.ensures.row c.in-Separated.policy c.in-Separated.position c.in-Separated.initiated slots (c.args.steps.now - c.args.steps.now)
+    (c.in-Separated.is ∙ ap (Separated c.in-Separated.policy c.in-Separated.position c.in-Separated.initiated) (sym c.as_slice-in-Separated.ensures)) (omega arith)
+    (row-moved old c.begin_separated.new.self held
+    (enter_separated held c.args.id c.in-Separated.policy c.in-Separated.position c.in-Separated.initiated slots old.stack (state_of old))
+    (separated-passes held c.in-Separated.initiated old.stack c.args.id c.in-Separated.policy c.in-Separated.position slots (state_of old))
+    (c.in_ok-begin_separated-in-Separated.ensures.becomes held))
+
+pub returns-in_ok-begin_separated-in-Separated-clause-most : goal.returns-in_ok-begin_separated-in-Separated-clause-most
+returns-in_ok-begin_separated-in-Separated-clause-most g c = (c.in_ok-begin_separated-in-Separated.ensures.becomes c.args.sight.now).limits
+
+pub returns-in_ok-waits-in-Test-clause-moved : goal.returns-in_ok-waits-in-Test-clause-moved
+returns-in_ok-waits-in-Test-clause-moved g c =
+    let old = c.args.self.now in
+    test-entered (limits_of old c.args.sight.now) c.args.terms.now c.args.sight.now c.args.id c.row.result.now old.stack (state_of old) old.far c.begin_test.new.self
+    c.row.ensures.row old.focus c.in-Test.test c.in_ok-waits-in-Test.waits c.begin_test.new.sight (c.begin_test.new.steps - c.args.steps.now)
+    c.in-Test.is c.requires.focus (c.in_ok-waits-in-Test.ensures.moved one_row (refl, refl))

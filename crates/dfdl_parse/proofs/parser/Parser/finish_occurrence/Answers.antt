@@ -14,5 +14,5 @@ pub returns-then-stays-clause-moved : goal.returns-then-stays-clause-moved
 returns-then-stays-clause-moved c held =
     let old = c.args.self.now in
     subst (λ (b : Bool). Moved (cond b (pass nothing held (Leave Done) old.stack (dropped (state_of old)))
-    (try_occurrence nothing held c.args.body c.args.left old.stack (closed (state_of old)))) false old.far c.drop_occurrence.new.self held 0)
+    (try_occurrence nothing held c.args.body c.args.initiated c.args.left old.stack (closed (state_of old)))) false old.far c.drop_occurrence.new.self held 0)
     (sym (sym c.stays_at-stays.ensures ∙ c.if-stays.true)) (c.drop_occurrence.ensures.moved held)

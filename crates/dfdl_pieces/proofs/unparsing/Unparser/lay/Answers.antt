@@ -5,7 +5,7 @@ use Rattle.dfdl_pieces.specs.declared.unparsing.Task.TheVariants.{Lay}
 use Rattle.dfdl_pieces.specs.Laying.{Takes, begins, begun_laying, form_at, laying, value_for, value_laying}
 use Rattle.dfdl_pieces.specs.Unparsing.{left, outcome, steps_left}
 use Rattle.dfdl_json.specs.Steps.{steps_of}
-use Rattle.dfdl_pieces.proofs.Layings.{laid_simple, laid_complex, laid_group, laid_leaf, laid_skip, laid_align, laid_initiator, laid_terminator, laid_separator, laid_scope, laid_boxed, laid_prefixed_leaf, laid_prefixed_box, laid_repeat, laid_optional, laid_choice, laid_no_row, same_less, group_less, repeat_less, complex_less}
+use Rattle.dfdl_pieces.proofs.Layings.{laid_simple, laid_complex, laid_group, laid_leaf, laid_skip, laid_align, laid_initiator, laid_terminator, laid_separator, laid_scope, laid_boxed, laid_prefixed_leaf, laid_prefixed_box, laid_repeat, laid_optional, laid_choice, laid_nothing, laid_no_row, same_less, group_less, repeat_less, complex_less}
 use Rattle.dfdl_pieces.proofs.Moving.{if_ok, if_ok_both, if_ok_any, is_less, less_too, moves_too, moves_same, moves_group}
 use Rattle.dfdl_pieces.proofs.unparsing.Unparser.lay.Goals as goal
 
@@ -177,7 +177,8 @@ pub returns-in-Some-Optional-clause-moves : goal.returns-in-Some-Optional-clause
 returns-in-Some-Optional-clause-moves c =
     let old = c.args.self.now in
     let t = c.args.terms.now in
-    ap (outcome old c.args.events.now) (sym (laid_optional t c.args.row old.around (left t old.tasks.items old.around) _ _ _ (there _ _ _ c.in-Some-Optional.ensures.row c.in-Some-Optional.field-0-is)))
+    ap (outcome old c.args.events.now) (sym (laid_optional t c.args.row old.around (left t old.tasks.items old.around) _ _ _ _
+    (there _ _ _ c.in-Some-Optional.ensures.row c.in-Some-Optional.field-0-is)))
 
 pub returns-in-Some-Optional-clause-less : goal.returns-in-Some-Optional-clause-less
 returns-in-Some-Optional-clause-less c = same_less c.args.terms.now c.args.row c.args.self.now.tasks.items c.args.self.now.tasks.items refl
@@ -186,10 +187,41 @@ pub returns-in-Some-Choice-clause-moves : goal.returns-in-Some-Choice-clause-mov
 returns-in-Some-Choice-clause-moves c =
     let old = c.args.self.now in
     let t = c.args.terms.now in
-    ap (outcome old c.args.events.now) (sym (laid_choice t c.args.row old.around (left t old.tasks.items old.around) _ (there _ _ _ c.in-Some-Choice.ensures.row c.in-Some-Choice.field-0-is)))
+    ap (outcome old c.args.events.now) (sym (laid_choice t c.args.row old.around (left t old.tasks.items old.around) _ _
+    (there _ _ _ c.in-Some-Choice.ensures.row c.in-Some-Choice.field-0-is)))
 
 pub returns-in-Some-Choice-clause-less : goal.returns-in-Some-Choice-clause-less
 returns-in-Some-Choice-clause-less c = same_less c.args.terms.now c.args.row c.args.self.now.tasks.items c.args.self.now.tasks.items refl
+
+pub returns-in-Some-Test-clause-moves : goal.returns-in-Some-Test-clause-moves
+returns-in-Some-Test-clause-moves c =
+    let old = c.args.self.now in
+    let t = c.args.terms.now in
+    ap (outcome old c.args.events.now) (sym (laid_nothing t c.args.row old.around (left t old.tasks.items old.around) _
+    (there _ _ _ c.in-Some-Test.ensures.row c.in-Some-Test.field-0-is) refl))
+
+pub returns-in-Some-Test-clause-less : goal.returns-in-Some-Test-clause-less
+returns-in-Some-Test-clause-less c = same_less c.args.terms.now c.args.row c.args.self.now.tasks.items c.args.self.now.tasks.items refl
+
+pub returns-in-Some-Hidden-clause-moves : goal.returns-in-Some-Hidden-clause-moves
+returns-in-Some-Hidden-clause-moves c =
+    let old = c.args.self.now in
+    let t = c.args.terms.now in
+    ap (outcome old c.args.events.now) (sym (laid_nothing t c.args.row old.around (left t old.tasks.items old.around) _
+    (there _ _ _ c.in-Some-Hidden.ensures.row c.in-Some-Hidden.field-0-is) refl))
+
+pub returns-in-Some-Hidden-clause-less : goal.returns-in-Some-Hidden-clause-less
+returns-in-Some-Hidden-clause-less c = same_less c.args.terms.now c.args.row c.args.self.now.tasks.items c.args.self.now.tasks.items refl
+
+pub returns-in-Some-Separated-clause-moves : goal.returns-in-Some-Separated-clause-moves
+returns-in-Some-Separated-clause-moves c =
+    let old = c.args.self.now in
+    let t = c.args.terms.now in
+    ap (outcome old c.args.events.now) (sym (laid_nothing t c.args.row old.around (left t old.tasks.items old.around) _
+    (there _ _ _ c.in-Some-Separated.ensures.row c.in-Some-Separated.field-0-is) refl))
+
+pub returns-in-Some-Separated-clause-less : goal.returns-in-Some-Separated-clause-less
+returns-in-Some-Separated-clause-less c = same_less c.args.terms.now c.args.row c.args.self.now.tasks.items c.args.self.now.tasks.items refl
 
 pub returns-in-Some-PrefixedLeaf-clause-moves : goal.returns-in-Some-PrefixedLeaf-clause-moves
 returns-in-Some-PrefixedLeaf-clause-moves c =

@@ -87,3 +87,22 @@ returns-in_ok-found-in-SimpleElement-clause-ready c = rest_ready _ _ _ _ _ c.req
 pub returns-in_ok-found-in-SimpleElement-clause-less : goal.returns-in_ok-found-in-SimpleElement-clause-less
 returns-in_ok-found-in-SimpleElement-clause-less c =
     rest_less c.args.components.now c.requires.ready.order c.requires.ready.are_known.is_order c.args.number (c.requires.ready.within 0 c.args.number (omega arith)) c.args.self.now.tasks.items
+
+pub returns-in_ok-visit_all-in-Hidden-clause-step : goal.returns-in_ok-visit_all-in-Hidden-clause-step
+returns-in_ok-visit_all-in-Hidden-clause-step c =
+    sequence_step c.args.components.now c.args.known.idle.now c.args.known.refusals.now c.args.number c.args.self.now.tasks.items c.requires.ready
+    (stand_of c.args.self.now.level c.args.self.now.outer.items) (contains (λ x y. slice_cmp nat_cmp x.now y.now) c.args.self.now.names) c.requires.kept
+    c.visit_all-in-Hidden.new.tasks.items _ c.requires.unrefused (sym c.in-Hidden.is ∙ c.component.ensures.component) (λ p parts. refl)
+    (c.in_ok-visit_all-in-Hidden.ensures ∙ ap (λ (ps : List ℕ). map Visit ps ++ c.args.self.now.tasks.items) c.parts-in-Hidden.ensures.parts)
+
+pub returns-in_ok-visit_all-in-Hidden-clause-ready : goal.returns-in_ok-visit_all-in-Hidden-clause-ready
+returns-in_ok-visit_all-in-Hidden-clause-ready c =
+    tasks_ready _ _ _ c.args.number c.args.self.now.tasks.items c.visit_all-in-Hidden.new.tasks.items c.requires.ready
+    (c.in_ok-visit_all-in-Hidden.ensures ∙ ap (λ (ps : List ℕ). map Visit ps ++ c.args.self.now.tasks.items) c.parts-in-Hidden.ensures.parts)
+
+pub returns-in_ok-visit_all-in-Hidden-clause-less : goal.returns-in_ok-visit_all-in-Hidden-clause-less
+returns-in_ok-visit_all-in-Hidden-clause-less c =
+    subst
+    (λ (ts : List Task). looks_left c.args.components.now ts < looks_of c.args.components.now c.args.number + looks_left c.args.components.now c.args.self.now.tasks.items)
+    (sym (c.in_ok-visit_all-in-Hidden.ensures ∙ ap (λ (ps : List ℕ). map Visit ps ++ c.args.self.now.tasks.items) c.parts-in-Hidden.ensures.parts))
+    (parts_less c.args.components.now c.requires.ready.order c.requires.ready.are_known.is_order c.args.number (c.requires.ready.within 0 c.args.number (omega arith)) c.args.self.now.tasks.items)

@@ -1,0 +1,15 @@
+use Rattle.std.proofs.Common.{refl}
+use Rattle.dfdl_breaches.proofs.HiddenKinds.{unhidden, untested}
+use Rattle.dfdl_breaches.proofs.laws.statements_are_for_parsing.Goals as goal
+
+pub returns-clause-tests : goal.returns-clause-tests
+returns-clause-tests c = λ refused documents own. untested refused documents own
+
+pub returns-clause-hidden : goal.returns-clause-hidden
+returns-clause-hidden c = λ documents own. unhidden documents own
+
+pub returns-clause-initiated : goal.returns-clause-initiated
+returns-clause-initiated c = λ refused documents own. refl
+
+pub returns-clause-counted : goal.returns-clause-counted
+returns-clause-counted c = λ refused documents own. refl

@@ -1,0 +1,19 @@
+use Rattle.std.proofs.Common.{OnOk, cond, subst, sym}
+use Rattle.dfdl_separators.specs.declared.moves.SlotMove.{SlotMove}
+use Rattle.dfdl_separators.specs.declared.verdict.Here.{Here}
+use Rattle.dfdl_looks.specs.Tallies.{nothing}
+use Rattle.dfdl_grammar.specs.Slots.{opens_before, taken_back}
+use Rattle.dfdl_parse.specs.declared.frame.SlotPlace.{SlotPlace}
+use Rattle.dfdl_parse.specs.Shown.{Becomes, state_of}
+use Rattle.dfdl_parse.specs.Slots.{without_separator, goes_on}
+use Rattle.dfdl_parse.proofs.parser.Parser.leave_out.Goals as goal
+
+pub returns-in-EndArray-clause-becomes : goal.returns-in-EndArray-clause-becomes
+returns-in-EndArray-clause-becomes c held =
+    let old = c.args.self.now in
+    let new = c.skip_slot.new.self in
+    subst (λ (move : SlotMove). OnOk c.skip_slot.result (Becomes old (without_separator held c.args.initiated c.args.slot c.args.own.now c.args.later.now c.args.after move c.args.end old.stack (state_of old)).machine new)) (sym c.in-EndArray.is)
+    (subst (λ (here : Here). OnOk c.skip_slot.result (Becomes old (goes_on nothing held c.args.initiated (record c.args.slot { progress = c.args.after; left = 0 }) c.args.own.now c.args.later.now
+    old.stack (cond (opens_before here) (taken_back here (state_of old)) (state_of old))).machine new)) c.here_of-here.ensures
+    (subst (λ (place : SlotPlace). OnOk c.skip_slot.result (Becomes old (goes_on nothing held c.args.initiated place c.args.own.now c.args.later.now
+    old.stack (cond (opens_before c.here_of-here.result) (taken_back c.here_of-here.result (state_of old)) (state_of old))).machine new)) c.without_more.ensures (c.skip_slot.ensures.becomes held nothing)))

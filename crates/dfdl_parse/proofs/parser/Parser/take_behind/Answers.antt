@@ -1,0 +1,28 @@
+use Rattle.dfdl_looks.specs.Tallies.{needs_from}
+use Rattle.dfdl_grammar.specs.declared.end.End.TheVariants.{Done}
+use Rattle.dfdl_parse.specs.declared.frame.Focus.TheVariants.{LookBehind}
+use Rattle.dfdl_parse.specs.Shown.{limits_of, state_of}
+use Rattle.dfdl_parse.specs.Slots.{settled}
+use Rattle.dfdl_parse.proofs.SlotMoves.{settled-passes}
+use Rattle.dfdl_parse.proofs.SlotTakes.{answer-moved}
+use Rattle.std.proofs.Common.{[], false, subst, sym}
+use Rattle.dfdl_bits.specs.Window.{Held}
+use Rattle.dfdl_looks.specs.Tallies.{nothing}
+use Rattle.dfdl_parse.specs.declared.parser.Parser.{Parser}
+use Rattle.dfdl_parse.specs.Shown.{HasSameLimits}
+use Rattle.dfdl_parse.proofs.parser.Parser.take_behind.Goals as goal
+
+pub returns-in_ok-settle_by-in-Holds-clause-moved : goal.returns-in_ok-settle_by-in-Holds-clause-moved
+returns-in_ok-settle_by-in-Holds-clause-moved c sight looks reading answers size =
+    let old = c.args.self.now in
+    answer-moved old c.settle_by.new.self c.see.new.self (limits_of old sight) (LookBehind c.args.slot c.args.bit) sight
+    (λ found. settled (needs_from sight.base reading.tally) sight c.args.initiated c.args.slot c.args.bit c.args.own.now c.args.later.now found Done old.stack (state_of old))
+    reading c.args.told looks c.in-Holds.found old.stack (state_of old) answers c.in-Holds.is
+    (settled-passes sight c.args.initiated old.stack (needs_from sight.base reading.tally) c.args.slot c.args.bit c.args.own.now c.args.later.now c.in-Holds.found Done
+    (state_of old))
+    (c.in_ok-settle_by-in-Holds.ensures.becomes sight (needs_from sight.base reading.tally)) c.see.ensures
+
+pub returns-in_ok-settle_by-in-Holds-clause-most : goal.returns-in_ok-settle_by-in-Holds-clause-most
+returns-in_ok-settle_by-in-Holds-clause-most c =
+    let any : Held = record { bytes = []; base = 0; size = 0; ended = false } in
+    subst (λ (p : Parser). HasSameLimits c.args.self.now p) (sym c.see.ensures) (c.in_ok-settle_by-in-Holds.ensures.becomes any nothing).limits

@@ -1,0 +1,84 @@
+// The row of a sequence with separators, some of whose occurrences are tried.
+ghost use Rattle.std.specs.Prelude.{◌≡◌, ◌<◌, ◌+◌, ◌^◌, ◌++◌, get_or, length, IfOk, OnOk};
+ghost use Rattle.dfdl_rows.specs.Apart as spec;
+ghost use Rattle.dfdl_rows.specs.Times.{has_slot};
+
+use crate::component::Separated;
+use crate::times::{Times, have_tried};
+use dfdl_terms::{Row, RowId, Slot, SlotList};
+use std::alloc::{AllocError, Global};
+
+/// The separators of a sequence, where it has some and some of the occurrences of its parts are tried.
+pub(crate) fn apart(separated: Option<Separated>, slots: &[Times]) -> Option<Separated>
+    ensures { result ≡ spec.apart separated slots.now }
+{
+    match separated {
+        Some(own) => { if have_tried(slots) { Some(own) } else { None } }
+        None => None,
+    }
+}
+
+/// The row of the part of a number.
+pub(crate) fn part_at(parts: &[RowId], at: usize) -> RowId
+    ensures { result ≡ get_or parts.now at 0 }
+{
+    if at < parts.len() {
+        parts[at]
+    } else {
+        RowId::new(0)
+    }
+}
+
+// Whether a part has a slot.
+fn has_slot(times: Times) -> bool
+    ensures { result ≡ has_slot times }
+{
+    times.least > 0 || times.further > 0
+}
+
+// Adds the slot of a part, where it has one.
+fn push_slot(slots: &mut Vec<Slot>, times: Times, part: RowId) -> Result<(), AllocError>
+    ensures { OnOk result (slots.new.items ≡ slots.old.items ++ spec.slot_if times part) }
+{
+    if !has_slot(times) {
+        return Ok(());
+    }
+    slots.push(Slot {
+        body: part,
+        least: times.least,
+        further: times.further,
+        is_parsed: times.is_parsed,
+        is_item: times.is_item,
+    })?;
+    Ok(())
+}
+
+// The slots of parts, which occur so often.
+fn slots_of(alloc: Global, slots: &[Times], parts: &[RowId]) -> Result<SlotList, AllocError>
+    ensures { IfOk result (λ made. made ≡ spec.slots_from parts.now slots.now 0) }
+{
+    let mut made = Vec::new(alloc);
+    for at in 0..slots.len() {
+        push_slot(&mut made, slots[at], part_at(parts, at))?;
+    }
+    Ok(SlotList::from_vec(made))
+}
+
+/// The row of a sequence with these separators, of whose parts these are the last rows, which occur so often.
+pub(crate) fn apart_row(
+    alloc: Global,
+    initiated: bool,
+    slots: &[Times],
+    parts: &[RowId],
+    separated: Separated,
+) -> Result<Row, AllocError>
+    ensures { IfOk result (λ row. row ≡ spec.apart_row initiated slots.now parts.now separated) }
+{
+    let slots = slots_of(alloc, slots, parts)?;
+    Ok(Row::Separated {
+        policy: separated.policy,
+        position: separated.position,
+        initiated,
+        slots,
+    })
+}

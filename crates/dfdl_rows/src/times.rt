@@ -1,0 +1,49 @@
+// How often a part occurs in the group that it stands in.
+ghost use Rattle.std.specs.Prelude.{◌≡◌};
+ghost use Rattle.dfdl_rows.specs.Times as spec;
+
+use dfdl_terms::Occurs;
+
+/// How often a part occurs in the group that it stands in.
+#[derive(Debug, Clone, Copy, PartialEq, Eq)]
+pub(crate) struct Times {
+    /// How many occurrences are required. These are not tried.
+    pub(crate) least: u32,
+    /// How many more there are at most, each of which is tried.
+    pub(crate) further: u64,
+    /// Each is an item of an array.
+    pub(crate) is_item: bool,
+    /// Those that are tried are of occursCountKind parsed.
+    pub(crate) is_parsed: bool,
+}
+
+/// So many times, each of which is required.
+pub(crate) fn required_times(count: u32) -> Times
+    ensures { result ≡ spec.required_times count }
+{
+    Times {
+        least: count,
+        further: 0,
+        is_item: count > 1,
+        is_parsed: false,
+    }
+}
+
+/// As often as an element occurs, of occursCountKind parsed or not.
+pub(crate) fn times_of(occurs: Occurs, is_parsed: bool) -> Times
+    ensures { result ≡ spec.times_of occurs is_parsed }
+{
+    Times {
+        least: occurs.least,
+        further: occurs.further,
+        is_item: occurs.is_item,
+        is_parsed,
+    }
+}
+
+/// Whether some of the occurrences of some part are tried.
+pub(crate) fn have_tried(slots: &[Times]) -> bool
+    ensures { result ≡ spec.have_tried slots.now }
+{
+    slots.iter().any(|times| times.further > 0)
+}

@@ -56,7 +56,7 @@ use Rattle.dfdl_parse.proofs.TestSteps.{test-from}
 use Rattle.dfdl_parse.specs.Running.{Slid}
 use Rattle.dfdl_parse.proofs.Windows.{agrees_from, end_from}
 use Rattle.dfdl_parse.proofs.Beyond.{beyond-byte, beyond-end}
-use Rattle.dfdl_parse.proofs.Programs.{program_for-from}
+use Rattle.dfdl_leaves.proofs.Programs.{program_for-from}
 use Rattle.dfdl_parse.proofs.Seeks.{sought-from}
 use Rattle.dfdl_report.specs.declared.cause.LimitCause.TheVariants.{Window}
 use Rattle.dfdl_grammar.specs.Slots.{is_empty_at, separator_follows}

@@ -36,7 +36,7 @@ use Rattle.dfdl_parse.specs.Moves.{Machine, Move, is_missing, landed, pass, read
 use Rattle.dfdl_parse.specs.Prefixed.{at_end, can_fit, landed_prefix, prefix_move, read_prefix, read_resized, read_sized, sized_begins, units_begin}
 use Rattle.dfdl_parse.specs.Ahead.{finish, ahead}
 use Rattle.dfdl_parse.proofs.Windows.{agrees_from}
-use Rattle.dfdl_parse.proofs.Programs.{program_for-from}
+use Rattle.dfdl_leaves.proofs.Programs.{program_for-from}
 use Rattle.dfdl_parse.proofs.Finishes.{Anchored, Does, after_nothing, finish-spend, found, land-nothing}
 
 -- the window shows the data at a leaf: it agrees with them, has the size of the limit, and holds the bytes that are needed

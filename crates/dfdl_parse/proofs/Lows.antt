@@ -58,7 +58,7 @@ use Rattle.dfdl_parse.proofs.Resolved.{sought-comes, tested-comes}
 use Rattle.dfdl_terms.specs.declared.asserting.PatternTest.{PatternTest}
 use Rattle.dfdl_parse.proofs.Beyond.{beyond-byte}
 use Rattle.dfdl_parse.proofs.Opens.{IsMarked, back-closed, back-open, closed-open, later, lower, mark-back-open, mark-open, resolved-open, risen, some-mark, stayed-closed}
-use Rattle.dfdl_parse.proofs.Texts.{EndsBehind, program_for-ends}
+use Rattle.dfdl_leaves.proofs.Texts.{EndsBehind, program_for-ends}
 use Rattle.dfdl_parse.specs.Slots.{separation_at, slots_from}
 use Rattle.dfdl_parse.proofs.SlotLows.{separated-low}
 use Rattle.dfdl_parse.proofs.SlotBacks.{content-low}

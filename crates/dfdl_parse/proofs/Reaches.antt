@@ -69,9 +69,9 @@ use Rattle.dfdl_grammar.specs.Slots.{closed_slot, has_mark, is_empty_at, is_trie
 use Rattle.dfdl_parse.specs.declared.frame.SlotPlace.{SlotPlace}
 use Rattle.dfdl_parse.specs.Slots.{closing_ended, content_ended, look_behind, look_in, opened_at, separation_at, slots_from, told_move}
 use Rattle.dfdl_parse.proofs.SlotComes.{Ways, closing-has, content_ended-has, done-has, failed-has, separated-has, settled-has, unslotted_end-has, unsought_end-has}
-use Rattle.dfdl_parse.proofs.Ends.{AtEnd}
+use Rattle.dfdl_leaves.proofs.Ends.{AtEnd}
 use Rattle.dfdl_parse.proofs.Finishes.{Anchored, Stands}
-use Rattle.dfdl_parse.proofs.Lies.{found-lies}
+use Rattle.dfdl_leaves.proofs.Lies.{found-lies}
 use Rattle.dfdl_parse.proofs.SeekLies.{AtText, sought-lies}
 use Rattle.dfdl_parse.proofs.Opens.{held-near, holds}
 use Rattle.dfdl_parse.proofs.Waits.{leave-on}

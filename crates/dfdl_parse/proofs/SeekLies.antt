@@ -10,7 +10,7 @@ use Rattle.dfdl_delims.specs.Lists.{Opened, innermost}
 use Rattle.dfdl_delims.specs.Longest.{Longest, NoText, better, longest_from}
 use Rattle.dfdl_grammar.specs.Delimiters.{sought_among}
 use Rattle.dfdl_grammar.specs.Framing.{aligned}
-use Rattle.dfdl_parse.proofs.Lies.{ask-before, before, before-lies}
+use Rattle.dfdl_leaves.proofs.Lies.{ask-before, before, before-lies}
 use Rattle.dfdl_parse.proofs.Seeks.{IsBefore, better-before, told_one}
 
 -- by looks that see bytes before this one alone

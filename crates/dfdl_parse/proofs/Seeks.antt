@@ -25,7 +25,7 @@ use Rattle.dfdl_grammar.specs.States.{State}
 use Rattle.dfdl_parse.specs.declared.frame.Sought.{Sought}
 use Rattle.dfdl_parse.specs.declared.frame.Sought.TheVariants.{Initiator, Terminator, Separator}
 use Rattle.dfdl_parse.specs.Searches.{EndsWithin, among, first_open, numbers_among, put_behind}
-use Rattle.dfdl_parse.proofs.Programs.{lower}
+use Rattle.dfdl_leaves.proofs.Programs.{lower}
 
 -- each look of a search is at its first byte or behind it
 pub sought-from : (lists : List Opened) (low bit stop : ℕ) → low ≤ aligned 8 bit / 8 → AsksFrom low (sought_among lists bit stop)

@@ -24,7 +24,7 @@ use Rattle.dfdl_parse.specs.declared.frame.Focus.{Focus}
 use Rattle.dfdl_parse.specs.Testing.{is_unknown, landed_test, read_test, verdict_in}
 use Rattle.dfdl_parse.specs.Ahead.{ahead, finish}
 use Rattle.dfdl_parse.proofs.Windows.{agrees_from}
-use Rattle.dfdl_parse.proofs.Programs.{lower}
+use Rattle.dfdl_leaves.proofs.Programs.{lower}
 use Rattle.dfdl_parse.proofs.Finishes.{Does, finish-spend}
 use Rattle.dfdl_parse.proofs.LeafSteps.{Sees}
 use Rattle.dfdl_parse.proofs.Resolved.{tested-nothing}

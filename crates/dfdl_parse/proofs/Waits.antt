@@ -54,7 +54,7 @@ use Rattle.dfdl_parse.specs.Trials.{attempt, parts_of, refused, retry, trial_don
 use Rattle.dfdl_parse.specs.Ahead.{finish}
 use Rattle.dfdl_parse.proofs.Windows.{agrees_from, end_from}
 use Rattle.dfdl_parse.proofs.Beyond.{beyond-missed, beyond-waits}
-use Rattle.dfdl_parse.proofs.Programs.{program_for-from}
+use Rattle.dfdl_leaves.proofs.Programs.{program_for-from}
 use Rattle.dfdl_grammar.specs.Slots.{is_empty_at, peek, separator_follows, settled_by}
 use Rattle.dfdl_terms.specs.declared.slots.Slot.{Slot}
 use Rattle.dfdl_parse.specs.declared.frame.SlotPlace.{SlotPlace}

@@ -1,4 +1,3 @@
-pub mod Views
 pub mod Moves
 pub mod Boxing
 pub mod Searches
@@ -16,9 +15,6 @@ pub mod Answers
 pub mod Shown
 pub mod Registered
 pub mod Steps
-pub mod Strings
-pub mod Nils
-pub mod Patterned
 pub mod Ahead
 pub mod Runs
 pub mod Running

@@ -1,7 +1,6 @@
 // Fill that is passed over.
 ghost use Rattle.std.specs.Prelude.{◌≡◌, ◌+◌, ◌-◌, ◌/◌, ◌^◌, ◌≤◌, min};
 ghost use Rattle.dfdl_bits.specs.Window.{end_of, from_byte};
-ghost use Rattle.dfdl_grammar.specs.Framing.{aligned};
 ghost use Rattle.dfdl_parse.specs.Machines.{seen_beyond};
 
 use dfdl_bits::{Seen, Steps, Window};
@@ -39,16 +38,4 @@ pub(crate) fn last_byte(to: u64) -> u64
     ensures few { result ≤ 2 ^ 61 }
 {
     last_bit(to) / 8
-}
-
-/// The first multiple of so many bits that is no bit before this one; of no bits it is this one.
-pub(crate) fn aligned(bits: u32, bit: u64) -> u64
-    requires { bit ≤ 2 ^ 63 }
-    ensures { result ≡ aligned bits bit }
-{
-    if bits == 0 {
-        return bit;
-    }
-    let bits = u64::from(bits);
-    (bit + (bits - 1)) / bits * bits
 }

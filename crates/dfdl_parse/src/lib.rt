@@ -6,22 +6,14 @@
 #![tactic(auto)]
 
 mod boxes;
-mod contents;
-mod defaults;
-mod delimited;
 pub mod frame;
 mod framing;
 mod landing;
-mod leaf;
 mod leaving;
 pub mod marks;
-mod nil_values;
-mod nils;
-mod octets;
 mod outcome;
 pub mod parser;
 mod path;
-mod patterns;
 mod points;
 mod prefixes;
 mod register;
@@ -35,10 +27,8 @@ mod slots_ends;
 mod slots_looks;
 mod slots_steps;
 pub mod stack;
-mod strings;
 mod testing;
 mod trials;
-mod view;
 
 pub use dfdl_grammar::Limits;
 pub use dfdl_region::{Content, Node};

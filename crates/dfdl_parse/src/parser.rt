@@ -14,8 +14,7 @@ ghost use Rattle.dfdl_parse.specs.Registered.{IsRegistered};
 ghost use Rattle.dfdl_parse.specs.Shown.{HasSameLimits, limits_of, state_of};
 
 use crate::frame::{Behind, Focus, Frame, Parts, Sought};
-use crate::framing::{aligned, last_bit, last_byte, look_beyond};
-use crate::leaf::Scratch;
+use crate::framing::{last_bit, last_byte, look_beyond};
 use crate::marks::Marks;
 use crate::outcome::Outcome;
 use crate::register::register_of;
@@ -24,6 +23,7 @@ use crate::stack::Stack;
 use dfdl_bits::{Seen, Steps, Window};
 use dfdl_delims::{Candidates, Markup};
 use dfdl_grammar::{End, Instead, Limits};
+use dfdl_leaves::{Scratch, aligned};
 use dfdl_region::{NodeRegion, TextRegion};
 use dfdl_report::{LimitCause, ParseCause};
 use dfdl_terms::{Row, RowId, Terms};

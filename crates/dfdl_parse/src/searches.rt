@@ -16,13 +16,13 @@ ghost use Rattle.dfdl_parse.specs.Steps.{Moved};
 ghost use Rattle.dfdl_parse.specs.Shown.{Becomes, HasSameLimits, limits_of, state_of};
 
 use crate::frame::{Focus, Sought};
-use crate::framing::aligned;
 use crate::parser::Parser;
 use crate::scopes::Scopes;
 use dfdl_bits::{Steps, Window};
 use dfdl_delims::longest::longest;
 use dfdl_delims::{Found, Glance, OpenLists};
 use dfdl_grammar::{End, Instead};
+use dfdl_leaves::aligned;
 use dfdl_report::{LimitCause, ParseCause};
 use dfdl_terms::{Delimiter, Terms};
 use std::alloc::AllocError;

@@ -14,13 +14,13 @@ ghost use Rattle.dfdl_parse.specs.Steps.{Moved};
 ghost use Rattle.dfdl_parse.specs.Shown.{Becomes, HasSameLimits, limits_of, state_of};
 
 use crate::frame::{Focus, SlotPlace, Sought};
-use crate::framing::aligned;
 use crate::parser::Parser;
 use crate::slots::{is_initiated, later_than, opens_before, own_of};
 use crate::testing::{Told, Verdict};
 use dfdl_bits::{Seen, Steps, Window};
 use dfdl_delims::Found;
 use dfdl_grammar::End;
+use dfdl_leaves::aligned;
 use dfdl_report::LimitCause;
 use dfdl_terms::{Slot, Terms};
 use std::alloc::AllocError;

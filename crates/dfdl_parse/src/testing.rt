@@ -16,11 +16,10 @@ ghost use Rattle.dfdl_parse.specs.Shown.{Becomes, HasSameLimits, limits_of, stat
 ghost use Rattle.dfdl_parse.specs.Testing.{Tells, read_test, test_move, verdict_in, verdict_shown};
 
 use crate::frame::Focus;
-use crate::leaf::Scratch;
 use crate::parser::Parser;
-use crate::patterns::{put_text, read_sought};
 use dfdl_bits::{Steps, Window};
 use dfdl_grammar::End;
+use dfdl_leaves::{Scratch, put_text, read_sought};
 use dfdl_report::{LimitCause, ParseCause};
 use dfdl_terms::{PatternForm, PatternTest, Terms};
 use dfdl_texts::Found;

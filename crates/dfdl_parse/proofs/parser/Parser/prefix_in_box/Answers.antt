@@ -8,7 +8,7 @@ use Rattle.dfdl_grammar.specs.Leaves.{content_begins, program}
 use Rattle.dfdl_parse.specs.declared.parser.Parser.{Parser}
 use Rattle.dfdl_parse.specs.Prefixed.{behind_units, prefix_move}
 use Rattle.dfdl_parse.specs.Shown.{limits_of, state_of}
-use Rattle.dfdl_parse.specs.Views.{primitive_of}
+use Rattle.dfdl_leaves.specs.Views.{primitive_of}
 use Rattle.dfdl_parse.proofs.Landings.{moved-at}
 use Rattle.dfdl_parse.proofs.parser.Parser.prefix_in_box.Goals as goal
 

@@ -6,7 +6,7 @@ use Rattle.dfdl_parse.specs.Moves.{read_leaf}
 use Rattle.dfdl_parse.specs.Steps.{Moved}
 use Rattle.dfdl_looks.specs.Tallies.{nothing}
 use Rattle.dfdl_parse.specs.Shown.{limits_of, state_of}
-use Rattle.dfdl_parse.specs.Views.{primitive_of}
+use Rattle.dfdl_leaves.specs.Views.{primitive_of}
 use Rattle.dfdl_parse.proofs.Landings.{indexed, sized-moved}
 use Rattle.dfdl_parse.proofs.parser.Parser.read_sized.Goals as goal
 

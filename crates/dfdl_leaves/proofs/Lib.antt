@@ -1,0 +1,12 @@
+pub mod Ends
+pub mod Leaves
+pub mod HexBinaries
+pub mod Scans
+pub mod Made
+pub mod DelimitedReadings
+pub mod StringReadings
+pub mod NilReadings
+pub mod PatternReadings
+pub mod Programs
+pub mod Texts
+pub mod Lies

@@ -1,0 +1,7 @@
+use Rattle.std.proofs.Common.{◌≡◌, ◌++◌, drop}
+use Rattle.dfdl_grammar.specs.Delimited.{plain}
+use Rattle.dfdl_leaves.proofs.delimited.put_plain.Given as goal
+
+-- what was put, and the characters that are left, are all
+abbrev pub invariant-loop-character : goal.invariant-loop-character
+invariant-loop-character l = l.into.items ++ plain (drop l.character-index l.content) ≡ plain l.content

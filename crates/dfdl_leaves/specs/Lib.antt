@@ -1,0 +1,5 @@
+pub mod Views
+pub mod Readings
+pub mod Strings
+pub mod Nils
+pub mod Patterned

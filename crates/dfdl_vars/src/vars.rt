@@ -67,6 +67,13 @@ impl Vars {
         })
     }
 
+    /// How many variables there are. Their numbers are those below it.
+    pub fn count(&self) -> usize
+        ensures { result ≡ self.now.globals }
+    {
+        self.globals
+    }
+
     // The place of the instance that a variable stands for.
     fn place(&self, var: u32) -> usize
         requires { var < self.now.globals }

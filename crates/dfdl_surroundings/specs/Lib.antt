@@ -1,0 +1,4 @@
+pub mod Around
+pub mod Answers
+pub mod Steady
+pub mod Moved

@@ -1,6 +1,5 @@
 -- The marks of hidden elements, from the last row to the first.
-use Rattle.std.proofs.Common.{◌≡◌, ℕ, zero, suc, ◌<◌, ◌≤◌, ◌+◌, ◌-◌, ◌||◌, ◌&&◌, Bool, true, false, cond, List, [], ◌∷◌, ◌++◌, All, length, set, get_or, take, take_all, drop, replicate, Option, None, Some, slice_get, refl, sym, ap, subst, ◌∙◌, arith, eqb, inl, inr}
-use Rattle.std.proofs.Math.Dec.{eqb-suc-zero, eqb-zero-suc, eqb-suc-suc}
+use Rattle.std.proofs.Common.{◌≡◌, ℕ, zero, suc, ◌<◌, ◌≤◌, ◌+◌, ◌||◌, ◌&&◌, Bool, true, false, cond, List, [], ◌∷◌, All, length, set, take, take_all, replicate, Some, slice_get, refl, sym, ap, subst, ◌∙◌, arith, eqb, inl, inr}
 use Rattle.std.specs.List.{list_any, flat_map}
 use Rattle.std.proofs.lemmas.Bool.{cases_Bool}
 use Rattle.std.proofs.lemmas.Bool.Decides.{nat_tests}
@@ -14,7 +13,7 @@ use Rattle.dfdl_terms.specs.Arrays.{is_marked}
 use Rattle.dfdl_terms.specs.Rows.{ChildrenBelow, Table}
 use Rattle.dfdl_json.specs.Children.{bodies_of, elements_in}
 use Rattle.dfdl_json.specs.Hidden.{hides, is_hidden, MarksHidden}
-use Rattle.dfdl_json.specs.Marking.{all_marked, goes_on, parts_in, passed_on}
+use Rattle.dfdl_json.specs.Marking.{all_marked, passed_on}
 use Rattle.dfdl_json.proofs.Declares as declares
 
 -- the rows that are marked declare the element, where the first of these marks is of the row `from`

@@ -1,5 +1,7 @@
+pub mod Adding
 pub mod Answers
 pub mod ByRows
+pub mod Chains
 pub mod Children
 pub mod Fitting
 pub mod Found
@@ -9,6 +11,10 @@ pub mod Inside
 pub mod Lines
 pub mod Marking
 pub mod Paths
+pub mod Ranks
+pub mod Ready
 pub mod Reading
+pub mod Sorted
 pub mod Steps
 pub mod Texts
+pub mod Values

@@ -7,6 +7,7 @@
 #![tactic(auto)]
 
 mod arrays;
+mod chains;
 pub mod children;
 mod events;
 pub mod fault;
@@ -15,10 +16,14 @@ mod hidden;
 mod lines;
 mod members;
 pub mod path;
+mod ranks;
 mod reading;
+mod sorted;
 #[cfg(test)]
 mod tests;
 mod text;
+mod values;
+mod writing;
 
 pub use children::{elements_in, name_of, push_all, root_row, row_at};
 pub use dfdl_report::InfosetCause;

@@ -6,6 +6,7 @@ ghost use Rattle.dfdl_region.specs.Texts.{HasText, HaveTexts};
 ghost use Rattle.serde_json.specs.Data.{Members, no_members};
 ghost use Rattle.serde_json.specs.View.{view};
 ghost use Rattle.dfdl_terms.specs.Arrays.{MarksItems, is_item, is_marked};
+ghost use Rattle.dfdl_json.specs.Adding.{Adds, data_tokens};
 ghost use Rattle.dfdl_json.specs.Inside.{HaveMembers, IsPut, all_turned, put_if, shown};
 ghost use Rattle.dfdl_json.specs.Children as children;
 ghost use Rattle.dfdl_json.specs.Lines as lines;
@@ -13,10 +14,12 @@ ghost use Rattle.dfdl_json.specs.Lines as lines;
 use crate::arrays::{in_order, put_item};
 use crate::children::name_of;
 use crate::hidden::Hidden;
+use crate::writing::Infoset;
 use dfdl_decimal::Fixed;
 use dfdl_region::{Content, Node};
 use dfdl_terms::{Items, Terms};
 use dfdl_value::{TextValue, Value};
+use json::Writer;
 use serde_json::{Map, Value as Json};
 use std::alloc::{AllocError, Global};
 
@@ -31,10 +34,44 @@ pub fn line_of(
     requires texts { HaveTexts nodes.now text.now }
     ensures { IfOk result (λ line. line ≡ lines.line_of terms.now nodes.now text.now) }
 {
-    let value = value_of(alloc, terms, nodes, text)?;
-    let mut line = value.to_string(alloc)?;
+    let mut out = Writer::new(Vec::with_capacity(alloc, 128)?);
+    write_infoset(alloc, &mut out, terms, nodes, text)?;
+    let mut line = string_with(out.into_inner());
     line.push('\n')?;
     Ok(TextValue::from_string(line))
+}
+
+// Writes the infoset whose elements are these nodes.
+fn write_infoset(
+    alloc: Global,
+    out: &mut Writer,
+    terms: &Terms,
+    nodes: &[Node],
+    text: &[u8],
+) -> Result<(), AllocError>
+    requires texts { HaveTexts nodes.now text.now }
+    ensures { OnOk result (Adds out.old out.new (data_tokens (lines.infoset_of terms.now nodes.now text.now))) }
+{
+    let [root, ..] = nodes else {
+        out.begin_object()?;
+        return out.end_object();
+    };
+    let infoset = Infoset::of(alloc, terms, nodes, text)?;
+    out.begin_object()?;
+    out.key(name_of(terms, root.element))?;
+    infoset.write_element(alloc, out, 0)?;
+    out.end_object()
+}
+
+// The string with bytes that are UTF-8.
+fn string_with(bytes: Vec<u8>) -> String
+    requires { IsUtf8 bytes.items }
+    ensures { string_bytes result ≡ bytes.items }
+{
+    match String::from_utf8(bytes) {
+        Ok(string) => string,
+        Err(_) => unreachable!(),
+    }
 }
 
 /// The infoset whose elements are these nodes, with the bytes of their texts and hexBinary values, as JSON.

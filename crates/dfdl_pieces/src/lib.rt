@@ -9,8 +9,6 @@ mod bytes;
 mod events;
 mod forms;
 pub mod piece;
-#[cfg(test)]
-mod tests;
 pub mod unparsing;
 
 pub use piece::{Piece, PieceList};

@@ -1,7 +1,6 @@
 // The line of the infoset of parsed data.
 ghost use Rattle.std.specs.Prelude.{◌≡◌, ◌+◌, ◌≤◌, ℕ, suc, true, nat_eq, IfOk, OnOk, IsUtf8, length, drop, string_bytes};
 ghost use Rattle.dfdl_value.specs.Writing.{text_of};
-ghost use Rattle.dfdl_region.specs.Bytes.{bytes_at as part_of};
 ghost use Rattle.dfdl_region.specs.Texts.{HasText, HaveTexts};
 ghost use Rattle.serde_json.specs.Data.{Members, no_members};
 ghost use Rattle.serde_json.specs.View.{view};
@@ -14,6 +13,7 @@ ghost use Rattle.dfdl_json.specs.Lines as lines;
 use crate::arrays::{in_order, put_item};
 use crate::children::name_of;
 use crate::hidden::Hidden;
+use crate::values::bytes_at;
 use crate::writing::Infoset;
 use dfdl_decimal::Fixed;
 use dfdl_region::{Content, Node};
@@ -225,15 +225,6 @@ fn value_with(
         Content::Complex => Ok(Json::Object(in_order(members))),
         Content::Begun => Ok(Json::Object(in_order(members))),
     }
-}
-
-// So many bytes of a text from one on.
-fn bytes_at(text: &[u8], from: u32, len: u32) -> &[u8]
-    requires { from + len ≤ length text.now }
-    ensures { result.now ≡ part_of text.now from len }
-{
-    let from = from as usize;
-    &text[from..from + len as usize]
 }
 
 // The string of bytes that are UTF-8.

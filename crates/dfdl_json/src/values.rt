@@ -78,7 +78,7 @@ fn write_decimal(alloc: Global, out: &mut Writer, number: Fixed) -> Result<(), A
 }
 
 // So many bytes of a text from one on.
-fn bytes_at(text: &[u8], from: u32, len: u32) -> &[u8]
+pub(crate) fn bytes_at(text: &[u8], from: u32, len: u32) -> &[u8]
     requires { from + len ≤ length text.now }
     ensures { result.now ≡ part_of text.now from len }
 {

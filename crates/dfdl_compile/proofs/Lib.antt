@@ -3,4 +3,6 @@ mod Fitting
 mod Searches
 mod Ending
 mod Taken
+mod Noted
+mod Finishing
 mod Coming

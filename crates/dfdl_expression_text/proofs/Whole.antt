@@ -1,5 +1,5 @@
 -- The reader tells the expressions, over characters and over bytes.
-use Rattle.std.proofs.Common.{◌≡◌, ℕ, ◌+◌, ◌<◌, ◌≤◌, ◌==◌, ◌||◌, Bool, true, false, List, [], ◌∷◌, ◌++◌, length, take, get_or, if◌then◌else◌, Option, Some, None, Result, Ok, Err, IfOk, IfErr, IsErr, inl, inr, refl, ap, sym, subst, ◌∙◌, arith, encode_utf8}
+use Rattle.std.proofs.Common.{◌≡◌, ◌⊎◌, ℕ, ◌+◌, ◌<◌, ◌≤◌, ◌==◌, ◌||◌, Bool, true, false, List, [], ◌∷◌, ◌++◌, length, take, get_or, if◌then◌else◌, Option, Some, None, Result, Ok, Err, IfOk, IfErr, IsErr, inl, inr, refl, ap, sym, subst, ◌∙◌, arith, encode_utf8}
 use Rattle.std.specs.List.{flat_map}
 use Rattle.std.specs.Char.{IsScalar}
 use Rattle.std.proofs.lemmas.Bool.{cond_both, cases_lt, cases_Bool}
@@ -388,3 +388,19 @@ stuck_end bytes i runs refused = place_of bytes (length bytes) ((refused_end tel
 -- a text that is run through and accepted
 pub whole_text : (bytes : List ℕ) (i : Inside State) → run read_step read_start bytes ≡ Ok i → byte_accepts accepts i ≡ true → IsExpression bytes
 whole_text bytes i runs ends = expression_of bytes (text_end teller bytes i runs ends)
+
+-- each text is an expression, or it isn't one
+pub decided : (bytes : List ℕ) → IsExpression bytes ⊎ (IsExpression bytes → ⊥)
+decided bytes = by_run (run read_step read_start bytes) refl
+  where
+    by_end : (i : Inside State) → run read_step read_start bytes ≡ Ok i → (ends : Bool) → byte_accepts accepts i ≡ ends
+        → IsExpression bytes ⊎ (IsExpression bytes → ⊥)
+    by_end i runs true ends = inl (whole_text bytes i runs ends)
+    by_end i runs false ends = inr ((stuck_end bytes i runs ends).no_text)
+
+    by_run : (r : Result (Inside State) ℕ) → run read_step read_start bytes ≡ r → IsExpression bytes ⊎ (IsExpression bytes → ⊥)
+    by_run (Ok i) runs = by_end i runs (byte_accepts accepts i) refl
+    by_run (Err m) runs = inr (λ text.
+        let through = teller.full bytes (of_expression bytes text) in
+        let never : Err m ≡ Ok through.0 = sym runs ∙ through.1 in
+        absurd (cc))

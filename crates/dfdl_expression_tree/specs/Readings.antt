@@ -1,7 +1,7 @@
 -- The tokens and the tree of a text that is an expression.
-use Rattle.std.specs.Prelude.{◌≡◌, ℕ, ◌≤◌, List}
+use Rattle.std.specs.Prelude.{◌≡◌, ℕ, ◌≤◌, List, Option, Some, None}
 use Rattle.dfdl_expression_text.specs.Syntax.{most_tokens, spelling}
-use Rattle.dfdl_expression_text.specs.Expressions.{ReadsBytes}
+use Rattle.dfdl_expression_text.specs.Expressions.{IsExpression, ReadsBytes}
 use Rattle.dfdl_expression_tree.specs.declared.token.Token.{Token}
 use Rattle.dfdl_expression_tree.specs.declared.node.Node.{Node}
 use Rattle.dfdl_expression_tree.specs.TokenLists.{tokens_from}
@@ -22,3 +22,12 @@ HasTokens bytes tokens = (count : ℕ) × (count ≤ most_tokens) × (reads : Re
 -- the bytes are an expression, and these are the nodes of its tree
 abbrev pub HasTree : List ℕ → List Node → Type 0
 HasTree bytes nodes = (count : ℕ) × (count ≤ most_tokens) × (reads : ReadsBytes count bytes) × (nodes ≡ listed (tree_of reads) 0)
+
+-- a text has this tree, or is no expression
+abbrev pub IsReading : List ℕ → Option Formula → Type 0
+IsReading text (Some f) = (count : ℕ) × (count ≤ most_tokens) × (reads : ReadsBytes count text) × (f ≡ tree_of reads)
+IsReading text None = IsExpression text → ⊥
+
+-- each text is read as what it is
+abbrev pub ReadsTexts : (List ℕ → Option Formula) → Type 0
+ReadsTexts read = (text : List ℕ) → IsReading text (read text)

@@ -1,12 +1,14 @@
 // What the definitions say of trees, as laws. The calls do nothing.
-ghost use Rattle.std.specs.Prelude.{◌≡◌, ℕ, List, [], ◌∷◌};
+ghost use Rattle.std.specs.Prelude.{◌≡◌, ℕ, List, [], ◌∷◌, Option};
 ghost use Rattle.dfdl_expression_text.specs.Expressions.{ReadsBytes};
 ghost use Rattle.dfdl_expression_tree.specs.declared.token.Operator.TheVariants.{Plus, Minus, Times};
 ghost use Rattle.dfdl_expression_tree.specs.declared.node.Binary.TheVariants.{Operation};
 ghost use Rattle.dfdl_expression_tree.specs.TokenLists.{Lie};
 ghost use Rattle.dfdl_expression_tree.specs.Trees.{Formula, Two, Link, link, chained};
 ghost use Rattle.dfdl_expression_tree.specs.Chains.{Groups};
-ghost use Rattle.dfdl_expression_tree.specs.Readings.{tokens_of, tree_of};
+ghost use Rattle.dfdl_expression_tree.specs.Readings.{ReadsTexts, tokens_of, tree_of};
+
+use dfdl_expression_text::laws::texts_are_decided;
 
 /// A chain's operators that bind more strongly stand below those that bind more weakly, and of one strength the earlier ones below
 /// the later ones; there is one such tree.
@@ -33,3 +35,10 @@ pub fn a_text_has_one_tree()
 pub fn tokens_lie_in_their_text()
     ensures { (bytes : List ℕ) (count : ℕ) (reads : ReadsBytes count bytes) → Lie bytes 0 (tokens_of reads) }
 {}
+
+/// There is a function that reads each text as the tree that it has, or as no expression.
+pub fn texts_are_read()
+    ensures { (read : List ℕ → Option Formula) × ReadsTexts read }
+{
+    texts_are_decided();
+}

@@ -1,6 +1,7 @@
 -- What an expression is told of items: the value of the only one, and the number of the innermost occurrence. 'DFDL Expression
 -- Language'.
-use Rattle.std.specs.Prelude.{ℕ, zero, suc, Bool, false, if◌then◌else◌, List, [], ◌∷◌, Option, Some, None, Result, Ok, Err, slice_get}
+use Rattle.std.specs.Prelude.{ℕ, zero, suc, ◌+◌, nat_lt, Bool, false, if◌then◌else◌, List, [], ◌∷◌, length, Option, Some, None, Result, Ok, Err, slice_get}
+use Rattle.std.specs.Str.{is_utf8}
 use Rattle.dfdl_value.specs.declared.value.Value.{Value}
 use Rattle.dfdl_value.specs.declared.value.Value.TheVariants as value
 use Rattle.dfdl_terms.specs.Arrays.{is_marked}
@@ -20,6 +21,20 @@ found_of [] = found.None
 found_of (number ∷ []) = found.One number
 found_of (number ∷ other ∷ rest) = found.Several
 
+-- so many bytes of a text from one on, where they are there
+abbrev pub part_at : List ℕ → ℕ → ℕ → Option (List ℕ)
+part_at bytes from len = if nat_lt (length bytes) (from + len) then None else Some (bytes_at bytes from len)
+
+-- the string that bytes are, as UTF-8. Where they aren't there, or are none, there is no value yet (E1)
+abbrev pub text_value : Option (List ℕ) → Result Value ℕ
+text_value None = Err 1
+text_value (Some bytes) = if is_utf8 bytes then Ok (value.Text bytes) else Err 1
+
+-- the hexBinary that bytes are
+abbrev pub octets_value : Option (List ℕ) → Result Value ℕ
+octets_value None = Err 1
+octets_value (Some bytes) = Ok (value.Bytes bytes)
+
 -- the value of a content, or the number of the fault: one that isn't read has no value yet (E1), nil and elements are none (E3)
 abbrev pub content_value : List ℕ → Content → Result Value ℕ
 content_value bytes content.Begun = Err 1
@@ -29,8 +44,8 @@ content_value bytes (content.Signed number) = Ok (value.Int number)
 content_value bytes (content.Unsigned number) = Ok (value.Uns number)
 content_value bytes (content.Decimal number) = Ok (value.Dec number)
 content_value bytes (content.Truth truth) = Ok (value.Truth truth)
-content_value bytes (content.Text from len) = Ok (value.Text (bytes_at bytes from len))
-content_value bytes (content.Octets from len) = Ok (value.Bytes (bytes_at bytes from len))
+content_value bytes (content.Text from len) = text_value (part_at bytes from len)
+content_value bytes (content.Octets from len) = octets_value (part_at bytes from len)
 
 -- that of an element, if it is there
 abbrev pub node_value : List ℕ → Option Node → Result Value ℕ

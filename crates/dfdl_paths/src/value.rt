@@ -1,15 +1,13 @@
 // The value of the only item of a path.
-ghost use Rattle.std.specs.Prelude.{◌≡◌, ◌+◌, ◌<◌, ◌≤◌, ◌^◌, ℕ, IfOk, IsUtf8, length, slice_get, string_bytes};
-ghost use Rattle.dfdl_region.specs.Bytes.{bytes_at as part_of};
-ghost use Rattle.dfdl_region.specs.Texts.{HasText, HaveTexts};
+ghost use Rattle.std.specs.Prelude.{◌≡◌, ◌<◌, ◌^◌, IfOk, Some, length, option_map, slice_get};
 ghost use Rattle.dfdl_paths.specs.Leads.{items};
-ghost use Rattle.dfdl_paths.specs.Values.{content_value, found_of, found_value, node_value};
+ghost use Rattle.dfdl_paths.specs.Values.{content_value, found_of, found_value, node_value, octets_value, part_at, text_value};
 
 use super::found::{Found, only_item};
-use super::names::NameNumbers;
 use super::place::Start;
 use dfdl_expressions::Path;
 use dfdl_region::{Content, Node};
+use dfdl_terms::NameNumbers;
 use dfdl_value::{ByteValue, TextValue, Value};
 use std::alloc::{AllocError, Global};
 use std::str;
@@ -26,7 +24,6 @@ pub fn value_of_item(
     indexes: &[u64],
 ) -> Result<Result<Value, u8>, AllocError>
     requires few { length nodes.now < 2 ^ 32 }
-    requires texts { HaveTexts nodes.now text.now }
     ensures { IfOk result (λ value. value ≡ found_value nodes.now text.now (found_of (items names.now nodes.now start path.now indexes.now))) }
 {
     let found = only_item(names, nodes, start, path, indexes);
@@ -40,7 +37,6 @@ fn value_of_found(
     text: &[u8],
     found: Found,
 ) -> Result<Result<Value, u8>, AllocError>
-    requires texts { HaveTexts nodes.now text.now }
     ensures { IfOk result (λ value. value ≡ found_value nodes.now text.now found) }
 {
     match found {
@@ -57,7 +53,6 @@ fn value_of_node(
     text: &[u8],
     number: u32,
 ) -> Result<Result<Value, u8>, AllocError>
-    requires texts { HaveTexts nodes.now text.now }
     ensures { IfOk result (λ value. value ≡ node_value text.now (slice_get nodes.now number)) }
 {
     match nodes.get(number as usize) {
@@ -72,7 +67,6 @@ fn value_of_content(
     content: Content,
     text: &[u8],
 ) -> Result<Result<Value, u8>, AllocError>
-    requires text { HasText text.now content }
     ensures { IfOk result (λ value. value ≡ content_value text.now content) }
 {
     match content {
@@ -83,33 +77,59 @@ fn value_of_content(
         Content::Unsigned(number) => Ok(Ok(Value::Uns(number))),
         Content::Decimal(number) => Ok(Ok(Value::Dec(number))),
         Content::Truth(truth) => Ok(Ok(Value::Truth(truth))),
-        Content::Text { from, len } => {
-            let string = text_of(alloc, part_of(text, from, len))?;
-            Ok(Ok(Value::Text(string)))
-        }
-        Content::Octets { from, len } => {
-            let bytes = ByteValue::from_slice(alloc, part_of(text, from, len))?;
-            Ok(Ok(Value::Bytes(bytes)))
-        }
+        Content::Text { from, len } => text_at(alloc, text, from, len),
+        Content::Octets { from, len } => octets_at(alloc, text, from, len),
     }
 }
 
-// So many bytes of a text from one on.
-fn part_of(text: &[u8], from: u32, len: u32) -> &[u8]
-    requires { from + len ≤ length text.now }
-    ensures { result.now ≡ part_of text.now from len }
+// So many bytes of a text from one on, where they are there.
+fn part_of(text: &[u8], from: u32, len: u32) -> Option<&[u8]>
+    ensures { option_map (λ part. part.now) result ≡ part_at text.now from len }
 {
     let from = from as usize;
-    &text[from..from + len as usize]
+    let end = from + len as usize;
+    if text.len() < end {
+        return None;
+    }
+    Some(&text[from..end])
 }
 
-// The text of bytes that are UTF-8.
-fn text_of(alloc: Global, bytes: &[u8]) -> Result<TextValue, AllocError>
-    requires { IsUtf8 bytes.now }
-    ensures { IfOk result (λ text. text ≡ bytes.now) }
+// The string that so many bytes of a text are.
+fn text_at(alloc: Global, text: &[u8], from: u32, len: u32) -> Result<Result<Value, u8>, AllocError>
+    ensures { IfOk result (λ value. value ≡ text_value (part_at text.now from len)) }
+{
+    match part_of(text, from, len) {
+        None => Ok(Err(1)),
+        Some(part) => text_of(alloc, part),
+    }
+}
+
+// The hexBinary that so many bytes of a text are.
+fn octets_at(
+    alloc: Global,
+    text: &[u8],
+    from: u32,
+    len: u32,
+) -> Result<Result<Value, u8>, AllocError>
+    ensures { IfOk result (λ value. value ≡ octets_value (part_at text.now from len)) }
+{
+    match part_of(text, from, len) {
+        None => Ok(Err(1)),
+        Some(part) => octets_of(alloc, part),
+    }
+}
+
+fn text_of(alloc: Global, bytes: &[u8]) -> Result<Result<Value, u8>, AllocError>
+    ensures { IfOk result (λ value. value ≡ text_value (Some bytes.now)) }
 {
     match str::from_utf8(bytes) {
-        Ok(text) => Ok(TextValue::from_str(alloc, text)?),
-        Err(_) => unreachable!(),
+        Ok(text) => Ok(Ok(Value::Text(TextValue::from_str(alloc, text)?))),
+        Err(_) => Ok(Err(1)),
     }
+}
+
+fn octets_of(alloc: Global, bytes: &[u8]) -> Result<Result<Value, u8>, AllocError>
+    ensures { IfOk result (λ value. value ≡ octets_value (Some bytes.now)) }
+{
+    Ok(Ok(Value::Bytes(ByteValue::from_slice(alloc, bytes)?)))
 }

@@ -1,2 +1,3 @@
-pub mod Runs
 pub mod Settled
+pub mod Keeps
+mod Takes

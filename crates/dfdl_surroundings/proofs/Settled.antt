@@ -1,6 +1,5 @@
 -- No answer is a wait, so no expression waits.
 use Rattle.std.specs.Prelude.{ℕ, List, Option, Some, None, Result, Ok, Err, slice_index_or}
-use Rattle.std.proofs.Common.{◌≡◌}
 use Rattle.dfdl_value.specs.declared.value.Value.{Value}
 use Rattle.dfdl_expressions.specs.declared.operator.Extent.{Extent}
 use Rattle.dfdl_expression_eval.specs.Asks.{Asks, Is, Fails, Ask, IsSettled, Query, Item, Count, Length, Variable, OccursIndex, gives, on_known}

@@ -1,4 +1,5 @@
 pub mod Around
 pub mod Answers
 pub mod Steady
-pub mod Moved
+pub mod Taking
+pub mod Fits

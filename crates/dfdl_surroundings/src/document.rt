@@ -1,6 +1,5 @@
 // What is seen of a document from where an expression stands.
 ghost use Rattle.std.specs.Prelude.{◌≡◌, ◌<◌, ◌^◌, IfOk, length};
-ghost use Rattle.dfdl_region.specs.Texts.{HaveTexts};
 ghost use Rattle.dfdl_paths.specs.Values.{found_of, found_value, index_of};
 ghost use Rattle.dfdl_surroundings.specs.Answers.{element_of, found_length, items_of, told, whole};
 
@@ -27,7 +26,6 @@ pub struct Document<'a> {
 
 impl<'a> Model for Document<'a> {
     ghost use Rattle.std.specs.Prelude.{◌<◌, ◌^◌, length};
-    ghost use Rattle.dfdl_region.specs.Texts.{HaveTexts};
     ghost use Rattle.dfdl_surroundings.specs.Around.{Seen};
 
     ghost Value = { Seen };
@@ -41,7 +39,7 @@ impl<'a> Model for Document<'a> {
       start = d.start;
     } };
 
-    ghost invariant = { λ d. (length d.nodes.now < 2 ^ 32) × HaveTexts d.nodes.now d.text.now };
+    ghost invariant = { λ d. length d.nodes.now < 2 ^ 32 };
 }
 
 impl<'a> Document<'a> {
@@ -55,8 +53,7 @@ impl<'a> Document<'a> {
         items: &'a Items,
         start: Start,
     ) -> Document<'a>
-        requires few { length nodes.now < 2 ^ 32 }
-        requires texts { HaveTexts nodes.now text.now }
+        requires { length nodes.now < 2 ^ 32 }
         ensures { result ≡ record {
           names = names.now;
           nodes = nodes.now;

@@ -7,11 +7,16 @@
 
 mod document;
 pub mod evaluating;
+pub mod laws;
 mod lengths;
 mod surroundings;
+pub mod taking;
 mod variables;
 
 pub use document::Document;
-pub use evaluating::evaluate_in;
+pub use evaluating::evaluate;
 pub use lengths::Lengths;
-pub use surroundings::Surroundings;
+pub use taking::{take, take_truth};
+
+#[cfg(test)]
+mod tests;

@@ -1,6 +1,6 @@
 // What stands around an expression, as the environment that it is evaluated in.
 ghost use Rattle.std.specs.Prelude.{◌≡◌, false, refl};
-ghost use Rattle.dfdl_surroundings.specs.Answers.{answer_in, around, variable_read};
+ghost use Rattle.dfdl_surroundings.specs.Answers.{answer_in, read_in};
 ghost use Rattle.dfdl_surroundings.specs.Steady.{same_answers};
 
 use super::document::Document;
@@ -9,23 +9,33 @@ use dfdl_expression_eval::{Env, Evaluated, OutOfMemory};
 use dfdl_expressions::{Extent, Path};
 use dfdl_vars::Vars;
 use std::alloc::Global;
+use std::marker::Model;
 
 /// What stands around an expression while data is parsed. Its calls may take memory, since a text is copied out of the document or
 /// out of a variable.
 #[derive(Drop)]
-pub struct Surroundings<'d, 'v> {
-    pub document: Document<'d>,
-    pub variables: &'v mut Vars,
+pub(crate) struct Surroundings<'d> {
+    pub(crate) document: Document<'d>,
+    pub(crate) variables: Vars,
 }
 
-impl<'d, 'v> Env for Surroundings<'d, 'v> {
-    ghost answers = { λ s. answer_in (around s.document s.variables.now) };
+impl<'d> Model for Surroundings<'d> {
+    ghost use Rattle.dfdl_surroundings.specs.Around.{Around};
+    ghost use Rattle.dfdl_surroundings.specs.Answers.{around};
 
-    ghost read = { λ s number. record s { variables = record s.variables { now = variable_read s.variables.now number } } };
+    ghost Value = { Around };
+
+    ghost view = { λ s. around s.document s.variables };
+}
+
+impl<'d> Env for Surroundings<'d> {
+    ghost answers = { answer_in };
+
+    ghost read = { read_in };
 
     ghost is_lean = { λ s. false };
 
-    ghost steady = { λ s number. same_answers s.document s.variables.now number };
+    ghost steady = { λ s number. same_answers s.seen s.variables number };
 
     ghost lean_stays = { λ s number. refl };
 
@@ -58,7 +68,7 @@ impl<'d, 'v> Env for Surroundings<'d, 'v> {
     }
 
     fn variable(&mut self, alloc: Global, number: u32) -> Result<Evaluated, OutOfMemory> {
-        read_variable(alloc, self.variables, number)
+        read_variable(alloc, &mut self.variables, number)
     }
 
     fn occurs_index(&mut self, _alloc: Global) -> Result<Evaluated, OutOfMemory> {

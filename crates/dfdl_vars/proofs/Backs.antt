@@ -1,5 +1,5 @@
 -- Ways back to what was kept.
-use Rattle.std.specs.Prelude.{◌≡◌, ℕ, zero, suc, ◌==◌, ◌+◌, ◌-◌, ◌<◌, ◌≤◌, Bool, true, false, not, Option, Some, None, is_some, List, [], ◌∷◌, ◌++◌, length, take, if◌then◌else◌, refl}
+use Rattle.std.specs.Prelude.{◌≡◌, ℕ, zero, suc, ◌==◌, ◌-◌, ◌<◌, ◌≤◌, Bool, true, false, Option, Some, None, is_some, List, [], ◌∷◌, ◌++◌, length, take, if◌then◌else◌, refl}
 use Rattle.std.proofs.Common.{sym, ◌∙◌, ap, subst, arith, append_assoc, eqb-true, eq-eqb}
 use Rattle.std.proofs.lemmas.List.{take-append-le, length-append}
 use Rattle.dfdl_value.specs.declared.value.Value.{Value}
@@ -23,7 +23,7 @@ length-clear : (change : Change) (instances : List Instance) → length (clear c
 length-clear (Set place) instances = length-at (set_to None) place instances
 length-clear (Read place) instances = length-at (read_as false) place instances
 
-length-cleared : (changes : List Change) (instances : List Instance) → length (cleared changes instances) ≡ length instances
+pub length-cleared : (changes : List Change) (instances : List Instance) → length (cleared changes instances) ≡ length instances
 length-cleared [] instances = refl
 length-cleared (c ∷ cs) instances = length-clear c (cleared cs instances) ∙ length-cleared cs instances
 
@@ -58,7 +58,7 @@ at_beyond f place [] few = refl
 at_beyond f zero (i ∷ is) few = absurd (omega arith)
 at_beyond f (suc place) (i ∷ is) few = let less : length is ≤ place = omega arith in ap (λ (l : List Instance). i ∷ l) (at_beyond f place is less)
 
-clear_beyond : (change : Change) (instances : List Instance) → length instances ≤ place_of change → clear change instances ≡ instances
+pub clear_beyond : (change : Change) (instances : List Instance) → length instances ≤ place_of change → clear change instances ≡ instances
 clear_beyond (Set place) instances few = at_beyond (set_to None) place instances few
 clear_beyond (Read place) instances few = at_beyond (read_as false) place instances few
 
@@ -193,7 +193,7 @@ take_take (suc n) zero is few = absurd (omega arith)
 take_take (suc n) (suc m) [] few = refl
 take_take (suc n) (suc m) (i ∷ is) few = let less : n ≤ m = omega arith in ap (λ (l : List Instance). i ∷ l) (take_take n m is less)
 
-length_taken : (n : ℕ) (instances : List Instance) → length (take n instances) ≤ n
+pub length_taken : (n : ℕ) (instances : List Instance) → length (take n instances) ≤ n
 length_taken zero is = omega arith
 length_taken (suc n) [] = omega arith
 length_taken (suc n) (i ∷ is) = let less : length (take n is) ≤ n = length_taken n is in omega (arith, less)
@@ -229,4 +229,28 @@ back_left base now way outer =
       whole = way.whole;
       globals = way.globals;
       deep = way.deep;
+    }
+
+-- changes of the first instances alone
+cleared_taken : (n : ℕ) (changes : List Change) (instances : List Instance) → take n (cleared changes instances) ≡ cleared changes (take n instances)
+cleared_taken n [] instances = refl
+cleared_taken n (c ∷ cs) instances = take_clear n c (cleared cs instances) ∙ ap (clear c) (cleared_taken n cs instances)
+
+-- one way behind another
+pub back_through : (base mid now : Kept) → LeadsBack base mid → LeadsBack mid now → LeadsBack base now
+back_through base mid now first then_on =
+    let n = length base.instances in
+    record {
+      within = le_trans _ _ _ first.within then_on.within;
+      newer = first.newer ++ then_on.newer;
+      split = then_on.split ∙ (ap (λ (l : List Change). l ++ then_on.newer) first.split ∙ append_assoc base.changes first.newer then_on.newer);
+      back = cleared-append first.newer then_on.newer (take n now.instances)
+          ∙ (ap (cleared first.newer)
+          (ap (cleared then_on.newer) (sym (take_take n (length mid.instances) now.instances first.within))
+          ∙ (sym (cleared_taken n then_on.newer (take (length mid.instances) now.instances)) ∙ ap (take n) then_on.back))
+          ∙ first.back);
+      sound = first.sound;
+      whole = first.whole;
+      globals = first.globals ∙ then_on.globals;
+      deep = first.deep ∙ then_on.deep;
     }

@@ -1,4 +1,6 @@
 mod Backs
+mod Gone
 mod Placed
 mod Rooms
 mod Sound
+pub mod Ways

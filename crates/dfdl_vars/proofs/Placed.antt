@@ -1,12 +1,13 @@
 -- One instance of a list, and lists of changes that grow and shrink.
-use Rattle.std.specs.Prelude.{◌≡◌, ℕ, zero, suc, ◌==◌, ◌+◌, ◌-◌, ◌<◌, ◌≤◌, Bool, true, false, not, Option, Some, None, List, [], ◌∷◌, ◌++◌, length, take, drop, slice_set, slice_index_or, if◌then◌else◌, refl}
+use Rattle.std.specs.Prelude.{◌≡◌, ℕ, zero, suc, ◌==◌, ◌+◌, ◌-◌, ◌<◌, ◌≤◌, nat_lt, Bool, true, false, not, List, [], ◌∷◌, ◌++◌, length, take, drop, slice_set, slice_index_or, if◌then◌else◌, refl}
 use Rattle.std.specs.List.{filter}
 use Rattle.std.proofs.Common.{sym, ◌∙◌, ap, arith}
-use Rattle.std.proofs.lemmas.List.{take-append-le, drop-append-le}
+use Rattle.std.proofs.lemmas.List.{drop-append-le}
 use Rattle.dfdl_vars.specs.declared.instances.Change.{Change}
 use Rattle.dfdl_vars.specs.declared.instances.Instance.{Instance}
 use Rattle.dfdl_vars.specs.Instances.{at_place, has, place_of, clear, cleared}
 use Rattle.dfdl_vars.specs.Kept.{elsewhere, innermost, is_of}
+use Rattle.dfdl_vars.specs.Marks.{of_first}
 use Rattle.dfdl_vars.proofs.Backs.{cleared-append}
 
 pub set_place : (f : Instance → Instance) (instances : List Instance) (place : ℕ) (i : Instance) → i ≡ slice_index_or instances place i
@@ -29,6 +30,16 @@ filter_elsewhere place (c ∷ cs) = by (place_of c == place) (filter_elsewhere p
         → (if not b then c ∷ filter (λ c. not (place_of c == place)) cs else filter (λ c. not (place_of c == place)) cs) ≡ (if b then elsewhere place cs else c ∷ elsewhere place cs)
     by true e = e
     by false e = ap (λ (l : List Change). c ∷ l) e
+
+pub filter_first : (count : ℕ) (changes : List Change) → filter (λ c. nat_lt (place_of c) count) changes ≡ of_first count changes
+filter_first count [] = refl
+filter_first count (c ∷ cs) = by (nat_lt (place_of c) count) (filter_first count cs)
+  where
+    by : (b : Bool) → filter (λ c. nat_lt (place_of c) count) cs ≡ of_first count cs
+        → (if b then c ∷ filter (λ c. nat_lt (place_of c) count) cs else filter (λ c. nat_lt (place_of c) count) cs)
+        ≡ (if b then c ∷ of_first count cs else of_first count cs)
+    by true e = ap (λ (l : List Change). c ∷ l) e
+    by false e = e
 
 -- the last change, taken back
 pub back_one : (count : ℕ) (rest : List Change) (c : Change) (instances : List Instance) → count ≤ length rest

@@ -1,5 +1,5 @@
 -- Room for changes, and how lists that are equal share what holds of them.
-use Rattle.std.specs.Prelude.{◌≡◌, ℕ, zero, suc, ◌+◌, ◌*◌, ◌<◌, ◌≤◌, Bool, true, false, Option, Some, None, List, [], ◌∷◌, ◌++◌, length, take, drop, if◌then◌else◌, refl}
+use Rattle.std.specs.Prelude.{◌≡◌, ℕ, zero, suc, ◌+◌, ◌*◌, ◌<◌, ◌≤◌, Bool, false, Option, Some, List, [], ◌∷◌, ◌++◌, length, take, drop, if◌then◌else◌, refl}
 use Rattle.std.proofs.Common.{sym, ◌∙◌, ap, subst, arith}
 use Rattle.std.specs.List.{slice_get}
 use Rattle.std.proofs.lemmas.List.{length-append}
@@ -8,11 +8,11 @@ use Rattle.dfdl_vars.specs.declared.instances.Change.{Change}
 use Rattle.dfdl_vars.specs.declared.instances.Change.TheVariants.{Set, Read}
 use Rattle.dfdl_vars.specs.declared.instances.Instance.{Instance}
 use Rattle.dfdl_vars.specs.declared.values.VarDef.{VarDef}
-use Rattle.dfdl_vars.specs.Instances.{at_place, set_to, read_as, has, is_set, is_read, made, cleared}
-use Rattle.dfdl_vars.specs.Kept.{Kept, IsSound, start_as, all_defined, all_given, fresh, opened, times}
+use Rattle.dfdl_vars.specs.Instances.{at_place, has, is_set, is_read, made, cleared}
+use Rattle.dfdl_vars.specs.Kept.{Kept, IsSound, start_as, all_defined, all_given, fresh, times}
 use Rattle.dfdl_vars.specs.Marks.{LeadsBack}
 use Rattle.dfdl_vars.specs.VarsShown.{kept_as}
-use Rattle.dfdl_vars.proofs.Backs.{length-at, has_beyond}
+use Rattle.dfdl_vars.proofs.Backs.{length-at}
 use Rattle.dfdl_vars.proofs.Sound.{few_changes, has_kept}
 
 pub room_more : (old new : List Instance) (changes : List Change) (c : Change) (room : ℕ) → length new ≡ length old → IsSound new (changes ++ c ∷ [])

@@ -1,5 +1,5 @@
 -- Changes are kept once each, as long as variables are set, read, entered and left; so there are at most two for each instance.
-use Rattle.std.specs.Prelude.{◌≡◌, ℕ, zero, suc, ◌==◌, ◌+◌, ◌-◌, ◌*◌, ◌<◌, ◌≤◌, Bool, true, false, not, ◌||◌, Option, Some, None, is_some, List, [], ◌∷◌, ◌++◌, length, take, if◌then◌else◌, refl}
+use Rattle.std.specs.Prelude.{◌≡◌, ℕ, zero, suc, ◌==◌, ◌+◌, ◌*◌, ◌<◌, ◌≤◌, Bool, true, false, Option, Some, List, [], ◌∷◌, ◌++◌, length, take, if◌then◌else◌, refl}
 use Rattle.std.proofs.Common.{sym, ◌∙◌, ap, subst, arith, eqb-true, eq-eqb}
 use Rattle.dfdl_value.specs.declared.value.Value.{Value}
 use Rattle.dfdl_vars.specs.declared.instances.Change.{Change}
@@ -29,7 +29,7 @@ has_there test f is_true (i ∷ is) zero few = is_true i
 has_there test f is_true (i ∷ is) (suc place) few = has_there test f is_true is place (omega (arith, few))
 
 -- at another place
-has_apart : (test : Instance → Bool) (f : Instance → Instance) (instances : List Instance) (place k : ℕ) → (k ≡ place → ⊥)
+pub has_apart : (test : Instance → Bool) (f : Instance → Instance) (instances : List Instance) (place k : ℕ) → (k ≡ place → ⊥)
     → has test (at_place f place instances) k ≡ has test instances k
 has_apart test f [] place k apart = refl
 has_apart test f (i ∷ is) zero zero apart = absurd (apart refl)
@@ -37,7 +37,7 @@ has_apart test f (i ∷ is) zero (suc k) apart = refl
 has_apart test f (i ∷ is) (suc place) zero apart = refl
 has_apart test f (i ∷ is) (suc place) (suc k) apart = has_apart test f is place k (λ e. apart (ap suc e))
 
-times-more : (change other : Change) (changes : List Change) → times change (changes ++ other ∷ []) ≡ times change changes + one_if (same change other)
+pub times-more : (change other : Change) (changes : List Change) → times change (changes ++ other ∷ []) ≡ times change changes + one_if (same change other)
 times-more change other [] = by (same change other)
   where
     by : (b : Bool) → (if b then suc zero else zero) ≡ zero + one_if b
@@ -69,13 +69,13 @@ sound_more old new changes change sound before after others one = record { each 
         add-zero-here : (n : ℕ) → n + 0 ≡ n
         add-zero-here n = omega arith
 
-same_one : (other change : Change) → same other change ≡ true → other ≡ change
+pub same_one : (other change : Change) → same other change ≡ true → other ≡ change
 same_one (Set a) (Set b) e = ap Set (eqb-true a b e)
 same_one (Set a) (Read b) e = let never : false ≡ true = e in absurd (cc)
 same_one (Read a) (Set b) e = let never : false ≡ true = e in absurd (cc)
 same_one (Read a) (Read b) e = ap Read (eqb-true a b e)
 
-other_place : (a b : ℕ) → (a == b) ≡ false → a ≡ b → ⊥
+pub other_place : (a b : ℕ) → (a == b) ≡ false → a ≡ b → ⊥
 other_place a b e same_place = let never : true ≡ false = sym (eq-eqb a b same_place) ∙ e in cc
 
 pub sound_set : (instances : List Instance) (changes : List Change) (place : ℕ) (value : Value) → IsSound instances changes

@@ -1,5 +1,5 @@
 -- The instances of variables, and what changes in them. 'DFDL Expression Language', on variables.
-use Rattle.std.specs.Prelude.{ℕ, zero, suc, ◌==◌, ◌+◌, Bool, true, false, Option, Some, None, is_some, List, [], ◌∷◌, if◌then◌else◌}
+use Rattle.std.specs.Prelude.{ℕ, zero, suc, ◌==◌, Bool, false, Option, None, is_some, List, [], ◌∷◌}
 use Rattle.dfdl_value.specs.declared.value.Value.{Value}
 use Rattle.dfdl_vars.specs.declared.instances.Change.{Change}
 use Rattle.dfdl_vars.specs.declared.instances.Change.TheVariants.{Set, Read}

@@ -1,6 +1,6 @@
 -- What is kept of the variables of a run. 'DFDL Expression Language', on variables: an instance is set at most once, and never after
 -- it was read.
-use Rattle.std.specs.Prelude.{◌≡◌, ℕ, zero, suc, ◌==◌, ◌+◌, ◌-◌, ◌*◌, ◌<◌, ◌≤◌, Bool, true, false, not, Option, Some, None, Result, Ok, Err, List, [], ◌∷◌, ◌++◌, length, take, slice_index_or, if◌then◌else◌}
+use Rattle.std.specs.Prelude.{◌≡◌, ℕ, zero, suc, ◌==◌, ◌+◌, ◌-◌, Bool, true, false, Option, Some, None, Result, Ok, Err, List, [], ◌∷◌, ◌++◌, length, take, if◌then◌else◌}
 use Rattle.std.specs.List.{slice_get}
 use Rattle.dfdl_value.specs.declared.value.Value.{Value}
 use Rattle.dfdl_vars.specs.declared.instances.Change.{Change}

@@ -1,8 +1,8 @@
 -- Going back to a mark: everything is as it was there.
-use Rattle.std.specs.Prelude.{◌≡◌, ℕ, ◌<◌, ◌≤◌, List, ◌++◌, length, take, drop}
+use Rattle.std.specs.Prelude.{◌≡◌, ℕ, ◌≤◌, max, nat_lt, List, [], ◌∷◌, ◌++◌, length, take, drop, if◌then◌else◌}
 use Rattle.dfdl_vars.specs.declared.instances.Change.{Change}
 use Rattle.dfdl_vars.specs.declared.instances.VarMark.{VarMark}
-use Rattle.dfdl_vars.specs.Instances.{cleared}
+use Rattle.dfdl_vars.specs.Instances.{cleared, place_of}
 use Rattle.dfdl_vars.specs.Kept.{Kept, IsSound}
 
 -- the mark of what is kept
@@ -21,14 +21,19 @@ pub record LeadsBack (base now : Kept) : Type 0 where
   pub globals : base.globals ≡ now.globals
   pub deep : base.deep ≡ now.deep
 
--- a mark to which there is a way back
-abbrev pub IsLive : VarMark → Kept → Type 0
-IsLive mark now = (base : Kept) × LeadsBack base now × (mark ≡ mark_of base)
+-- how many instances stay open behind going back to a mark: as many as were open there, and those of the definitions always
+abbrev pub left_open : VarMark → Kept → ℕ
+left_open mark now = max now.globals mark.instances
 
--- what is kept behind going back to a mark: as many instances as were open there, without the changes that came later, the last of which is
--- taken back first
+-- the changes of the first so many instances
+abbrev pub of_first : ℕ → List Change → List Change
+of_first count [] = []
+of_first count (change ∷ changes) = if nat_lt (place_of change) count then change ∷ of_first count changes else of_first count changes
+
+-- What is kept behind going back to a mark: as many instances as were open there, without the changes that came later, the last of which is
+-- taken back first, and what changed in them before. To a mark to which there is a way back nothing else changed before.
 abbrev pub gone_back : VarMark → Kept → Kept
 gone_back mark now = record now {
-  instances = cleared (drop mark.changes now.changes) (take mark.instances now.instances);
-  changes = take mark.changes now.changes;
+  instances = cleared (drop mark.changes now.changes) (take (left_open mark now) now.instances);
+  changes = of_first (left_open mark now) (take mark.changes now.changes);
 }

@@ -3,6 +3,7 @@ ghost use Rattle.std.specs.Prelude.{◌≡◌, ◌<◌, ◌≤◌, ◌-◌, ◌+
 ghost use Rattle.std.specs.List.{slice_get};
 ghost use Rattle.dfdl_vars.specs.Instances.{at_place, set_to, read_as, has, is_set, is_read, clear, cleared};
 ghost use Rattle.dfdl_vars.specs.Kept.{elsewhere, innermost, is_of, start_of, value_in};
+ghost use Rattle.dfdl_vars.specs.Marks.{of_first};
 
 use crate::instances::{Change, Instance};
 use dfdl_value::Value;
@@ -127,6 +128,17 @@ pub(crate) fn go_back(instances: &mut Vec<Instance>, changes: &mut Vec<Change>, 
             Some(change) => take_back(instances, change),
             None => break,
         }
+    }
+}
+
+// Forgets what changed behind the first so many instances, of which there are some if any were there.
+pub(crate) fn forget_behind(changes: &mut Vec<Change>, count: usize, were_more: bool)
+    requires { were_more ≡ false → of_first count changes.old.items ≡ changes.old.items }
+    ensures items { changes.new.items ≡ of_first count changes.old.items }
+    ensures capacity { vec_capacity changes.old ≤ vec_capacity changes.new }
+{
+    if were_more {
+        changes.retain(|change| change.place() < count);
     }
 }
 

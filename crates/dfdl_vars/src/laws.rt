@@ -1,10 +1,12 @@
 // Laws of the definitions. The calls do nothing.
-ghost use Rattle.std.specs.Prelude.{◌≡◌, ◌<◌, ◌≤◌, ◌*◌, ℕ, false, List, Option, length};
+ghost use Rattle.std.specs.Prelude.{◌≡◌, ◌<◌, ◌≤◌, ◌*◌, ℕ, false, List, Option, None, length};
 ghost use Rattle.dfdl_value.specs.declared.value.Value.{Value};
 ghost use Rattle.dfdl_vars.specs.Instances.{has, is_set};
-ghost use Rattle.dfdl_vars.specs.Kept.{Kept, IsSound, with_setting, with_read, entered, left};
+ghost use Rattle.dfdl_vars.specs.Kept.{Kept, IsSound, with_setting, with_read, entered, left, place_now, fault_now, opened};
 ghost use Rattle.dfdl_vars.specs.declared.instances.Change.{Change};
 ghost use Rattle.dfdl_vars.specs.declared.instances.Instance.{Instance};
+ghost use Rattle.dfdl_vars.specs.declared.instances.VarMark.{VarMark};
+ghost use Rattle.dfdl_vars.specs.declared.values.VarDef.{VarDef};
 ghost use Rattle.dfdl_vars.specs.Marks.{LeadsBack, mark_of, gone_back};
 
 /// A way back stays open while instances are set, read, entered and left, as long as no instance is left that was open there.
@@ -17,6 +19,14 @@ pub fn ways_back()
         → LeadsBack base (entered now var start) }
     ensures left { (base now : Kept) → LeadsBack base now → length base.instances < length now.instances
         → LeadsBack base (left now) }
+    // Behind each of these calls there is a way back to what is kept then.
+    ensures opened { (definitions : List VarDef) (given : List (ℕ × Value)) (deep : ℕ)
+        → LeadsBack (opened definitions given deep) (opened definitions given deep) }
+    ensures sound_set { (now : Kept) (var : ℕ) (value : Value) → LeadsBack now now → var < now.globals → fault_now now var ≡ None
+        → LeadsBack (with_setting now (place_now now var) value) (with_setting now (place_now now var) value) }
+    ensures sound_read { (now : Kept) (var : ℕ) → LeadsBack now now → var < now.globals
+        → LeadsBack (with_read now (place_now now var)) (with_read now (place_now now var)) }
+    ensures sound_gone { (mark : VarMark) (now : Kept) → LeadsBack now now → LeadsBack (gone_back mark now) (gone_back mark now) }
 {}
 
 /// Going back to a mark to which there is a way back gives what was kept there.

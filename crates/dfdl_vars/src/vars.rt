@@ -1,10 +1,12 @@
 // The variables of a run.
-ghost use Rattle.std.specs.Prelude.{◌≡◌, ◌<◌, ◌+◌, ◌-◌, ◌↔◌, IfOk, IsErr, OnOk, OnErr, length, option_copied};
+ghost use Rattle.std.specs.Prelude.{◌≡◌, [], ◌<◌, ◌+◌, ◌-◌, ◌↔◌, IfOk, IsErr, OnOk, OnErr, length, option_copied};
 ghost use Rattle.dfdl_vars.specs.Kept.{Kept, opened, with_setting, with_read, entered, left, place_now, value_of, fault_now, fault_in};
-ghost use Rattle.dfdl_vars.specs.Marks.{mark_of, LeadsBack, IsLive, gone_back};
+ghost use Rattle.dfdl_vars.specs.Marks.{mark_of, LeadsBack, gone_back};
 
 use crate::instances::{Change, Instance, VarFault, VarMark};
-use crate::journal::{add_instance, forget, go_back, innermost, is_read_at, is_set_at, value_at};
+use crate::journal::{
+    add_instance, forget, forget_behind, go_back, innermost, is_read_at, is_set_at, value_at,
+};
 use crate::keeping::{define, give, note_read, note_setting};
 use crate::values::{VarDef, VarValues};
 use dfdl_value::Value;
@@ -65,6 +67,18 @@ impl Vars {
             globals,
             deep,
         })
+    }
+
+    /// The variables where none is defined. It takes no memory.
+    pub fn none(alloc: Global) -> Vars
+        ensures { result ≡ opened [] [] 0 }
+    {
+        Vars {
+            instances: Vec::new(alloc),
+            changes: Vec::new(alloc),
+            globals: 0,
+            deep: 0,
+        }
     }
 
     /// How many variables there are. Their numbers are those below it.
@@ -176,12 +190,14 @@ impl Vars {
 
     /// Goes back to a mark: each instance is open, set and read as it was there.
     pub fn undo_to(&mut self, mark: VarMark)
-        requires { IsLive mark self.old }
         ensures gone { self.new ≡ gone_back mark self.old }
         ensures back { (base : Kept) → LeadsBack base self.old → mark ≡ mark_of base → self.new ≡ base }
         ensures globals { self.new.globals ≡ self.old.globals }
     {
-        self.instances.truncate(mark.instances);
+        let count = self.globals.max(mark.instances);
+        let were_more = self.instances.len() > count;
+        self.instances.truncate(count);
         go_back(&mut self.instances, &mut self.changes, mark.changes);
+        forget_behind(&mut self.changes, count, were_more);
     }
 }

@@ -1,6 +1,6 @@
 use Rattle.std.proofs.Common.{rules, arith, sym, ◌≡◌, length}
-use Rattle.std.specs.Prelude.{None, false}
-use Rattle.dfdl_vars.specs.Instances.{set_to, read_as}
+use Rattle.std.specs.Prelude.{None}
+use Rattle.dfdl_vars.specs.Instances.{set_to}
 use Rattle.dfdl_vars.proofs.Backs.{at_beyond}
 use Rattle.dfdl_vars.proofs.journal.clear_setting.Goals as goal
 

@@ -1,10 +1,10 @@
 use Rattle.dfdl_vars.specs.declared.instances.Instance.{Instance}
-use Rattle.std.proofs.Common.{List, sym, ◌∙◌, ap, length, Some, true, false, ◌≡◌}
-use Rattle.dfdl_vars.specs.declared.instances.Change.TheVariants.{Set, Read}
-use Rattle.dfdl_vars.specs.Instances.{set_to, read_as, at_place, has, is_read}
+use Rattle.std.proofs.Common.{List, sym, ◌∙◌, ap, length, true}
+use Rattle.dfdl_vars.specs.declared.instances.Change.TheVariants.{Read}
+use Rattle.dfdl_vars.specs.Instances.{read_as, at_place, has, is_read}
 use Rattle.dfdl_vars.proofs.Backs.{length-at}
 use Rattle.dfdl_vars.proofs.Rooms.{room_more, carried}
-use Rattle.dfdl_vars.proofs.Sound.{sound_set, sound_read}
+use Rattle.dfdl_vars.proofs.Sound.{sound_read}
 use Rattle.dfdl_vars.proofs.keeping.note_read.Goals as goal
 
 pub add_change-requires : goal.add_change-requires

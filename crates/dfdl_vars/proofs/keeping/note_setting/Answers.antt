@@ -1,9 +1,9 @@
-use Rattle.std.proofs.Common.{sym, ◌∙◌, ap, length, Some, true, false, ◌≡◌}
-use Rattle.dfdl_vars.specs.declared.instances.Change.TheVariants.{Set, Read}
-use Rattle.dfdl_vars.specs.Instances.{set_to, read_as, at_place, has, is_read}
+use Rattle.std.proofs.Common.{◌∙◌, ap, length, Some}
+use Rattle.dfdl_vars.specs.declared.instances.Change.TheVariants.{Set}
+use Rattle.dfdl_vars.specs.Instances.{set_to, at_place}
 use Rattle.dfdl_vars.proofs.Backs.{length-at}
 use Rattle.dfdl_vars.proofs.Rooms.{room_more, carried}
-use Rattle.dfdl_vars.proofs.Sound.{sound_set, sound_read}
+use Rattle.dfdl_vars.proofs.Sound.{sound_set}
 use Rattle.dfdl_vars.proofs.keeping.note_setting.Goals as goal
 
 pub add_change-requires : goal.add_change-requires

@@ -1,4 +1,4 @@
-use Rattle.dfdl_vars.proofs.Backs.{here, back_set, back_read, back_entered, back_left}
+use Rattle.dfdl_vars.proofs.Ways.{here, back_set, back_read, back_entered, back_left, sound_opened, sound_set, sound_read, sound_gone}
 use Rattle.dfdl_vars.proofs.laws.ways_back.Goals as goal
 
 pub returns-clause-here : goal.returns-clause-here
@@ -15,3 +15,15 @@ returns-clause-entered c = back_entered
 
 pub returns-clause-left : goal.returns-clause-left
 returns-clause-left c = back_left
+
+pub returns-clause-opened : goal.returns-clause-opened
+returns-clause-opened c = sound_opened
+
+pub returns-clause-sound_set : goal.returns-clause-sound_set
+returns-clause-sound_set c = sound_set
+
+pub returns-clause-sound_read : goal.returns-clause-sound_read
+returns-clause-sound_read c = sound_read
+
+pub returns-clause-sound_gone : goal.returns-clause-sound_gone
+returns-clause-sound_gone c = sound_gone

@@ -1,4 +1,4 @@
-use Rattle.std.proofs.Common.{rules, ◌∙◌, ap, arith, sym, refl, ◌≡◌, ◌+◌, ◌∷◌, [], length}
+use Rattle.std.proofs.Common.{rules, ◌∙◌, ap, arith, refl, ◌≡◌, ◌+◌, ◌∷◌, [], length}
 use Rattle.std.proofs.lemmas.Bool.Decides.{nat_tests}
 use Rattle.std.proofs.lemmas.List.{length-append}
 use Rattle.dfdl_vars.specs.Kept.{fresh}

@@ -1,4 +1,4 @@
-use Rattle.std.proofs.Common.{rules, ◌∙◌, ap, arith, subst, sym, ◌≡◌, ◌<◌, ◌≤◌, ◌-◌, suc, length, take}
+use Rattle.std.proofs.Common.{rules, ◌∙◌, ap, arith, subst, sym, ◌≡◌, ◌<◌, ◌≤◌, ◌-◌, suc, length}
 use Rattle.dfdl_vars.specs.Kept.{Kept}
 use Rattle.dfdl_vars.proofs.Backs.{length_take_le}
 use Rattle.dfdl_vars.proofs.Rooms.{carried}

@@ -1,6 +1,6 @@
-use Rattle.std.proofs.Common.{rules, ◌∙◌, ap, arith, sym, ◌≡◌, ◌+◌, ◌*◌, List, length, vec_capacity}
+use Rattle.std.proofs.Common.{rules, ◌∙◌, ap, arith, ◌≡◌, ◌+◌, ◌*◌, List, length}
 use Rattle.dfdl_vars.specs.declared.instances.Instance.{Instance}
-use Rattle.dfdl_vars.specs.Kept.{all_given, all_defined}
+use Rattle.dfdl_vars.specs.Kept.{all_given}
 use Rattle.dfdl_vars.proofs.Rooms.{carried, sound_opened, length_opened}
 use Rattle.dfdl_vars.proofs.vars.Vars.open.Goals as goal
 
